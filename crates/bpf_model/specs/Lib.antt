@@ -1,0 +1,9 @@
+pub mod Words
+pub mod Arithmetic
+pub mod Memory
+pub mod Program
+pub mod Fits
+pub mod State
+pub mod Step
+pub mod Meaning
+pub mod Spelling

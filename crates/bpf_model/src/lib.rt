@@ -1,0 +1,23 @@
+//! BPF programs, what they read and answer, and what they mean.
+//!
+//! The types are plain data: keys and values of bounded length, instructions, programs. What an instruction does,
+//! what a run is and when a program is safe stands in `specs/`, in the terms of RFC 9669: partial maps of registers
+//! and of addresses, and a step that has no case where RFC 9669 or our profile gives none.
+//!
+//! The one promise to the layers above: `fits` is exact, and lengths are bounded by type. No call takes memory.
+#![tactic(auto)]
+
+pub mod bytes;
+pub mod input;
+pub mod instruction;
+pub mod limits;
+pub mod memory;
+pub mod program;
+pub mod region;
+
+pub use bytes::{Key, TooLong, Value};
+pub use input::{Answer, Input, Sizes, Window, fits};
+pub use instruction::{AccessSize, AluOp, Insn, Reg, Width};
+pub use memory::NoMemory;
+pub use program::Program;
+pub use region::Region;

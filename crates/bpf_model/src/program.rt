@@ -1,0 +1,50 @@
+//! Programs.
+ghost use Rattle.std.specs.Prelude.{◌≡◌, ◌≤◌, ◌<◌, ◌↔◌, List, length, IsSome, IfSome};
+ghost use Rattle.bpf_model.specs.Program.{IsProgram};
+
+use crate::instruction::Insn;
+use crate::limits::PROGRAM_UNITS;
+use std::marker::Model;
+
+/// A list of instructions of 1 to 512 units in all.
+#[derive(Debug, Drop)]
+pub struct Program {
+    instructions: Vec<Insn>,
+}
+
+impl Model for Program {
+    ghost use Rattle.std.specs.Prelude.{List};
+    ghost use Rattle.bpf_model.specs.declared.instruction.Insn.{Insn};
+    ghost use Rattle.bpf_model.specs.Program.{IsProgram};
+
+    ghost Value = { List Insn };
+
+    ghost view = { λ p. p.instructions.items };
+
+    ghost invariant = { λ p. IsProgram p.instructions.items };
+}
+
+impl Program {
+    /// The program of these instructions; none where they have no unit or more than 512.
+    pub fn new(instructions: Vec<Insn>) -> Option<Program>
+        ensures some { IsSome result ↔ IsProgram instructions.items }
+        ensures value { IfSome result (λ p. p ≡ instructions.items) }
+    {
+        let count = instructions.len();
+        if count == 0 {
+            return None;
+        }
+        if count > PROGRAM_UNITS {
+            return None;
+        }
+        Some(Program { instructions })
+    }
+
+    /// The instructions, in order.
+    pub fn instructions(&self) -> &[Insn]
+        ensures value { result.now ≡ self.now }
+        ensures program { IsProgram result.now }
+    {
+        self.instructions.as_slice()
+    }
+}

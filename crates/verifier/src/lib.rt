@@ -1,0 +1,10 @@
+//! Which programs are safe.
+//!
+//! The promise to the layers above stands in the type of `Verified`: its program is safe with its sizes. Every state
+//! that a run on a fitting input reaches is an end or has a next one, and no run has more instructions than the
+//! program (`IsSafe` of bpf_model, kept by `Verified`).
+#![tactic(auto)]
+
+pub mod verified;
+
+pub use verified::Verified;
