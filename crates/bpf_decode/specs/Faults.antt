@@ -1,5 +1,5 @@
 -- Which bytes have which fault, and which fault is the first. The fields that an instruction uses are those of RFC 9669, sections 4 and 5.
-use Rattle.std.specs.Prelude.{◌≡◌, ℕ, ◌/◌, ◌%◌, ◌^◌, ◌<◌, Bool, true, false, not, ◌&&◌, ◌||◌, ◌⊎◌, List, ◌++◌, length, Option, Some, None, MatchOption, nat_eq, nat_lt, if◌then◌else◌, ℤ, pos}
+use Rattle.std.specs.Prelude.{◌≡◌, ℕ, ◌/◌, ◌%◌, ◌^◌, ◌<◌, Bool, true, false, not, ◌&&◌, ◌||◌, ◌⊎◌, List, ◌++◌, length, Option, Some, None, Result, Err, nat_eq, nat_lt, if◌then◌else◌, ℤ, pos}
 use Rattle.std.specs.Ordering.{int_eq}
 use Rattle.bpf_model.specs.declared.limits.TheConstants.{PROGRAM_UNITS}
 use Rattle.bpf_model.specs.declared.instruction.Insn.{Insn}
@@ -104,3 +104,7 @@ pub record HasUnitFault (bytes : List ℕ) (fault : DecodeFault) : Type 0 where
 -- the fault of the number of bytes; where it has none, that of the first unit that is no instruction's
 abbrev pub IsFirstFault : List ℕ → DecodeFault → Type 0
 IsFirstFault bytes fault = (length_fault bytes ≡ Some fault) ⊎ ((length_fault bytes ≡ None) × HasUnitFault bytes fault)
+
+-- the call answers so, unless memory was refused to it
+abbrev pub GivesUnlessNoMemory : {A : Type 0} → Result A DecodeFault → Result A DecodeFault → Type 0
+GivesUnlessNoMemory result answer = (result ≡ Err NoMemory) ⊎ (result ≡ answer)

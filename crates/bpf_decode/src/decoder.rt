@@ -1,11 +1,10 @@
 //! Programs from bytes.
-ghost use Rattle.std.specs.Prelude.{◌≡◌, ◌⊎◌, ◌*◌, ◌≤◌, ◌<◌, List, length, IfOk, IfErr, OnOk, IsOkUnless, Some, None};
+ghost use Rattle.std.specs.Prelude.{◌≡◌, ◌⊎◌, List, IfOk, IfErr, OnOk, Ok, Err, Some, None};
 ghost use Rattle.bpf_model.specs.declared.instruction.Insn.{Insn};
-ghost use Rattle.bpf_model.specs.Program.{IsProgram};
-ghost use Rattle.bpf_model.specs.Spelling.{Spells, AreInstructions, spelling_of_all};
+ghost use Rattle.bpf_model.specs.Spelling.{Spells};
 ghost use Rattle.bpf_decode.specs.declared.fault.DecodeFault.{DecodeFault};
 ghost use Rattle.bpf_decode.specs.declared.fault.DecodeFault.TheVariants.{NoMemory};
-ghost use Rattle.bpf_decode.specs.Faults.{length_fault, IsFirstFault, HasUnitFault};
+ghost use Rattle.bpf_decode.specs.Faults.{length_fault, IsFirstFault, HasUnitFault, GivesUnlessNoMemory};
 
 use crate::fault::DecodeFault;
 use crate::operation::instruction;
@@ -40,7 +39,7 @@ fn instructions(alloc: Global, bytes: &[u8]) -> Result<Vec<Insn>, DecodeFault>
     while let Some((unit, after)) = rest.split_first_chunk::<UNIT_BYTES>() {
         match instruction(Fields::read(unit)) {
             Ok(insn) => instructions.push(insn).unwrap(),
-            Err(fault) => return Err(fault.at(instructions.len())),
+            Err(fault) => return Err(fault.at((bytes.len() - rest.len()) / UNIT_BYTES)),
         }
         rest = after;
     }
@@ -50,8 +49,9 @@ fn instructions(alloc: Global, bytes: &[u8]) -> Result<Vec<Insn>, DecodeFault>
 /// The program that the bytes spell, all of them; else the first fault. Asks for memory once, for the program.
 pub fn decode(alloc: Global, bytes: &[u8]) -> Result<Program, DecodeFault>
     ensures found { IfOk result (λ p. Spells bytes.now p) }
-    ensures only { (p : List Insn) → Spells bytes.now p → IfOk result (λ q. q ≡ p) × IsOkUnless result NoMemory }
+    ensures only { (p : List Insn) → Spells bytes.now p → GivesUnlessNoMemory result (Ok p) }
     ensures first_fault { IfErr result (λ e. (e ≡ NoMemory) ⊎ IsFirstFault bytes.now e) }
+    ensures refused { (e : DecodeFault) → IsFirstFault bytes.now e → GivesUnlessNoMemory result (Err e) }
 {
     check_length(bytes)?;
     let instructions = instructions(alloc, bytes)?;
