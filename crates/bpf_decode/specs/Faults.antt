@@ -11,7 +11,6 @@ use Rattle.bpf_decode.specs.declared.fault.DecodeFault.TheVariants as at
 use Rattle.bpf_decode.specs.declared.fault.UnitFault.{UnitFault}
 use Rattle.bpf_decode.specs.declared.fault.UnitFault.TheVariants.{UnknownOpcode, BadRegister, UnusedNotZero}
 use Rattle.bpf_decode.specs.declared.unit.UsedFields.{UsedFields}
-use Rattle.bpf_decode.specs.declared.unit.Fields.{Fields as UnitFields}
 
 -- the number under which a fault is printed and sent
 abbrev pub number_of : DecodeFault → ℕ
@@ -38,10 +37,6 @@ abbrev pub at_unit : ℕ → UnitFault → DecodeFault
 at_unit unit UnknownOpcode = at.UnknownOpcode unit
 at_unit unit BadRegister = at.BadRegister unit
 at_unit unit UnusedNotZero = at.UnusedNotZero unit
-
--- a unit's fields, as the spelling of instructions has them
-abbrev pub view : UnitFields → Fields
-view f = record { opcode = f.opcode; dst = f.dst; src = f.src; offset = f.offset; imm = f.imm }
 
 -- the fields have the bits of a unit, as those of any eight bytes do
 pub record FitUnit (f : Fields) : Type 0 where

@@ -1,52 +1,55 @@
 //! Bytes from programs.
 ghost use Rattle.std.specs.Prelude.{◌≡◌, IfOk};
 ghost use Rattle.bpf_model.specs.Spelling.{Spells, fields_of, IsInstruction};
-ghost use Rattle.bpf_decode.specs.Faults.{view};
 
+use crate::operation::Operation;
 use crate::unit::{Fields, UNIT_BYTES};
 use bpf_model::{Insn, NoMemory, Program};
 use std::alloc::Global;
 
 fn fields(insn: Insn) -> Fields
     ensures instruction { IsInstruction insn }
-    ensures spelled { view result ≡ fields_of insn }
+    ensures spelled { result ≡ fields_of insn }
 {
     match insn {
-        Insn::Alu { op: _, width: _, dst, src } => Fields {
-            opcode: 0x0f,
+        Insn::Alu {
+            op,
+            width,
+            dst,
+            src,
+        } => Fields {
             dst: dst.number(),
             src: src.number(),
-            offset: 0,
-            imm: 0,
+            ..Operation::Alu(op, width).fields()
         },
-        Insn::Mov { width: _, dst, imm } => Fields {
-            opcode: 0xb7,
+        Insn::Mov { width, dst, imm } => Fields {
             dst: dst.number(),
-            src: 0,
-            offset: 0,
             imm,
+            ..Operation::Mov(width).fields()
         },
-        Insn::Load { size: _, dst, src, offset } => Fields {
-            opcode: 0x79,
+        Insn::Load {
+            size,
+            dst,
+            src,
+            offset,
+        } => Fields {
             dst: dst.number(),
             src: src.number(),
             offset,
-            imm: 0,
+            ..Operation::Load(size).fields()
         },
-        Insn::Store { size: _, dst, src, offset } => Fields {
-            opcode: 0x7b,
+        Insn::Store {
+            size,
+            dst,
+            src,
+            offset,
+        } => Fields {
             dst: dst.number(),
             src: src.number(),
             offset,
-            imm: 0,
+            ..Operation::Store(size).fields()
         },
-        Insn::Exit => Fields {
-            opcode: 0x95,
-            dst: 0,
-            src: 0,
-            offset: 0,
-            imm: 0,
-        },
+        Insn::Exit => Operation::Exit.fields(),
     }
 }
 
@@ -57,7 +60,7 @@ pub fn encode(alloc: Global, program: &Program) -> Result<Vec<u8>, NoMemory>
     let instructions = program.instructions();
     let mut bytes = Vec::with_capacity(alloc, UNIT_BYTES * instructions.len())?;
     for insn in instructions {
-        bytes.extend_from_slice(&fields(*insn).bytes()).unwrap();
+        bytes.extend_from_slice(&fields(*insn).to_bytes()).unwrap();
     }
     Ok(bytes)
 }

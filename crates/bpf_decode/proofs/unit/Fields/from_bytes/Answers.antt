@@ -2,7 +2,7 @@ use Rattle.std.proofs.Common.{◌≡◌, arith}
 use Rattle.std.specs.Int.{w16, w32}
 use Rattle.std.proofs.lemmas.Int.{to_z-of_z}
 use Rattle.bpf_decode.proofs.UnitLemmas.{unit_again}
-use Rattle.bpf_decode.proofs.unit.Fields.read.Goals as goal
+use Rattle.bpf_decode.proofs.unit.Fields.from_bytes.Goals as goal
 
 pub returns-clause-spelled : goal.returns-clause-spelled
 returns-clause-spelled c =
