@@ -66,12 +66,12 @@ length_fault-none bytes h =
     elim (test_of (nat_eq (length bytes) 0)) [
       | inl t ↦ absurd (is_some (rw t at h))
       | inr f ↦ elim (test_of (nat_eq (length bytes % 8) 0)) [
-          | inr t ↦ absurd (is_some (rw (f, t) at h))
-          | inl g ↦ elim (test_of (nat_lt PROGRAM_UNITS (length bytes / 8))) [
-              | inl t ↦ absurd (is_some (rw (f, g, t) at h))
-              | inr k ↦ (grind (arith, nat_tests), grind (arith, nat_tests), grind (arith, nat_tests))
-            ]
+        | inr t ↦ absurd (is_some (rw (f, t) at h))
+        | inl g ↦ elim (test_of (nat_lt PROGRAM_UNITS (length bytes / 8))) [
+          | inl t ↦ absurd (is_some (rw (f, g, t) at h))
+          | inr k ↦ (grind (arith, nat_tests), grind (arith, nat_tests), grind (arith, nat_tests))
         ]
+      ]
     ]
   where
     is_some : {x : DecodeFault} → Some x ≡ None → ⊥

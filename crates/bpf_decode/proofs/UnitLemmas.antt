@@ -50,6 +50,7 @@ unit_again (a ∷ b ∷ c ∷ d ∷ e ∷ f ∷ g ∷ h ∷ []) offset imm len b
     bytes_tail zero = bytes 2
     bytes_tail (suc zero) = bytes 3
     bytes_tail (suc (suc k)) = omega arith
+
     bytes_last : AreBytes (e ∷ f ∷ g ∷ h ∷ [])
     bytes_last k = bytes (suc (suc (suc (suc k))))
 unit_again [] offset imm len bytes o i = absurd (omega arith)
@@ -86,8 +87,11 @@ word_of-bytes_of (suc n) w h =
 -- the fields that the first eight bytes spell
 pub fields_at : List ℕ → Fields
 fields_at bytes = record {
-  opcode = get_or bytes 0 0; dst = get_or bytes 1 0 % 16; src = get_or bytes 1 0 / 16;
-  offset = cast_signed w16 (word_of (take 2 (drop 2 bytes))); imm = cast_signed w32 (word_of (take 4 (drop 4 bytes)));
+  opcode = get_or bytes 0 0;
+  dst = get_or bytes 1 0 % 16;
+  src = get_or bytes 1 0 / 16;
+  offset = cast_signed w16 (word_of (take 2 (drop 2 bytes)));
+  imm = cast_signed w32 (word_of (take 4 (drop 4 bytes)));
 }
 
 -- the fields of a unit's bytes are the unit's fields

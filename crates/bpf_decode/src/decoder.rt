@@ -63,6 +63,7 @@ pub fn decode(alloc: Global, bytes: &[u8]) -> Result<Program, DecodeFault>
     ensures found { IfOk result (λ p. Spells bytes.now p) }
     ensures only { (p : List Insn) → Spells bytes.now p → GivesUnlessNoMemory result (Ok p) }
     ensures first_fault { IfErr result (λ e. (e ≡ NoMemory) ⊎ IsFirstFault bytes.now e) }
+    ensures memory { result ≡ Err NoMemory → length_fault bytes.now ≡ None }
     ensures refused { (e : DecodeFault) → IsFirstFault bytes.now e → GivesUnlessNoMemory result (Err e) }
 {
     check_length(bytes)?;

@@ -28,4 +28,4 @@ returns-in-Err-clause-first_fault c =
 pub returns-clause-found : goal.returns-clause-found
 returns-clause-found c =
     Spells-all c.args.bytes.now c.loop-unit.rest.now c.loop-unit.instructions.items c.requires c.loop-unit.invariant.fits c.loop-unit.invariant.spelled
-        (omega (arith, c.in_default.ensures.cases))
+    (omega (arith, c.in_default.ensures.cases))
