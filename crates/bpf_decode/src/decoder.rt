@@ -4,7 +4,8 @@ ghost use Rattle.bpf_model.specs.declared.instruction.Insn.{Insn};
 ghost use Rattle.bpf_model.specs.Spelling.{Spells, fields_of, IsInstruction};
 ghost use Rattle.bpf_decode.specs.declared.fault.DecodeFault.{DecodeFault};
 ghost use Rattle.bpf_decode.specs.declared.fault.DecodeFault.TheVariants.{NoMemory};
-ghost use Rattle.bpf_decode.specs.Faults.{length_fault, fault_of, IsFirstFault, HasUnitFault, GivesUnlessNoMemory};
+ghost use Rattle.bpf_decode.specs.UnitFaults.{fault_of};
+ghost use Rattle.bpf_decode.specs.Faults.{length_fault, IsFirstFault, HasUnitFault, GivesUnlessNoMemory};
 
 use crate::fault::{DecodeFault, UnitFault};
 use crate::operation::Operation;
@@ -37,7 +38,7 @@ fn instruction(fields: Fields) -> Result<Insn, UnitFault>
     let Some(operation) = Operation::from_opcode(fields.opcode) else {
         return Err(UnitFault::UnknownOpcode);
     };
-    fields.check(operation.used())?;
+    fields.check(operation.used_fields())?;
     Ok(operation.with_operands(fields))
 }
 
@@ -58,7 +59,8 @@ fn instructions(alloc: Global, bytes: &[u8]) -> Result<Vec<Insn>, DecodeFault>
     Ok(instructions)
 }
 
-/// The program that the bytes spell, all of them; else the first fault. Asks for memory once, for the program.
+/// The program that the bytes spell, all of them; else the first fault: of their number, or else of the first unit
+/// that is no instruction's. Asks for memory once, for the program, and only after their number was found right.
 pub fn decode(alloc: Global, bytes: &[u8]) -> Result<Program, DecodeFault>
     ensures found { IfOk result (λ p. Spells bytes.now p) }
     ensures only { (p : List Insn) → Spells bytes.now p → GivesUnlessNoMemory result (Ok p) }

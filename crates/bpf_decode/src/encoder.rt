@@ -1,11 +1,24 @@
 //! Bytes from programs.
-ghost use Rattle.std.specs.Prelude.{◌≡◌, IfOk};
+ghost use Rattle.std.specs.Prelude.{◌≡◌, ◌≤◌, IfOk};
 ghost use Rattle.bpf_model.specs.Spelling.{Spells, fields_of, IsInstruction};
+ghost use Rattle.bpf_decode.specs.Operations.{opcode_of, fields_with_opcode};
 
 use crate::operation::Operation;
 use crate::unit::{Fields, UNIT_BYTES};
-use bpf_model::{Insn, NoMemory, Program};
+use bpf_model::{Insn, NoMemory, Program, Reg};
 use std::alloc::Global;
+
+fn registers(operation: Operation, dst: Reg, src: Reg) -> Fields
+    ensures dst { dst ≤ 10 }
+    ensures src { src ≤ 10 }
+    ensures spelled { result ≡ record (fields_with_opcode (opcode_of operation)) { dst = dst; src = src } }
+{
+    Fields {
+        dst: dst.number(),
+        src: src.number(),
+        ..operation.fields()
+    }
+}
 
 fn fields(insn: Insn) -> Fields
     ensures instruction { IsInstruction insn }
@@ -17,11 +30,7 @@ fn fields(insn: Insn) -> Fields
             width,
             dst,
             src,
-        } => Fields {
-            dst: dst.number(),
-            src: src.number(),
-            ..Operation::Alu(op, width).fields()
-        },
+        } => registers(Operation::Alu(op, width), dst, src),
         Insn::Mov { width, dst, imm } => Fields {
             dst: dst.number(),
             imm,
@@ -33,10 +42,8 @@ fn fields(insn: Insn) -> Fields
             src,
             offset,
         } => Fields {
-            dst: dst.number(),
-            src: src.number(),
             offset,
-            ..Operation::Load(size).fields()
+            ..registers(Operation::Load(size), dst, src)
         },
         Insn::Store {
             size,
@@ -44,10 +51,8 @@ fn fields(insn: Insn) -> Fields
             src,
             offset,
         } => Fields {
-            dst: dst.number(),
-            src: src.number(),
             offset,
-            ..Operation::Store(size).fields()
+            ..registers(Operation::Store(size), dst, src)
         },
         Insn::Exit => Operation::Exit.fields(),
     }

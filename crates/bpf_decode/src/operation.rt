@@ -1,7 +1,7 @@
 //! What an opcode stands for.
 ghost use Rattle.std.specs.Prelude.{◌≡◌, ◌≤◌, IfSome, IfNone, Some, None};
 ghost use Rattle.bpf_model.specs.Spelling.{fields_of, IsInstruction};
-ghost use Rattle.bpf_decode.specs.Faults.{used_fields, fault_of};
+ghost use Rattle.bpf_decode.specs.UnitFaults.{used_fields, fault_of};
 ghost use Rattle.bpf_decode.specs.Operations.{opcode_of, fields_with_opcode};
 
 use crate::unit::{Fields, UsedFields};
@@ -60,7 +60,7 @@ impl Operation {
     }
 
     /// Which fields its instructions use.
-    pub(crate) fn used(self) -> UsedFields
+    pub(crate) fn used_fields(self) -> UsedFields
         ensures { used_fields (opcode_of self) ≡ Some result }
     {
         let (dst, src, offset, imm) = match self {

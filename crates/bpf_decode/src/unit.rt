@@ -1,7 +1,7 @@
 //! Units of eight bytes and their fields.
 ghost use Rattle.std.specs.Prelude.{◌≡◌, IfErr, OnOk, Some, None};
 ghost use Rattle.bpf_model.specs.Spelling.{unit_bytes};
-ghost use Rattle.bpf_decode.specs.Faults.{FitUnit, has_bad_register, has_unused_not_zero, fault_under};
+ghost use Rattle.bpf_decode.specs.UnitFaults.{FitUnit, has_bad_register, has_unused_not_zero, fault_under};
 
 use crate::fault::UnitFault;
 use byteorder::{ByteOrder, LittleEndian};
@@ -22,7 +22,7 @@ pub(crate) struct Fields {
 
 impl Model for Fields {
     ghost use Rattle.bpf_model.specs.Spelling.{Fields as UnitFields};
-    ghost use Rattle.bpf_decode.specs.Faults.{FitUnit};
+    ghost use Rattle.bpf_decode.specs.UnitFaults.{FitUnit};
 
     ghost Value = { UnitFields };
 

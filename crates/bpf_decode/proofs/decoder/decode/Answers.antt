@@ -1,4 +1,4 @@
-use Rattle.std.proofs.Common.{◌≡◌, Ok, inl, inr}
+use Rattle.std.proofs.Common.{Ok, inl, inr}
 use Rattle.bpf_decode.proofs.FaultLemmas.{IsTrueOf, IsTrueOf-passed, only_program, only_fault}
 use Rattle.bpf_decode.proofs.decoder.decode.Goals as goal
 

@@ -1,4 +1,4 @@
-use Rattle.std.proofs.Common.{◌≡◌, ◌∙◌, ap, arith, inl, inr, length}
+use Rattle.std.proofs.Common.{◌∙◌, ap, arith, inr}
 use Rattle.bpf_model.specs.Spelling.{unit_bytes, spelling_of_all}
 use Rattle.bpf_decode.specs.Faults.{at_unit}
 use Rattle.bpf_decode.proofs.SpellingLemmas.{units_before, fewer_than_units, spelled_unit}

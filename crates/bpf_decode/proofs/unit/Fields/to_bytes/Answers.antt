@@ -1,4 +1,4 @@
-use Rattle.std.proofs.Common.{◌≡◌, ◌∙◌, ap}
+use Rattle.std.proofs.Common.{◌∙◌, ap}
 use Rattle.bpf_model.specs.Spelling.{unit_bytes}
 use Rattle.bpf_decode.proofs.UnitLemmas.{unit_bytes-little}
 use Rattle.bpf_decode.proofs.unit.Fields.to_bytes.Goals as goal
