@@ -213,7 +213,8 @@ fn faults_are_printed(rt: HostRuntime) -> Result<(), Fail> {
     Ok(())
 }
 
-// `rt try --test --fail-alloc 1` refuses the first request, and 2 the second: all but this test then fail.
+// `rt try --test --fail-alloc 1` refuses the first request for memory, and 2 the second.
+// Tests that need memory then fail, and this one passes.
 #[test]
 fn memory_refused_is_no_memory(rt: HostRuntime) {
     match decode(rt.alloc(), &SUM) {
