@@ -1,0 +1,65 @@
+-- Which fault of bytes is the first. Our profile of RFC 9669.
+use Rattle.std.specs.Prelude.{◌≡◌, ℕ, ◌/◌, ◌%◌, not, ◌⊎◌, List, ◌++◌, length, Option, Some, None, Result, Err, nat_eq, nat_lt, if◌then◌else◌}
+use Rattle.bpf_model.specs.declared.limits.TheConstants.{PROGRAM_UNITS}
+use Rattle.bpf_model.specs.declared.instruction.Insn.{Insn}
+use Rattle.bpf_model.specs.Program.{unit_count}
+use Rattle.bpf_model.specs.Spelling.{Fields, unit_bytes, spelling_of_all, AreInstructions}
+use Rattle.bpf_decode.specs.declared.fault.DecodeFault.{DecodeFault}
+use Rattle.bpf_decode.specs.declared.fault.DecodeFault.TheVariants.{NoMemory, Empty, NotWholeUnits, TooManyUnits}
+use Rattle.bpf_decode.specs.declared.fault.DecodeFault.TheVariants as at
+use Rattle.bpf_decode.specs.declared.fault.UnitFault.{UnitFault}
+use Rattle.bpf_decode.specs.declared.fault.UnitFault.TheVariants.{UnknownOpcode, BadRegister, UnusedNotZero}
+use Rattle.bpf_decode.specs.UnitFaults.{FitUnit, fault_of}
+
+-- the number under which a fault is printed and sent
+abbrev pub number_of : DecodeFault → ℕ
+number_of NoMemory = 9
+number_of Empty = 10
+number_of NotWholeUnits = 11
+number_of TooManyUnits = 12
+number_of (at.UnknownOpcode unit) = 13
+number_of (at.BadRegister unit) = 14
+number_of (at.UnusedNotZero unit) = 15
+
+-- the unit that it names
+abbrev pub unit_of : DecodeFault → ℕ
+unit_of NoMemory = 0
+unit_of Empty = 0
+unit_of NotWholeUnits = 0
+unit_of TooManyUnits = 0
+unit_of (at.UnknownOpcode unit) = unit
+unit_of (at.BadRegister unit) = unit
+unit_of (at.UnusedNotZero unit) = unit
+
+-- a fault of the fields of this unit
+abbrev pub at_unit : ℕ → UnitFault → DecodeFault
+at_unit unit UnknownOpcode = at.UnknownOpcode unit
+at_unit unit BadRegister = at.BadRegister unit
+at_unit unit UnusedNotZero = at.UnusedNotZero unit
+
+-- the fault of the number of bytes
+abbrev pub length_fault : List ℕ → Option DecodeFault
+length_fault bytes =
+    if nat_eq (length bytes) 0 then Some Empty
+    else (if not (nat_eq (length bytes % 8) 0) then Some NotWholeUnits
+    else (if nat_lt PROGRAM_UNITS (length bytes / 8) then Some TooManyUnits else None))
+
+-- the bytes spell instructions, and then comes a unit whose fields have this fault
+pub record HasUnitFault (bytes : List ℕ) (fault : DecodeFault) : Type 0 where
+  pub front : List Insn
+  pub fields : Fields
+  pub rest : List ℕ
+  pub of_unit : UnitFault
+  pub instructions : AreInstructions front
+  pub fit : FitUnit fields
+  pub spelled : bytes ≡ spelling_of_all front ++ (unit_bytes fields ++ rest)
+  pub faulty : fault_of fields ≡ Some of_unit
+  pub named : fault ≡ at_unit (unit_count front) of_unit
+
+-- the fault of the number of bytes; where it has none, that of the first unit that is no instruction's
+abbrev pub IsFirstFault : List ℕ → DecodeFault → Type 0
+IsFirstFault bytes fault = (length_fault bytes ≡ Some fault) ⊎ ((length_fault bytes ≡ None) × HasUnitFault bytes fault)
+
+-- the call answers so, unless memory was refused to it
+abbrev pub GivesUnlessNoMemory : {A : Type 0} → Result A DecodeFault → Result A DecodeFault → Type 0
+GivesUnlessNoMemory result answer = (result ≡ Err NoMemory) ⊎ (result ≡ answer)
