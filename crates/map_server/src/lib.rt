@@ -5,8 +5,10 @@
 //! only where it adds a key; where that is refused, the table is as before.
 #![tactic(auto)]
 
+mod atomic_methods;
 mod bins;
 mod list_bins;
 
+pub use atomic_methods::{Call, Reply, apply};
 pub use bins::Bins;
 pub use list_bins::ListBins;
