@@ -1,5 +1,5 @@
 -- What a call does, from what its steps did.
-use Rattle.std.proofs.Common.{◌≡◌, ℕ, List, Option, Some, None, Ok, refl, sym, subst, ◌∙◌}
+use Rattle.std.proofs.Common.{◌≡◌, ℕ, List, Option, Some, None, Ok, refl, subst, ◌∙◌}
 use Rattle.std.specs.Prelude.{IsSome}
 use Rattle.std.specs.FinMap as map
 use Rattle.std.specs.FinMap.{get-insert}
@@ -12,8 +12,8 @@ use Rattle.bpf_model.specs.Meaning.{Means}
 use Rattle.verifier.specs.Checked.{Checked}
 use Rattle.map_server.specs.declared.atomic_methods.Reply.{Reply}
 use Rattle.map_server.specs.declared.atomic_methods.Reply.TheVariants.{Value}
-use Rattle.map_server.specs.Table.{Table, by_bytes}
-use Rattle.map_server.specs.Calls.{input_of, value_of, with_value, RemapsIfFit, WouldAdd}
+use Rattle.map_server.specs.Table.{Table}
+use Rattle.map_server.specs.Calls.{input_of, value_of, with_value, Remaps, Adds}
 use Rattle.map_server.proofs.MapEdits.{total}
 
 -- a key that was inserted is there
@@ -24,17 +24,17 @@ is_there-insert table key value =
     rw there refl
 
 -- an outcome that inserts a key that was not there adds it
-pub would_add : (table : Table) (key value : List ℕ) (reply : Reply) (Outcome : Table → Reply → Type 0) → map.get table key ≡ None → Outcome (map.insert table key value) reply → WouldAdd table key Outcome
-would_add table key value reply Outcome none outcome = (none, (map.insert table key value, (reply, (outcome, is_there-insert table key value))))
+pub adds : (table : Table) (key value : List ℕ) (reply : Reply) (Outcome : Table → Reply → Type 0) → map.get table key ≡ None → Outcome (map.insert table key value) reply → Adds table key Outcome
+adds table key value reply Outcome none outcome = (none, (map.insert table key value, (reply, (outcome, is_there-insert table key value))))
 
 module _ (table : Table) (key : List ℕ) (checked : Checked) (arg : Option (List ℕ)) (input : Input) (is : input ≡ input_of table key arg) (fits : first_unfit input checked.sizes ≡ Ok tt) where
   -- a program that ran on the input gives the key's value and the reply
-  pub remapped : (answer : Answer) (new : Table) → Means checked.program checked.sizes input answer → new ≡ with_value table key (value_of answer) → RemapsIfFit table key checked arg new (Value (value_of answer))
+  pub remapped : (answer : Answer) (new : Table) → Means checked.program checked.sizes input answer → new ≡ with_value table key (value_of answer) → Remaps table key checked arg new (Value (value_of answer))
   remapped answer new means entered =
       let fit = subst (λ (i : Input). first_unfit i checked.sizes ≡ Ok tt) is fits in
       let meaning = subst (λ (i : Input). Means checked.program checked.sizes i answer) is means in
       rw fit (answer, (meaning, (entered, refl)))
 
   -- and bytes would have added a key that was not there
-  pub remap_would_add : (value : List ℕ) → Means checked.program checked.sizes input (Bytes value) → map.get table key ≡ None → WouldAdd table key (RemapsIfFit table key checked arg)
-  remap_would_add value means none = would_add table key value (Value (Some value)) (RemapsIfFit table key checked arg) none (remapped (Bytes value) _ means refl)
+  pub remap_adds : (value : List ℕ) → Means checked.program checked.sizes input (Bytes value) → map.get table key ≡ None → Adds table key (Remaps table key checked arg)
+  remap_adds value means none = adds table key value (Value (Some value)) (Remaps table key checked arg) none (remapped (Bytes value) _ means refl)

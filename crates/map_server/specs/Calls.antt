@@ -45,26 +45,28 @@ value_of (Bytes value) = Some value
 abbrev pub input_of : Table → List ℕ → Option (List ℕ) → Input
 input_of table key arg = record { key = key; old = map.get table key; arg = arg }
 
--- what the program means becomes the key's value, and is the reply
+-- the answer becomes the key's value, and is the reply
+abbrev pub Enters : Table → List ℕ → Answer → Table → Reply → Type 0
+Enters table key answer new reply = (new ≡ with_value table key (value_of answer)) × (reply ≡ Value (value_of answer))
+
+-- a program's answer is entered; where its input doesn't fit, the reply is the first window that is too small, and the table stays
 abbrev pub Remaps : Table → List ℕ → Checked → Option (List ℕ) → Table → Reply → Type 0
 Remaps table key checked arg new reply =
-    (answer : Answer) × (Means checked.program checked.sizes (input_of table key arg) answer
-        × ((new ≡ with_value table key (value_of answer)) × (reply ≡ Value (value_of answer))))
-
--- a program runs where its input fits; else the reply is the first window that is too small, and the table stays
-abbrev pub RemapsIfFit : Table → List ℕ → Checked → Option (List ℕ) → Table → Reply → Type 0
-RemapsIfFit table key checked arg new reply =
     MatchResult (first_unfit (input_of table key arg) checked.sizes)
-        (λ _. Remaps table key checked arg new reply)
+        (λ _. (answer : Answer) × (Means checked.program checked.sizes (input_of table key arg) answer × Enters table key answer new reply))
         (λ window. (new ≡ table) × (reply ≡ Unfit window))
 
 -- the invocation, made on the table, leaves the new one and gets the reply
 abbrev pub Answers : Table → Invocation → Table → Reply → Type 0
 Answers table (get key) new reply = (new ≡ table) × (reply ≡ Value (map.get table key))
 Answers table (put key value) new reply = (new ≡ with_value table key (Some value)) × (reply ≡ Value (map.get table key))
-Answers table (compute key checked arg) new reply = RemapsIfFit table key checked arg new reply
+Answers table (compute key checked arg) new reply = Remaps table key checked arg new reply
 
 -- the table has no such key, and an outcome leaves one that has it
-abbrev pub WouldAdd : Table → List ℕ → (Table → Reply → Type 0) → Type 0
-WouldAdd table key Outcome =
+abbrev pub Adds : Table → List ℕ → (Table → Reply → Type 0) → Type 0
+Adds table key Outcome =
     (map.get table key ≡ None) × ((new : Table) × ((reply : Reply) × (Outcome new reply × IsSome (map.get new key))))
+
+-- the invocation, made on the table, would add its key
+abbrev pub WouldAdd : Table → Invocation → Type 0
+WouldAdd table invocation = Adds table (key_of invocation) (Answers table invocation)

@@ -1,7 +1,7 @@
 //! The methods of the map, each one step on one key.
 ghost use Rattle.std.specs.Prelude.{◌≡◌, IfOk, OnErr};
 ghost use Rattle.std.specs.FinMap as map;
-ghost use Rattle.map_server.specs.Calls.{invocation_of, key_of, input_of, Answers, RemapsIfFit, WouldAdd};
+ghost use Rattle.map_server.specs.Calls.{invocation_of, input_of, Answers, Adds, Remaps, WouldAdd};
 
 use crate::bins::Bins;
 use bpf_machine::run;
@@ -41,9 +41,9 @@ pub enum Reply {
 /// Makes one call. `NoMemory` only where it would have added a key and the room for it was refused; the entries are
 /// then as before. A call that adds no key takes no memory.
 pub fn apply<B: Bins>(bins: &mut B, call: &Call) -> Result<Reply, NoMemory>
-    ensures ok { IfOk result (λ reply. Answers (B.contents bins.old) (invocation_of call.now) (B.contents bins.new) reply) }
-    ensures err { OnErr result (B.contents bins.new ≡ B.contents bins.old) }
-    ensures memory { OnErr result (WouldAdd (B.contents bins.old) (key_of (invocation_of call.now)) (Answers (B.contents bins.old) (invocation_of call.now))) }
+    ensures ok { IfOk result (Answers (B.table bins.old) (invocation_of call.now) (B.table bins.new)) }
+    ensures err { OnErr result (B.table bins.new ≡ B.table bins.old) }
+    ensures memory { OnErr result (WouldAdd (B.table bins.old) (invocation_of call.now)) }
 {
     match call {
         Call::Get { key } => Ok(Reply::Value(value_at(bins, key))),
@@ -56,31 +56,19 @@ pub fn apply<B: Bins>(bins: &mut B, call: &Call) -> Result<Reply, NoMemory>
     }
 }
 
-fn copied(value: &Option<Value>) -> Option<Value>
-    ensures { result ≡ value.now }
-{
-    match value {
-        Some(value) => Some(value.copied()),
-        None => None,
-    }
-}
-
 fn value_at<B: Bins>(bins: &B, key: &Key) -> Option<Value>
-    ensures { result ≡ map.get (B.contents bins.now) key.now }
+    ensures { result ≡ map.get (B.table bins.now) key.now }
 {
-    match bins.find(key) {
-        Some(value) => Some(value.copied()),
-        None => None,
-    }
+    bins.find(key).map(Value::copied)
 }
 
 fn input_of<B: Bins>(bins: &B, key: &Key, arg: &Option<Value>) -> Input
-    ensures { result ≡ input_of (B.contents bins.now) key.now arg.now }
+    ensures { result ≡ input_of (B.table bins.now) key.now arg.now }
 {
     Input {
         key: key.copied(),
         old: value_at(bins, key),
-        arg: copied(arg),
+        arg: arg.as_ref().map(Value::copied),
     }
 }
 
@@ -91,9 +79,9 @@ fn remap<B: Bins>(
     program: &Verified,
     arg: &Option<Value>,
 ) -> Result<Reply, NoMemory>
-    ensures ok { IfOk result (λ reply. RemapsIfFit (B.contents bins.old) key.now program.now arg.now (B.contents bins.new) reply) }
-    ensures err { OnErr result (B.contents bins.new ≡ B.contents bins.old) }
-    ensures memory { OnErr result (WouldAdd (B.contents bins.old) key.now (RemapsIfFit (B.contents bins.old) key.now program.now arg.now)) }
+    ensures ok { IfOk result (Remaps (B.table bins.old) key.now program.now arg.now (B.table bins.new)) }
+    ensures err { OnErr result (B.table bins.new ≡ B.table bins.old) }
+    ensures memory { OnErr result (Adds (B.table bins.old) key.now (Remaps (B.table bins.old) key.now program.now arg.now)) }
 {
     let input = input_of(bins, key, arg);
     if let Err(window) = fits(&program.sizes(), &input) {

@@ -41,7 +41,7 @@ fn place_of(entries: &[(Key, Value)], key: &Key) -> Result<usize, usize>
 }
 
 impl Bins for ListBins {
-    ghost contents = { λ bins. bins };
+    ghost table = { λ bins. bins };
 
     fn open(alloc: Global, _stripes: u64) -> Result<ListBins, NoMemory> {
         Ok(ListBins {

@@ -1,8 +1,7 @@
-use Rattle.std.proofs.Common.{◌≡◌, sym, ap, ◌∙◌}
+use Rattle.std.proofs.Common.{sym, ap, ◌∙◌}
 use Rattle.bpf_model.specs.declared.input.Input.{Input}
-use Rattle.std.specs.FinMap as map
 use Rattle.map_server.proofs.MapEdits.{on_err_anyway}
-use Rattle.map_server.proofs.CallLemmas.{remapped, remap_would_add}
+use Rattle.map_server.proofs.CallLemmas.{remapped, remap_adds}
 use Rattle.map_server.proofs.atomic_methods.remap.Goals as goal
 
 -- nothing removes the key
@@ -28,4 +27,4 @@ returns-in_err-put-in-Bytes-clause-memory g c =
     let means = rw c.in-Bytes.is at c.run.ensures in
     let key = ap (λ (input : Input). input.key) c.input_of-input.ensures in
     let none = rw key at c.in_err-put-in-Bytes.ensures.memory in
-    on_err_anyway c.from_residual.result (remap_would_add _ _ _ _ _ c.input_of-input.ensures fit _ means none)
+    on_err_anyway c.from_residual.result (remap_adds _ _ _ _ _ c.input_of-input.ensures fit _ means none)
