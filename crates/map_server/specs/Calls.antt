@@ -53,8 +53,8 @@ Enters table key answer new reply = (new ≡ with_value table key (value_of answ
 abbrev pub Remaps : Table → List ℕ → Checked → Option (List ℕ) → Table → Reply → Type 0
 Remaps table key checked arg new reply =
     MatchResult (first_unfit (input_of table key arg) checked.sizes)
-        (λ _. (answer : Answer) × (Means checked.program checked.sizes (input_of table key arg) answer × Enters table key answer new reply))
-        (λ window. (new ≡ table) × (reply ≡ Unfit window))
+    (λ _. (answer : Answer) × (Means checked.program checked.sizes (input_of table key arg) answer × Enters table key answer new reply))
+    (λ window. (new ≡ table) × (reply ≡ Unfit window))
 
 -- the invocation, made on the table, leaves the new one and gets the reply
 abbrev pub Answers : Table → Invocation → Table → Reply → Type 0

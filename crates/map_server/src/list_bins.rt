@@ -73,3 +73,6 @@ impl Bins for ListBins {
         }
     }
 }
+
+#[cfg(test)]
+mod tests;

@@ -96,3 +96,6 @@ impl Striped {
         apply(&mut self.bins, call)
     }
 }
+
+#[cfg(test)]
+mod tests;
