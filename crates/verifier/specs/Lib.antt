@@ -1,1 +1,7 @@
 pub mod Checked
+pub mod FlowShape
+pub mod Ranges
+pub mod Kept
+pub mod Frames
+pub mod Faults
+pub mod Describes
