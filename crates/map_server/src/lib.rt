@@ -1,0 +1,14 @@
+//! What the programs do, over readers and writers that are handed in.
+//!
+//! A program's `main` opens the process's streams and calls `bpfmap_on`; all else is here.
+#![tactic(auto)]
+
+pub mod devices;
+pub mod hex;
+pub mod streams;
+pub mod words;
+
+pub use devices::{Failed, ReadFault, Sink, Source, read_all, write_all};
+pub use hex::{HexFault, hex_bytes};
+pub use streams::{StreamSink, StreamSource};
+pub use words::{Command, RunTexts, parse_words};
