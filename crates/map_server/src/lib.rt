@@ -5,10 +5,14 @@
 
 pub mod devices;
 pub mod hex;
+pub mod refusal;
+pub mod report;
 pub mod streams;
 pub mod words;
 
 pub use devices::{Failed, ReadFault, Sink, Source, read_all, write_all};
 pub use hex::{HexFault, hex_bytes};
+pub use refusal::Refusal;
+pub use report::Report;
 pub use streams::{StreamSink, StreamSource};
 pub use words::{Command, RunTexts, parse_words};

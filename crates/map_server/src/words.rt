@@ -1,8 +1,7 @@
 //! The command line of `bpfmap`: clap reads the words.
-ghost use Rattle.std.specs.Prelude.{◌≡◌, ◌∷◌, List, ℕ};
 
 use bpf_model::Sizes;
-use bpf_model::limits::{KEY_BYTES, VALUE_BYTES};
+use clap::error::ErrorKind;
 use clap::{Arg, ArgMatches, value_parser};
 use std::alloc::{AllocError, Global};
 
@@ -94,13 +93,14 @@ fn texts_of<'a>(matches: &ArgMatches<'a>) -> RunTexts<'a> {
     }
 }
 
-/// What the words ask for; the first is the program's name. The error's text is for the user: a fault of the words, or
-/// the help or version that they ask for.
+/// What the words ask for; the first is the program's name. An error is a fault of the words, the help or the version
+/// that they ask for, or want of memory; it has the text for the user.
 pub fn parse_words<'a>(alloc: Global, words: &'a [&'a str]) -> Result<Command<'a>, clap::Error> {
-    let matches = bpfmap_command(alloc)?.try_get_matches_from(words)?;
+    let mut command = bpfmap_command(alloc)?;
+    let matches = command.try_get_matches_from_mut(words)?;
     match matches.subcommand() {
+        Some(("check", inner)) => Ok(Command::Check(sizes_of(inner))),
         Some(("run", inner)) => Ok(Command::Run(sizes_of(inner), texts_of(inner))),
-        Some((_, inner)) => Ok(Command::Check(sizes_of(inner))),
-        None => Ok(Command::Check(sizes_of(&matches))),
+        _ => Err(command.error(ErrorKind::MissingSubcommand, "a command is missing")?),
     }
 }

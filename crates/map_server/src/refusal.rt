@@ -1,0 +1,69 @@
+//! Why there is no answer, whichever step refuses.
+ghost use Rattle.std.specs.Prelude.{◌≡◌};
+ghost use Rattle.map_server.specs.Refusals.{number_of, place_of};
+
+use crate::hex::HexFault;
+use bpf_model::{NoMemory, TooLong};
+use thiserror::Error;
+
+/// Why there is no answer. Each refusal has a number and a place, which are printed.
+#[derive(Clone, Copy, Debug, PartialEq, Eq, Error)]
+pub enum Refusal {
+    /// A key, old value or argument has more bytes than any may have: number 1, at place 0.
+    #[error("too many bytes")]
+    TooLong,
+    /// A request for memory was refused: number 9, at place 0.
+    #[error("no memory")]
+    NoMemory,
+    /// A text is no hex text: number 70, at the place of its first byte that begins neither blank space nor a pair.
+    #[error("no hex text at place {place}")]
+    NotHex { place: usize },
+}
+
+impl Refusal {
+    /// The number under which the refusal is printed.
+    pub fn number(&self) -> u8
+        ensures { result ≡ number_of self.now }
+    {
+        match self {
+            Refusal::TooLong => TooLong::NUMBER,
+            Refusal::NoMemory => NoMemory::NUMBER,
+            Refusal::NotHex { .. } => 70,
+        }
+    }
+
+    /// The unit of the program or the place in the text that the refusal is about, else 0.
+    pub fn place(&self) -> usize
+        ensures { result ≡ place_of self.now }
+    {
+        match self {
+            Refusal::NotHex { place } => *place,
+            Refusal::TooLong | Refusal::NoMemory => 0,
+        }
+    }
+}
+
+impl From<TooLong> for Refusal {
+    ghost use Rattle.std.specs.Prelude.{◌≡◌};
+    ghost use Rattle.map_server.specs.declared.refusal.Refusal.TheVariants.{TooLong as KeyTooLong};
+
+    ghost from_gives = { λ _ e. e ≡ KeyTooLong };
+
+    fn from(_: TooLong) -> Refusal {
+        Refusal::TooLong
+    }
+}
+
+impl From<HexFault> for Refusal {
+    ghost use Rattle.std.specs.Prelude.{◌≡◌};
+    ghost use Rattle.map_server.specs.Refusals.{of_hex};
+
+    ghost from_gives = { λ fault e. e ≡ of_hex fault };
+
+    fn from(fault: HexFault) -> Refusal {
+        match fault {
+            HexFault::NotHex { place } => Refusal::NotHex { place },
+            HexFault::NoMemory => Refusal::NoMemory,
+        }
+    }
+}
