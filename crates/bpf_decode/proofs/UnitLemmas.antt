@@ -1,0 +1,107 @@
+-- Units and their bytes.
+use Rattle.std.proofs.Common.{◌≡◌, ℕ, zero, suc, ◌+◌, ◌*◌, ◌/◌, ◌%◌, ◌^◌, ◌<◌, List, [], ◌∷◌, ◌++◌, length, get_or, take, drop, ℤ, refl, sym, ap, ◌∙◌, arith}
+use Rattle.std.specs.Int.{w16, w32, cast_signed, cast_unsigned}
+use Rattle.std.proofs.lemmas.Int.{of_z-to_z, to_z-of_z}
+use Rattle.std.proofs.Math.Facts.{Fits-of_z}
+use Rattle.std.proofs.Math.Nat.{pow-succ'}
+use Rattle.std.proofs.lemmas.List.{append_cancel_left}
+use Rattle.byteorder.specs.Endian.{little_number, little_bytes}
+use Rattle.bpf_model.specs.Words.{bytes_of, word_of}
+use Rattle.bpf_model.specs.Spelling.{Fields, unit_bytes}
+use Rattle.bpf_decode.specs.Faults.{FitUnit}
+use Rattle.bpf_model.proofs.WordLemmas.{bytes_of-2, bytes_of-4, word_of-bound}
+
+abbrev pub AreBytes : List ℕ → Type 0
+AreBytes bytes = (i : ℕ) → get_or bytes i 0 < 256
+
+-- the bytes of the word of bytes are these bytes
+pub bytes_of-word_of : (bytes : List ℕ) → AreBytes bytes → bytes_of (length bytes) (word_of bytes) ≡ bytes
+unfolding bytes_of word_of
+bytes_of-word_of [] h = refl
+bytes_of-word_of (b ∷ bytes) h =
+    let first = h 0 in
+    let low : (b + 256 * word_of bytes) % 256 ≡ b = omega (arith, first) in
+    let high : (b + 256 * word_of bytes) / 256 ≡ word_of bytes = omega (arith, first) in
+    rw (low, high) (ap (λ (x : List ℕ). b ∷ x) (bytes_of-word_of bytes (λ i. h (suc i))))
+
+-- a signed number of two bytes is spelled by these bytes
+pub offset_again : (a b : ℕ) (z : ℤ) → AreBytes (a ∷ b ∷ []) → z ≡ cast_signed w16 (little_number 2 (a ∷ b ∷ [])) → bytes_of 2 (cast_unsigned w16 z) ≡ a ∷ b ∷ []
+unfolding word_of
+offset_again a b z h e =
+    let bound : word_of (a ∷ b ∷ []) < 2 ^ 16 = word_of-bound 2 (a ∷ b ∷ []) refl h in
+    rw (e, of_z-to_z w16 (word_of (a ∷ b ∷ [])) bound) (bytes_of-word_of (a ∷ b ∷ []) h)
+
+-- a signed number of four bytes is spelled by these bytes
+pub imm_again : (a b c d : ℕ) (z : ℤ) → AreBytes (a ∷ b ∷ c ∷ d ∷ []) → z ≡ cast_signed w32 (little_number 4 (a ∷ b ∷ c ∷ d ∷ [])) → bytes_of 4 (cast_unsigned w32 z) ≡ a ∷ b ∷ c ∷ d ∷ []
+unfolding word_of
+imm_again a b c d z h e =
+    let bound : word_of (a ∷ b ∷ c ∷ d ∷ []) < 2 ^ 32 = word_of-bound 4 (a ∷ b ∷ c ∷ d ∷ []) refl h in
+    rw (e, of_z-to_z w32 (word_of (a ∷ b ∷ c ∷ d ∷ [])) bound) (bytes_of-word_of (a ∷ b ∷ c ∷ d ∷ []) h)
+
+-- eight bytes are spelled by the fields that are read from them
+pub unit_again : (unit : List ℕ) (offset imm : ℤ) → length unit ≡ 8 → AreBytes unit
+    → offset ≡ cast_signed w16 (little_number 2 (take 2 (drop 2 unit))) → imm ≡ cast_signed w32 (little_number 4 (take 4 (drop 4 unit)))
+    → unit ≡ unit_bytes (record { opcode = get_or unit 0 0; dst = get_or unit 1 0 % 16; src = get_or unit 1 0 / 16; offset = offset; imm = imm })
+unit_again (a ∷ b ∷ c ∷ d ∷ e ∷ f ∷ g ∷ h ∷ []) offset imm len bytes o i =
+    let registers : 16 * (b / 16) + b % 16 ≡ b = omega arith in
+    rw (registers, offset_again c d offset (λ k. bytes_tail k) o, imm_again e f g h imm (λ k. bytes_last k) i) refl
+  where
+    bytes_tail : AreBytes (c ∷ d ∷ [])
+    bytes_tail zero = bytes 2
+    bytes_tail (suc zero) = bytes 3
+    bytes_tail (suc (suc k)) = omega arith
+    bytes_last : AreBytes (e ∷ f ∷ g ∷ h ∷ [])
+    bytes_last k = bytes (suc (suc (suc (suc k))))
+unit_again [] offset imm len bytes o i = absurd (omega arith)
+unit_again (a ∷ []) offset imm len bytes o i = absurd (omega arith)
+unit_again (a ∷ b ∷ []) offset imm len bytes o i = absurd (omega arith)
+unit_again (a ∷ b ∷ c ∷ []) offset imm len bytes o i = absurd (omega arith)
+unit_again (a ∷ b ∷ c ∷ d ∷ []) offset imm len bytes o i = absurd (omega arith)
+unit_again (a ∷ b ∷ c ∷ d ∷ e ∷ []) offset imm len bytes o i = absurd (omega arith)
+unit_again (a ∷ b ∷ c ∷ d ∷ e ∷ f ∷ []) offset imm len bytes o i = absurd (omega arith)
+unit_again (a ∷ b ∷ c ∷ d ∷ e ∷ f ∷ g ∷ []) offset imm len bytes o i = absurd (omega arith)
+unit_again (a ∷ b ∷ c ∷ d ∷ e ∷ f ∷ g ∷ h ∷ x ∷ rest) offset imm len bytes o i = absurd (omega arith)
+
+-- byteorder spells the fields so
+pub unit_bytes-little : (f : Fields) → FitUnit f
+    → f.opcode ∷ (f.src * 16 + f.dst) ∷ (little_bytes 2 (cast_unsigned w16 (cast_signed w16 (cast_unsigned w16 f.offset))) ++ little_bytes 4 (cast_unsigned w32 (cast_signed w32 (cast_unsigned w32 f.imm)))) ≡ unit_bytes f
+unit_bytes-little f fit =
+    let registers : f.src * 16 + f.dst ≡ 16 * f.src + f.dst = omega arith in
+    rw (registers, to_z-of_z w16 f.offset fit.offset, to_z-of_z w32 f.imm fit.imm, ← bytes_of-2 (cast_unsigned w16 f.offset), ← bytes_of-4 (cast_unsigned w32 f.imm)) refl
+
+-- a unit has eight bytes
+pub length-unit_bytes : (f : Fields) → length (unit_bytes f) ≡ 8
+unfolding bytes_of
+length-unit_bytes f = refl
+
+-- the word of the bytes of a word is this word
+pub word_of-bytes_of : (n w : ℕ) → w < 256 ^ n → word_of (bytes_of n w) ≡ w
+unfolding bytes_of word_of
+word_of-bytes_of zero w h = omega arith
+word_of-bytes_of (suc n) w h =
+    let more : 256 ^ suc n ≡ 256 * 256 ^ n = pow-succ' 256 n in
+    let rest : word_of (bytes_of n (w / 256)) ≡ w / 256 = word_of-bytes_of n (w / 256) (omega arith) in
+    omega (arith, rest)
+
+-- the fields that the first eight bytes spell
+pub fields_at : List ℕ → Fields
+fields_at bytes = record {
+  opcode = get_or bytes 0 0; dst = get_or bytes 1 0 % 16; src = get_or bytes 1 0 / 16;
+  offset = cast_signed w16 (word_of (take 2 (drop 2 bytes))); imm = cast_signed w32 (word_of (take 4 (drop 4 bytes)));
+}
+
+-- the fields of a unit's bytes are the unit's fields
+pub fields_at-unit_bytes : (f : Fields) (rest : List ℕ) → FitUnit f → fields_at (unit_bytes f ++ rest) ≡ f
+unfolding bytes_of fields_at
+fields_at-unit_bytes f rest fit =
+    let dst : (16 * f.src + f.dst) % 16 ≡ f.dst = omega (arith, fit.dst) in
+    let src : (16 * f.src + f.dst) / 16 ≡ f.src = omega (arith, fit.dst) in
+    let offset : word_of (bytes_of 2 (cast_unsigned w16 f.offset)) ≡ cast_unsigned w16 f.offset = word_of-bytes_of 2 _ (Fits-of_z fit.offset).fits in
+    let imm : word_of (bytes_of 4 (cast_unsigned w32 f.imm)) ≡ cast_unsigned w32 f.imm = word_of-bytes_of 4 _ (Fits-of_z fit.imm).fits in
+    rw (dst, src, offset, imm, to_z-of_z w16 f.offset fit.offset, to_z-of_z w32 f.imm fit.imm) refl
+
+-- bytes begin with one unit at most
+pub unit_bytes-first : (f g : Fields) (xs ys : List ℕ) → FitUnit f → FitUnit g → unit_bytes f ++ xs ≡ unit_bytes g ++ ys → (f ≡ g) × (xs ≡ ys)
+unit_bytes-first f g xs ys fit-f fit-g e =
+    let same : f ≡ g = sym (fields_at-unit_bytes f xs fit-f) ∙ ap fields_at e ∙ fields_at-unit_bytes g ys fit-g in
+    (same, append_cancel_left (unit_bytes f) xs ys (e ∙ ap (λ (x : Fields). unit_bytes x ++ ys) (sym same)))

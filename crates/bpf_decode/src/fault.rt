@@ -1,0 +1,102 @@
+//! Why bytes are no program.
+ghost use Rattle.std.specs.Prelude.{◌≡◌};
+ghost use Rattle.bpf_decode.specs.declared.fault.DecodeFault.TheVariants.{NoMemory as OutOfMemory};
+ghost use Rattle.bpf_decode.specs.Faults.{number_of, unit_of, at_unit};
+
+use bpf_model::NoMemory;
+use std::alloc::AllocError;
+use std::error::Error;
+use std::fmt;
+
+/// What is wrong with bytes, and at which unit; units are counted from 0.
+#[derive(Clone, Copy, Debug, PartialEq, Eq)]
+pub enum DecodeFault {
+    /// A request for memory was refused: number 9. It says nothing of the bytes.
+    NoMemory,
+    /// No byte: number 10, at unit 0.
+    Empty,
+    /// A number of bytes that is no multiple of 8: number 11, at unit 0.
+    NotWholeUnits,
+    /// More than 512 units: number 12, at unit 0.
+    TooManyUnits,
+    /// An opcode that no instruction has: number 13, at this unit.
+    UnknownOpcode(usize),
+    /// A register field that is used and above 10: number 14, at this unit.
+    BadRegister(usize),
+    /// A field that is not used and not zero: number 15, at this unit.
+    UnusedNotZero(usize),
+}
+
+impl DecodeFault {
+    /// The number under which the fault is printed and sent, 9 to 15.
+    pub fn number(&self) -> u8
+        ensures { result ≡ number_of self.now }
+    {
+        match self {
+            DecodeFault::NoMemory => NoMemory::NUMBER,
+            DecodeFault::Empty => 10,
+            DecodeFault::NotWholeUnits => 11,
+            DecodeFault::TooManyUnits => 12,
+            DecodeFault::UnknownOpcode(_) => 13,
+            DecodeFault::BadRegister(_) => 14,
+            DecodeFault::UnusedNotZero(_) => 15,
+        }
+    }
+
+    /// The unit that has the fault; 0 where the fault is of no one unit.
+    pub fn unit(&self) -> usize
+        ensures { result ≡ unit_of self.now }
+    {
+        match self {
+            DecodeFault::UnknownOpcode(unit)
+            | DecodeFault::BadRegister(unit)
+            | DecodeFault::UnusedNotZero(unit) => *unit,
+            _ => 0,
+        }
+    }
+}
+
+impl fmt::Display for DecodeFault {
+    fn fmt<W: fmt::Write>(&self, f: &mut fmt::Formatter<W>) -> fmt::Result {
+        match self {
+            DecodeFault::NoMemory => write!(f, "no memory"),
+            DecodeFault::Empty => write!(f, "no byte"),
+            DecodeFault::NotWholeUnits => write!(f, "the number of bytes is no multiple of 8"),
+            DecodeFault::TooManyUnits => write!(f, "more than 512 units"),
+            DecodeFault::UnknownOpcode(unit) => write!(f, "unknown opcode at unit {unit}"),
+            DecodeFault::BadRegister(unit) => write!(f, "register above 10 at unit {unit}"),
+            DecodeFault::UnusedNotZero(unit) => write!(f, "unused field is not zero at unit {unit}"),
+        }
+    }
+}
+
+impl Error for DecodeFault {}
+
+impl From<AllocError> for DecodeFault {
+    ghost from_gives = { λ _ e. e ≡ OutOfMemory };
+
+    fn from(_: AllocError) -> DecodeFault {
+        DecodeFault::NoMemory
+    }
+}
+
+/// What is wrong with the fields of one unit.
+#[derive(Clone, Copy, Debug, PartialEq, Eq)]
+pub(crate) enum UnitFault {
+    UnknownOpcode,
+    BadRegister,
+    UnusedNotZero,
+}
+
+impl UnitFault {
+    /// The fault, at this unit.
+    pub(crate) fn at(self, unit: usize) -> DecodeFault
+        ensures { result ≡ at_unit unit self }
+    {
+        match self {
+            UnitFault::UnknownOpcode => DecodeFault::UnknownOpcode(unit),
+            UnitFault::BadRegister => DecodeFault::BadRegister(unit),
+            UnitFault::UnusedNotZero => DecodeFault::UnusedNotZero(unit),
+        }
+    }
+}

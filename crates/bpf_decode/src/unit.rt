@@ -1,0 +1,87 @@
+//! Units of eight bytes and their fields.
+ghost use Rattle.std.specs.Prelude.{◌≡◌, ◌<◌, ◌^◌, IfErr, OnOk, Some, None};
+ghost use Rattle.bpf_model.specs.Spelling.{unit_bytes};
+ghost use Rattle.bpf_decode.specs.Faults.{FitUnit, view, has_bad_register, has_unused_not_zero, fault_under};
+
+use crate::fault::UnitFault;
+use byteorder::{ByteOrder, LittleEndian};
+
+/// The bytes of a unit.
+pub(crate) const UNIT_BYTES: usize = 8;
+
+/// The fields of a unit.
+#[derive(Clone, Copy, Debug, PartialEq, Eq)]
+pub(crate) struct Fields {
+    pub(crate) opcode: u8,
+    pub(crate) dst: u8,
+    pub(crate) src: u8,
+    pub(crate) offset: i16,
+    pub(crate) imm: i32,
+}
+
+/// Which fields an instruction uses, beside its opcode.
+#[derive(Clone, Copy, Debug, PartialEq, Eq)]
+pub(crate) struct UsedFields {
+    pub(crate) dst: bool,
+    pub(crate) src: bool,
+    pub(crate) offset: bool,
+    pub(crate) imm: bool,
+}
+
+impl Fields {
+    /// The fields that the bytes of a unit spell.
+    pub(crate) fn read(unit: &[u8; UNIT_BYTES]) -> Fields
+        ensures fits { FitUnit (view result) }
+        ensures spelled { unit.now ≡ unit_bytes (view result) }
+    {
+        Fields {
+            opcode: unit[0],
+            dst: unit[1] % 16,
+            src: unit[1] / 16,
+            offset: LittleEndian::read_i16(&unit[2..4]),
+            imm: LittleEndian::read_i32(&unit[4..8]),
+        }
+    }
+
+    /// The bytes of a unit that spell the fields.
+    pub(crate) fn bytes(self) -> [u8; UNIT_BYTES]
+        requires { FitUnit (view self) }
+        ensures { result ≡ unit_bytes (view self) }
+    {
+        let mut unit = [0; UNIT_BYTES];
+        unit[0] = self.opcode;
+        unit[1] = self.src * 16 + self.dst;
+        LittleEndian::write_i16(&mut unit[2..4], self.offset);
+        LittleEndian::write_i32(&mut unit[4..8], self.imm);
+        unit
+    }
+
+    fn has_bad_register(self, used: UsedFields) -> bool
+        ensures { result ≡ has_bad_register used (view self) }
+    {
+        (used.dst && self.dst > 10) || (used.src && self.src > 10)
+    }
+
+    fn has_unused_not_zero(self, used: UsedFields) -> bool
+        ensures { result ≡ has_unused_not_zero used (view self) }
+    {
+        (!used.dst && self.dst != 0)
+            || (!used.src && self.src != 0)
+            || (!used.offset && self.offset != 0)
+            || (!used.imm && self.imm != 0)
+    }
+
+    /// The least-numbered fault of fields of which these are used.
+    pub(crate) fn check(self, used: UsedFields) -> Result<(), UnitFault>
+        ensures ok { OnOk result (fault_under (Some used) (view self) ≡ None) }
+        ensures err { IfErr result (λ e. fault_under (Some used) (view self) ≡ Some e) }
+    {
+        if self.has_bad_register(used) {
+            return Err(UnitFault::BadRegister);
+        }
+        if self.has_unused_not_zero(used) {
+            return Err(UnitFault::UnusedNotZero);
+        }
+        Ok(())
+    }
+}
