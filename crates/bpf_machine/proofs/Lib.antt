@@ -1,0 +1,3 @@
+pub mod AccessLemmas
+pub mod WindowLemmas
+pub mod ExecutionLemmas
