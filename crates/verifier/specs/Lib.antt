@@ -1,1 +1,5 @@
 pub mod Checked
+pub mod FlowShape
+pub mod Ranges
+pub mod Kept
+pub mod Frames

@@ -5,6 +5,10 @@
 //! program (`IsSafe` of bpf_model, kept by `Verified`).
 #![tactic(auto)]
 
+mod flow_shape;
+mod stack_slots;
+mod value_ranges;
 pub mod verified;
 
+pub use flow_shape::{FlowFault, Shaped, shape};
 pub use verified::Verified;

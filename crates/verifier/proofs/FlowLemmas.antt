@@ -1,0 +1,51 @@
+-- The last instruction of a program, and faults of flow.
+use Rattle.std.proofs.Common.{◌≡◌, ◌≢◌, ℕ, ◌+◌, ◌-◌, ◌<◌, ◌≤◌, ◌⊎◌, List, length, get_or, Some, sym, ap, subst, ◌∙◌, inl, inr, arith}
+use Rattle.std.specs.Prelude.{slice_get}
+use Rattle.std.proofs.lemmas.Option.{slice_get-get_or}
+use Rattle.bpf_model.specs.declared.instruction.Insn.{Insn}
+use Rattle.bpf_model.specs.declared.instruction.Insn.TheVariants.{Exit}
+use Rattle.bpf_model.specs.Program.{IsProgram, units_of, unit_count, instruction_at}
+use Rattle.bpf_model.proofs.ProgramLemmas.{units_of-one, unit_count-length, instruction_at-get}
+use Rattle.bpf_model.proofs.Options.{some_is}
+use Rattle.verifier.specs.declared.flow_shape.FlowFault.{FlowFault}
+use Rattle.verifier.specs.declared.flow_shape.FlowFault.TheVariants.{FallsOffEnd}
+use Rattle.verifier.specs.FlowShape.{Falls, HasFault, IsWellShaped, IsFirstFault, unit_of, number_of}
+
+-- an instruction after which the program ends is at the last place
+falls_last : (program : List Insn) (unit : ℕ) → Falls program unit → unit + 1 ≡ length program
+falls_last program unit falls = omega (arith, falls.last, units_of-one falls.instruction, unit_count-length program)
+
+-- a program whose last instruction is EXIT has no fault of flow
+pub exit_last : (program : List Insn) → slice_get program (length program - 1) ≡ Some Exit → IsWellShaped program
+exit_last program at (FallsOffEnd unit) falls =
+    let place : length program - 1 ≡ unit = omega (arith, falls_last program unit falls) in
+    let here : instruction_at program unit ≡ Some Exit = instruction_at-get program unit ∙ subst (λ (u : ℕ). slice_get program u ≡ Some Exit) place at in
+    falls.goes_on (some_is falls.instruction Exit (sym falls.at ∙ here))
+
+-- another last instruction is the first fault
+pub other_last : (program : List Insn) (i : Insn) → IsProgram program → slice_get program (length program - 1) ≡ Some i → i ≢ Exit → IsFirstFault program (FallsOffEnd (length program - 1))
+other_last program i is_program at other = record {
+  has = record {
+    instruction = i;
+    at = instruction_at-get program (length program - 1) ∙ at;
+    last = omega (arith, is_program.some, units_of-one i, unit_count-length program);
+    goes_on = other;
+  };
+  first = only;
+}
+  where
+    only : (fault : FlowFault) → HasFault program fault → (length program - 1 < unit_of fault) ⊎ ((length program - 1 ≡ unit_of fault) × (33 ≤ number_of fault))
+    only (FallsOffEnd unit) falls = inr (omega (arith, falls_last program unit falls), omega arith)
+
+-- a program without a fault of flow ends with EXIT
+pub well_shaped_ends : (program : List Insn) (i : Insn) → IsProgram program → IsWellShaped program → slice_get program (length program - 1) ≡ Some i → i ≢ Exit → ⊥
+well_shaped_ends program i is_program shaped at other = shaped (FallsOffEnd (length program - 1)) (other_last program i is_program at other).has
+
+-- the last instruction, as code reads it
+pub last_read : (program read : List Insn) (i d : Insn) (last : ℕ) → IsProgram read → read ≡ program → last ≡ length read - 1 → get_or read last d ≡ i → slice_get program (length program - 1) ≡ Some i
+last_read program read i d last is_program same place is =
+    let len : length read ≡ length program = ap length same in
+    let lt : last < length read = omega (arith, is_program.some) in
+    let at : slice_get read last ≡ Some i = slice_get-get_or read last d lt ∙ ap Some is in
+    let there : last ≡ length program - 1 = omega arith in
+    cc

@@ -1,0 +1,104 @@
+//! The written bytes of stack and result.
+ghost use Rattle.std.specs.Prelude.{◌≡◌, ◌≤◌, ◌<◌, ◌+◌, ◌↔◌, ℕ, List, Bool, true, false, ◌||◌, ◌&&◌, Some, IsSome, IfSome, IsTrue, All, length, slice_range, slice_index_or, nat_le, nat_lt};
+ghost use Rattle.bpf_model.specs.declared.region.Region.{Region as TheRegion};
+ghost use Rattle.bpf_model.specs.declared.region.Region.TheVariants.{Result as ResultWindow};
+ghost use Rattle.bpf_model.specs.Words.{bytes_of, word_of};
+ghost use Rattle.bpf_model.specs.Memory.{Partial, byte_count, bytes_at, with_bytes};
+ghost use Rattle.verifier.specs.Frames.{StandsFor, is_written, touches, access_address, HasBytes, DescribesMemory};
+
+use super::access::Access;
+use super::reg_value::RegValue;
+use crate::value_ranges::Range;
+use bpf_model::Region;
+use bpf_model::limits::{STACK_BYTES, VALUE_BYTES};
+
+/// Which bytes of stack and result were written.
+#[derive(Clone, Copy, Debug, PartialEq, Eq)]
+pub struct Frame {
+    result: [bool; VALUE_BYTES],
+    stack: [bool; STACK_BYTES],
+}
+
+impl Frame {
+    /// The frame of a run's beginning: no byte was written.
+    pub fn empty() -> Frame
+        ensures written { (r : TheRegion) (i : ℕ) → is_written result r i ≡ false }
+        ensures describes { (memory : Partial) → DescribesMemory result memory }
+    {
+        Frame {
+            result: [false; VALUE_BYTES],
+            stack: [false; STACK_BYTES],
+        }
+    }
+
+    /// The frame after a store of a word for which the value stands. The bytes that are stored become written.
+    pub fn store(&mut self, access: &Access, _value: &RegValue)
+        ensures written { (r : TheRegion) (i : ℕ) → is_written self.new r i ≡ (touches access.now r i || is_written self.old r i) }
+        ensures describes { (memory : Partial) (w : ℕ) → StandsFor _value.now (Some w) → DescribesMemory self.old memory
+            → DescribesMemory self.new (with_bytes memory (access_address access.now) (bytes_of (byte_count access.now.size) w)) }
+    {
+        self.mark(access);
+    }
+
+    /// What is known of a loaded word; none where not all its bytes were written.
+    pub fn load(&self, access: &Access) -> Option<RegValue>
+        ensures some { IsSome result ↔ ((i : ℕ) → i < byte_count access.now.size → is_written self.now access.now.region (access.now.first + i) ≡ true) }
+        ensures value { IfSome result (λ x. (memory : Partial) → HasBytes memory → DescribesMemory self.now memory
+            → (bytes : List ℕ) × ((bytes_at memory (access_address access.now) (byte_count access.now.size) ≡ Some bytes) × StandsFor x (Some (word_of bytes)))) }
+    {
+        if self.are_written(access) {
+            Some(RegValue::Number(Range::full()))
+        } else {
+            None
+        }
+    }
+
+    fn mark(&mut self, access: &Access)
+        ensures { (r : TheRegion) (i : ℕ) → is_written self.new r i ≡ (touches access.now r i || is_written self.old r i) }
+    {
+        let end = access.first + access.size.bytes();
+        match access.region {
+            Region::Result => mark(&mut self.result, access.first, end),
+            Region::Stack => mark(&mut self.stack, access.first, end),
+            Region::Key | Region::Old | Region::Arg => {}
+        }
+    }
+
+    fn are_written(&self, access: &Access) -> bool
+        ensures { IsTrue result ↔ ((i : ℕ) → i < byte_count access.now.size → is_written self.now access.now.region (access.now.first + i) ≡ true) }
+    {
+        let end = access.first + access.size.bytes();
+        match access.region {
+            Region::Result => are_marked(&self.result, access.first, end),
+            Region::Stack => are_marked(&self.stack, access.first, end),
+            Region::Key | Region::Old | Region::Arg => false,
+        }
+    }
+
+    /// The greatest n such that the first n bytes of the result were written.
+    pub fn written_prefix(&self) -> usize
+        ensures written { (i : ℕ) → i < result → is_written self.now ResultWindow i ≡ true }
+        ensures greatest { is_written self.now ResultWindow result ≡ false }
+    {
+        match self.result.iter().position(|byte| !byte) {
+            Some(first) => first,
+            None => VALUE_BYTES,
+        }
+    }
+}
+
+fn mark(bytes: &mut [bool], first: usize, end: usize)
+    requires order { first ≤ end }
+    requires inside { end ≤ length bytes.old }
+    ensures { (i : ℕ) → slice_index_or bytes.new i false ≡ ((nat_le first i && nat_lt i end) || slice_index_or bytes.old i false) }
+{
+    bytes[first..end].fill(true);
+}
+
+fn are_marked(bytes: &[bool], first: usize, end: usize) -> bool
+    requires order { first ≤ end }
+    requires inside { end ≤ length bytes.now }
+    ensures { IsTrue result ↔ All (λ b. b ≡ true) (slice_range bytes.now first end) }
+{
+    bytes[first..end].iter().all(|byte| *byte)
+}
