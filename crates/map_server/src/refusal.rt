@@ -3,8 +3,10 @@ ghost use Rattle.std.specs.Prelude.{◌≡◌};
 ghost use Rattle.map_server.specs.Refusals.{number_of, place_of};
 
 use crate::hex::HexFault;
+use bpf_decode::DecodeFault;
 use bpf_model::{NoMemory, TooLong};
 use thiserror::Error;
+use verifier::{FlowFault, VerifyFault};
 
 /// Why there is no answer. Each refusal has a number and a place, which are printed.
 #[derive(Clone, Copy, Debug, PartialEq, Eq, Error)]
@@ -18,6 +20,15 @@ pub enum Refusal {
     /// A text is no hex text: number 70, at the place of its first byte that begins neither blank space nor a pair.
     #[error("no hex text at place {place}")]
     NotHex { place: usize },
+    /// The bytes are no program: numbers 9 to 15, at the faulty unit.
+    #[error("{0}")]
+    Decode(DecodeFault),
+    /// The program may go past its end: number 33, at the faulty unit.
+    #[error("{0}")]
+    Flow(FlowFault),
+    /// The program was not found safe: numbers 40 to 47, at the faulty unit.
+    #[error("{0}")]
+    Verify(VerifyFault),
 }
 
 impl Refusal {
@@ -29,6 +40,9 @@ impl Refusal {
             Refusal::TooLong => TooLong::NUMBER,
             Refusal::NoMemory => NoMemory::NUMBER,
             Refusal::NotHex { .. } => 70,
+            Refusal::Decode(fault) => fault.number(),
+            Refusal::Flow(fault) => fault.number(),
+            Refusal::Verify(fault) => fault.number(),
         }
     }
 
@@ -37,8 +51,11 @@ impl Refusal {
         ensures { result ≡ place_of self.now }
     {
         match self {
-            Refusal::NotHex { place } => *place,
             Refusal::TooLong | Refusal::NoMemory => 0,
+            Refusal::NotHex { place } => *place,
+            Refusal::Decode(fault) => fault.unit(),
+            Refusal::Flow(fault) => fault.unit(),
+            Refusal::Verify(fault) => fault.unit(),
         }
     }
 }
@@ -65,5 +82,38 @@ impl From<HexFault> for Refusal {
             HexFault::NotHex { place } => Refusal::NotHex { place },
             HexFault::NoMemory => Refusal::NoMemory,
         }
+    }
+}
+
+impl From<DecodeFault> for Refusal {
+    ghost use Rattle.std.specs.Prelude.{◌≡◌};
+    ghost use Rattle.map_server.specs.declared.refusal.Refusal.TheVariants.{Decode};
+
+    ghost from_gives = { λ fault e. e ≡ Decode fault };
+
+    fn from(fault: DecodeFault) -> Refusal {
+        Refusal::Decode(fault)
+    }
+}
+
+impl From<FlowFault> for Refusal {
+    ghost use Rattle.std.specs.Prelude.{◌≡◌};
+    ghost use Rattle.map_server.specs.declared.refusal.Refusal.TheVariants.{Flow};
+
+    ghost from_gives = { λ fault e. e ≡ Flow fault };
+
+    fn from(fault: FlowFault) -> Refusal {
+        Refusal::Flow(fault)
+    }
+}
+
+impl From<VerifyFault> for Refusal {
+    ghost use Rattle.std.specs.Prelude.{◌≡◌};
+    ghost use Rattle.map_server.specs.declared.refusal.Refusal.TheVariants.{Verify};
+
+    ghost from_gives = { λ fault e. e ≡ Verify fault };
+
+    fn from(fault: VerifyFault) -> Refusal {
+        Refusal::Verify(fault)
     }
 }

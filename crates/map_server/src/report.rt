@@ -1,11 +1,9 @@
 //! What is printed for a command, and the status that goes with it.
-ghost use Rattle.std.specs.Prelude.{◌≡◌, ◌≤◌, ◌<◌, ◌+◌, ◌-◌, ◌^◌, ◌++◌, codes, length, OnOk, OnErr};
-ghost use Rattle.std.specs.Io.KnownBytes.{Appends};
+ghost use Rattle.std.specs.Prelude.{◌≡◌, ◌≤◌, ◌+◌, ◌++◌, codes, length};
 ghost use Rattle.std.specs.List.{flat_map};
 ghost use Rattle.arrayvec.specs.ArrayVec.{array_vec_len};
 ghost use Rattle.map_server.specs.Reports.{text_of, status_of, spaced};
 
-use crate::devices::{Failed, Sink, write_all};
 use crate::refusal::Refusal;
 use arrayvec::ArrayVec;
 use bpf_model::limits::VALUE_BYTES;
@@ -25,10 +23,11 @@ pub enum Report {
     Refused(Refusal),
 }
 
-// The longest line is `bytes`, a blank and two digits for each byte of a value, and a newline.
-const LINE_BYTES: usize = 6 + 3 * VALUE_BYTES;
+/// The most bytes of a line: `bytes`, a blank and two digits for each byte of a value, and a newline.
+pub const LINE_BYTES: usize = 6 + 3 * VALUE_BYTES;
 
-type Line = ArrayVec<u8, LINE_BYTES>;
+/// One printed line.
+pub type Line = ArrayVec<u8, LINE_BYTES>;
 
 static DIGITS: [u8; 16] = *b"0123456789abcdef";
 
@@ -90,7 +89,8 @@ impl Report {
         }
     }
 
-    fn line(&self) -> Line
+    /// The line that is printed, with its newline. Takes no memory.
+    pub fn line(&self) -> Line
         ensures { result.items ≡ text_of self.now }
     {
         match self {
@@ -102,15 +102,5 @@ impl Report {
             Report::Unfit(Window::Arg) => text_line(b"unfit arg\n"),
             Report::Refused(refusal) => refused_line(refusal),
         }
-    }
-
-    /// Prints the report as one line. Takes no memory.
-    pub fn print<W: Sink>(&self, writer: &mut W) -> Result<(), Failed>
-        requires { W.failures writer.old < 2 ^ 64 - 1 }
-        ensures text { OnOk result (Appends (W.held writer.old) (W.held writer.new) (text_of self.now)) }
-        ensures ok { OnOk result (W.failures writer.new ≡ W.failures writer.old) }
-        ensures err { OnErr result (W.failures writer.new ≡ W.failures writer.old + 1) }
-    {
-        write_all(writer, self.line().as_slice())
     }
 }

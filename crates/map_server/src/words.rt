@@ -6,7 +6,7 @@ use clap::{Arg, ArgMatches, value_parser};
 use std::alloc::{AllocError, Global};
 
 /// What `bpfmap` is asked to do.
-#[derive(Debug, PartialEq, Eq)]
+#[derive(Clone, Copy, Debug, PartialEq, Eq)]
 pub enum Command<'a> {
     /// Verify the program with these sizes.
     Check(Sizes),
@@ -15,7 +15,7 @@ pub enum Command<'a> {
 }
 
 /// The hex texts that a program is run on. A missing option is an absent value, an empty text an empty one.
-#[derive(Debug, PartialEq, Eq)]
+#[derive(Clone, Copy, Debug, PartialEq, Eq)]
 pub struct RunTexts<'a> {
     pub key: &'a str,
     pub old: Option<&'a str>,
