@@ -4,8 +4,10 @@ ghost use Rattle.std.specs.Io.KnownBytes.{Appends};
 ghost use Rattle.map_server.specs.Commands.{IsReport};
 ghost use Rattle.map_server.specs.Endings.{Prints, Tells};
 ghost use Rattle.map_server.specs.Reports.{text_of};
-ghost use Rattle.map_server.specs.declared.bpfmap.TheConstants.{FAULT_OF_WORDS, FAILED_DEVICE};
 ghost use Rattle.map_server.specs.declared.words.Command.{Command};
+
+#[cfg(test)]
+mod tests;
 
 use crate::commands::report_of;
 use crate::devices::{Failed, ReadFault, Sink, Source, read_all, write_all};
@@ -36,7 +38,7 @@ fn read_report<R: Source>(alloc: Global, command: &Command<'_>, reader: &mut R) 
 /// Tells of a failed device in one line, and answers its status. Where standard error fails too, nobody is told.
 fn tell_failed<E: Sink>(errors: &mut E, line: &[u8]) -> u8
     requires { E.failures errors.old < 2 ^ 64 - 1 }
-    ensures status { result ≡ FAILED_DEVICE }
+    ensures status { result ≡ 3 }
     ensures told { Tells (E.failures errors.old) (E.failures errors.new)
         (E.held errors.old) (E.held errors.new) line.now }
 {
@@ -46,13 +48,13 @@ fn tell_failed<E: Sink>(errors: &mut E, line: &[u8]) -> u8
 
 /// Prints the text, and answers this status, or that of a failed write.
 fn print<W: Sink, E: Sink>(text: &[u8], status: u8, writer: &mut W, errors: &mut E) -> u8
-    requires status { status < FAILED_DEVICE }
+    requires status { status < 3 }
     requires writes { W.failures writer.old < 2 ^ 64 - 1 }
     requires tells { E.failures errors.old < 2 ^ 64 - 1 }
-    ensures status { (result ≢ FAILED_DEVICE) → result ≡ status }
-    ensures printed { (result ≢ FAILED_DEVICE) → Appends (W.held writer.old) (W.held writer.new) text.now }
-    ensures sound { (result ≢ FAILED_DEVICE) → W.failures writer.new ≡ W.failures writer.old }
-    ensures failed { result ≡ FAILED_DEVICE → (W.failures writer.new ≡ W.failures writer.old + 1)
+    ensures status { (result ≢ 3) → result ≡ status }
+    ensures printed { (result ≢ 3) → Appends (W.held writer.old) (W.held writer.new) text.now }
+    ensures sound { (result ≢ 3) → W.failures writer.new ≡ W.failures writer.old }
+    ensures failed { result ≡ 3 → (W.failures writer.new ≡ W.failures writer.old + 1)
         × Tells (E.failures errors.old) (E.failures errors.new)
         (E.held errors.old) (E.held errors.new) (codes "failed write\n") }
 {
@@ -72,12 +74,12 @@ fn tell_words<W: Sink, E: Sink>(
 ) -> u8
     requires writes { W.failures writer.old < 2 ^ 64 - 1 }
     requires tells { E.failures errors.old < 2 ^ 64 - 1 }
-    ensures status { result ≤ FAILED_DEVICE }
+    ensures status { result ≤ 3 }
     ensures refused { result ≡ 1
         → Appends (W.held writer.old) (W.held writer.new) (text_of (Report.Refused Refusal.NoMemory)) }
-    ensures words { result ≡ FAULT_OF_WORDS → W.held writer.new ≡ W.held writer.old }
-    ensures sound { (result ≢ FAILED_DEVICE) → W.failures writer.new ≡ W.failures writer.old }
-    ensures failed { result ≡ FAILED_DEVICE → (W.failures writer.new ≡ W.failures writer.old + 1)
+    ensures words { result ≡ 2 → W.held writer.new ≡ W.held writer.old }
+    ensures sound { (result ≢ 3) → W.failures writer.new ≡ W.failures writer.old }
+    ensures failed { result ≡ 3 → (W.failures writer.new ≡ W.failures writer.old + 1)
         × Tells (E.failures errors.old) (E.failures errors.new)
         (E.held errors.old) (E.held errors.new) (codes "failed write\n") }
 {
@@ -107,11 +109,11 @@ pub fn carry_out<R: Source, W: Sink, E: Sink>(
     requires reads { R.failures reader.old < 2 ^ 64 - 1 }
     requires writes { W.failures writer.old < 2 ^ 64 - 1 }
     requires tells { E.failures errors.old < 2 ^ 64 - 1 }
-    ensures printed { (result ≢ FAILED_DEVICE)
+    ensures printed { (result ≢ 3)
         → Prints command.now (R.left reader.old) (W.held writer.old) (W.held writer.new) result }
-    ensures sound { (result ≢ FAILED_DEVICE) → (R.failures reader.new ≡ R.failures reader.old)
+    ensures sound { (result ≢ 3) → (R.failures reader.new ≡ R.failures reader.old)
         × (W.failures writer.new ≡ W.failures writer.old) }
-    ensures failed { result ≡ FAILED_DEVICE → ((R.failures reader.new ≡ R.failures reader.old + 1)
+    ensures failed { result ≡ 3 → ((R.failures reader.new ≡ R.failures reader.old + 1)
         × Tells (E.failures errors.old) (E.failures errors.new)
         (E.held errors.old) (E.held errors.new) (codes "failed read\n"))
         ⊎ ((W.failures writer.new ≡ W.failures writer.old + 1)
@@ -137,14 +139,14 @@ pub fn bpfmap_on<R: Source, W: Sink, E: Sink>(
     requires reads { R.failures reader.old < 2 ^ 64 - 1 }
     requires writes { W.failures writer.old < 2 ^ 64 - 1 }
     requires tells { E.failures errors.old < 2 ^ 64 - 1 }
-    ensures status { result ≤ FAILED_DEVICE }
+    ensures status { result ≤ 3 }
     ensures refused { result ≡ 1 → (command : Command)
         × Prints command (R.left reader.old) (W.held writer.old) (W.held writer.new) result }
-    ensures words { result ≡ FAULT_OF_WORDS → (R.left reader.new ≡ R.left reader.old)
+    ensures words { result ≡ 2 → (R.left reader.new ≡ R.left reader.old)
         × (W.held writer.new ≡ W.held writer.old) }
-    ensures sound { (result ≢ FAILED_DEVICE) → (R.failures reader.new ≡ R.failures reader.old)
+    ensures sound { (result ≢ 3) → (R.failures reader.new ≡ R.failures reader.old)
         × (W.failures writer.new ≡ W.failures writer.old) }
-    ensures failed { result ≡ FAILED_DEVICE → ((R.failures reader.new ≡ R.failures reader.old + 1)
+    ensures failed { result ≡ 3 → ((R.failures reader.new ≡ R.failures reader.old + 1)
         × Tells (E.failures errors.old) (E.failures errors.new)
         (E.held errors.old) (E.held errors.new) (codes "failed read\n"))
         ⊎ ((W.failures writer.new ≡ W.failures writer.old + 1)

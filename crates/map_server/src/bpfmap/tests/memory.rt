@@ -86,7 +86,7 @@ pub fn call(
 }
 
 /// One call of `bpfmap` with these words, which single blanks separate: a blank at the end is followed by an empty word.
-pub fn outcome(alloc: Global, words: &str, input: &str) -> Result<Outcome, AllocError> {
+pub fn run_words(alloc: Global, words: &str, input: &str) -> Result<Outcome, AllocError> {
     let mut all = vec![in alloc; "bpfmap"]?;
     for word in words.split(' ') {
         all.push(word)?;

@@ -1,5 +1,5 @@
 //! Faults of the command line and of devices.
-use super::memory::{Pieces, ROOM, call, outcome};
+use super::memory::{Pieces, ROOM, call, run_words};
 use std::test::Fail;
 
 const NOTHING: &[u8] = b"b7 00 00 00 ff ff ff ff 95 00 00 00 00 00 00 00";
@@ -42,7 +42,7 @@ fn faults_of_the_words_are_told(rt: HostRuntime) -> Result<(), Fail> {
         "run 61",
         "--stripes 1",
     ] {
-        let found = outcome(rt.alloc(), words, "")?;
+        let found = run_words(rt.alloc(), words, "")?;
         assert!(rt; found.status == 2, "{words}");
         assert!(rt; found.output.is_empty(), "{words}");
         assert!(rt; found.errors.starts_with(b"error: "), "{words}");
@@ -70,7 +70,7 @@ fn help_and_version_are_no_faults(rt: HostRuntime) -> Result<(), Fail> {
         ("check --help", "Verifies the program"),
         ("help run", "Verifies the program"),
     ] {
-        let found = outcome(rt.alloc(), words, "")?;
+        let found = run_words(rt.alloc(), words, "")?;
         assert!(rt; found.status == 0, "{words}");
         assert!(rt; found.output.starts_with(start.as_bytes()), "{words}");
         assert!(rt; found.errors.is_empty(), "{words}");
@@ -104,7 +104,7 @@ fn failed_writes_end_with_status_3(rt: HostRuntime) -> Result<(), Fail> {
         }
     }
     let all = call(rt.alloc(), &["bpfmap", "run"], pieces(NOTHING, 5, false), 8, 0);
-    assert!(rt; all.status == 0 && all.output.as_slice() == b"nothing\n");
+    assert!(rt; all.status == 0 && all.output.as_slice() == b"nothing\n".as_slice());
     let words = call(rt.alloc(), &["bpfmap", "walk"], pieces(NOTHING, 5, false), 8, 0);
     assert!(rt; words.status == 2 && words.output.is_empty());
     Ok(())

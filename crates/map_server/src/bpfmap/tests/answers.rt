@@ -1,5 +1,6 @@
 //! What `bpfmap` prints, and with which status.
-use super::memory::outcome;
+use super::memory::run_words;
+use std::process::Abort;
 use std::test::Fail;
 
 // The sum of the old value and the argument.
@@ -13,9 +14,9 @@ const NOTHING: &str = "b7 00 00 00 ff ff ff ff 95 00 00 00 00 00 00 00";
 const EMPTY: &str = "b7 00 00 00 00 00 00 00 95 00 00 00 00 00 00 00";
 
 /// Each row: the words, standard input, what is printed, the status. Standard error stays empty.
-fn holds(rt: &HostRuntime, row: (&str, &str, &str, u8)) -> Result<(), Fail> {
+fn holds<R: AllocGlobal + Abort>(rt: &R, row: (&str, &str, &str, u8)) -> Result<(), Fail> {
     let (words, input, output, status) = row;
-    let found = outcome(rt.alloc(), words, input)?;
+    let found = run_words(rt.alloc(), words, input)?;
     assert!(rt; found.output.as_slice() == output.as_bytes(), "{words} on {input}");
     assert!(rt; found.status == status, "{words} on {input}");
     assert!(rt; found.errors.is_empty(), "{words} on {input}");
