@@ -1,10 +1,10 @@
 -- The last instruction of a program, and faults of flow.
-use Rattle.std.proofs.Common.{◌≡◌, ◌≢◌, ℕ, ◌+◌, ◌-◌, ◌<◌, ◌≤◌, ◌⊎◌, List, length, get_or, Some, sym, ap, subst, ◌∙◌, inl, inr, arith}
+use Rattle.std.proofs.Common.{◌≡◌, ◌≢◌, ℕ, ◌+◌, ◌-◌, ◌<◌, ◌≤◌, ◌⊎◌, List, length, get_or, Some, refl, sym, ap, subst, ◌∙◌, inl, inr, arith}
 use Rattle.std.specs.Prelude.{slice_get}
 use Rattle.std.proofs.lemmas.Option.{slice_get-get_or}
 use Rattle.bpf_model.specs.declared.instruction.Insn.{Insn}
-use Rattle.bpf_model.specs.declared.instruction.Insn.TheVariants.{Exit}
-use Rattle.bpf_model.specs.Program.{IsProgram, units_of, unit_count, instruction_at}
+use Rattle.bpf_model.specs.declared.instruction.Insn.TheVariants.{Alu, Mov, Load, Store, Exit}
+use Rattle.bpf_model.specs.Program.{IsProgram, instruction_at}
 use Rattle.bpf_model.proofs.ProgramLemmas.{units_of-one, unit_count-length, instruction_at-get}
 use Rattle.bpf_model.proofs.Options.{some_is}
 use Rattle.verifier.specs.declared.flow_shape.FlowFault.{FlowFault}
@@ -37,9 +37,26 @@ other_last program i is_program at other = record {
     only : (fault : FlowFault) → HasFault program fault → (length program - 1 < unit_of fault) ⊎ ((length program - 1 ≡ unit_of fault) × (33 ≤ number_of fault))
     only (FallsOffEnd unit) falls = inr (omega (arith, falls_last program unit falls), omega arith)
 
--- a program without a fault of flow ends with EXIT
+-- a program without a fault of flow has no other last instruction
 pub well_shaped_ends : (program : List Insn) (i : Insn) → IsProgram program → IsWellShaped program → slice_get program (length program - 1) ≡ Some i → i ≢ Exit → ⊥
 well_shaped_ends program i is_program shaped at other = shaped (FallsOffEnd (length program - 1)) (other_last program i is_program at other).has
+
+is_exit : (i : Insn) → (i ≡ Exit) ⊎ (i ≢ Exit)
+is_exit Exit = inl refl
+is_exit (Alu op width dst src) = inr (λ e. cc)
+is_exit (Mov width dst imm) = inr (λ e. cc)
+is_exit (Load size dst src offset) = inr (λ e. cc)
+is_exit (Store size dst src offset) = inr (λ e. cc)
+
+-- so it ends with EXIT
+pub well_shaped_exit : (program : List Insn) → IsProgram program → IsWellShaped program → slice_get program (length program - 1) ≡ Some Exit
+well_shaped_exit program is_program shaped =
+    let last : length program - 1 < length program = omega (arith, is_program.some) in
+    let at = slice_get-get_or program (length program - 1) Exit last in
+    elim (is_exit (get_or program (length program - 1) Exit)) [
+      | inl exit ↦ at ∙ ap Some exit
+      | inr other ↦ absurd (well_shaped_ends program (get_or program (length program - 1) Exit) is_program shaped at other)
+    ]
 
 -- the last instruction, as code reads it
 pub last_read : (program read : List Insn) (i d : Insn) (last : ℕ) → IsProgram read → read ≡ program → last ≡ length read - 1 → get_or read last d ≡ i → slice_get program (length program - 1) ≡ Some i

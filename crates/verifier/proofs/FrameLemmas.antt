@@ -1,6 +1,6 @@
 -- Frames and the memories that they describe.
-use Rattle.std.proofs.Common.{◌≡◌, ℕ, zero, suc, ◌+◌, ◌-◌, ◌^◌, ◌<◌, ◌≤◌, ◌⊎◌, Bool, true, false, List, length, Some, get_or, replicate, take, drop, refl, sym, ap, subst, ◌∙◌, arith, rules, inl, inr, All}
-use Rattle.std.specs.Prelude.{IsSome, nat_eq, nat_le, nat_lt, ◌&&◌, ◌||◌, slice_range}
+use Rattle.std.proofs.Common.{◌≡◌, ℕ, zero, suc, ◌+◌, ◌-◌, ◌^◌, ◌<◌, ◌≤◌, ◌⊎◌, Bool, true, false, List, length, Some, get_or, replicate, drop, refl, sym, subst, ◌∙◌, arith, rules, inl, inr, All}
+use Rattle.std.specs.Prelude.{IsSome, nat_le, nat_lt, ◌&&◌, ◌||◌, slice_range}
 use Rattle.std.proofs.lemmas.Bool.Decides.{nat_tests}
 use Rattle.std.proofs.lemmas.List.{get_or-take, get_or-drop, get_or_default, length-take, length-drop}
 use Rattle.std.proofs.Math.ListN.{get_or-eq_default}
@@ -47,14 +47,14 @@ with_bytes-present memory a bs q h =
     ]
 
 -- where an access touches a byte, its address is one of the access's
-touched : (a : Access) (r : Region) (i : ℕ) → touches a r i ≡ true → (access_address a ≤ first_address r + i) × (first_address r + i < access_address a + byte_count a.size)
+pub touched : (a : Access) (r : Region) (i : ℕ) → touches a r i ≡ true → (access_address a ≤ first_address r + i) × (first_address r + i < access_address a + byte_count a.size)
 touched a r i e =
     let window : first_address a.region ≡ first_address r = grind (arith, nat_tests, e) in
     let low : a.first ≤ i = grind (arith, nat_tests, e) in
     let high : i < a.first + byte_count a.size = grind (arith, nat_tests, e) in
     (omega arith, omega arith)
 
-either : (a b : Bool) → (a || b) ≡ true → (a ≡ true) ⊎ (b ≡ true)
+pub either : (a b : Bool) → (a || b) ≡ true → (a ≡ true) ⊎ (b ≡ true)
 either true b e = inl refl
 either false b e = inr e
 
@@ -95,8 +95,8 @@ load_word memory a size small there =
 pub load_finds : (f : Frame) (a : Access) (memory : Partial) → HasBytes memory → DescribesMemory f memory → ((i : ℕ) → i < byte_count a.size → is_written f a.region (a.first + i) ≡ true) → (bs : List ℕ) × ((bytes_at memory (access_address a) (byte_count a.size) ≡ Some bs) × IsWord (word_of bs))
 load_finds f a memory small d written =
     load_word memory (access_address a) a.size small (λ i lt.
-      let same : first_address a.region + (a.first + i) ≡ access_address a + i = omega arith in
-      subst (λ (q : ℕ). IsSome (memory q)) same (d a.region (a.first + i) (written i lt)))
+    let same : first_address a.region + (a.first + i) ≡ access_address a + i = omega arith in
+    subst (λ (q : ℕ). IsSome (memory q)) same (d a.region (a.first + i) (written i lt)))
 
 -- the elements of a part of a list, by their places in the list
 get_or-slice_range : (bs : List Bool) (first end i : ℕ) → first + i < end → get_or (slice_range bs first end) i false ≡ get_or bs (first + i) false

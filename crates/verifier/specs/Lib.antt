@@ -3,3 +3,5 @@ pub mod FlowShape
 pub mod Ranges
 pub mod Kept
 pub mod Frames
+pub mod Faults
+pub mod Describes

@@ -40,7 +40,10 @@ impl FlowFault {
 impl fmt::Display for FlowFault {
     fn fmt<W: fmt::Write>(&self, f: &mut fmt::Formatter<W>) -> fmt::Result {
         match self {
-            FlowFault::FallsOffEnd(unit) => write!(f, "the last instruction, at unit {unit}, is no exit"),
+            FlowFault::FallsOffEnd(unit) => write!(
+                f,
+                "the last instruction, at unit {unit}, is no exit"
+            ),
         }
     }
 }

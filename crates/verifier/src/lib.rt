@@ -5,10 +5,16 @@
 //! program (`IsSafe` of bpf_model, kept by `Verified`).
 #![tactic(auto)]
 
+mod abstract_state;
+mod arithmetic;
+mod fault;
 mod flow_shape;
 mod stack_slots;
 mod value_ranges;
 pub mod verified;
+mod walk;
 
+pub use fault::VerifyFault;
 pub use flow_shape::{FlowFault, Shaped, shape};
 pub use verified::Verified;
+pub use walk::verify;

@@ -79,6 +79,7 @@ impl Frame {
     pub fn written_prefix(&self) -> usize
         ensures written { (i : ℕ) → i < result → is_written self.now ResultWindow i ≡ true }
         ensures greatest { is_written self.now ResultWindow result ≡ false }
+        ensures bound { result ≤ VALUE_BYTES }
     {
         match self.result.iter().position(|byte| !byte) {
             Some(first) => first,

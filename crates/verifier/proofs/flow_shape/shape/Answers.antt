@@ -1,5 +1,4 @@
-use Rattle.std.proofs.Common.{◌≡◌, ◌≢◌, ◌-◌, ◌∙◌, length, get_or, Some, refl, sym, ap, subst, arith}
-use Rattle.std.specs.Prelude.{slice_get}
+use Rattle.std.proofs.Common.{refl, subst}
 use Rattle.bpf_model.specs.Program.{IsProgram}
 use Rattle.bpf_model.specs.declared.instruction.Insn.TheVariants.{Exit}
 use Rattle.verifier.proofs.FlowLemmas.{exit_last, other_last, well_shaped_ends, last_read}

@@ -1,0 +1,220 @@
+//! What is known of every state that a run brings to a unit.
+ghost use Rattle.std.specs.Prelude.{◌≡◌, ◌≢◌, ◌≤◌, ◌<◌, ◌+◌, ℕ, List, ◌⊎◌, Some, Ok, Err, IsSome, OnOk, IfOk, IfErr, nat_eq, if◌then◌else◌};
+ghost use Rattle.bpf_model.specs.declared.input.Sizes.{Sizes as TheSizes};
+ghost use Rattle.bpf_model.specs.declared.input.Input.{Input as TheInput};
+ghost use Rattle.bpf_model.specs.declared.instruction.Insn.TheVariants.{Exit as TheExit};
+ghost use Rattle.bpf_model.specs.Fits.{Fits, HasBytes, AreWithinLimits};
+ghost use Rattle.bpf_model.specs.Words.{word_of};
+ghost use Rattle.bpf_model.specs.Memory.{first_address, size_of, byte_count, bytes_at};
+ghost use Rattle.bpf_model.specs.State.{State, entry_state};
+ghost use Rattle.bpf_model.specs.Step.{address_of, sets, stores, ends_in};
+ghost use Rattle.verifier.specs.declared.fault.VerifyFault.TheVariants.{UnwrittenRegister, WriteToR10, NotAWindow, OutOfWindow, ReadOnly, UnwrittenBytes};
+ghost use Rattle.verifier.specs.Faults.{IsFoundAt};
+ghost use Rattle.verifier.specs.Frames.{StandsFor};
+ghost use Rattle.verifier.specs.Describes.{HasWord, Describes, Leads};
+
+use crate::arithmetic::operate;
+use crate::fault::VerifyFault;
+use crate::stack_slots::{Access, Frame, Pointer, RegValue};
+use crate::value_ranges::Range;
+use bpf_model::limits::STACK_BYTES;
+use bpf_model::{AccessSize, Insn, Reg, Region, Sizes};
+
+/// What is known of the registers, and which bytes of stack and result were written.
+#[derive(Clone, Copy, Debug, PartialEq, Eq)]
+pub struct AbstractState {
+    registers: [RegValue; 11],
+    frame: Frame,
+}
+
+impl AbstractState {
+    /// What is known at entry.
+    pub fn entry() -> AbstractState
+        ensures { (sizes : TheSizes) (input : TheInput) → AreWithinLimits sizes → HasBytes input → Fits input sizes
+            → Describes result sizes (entry_state sizes input) }
+    {
+        let any = RegValue::Number(Range::full());
+        AbstractState {
+            registers: [
+                RegValue::Unwritten,
+                address_in(Region::Key, 0),
+                address_in(Region::Old, 0),
+                address_in(Region::Arg, 0),
+                address_in(Region::Result, 0),
+                RegValue::Unwritten,
+                any,
+                any,
+                any,
+                RegValue::Unwritten,
+                address_in(Region::Stack, STACK_BYTES as u16),
+            ],
+            frame: Frame::empty(),
+        }
+    }
+
+    /// Tests the instruction at a unit, and goes on to what is known after it. Faults are tested in the order of their
+    /// numbers.
+    pub fn step(&mut self, unit: usize, sizes: Sizes, insn: Insn) -> Result<(), VerifyFault>
+        requires { AreWithinLimits sizes }
+        ensures ok { OnOk result (Leads self.old sizes insn self.new) }
+        ensures err { IfErr result (IsFoundAt unit) }
+    {
+        match insn {
+            Insn::Alu {
+                op,
+                width,
+                dst,
+                src,
+            } => {
+                let a = self.read(unit, dst.number())?;
+                let b = self.read(unit, src.number())?;
+                test_target(unit, dst)?;
+                self.set(dst, operate(op, width, a, b));
+            }
+            Insn::Mov { width, dst, imm } => {
+                test_target(unit, dst)?;
+                self.set(dst, RegValue::Number(Range::single(width.immediate(imm))));
+            }
+            Insn::Load {
+                size,
+                dst,
+                src,
+                offset,
+            } => {
+                let base = self.read(unit, src.number())?;
+                test_target(unit, dst)?;
+                let (region, first) = locate(unit, sizes, base, offset, size)?;
+                let loaded = self.load(unit, region, first, size)?;
+                self.set(dst, loaded);
+            }
+            Insn::Store {
+                size,
+                dst,
+                src,
+                offset,
+            } => {
+                let base = self.read(unit, dst.number())?;
+                let value = self.read(unit, src.number())?;
+                let (region, first) = locate(unit, sizes, base, offset, size)?;
+                self.store(unit, region, first, size, value)?;
+            }
+            Insn::Exit => self.exit(unit)?,
+        }
+        Ok(())
+    }
+
+    fn read(&self, unit: usize, register: u8) -> Result<RegValue, VerifyFault>
+        requires { register ≤ 10 }
+        ensures ok { IfOk result (λ x. (sizes : TheSizes) (s : State) → Describes self.now sizes s → HasWord x (s.registers register)) }
+        ensures err { IfErr result (λ fault. fault ≡ UnwrittenRegister unit) }
+    {
+        match self.registers[register as usize] {
+            RegValue::Unwritten => Err(VerifyFault::UnwrittenRegister(unit)),
+            value => Ok(value),
+        }
+    }
+
+    fn set(&mut self, dst: Reg, value: RegValue)
+        requires { dst ≢ 10 }
+        ensures { (sizes : TheSizes) (s : State) (w : ℕ) → Describes self.old sizes s → StandsFor value (Some w)
+            → (t : State) × ((sets s dst w ≡ Some t) × Describes self.new sizes t) }
+    {
+        self.registers[dst.number() as usize] = value;
+    }
+
+    fn load(
+        &self,
+        unit: usize,
+        region: Region,
+        first: usize,
+        size: AccessSize,
+    ) -> Result<RegValue, VerifyFault>
+        ensures ok { IfOk result (λ x. (sizes : TheSizes) (s : State) → AreWithinLimits sizes → first + byte_count size ≤ size_of sizes region → Describes self.now sizes s
+            → (bs : List ℕ) × ((bytes_at s.memory (first_address region + first) (byte_count size) ≡ Some bs) × StandsFor x (Some (word_of bs)))) }
+        ensures err { IfErr result (λ fault. fault ≡ UnwrittenBytes unit) }
+    {
+        match Access::new(region, first, size) {
+            Some(access) => self
+                .frame
+                .load(&access)
+                .ok_or(VerifyFault::UnwrittenBytes(unit)),
+            // The windows that may only be read have all their bytes.
+            None => Ok(RegValue::Number(Range::full())),
+        }
+    }
+
+    fn store(
+        &mut self,
+        unit: usize,
+        region: Region,
+        first: usize,
+        size: AccessSize,
+        value: RegValue,
+    ) -> Result<(), VerifyFault>
+        ensures ok { OnOk result ((sizes : TheSizes) (s : State) (w : ℕ) → first + byte_count size ≤ size_of sizes region → Describes self.old sizes s → StandsFor value (Some w)
+            → (t : State) × ((stores sizes s (first_address region + first) (byte_count size) w ≡ Some t) × Describes self.new sizes t)) }
+        ensures err { IfErr result (λ fault. fault ≡ ReadOnly unit) }
+    {
+        match Access::new(region, first, size) {
+            Some(access) => {
+                self.frame.store(&access, &value);
+                Ok(())
+            }
+            None => Err(VerifyFault::ReadOnly(unit)),
+        }
+    }
+
+    fn exit(&self, unit: usize) -> Result<(), VerifyFault>
+        ensures ok { OnOk result ((sizes : TheSizes) (s : State) → Describes self.now sizes s → IsSome (ends_in sizes TheExit s)) }
+        ensures err { IfErr result (IsFoundAt unit) }
+    {
+        let number = self.read(unit, 0)?.as_number();
+        if number.smin < -1 || number.smax > self.frame.written_prefix() as i64 {
+            return Err(VerifyFault::BadExitValue(unit));
+        }
+        Ok(())
+    }
+}
+
+fn address_in(region: Region, offset: u16) -> RegValue
+    ensures { StandsFor result (Some (first_address region + offset)) }
+{
+    RegValue::Pointer(Pointer {
+        region,
+        offset: i64::from(offset),
+    })
+}
+
+fn test_target(unit: usize, dst: Reg) -> Result<(), VerifyFault>
+    ensures { result ≡ (if nat_eq dst 10 then Err (WriteToR10 unit) else Ok tt) }
+{
+    if dst.number() == 10 {
+        Err(VerifyFault::WriteToR10(unit))
+    } else {
+        Ok(())
+    }
+}
+
+/// The window of an access through this value, and the distance of its first byte from the window's.
+fn locate(
+    unit: usize,
+    sizes: Sizes,
+    base: RegValue,
+    offset: i16,
+    size: AccessSize,
+) -> Result<(Region, usize), VerifyFault>
+    ensures at { IfOk result (λ at. (w : ℕ) → StandsFor base (Some w) → address_of w offset ≡ first_address at.0 + at.1) }
+    ensures inside { IfOk result (λ at. at.1 + byte_count size ≤ size_of sizes at.0) }
+    ensures err { IfErr result (λ fault. (fault ≡ NotAWindow unit) ⊎ (fault ≡ OutOfWindow unit)) }
+{
+    let RegValue::Pointer(pointer) = base else {
+        return Err(VerifyFault::NotAWindow(unit));
+    };
+    match usize::try_from(pointer.offset + i64::from(offset)) {
+        Ok(first) if first + size.bytes() <= pointer.region.size(sizes) => Ok((
+            pointer.region,
+            first,
+        )),
+        _ => Err(VerifyFault::OutOfWindow(unit)),
+    }
+}
