@@ -1,10 +1,10 @@
 -- First faults: bytes have one at most, and bytes that spell a program have none.
-use Rattle.std.proofs.Common.{◌≡◌, ℕ, ◌+◌, ◌*◌, ◌/◌, ◌%◌, ◌<◌, ◌≤◌, ◌⊎◌, false, not, true, List, [], ◌∷◌, ◌++◌, length, Option, Some, None, Result, Ok, Err, refl, sym, ap, ◌∙◌, arith, length-append, inl, inr}
+use Rattle.std.proofs.Common.{◌≡◌, ℕ, ◌+◌, ◌*◌, ◌/◌, ◌%◌, ◌<◌, ◌≤◌, ◌⊎◌, false, true, List, [], ◌∷◌, ◌++◌, length, Option, Some, None, Result, Ok, Err, refl, sym, ap, ◌∙◌, arith, length-append, inl, inr}
 use Rattle.std.specs.Prelude.{nat_eq, nat_lt, IfOk, IfErr, IsErrAnd}
 use Rattle.std.proofs.lemmas.Bool.Decides.{nat_tests}
 use Rattle.std.proofs.lemmas.List.Concat.{flat_map-cons}
 use Rattle.bpf_model.specs.declared.instruction.Insn.{Insn}
-use Rattle.bpf_model.specs.Program.{unit_count, IsProgram}
+use Rattle.bpf_model.specs.Program.{unit_count}
 use Rattle.bpf_model.specs.Spelling.{Fields, fields_of, unit_bytes, spelling, spelling_of_all, IsInstruction, AreInstructions, Spells}
 use Rattle.bpf_model.proofs.ProgramLemmas.{unit_count-length}
 use Rattle.bpf_model.specs.declared.limits.TheConstants.{PROGRAM_UNITS}
@@ -13,7 +13,8 @@ use Rattle.std.proofs.lemmas.List.{append-nil, nil_from_length}
 use Rattle.bpf_decode.specs.declared.fault.DecodeFault.{DecodeFault}
 use Rattle.bpf_decode.specs.declared.fault.DecodeFault.TheVariants.{NoMemory}
 use Rattle.bpf_decode.specs.declared.fault.UnitFault.{UnitFault}
-use Rattle.bpf_decode.specs.Faults.{FitUnit, fault_of, length_fault, at_unit, HasUnitFault, IsFirstFault, GivesUnlessNoMemory}
+use Rattle.bpf_decode.specs.UnitFaults.{FitUnit, fault_of}
+use Rattle.bpf_decode.specs.Faults.{length_fault, at_unit, IsFirstFault, GivesUnlessNoMemory}
 use Rattle.bpf_decode.proofs.UnitLemmas.{length-unit_bytes, unit_bytes-first}
 use Rattle.bpf_decode.proofs.SpellingLemmas.{length-spelling_of_all, fit-fields_of, fault_of-fields_of, spelling-first, spelling_of_all-cons, spelling_of_all-injective}
 
@@ -66,12 +67,12 @@ length_fault-none bytes h =
     elim (test_of (nat_eq (length bytes) 0)) [
       | inl t ↦ absurd (is_some (rw t at h))
       | inr f ↦ elim (test_of (nat_eq (length bytes % 8) 0)) [
-          | inr t ↦ absurd (is_some (rw (f, t) at h))
-          | inl g ↦ elim (test_of (nat_lt PROGRAM_UNITS (length bytes / 8))) [
-              | inl t ↦ absurd (is_some (rw (f, g, t) at h))
-              | inr k ↦ (grind (arith, nat_tests), grind (arith, nat_tests), grind (arith, nat_tests))
-            ]
+        | inr t ↦ absurd (is_some (rw (f, t) at h))
+        | inl g ↦ elim (test_of (nat_lt PROGRAM_UNITS (length bytes / 8))) [
+          | inl t ↦ absurd (is_some (rw (f, g, t) at h))
+          | inr k ↦ (grind (arith, nat_tests), grind (arith, nat_tests), grind (arith, nat_tests))
         ]
+      ]
     ]
   where
     is_some : {x : DecodeFault} → Some x ≡ None → ⊥

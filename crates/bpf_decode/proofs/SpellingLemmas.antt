@@ -1,5 +1,5 @@
 -- Instructions and their spellings.
-use Rattle.std.proofs.Common.{◌≡◌, ℕ, zero, suc, ◌+◌, ◌-◌, ◌*◌, ◌/◌, ◌<◌, ◌≤◌, take, drop, List, [], ◌∷◌, ◌++◌, length, Option, Some, None, refl, sym, ap, ◌∙◌, append_assoc, arith, length-append, cond, false, pos, ℤ}
+use Rattle.std.proofs.Common.{◌≡◌, ℕ, ◌+◌, ◌-◌, ◌*◌, ◌/◌, ◌<◌, ◌≤◌, take, drop, List, [], ◌∷◌, ◌++◌, length, None, refl, sym, ap, ◌∙◌, append_assoc, arith, length-append, false, pos}
 use Rattle.std.specs.Prelude.{nat_eq, nat_lt, if◌then◌else◌}
 use Rattle.std.proofs.lemmas.Bool.Decides.{nat_tests}
 use Rattle.std.proofs.lemmas.List.{append-nil, take-append-drop}
@@ -11,9 +11,9 @@ use Rattle.bpf_model.specs.declared.instruction.AccessSize.TheVariants.{DoubleWo
 use Rattle.bpf_model.specs.declared.instruction.Insn.{Insn}
 use Rattle.bpf_model.specs.declared.instruction.Insn.TheVariants.{Alu, Mov, Load, Store, Exit}
 use Rattle.bpf_model.specs.Program.{units_of, unit_count}
-use Rattle.bpf_model.specs.Spelling.{Fields, fields_of, unit_bytes, spelling, spelling_of_all, IsInstruction, AreInstructions, IsOffset, IsImmediate}
+use Rattle.bpf_model.specs.Spelling.{Fields, fields_of, spelling, spelling_of_all, IsInstruction, AreInstructions, IsOffset, IsImmediate}
 use Rattle.bpf_model.proofs.ProgramLemmas.{units_of-one, unit_count-length}
-use Rattle.bpf_decode.specs.Faults.{FitUnit, fault_of}
+use Rattle.bpf_decode.specs.UnitFaults.{FitUnit, fault_of}
 use Rattle.bpf_decode.proofs.UnitLemmas.{length-unit_bytes, unit_bytes-first}
 
 -- an instruction has eight bytes a unit
@@ -42,6 +42,7 @@ pub AreInstructions-push : (is : List Insn) (i : Insn) → AreInstructions is �
 AreInstructions-push [] i h g = (g, tt)
 AreInstructions-push (x ∷ is) i h g = (h.0, AreInstructions-push is i h.1 g)
 
+-- zero is an offset and an immediate
 zero_fits_offset : IsOffset (pos 0)
 zero_fits_offset = record { sfits = omega arith }
 
@@ -56,15 +57,16 @@ fit-fields_of (Load DoubleWord dst src offset) h = record { opcode = omega arith
 fit-fields_of (Store DoubleWord dst src offset) h = record { opcode = omega arith; dst = omega (arith, h.0); src = omega (arith, h.1); offset = h.2; imm = zero_fits_imm }
 fit-fields_of Exit h = record { opcode = omega arith; dst = omega arith; src = omega arith; offset = zero_fits_offset; imm = zero_fits_imm }
 
-is_good : (r : ℕ) → r ≤ 10 → nat_lt 10 r ≡ false
-is_good r h = grind (arith, nat_tests)
+-- a register's number is not above 10
+is_not_above : (r : ℕ) → r ≤ 10 → nat_lt 10 r ≡ false
+is_not_above r h = grind (arith, nat_tests)
 
 -- the fields of an instruction have no fault
 pub fault_of-fields_of : (i : Insn) → IsInstruction i → fault_of (fields_of i) ≡ None
-fault_of-fields_of (Alu Add W64 dst src) h = rw (is_good dst h.0, is_good src h.1) refl
-fault_of-fields_of (Mov W64 dst imm) h = rw (is_good dst h.0) refl
-fault_of-fields_of (Load DoubleWord dst src offset) h = rw (is_good dst h.0, is_good src h.1) refl
-fault_of-fields_of (Store DoubleWord dst src offset) h = rw (is_good dst h.0, is_good src h.1) refl
+fault_of-fields_of (Alu Add W64 dst src) h = rw (is_not_above dst h.0, is_not_above src h.1) refl
+fault_of-fields_of (Mov W64 dst imm) h = rw (is_not_above dst h.0) refl
+fault_of-fields_of (Load DoubleWord dst src offset) h = rw (is_not_above dst h.0, is_not_above src h.1) refl
+fault_of-fields_of (Store DoubleWord dst src offset) h = rw (is_not_above dst h.0, is_not_above src h.1) refl
 fault_of-fields_of Exit h = refl
 
 -- the instruction of faultless fields
@@ -76,6 +78,7 @@ insn_of f =
     else (if nat_eq f.opcode 0x7b then Store DoubleWord f.dst f.src f.offset
     else Exit)))
 
+-- the instruction of an instruction's fields is this instruction
 insn_of-fields_of : (i : Insn) → insn_of (fields_of i) ≡ i
 unfolding insn_of
 insn_of-fields_of (Alu Add W64 dst src) = refl

@@ -1,6 +1,7 @@
 -- Units and their bytes.
 use Rattle.std.proofs.Common.{◌≡◌, ℕ, zero, suc, ◌+◌, ◌*◌, ◌/◌, ◌%◌, ◌^◌, ◌<◌, List, [], ◌∷◌, ◌++◌, length, get_or, take, drop, ℤ, refl, sym, ap, ◌∙◌, arith}
-use Rattle.std.specs.Int.{w16, w32, cast_signed, cast_unsigned}
+use mir.Val.{bits}
+use Rattle.std.specs.Int.{Width, w16, w32, cast_signed, cast_unsigned}
 use Rattle.std.proofs.lemmas.Int.{of_z-to_z, to_z-of_z}
 use Rattle.std.proofs.Math.Facts.{Fits-of_z}
 use Rattle.std.proofs.Math.Nat.{pow-succ'}
@@ -8,9 +9,10 @@ use Rattle.std.proofs.lemmas.List.{append_cancel_left}
 use Rattle.byteorder.specs.Endian.{little_number, little_bytes}
 use Rattle.bpf_model.specs.Words.{bytes_of, word_of}
 use Rattle.bpf_model.specs.Spelling.{Fields, unit_bytes}
-use Rattle.bpf_decode.specs.Faults.{FitUnit}
+use Rattle.bpf_decode.specs.UnitFaults.{FitUnit}
 use Rattle.bpf_model.proofs.WordLemmas.{bytes_of-2, bytes_of-4, word_of-bound}
 
+-- each number is a byte
 abbrev pub AreBytes : List ℕ → Type 0
 AreBytes bytes = (i : ℕ) → get_or bytes i 0 < 256
 
@@ -24,34 +26,28 @@ bytes_of-word_of (b ∷ bytes) h =
     let high : (b + 256 * word_of bytes) / 256 ≡ word_of bytes = omega (arith, first) in
     rw (low, high) (ap (λ (x : List ℕ). b ∷ x) (bytes_of-word_of bytes (λ i. h (suc i))))
 
--- a signed number of two bytes is spelled by these bytes
-pub offset_again : (a b : ℕ) (z : ℤ) → AreBytes (a ∷ b ∷ []) → z ≡ cast_signed w16 (little_number 2 (a ∷ b ∷ [])) → bytes_of 2 (cast_unsigned w16 z) ≡ a ∷ b ∷ []
-unfolding word_of
-offset_again a b z h e =
-    let bound : word_of (a ∷ b ∷ []) < 2 ^ 16 = word_of-bound 2 (a ∷ b ∷ []) refl h in
-    rw (e, of_z-to_z w16 (word_of (a ∷ b ∷ [])) bound) (bytes_of-word_of (a ∷ b ∷ []) h)
-
--- a signed number of four bytes is spelled by these bytes
-pub imm_again : (a b c d : ℕ) (z : ℤ) → AreBytes (a ∷ b ∷ c ∷ d ∷ []) → z ≡ cast_signed w32 (little_number 4 (a ∷ b ∷ c ∷ d ∷ [])) → bytes_of 4 (cast_unsigned w32 z) ≡ a ∷ b ∷ c ∷ d ∷ []
-unfolding word_of
-imm_again a b c d z h e =
-    let bound : word_of (a ∷ b ∷ c ∷ d ∷ []) < 2 ^ 32 = word_of-bound 4 (a ∷ b ∷ c ∷ d ∷ []) refl h in
-    rw (e, of_z-to_z w32 (word_of (a ∷ b ∷ c ∷ d ∷ [])) bound) (bytes_of-word_of (a ∷ b ∷ c ∷ d ∷ []) h)
+-- a signed number is spelled by the bytes that it was read from
+pub signed_again : (w : Width) (bytes : List ℕ) (z : ℤ) → AreBytes bytes → 256 ^ length bytes ≡ 2 ^ bits w → z ≡ cast_signed w (word_of bytes) → bytes_of (length bytes) (cast_unsigned w z) ≡ bytes
+signed_again w bytes z h wide e =
+    let bound : word_of bytes < 256 ^ length bytes = word_of-bound (length bytes) bytes refl h in
+    rw (e, of_z-to_z w (word_of bytes) (omega (arith, bound, wide))) (bytes_of-word_of bytes h)
 
 -- eight bytes are spelled by the fields that are read from them
 pub unit_again : (unit : List ℕ) (offset imm : ℤ) → length unit ≡ 8 → AreBytes unit
     → offset ≡ cast_signed w16 (little_number 2 (take 2 (drop 2 unit))) → imm ≡ cast_signed w32 (little_number 4 (take 4 (drop 4 unit)))
     → unit ≡ unit_bytes (record { opcode = get_or unit 0 0; dst = get_or unit 1 0 % 16; src = get_or unit 1 0 / 16; offset = offset; imm = imm })
+unfolding word_of
 unit_again (a ∷ b ∷ c ∷ d ∷ e ∷ f ∷ g ∷ h ∷ []) offset imm len bytes o i =
     let registers : 16 * (b / 16) + b % 16 ≡ b = omega arith in
-    rw (registers, offset_again c d offset (λ k. bytes_tail k) o, imm_again e f g h imm (λ k. bytes_last k) i) refl
+    rw (registers, signed_again w16 (c ∷ d ∷ []) offset second refl o, signed_again w32 (e ∷ f ∷ g ∷ h ∷ []) imm third refl i) refl
   where
-    bytes_tail : AreBytes (c ∷ d ∷ [])
-    bytes_tail zero = bytes 2
-    bytes_tail (suc zero) = bytes 3
-    bytes_tail (suc (suc k)) = omega arith
-    bytes_last : AreBytes (e ∷ f ∷ g ∷ h ∷ [])
-    bytes_last k = bytes (suc (suc (suc (suc k))))
+    second : AreBytes (c ∷ d ∷ [])
+    second zero = bytes 2
+    second (suc zero) = bytes 3
+    second (suc (suc k)) = omega arith
+
+    third : AreBytes (e ∷ f ∷ g ∷ h ∷ [])
+    third k = bytes (suc (suc (suc (suc k))))
 unit_again [] offset imm len bytes o i = absurd (omega arith)
 unit_again (a ∷ []) offset imm len bytes o i = absurd (omega arith)
 unit_again (a ∷ b ∷ []) offset imm len bytes o i = absurd (omega arith)
@@ -86,8 +82,11 @@ word_of-bytes_of (suc n) w h =
 -- the fields that the first eight bytes spell
 pub fields_at : List ℕ → Fields
 fields_at bytes = record {
-  opcode = get_or bytes 0 0; dst = get_or bytes 1 0 % 16; src = get_or bytes 1 0 / 16;
-  offset = cast_signed w16 (word_of (take 2 (drop 2 bytes))); imm = cast_signed w32 (word_of (take 4 (drop 4 bytes)));
+  opcode = get_or bytes 0 0;
+  dst = get_or bytes 1 0 % 16;
+  src = get_or bytes 1 0 / 16;
+  offset = cast_signed w16 (word_of (take 2 (drop 2 bytes)));
+  imm = cast_signed w32 (word_of (take 4 (drop 4 bytes)));
 }
 
 -- the fields of a unit's bytes are the unit's fields

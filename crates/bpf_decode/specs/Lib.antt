@@ -1,2 +1,3 @@
+pub mod UnitFaults
 pub mod Faults
 pub mod Operations

@@ -1,52 +1,60 @@
 //! Bytes from programs.
-ghost use Rattle.std.specs.Prelude.{◌≡◌, IfOk};
+ghost use Rattle.std.specs.Prelude.{◌≡◌, ◌≤◌, IfOk};
 ghost use Rattle.bpf_model.specs.Spelling.{Spells, fields_of, IsInstruction};
-ghost use Rattle.bpf_decode.specs.Faults.{view};
+ghost use Rattle.bpf_decode.specs.Operations.{opcode_of, fields_with_opcode};
 
+use crate::operation::Operation;
 use crate::unit::{Fields, UNIT_BYTES};
-use bpf_model::{Insn, NoMemory, Program};
+use bpf_model::{Insn, NoMemory, Program, Reg};
 use std::alloc::Global;
+
+fn registers(operation: Operation, dst: Reg, src: Reg) -> Fields
+    ensures dst { dst ≤ 10 }
+    ensures src { src ≤ 10 }
+    ensures spelled { result ≡ record (fields_with_opcode (opcode_of operation)) { dst = dst; src = src } }
+{
+    Fields {
+        dst: dst.number(),
+        src: src.number(),
+        ..operation.fields()
+    }
+}
 
 fn fields(insn: Insn) -> Fields
     ensures instruction { IsInstruction insn }
-    ensures spelled { view result ≡ fields_of insn }
+    ensures spelled { result ≡ fields_of insn }
 {
     match insn {
-        Insn::Alu { op: _, width: _, dst, src } => Fields {
-            opcode: 0x0f,
+        Insn::Alu {
+            op,
+            width,
+            dst,
+            src,
+        } => registers(Operation::Alu(op, width), dst, src),
+        Insn::Mov { width, dst, imm } => Fields {
             dst: dst.number(),
-            src: src.number(),
-            offset: 0,
-            imm: 0,
-        },
-        Insn::Mov { width: _, dst, imm } => Fields {
-            opcode: 0xb7,
-            dst: dst.number(),
-            src: 0,
-            offset: 0,
             imm,
+            ..Operation::Mov(width).fields()
         },
-        Insn::Load { size: _, dst, src, offset } => Fields {
-            opcode: 0x79,
-            dst: dst.number(),
-            src: src.number(),
+        Insn::Load {
+            size,
+            dst,
+            src,
             offset,
-            imm: 0,
-        },
-        Insn::Store { size: _, dst, src, offset } => Fields {
-            opcode: 0x7b,
-            dst: dst.number(),
-            src: src.number(),
+        } => Fields {
             offset,
-            imm: 0,
+            ..registers(Operation::Load(size), dst, src)
         },
-        Insn::Exit => Fields {
-            opcode: 0x95,
-            dst: 0,
-            src: 0,
-            offset: 0,
-            imm: 0,
+        Insn::Store {
+            size,
+            dst,
+            src,
+            offset,
+        } => Fields {
+            offset,
+            ..registers(Operation::Store(size), dst, src)
         },
+        Insn::Exit => Operation::Exit.fields(),
     }
 }
 
@@ -57,7 +65,7 @@ pub fn encode(alloc: Global, program: &Program) -> Result<Vec<u8>, NoMemory>
     let instructions = program.instructions();
     let mut bytes = Vec::with_capacity(alloc, UNIT_BYTES * instructions.len())?;
     for insn in instructions {
-        bytes.extend_from_slice(&fields(*insn).bytes()).unwrap();
+        bytes.extend_from_slice(&fields(*insn).to_bytes()).unwrap();
     }
     Ok(bytes)
 }

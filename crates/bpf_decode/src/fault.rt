@@ -65,7 +65,10 @@ impl fmt::Display for DecodeFault {
             DecodeFault::TooManyUnits => write!(f, "more than 512 units"),
             DecodeFault::UnknownOpcode(unit) => write!(f, "unknown opcode at unit {unit}"),
             DecodeFault::BadRegister(unit) => write!(f, "register above 10 at unit {unit}"),
-            DecodeFault::UnusedNotZero(unit) => write!(f, "unused field is not zero at unit {unit}"),
+            DecodeFault::UnusedNotZero(unit) => write!(
+                f,
+                "unused field is not zero at unit {unit}"
+            ),
         }
     }
 }

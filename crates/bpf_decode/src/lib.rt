@@ -16,3 +16,6 @@ mod unit;
 pub use decoder::decode;
 pub use encoder::encode;
 pub use fault::DecodeFault;
+
+#[cfg(test)]
+mod tests;

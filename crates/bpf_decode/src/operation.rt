@@ -1,10 +1,9 @@
 //! What an opcode stands for.
-ghost use Rattle.std.specs.Prelude.{◌≡◌, ◌≤◌, IfOk, IfErr, IfSome, IfNone, Some, None};
+ghost use Rattle.std.specs.Prelude.{◌≡◌, ◌≤◌, IfSome, IfNone, Some, None};
 ghost use Rattle.bpf_model.specs.Spelling.{fields_of, IsInstruction};
-ghost use Rattle.bpf_decode.specs.Faults.{view, used_fields, fault_of};
-ghost use Rattle.bpf_decode.specs.Operations.{opcode_of};
+ghost use Rattle.bpf_decode.specs.UnitFaults.{used_fields, fault_of};
+ghost use Rattle.bpf_decode.specs.Operations.{opcode_of, fields_with_opcode};
 
-use crate::fault::UnitFault;
 use crate::unit::{Fields, UsedFields};
 use bpf_model::{AccessSize, AluOp, Insn, Reg, Width};
 
@@ -20,7 +19,7 @@ pub(crate) enum Operation {
 
 impl Operation {
     /// The operation of an opcode; none where no instruction has the opcode.
-    fn of(opcode: u8) -> Option<Operation>
+    pub(crate) fn from_opcode(opcode: u8) -> Option<Operation>
         ensures some { IfSome result (λ o. opcode_of o ≡ opcode) }
         ensures none { IfNone result (used_fields opcode ≡ None) }
     {
@@ -34,8 +33,34 @@ impl Operation {
         }
     }
 
+    /// The opcode of its instructions.
+    pub(crate) fn opcode(self) -> u8
+        ensures { result ≡ opcode_of self }
+    {
+        match self {
+            Operation::Alu(AluOp::Add, Width::W64) => 0x0f,
+            Operation::Mov(Width::W64) => 0xb7,
+            Operation::Load(AccessSize::DoubleWord) => 0x79,
+            Operation::Store(AccessSize::DoubleWord) => 0x7b,
+            Operation::Exit => 0x95,
+        }
+    }
+
+    /// The fields of its opcode; the others are zero.
+    pub(crate) fn fields(self) -> Fields
+        ensures { result ≡ fields_with_opcode (opcode_of self) }
+    {
+        Fields {
+            opcode: self.opcode(),
+            dst: 0,
+            src: 0,
+            offset: 0,
+            imm: 0,
+        }
+    }
+
     /// Which fields its instructions use.
-    fn used(self) -> UsedFields
+    pub(crate) fn used_fields(self) -> UsedFields
         ensures { used_fields (opcode_of self) ≡ Some result }
     {
         let (dst, src, offset, imm) = match self {
@@ -52,12 +77,12 @@ impl Operation {
         }
     }
 
-    /// The instruction with these operands.
-    fn with(self, fields: Fields) -> Insn
+    /// Its instruction with these operands.
+    pub(crate) fn with_operands(self, fields: Fields) -> Insn
         requires opcode { fields.opcode ≡ opcode_of self }
-        requires faultless { fault_of (view fields) ≡ None }
+        requires faultless { fault_of fields ≡ None }
         ensures instruction { IsInstruction result }
-        ensures spelled { fields_of result ≡ view fields }
+        ensures spelled { fields_of result ≡ fields }
     {
         match self {
             Operation::Alu(op, width) => Insn::Alu {
@@ -93,17 +118,4 @@ fn register(number: u8) -> Reg
     ensures { result ≡ number }
 {
     Reg::new(number).unwrap()
-}
-
-/// The instruction of a unit's fields.
-pub(crate) fn instruction(fields: Fields) -> Result<Insn, UnitFault>
-    ensures instruction { IfOk result IsInstruction }
-    ensures spelled { IfOk result (λ i. fields_of i ≡ view fields) }
-    ensures fault { IfErr result (λ e. fault_of (view fields) ≡ Some e) }
-{
-    let Some(operation) = Operation::of(fields.opcode) else {
-        return Err(UnitFault::UnknownOpcode);
-    };
-    fields.check(operation.used())?;
-    Ok(operation.with(fields))
 }

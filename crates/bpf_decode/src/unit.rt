@@ -1,10 +1,11 @@
 //! Units of eight bytes and their fields.
-ghost use Rattle.std.specs.Prelude.{◌≡◌, ◌<◌, ◌^◌, IfErr, OnOk, Some, None};
+ghost use Rattle.std.specs.Prelude.{◌≡◌, IfErr, OnOk, Some, None};
 ghost use Rattle.bpf_model.specs.Spelling.{unit_bytes};
-ghost use Rattle.bpf_decode.specs.Faults.{FitUnit, view, has_bad_register, has_unused_not_zero, fault_under};
+ghost use Rattle.bpf_decode.specs.UnitFaults.{FitUnit, has_bad_register, has_unused_not_zero, fault_under};
 
 use crate::fault::UnitFault;
 use byteorder::{ByteOrder, LittleEndian};
+use std::marker::Model;
 
 /// The bytes of a unit.
 pub(crate) const UNIT_BYTES: usize = 8;
@@ -19,6 +20,19 @@ pub(crate) struct Fields {
     pub(crate) imm: i32,
 }
 
+impl Model for Fields {
+    ghost use Rattle.bpf_model.specs.Spelling.{Fields as UnitFields};
+    ghost use Rattle.bpf_decode.specs.UnitFaults.{FitUnit};
+
+    ghost Value = { UnitFields };
+
+    ghost view = { λ f. record { opcode = f.opcode; dst = f.dst; src = f.src; offset = f.offset; imm = f.imm } };
+
+    ghost invariant = { λ f. FitUnit (record { opcode = f.opcode; dst = f.dst; src = f.src; offset = f.offset; imm = f.imm }) };
+
+    ghost inverse = { λ v. record { opcode = v.opcode; dst = v.dst; src = v.src; offset = v.offset; imm = v.imm } };
+}
+
 /// Which fields an instruction uses, beside its opcode.
 #[derive(Clone, Copy, Debug, PartialEq, Eq)]
 pub(crate) struct UsedFields {
@@ -30,9 +44,9 @@ pub(crate) struct UsedFields {
 
 impl Fields {
     /// The fields that the bytes of a unit spell.
-    pub(crate) fn read(unit: &[u8; UNIT_BYTES]) -> Fields
-        ensures fits { FitUnit (view result) }
-        ensures spelled { unit.now ≡ unit_bytes (view result) }
+    pub(crate) fn from_bytes(unit: &[u8; UNIT_BYTES]) -> Fields
+        ensures fit { FitUnit result }
+        ensures spelled { unit.now ≡ unit_bytes result }
     {
         Fields {
             opcode: unit[0],
@@ -44,9 +58,8 @@ impl Fields {
     }
 
     /// The bytes of a unit that spell the fields.
-    pub(crate) fn bytes(self) -> [u8; UNIT_BYTES]
-        requires { FitUnit (view self) }
-        ensures { result ≡ unit_bytes (view self) }
+    pub(crate) fn to_bytes(self) -> [u8; UNIT_BYTES]
+        ensures { result ≡ unit_bytes self }
     {
         let mut unit = [0; UNIT_BYTES];
         unit[0] = self.opcode;
@@ -57,13 +70,13 @@ impl Fields {
     }
 
     fn has_bad_register(self, used: UsedFields) -> bool
-        ensures { result ≡ has_bad_register used (view self) }
+        ensures { result ≡ has_bad_register used self }
     {
         (used.dst && self.dst > 10) || (used.src && self.src > 10)
     }
 
     fn has_unused_not_zero(self, used: UsedFields) -> bool
-        ensures { result ≡ has_unused_not_zero used (view self) }
+        ensures { result ≡ has_unused_not_zero used self }
     {
         (!used.dst && self.dst != 0)
             || (!used.src && self.src != 0)
@@ -73,8 +86,8 @@ impl Fields {
 
     /// The least-numbered fault of fields of which these are used.
     pub(crate) fn check(self, used: UsedFields) -> Result<(), UnitFault>
-        ensures ok { OnOk result (fault_under (Some used) (view self) ≡ None) }
-        ensures err { IfErr result (λ e. fault_under (Some used) (view self) ≡ Some e) }
+        ensures ok { OnOk result (fault_under (Some used) self ≡ None) }
+        ensures err { IfErr result (λ e. fault_under (Some used) self ≡ Some e) }
     {
         if self.has_bad_register(used) {
             return Err(UnitFault::BadRegister);

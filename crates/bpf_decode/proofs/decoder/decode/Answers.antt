@@ -1,4 +1,4 @@
-use Rattle.std.proofs.Common.{◌≡◌, Ok, inl, inr}
+use Rattle.std.proofs.Common.{Ok, inl, inr}
 use Rattle.bpf_decode.proofs.FaultLemmas.{IsTrueOf, IsTrueOf-passed, only_program, only_fault}
 use Rattle.bpf_decode.proofs.decoder.decode.Goals as goal
 
@@ -14,7 +14,7 @@ returns-in_err-check_length-clause-refused c = λ e h. only_fault c.args.bytes.n
 wrong_unit : (c : goal.After-from_residual-in_err-instructions) → IsTrueOf c.args.bytes.now c.from_residual-in_err-instructions.result
 wrong_unit c =
     IsTrueOf-passed c.args.bytes.now c.in_err-instructions.field-0.0 c.from_residual-in_err-instructions.result c.from_residual-in_err-instructions.ensures.1
-        (elim c.in_err-instructions.ensures.first_fault [ inl refused ↦ inl refused | inr faulty ↦ inr (inr (c.in_ok-check_length.ensures.ok, faulty)) ])
+    (elim c.in_err-instructions.ensures.first_fault [ inl refused ↦ inl refused | inr faulty ↦ inr (inr (c.in_ok-check_length.ensures.ok, faulty)) ])
 
 pub returns-in_err-instructions-clause-only : goal.returns-in_err-instructions-clause-only
 returns-in_err-instructions-clause-only c = λ p h. only_program c.args.bytes.now p c.from_residual-in_err-instructions.result (wrong_unit c) h
