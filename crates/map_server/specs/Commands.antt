@@ -1,5 +1,5 @@
 -- What is true where a command reports so: of the text on standard input, and of the words of the command line.
-use Rattle.std.specs.Prelude.{◌≡◌, ◌⊎◌, ◌<◌, ℕ, List, length, Option, Some, None, Err}
+use Rattle.std.specs.Prelude.{◌≡◌, ◌↔◌, ◌⊎◌, ◌<◌, ℕ, List, length, Option, Some, None, Err}
 use Rattle.std.specs.Borrow.{Bor}
 use Rattle.bpf_model.specs.declared.input.Sizes.{Sizes}
 use Rattle.bpf_model.specs.declared.input.Input.{Input}
@@ -11,6 +11,8 @@ use Rattle.bpf_model.specs.Spelling.{Spells}
 use Rattle.bpf_decode.specs.Faults as decode
 use Rattle.bpf_decode.specs.declared.fault.DecodeFault.TheVariants as decode_faults
 use Rattle.verifier.specs.FlowShape as flow
+use Rattle.verifier.specs.Faults.{ExceedLimits}
+use Rattle.verifier.specs.declared.fault.VerifyFault.TheVariants.{SizesTooLarge}
 use Rattle.map_server.specs.Hex.{SpellsBytes, IsFault}
 use Rattle.map_server.specs.declared.words.RunTexts.{RunTexts}
 use Rattle.map_server.specs.declared.words.Command.{Command}
@@ -51,7 +53,8 @@ IsProgramRefused text sizes NoMemory = Unit {0}
 IsProgramRefused text sizes (NotHex place) = IsFault text place
 IsProgramRefused text sizes (Decode fault) = (bytes : List ℕ) × SpellsBytes text bytes × ((fault ≡ decode_faults.NoMemory) ⊎ decode.IsFirstFault bytes fault)
 IsProgramRefused text sizes (Flow fault) = (program : List Insn) × SpellsProgram text program × flow.IsFirstFault program fault
-IsProgramRefused text sizes (Verify fault) = (program : List Insn) × SpellsProgram text program × flow.IsWellShaped program
+IsProgramRefused text sizes (Verify fault) =
+    (program : List Insn) × SpellsProgram text program × flow.IsWellShaped program × ((fault ≡ SizesTooLarge) ↔ ExceedLimits sizes)
 
 -- why the text spells no value of at most this many bytes
 abbrev pub IsTextRefused : List ℕ → ℕ → Refusal → Type 0

@@ -1,6 +1,8 @@
 //! The program `bpfmap`, over devices: it reads, does what the words ask for, prints, and gives the status.
 ghost use Rattle.std.specs.Prelude.{◌≡◌, ◌≢◌, ◌<◌, ◌≤◌, ◌+◌, ◌-◌, ◌^◌, ◌⊎◌, codes, IfOk, OnOk, OnErr, IfSome};
 ghost use Rattle.std.specs.Io.KnownBytes.{Appends};
+ghost use Rattle.std.specs.IoError.{error_kind};
+ghost use Rattle.std.specs.declared.io.ErrorKind.TheVariants.{OutOfMemory};
 ghost use Rattle.map_server.specs.Commands.{IsReport};
 ghost use Rattle.map_server.specs.Endings.{Prints, Tells};
 ghost use Rattle.map_server.specs.Reports.{text_of};
@@ -16,10 +18,13 @@ use crate::report::Report;
 use crate::words::{Command, parse_words};
 use clap::error::ErrorKind;
 use std::alloc::Global;
+use std::io;
 
 const FAULT_OF_WORDS: u8 = 2;
 
 const FAILED_DEVICE: u8 = 3;
+
+const NO_MEMORY: Report = Report::Refused(Refusal::NoMemory);
 
 /// What comes of a command on all that the reader has left.
 fn read_report<R: Source>(alloc: Global, command: &Command<'_>, reader: &mut R) -> Result<Report, Failed>
@@ -83,18 +88,36 @@ fn tell_words<W: Sink, E: Sink>(
         × Tells (E.failures errors.old) (E.failures errors.new)
         (E.held errors.old) (E.held errors.new) (codes "failed write\n") }
 {
-    let refused = Report::Refused(Refusal::NoMemory);
     if error.kind() == ErrorKind::OutOfMemory {
-        return print(refused.line().as_slice(), 1, writer, errors);
+        return print(NO_MEMORY.line().as_slice(), NO_MEMORY.status(), writer, errors);
     }
     match error.to_string(alloc) {
-        Err(_) => print(refused.line().as_slice(), 1, writer, errors),
+        Err(_) => print(NO_MEMORY.line().as_slice(), NO_MEMORY.status(), writer, errors),
         Ok(text) if error.use_stderr() => {
             let _ = write_all(errors, text.as_bytes());
             FAULT_OF_WORDS
         }
         Ok(text) => print(text.as_bytes(), 0, writer, errors),
     }
+}
+
+/// Tells that the words of the command line could not be read, and answers the status. A refused request for memory is
+/// printed as a refusal.
+pub fn tell_unread_words<W: Sink, E: Sink>(error: &io::Error, writer: &mut W, errors: &mut E) -> u8
+    requires writes { W.failures writer.old < 2 ^ 64 - 1 }
+    requires tells { E.failures errors.old < 2 ^ 64 - 1 }
+    ensures memory { error_kind error.now ≡ OutOfMemory → (result ≢ 3)
+        → (result ≡ 1) × Appends (W.held writer.old) (W.held writer.new)
+        (text_of (Report.Refused Refusal.NoMemory)) }
+    ensures words { (error_kind error.now ≢ OutOfMemory) → (result ≡ 2)
+        × Tells (E.failures errors.old) (E.failures errors.new) (E.held errors.old) (E.held errors.new)
+        (codes "error: the command line is not UTF-8\n") }
+{
+    if error.kind() == io::ErrorKind::OutOfMemory {
+        return print(NO_MEMORY.line().as_slice(), NO_MEMORY.status(), writer, errors);
+    }
+    let _ = write_all(errors, b"error: the command line is not UTF-8\n");
+    FAULT_OF_WORDS
 }
 
 /// Does the command on what the reader has left, prints what came of it, and answers the status: that of the report,

@@ -12,7 +12,7 @@ mod report;
 mod streams;
 mod words;
 
-pub use bpfmap::{bpfmap_on, carry_out};
+pub use bpfmap::{bpfmap_on, carry_out, tell_unread_words};
 pub use commands::report_of;
 pub use devices::{Failed, ReadFault, Sink, Source, read_all, write_all};
 pub use hex::{HexFault, hex_bytes};
