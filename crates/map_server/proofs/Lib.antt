@@ -1,3 +1,5 @@
 pub mod SortedEntries
 pub mod MapEdits
 pub mod CallLemmas
+pub mod ListLemmas
+pub mod HexLemmas

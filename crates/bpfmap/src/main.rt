@@ -1,0 +1,28 @@
+//! The program `bpfmap`: what its words ask for, over the process's three streams.
+#![tactic(auto)]
+
+use map_server::{StreamSink, StreamSource, bpfmap_on, tell_unread_words};
+use std::process::ExitCode;
+use std::{env, io};
+
+fn status(rt: &HostRuntime) -> io::Result<u8> {
+    let alloc = rt.alloc();
+    let words: Vec<String> = env::args(rt)?.collect(alloc)?;
+    let words: Vec<&str> = words.iter().map(|word| word.as_str()).collect(alloc)?;
+    let mut reader = StreamSource::new(rt.stdin());
+    let mut writer = StreamSink::new(rt.stdout());
+    let mut errors = StreamSink::new(rt.stderr());
+    Ok(bpfmap_on(alloc, words.as_slice(), &mut reader, &mut writer, &mut errors))
+}
+
+fn main(rt: HostRuntime) -> ExitCode {
+    let status = match status(&rt) {
+        Ok(status) => status,
+        Err(error) => {
+            let mut writer = StreamSink::new(rt.stdout());
+            let mut errors = StreamSink::new(rt.stderr());
+            tell_unread_words(&error, &mut writer, &mut errors)
+        }
+    };
+    ExitCode::from(status)
+}

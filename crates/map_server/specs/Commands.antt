@@ -1,0 +1,100 @@
+-- What is true where a command reports so: of the text on standard input, and of the words of the command line.
+use Rattle.std.specs.Prelude.{◌≡◌, ◌↔◌, ◌⊎◌, ◌<◌, ℕ, List, length, Option, Some, None, Err}
+use Rattle.std.specs.Borrow.{Bor}
+use Rattle.bpf_model.specs.declared.input.Sizes.{Sizes}
+use Rattle.bpf_model.specs.declared.input.Input.{Input}
+use Rattle.bpf_model.specs.declared.instruction.Insn.{Insn}
+use Rattle.bpf_model.specs.declared.limits.TheConstants.{KEY_BYTES, VALUE_BYTES}
+use Rattle.bpf_model.specs.Fits.{Fits, first_unfit}
+use Rattle.bpf_model.specs.Meaning.{IsSafe, Means}
+use Rattle.bpf_model.specs.Spelling.{Spells}
+use Rattle.bpf_decode.specs.Faults as decode
+use Rattle.bpf_decode.specs.declared.fault.DecodeFault.TheVariants as decode_faults
+use Rattle.verifier.specs.FlowShape as flow
+use Rattle.verifier.specs.Faults.{ExceedLimits}
+use Rattle.verifier.specs.declared.fault.VerifyFault.TheVariants.{SizesTooLarge}
+use Rattle.map_server.specs.Hex.{SpellsBytes, IsFault}
+use Rattle.map_server.specs.declared.words.RunTexts.{RunTexts}
+use Rattle.map_server.specs.declared.words.Command.{Command}
+use Rattle.map_server.specs.declared.words.Command.TheVariants.{Check, Run}
+use Rattle.map_server.specs.declared.refusal.Refusal.{Refusal}
+use Rattle.map_server.specs.declared.refusal.Refusal.TheVariants.{TooLong, NoMemory, NotHex, Decode, Flow, Verify}
+use Rattle.map_server.specs.declared.report.Report.{Report}
+use Rattle.map_server.specs.declared.report.Report.TheVariants.{Accepted, Answered, Unfit, Refused}
+
+-- hex text spells the bytes of this program
+pub record SpellsProgram (text : List ℕ) (program : List Insn) : Type 0 where
+  pub bytes : List ℕ
+  pub hex : SpellsBytes text bytes
+  pub spelled : Spells bytes program
+
+-- and the program is safe with these sizes
+pub record SpellsSafe (text : List ℕ) (sizes : Sizes) (program : List Insn) : Type 0 where
+  pub spelled : SpellsProgram text program
+  pub safe : IsSafe program sizes
+
+-- hex text spells this value; where there is no text there is no value
+abbrev pub SpellsValue : Option (Bor (List ℕ)) → Option (List ℕ) → Type 0
+SpellsValue None None = Unit {0}
+SpellsValue None (Some value) = ⊥
+SpellsValue (Some text) None = ⊥
+SpellsValue (Some text) (Some value) = SpellsBytes text.now value
+
+-- the texts of the command line spell this input
+pub record SpellsInput (texts : RunTexts) (input : Input) : Type 0 where
+  pub key : SpellsBytes texts.key.now input.key
+  pub old : SpellsValue texts.old input.old
+  pub arg : SpellsValue texts.arg input.arg
+
+-- why the text on standard input spells no program that is found safe with these sizes
+abbrev pub IsProgramRefused : List ℕ → Sizes → Refusal → Type 0
+IsProgramRefused text sizes TooLong = ⊥
+IsProgramRefused text sizes NoMemory = Unit {0}
+IsProgramRefused text sizes (NotHex place) = IsFault text place
+IsProgramRefused text sizes (Decode fault) = (bytes : List ℕ) × SpellsBytes text bytes × ((fault ≡ decode_faults.NoMemory) ⊎ decode.IsFirstFault bytes fault)
+IsProgramRefused text sizes (Flow fault) = (program : List Insn) × SpellsProgram text program × flow.IsFirstFault program fault
+IsProgramRefused text sizes (Verify fault) =
+    (program : List Insn) × SpellsProgram text program × flow.IsWellShaped program × ((fault ≡ SizesTooLarge) ↔ ExceedLimits sizes)
+
+-- why the text spells no value of at most this many bytes
+abbrev pub IsTextRefused : List ℕ → ℕ → Refusal → Type 0
+IsTextRefused text most TooLong = (bytes : List ℕ) × SpellsBytes text bytes × (most < length bytes)
+IsTextRefused text most NoMemory = Unit {0}
+IsTextRefused text most (NotHex place) = IsFault text place
+IsTextRefused text most (Decode fault) = ⊥
+IsTextRefused text most (Flow fault) = ⊥
+IsTextRefused text most (Verify fault) = ⊥
+
+abbrev pub IsValueRefused : Option (Bor (List ℕ)) → Refusal → Type 0
+IsValueRefused None refusal = ⊥
+IsValueRefused (Some text) refusal = IsTextRefused text.now VALUE_BYTES refusal
+
+-- why the texts spell no input: the first of key, old value and argument that is refused
+abbrev pub IsInputRefused : RunTexts → Refusal → Type 0
+IsInputRefused texts refusal =
+    IsTextRefused texts.key.now KEY_BYTES refusal
+    ⊎ ((key : List ℕ) × SpellsBytes texts.key.now key
+    × (IsValueRefused texts.old refusal
+    ⊎ ((old : Option (List ℕ)) × SpellsValue texts.old old × IsValueRefused texts.arg refusal)))
+
+-- what holds of the program and the input of a run that is reported so
+abbrev pub IsRunReport : Sizes → RunTexts → List ℕ → Report → Type 0
+IsRunReport sizes texts text Accepted = ⊥
+IsRunReport sizes texts text (Answered answer) =
+    (program : List Insn) × SpellsSafe text sizes program
+    × ((input : Input) × SpellsInput texts input × Fits input sizes × Means program sizes input answer)
+IsRunReport sizes texts text (Unfit window) =
+    (program : List Insn) × SpellsSafe text sizes program
+    × ((input : Input) × SpellsInput texts input × (first_unfit input sizes ≡ Err window))
+IsRunReport sizes texts text (Refused refusal) =
+    IsProgramRefused text sizes refusal ⊎ ((program : List Insn) × SpellsSafe text sizes program × IsInputRefused texts refusal)
+
+abbrev pub IsCheckReport : Sizes → List ℕ → Report → Type 0
+IsCheckReport sizes text Accepted = (program : List Insn) × SpellsSafe text sizes program
+IsCheckReport sizes text (Answered answer) = ⊥
+IsCheckReport sizes text (Unfit window) = ⊥
+IsCheckReport sizes text (Refused refusal) = IsProgramRefused text sizes refusal
+
+abbrev pub IsReport : Command → List ℕ → Report → Type 0
+IsReport (Check sizes) text report = IsCheckReport sizes text report
+IsReport (Run sizes texts) text report = IsRunReport sizes texts text report

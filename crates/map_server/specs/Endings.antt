@@ -1,0 +1,18 @@
+-- How a program ends: what it printed, and which line it told of a device that failed.
+use Rattle.std.specs.Prelude.{◌≡◌, ℕ, List, Option, IfSome}
+use Rattle.std.specs.Io.KnownBytes.{Appends}
+use Rattle.map_server.specs.declared.words.Command.{Command}
+use Rattle.map_server.specs.declared.report.Report.{Report}
+use Rattle.map_server.specs.Commands.{IsReport}
+use Rattle.map_server.specs.Reports.{text_of, status_of}
+
+-- a report that is true of the command and the text was printed, and the status is its status
+pub record Prints (command : Command) (text before after : Option (List ℕ)) (status : ℕ) : Type 0 where
+  pub report : Report
+  pub right : IfSome text (λ bytes. IsReport command bytes report)
+  pub printed : Appends before after (text_of report)
+  pub status_is : status ≡ status_of report
+
+-- where the sink's count of failed writes is as before, it got the line
+abbrev pub Tells : ℕ → ℕ → Option (List ℕ) → Option (List ℕ) → List ℕ → Type 0
+Tells failures failures' held held' line = failures' ≡ failures → Appends held held' line

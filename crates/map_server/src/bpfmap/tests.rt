@@ -1,0 +1,4 @@
+//! Tests of `bpfmap_on` over memory.
+mod answers;
+mod faults;
+mod memory;

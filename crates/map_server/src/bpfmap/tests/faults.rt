@@ -1,0 +1,131 @@
+//! Faults of the command line and of devices.
+use super::memory::{Pieces, ROOM, call, run_words};
+use std::test::Fail;
+
+const NOTHING: &[u8] = b"b7 00 00 00 ff ff ff ff 95 00 00 00 00 00 00 00";
+
+fn pieces(rest: &[u8], size: usize, fails: bool) -> Pieces<'_> {
+    Pieces { rest, size, fails }
+}
+
+#[test]
+fn faults_of_the_words_are_told(rt: HostRuntime) -> Result<(), Fail> {
+    for words in [
+        "verify",
+        "",
+        "check run",
+        "check --keys 1",
+        "check --key",
+        "check --key ",
+        "check --key 65536",
+        "check --key -1",
+        "check --key ten",
+        "check --key 1 --key 1",
+        "check --old 65536",
+        "check --old -1",
+        "check --old 0x10",
+        "check --old 1 --old 2",
+        "check --arg 65536",
+        "check --arg -1",
+        "check --arg 1.5",
+        "check --arg 0 --arg 0",
+        "check --result 65536",
+        "check --result -1",
+        "check --result 1a",
+        "check --result 1 --result 1",
+        "check --with-key 00",
+        "check 00",
+        "run --with-key 00 --with-key 00",
+        "run --with-old 00 --with-old 00",
+        "run --with-arg 00 --with-arg 00",
+        "run --with-old",
+        "run 61",
+        "--stripes 1",
+    ] {
+        let found = run_words(rt.alloc(), words, "")?;
+        assert!(rt; found.status == 2, "{words}");
+        assert!(rt; found.output.is_empty(), "{words}");
+        assert!(rt; found.errors.starts_with(b"error: "), "{words}");
+        assert!(rt; found.errors.ends_with(b"\n"), "{words}");
+    }
+    Ok(())
+}
+
+#[test]
+fn no_command_shows_the_help(rt: HostRuntime) -> Result<(), Fail> {
+    let alone = call(rt.alloc(), &["bpfmap"], pieces(b"", 1, false), ROOM, ROOM);
+    assert!(rt; alone.status == 2 && alone.output.is_empty());
+    assert!(rt; alone.errors.starts_with(b"Verifies BPF programs"));
+    let none = call(rt.alloc(), &[], pieces(b"", 1, false), ROOM, ROOM);
+    assert!(rt; none.status == 2 && none.output.is_empty() && !none.errors.is_empty());
+    Ok(())
+}
+
+#[test]
+fn help_and_version_are_no_faults(rt: HostRuntime) -> Result<(), Fail> {
+    for (words, start) in [
+        ("--help", "Verifies BPF programs"),
+        ("help", "Verifies BPF programs"),
+        ("--version", "bpfmap 0.1.0\n"),
+        ("check --help", "Verifies the program"),
+        ("help run", "Verifies the program"),
+    ] {
+        let found = run_words(rt.alloc(), words, "")?;
+        assert!(rt; found.status == 0, "{words}");
+        assert!(rt; found.output.starts_with(start.as_bytes()), "{words}");
+        assert!(rt; found.errors.is_empty(), "{words}");
+    }
+    Ok(())
+}
+
+#[test]
+fn failed_reads_end_with_status_3(rt: HostRuntime) -> Result<(), Fail> {
+    for (good, errors_room) in [(0, ROOM), (1, ROOM), (20, ROOM), (47, ROOM), (0, 0), (20, 4)] {
+        let input = pieces(&NOTHING[..good], 5, true);
+        let found = call(rt.alloc(), &["bpfmap", "run"], input, ROOM, errors_room);
+        assert!(rt; found.status == 3, "after {good}");
+        assert!(rt; found.output.is_empty(), "after {good}");
+        let told = &b"failed read\n"[..errors_room.min(12)];
+        assert!(rt; found.errors.as_slice() == told, "after {good}");
+    }
+    Ok(())
+}
+
+#[test]
+fn failed_writes_end_with_status_3(rt: HostRuntime) -> Result<(), Fail> {
+    for (room, errors_room) in [(0, ROOM), (1, ROOM), (7, ROOM), (0, 0), (3, 5)] {
+        for words in [["bpfmap", "run"], ["bpfmap", "--help"]] {
+            let input = pieces(NOTHING, 5, false);
+            let found = call(rt.alloc(), &words, input, room, errors_room);
+            assert!(rt; found.status == 3, "{words:?} with room for {room}");
+            assert!(rt; found.output.len() == room, "{words:?} with room for {room}");
+            let told = &b"failed write\n"[..errors_room.min(13)];
+            assert!(rt; found.errors.as_slice() == told, "{words:?} with room for {room}");
+        }
+    }
+    let all = call(rt.alloc(), &["bpfmap", "run"], pieces(NOTHING, 5, false), 8, 0);
+    assert!(rt; all.status == 0 && all.output.as_slice() == b"nothing\n".as_slice());
+    let words = call(rt.alloc(), &["bpfmap", "walk"], pieces(NOTHING, 5, false), 8, 0);
+    assert!(rt; words.status == 2 && words.output.is_empty());
+    Ok(())
+}
+
+#[test]
+fn long_values_are_refused(rt: HostRuntime) -> Result<(), Fail> {
+    let alloc = rt.alloc();
+    for (option, bytes, status, printed) in [
+        ("--with-key", 64, 0, "nothing\n"),
+        ("--with-key", 65, 1, "refused 1 at 0\n"),
+        ("--with-old", 256, 0, "nothing\n"),
+        ("--with-old", 257, 1, "refused 1 at 0\n"),
+        ("--with-arg", 256, 0, "nothing\n"),
+        ("--with-arg", 257, 1, "refused 1 at 0\n"),
+    ] {
+        let text = "61".repeat(alloc, bytes)?;
+        let words = ["bpfmap", "run", option, text.as_str()];
+        let found = call(alloc, &words, pieces(NOTHING, 64, false), ROOM, ROOM);
+        assert!(rt; found.status == status, "{option} of {bytes}");
+        assert!(rt; found.output.as_slice() == printed.as_bytes(), "{option} of {bytes}");
+    }
+    Ok(())
+}

@@ -1,0 +1,96 @@
+//! What comes of a command on a text: the steps from hex text to an answer.
+ghost use Rattle.std.specs.Prelude.{◌≡◌, IfOk, IfErr};
+ghost use Rattle.bpf_model.specs.declared.limits.TheConstants.{KEY_BYTES};
+ghost use Rattle.map_server.specs.Hex.{SpellsBytes};
+ghost use Rattle.map_server.specs.Commands.{SpellsSafe, SpellsValue, SpellsInput, IsProgramRefused, IsTextRefused, IsValueRefused, IsInputRefused, IsCheckReport, IsRunReport, IsReport};
+
+use crate::hex::hex_bytes;
+use crate::refusal::Refusal;
+use crate::report::Report;
+use crate::words::{Command, RunTexts};
+use bpf_decode::decode;
+use bpf_machine::run;
+use bpf_model::{Input, Key, Sizes, Value, fits};
+use std::alloc::Global;
+use verifier::{Verified, shape, verify};
+
+fn verified(alloc: Global, text: &[u8], sizes: Sizes) -> Result<Verified, Refusal>
+    ensures ok { IfOk result (λ v. SpellsSafe text.now sizes v.program) }
+    ensures sizes { IfOk result (λ v. v.sizes ≡ sizes) }
+    ensures err { IfErr result (λ refusal. IsProgramRefused text.now sizes refusal) }
+{
+    let bytes = hex_bytes(alloc, text)?;
+    let program = decode(alloc, &bytes)?;
+    let shaped = shape(program)?;
+    Ok(verify(shaped, sizes)?)
+}
+
+fn key_of(alloc: Global, text: &str) -> Result<Key, Refusal>
+    ensures ok { IfOk result (λ key. SpellsBytes text.now key) }
+    ensures err { IfErr result (λ refusal. IsTextRefused text.now KEY_BYTES refusal) }
+{
+    let bytes = hex_bytes(alloc, text.as_bytes())?;
+    Ok(Key::from_slice(&bytes)?)
+}
+
+fn value_of(alloc: Global, text: Option<&str>) -> Result<Option<Value>, Refusal>
+    ensures ok { IfOk result (λ value. SpellsValue text.entry value) }
+    ensures err { IfErr result (λ refusal. IsValueRefused text.entry refusal) }
+{
+    let Some(text) = text else {
+        return Ok(None);
+    };
+    let bytes = hex_bytes(alloc, text.as_bytes())?;
+    Ok(Some(Value::from_slice(&bytes)?))
+}
+
+fn input_of(alloc: Global, texts: &RunTexts<'_>) -> Result<Input, Refusal>
+    ensures ok { IfOk result (λ input. SpellsInput texts.now input) }
+    ensures err { IfErr result (λ refusal. IsInputRefused texts.now refusal) }
+{
+    let key = key_of(alloc, texts.key)?;
+    let old = value_of(alloc, texts.old)?;
+    let arg = value_of(alloc, texts.arg)?;
+    Ok(Input { key, old, arg })
+}
+
+fn run_once(alloc: Global, text: &[u8], sizes: Sizes, texts: &RunTexts<'_>) -> Result<Report, Refusal>
+    ensures ok { IfOk result (λ report. IsRunReport sizes texts.now text.now report) }
+    ensures err { IfErr result (λ refusal. IsRunReport sizes texts.now text.now (Report.Refused refusal)) }
+{
+    let verified = verified(alloc, text, sizes)?;
+    let input = input_of(alloc, texts)?;
+    match fits(&sizes, &input) {
+        Ok(()) => Ok(Report::Answered(run(&verified, &input))),
+        Err(window) => Ok(Report::Unfit(window)),
+    }
+}
+
+fn check_report(alloc: Global, text: &[u8], sizes: Sizes) -> Report
+    ensures { IsCheckReport sizes text.now result }
+{
+    match verified(alloc, text, sizes) {
+        Ok(_) => Report::Accepted,
+        Err(refusal) => Report::Refused(refusal),
+    }
+}
+
+fn run_report(alloc: Global, text: &[u8], sizes: Sizes, texts: &RunTexts<'_>) -> Report
+    ensures { IsRunReport sizes texts.now text.now result }
+{
+    match run_once(alloc, text, sizes, texts) {
+        Ok(report) => report,
+        Err(refusal) => Report::Refused(refusal),
+    }
+}
+
+/// What comes of the command on this text: the first refusal, in the order text, program, key, old value, argument,
+/// else a value that doesn't fit, else the answer.
+pub fn report_of(alloc: Global, command: &Command<'_>, text: &[u8]) -> Report
+    ensures { IsReport command.now text.now result }
+{
+    match command {
+        Command::Check(sizes) => check_report(alloc, text, *sizes),
+        Command::Run(sizes, texts) => run_report(alloc, text, *sizes, texts),
+    }
+}
