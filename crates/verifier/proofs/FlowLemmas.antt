@@ -16,14 +16,14 @@ falls_last : (program : List Insn) (unit : ℕ) → Falls program unit → unit 
 falls_last program unit falls = omega (arith, falls.last, units_of-one falls.instruction, unit_count-length program)
 
 -- a program whose last instruction is EXIT has no fault of flow
-pub exit_last : (program : List Insn) → slice_get program (length program - 1) ≡ Some Exit → IsWellShaped program
+exit_last : (program : List Insn) → slice_get program (length program - 1) ≡ Some Exit → IsWellShaped program
 exit_last program at (FallsOffEnd unit) falls =
     let place : length program - 1 ≡ unit = omega (arith, falls_last program unit falls) in
     let here : instruction_at program unit ≡ Some Exit = instruction_at-get program unit ∙ subst (λ (u : ℕ). slice_get program u ≡ Some Exit) place at in
     falls.goes_on (some_is falls.instruction Exit (sym falls.at ∙ here))
 
 -- another last instruction is the first fault
-pub other_last : (program : List Insn) (i : Insn) → IsProgram program → slice_get program (length program - 1) ≡ Some i → i ≢ Exit → IsFirstFault program (FallsOffEnd (length program - 1))
+other_last : (program : List Insn) (i : Insn) → IsProgram program → slice_get program (length program - 1) ≡ Some i → i ≢ Exit → IsFirstFault program (FallsOffEnd (length program - 1))
 other_last program i is_program at other = record {
   has = record {
     instruction = i;
@@ -37,9 +37,9 @@ other_last program i is_program at other = record {
     only : (fault : FlowFault) → HasFault program fault → (length program - 1 < unit_of fault) ⊎ ((length program - 1 ≡ unit_of fault) × (33 ≤ number_of fault))
     only (FallsOffEnd unit) falls = inr (omega (arith, falls_last program unit falls), omega arith)
 
--- a program without a fault of flow has no other last instruction
-pub well_shaped_ends : (program : List Insn) (i : Insn) → IsProgram program → IsWellShaped program → slice_get program (length program - 1) ≡ Some i → i ≢ Exit → ⊥
-well_shaped_ends program i is_program shaped at other = shaped (FallsOffEnd (length program - 1)) (other_last program i is_program at other).has
+-- a program that has a first fault is not well shaped
+pub fault_refuses : (program : List Insn) (fault : FlowFault) → IsFirstFault program fault → IsWellShaped program → ⊥
+fault_refuses program fault first shaped = shaped fault first.has
 
 is_exit : (i : Insn) → (i ≡ Exit) ⊎ (i ≢ Exit)
 is_exit Exit = inl refl
@@ -55,14 +55,26 @@ well_shaped_exit program is_program shaped =
     let at = slice_get-get_or program (length program - 1) Exit last in
     elim (is_exit (get_or program (length program - 1) Exit)) [
       | inl exit ↦ at ∙ ap Some exit
-      | inr other ↦ absurd (well_shaped_ends program (get_or program (length program - 1) Exit) is_program shaped at other)
+      | inr other ↦ absurd (fault_refuses program _ (other_last program (get_or program (length program - 1) Exit) is_program at other) shaped)
     ]
 
 -- the last instruction, as code reads it
-pub last_read : (program read : List Insn) (i d : Insn) (last : ℕ) → IsProgram read → read ≡ program → last ≡ length read - 1 → get_or read last d ≡ i → slice_get program (length program - 1) ≡ Some i
-last_read program read i d last is_program same place is =
+last_read : (program read : List Insn) (d : Insn) (last : ℕ) → IsProgram read → read ≡ program → last ≡ length read - 1 → slice_get program (length program - 1) ≡ Some (get_or read last d)
+last_read program read d last is_program same place =
     let len : length read ≡ length program = ap length same in
     let lt : last < length read = omega (arith, is_program.some) in
-    let at : slice_get read last ≡ Some i = slice_get-get_or read last d lt ∙ ap Some is in
+    let at : slice_get read last ≡ Some (get_or read last d) = slice_get-get_or read last d lt in
     let there : last ≡ length program - 1 = omega arith in
     cc
+
+-- where it is EXIT, the program has no fault of flow
+pub read_exit : (program read : List Insn) (d : Insn) (last : ℕ) → IsProgram read → read ≡ program → last ≡ length read - 1 → get_or read last d ≡ Exit → IsWellShaped program
+read_exit program read d last is_program same place exit =
+    exit_last program (last_read program read d last is_program same place ∙ ap Some exit)
+
+-- and else it is the first fault
+pub read_other : (program read : List Insn) (d : Insn) (last : ℕ) → IsProgram read → read ≡ program → last ≡ length read - 1 → get_or read last d ≢ Exit → IsFirstFault program (FallsOffEnd last)
+read_other program read d last is_program same place other =
+    let len : length read ≡ length program = ap length same in
+    let there : last ≡ length program - 1 = omega arith in
+    rw there (other_last program (get_or read last d) (subst IsProgram same is_program) (last_read program read d last is_program same place) other)

@@ -1,12 +1,17 @@
 -- Which states an abstract state speaks of, and where instructions lead from them.
-use Rattle.std.specs.Prelude.{◌≡◌, ℕ, ◌+◌, ◌<◌, true, ◌⊎◌, Option, Some, IsSome, slice_get}
+use Rattle.std.specs.Prelude.{◌≡◌, ℕ, ◌+◌, ◌<◌, ◌≤◌, true, ◌⊎◌, List, Option, Some, IsSome, slice_get}
+use Rattle.bpf_model.specs.declared.input.Input.{Input}
 use Rattle.bpf_model.specs.declared.input.Sizes.{Sizes}
 use Rattle.bpf_model.specs.declared.instruction.Insn.{Insn}
+use Rattle.bpf_model.specs.declared.instruction.Insn.TheVariants.{Exit}
+use Rattle.bpf_model.specs.declared.instruction.AccessSize.{AccessSize}
 use Rattle.bpf_model.specs.declared.region.Region.{Region}
 use Rattle.bpf_model.specs.declared.region.Region.TheVariants.{Result}
-use Rattle.bpf_model.specs.Memory.{first_address, size_of}
-use Rattle.bpf_model.specs.State.{State}
-use Rattle.bpf_model.specs.Step.{act, ends_in}
+use Rattle.bpf_model.specs.Fits.{Fits, HasBytes as HasInputBytes, AreWithinLimits}
+use Rattle.bpf_model.specs.Words.{word_of}
+use Rattle.bpf_model.specs.Memory.{first_address, size_of, byte_count, bytes_at}
+use Rattle.bpf_model.specs.State.{State, entry_state}
+use Rattle.bpf_model.specs.Step.{sets, stores, act, ends_in}
 use Rattle.verifier.specs.declared.stack_slots.reg_value.RegValue.{RegValue}
 use Rattle.verifier.specs.declared.abstract_state.AbstractState.{AbstractState}
 use Rattle.verifier.specs.Kept.{kept_bytes}
@@ -28,6 +33,42 @@ pub record Describes (a : AbstractState) (sizes : Sizes) (s : State) : Type 0 wh
   -- each byte of the windows that may only be read is present
   pub read_only : (r : Region) (i : ℕ) → kept_bytes r ≡ 0 → i < size_of sizes r → IsSome (s.memory (first_address r + i))
   pub bytes : HasBytes s.memory
+
+-- in each described state the register has a word for which the value stands
+abbrev pub Knows : AbstractState → ℕ → RegValue → Type 0
+Knows a r x = (sizes : Sizes) (s : State) → Describes a sizes s → HasWord x (s.registers r)
+
+-- from each described state a register may be set to a word for which the value stands, and then the second describes it
+abbrev pub Sets : AbstractState → ℕ → RegValue → AbstractState → Type 0
+Sets a dst x b =
+    (sizes : Sizes) (s : State) (w : ℕ) → Describes a sizes s → StandsFor x (Some w)
+    → (t : State) × ((sets s dst w ≡ Some t) × Describes b sizes t)
+
+-- an access at this distance from the window's first byte lies inside the window
+abbrev pub LiesInside : Sizes → Region → ℕ → AccessSize → Type 0
+LiesInside sizes r first size = first + byte_count size ≤ size_of sizes r
+
+-- in each described state a load gives a word for which the value stands
+abbrev pub Loads : AbstractState → Region → ℕ → AccessSize → RegValue → Type 0
+Loads a r first size x =
+    (sizes : Sizes) (s : State) → AreWithinLimits sizes → LiesInside sizes r first size → Describes a sizes s
+    → (bs : List ℕ) × ((bytes_at s.memory (first_address r + first) (byte_count size) ≡ Some bs) × StandsFor x (Some (word_of bs)))
+
+-- from each described state a word for which the value stands may be stored, and then the second describes it
+abbrev pub Stores : AbstractState → Region → ℕ → AccessSize → RegValue → AbstractState → Type 0
+Stores a r first size x b =
+    (sizes : Sizes) (s : State) (w : ℕ) → LiesInside sizes r first size → Describes a sizes s → StandsFor x (Some w)
+    → (t : State) × ((stores sizes s (first_address r + first) (byte_count size) w ≡ Some t) × Describes b sizes t)
+
+-- from each described state the run ends at EXIT
+abbrev pub Exits : AbstractState → Type 0
+Exits a = (sizes : Sizes) (s : State) → Describes a sizes s → IsSome (ends_in sizes Exit s)
+
+-- every entry state is described
+abbrev pub DescribesEntry : AbstractState → Type 0
+DescribesEntry a =
+    (sizes : Sizes) (input : Input) → AreWithinLimits sizes → HasInputBytes input → Fits input sizes
+    → Describes a sizes (entry_state sizes input)
 
 -- from each state of the first the instruction ends the run or leads to a state of the second
 abbrev pub Leads : AbstractState → Sizes → Insn → AbstractState → Type 0

@@ -1,17 +1,12 @@
 //! What is known of every state that a run brings to a unit.
-ghost use Rattle.std.specs.Prelude.{◌≡◌, ◌≢◌, ◌≤◌, ◌<◌, ◌+◌, ℕ, List, ◌⊎◌, Some, Ok, Err, IsSome, OnOk, IfOk, IfErr, nat_eq, if◌then◌else◌};
-ghost use Rattle.bpf_model.specs.declared.input.Sizes.{Sizes as TheSizes};
-ghost use Rattle.bpf_model.specs.declared.input.Input.{Input as TheInput};
-ghost use Rattle.bpf_model.specs.declared.instruction.Insn.TheVariants.{Exit as TheExit};
-ghost use Rattle.bpf_model.specs.Fits.{Fits, HasBytes, AreWithinLimits};
-ghost use Rattle.bpf_model.specs.Words.{word_of};
-ghost use Rattle.bpf_model.specs.Memory.{first_address, size_of, byte_count, bytes_at};
-ghost use Rattle.bpf_model.specs.State.{State, entry_state};
-ghost use Rattle.bpf_model.specs.Step.{address_of, sets, stores, ends_in};
+ghost use Rattle.std.specs.Prelude.{◌≡◌, ◌≢◌, ◌≤◌, ◌+◌, ℕ, ◌⊎◌, Some, Ok, Err, OnOk, IfOk, IfErr, nat_eq, if◌then◌else◌};
+ghost use Rattle.bpf_model.specs.Fits.{AreWithinLimits};
+ghost use Rattle.bpf_model.specs.Memory.{first_address};
+ghost use Rattle.bpf_model.specs.Step.{address_of};
 ghost use Rattle.verifier.specs.declared.fault.VerifyFault.TheVariants.{UnwrittenRegister, WriteToR10, NotAWindow, OutOfWindow, ReadOnly, UnwrittenBytes};
 ghost use Rattle.verifier.specs.Faults.{IsFoundAt};
 ghost use Rattle.verifier.specs.Frames.{StandsFor};
-ghost use Rattle.verifier.specs.Describes.{HasWord, Describes, Leads};
+ghost use Rattle.verifier.specs.Describes.{DescribesEntry, Leads, Knows, Sets, Loads, Stores, Exits, LiesInside};
 
 use crate::arithmetic::operate;
 use crate::fault::VerifyFault;
@@ -20,8 +15,11 @@ use crate::value_ranges::Range;
 use bpf_model::limits::STACK_BYTES;
 use bpf_model::{AccessSize, Insn, Reg, Region, Sizes};
 
+/// The number of r10, which points to the stack's end and is never written.
+const FRAME_POINTER: u8 = 10;
+
 /// What is known of the registers, and which bytes of stack and result were written.
-#[derive(Clone, Copy, Debug, PartialEq, Eq)]
+#[derive(Debug, Drop)]
 pub struct AbstractState {
     registers: [RegValue; 11],
     frame: Frame,
@@ -30,8 +28,7 @@ pub struct AbstractState {
 impl AbstractState {
     /// What is known at entry.
     pub fn entry() -> AbstractState
-        ensures { (sizes : TheSizes) (input : TheInput) → AreWithinLimits sizes → HasBytes input → Fits input sizes
-            → Describes result sizes (entry_state sizes input) }
+        ensures { DescribesEntry result }
     {
         let any = RegValue::Number(Range::full());
         AbstractState {
@@ -105,7 +102,7 @@ impl AbstractState {
 
     fn read(&self, unit: usize, register: u8) -> Result<RegValue, VerifyFault>
         requires { register ≤ 10 }
-        ensures ok { IfOk result (λ x. (sizes : TheSizes) (s : State) → Describes self.now sizes s → HasWord x (s.registers register)) }
+        ensures ok { IfOk result (Knows self.now register) }
         ensures err { IfErr result (λ fault. fault ≡ UnwrittenRegister unit) }
     {
         match self.registers[register as usize] {
@@ -116,8 +113,7 @@ impl AbstractState {
 
     fn set(&mut self, dst: Reg, value: RegValue)
         requires { dst ≢ 10 }
-        ensures { (sizes : TheSizes) (s : State) (w : ℕ) → Describes self.old sizes s → StandsFor value (Some w)
-            → (t : State) × ((sets s dst w ≡ Some t) × Describes self.new sizes t) }
+        ensures { Sets self.old dst value self.new }
     {
         self.registers[dst.number() as usize] = value;
     }
@@ -129,8 +125,7 @@ impl AbstractState {
         first: usize,
         size: AccessSize,
     ) -> Result<RegValue, VerifyFault>
-        ensures ok { IfOk result (λ x. (sizes : TheSizes) (s : State) → AreWithinLimits sizes → first + byte_count size ≤ size_of sizes region → Describes self.now sizes s
-            → (bs : List ℕ) × ((bytes_at s.memory (first_address region + first) (byte_count size) ≡ Some bs) × StandsFor x (Some (word_of bs)))) }
+        ensures ok { IfOk result (Loads self.now region first size) }
         ensures err { IfErr result (λ fault. fault ≡ UnwrittenBytes unit) }
     {
         match Access::new(region, first, size) {
@@ -151,8 +146,7 @@ impl AbstractState {
         size: AccessSize,
         value: RegValue,
     ) -> Result<(), VerifyFault>
-        ensures ok { OnOk result ((sizes : TheSizes) (s : State) (w : ℕ) → first + byte_count size ≤ size_of sizes region → Describes self.old sizes s → StandsFor value (Some w)
-            → (t : State) × ((stores sizes s (first_address region + first) (byte_count size) w ≡ Some t) × Describes self.new sizes t)) }
+        ensures ok { OnOk result (Stores self.old region first size value self.new) }
         ensures err { IfErr result (λ fault. fault ≡ ReadOnly unit) }
     {
         match Access::new(region, first, size) {
@@ -165,11 +159,11 @@ impl AbstractState {
     }
 
     fn exit(&self, unit: usize) -> Result<(), VerifyFault>
-        ensures ok { OnOk result ((sizes : TheSizes) (s : State) → Describes self.now sizes s → IsSome (ends_in sizes TheExit s)) }
+        ensures ok { OnOk result (Exits self.now) }
         ensures err { IfErr result (IsFoundAt unit) }
     {
         let number = self.read(unit, 0)?.as_number();
-        if number.smin < -1 || number.smax > self.frame.written_prefix() as i64 {
+        if number.smin < -1 || number.smax > i64::from(self.frame.written_prefix()) {
             return Err(VerifyFault::BadExitValue(unit));
         }
         Ok(())
@@ -188,7 +182,7 @@ fn address_in(region: Region, offset: u16) -> RegValue
 fn test_target(unit: usize, dst: Reg) -> Result<(), VerifyFault>
     ensures { result ≡ (if nat_eq dst 10 then Err (WriteToR10 unit) else Ok tt) }
 {
-    if dst.number() == 10 {
+    if dst.number() == FRAME_POINTER {
         Err(VerifyFault::WriteToR10(unit))
     } else {
         Ok(())
@@ -203,8 +197,9 @@ fn locate(
     offset: i16,
     size: AccessSize,
 ) -> Result<(Region, usize), VerifyFault>
-    ensures at { IfOk result (λ at. (w : ℕ) → StandsFor base (Some w) → address_of w offset ≡ first_address at.0 + at.1) }
-    ensures inside { IfOk result (λ at. at.1 + byte_count size ≤ size_of sizes at.0) }
+    ensures address { IfOk result (λ at. (w : ℕ) → StandsFor base (Some w)
+        → address_of w offset ≡ first_address at.0 + at.1) }
+    ensures inside { IfOk result (λ at. LiesInside sizes at.0 at.1 size) }
     ensures err { IfErr result (λ fault. (fault ≡ NotAWindow unit) ⊎ (fault ≡ OutOfWindow unit)) }
 {
     let RegValue::Pointer(pointer) = base else {

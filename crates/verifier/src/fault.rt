@@ -61,16 +61,16 @@ impl VerifyFault {
 
 impl fmt::Display for VerifyFault {
     fn fmt<W: fmt::Write>(&self, f: &mut fmt::Formatter<W>) -> fmt::Result {
-        let fault = match self {
+        let text = match self {
             VerifyFault::UnwrittenRegister(_) => "a register is read that was not written",
             VerifyFault::WriteToR10(_) => "r10 is written",
             VerifyFault::NotAWindow(_) => "the address does not point into a window",
             VerifyFault::OutOfWindow(_) => "the access does not lie in the window",
             VerifyFault::ReadOnly(_) => "the window may only be read",
-            VerifyFault::UnwrittenBytes(_) => "bytes are read that were not written",
-            VerifyFault::BadExitValue(_) => "r0 is neither -1 nor a number of written bytes",
-            VerifyFault::SizesTooLarge => "a declared size is above its limit",
+            VerifyFault::UnwrittenBytes(_) => "bytes are read that were not all written",
+            VerifyFault::BadExitValue(_) => "r0 may be neither -1 nor a number of written bytes",
+            VerifyFault::SizesTooLarge => return write!(f, "a declared size is above its limit"),
         };
-        write!(f, "{fault}, at unit {}", self.unit())
+        write!(f, "{text} (unit {})", self.unit())
     }
 }

@@ -42,7 +42,7 @@ impl fmt::Display for FlowFault {
         match self {
             FlowFault::FallsOffEnd(unit) => write!(
                 f,
-                "the last instruction, at unit {unit}, is no exit"
+                "the last instruction is no exit (unit {unit})"
             ),
         }
     }

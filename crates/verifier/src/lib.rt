@@ -1,8 +1,11 @@
 //! Which programs are safe.
 //!
+//! `shape` tests a program's flow, `verify` walks over it with what is known at each unit.
+//!
 //! The promise to the layers above stands in the type of `Verified`: its program is safe with its sizes. Every state
 //! that a run on a fitting input reaches is an end or has a next one, and no run has more instructions than the
-//! program (`IsSafe` of bpf_model, kept by `Verified`).
+//! program (`IsSafe` of bpf_model, kept by `Verified`). It is the very program that was handed in (`verify`, clauses
+//! `program` and `sizes`). No call takes memory or waits; a walk looks at each instruction once.
 #![tactic(auto)]
 
 mod abstract_state;
@@ -18,3 +21,6 @@ pub use fault::VerifyFault;
 pub use flow_shape::{FlowFault, Shaped, shape};
 pub use verified::Verified;
 pub use walk::verify;
+
+#[cfg(test)]
+mod tests;

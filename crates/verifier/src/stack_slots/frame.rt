@@ -4,7 +4,7 @@ ghost use Rattle.bpf_model.specs.declared.region.Region.{Region as TheRegion};
 ghost use Rattle.bpf_model.specs.declared.region.Region.TheVariants.{Result as ResultWindow};
 ghost use Rattle.bpf_model.specs.Words.{bytes_of, word_of};
 ghost use Rattle.bpf_model.specs.Memory.{Partial, byte_count, bytes_at, with_bytes};
-ghost use Rattle.verifier.specs.Frames.{StandsFor, is_written, touches, access_address, HasBytes, DescribesMemory};
+ghost use Rattle.verifier.specs.Frames.{StandsFor, is_written, AreWritten, Marks, DescribesStore, LoadsFrom, DescribesMemory};
 
 use super::access::Access;
 use super::reg_value::RegValue;
@@ -33,18 +33,16 @@ impl Frame {
 
     /// The frame after a store of a word for which the value stands. The bytes that are stored become written.
     pub fn store(&mut self, access: &Access, _value: &RegValue)
-        ensures written { (r : TheRegion) (i : ℕ) → is_written self.new r i ≡ (touches access.now r i || is_written self.old r i) }
-        ensures describes { (memory : Partial) (w : ℕ) → StandsFor _value.now (Some w) → DescribesMemory self.old memory
-            → DescribesMemory self.new (with_bytes memory (access_address access.now) (bytes_of (byte_count access.now.size) w)) }
+        ensures written { Marks self.old access.now self.new }
+        ensures describes { DescribesStore self.old access.now _value.now self.new }
     {
         self.mark(access);
     }
 
     /// What is known of a loaded word; none where not all its bytes were written.
     pub fn load(&self, access: &Access) -> Option<RegValue>
-        ensures some { IsSome result ↔ ((i : ℕ) → i < byte_count access.now.size → is_written self.now access.now.region (access.now.first + i) ≡ true) }
-        ensures value { IfSome result (λ x. (memory : Partial) → HasBytes memory → DescribesMemory self.now memory
-            → (bytes : List ℕ) × ((bytes_at memory (access_address access.now) (byte_count access.now.size) ≡ Some bytes) × StandsFor x (Some (word_of bytes)))) }
+        ensures some { IsSome result ↔ AreWritten self.now access.now }
+        ensures value { IfSome result (LoadsFrom self.now access.now) }
     {
         if self.are_written(access) {
             Some(RegValue::Number(Range::full()))
@@ -54,41 +52,41 @@ impl Frame {
     }
 
     fn mark(&mut self, access: &Access)
-        ensures { (r : TheRegion) (i : ℕ) → is_written self.new r i ≡ (touches access.now r i || is_written self.old r i) }
+        ensures { Marks self.old access.now self.new }
     {
         let end = access.first + access.size.bytes();
         match access.region {
-            Region::Result => mark(&mut self.result, access.first, end),
-            Region::Stack => mark(&mut self.stack, access.first, end),
+            Region::Result => set_marks(&mut self.result, access.first, end),
+            Region::Stack => set_marks(&mut self.stack, access.first, end),
             Region::Key | Region::Old | Region::Arg => {}
         }
     }
 
     fn are_written(&self, access: &Access) -> bool
-        ensures { IsTrue result ↔ ((i : ℕ) → i < byte_count access.now.size → is_written self.now access.now.region (access.now.first + i) ≡ true) }
+        ensures { IsTrue result ↔ AreWritten self.now access.now }
     {
         let end = access.first + access.size.bytes();
         match access.region {
-            Region::Result => are_marked(&self.result, access.first, end),
-            Region::Stack => are_marked(&self.stack, access.first, end),
+            Region::Result => are_set(&self.result, access.first, end),
+            Region::Stack => are_set(&self.stack, access.first, end),
             Region::Key | Region::Old | Region::Arg => false,
         }
     }
 
     /// The greatest n such that the first n bytes of the result were written.
-    pub fn written_prefix(&self) -> usize
+    pub fn written_prefix(&self) -> u16
         ensures written { (i : ℕ) → i < result → is_written self.now ResultWindow i ≡ true }
         ensures greatest { is_written self.now ResultWindow result ≡ false }
         ensures bound { result ≤ VALUE_BYTES }
     {
         match self.result.iter().position(|byte| !byte) {
-            Some(first) => first,
-            None => VALUE_BYTES,
+            Some(first) => first as u16,
+            None => VALUE_BYTES as u16,
         }
     }
 }
 
-fn mark(bytes: &mut [bool], first: usize, end: usize)
+fn set_marks(bytes: &mut [bool], first: usize, end: usize)
     requires order { first ≤ end }
     requires inside { end ≤ length bytes.old }
     ensures { (i : ℕ) → slice_index_or bytes.new i false ≡ ((nat_le first i && nat_lt i end) || slice_index_or bytes.old i false) }
@@ -96,7 +94,7 @@ fn mark(bytes: &mut [bool], first: usize, end: usize)
     bytes[first..end].fill(true);
 }
 
-fn are_marked(bytes: &[bool], first: usize, end: usize) -> bool
+fn are_set(bytes: &[bool], first: usize, end: usize) -> bool
     requires order { first ≤ end }
     requires inside { end ≤ length bytes.now }
     ensures { IsTrue result ↔ All (λ b. b ≡ true) (slice_range bytes.now first end) }

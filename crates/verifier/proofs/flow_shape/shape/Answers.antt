@@ -1,24 +1,21 @@
-use Rattle.std.proofs.Common.{refl, subst}
-use Rattle.bpf_model.specs.Program.{IsProgram}
-use Rattle.bpf_model.specs.declared.instruction.Insn.TheVariants.{Exit}
-use Rattle.verifier.proofs.FlowLemmas.{exit_last, other_last, well_shaped_ends, last_read}
+use Rattle.std.proofs.Common.{arith, refl}
+use Rattle.verifier.proofs.FlowLemmas.{fault_refuses, read_exit, read_other}
 use Rattle.verifier.proofs.flow_shape.shape.Goals as goal
 
 pub invariant_of-result : goal.invariant_of-result
 invariant_of-result c =
-    let known = c.instructions-instructions.ensures in
-    exit_last c.args.program (last_read c.args.program c.instructions-instructions.result.now Exit _ _ known.program known.value refl c.in-Exit.is)
+    let list = c.instructions-instructions in
+    read_exit c.args.program list.result.now _ _ list.ensures.program list.ensures.value (omega arith) c.in-Exit.is
 
 pub returns-in-Exit-clause-ok : goal.returns-in-Exit-clause-ok
-returns-in-Exit-clause-ok c = (λ e. invariant_of-result c, λ shaped. refl)
+returns-in-Exit-clause-ok c = (λ _. invariant_of-result c, λ _. refl)
 
 pub returns-in_default : goal.returns-in_default
 returns-in_default c =
-    let known = c.instructions-instructions.ensures in
-    let at = last_read c.args.program c.instructions-instructions.result.now _ _ _ known.program known.value refl refl in
-    let first = other_last c.args.program _ (subst IsProgram known.value known.program) at c.in_default.not-Exit in
+    let list = c.instructions-instructions in
+    let first = read_other c.args.program list.result.now _ _ list.ensures.program list.ensures.value (omega arith) c.in_default.not-Exit in
     record {
-      ok = (λ e. absurd cc, λ shaped. absurd (well_shaped_ends c.args.program _ (subst IsProgram known.value known.program) shaped at c.in_default.not-Exit));
+      ok = (λ e. absurd cc, λ shaped. absurd (fault_refuses c.args.program _ first shaped));
       same = tt;
-      first_fault = rw known.value first;
+      first_fault = first;
     }

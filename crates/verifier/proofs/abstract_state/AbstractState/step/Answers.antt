@@ -24,7 +24,7 @@ returns-in_ok-loaded-in-Load-clause-ok c =
     let i = c.in-Load in
     let base = rw c.number-in-Load.ensures.value at (c.in_ok-base-in-Load.ensures.ok sizes s d) in
     let place = c.in_ok-region-in-Load in
-    let at = rw plain at (place.ensures.at base.word base.stands) in
+    let at = rw plain at (place.ensures.address base.word base.stands) in
     let loaded = c.in_ok-loaded-in-Load.ensures.ok sizes s c.requires place.ensures.inside d in
     let allowed = can_read-inside sizes place.region place.first (byte_count i.size) place.ensures.inside in
     let t = c.set-in-Load.ensures sizes s (word_of loaded.0) d loaded.1.1 in
@@ -39,6 +39,6 @@ returns-in_ok-store-in-Store-clause-ok c =
     let base = rw c.number-in-Store.ensures.value at (c.in_ok-base-in-Store.ensures.ok sizes s d) in
     let value = rw c.number-in-Store-2.ensures.value at (c.in_ok-value-in-Store.ensures.ok sizes s d) in
     let place = c.in_ok-region-in-Store in
-    let at = rw plain at (place.ensures.at base.word base.stands) in
+    let at = rw plain at (place.ensures.address base.word base.stands) in
     let t = c.in_ok-store-in-Store.ensures.ok sizes s value.word place.ensures.inside d value.stands in
     inr (t.0, (rw (base.is, value.is, at) t.1.0, t.1.1)))

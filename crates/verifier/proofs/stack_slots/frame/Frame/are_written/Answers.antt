@@ -9,8 +9,8 @@ returns-in-Result c =
     let a = c.args.access.now in
     let end = a.first + c.bytes.result in
     let n = byte_count a.size in (
-      λ yes i lt. rw c.in-Result.is (all_marked bytes a.first end n (omega arith) (search rules) (c.are_marked.ensures.0 yes) i lt),
-      λ each. c.are_marked.ensures.1 (marked_all bytes a.first end n (omega arith) (search rules) (rw c.in-Result.is at each)),
+      λ yes i lt. rw c.in-Result.is (all_marked bytes a.first end n (omega arith) (search rules) (c.are_set.ensures.0 yes) i lt),
+      λ each. c.are_set.ensures.1 (marked_all bytes a.first end n (omega arith) (search rules) (rw c.in-Result.is at each)),
     )
 
 pub returns-in-Stack : goal.returns-in-Stack
@@ -19,6 +19,6 @@ returns-in-Stack c =
     let a = c.args.access.now in
     let end = a.first + c.bytes.result in
     let n = byte_count a.size in (
-      λ yes i lt. rw c.in-Stack.is (all_marked bytes a.first end n (omega arith) (search rules) (c.are_marked-in-Stack.ensures.0 yes) i lt),
-      λ each. c.are_marked-in-Stack.ensures.1 (marked_all bytes a.first end n (omega arith) (search rules) (rw c.in-Stack.is at each)),
+      λ yes i lt. rw c.in-Stack.is (all_marked bytes a.first end n (omega arith) (search rules) (c.are_set-in-Stack.ensures.0 yes) i lt),
+      λ each. c.are_set-in-Stack.ensures.1 (marked_all bytes a.first end n (omega arith) (search rules) (rw c.in-Stack.is at each)),
     )
