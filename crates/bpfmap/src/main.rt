@@ -12,7 +12,13 @@ fn status(rt: &HostRuntime) -> io::Result<u8> {
     let mut reader = StreamSource::new(rt.stdin());
     let mut writer = StreamSink::new(rt.stdout());
     let mut errors = StreamSink::new(rt.stderr());
-    Ok(bpfmap_on(alloc, words.as_slice(), &mut reader, &mut writer, &mut errors))
+    Ok(bpfmap_on(
+        alloc,
+        words.as_slice(),
+        &mut reader,
+        &mut writer,
+        &mut errors,
+    ))
 }
 
 fn main(rt: HostRuntime) -> ExitCode {

@@ -1,5 +1,6 @@
 //! Faults of the command line and of devices.
-use super::memory::{Pieces, ROOM, call, run_words};
+use super::memory::{Outcome, Pieces, ROOM, call, run_words};
+use std::alloc::{AllocError, Global};
 use std::test::Fail;
 
 const NOTHING: &[u8] = b"b7 00 00 00 ff ff ff ff 95 00 00 00 00 00 00 00";
@@ -110,9 +111,15 @@ fn failed_writes_end_with_status_3(rt: HostRuntime) -> Result<(), Fail> {
     Ok(())
 }
 
+// A run whose option is hex text of this many bytes.
+fn run_with(alloc: Global, option: &str, bytes: usize) -> Result<Outcome, AllocError> {
+    let text = "61".repeat(alloc, bytes)?;
+    let words = vec![in alloc; "bpfmap", "run", option, text.as_str()]?;
+    Ok(call(alloc, words.as_slice(), pieces(NOTHING, 64, false), ROOM, ROOM))
+}
+
 #[test]
 fn long_values_are_refused(rt: HostRuntime) -> Result<(), Fail> {
-    let alloc = rt.alloc();
     for (option, bytes, status, printed) in [
         ("--with-key", 64, 0, "nothing\n"),
         ("--with-key", 65, 1, "refused 1 at 0\n"),
@@ -121,9 +128,7 @@ fn long_values_are_refused(rt: HostRuntime) -> Result<(), Fail> {
         ("--with-arg", 256, 0, "nothing\n"),
         ("--with-arg", 257, 1, "refused 1 at 0\n"),
     ] {
-        let text = "61".repeat(alloc, bytes)?;
-        let words = ["bpfmap", "run", option, text.as_str()];
-        let found = call(alloc, &words, pieces(NOTHING, 64, false), ROOM, ROOM);
+        let found = run_with(rt.alloc(), option, bytes)?;
         assert!(rt; found.status == status, "{option} of {bytes}");
         assert!(rt; found.output.as_slice() == printed.as_bytes(), "{option} of {bytes}");
     }
