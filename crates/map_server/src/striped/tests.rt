@@ -6,21 +6,40 @@ use bpf_model::{AccessSize, AluOp, Insn, Key, Program, Reg, Sizes, TooLong, Valu
 use std::test::Fail;
 use verifier::{Verified, shape, verify};
 
+// Eight bytes, little-endian.
+const ONE: [u8; 8] = [1, 0, 0, 0, 0, 0, 0, 0];
+
+const TWO: [u8; 8] = [2, 0, 0, 0, 0, 0, 0, 0];
+
+const THREE: [u8; 8] = [3, 0, 0, 0, 0, 0, 0, 0];
+
 fn get(name: &[u8]) -> Result<Call<'static>, TooLong> {
-    Ok(Call::Get {
-        key: Key::from_slice(name)?,
-    })
+    let key = Key::from_slice(name)?;
+    Ok(Call::Get { key })
 }
 
-fn put(name: &[u8], text: &str) -> Result<Call<'static>, TooLong> {
-    Ok(Call::Put {
-        key: Key::from_slice(name)?,
-        value: Value::from_slice(text.as_bytes())?,
-    })
+fn put(name: &[u8], bytes: &[u8]) -> Result<Call<'static>, TooLong> {
+    let key = Key::from_slice(name)?;
+    let value = Value::from_slice(bytes)?;
+    Ok(Call::Put { key, value })
 }
 
-fn replied(text: &str) -> Result<Reply, TooLong> {
-    Ok(Reply::Value(Some(Value::from_slice(text.as_bytes())?)))
+fn compute<'a>(name: &[u8], program: &'a Verified, bytes: &[u8]) -> Result<Call<'a>, TooLong> {
+    let key = Key::from_slice(name)?;
+    let arg = Some(Value::from_slice(bytes)?);
+    Ok(Call::Compute { key, program, arg })
+}
+
+// Whether the call is replied to with this value, or with none.
+fn gives(
+    table: &mut Striped,
+    call: Result<Call, TooLong>,
+    wanted: Option<&[u8]>,
+) -> Result<bool, Fail> {
+    match table.apply(&call?)? {
+        Reply::Value(found) => Ok(found.as_ref().map(Value::as_slice) == wanted),
+        Reply::Unfit(_) => Ok(false),
+    }
 }
 
 #[test]
@@ -30,19 +49,18 @@ fn one_stripe_is_opened(rt: HostRuntime) -> Result<(), Fail> {
         assert_eq!(rt; fault.map(OpenFault::number), Some(50), "at {stripes}");
     }
     let mut table = Striped::open(rt.alloc(), 1)?;
-    assert_eq!(rt; table.apply(&get(b"")?)?, Reply::Value(None));
+    assert!(rt; gives(&mut table, get(b""), None)?);
     Ok(())
 }
 
 #[test]
 fn a_put_replies_the_value_that_was_there(rt: HostRuntime) -> Result<(), Fail> {
     let mut table = Striped::open(rt.alloc(), 1)?;
-    assert_eq!(rt; table.apply(&put(b"a", "")?)?, Reply::Value(None));
-    assert_eq!(rt; table.apply(&put(b"a", "new")?)?, replied("")?);
-    assert_eq!(rt; table.apply(&put(b"ab", "other")?)?, Reply::Value(None));
-    assert_eq!(rt; table.apply(&get(b"a")?)?, replied("new")?);
-    assert_eq!(rt; table.apply(&get(b"ab")?)?, replied("other")?);
-    assert_eq!(rt; table.apply(&get(b"b")?)?, Reply::Value(None));
+    assert!(rt; gives(&mut table, put(b"a", b""), None)?);
+    assert!(rt; gives(&mut table, put(b"a", b"new"), Some(b""))?);
+    assert!(rt; gives(&mut table, put(b"ab", b"other"), None)?);
+    assert!(rt; gives(&mut table, get(b"a"), Some(b"new"))?);
+    assert!(rt; gives(&mut table, get(b"b"), None)?);
     Ok(())
 }
 
@@ -55,11 +73,9 @@ fn reg(number: u8) -> Reg
 fn mov(number: u8, imm: i32) -> Insn
     requires { number ≤ 10 }
 {
-    Insn::Mov {
-        width: Width::W64,
-        dst: reg(number),
-        imm,
-    }
+    let dst = reg(number);
+    let width = Width::W64;
+    Insn::Mov { width, dst, imm }
 }
 
 fn load(dst: u8, src: u8) -> Insn
@@ -99,68 +115,44 @@ fn nothing() -> [Insn; 2] {
 fn verified<const N: usize>(
     alloc: Global,
     instructions: [Insn; N],
-    sizes: (u16, u16, u16, u16),
+    sizes: Sizes,
 ) -> Result<Verified, Fail> {
-    let (key, old, arg, result) = sizes;
-    let sizes = Sizes {
-        key,
-        old,
-        arg,
-        result,
-    };
     let instructions = Vec::from_array(alloc, instructions)?;
     let program = Program::new(instructions).ok_or("no program")?;
     Ok(verify(shape(program)?, sizes)?)
 }
 
-fn compute<'a>(
-    name: &[u8],
-    program: &'a Verified,
-    arg: Option<Value>,
-) -> Result<Call<'a>, TooLong> {
-    Ok(Call::Compute {
-        key: Key::from_slice(name)?,
-        program,
+fn sizes(key: u16, old: u16, arg: u16, most: u16) -> Sizes {
+    Sizes {
+        key,
+        old,
         arg,
-    })
-}
-
-fn number(n: u64) -> Result<Value, TooLong> {
-    Value::from_slice(&n.to_le_bytes())
+        result: most,
+    }
 }
 
 #[test]
 fn a_computed_sum_is_entered(rt: HostRuntime) -> Result<(), Fail> {
-    let sum = verified(rt.alloc(), sum(), (64, 8, 8, 8))?;
+    let sum = verified(rt.alloc(), sum(), sizes(64, 8, 8, 8))?;
     let mut table = Striped::open(rt.alloc(), 1)?;
-    let one = Call::Put {
-        key: Key::from_slice(b"a")?,
-        value: number(1)?,
-    };
-    assert_eq!(rt; table.apply(&one)?, Reply::Value(None));
-    let added = table.apply(&compute(b"a", &sum, Some(number(2)?))?)?;
-    assert_eq!(rt; added, Reply::Value(Some(number(3)?)));
-    assert_eq!(rt; table.apply(&get(b"a")?)?, Reply::Value(Some(number(3)?)));
-    let added = table.apply(&compute(b"b", &sum, Some(number(2)?))?)?;
-    assert_eq!(rt; added, Reply::Value(Some(number(2)?)));
-    assert_eq!(rt; table.apply(&get(b"a")?)?, Reply::Value(Some(number(3)?)));
+    assert!(rt; gives(&mut table, put(b"a", &ONE), None)?);
+    assert!(rt; gives(&mut table, compute(b"a", &sum, &TWO), Some(&THREE))?);
+    assert!(rt; gives(&mut table, compute(b"b", &sum, &TWO), Some(&TWO))?);
+    assert!(rt; gives(&mut table, get(b"a"), Some(&THREE))?);
     Ok(())
 }
 
 #[test]
 fn nothing_removes_the_key(rt: HostRuntime) -> Result<(), Fail> {
-    let nothing = verified(rt.alloc(), nothing(), (64, 256, 256, 256))?;
+    let nothing = verified(rt.alloc(), nothing(), sizes(64, 256, 256, 256))?;
     let mut table = Striped::open(rt.alloc(), 1)?;
-    table.apply(&put(b"a", "old")?)?;
-    table.apply(&put(b"ab", "other")?)?;
+    assert!(rt; gives(&mut table, put(b"a", b"old"), None)?);
+    assert!(rt; gives(&mut table, put(b"ab", b"other"), None)?);
     for name in [b"a", b"c"] {
-        assert_eq!(rt;
-            table.apply(&compute(name, &nothing, None)?)?,
-            Reply::Value(None)
-        );
-        assert_eq!(rt; table.apply(&get(name)?)?, Reply::Value(None));
+        assert!(rt; gives(&mut table, compute(name, &nothing, b""), None)?);
+        assert!(rt; gives(&mut table, get(name), None)?);
     }
-    assert_eq!(rt; table.apply(&get(b"ab")?)?, replied("other")?);
+    assert!(rt; gives(&mut table, get(b"ab"), Some(b"other"))?);
     Ok(())
 }
 
@@ -168,21 +160,16 @@ fn nothing_removes_the_key(rt: HostRuntime) -> Result<(), Fail> {
 fn the_first_window_that_is_too_small_is_named(rt: HostRuntime) -> Result<(), Fail> {
     let long = [7; 256];
     let mut table = Striped::open(rt.alloc(), 1)?;
-    let entry = Call::Put {
-        key: Key::from_slice(b"key")?,
-        value: Value::from_slice(&long)?,
-    };
-    table.apply(&entry)?;
-    for (sizes, window) in [
-        ((2, 255, 255, 256), Window::Key),
-        ((3, 255, 255, 256), Window::Old),
-        ((3, 256, 255, 256), Window::Arg),
+    assert!(rt; gives(&mut table, put(b"key", &long), None)?);
+    for (key, old, window) in [
+        (2, 255, Window::Key),
+        (3, 255, Window::Old),
+        (3, 256, Window::Arg),
     ] {
-        let program = verified(rt.alloc(), nothing(), sizes)?;
-        let call = compute(b"key", &program, Some(Value::from_slice(&long)?))?;
-        assert_eq!(rt; table.apply(&call)?, Reply::Unfit(window));
-        let kept = Reply::Value(Some(Value::from_slice(&long)?));
-        assert_eq!(rt; table.apply(&get(b"key")?)?, kept);
+        let program = verified(rt.alloc(), nothing(), sizes(key, old, 255, 256))?;
+        let reply = table.apply(&compute(b"key", &program, &long)?)?;
+        assert_eq!(rt; reply, Reply::Unfit(window));
+        assert!(rt; gives(&mut table, get(b"key"), Some(&long))?);
     }
     Ok(())
 }
@@ -190,11 +177,11 @@ fn the_first_window_that_is_too_small_is_named(rt: HostRuntime) -> Result<(), Fa
 // Whether each key of one byte below this one has its value, and this one has none.
 fn ends_before(table: &mut Striped, end: u8) -> Result<bool, Fail> {
     for number in 0..end {
-        if table.apply(&get(&[number])?)? != replied("new")? {
+        if !gives(table, get(&[number]), Some(b"new"))? {
             return Ok(false);
         }
     }
-    Ok(table.apply(&get(&[end])?)? == Reply::Value(None))
+    gives(table, get(&[end]), None)
 }
 
 /// Also where one allocation fails: that put leaves the table, and the next one enters.
@@ -202,9 +189,9 @@ fn ends_before(table: &mut Striped, end: u8) -> Result<bool, Fail> {
 fn a_refused_entry_leaves_the_table(rt: HostRuntime) -> Result<(), Fail> {
     let mut table = Striped::open(rt.alloc(), 1)?;
     for number in 0..40 {
-        if let Err(NoMemory) = table.apply(&put(&[number], "new")?) {
+        if let Err(NoMemory) = table.apply(&put(&[number], b"new")?) {
             assert!(rt; ends_before(&mut table, number)?, "at {number}");
-            assert_eq!(rt; table.apply(&put(&[number], "new")?)?, Reply::Value(None));
+            assert!(rt; gives(&mut table, put(&[number], b"new"), None)?);
         }
     }
     assert!(rt; ends_before(&mut table, 40)?);
