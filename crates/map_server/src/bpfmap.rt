@@ -27,7 +27,11 @@ const FAILED_DEVICE: u8 = 3;
 const NO_MEMORY: Report = Report::Refused(Refusal::NoMemory);
 
 /// What comes of a command on all that the reader has left.
-fn read_report<R: Source>(alloc: Global, command: &Command<'_>, reader: &mut R) -> Result<Report, Failed>
+fn read_report<R: Source>(
+    alloc: Global,
+    command: &Command<'_>,
+    reader: &mut R,
+) -> Result<Report, Failed>
     requires { R.failures reader.old < 2 ^ 64 - 1 }
     ensures report { IfOk result (λ report. IfSome (R.left reader.old) (λ text. IsReport command.now text report)) }
     ensures ok { OnOk result (R.failures reader.new ≡ R.failures reader.old) }
@@ -89,10 +93,20 @@ fn tell_words<W: Sink, E: Sink>(
         (E.held errors.old) (E.held errors.new) (codes "failed write\n") }
 {
     if error.kind() == ErrorKind::OutOfMemory {
-        return print(NO_MEMORY.line().as_slice(), NO_MEMORY.status(), writer, errors);
+        return print(
+            NO_MEMORY.line().as_slice(),
+            NO_MEMORY.status(),
+            writer,
+            errors,
+        );
     }
     match error.to_string(alloc) {
-        Err(_) => print(NO_MEMORY.line().as_slice(), NO_MEMORY.status(), writer, errors),
+        Err(_) => print(
+            NO_MEMORY.line().as_slice(),
+            NO_MEMORY.status(),
+            writer,
+            errors,
+        ),
         Ok(text) if error.use_stderr() => {
             let _ = write_all(errors, text.as_bytes());
             FAULT_OF_WORDS
@@ -114,7 +128,12 @@ pub fn tell_unread_words<W: Sink, E: Sink>(error: &io::Error, writer: &mut W, er
         (codes "error: the command line is not UTF-8\n") }
 {
     if error.kind() == io::ErrorKind::OutOfMemory {
-        return print(NO_MEMORY.line().as_slice(), NO_MEMORY.status(), writer, errors);
+        return print(
+            NO_MEMORY.line().as_slice(),
+            NO_MEMORY.status(),
+            writer,
+            errors,
+        );
     }
     let _ = write_all(errors, b"error: the command line is not UTF-8\n");
     FAULT_OF_WORDS

@@ -19,9 +19,12 @@ memory_refused None = tt
 memory_refused (Some bytes) = tt
 
 pub returns-in-Err-clause-refused : goal.returns-in-Err-clause-refused
-returns-in-Err-clause-refused g c is_one = (check, record {
-  report = Refused NoMemory;
-  right = memory_refused (g.R.Source.left c.args.reader.now);
-  printed = c.tell_words.ensures.refused is_one;
-  status_is = is_one;
-})
+returns-in-Err-clause-refused g c is_one = (
+  check,
+  record {
+    report = Refused NoMemory;
+    right = memory_refused (g.R.Source.left c.args.reader.now);
+    printed = c.tell_words.ensures.refused is_one;
+    status_is = is_one;
+  },
+)
