@@ -54,9 +54,15 @@ fn input_of(alloc: Global, texts: &RunTexts<'_>) -> Result<Input, Refusal>
     Ok(Input { key, old, arg })
 }
 
-fn run_once(alloc: Global, text: &[u8], sizes: Sizes, texts: &RunTexts<'_>) -> Result<Report, Refusal>
+fn run_once(
+    alloc: Global,
+    text: &[u8],
+    sizes: Sizes,
+    texts: &RunTexts<'_>,
+) -> Result<Report, Refusal>
     ensures ok { IfOk result (λ report. IsRunReport sizes texts.now text.now report) }
-    ensures err { IfErr result (λ refusal. IsRunReport sizes texts.now text.now (Report.Refused refusal)) }
+    ensures err { IfErr result (λ refusal.
+        IsRunReport sizes texts.now text.now (Report.Refused refusal)) }
 {
     let verified = verified(alloc, text, sizes)?;
     let input = input_of(alloc, texts)?;

@@ -43,23 +43,44 @@ fn text_option<'a>(alloc: Global, name: &'a str, help: &'a str) -> Arg<'a> {
         .allow_hyphen_values(true)
 }
 
-fn with_size_options(command: clap::Command<'_>, alloc: Global) -> Result<clap::Command<'_>, AllocError> {
+fn with_size_options(
+    command: clap::Command<'_>,
+    alloc: Global,
+) -> Result<clap::Command<'_>, AllocError> {
     command
-        .arg(size_option(alloc, "key", "Declared size of the key, 0 to 65535 [default: 64]"))?
-        .arg(size_option(alloc, "old", "Declared size of the old value, 0 to 65535 [default: 256]"))?
-        .arg(size_option(alloc, "arg", "Declared size of the argument, 0 to 65535 [default: 256]"))?
-        .arg(size_option(alloc, "result", "Declared size of the result, 0 to 65535 [default: 256]"))
+        .arg(size_option(
+            alloc,
+            "key",
+            "Declared size of the key, 0 to 65535 [default: 64]",
+        ))?
+        .arg(size_option(
+            alloc,
+            "old",
+            "Declared size of the old value, 0 to 65535 [default: 256]",
+        ))?
+        .arg(size_option(
+            alloc,
+            "arg",
+            "Declared size of the argument, 0 to 65535 [default: 256]",
+        ))?
+        .arg(size_option(
+            alloc,
+            "result",
+            "Declared size of the result, 0 to 65535 [default: 256]",
+        ))
 }
 
 fn check_command<'a>(alloc: Global) -> Result<clap::Command<'a>, AllocError> {
-    let command = clap::Command::new(alloc, "check")
-        .about("Verifies the program that standard input spells in hex");
+    let command = clap::Command::new(alloc, "check").about(
+        "Verifies the program that standard input spells in hex",
+    );
     with_size_options(command, alloc)
 }
 
 fn run_command<'a>(alloc: Global) -> Result<clap::Command<'a>, AllocError> {
-    let command = clap::Command::new(alloc, "run")
-        .about("Verifies the program that standard input spells in hex, and runs it once");
+    let command = clap::Command::new(alloc, "run").about(
+        "Verifies the program that standard input spells in hex, and runs it once",
+    );
     with_size_options(command, alloc)?
         .arg(text_option(alloc, "with-key", "The key, in hex [default: empty]"))?
         .arg(text_option(alloc, "with-old", "The old value, in hex [default: absent]"))?

@@ -3,7 +3,6 @@ use Rattle.std.specs.Prelude.{IfSome}
 use Rattle.map_server.specs.Commands.{IsReport}
 use Rattle.map_server.specs.declared.words.Command.{Command}
 use Rattle.map_server.specs.declared.words.Command.TheVariants.{Check}
-use Rattle.map_server.specs.declared.report.Report.{Report}
 use Rattle.map_server.specs.declared.report.Report.TheVariants.{Refused}
 use Rattle.map_server.specs.declared.refusal.Refusal.TheVariants.{NoMemory}
 use Rattle.map_server.proofs.bpfmap.bpfmap_on.Goals as goal
@@ -19,9 +18,12 @@ memory_refused None = tt
 memory_refused (Some bytes) = tt
 
 pub returns-in-Err-clause-refused : goal.returns-in-Err-clause-refused
-returns-in-Err-clause-refused g c is_one = (check, record {
-  report = Refused NoMemory;
-  right = memory_refused (g.R.Source.left c.args.reader.now);
-  printed = c.tell_words.ensures.refused is_one;
-  status_is = is_one;
-})
+returns-in-Err-clause-refused g c is_one = (
+  check,
+  record {
+    report = Refused NoMemory;
+    right = memory_refused (g.R.Source.left c.args.reader.now);
+    printed = c.tell_words.ensures.refused is_one;
+    status_is = is_one;
+  },
+)

@@ -81,7 +81,14 @@ fn help_and_version_are_no_faults(rt: HostRuntime) -> Result<(), Fail> {
 
 #[test]
 fn failed_reads_end_with_status_3(rt: HostRuntime) -> Result<(), Fail> {
-    for (good, errors_room) in [(0, ROOM), (1, ROOM), (20, ROOM), (47, ROOM), (0, 0), (20, 4)] {
+    for (good, errors_room) in [
+        (0, ROOM),
+        (1, ROOM),
+        (20, ROOM),
+        (47, ROOM),
+        (0, 0),
+        (20, 4),
+    ] {
         let input = pieces(&NOTHING[..good], 5, true);
         let found = call(rt.alloc(), &["bpfmap", "run"], input, ROOM, errors_room);
         assert!(rt; found.status == 3, "after {good}");
@@ -99,14 +106,32 @@ fn failed_writes_end_with_status_3(rt: HostRuntime) -> Result<(), Fail> {
             let input = pieces(NOTHING, 5, false);
             let found = call(rt.alloc(), &words, input, room, errors_room);
             assert!(rt; found.status == 3, "{words:?} with room for {room}");
-            assert!(rt; found.output.len() == room, "{words:?} with room for {room}");
+            assert!(rt;
+                found.output.len() == room,
+                "{words:?} with room for {room}"
+            );
             let told = &b"failed write\n"[..errors_room.min(13)];
-            assert!(rt; found.errors.as_slice() == told, "{words:?} with room for {room}");
+            assert!(rt;
+                found.errors.as_slice() == told,
+                "{words:?} with room for {room}"
+            );
         }
     }
-    let all = call(rt.alloc(), &["bpfmap", "run"], pieces(NOTHING, 5, false), 8, 0);
+    let all = call(
+        rt.alloc(),
+        &["bpfmap", "run"],
+        pieces(NOTHING, 5, false),
+        8,
+        0,
+    );
     assert!(rt; all.status == 0 && all.output.as_slice() == b"nothing\n".as_slice());
-    let words = call(rt.alloc(), &["bpfmap", "walk"], pieces(NOTHING, 5, false), 8, 0);
+    let words = call(
+        rt.alloc(),
+        &["bpfmap", "walk"],
+        pieces(NOTHING, 5, false),
+        8,
+        0,
+    );
     assert!(rt; words.status == 2 && words.output.is_empty());
     Ok(())
 }
@@ -115,7 +140,13 @@ fn failed_writes_end_with_status_3(rt: HostRuntime) -> Result<(), Fail> {
 fn run_with(alloc: Global, option: &str, bytes: usize) -> Result<Outcome, AllocError> {
     let text = "61".repeat(alloc, bytes)?;
     let words = vec![in alloc; "bpfmap", "run", option, text.as_str()]?;
-    Ok(call(alloc, words.as_slice(), pieces(NOTHING, 64, false), ROOM, ROOM))
+    Ok(call(
+        alloc,
+        words.as_slice(),
+        pieces(NOTHING, 64, false),
+        ROOM,
+        ROOM,
+    ))
 }
 
 #[test]
@@ -130,7 +161,10 @@ fn long_values_are_refused(rt: HostRuntime) -> Result<(), Fail> {
     ] {
         let found = run_with(rt.alloc(), option, bytes)?;
         assert!(rt; found.status == status, "{option} of {bytes}");
-        assert!(rt; found.output.as_slice() == printed.as_bytes(), "{option} of {bytes}");
+        assert!(rt;
+            found.output.as_slice() == printed.as_bytes(),
+            "{option} of {bytes}"
+        );
     }
     Ok(())
 }
