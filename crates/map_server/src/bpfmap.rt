@@ -24,8 +24,6 @@ const FAULT_OF_WORDS: u8 = 2;
 
 const FAILED_DEVICE: u8 = 3;
 
-const NO_MEMORY: Report = Report::Refused(Refusal::NoMemory);
-
 /// What comes of a command on all that the reader has left.
 fn read_report<R: Source>(
     alloc: Global,
@@ -33,7 +31,8 @@ fn read_report<R: Source>(
     reader: &mut R,
 ) -> Result<Report, Failed>
     requires { R.failures reader.old < 2 ^ 64 - 1 }
-    ensures report { IfOk result (λ report. IfSome (R.left reader.old) (λ text. IsReport command.now text report)) }
+    ensures report { IfOk result (λ report. IfSome (R.left reader.old)
+        (λ text. IsReport command.now text report)) }
     ensures ok { OnOk result (R.failures reader.new ≡ R.failures reader.old) }
     ensures err { OnErr result (R.failures reader.new ≡ R.failures reader.old + 1) }
 {
@@ -73,6 +72,22 @@ fn print<W: Sink, E: Sink>(text: &[u8], status: u8, writer: &mut W, errors: &mut
     }
 }
 
+/// Prints that a request for memory was refused.
+fn refuse_memory<W: Sink, E: Sink>(writer: &mut W, errors: &mut E) -> u8
+    requires writes { W.failures writer.old < 2 ^ 64 - 1 }
+    requires tells { E.failures errors.old < 2 ^ 64 - 1 }
+    ensures status { (result ≢ 3) → result ≡ 1 }
+    ensures printed { (result ≢ 3) → Appends (W.held writer.old) (W.held writer.new)
+        (text_of (Report.Refused Refusal.NoMemory)) }
+    ensures sound { (result ≢ 3) → W.failures writer.new ≡ W.failures writer.old }
+    ensures failed { result ≡ 3 → (W.failures writer.new ≡ W.failures writer.old + 1)
+        × Tells (E.failures errors.old) (E.failures errors.new)
+        (E.held errors.old) (E.held errors.new) (codes "failed write\n") }
+{
+    let report = Report::Refused(Refusal::NoMemory);
+    print(report.line().as_slice(), report.status(), writer, errors)
+}
+
 /// Prints the text that clap has for the user: help and version on standard output, a fault on standard error. Where
 /// there is no memory for the text, that is printed as a refusal.
 fn tell_words<W: Sink, E: Sink>(
@@ -84,8 +99,8 @@ fn tell_words<W: Sink, E: Sink>(
     requires writes { W.failures writer.old < 2 ^ 64 - 1 }
     requires tells { E.failures errors.old < 2 ^ 64 - 1 }
     ensures status { result ≤ 3 }
-    ensures refused { result ≡ 1
-        → Appends (W.held writer.old) (W.held writer.new) (text_of (Report.Refused Refusal.NoMemory)) }
+    ensures refused { result ≡ 1 → Appends (W.held writer.old) (W.held writer.new)
+        (text_of (Report.Refused Refusal.NoMemory)) }
     ensures words { result ≡ 2 → W.held writer.new ≡ W.held writer.old }
     ensures sound { (result ≢ 3) → W.failures writer.new ≡ W.failures writer.old }
     ensures failed { result ≡ 3 → (W.failures writer.new ≡ W.failures writer.old + 1)
@@ -93,20 +108,10 @@ fn tell_words<W: Sink, E: Sink>(
         (E.held errors.old) (E.held errors.new) (codes "failed write\n") }
 {
     if error.kind() == ErrorKind::OutOfMemory {
-        return print(
-            NO_MEMORY.line().as_slice(),
-            NO_MEMORY.status(),
-            writer,
-            errors,
-        );
+        return refuse_memory(writer, errors);
     }
     match error.to_string(alloc) {
-        Err(_) => print(
-            NO_MEMORY.line().as_slice(),
-            NO_MEMORY.status(),
-            writer,
-            errors,
-        ),
+        Err(_) => refuse_memory(writer, errors),
         Ok(text) if error.use_stderr() => {
             let _ = write_all(errors, text.as_bytes());
             FAULT_OF_WORDS
@@ -124,16 +129,14 @@ pub fn tell_unread_words<W: Sink, E: Sink>(error: &io::Error, writer: &mut W, er
         → (result ≡ 1) × Appends (W.held writer.old) (W.held writer.new)
         (text_of (Report.Refused Refusal.NoMemory)) }
     ensures words { (error_kind error.now ≢ OutOfMemory) → (result ≡ 2)
-        × Tells (E.failures errors.old) (E.failures errors.new) (E.held errors.old) (E.held errors.new)
-        (codes "error: the command line is not UTF-8\n") }
+        × Tells (E.failures errors.old) (E.failures errors.new)
+        (E.held errors.old) (E.held errors.new) (codes "error: the command line is not UTF-8\n") }
+    ensures failed { result ≡ 3 → (W.failures writer.new ≡ W.failures writer.old + 1)
+        × Tells (E.failures errors.old) (E.failures errors.new)
+        (E.held errors.old) (E.held errors.new) (codes "failed write\n") }
 {
     if error.kind() == io::ErrorKind::OutOfMemory {
-        return print(
-            NO_MEMORY.line().as_slice(),
-            NO_MEMORY.status(),
-            writer,
-            errors,
-        );
+        return refuse_memory(writer, errors);
     }
     let _ = write_all(errors, b"error: the command line is not UTF-8\n");
     FAULT_OF_WORDS

@@ -61,7 +61,8 @@ fn run_once(
     texts: &RunTexts<'_>,
 ) -> Result<Report, Refusal>
     ensures ok { IfOk result (λ report. IsRunReport sizes texts.now text.now report) }
-    ensures err { IfErr result (λ refusal. IsRunReport sizes texts.now text.now (Report.Refused refusal)) }
+    ensures err { IfErr result (λ refusal.
+        IsRunReport sizes texts.now text.now (Report.Refused refusal)) }
 {
     let verified = verified(alloc, text, sizes)?;
     let input = input_of(alloc, texts)?;

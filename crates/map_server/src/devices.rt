@@ -111,8 +111,10 @@ pub fn read_all<R: Source>(alloc: Global, reader: &mut R) -> Result<Vec<u8>, Rea
     ensures value { IfOk result (λ v. IsAll (R.left reader.old) v.items) }
     ensures end { OnOk result (R.told_end reader.new ≡ true) }
     ensures ok { OnOk result (R.failures reader.new ≡ R.failures reader.old) }
-    ensures failed { result ≡ Err ReadFault.Failed → R.failures reader.new ≡ R.failures reader.old + 1 }
-    ensures memory { result ≡ Err ReadFault.NoMemory → R.failures reader.new ≡ R.failures reader.old }
+    ensures failed { result ≡ Err ReadFault.Failed
+        → R.failures reader.new ≡ R.failures reader.old + 1 }
+    ensures memory { result ≡ Err ReadFault.NoMemory
+        → R.failures reader.new ≡ R.failures reader.old }
 {
     let mut bytes = Vec::new(alloc);
     let mut piece = [0; PIECE_BYTES];

@@ -45,7 +45,8 @@ fn digit_value(c: u8) -> Option<u8>
 
 fn pair_value(high: u8, low: u8) -> Option<u8>
     ensures digits { IsSome result ↔ (IsSome (digit_of high) × IsSome (digit_of low)) }
-    ensures value { IfSome result (λ b. b ≡ 16 * unwrap_or (digit_of high) 0 + unwrap_or (digit_of low) 0) }
+    ensures value { IfSome result (λ b.
+        b ≡ 16 * unwrap_or (digit_of high) 0 + unwrap_or (digit_of low) 0) }
 {
     Some(16 * digit_value(high)? + digit_value(low)?)
 }

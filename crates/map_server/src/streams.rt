@@ -9,7 +9,8 @@ use std::io::{self, ErrorKind, Read, Write};
 /// One read; where a signal interrupts it, one more.
 fn read_again<R: Read>(reader: &mut R, buffer: &mut [u8]) -> io::Result<usize>
     ensures within { ReadsAtMost result buffer.new }
-    ensures bytes { ReadConsumes (R.remaining reader.old) (R.remaining reader.new) result buffer.new }
+    ensures bytes { ReadConsumes (R.remaining reader.old) (R.remaining reader.new)
+        result buffer.new }
 {
     for _ in 0..u64::MAX {
         match reader.read(buffer) {

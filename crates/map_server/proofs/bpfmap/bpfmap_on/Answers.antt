@@ -3,7 +3,6 @@ use Rattle.std.specs.Prelude.{IfSome}
 use Rattle.map_server.specs.Commands.{IsReport}
 use Rattle.map_server.specs.declared.words.Command.{Command}
 use Rattle.map_server.specs.declared.words.Command.TheVariants.{Check}
-use Rattle.map_server.specs.declared.report.Report.{Report}
 use Rattle.map_server.specs.declared.report.Report.TheVariants.{Refused}
 use Rattle.map_server.specs.declared.refusal.Refusal.TheVariants.{NoMemory}
 use Rattle.map_server.proofs.bpfmap.bpfmap_on.Goals as goal

@@ -1,4 +1,4 @@
-use Rattle.std.proofs.Common.{◌≡◌, ◌∷◌, [], ap, sym, ◌∙◌, length, option_to_list, append-nil, arith}
+use Rattle.std.proofs.Common.{◌≡◌, ap, sym, ◌∙◌, length, option_to_list, append-nil, arith}
 use Rattle.std.proofs.lemmas.Grind.{common_steps}
 use Rattle.map_server.proofs.HexLemmas.{front_takes_piece, read_once}
 use Rattle.map_server.proofs.hex.hex_bytes.Goals as goal

@@ -1,5 +1,4 @@
 -- an interrupted write has taken nothing
-use Rattle.std.proofs.Common.{◌≡◌}
 use Rattle.std.specs.Io.KnownBytes.{Keeps}
 use Rattle.map_server.proofs.streams.write_again.Given as goal
 
