@@ -1,7 +1,6 @@
 -- A table that is kept as sorted entries: what a read or an edit at a key's place is for the table.
-use Rattle.std.proofs.Common.{◌≡◌, ℕ, ◌<◌, ◌≤◌, Bool, true, false, T, cond, not, List, [], length, get_or, set, Some, None, Result, Ok, Err, OnErr, Ordering, Less, Equal, Greater, is_eq, refl, sym, ap, subst, ◌∙◌, HoldsAt}
+use Rattle.std.proofs.Common.{◌≡◌, ℕ, ◌<◌, ◌≤◌, Bool, true, false, T, cond, not, List, [], length, get_or, set, Some, None, Result, Ok, Err, OnErr, Ordering, Less, Equal, Greater, is_eq, refl, sym, ap, subst, ◌∙◌}
 use Rattle.std.specs.List.{insert, remove}
-use Rattle.std.specs.List.Sorted.{IsPartitionPoint}
 use Rattle.std.specs.Ordering.{eq_by_cmp}
 use Rattle.std.specs.Cmp.{IsTotalOrder, eq_by_cmp_equiv, alike_right}
 use Rattle.std.specs.Cmp.Lexicographic.{nat_list_cmp_total}
@@ -9,6 +8,7 @@ use Rattle.std.specs.FinMap as map
 use Rattle.std.specs.FinMap.{IsAntisymmetric, nat_cmp-IsAntisymmetric, slice_cmp-IsAntisymmetric, find, put, is_sorted, from_sorted, same_map, same_entries_map, entries-insert, entries-from_sorted, get-remove, get-from_sorted, get_tied, empty_of_len, len-entries}
 use Rattle.std.specs.FinMap.Entries.{where_key, is_sorted-put, is_sorted-where_key, find-where_key}
 use Rattle.map_server.specs.Table.{Table, by_bytes}
+use Rattle.map_server.specs.Places.{IsAt, IsGapFor}
 use Rattle.map_server.proofs.SortedEntries.{find_found, put_found, without_found, find_gap, put_gap}
 
 -- keys are ordered, and only equal keys tie
@@ -68,7 +68,7 @@ module _ (es : List Entry) (h : T (is_sorted by_bytes es)) (k : List ℕ) where
       found : (q : List ℕ) → map.get (table_of new) q ≡ cond (other q) (find by_bytes q es) None
       found q = get-from_sorted by_bytes new q (sorted_without new e) ∙ ap (find by_bytes q) (sym e) ∙ find-where_key by_bytes other q (λ x t. ap (λ r. not (is_eq r)) (sym (alike_right total q x k t))) es
 
-  module _ (i : ℕ) (lt : i < length es) (at : HoldsAt (λ x. by_bytes x.0 k ≡ Equal) es i) where
+  module _ (i : ℕ) (lt : i < length es) (at : IsAt es k i) where
     -- at the key's place: the value is read, written over, and taken out
     pub get_found : (e : Entry) → e ≡ get_or es i e → map.get (table_of es) k ≡ Some e.1
     get_found e is = get-from_sorted by_bytes es k h ∙ find_found total es i k e h lt at ∙ ap (λ (x : Entry). Some x.1) (sym is)
@@ -88,7 +88,7 @@ module _ (es : List Entry) (h : T (is_sorted by_bytes es)) (k : List ℕ) where
     pub remove_found : table_of (remove es i) ≡ map.remove (table_of es) k
     remove_found = removed _ (without_found total es i k h lt at)
 
-  module _ (i : ℕ) (le : i ≤ length es) (gap : IsPartitionPoint (λ x. by_bytes x.0 k ≡ Less) (λ x. by_bytes x.0 k ≡ Greater) es i) where
+  module _ (i : ℕ) (le : i ≤ length es) (gap : IsGapFor es k i) where
     -- at the gap for the key: there is no value, and an entry goes in
     pub get_gap : map.get (table_of es) k ≡ None
     get_gap = get-from_sorted by_bytes es k h ∙ find_gap total es i k le gap

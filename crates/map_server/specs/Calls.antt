@@ -1,4 +1,5 @@
--- What a call does to a table and what it replies. Java SE 17, ConcurrentMap; a program is its remapping function.
+-- What a call does to a table and what it replies. Java SE 17: Map.get, Map.put and ConcurrentMap.compute, whose remapping
+-- function is a program here. That a program runs on fitting inputs alone is our profile.
 use Rattle.std.specs.Prelude.{◌≡◌, ℕ, List, Option, Some, None, MatchResult, IsSome}
 use Rattle.std.specs.FinMap as map
 use Rattle.bpf_model.specs.declared.input.Input.{Input}
@@ -49,7 +50,7 @@ input_of table key arg = record { key = key; old = map.get table key; arg = arg 
 abbrev pub Enters : Table → List ℕ → Answer → Table → Reply → Type 0
 Enters table key answer new reply = (new ≡ with_value table key (value_of answer)) × (reply ≡ Value (value_of answer))
 
--- a program's answer is entered; where its input doesn't fit, the reply is the first window that is too small, and the table stays
+-- a program's answer is entered where its input fits; else the reply is the first window too small, and the table stays
 abbrev pub Remaps : Table → List ℕ → Checked → Option (List ℕ) → Table → Reply → Type 0
 Remaps table key checked arg new reply =
     MatchResult (first_unfit (input_of table key arg) checked.sizes)

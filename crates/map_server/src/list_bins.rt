@@ -1,9 +1,9 @@
 //! Entries in one list, sorted by key.
-ghost use Rattle.std.specs.Prelude.{◌≡◌, T, length, IfOk, IfErr, HoldsAt};
-ghost use Rattle.std.specs.List.Sorted.{IsSearchInRange, IsPartitionPoint};
+ghost use Rattle.std.specs.Prelude.{T, length, IfOk, IfErr};
+ghost use Rattle.std.specs.List.Sorted.{IsSearchInRange};
 ghost use Rattle.std.specs.FinMap.{is_sorted};
-ghost use Rattle.std.specs.declared.cmp.Ordering.TheVariants.{Less, Equal, Greater};
 ghost use Rattle.map_server.specs.Table.{by_bytes};
+ghost use Rattle.map_server.specs.Places.{IsAt, IsGapFor};
 
 use crate::bins::Bins;
 use bpf_model::{Key, NoMemory, Value};
@@ -34,8 +34,8 @@ impl Model for ListBins {
 fn place_of(entries: &[(Key, Value)], key: &Key) -> Result<usize, usize>
     requires { T (is_sorted by_bytes entries.now) }
     ensures bound { IsSearchInRange result (length entries.now) }
-    ensures found { IfOk result (HoldsAt (λ entry. by_bytes entry.0 key.now ≡ Equal) entries.now) }
-    ensures absent { IfErr result (IsPartitionPoint (λ entry. by_bytes entry.0 key.now ≡ Less) (λ entry. by_bytes entry.0 key.now ≡ Greater) entries.now) }
+    ensures found { IfOk result (IsAt entries.now key.now) }
+    ensures absent { IfErr result (IsGapFor entries.now key.now) }
 {
     entries.binary_search_by(|entry| entry.0.cmp(key))
 }
