@@ -1,5 +1,7 @@
 pub mod Words
 pub mod Arithmetic
+pub mod Conditions
+pub mod Accesses
 pub mod Memory
 pub mod Program
 pub mod Fits

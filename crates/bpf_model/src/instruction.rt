@@ -1,8 +1,11 @@
 //! Instructions.
 ghost use Rattle.std.specs.Prelude.{◌≡◌, ◌≤◌, ◌↔◌, IsSome, IfSome};
-ghost use Rattle.bpf_model.specs.Arithmetic.{alu_value, mov_value};
-ghost use Rattle.bpf_model.specs.Memory.{byte_count};
+ghost use Rattle.bpf_model.specs.Program.{units_of};
+ghost use Rattle.bpf_model.specs.Words.{sign_extended};
 
+use crate::accesses::{AccessSize, LoadKind};
+use crate::conditions::JumpOp;
+use crate::operations::{AluOp, ByteOrder, SignExtension, SwapWidth, Width};
 use std::marker::Model;
 
 /// A register, r0 to r10.
@@ -45,60 +48,21 @@ impl Reg {
     }
 }
 
-/// The width at which an instruction computes.
+/// The second operand: a register, or an immediate whose sign is extended to a word.
 #[derive(Clone, Copy, Debug, PartialEq, Eq)]
-pub enum Width {
-    /// All 64 bits of a register.
-    W64,
+pub enum Operand {
+    Register(Reg),
+    Immediate(i32),
 }
 
-/// An operation on two words.
-#[derive(Clone, Copy, Debug, PartialEq, Eq)]
-pub enum AluOp {
-    Add,
+/// The word that an immediate stands for.
+pub fn immediate_word(imm: i32) -> u64
+    ensures { result ≡ sign_extended imm }
+{
+    i64::from(imm).cast_unsigned()
 }
 
-/// How many bytes a load or a store moves.
-#[derive(Clone, Copy, Debug, PartialEq, Eq)]
-pub enum AccessSize {
-    /// 8 bytes.
-    DoubleWord,
-}
-
-impl AccessSize {
-    /// The number of bytes.
-    pub fn bytes(self) -> usize
-        ensures { result ≡ byte_count self }
-    {
-        match self {
-            AccessSize::DoubleWord => 8,
-        }
-    }
-}
-
-impl AluOp {
-    /// What the operation gives on two words, as RFC 9669 (4.1) says.
-    pub fn apply(self, width: Width, a: u64, b: u64) -> u64
-        ensures { result ≡ alu_value self width a b }
-    {
-        match (self, width) {
-            (AluOp::Add, Width::W64) => a.wrapping_add(b),
-        }
-    }
-}
-
-impl Width {
-    /// The word that an immediate stands for.
-    pub fn immediate(self, imm: i32) -> u64
-        ensures { result ≡ mov_value self imm }
-    {
-        match self {
-            Width::W64 => i64::from(imm).cast_unsigned(),
-        }
-    }
-}
-
-/// An instruction.
+/// An instruction. Distances of jumps count units, from the next instruction on.
 #[derive(Clone, Copy, Debug, PartialEq, Eq)]
 pub enum Insn {
     /// `dst` becomes what the operation gives on `dst` and `src`.
@@ -106,17 +70,39 @@ pub enum Insn {
         op: AluOp,
         width: Width,
         dst: Reg,
-        src: Reg,
+        src: Operand,
     },
-    /// `dst` becomes the immediate.
+    /// `dst` becomes 0 less `dst`.
+    Negate {
+        width: Width,
+        dst: Reg,
+    },
+    /// `dst` becomes `src`, or its low part.
     Mov {
         width: Width,
         dst: Reg,
-        imm: i32,
+        src: Operand,
+    },
+    /// `dst` becomes the low bits of `src`, with their sign extended.
+    SignExtend {
+        extension: SignExtension,
+        dst: Reg,
+        src: Reg,
+    },
+    /// `dst` becomes its low bits, in another byte order.
+    Reorder {
+        order: ByteOrder,
+        size: SwapWidth,
+        dst: Reg,
+    },
+    /// `dst` becomes the value. The one instruction of two units.
+    Wide {
+        dst: Reg,
+        value: u64,
     },
     /// `dst` becomes the bytes at `src + offset`.
     Load {
-        size: AccessSize,
+        kind: LoadKind,
         dst: Reg,
         src: Reg,
         offset: i16,
@@ -125,9 +111,38 @@ pub enum Insn {
     Store {
         size: AccessSize,
         dst: Reg,
-        src: Reg,
+        src: Operand,
         offset: i16,
+    },
+    /// The run goes on at this distance.
+    Jump {
+        distance: i16,
+    },
+    /// The same, farther.
+    JumpLong {
+        distance: i32,
+    },
+    /// The run goes on at this distance where the test holds of `dst` and `src`, else at the next instruction.
+    Branch {
+        test: JumpOp,
+        width: Width,
+        dst: Reg,
+        src: Operand,
+        distance: i16,
     },
     /// The run ends.
     Exit,
+}
+
+impl Insn {
+    /// How many units of 64 bits the instruction takes: two where it is wide, else one.
+    pub fn units(self) -> usize
+        ensures value { result ≡ units_of self }
+        ensures few { result ≤ 2 }
+    {
+        match self {
+            Insn::Wide { .. } => 2,
+            _ => 1,
+        }
+    }
 }

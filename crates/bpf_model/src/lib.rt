@@ -7,17 +7,24 @@
 //! The one promise to the layers above: `fits` is exact, and lengths are bounded by type. No call takes memory.
 #![tactic(auto)]
 
+pub mod accesses;
+pub mod arithmetic;
 pub mod bytes;
+pub mod conditions;
 pub mod input;
 pub mod instruction;
 pub mod limits;
 pub mod memory;
+pub mod operations;
 pub mod program;
 pub mod region;
 
+pub use accesses::{AccessSize, LoadKind};
 pub use bytes::{Key, TooLong, Value};
+pub use conditions::{Condition, JumpOp};
 pub use input::{Answer, Input, Sizes, Window, fits};
-pub use instruction::{AccessSize, AluOp, Insn, Reg, Width};
+pub use instruction::{Insn, Operand, Reg, immediate_word};
 pub use memory::NoMemory;
+pub use operations::{AluOp, ByteOrder, SignExtension, SwapWidth, Width};
 pub use program::Program;
 pub use region::Region;

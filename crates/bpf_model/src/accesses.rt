@@ -1,0 +1,72 @@
+//! What loads and stores move.
+ghost use Rattle.std.specs.Prelude.{◌≡◌, ◌≤◌};
+ghost use Rattle.bpf_model.specs.Accesses.{byte_count, loaded_size, loaded_value};
+
+use crate::operations::SignExtension;
+
+/// How many bytes a load or a store moves.
+#[derive(Clone, Copy, Debug, PartialEq, Eq)]
+pub enum AccessSize {
+    /// 1 byte.
+    Byte,
+    /// 2 bytes.
+    HalfWord,
+    /// 4 bytes.
+    Word,
+    /// 8 bytes.
+    DoubleWord,
+}
+
+impl AccessSize {
+    /// The number of bytes.
+    pub fn bytes(self) -> usize
+        ensures value { result ≡ byte_count self }
+        ensures some { 1 ≤ result }
+        ensures few { result ≤ 8 }
+    {
+        match self {
+            AccessSize::Byte => 1,
+            AccessSize::HalfWord => 2,
+            AccessSize::Word => 4,
+            AccessSize::DoubleWord => 8,
+        }
+    }
+}
+
+/// What a load reads, and how it is made a word: with zeros, or with the sign of the bytes read.
+#[derive(Clone, Copy, Debug, PartialEq, Eq)]
+pub enum LoadKind {
+    Byte,
+    HalfWord,
+    Word,
+    DoubleWord,
+    SignedByte,
+    SignedHalfWord,
+    SignedWord,
+}
+
+impl LoadKind {
+    /// How much is read.
+    pub fn size(self) -> AccessSize
+        ensures { result ≡ loaded_size self }
+    {
+        match self {
+            LoadKind::Byte | LoadKind::SignedByte => AccessSize::Byte,
+            LoadKind::HalfWord | LoadKind::SignedHalfWord => AccessSize::HalfWord,
+            LoadKind::Word | LoadKind::SignedWord => AccessSize::Word,
+            LoadKind::DoubleWord => AccessSize::DoubleWord,
+        }
+    }
+
+    /// The word that the bytes give, read as a little-endian number.
+    pub fn extend(self, n: u64) -> u64
+        ensures { result ≡ loaded_value self n }
+    {
+        match self {
+            LoadKind::Byte | LoadKind::HalfWord | LoadKind::Word | LoadKind::DoubleWord => n,
+            LoadKind::SignedByte => SignExtension::From8To64.apply(n),
+            LoadKind::SignedHalfWord => SignExtension::From16To64.apply(n),
+            LoadKind::SignedWord => SignExtension::From32To64.apply(n),
+        }
+    }
+}

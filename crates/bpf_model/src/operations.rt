@@ -1,0 +1,115 @@
+//! Operations and their widths.
+ghost use Rattle.std.specs.Prelude.{◌≡◌, ◌≤◌};
+ghost use Rattle.bpf_model.specs.Arithmetic.{bits_of, swap_bits, extension_width, extension_bits};
+
+/// The width at which an instruction computes.
+#[derive(Clone, Copy, Debug, PartialEq, Eq)]
+pub enum Width {
+    /// The low 32 bits; the upper 32 of the result are zero.
+    W32,
+    /// All 64 bits of a register.
+    W64,
+}
+
+impl Width {
+    /// The number of bits.
+    pub fn bits(self) -> u32
+        ensures { result ≡ bits_of self }
+    {
+        match self {
+            Width::W32 => 32,
+            Width::W64 => 64,
+        }
+    }
+}
+
+/// An operation on two words.
+#[derive(Clone, Copy, Debug, PartialEq, Eq)]
+pub enum AluOp {
+    Add,
+    Sub,
+    Mul,
+    /// The unsigned quotient; 0 where the divisor is 0.
+    Div,
+    /// The signed quotient, truncated toward zero; 0 where the divisor is 0.
+    SDiv,
+    Or,
+    And,
+    /// To the left, by the amount modulo the width's bits.
+    Lsh,
+    /// To the right, zeros coming in.
+    Rsh,
+    /// The unsigned remainder; the dividend where the divisor is 0.
+    Mod,
+    /// The signed remainder, with the dividend's sign; the dividend where the divisor is 0.
+    SMod,
+    Xor,
+    /// To the right, the sign coming in.
+    Arsh,
+}
+
+/// Which low bits of a word have their sign extended, and to which width.
+#[derive(Clone, Copy, Debug, PartialEq, Eq)]
+pub enum SignExtension {
+    From8To32,
+    From16To32,
+    From8To64,
+    From16To64,
+    From32To64,
+}
+
+impl SignExtension {
+    /// The width of the result.
+    pub fn width(self) -> Width
+        ensures { result ≡ extension_width self }
+    {
+        match self {
+            SignExtension::From8To32 | SignExtension::From16To32 => Width::W32,
+            SignExtension::From8To64 | SignExtension::From16To64 | SignExtension::From32To64 => Width::W64,
+        }
+    }
+
+    /// How many low bits are read.
+    pub fn bits(self) -> u32
+        ensures value { result ≡ extension_bits self }
+        ensures most { result ≤ 32 }
+    {
+        match self {
+            SignExtension::From8To32 | SignExtension::From8To64 => 8,
+            SignExtension::From16To32 | SignExtension::From16To64 => 16,
+            SignExtension::From32To64 => 32,
+        }
+    }
+}
+
+/// What is done with the order of a word's low bytes. Words are little-endian.
+#[derive(Clone, Copy, Debug, PartialEq, Eq)]
+pub enum ByteOrder {
+    /// To little-endian: they stay.
+    Little,
+    /// To big-endian: they are reversed.
+    Big,
+    /// They are reversed.
+    Swap,
+}
+
+/// How many low bits of a word a change of byte order keeps; the others become zero.
+#[derive(Clone, Copy, Debug, PartialEq, Eq)]
+pub enum SwapWidth {
+    S16,
+    S32,
+    S64,
+}
+
+impl SwapWidth {
+    /// The number of bits.
+    pub fn bits(self) -> u32
+        ensures { result ≡ swap_bits self }
+    {
+        match self {
+            SwapWidth::S16 => 16,
+            SwapWidth::S32 => 32,
+            SwapWidth::S64 => 64,
+        }
+    }
+}
