@@ -10,7 +10,7 @@ use Rattle.bpf_model.specs.Meaning.{IsSafe, Means}
 use Rattle.bpf_model.specs.Spelling.{Spells}
 use Rattle.bpf_decode.specs.Faults as decode
 use Rattle.bpf_decode.specs.declared.fault.DecodeFault.TheVariants as decode_faults
-use Rattle.verifier.specs.FlowShape as flow
+use Rattle.flow_shape.specs.FlowShape as flow
 use Rattle.verifier.specs.Faults.{ExceedLimits}
 use Rattle.verifier.specs.declared.fault.VerifyFault.TheVariants.{SizesTooLarge}
 use Rattle.map_server.specs.Hex.{SpellsBytes, IsFault}

@@ -1,7 +1,7 @@
 -- The number and the place of each refusal.
 use Rattle.std.specs.Prelude.{ℕ}
 use Rattle.bpf_decode.specs.Faults as decode
-use Rattle.verifier.specs.FlowShape as flow
+use Rattle.flow_shape.specs.FlowShape as flow
 use Rattle.verifier.specs.Faults as verify
 use Rattle.map_server.specs.declared.hex.HexFault.{HexFault}
 use Rattle.map_server.specs.declared.hex.HexFault.TheVariants as hex

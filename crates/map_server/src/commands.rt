@@ -11,8 +11,9 @@ use crate::words::{Command, RunTexts};
 use bpf_decode::decode;
 use bpf_machine::run;
 use bpf_model::{Input, Key, Sizes, Value, fits};
+use flow_shape::shape;
 use std::alloc::Global;
-use verifier::{Verified, shape, verify};
+use verifier::{Verified, verify};
 
 fn verified(alloc: Global, text: &[u8], sizes: Sizes) -> Result<Verified, Refusal>
     ensures ok { IfOk result (λ v. SpellsSafe text.now sizes v.program) }

@@ -5,8 +5,9 @@ ghost use Rattle.map_server.specs.Refusals.{number_of, place_of};
 use crate::hex::HexFault;
 use bpf_decode::DecodeFault;
 use bpf_model::{NoMemory, TooLong};
+use flow_shape::FlowFault;
 use thiserror::Error;
-use verifier::{FlowFault, VerifyFault};
+use verifier::VerifyFault;
 
 /// Why there is no answer. Each refusal has a number and a place, which are printed.
 #[derive(Clone, Copy, Debug, PartialEq, Eq, Error)]
@@ -20,13 +21,13 @@ pub enum Refusal {
     /// A text is no hex text: number 70, at the place of its first byte that begins neither blank space nor a pair.
     #[error("no hex text at place {place}")]
     NotHex { place: usize },
-    /// The bytes are no program: numbers 9 to 15, at the faulty unit.
+    /// The bytes are no program: numbers 9 to 17, at the faulty unit.
     #[error("{0}")]
     Decode(DecodeFault),
-    /// The program may go past its end: number 33, at the faulty unit.
+    /// A jump goes where none may, or the program may go past its end: numbers 30 to 33, at the faulty unit.
     #[error("{0}")]
     Flow(FlowFault),
-    /// The program was not found safe: numbers 40 to 47, at the faulty unit.
+    /// The program was not found safe: numbers 40 to 48, at the faulty unit.
     #[error("{0}")]
     Verify(VerifyFault),
 }

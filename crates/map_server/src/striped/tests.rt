@@ -2,9 +2,10 @@
 ghost use Rattle.std.specs.Prelude.{◌≤◌};
 
 use super::*;
-use bpf_model::{AccessSize, AluOp, Insn, Key, Program, Reg, Sizes, TooLong, Value, Width, Window};
+use bpf_model::{AccessSize, AluOp, Insn, Key, LoadKind, Operand, Program, Reg, Sizes, TooLong, Value, Width, Window};
+use flow_shape::shape;
 use std::test::Fail;
-use verifier::{Verified, shape, verify};
+use verifier::{Verified, verify};
 
 // Eight bytes, little-endian.
 const ONE: [u8; 8] = [1, 0, 0, 0, 0, 0, 0, 0];
@@ -75,7 +76,8 @@ fn mov(number: u8, imm: i32) -> Insn
 {
     let dst = reg(number);
     let width = Width::W64;
-    Insn::Mov { width, dst, imm }
+    let src = Operand::Immediate(imm);
+    Insn::Mov { width, dst, src }
 }
 
 fn load(dst: u8, src: u8) -> Insn
@@ -83,7 +85,7 @@ fn load(dst: u8, src: u8) -> Insn
     requires src { src ≤ 10 }
 {
     Insn::Load {
-        size: AccessSize::DoubleWord,
+        kind: LoadKind::DoubleWord,
         dst: reg(dst),
         src: reg(src),
         offset: 0,
@@ -96,12 +98,12 @@ fn sum() -> [Insn; 6] {
         op: AluOp::Add,
         width: Width::W64,
         dst: reg(0),
-        src: reg(9),
+        src: Operand::Register(reg(9)),
     };
     let store = Insn::Store {
         size: AccessSize::DoubleWord,
         dst: reg(4),
-        src: reg(0),
+        src: Operand::Register(reg(0)),
         offset: 0,
     };
     [load(0, 2), load(9, 3), add, store, mov(0, 8), Insn::Exit]
