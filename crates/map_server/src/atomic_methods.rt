@@ -20,8 +20,8 @@ pub enum Call<'a> {
         key: Key,
         value: Value,
     },
-    /// Runs the program on the key, its value and the argument. Bytes are entered and replied; nothing removes the
-    /// key.
+    /// Runs the program on the key, its value and the argument. An answer of bytes is entered and replied; an answer
+    /// of nothing removes the key.
     Compute {
         key: Key,
         program: &'a Verified,
