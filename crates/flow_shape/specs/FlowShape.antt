@@ -82,6 +82,10 @@ pub record Lands (program : List Insn) (unit : ℕ) (distance : ℤ) : Type 0 wh
   pub forward : unit < target
   pub starts : IsSome (instruction_at program target)
 
+-- the instruction at this unit lands, if it is a jump
+abbrev pub DoesLand : List Insn → ℕ → Type 0
+DoesLand program unit = (distance : ℤ) → JumpsBy program unit distance → Lands program unit distance
+
 -- each jump goes forward, to an instruction's start inside the program, and after no instruction does a run leave it
 pub record IsForward (program : List Insn) : Type 0 where
   pub lands : (unit : ℕ) (distance : ℤ) → JumpsBy program unit distance → (pos 0 ≤ℤ distance) × Lands program unit distance

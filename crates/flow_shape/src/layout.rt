@@ -1,8 +1,7 @@
 //! At which units of a program an instruction starts, and which fault of flow an instruction has there.
-ghost use Rattle.std.specs.Prelude.{◌≡◌, ◌×◌, ◌<◌, ◌↔◌, Some, OnOk, IfErr};
-ghost use Rattle.bpf_model.specs.Program.{IsProgram, unit_count, instruction_at};
-ghost use Rattle.flow_shape.specs.Jumps.{JumpsBy};
-ghost use Rattle.flow_shape.specs.FlowShape.{Lands, HasNoFaultAt, IsFirstFaultAt};
+ghost use Rattle.std.specs.Prelude.{◌≡◌, Some, OnOk, IfErr};
+ghost use Rattle.bpf_model.specs.Program.{IsProgram, instruction_at};
+ghost use Rattle.flow_shape.specs.FlowShape.{DoesLand, HasNoFaultAt, IsFirstFaultAt};
 
 use crate::fault::FlowFault;
 use crate::jumps::{distance, falls_through, units};
@@ -11,10 +10,11 @@ use bpf_model::limits::PROGRAM_UNITS;
 use std::marker::Model;
 
 /// A program, and at which of its units an instruction starts.
+#[derive(Drop)]
 pub(crate) struct Layout<'a> {
     instructions: &'a [Insn],
     starts: [bool; PROGRAM_UNITS],
-    units: usize,
+    total: usize,
 }
 
 impl<'a> Model for Layout<'a> {
@@ -26,7 +26,7 @@ impl<'a> Model for Layout<'a> {
 
     ghost view = { λ l. l.instructions.now };
 
-    ghost invariant = { λ l. IsLaidOut l.instructions.now l.starts l.units };
+    ghost invariant = { λ l. IsLaidOut l.instructions.now l.starts l.total };
 }
 
 impl<'a> Layout<'a> {
@@ -38,27 +38,30 @@ impl<'a> Layout<'a> {
         let mut total = 0;
         for insn in instructions {
             starts[total] = true;
-            total += units(*insn);
+            total += units(insn);
         }
         Layout {
             instructions,
             starts,
-            units: total,
+            total,
         }
     }
 
-    /// The first fault of the jump that starts at a unit.
-    fn check_jump(&self, unit: usize, distance: i32) -> Result<(), FlowFault>
-        requires jumps { JumpsBy self.now unit distance }
-        requires inside { unit < unit_count self.now }
-        ensures ok { OnOk result (Lands self.now unit distance) }
+    /// The first fault of a jump that starts at a unit; none of another instruction.
+    fn check_jump(&self, unit: usize, insn: &Insn) -> Result<(), FlowFault>
+        requires { instruction_at self.now unit ≡ Some insn.now }
+        ensures ok { OnOk result (DoesLand self.now unit) }
         ensures err { IfErr result (IsFirstFaultAt self.now unit) }
     {
+        let total = self.total;
+        let Some(distance) = distance(insn) else {
+            return Ok(());
+        };
         if distance < 0 {
             return Err(FlowFault::BackwardJump(unit));
         }
         let target = unit + 1 + distance.unsigned_abs() as usize;
-        if target >= self.units {
+        if target >= total {
             return Err(FlowFault::JumpOut(unit));
         }
         if !self.starts[target] {
@@ -68,15 +71,13 @@ impl<'a> Layout<'a> {
     }
 
     /// The first fault of the instruction that starts at a unit.
-    pub(crate) fn check(&self, unit: usize, insn: Insn) -> Result<(), FlowFault>
-        requires { instruction_at self.now unit ≡ Some insn }
+    pub(crate) fn check(&self, unit: usize, insn: &Insn) -> Result<(), FlowFault>
+        requires { instruction_at self.now unit ≡ Some insn.now }
         ensures ok { OnOk result (HasNoFaultAt self.now unit) }
         ensures err { IfErr result (IsFirstFaultAt self.now unit) }
     {
-        if let Some(distance) = distance(insn) {
-            self.check_jump(unit, distance)?;
-        }
-        if falls_through(insn) && unit + units(insn) == self.units {
+        self.check_jump(unit, insn)?;
+        if falls_through(insn) && unit + units(insn) == self.total {
             return Err(FlowFault::FallsOffEnd(unit));
         }
         Ok(())

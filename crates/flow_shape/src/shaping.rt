@@ -55,8 +55,8 @@ fn find_fault(program: &[Insn]) -> Result<(), FlowFault>
     let layout = Layout::new(program);
     let mut unit = 0;
     for insn in program {
-        layout.check(unit, *insn)?;
-        unit += units(*insn);
+        layout.check(unit, insn)?;
+        unit += units(insn);
     }
     Ok(())
 }
