@@ -1,17 +1,17 @@
 -- Which faults the instruction at a unit has, and which a program has up to a unit.
-use Rattle.std.proofs.Common.{◌≡◌, ◌≢◌, ℕ, suc, ◌+◌, ◌<◌, ◌≤◌, ◌⊎◌, Bool, true, false, List, length, take, Some, None, refl, sym, ap, subst, ◌∙◌, inl, inr, arith, Option, ℤ, pos, negsuc, ◌+ℤ◌, ◌<ℤ◌, ◌≤ℤ◌}
-use Rattle.std.specs.Prelude.{slice_get, IsSome, option_and_then}
+use Rattle.std.proofs.Common.{◌≡◌, ◌≢◌, ℕ, suc, ◌+◌, ◌<◌, ◌≤◌, true, List, length, take, Some, None, refl, sym, ap, subst, ◌∙◌, inl, inr, arith, ℤ, pos, negsuc, ◌<ℤ◌, ◌≤ℤ◌}
+use Rattle.std.specs.Prelude.{slice_get, IsSome}
 use Rattle.std.proofs.lemmas.Bool.{cases_order}
 use Rattle.std.proofs.lemmas.List.{take_all}
 use Rattle.bpf_model.specs.declared.instruction.Insn.{Insn}
-use Rattle.bpf_model.specs.Program.{IsProgram, units_of, unit_count, instruction_at}
+use Rattle.bpf_model.specs.Program.{units_of, unit_count, instruction_at}
 use Rattle.bpf_model.specs.Step.{unit_of}
-use Rattle.bpf_model.proofs.Options.{chain_some, value_there, is_there, some_is}
+use Rattle.bpf_model.proofs.Options.{chain_some, value_there, some_is}
 use Rattle.bpf_model.proofs.ProgramLemmas.{unit_count-next, none_inside, none_past}
 use Rattle.flow_shape.specs.declared.fault.FlowFault.{FlowFault}
 use Rattle.flow_shape.specs.declared.fault.FlowFault.TheVariants.{BackwardJump, JumpOut, JumpIntoWide, FallsOffEnd}
 use Rattle.flow_shape.specs.Jumps.{distance_of, falls_through, JumpsBy, target_of}
-use Rattle.flow_shape.specs.FlowShape.{JumpsBack, JumpsOut, JumpsIntoWide, Falls, HasFault, HasNoFaultAt, IsFirstFaultAt, IsFirstFault, IsWellShaped, Lands, DoesLand, faulty_unit, number_of}
+use Rattle.flow_shape.specs.FlowShape.{JumpsIntoWide, Falls, HasFault, HasNoFaultAt, IsFirstFaultAt, IsWellShaped, Lands, DoesLand, faulty_unit, number_of}
 
 -- a jump has one distance
 one_distance : (program : List Insn) (unit : ℕ) (d e : ℤ) → JumpsBy program unit d → JumpsBy program unit e → d ≡ e
@@ -28,9 +28,9 @@ starts_inside program unit there =
     elim (cases_order unit (unit_count program)) [
       | inl end ↦ absurd (let none = none_past program unit (omega (arith, end)) in let e = x.1 in cc)
       | inr apart ↦ elim apart [
-          | inl inside ↦ inside
-          | inr past ↦ absurd (let none = none_past program unit (omega (arith, past)) in let e = x.1 in cc)
-        ]
+        | inl inside ↦ inside
+        | inr past ↦ absurd (let none = none_past program unit (omega (arith, past)) in let e = x.1 in cc)
+      ]
     ]
 
 -- a jump that lands has none of the three faults
@@ -55,25 +55,6 @@ lands_at_start program unit d lands jumps into =
     let none : instruction_at program lands.target ≡ None = ap (instruction_at program) target ∙ into.half.1 in
     let e = there.1 in
     absurd cc
-
--- a jump at the unit of an instruction is that instruction
-jump_here : (program : List Insn) (unit : ℕ) (i : Insn) (d : ℤ) → instruction_at program unit ≡ Some i → JumpsBy program unit d → distance_of i ≡ Some d
-jump_here program unit i d at jumps =
-    let j = chain_some distance_of (instruction_at program unit) d jumps in
-    ap distance_of (some_is i j.0 (sym at ∙ j.1)) ∙ j.2
-
--- and it jumps
-pub jumps_here : (program : List Insn) (unit : ℕ) (i : Insn) (d : ℤ) → instruction_at program unit ≡ Some i → distance_of i ≡ Some d → JumpsBy program unit d
-jumps_here program unit i d at jumps = ap (λ (o : Option Insn). option_and_then distance_of o) at ∙ jumps
-
--- an instruction that is no jump lands nowhere else
-pub no_jump_lands : (program : List Insn) (unit : ℕ) (i : Insn) → instruction_at program unit ≡ Some i → distance_of i ≡ None → DoesLand program unit
-no_jump_lands program unit i at none d jumps = let is = jump_here program unit i d at jumps in absurd cc
-
--- a jump that lands has no other distance
-pub jump_lands_here : (program : List Insn) (unit : ℕ) (i : Insn) (d : ℤ) → instruction_at program unit ≡ Some i → distance_of i ≡ Some d → Lands program unit d → DoesLand program unit
-jump_lands_here program unit i d at is lands e jumps =
-    subst (λ (z : ℤ). Lands program unit z) (some_is d e (sym is ∙ jump_here program unit i e at jumps)) lands
 
 -- an instruction whose jump lands can only fall off the end
 only_falls : (program : List Insn) (unit : ℕ) → DoesLand program unit → (fault : FlowFault) → HasFault program fault → faulty_unit fault ≡ unit → fault ≡ FallsOffEnd unit
@@ -128,14 +109,14 @@ more_passed program k unit i here passed none = record { counted = omega (arith,
         elim (cases_order (faulty_unit fault) (unit + units_of i)) [
           | inl end ↦ omega (arith, end)
           | inr apart ↦ elim apart [
-              | inl inside ↦
-                  let later : unit < faulty_unit fault = omega (arith, passed.clear fault has, none fault has) in
-                  let nothing = none_inside program k i (faulty_unit fault) here (omega (arith, passed.counted, later)) (omega (arith, passed.counted, inside)) in
-                  let stands = fault_stands program fault has in
-                  let e = stands.1 in
-                  absurd cc
-              | inr past ↦ omega (arith, past)
-            ]
+            | inl inside ↦
+                let later : unit < faulty_unit fault = omega (arith, passed.clear fault has, none fault has) in
+                let nothing = none_inside program k i (faulty_unit fault) here (omega (arith, passed.counted, later)) (omega (arith, passed.counted, inside)) in
+                let stands = fault_stands program fault has in
+                let e = stands.1 in
+                absurd cc
+            | inr past ↦ omega (arith, past)
+          ]
         ]
 
 -- where all instructions are passed, the program is well shaped
@@ -146,24 +127,3 @@ all_passed program k unit all passed fault has =
     let e = stands.1 in
     let nothing = none_past program (faulty_unit fault) (omega (arith, end, passed.counted, passed.clear fault has)) in
     cc
-
--- the first fault at the next unit is the first of all
-pub first_of_all : (program : List Insn) (k unit : ℕ) (fault : FlowFault) → Passed program k unit → IsFirstFaultAt program unit fault → IsFirstFault program fault
-first_of_all program k unit fault passed first = record { has = first.has; first = before }
-  where
-    before : (other : FlowFault) → HasFault program other → (faulty_unit fault < faulty_unit other) ⊎ ((faulty_unit fault ≡ faulty_unit other) × (number_of fault ≤ number_of other))
-    before other has =
-        elim (cases_order (faulty_unit other) unit) [
-          | inl same ↦ inr (first.at ∙ sym same, first.least other has same)
-          | inr apart ↦ elim apart [
-              | inl lower ↦ absurd (omega (arith, lower, passed.clear other has))
-              | inr higher ↦ inl (omega (arith, higher, first.at))
-            ]
-        ]
-
--- a program that has a first fault is not well shaped
-pub fault_refuses : (program : List Insn) (fault : FlowFault) → IsFirstFault program fault → IsWellShaped program → ⊥
-fault_refuses program fault first shaped = shaped fault first.has
-
-pub starts_here : (program : List Insn) (unit : ℕ) (i : Insn) → instruction_at program unit ≡ Some i → unit < unit_count program
-starts_here program unit i at = starts_inside program unit (is_there (instruction_at program unit) i at)
