@@ -93,7 +93,16 @@ pub fn shape(program: Program) -> Result<Shaped, FlowFault>
     let instructions = program.instructions();
     let last = instructions.len() - 1;
     match instructions[last] {
-        Insn::Exit => Ok(Shaped { program }),
-        _ => Err(FlowFault::FallsOffEnd(last)),
+        Insn::Exit | Insn::Jump { .. } | Insn::JumpLong { .. } => Ok(Shaped { program }),
+        _ => Err(FlowFault::FallsOffEnd(units(&instructions[..last]))),
     }
+}
+
+fn units(instructions: &[Insn]) -> usize
+{
+    let mut unit = 0;
+    for insn in instructions {
+        unit += insn.units();
+    }
+    unit
 }
