@@ -1,0 +1,4 @@
+pub mod LayoutLemmas
+pub mod FaultLemmas
+
+pub mod ShapeLemmas

@@ -1,0 +1,92 @@
+-- Which faults of flow a program has, and what a program without one keeps. Our profile of RFC 9669.
+use Rattle.std.specs.Prelude.{◌≡◌, ◌≢◌, ℕ, ◌+◌, ◌<◌, ◌≤◌, ◌⊎◌, Bool, true, List, Some, None, IsSome, ℤ, pos, ◌+ℤ◌, ◌<ℤ◌, ◌≤ℤ◌}
+use Rattle.bpf_model.specs.declared.instruction.Insn.{Insn}
+use Rattle.bpf_model.specs.Program.{units_of, unit_count, instruction_at}
+use Rattle.bpf_model.specs.Step.{unit_of}
+use Rattle.flow_shape.specs.declared.fault.FlowFault.{FlowFault}
+use Rattle.flow_shape.specs.declared.fault.FlowFault.TheVariants.{BackwardJump, JumpOut, JumpIntoWide, FallsOffEnd}
+use Rattle.flow_shape.specs.Jumps.{falls_through, JumpsBy, target_of}
+
+-- a jump to what went before, or to itself
+abbrev pub JumpsBack : List Insn → ℕ → Type 0
+JumpsBack program unit = (distance : ℤ) × (JumpsBy program unit distance × (distance <ℤ pos 0))
+
+-- a jump at or past the number of units
+abbrev pub JumpsOut : List Insn → ℕ → Type 0
+JumpsOut program unit = (distance : ℤ) × (JumpsBy program unit distance × (pos (unit_count program) ≤ℤ target_of unit distance))
+
+-- a unit inside at which no instruction starts is the second of a wide one
+abbrev pub IsSecondHalf : List Insn → ℕ → Type 0
+IsSecondHalf program unit = (unit < unit_count program) × (instruction_at program unit ≡ None)
+
+-- a jump to a second half
+pub record JumpsIntoWide (program : List Insn) (unit : ℕ) : Type 0 where
+  pub distance : ℤ
+  pub target : ℕ
+  pub jumps : JumpsBy program unit distance
+  pub goes : target_of unit distance ≡ pos target
+  pub half : IsSecondHalf program target
+
+-- the last instruction starts at this unit, and after it a run may go on past the program's end
+pub record Falls (program : List Insn) (unit : ℕ) : Type 0 where
+  pub instruction : Insn
+  pub at : instruction_at program unit ≡ Some instruction
+  pub last : unit + units_of instruction ≡ unit_count program
+  pub goes_on : falls_through instruction ≡ true
+
+-- the program has this fault, in the instruction at its unit
+abbrev pub HasFault : List Insn → FlowFault → Type 0
+HasFault program (BackwardJump unit) = JumpsBack program unit
+HasFault program (JumpOut unit) = JumpsOut program unit
+HasFault program (JumpIntoWide unit) = JumpsIntoWide program unit
+HasFault program (FallsOffEnd unit) = Falls program unit
+
+-- the program has no fault of flow
+abbrev pub IsWellShaped : List Insn → Type 0
+IsWellShaped program = (fault : FlowFault) → HasFault program fault → ⊥
+
+-- the unit of the faulty instruction
+abbrev pub faulty_unit : FlowFault → ℕ
+faulty_unit (BackwardJump unit) = unit
+faulty_unit (JumpOut unit) = unit
+faulty_unit (JumpIntoWide unit) = unit
+faulty_unit (FallsOffEnd unit) = unit
+
+-- the number under which the fault is printed and sent
+abbrev pub number_of : FlowFault → ℕ
+number_of (BackwardJump unit) = 30
+number_of (JumpOut unit) = 31
+number_of (JumpIntoWide unit) = 32
+number_of (FallsOffEnd unit) = 33
+
+-- the program has this fault, none at a lower unit, and at this unit none of a lesser number
+pub record IsFirstFault (program : List Insn) (fault : FlowFault) : Type 0 where
+  pub has : HasFault program fault
+  pub first : (other : FlowFault) → HasFault program other
+      → (faulty_unit fault < faulty_unit other) ⊎ ((faulty_unit fault ≡ faulty_unit other) × (number_of fault ≤ number_of other))
+
+-- no fault is of the instruction at this unit
+abbrev pub HasNoFaultAt : List Insn → ℕ → Type 0
+HasNoFaultAt program unit = (fault : FlowFault) → HasFault program fault → faulty_unit fault ≢ unit
+
+-- the program has this fault at this unit, and at this unit none of a lesser number
+pub record IsFirstFaultAt (program : List Insn) (unit : ℕ) (fault : FlowFault) : Type 0 where
+  pub has : HasFault program fault
+  pub at : faulty_unit fault ≡ unit
+  pub least : (other : FlowFault) → HasFault program other → faulty_unit other ≡ unit → number_of fault ≤ number_of other
+
+-- a jump at this unit goes forward, to a unit at which an instruction starts
+pub record Lands (program : List Insn) (unit : ℕ) (distance : ℤ) : Type 0 where
+  pub target : ℕ
+  pub goes : unit_of (target_of unit distance) ≡ Some target
+  pub forward : unit < target
+  pub starts : IsSome (instruction_at program target)
+
+-- the instruction at this unit lands, if it is a jump
+abbrev pub DoesLand : List Insn → ℕ → Type 0
+DoesLand program unit = (distance : ℤ) → JumpsBy program unit distance → Lands program unit distance
+
+-- each jump goes forward, to an instruction's start inside the program, and after no instruction does a run leave it
+pub record IsForward (program : List Insn) : Type 0 where
+  pub lands : (unit : ℕ) (distance : ℤ) → JumpsBy program unit distance → (pos 0 ≤ℤ distance) × Lands program unit distance
+  pub goes_on : (unit : ℕ) (i : Insn) → instruction_at program unit ≡ Some i → falls_through i ≡ true → IsSome (instruction_at program (unit + units_of i))

@@ -1,0 +1,56 @@
+//! Why a program's flow is refused.
+ghost use Rattle.std.specs.Prelude.{◌≡◌};
+ghost use Rattle.flow_shape.specs.FlowShape.{number_of, faulty_unit};
+
+use std::fmt;
+
+/// Why a program's flow is refused, with the unit of the faulty instruction, counted from 0.
+#[derive(Clone, Copy, Debug, PartialEq, Eq)]
+pub enum FlowFault {
+    /// A jump whose distance is below 0: number 30.
+    BackwardJump(usize),
+    /// A jump at or past the number of units: number 31.
+    JumpOut(usize),
+    /// A jump to the second half of a wide instruction: number 32.
+    JumpIntoWide(usize),
+    /// The last instruction is neither EXIT nor a jump without a condition: number 33.
+    FallsOffEnd(usize),
+}
+
+impl FlowFault {
+    /// The number under which this refusal is printed and sent.
+    pub fn number(self) -> u8
+        ensures { result ≡ number_of self }
+    {
+        match self {
+            FlowFault::BackwardJump(_) => 30,
+            FlowFault::JumpOut(_) => 31,
+            FlowFault::JumpIntoWide(_) => 32,
+            FlowFault::FallsOffEnd(_) => 33,
+        }
+    }
+
+    /// The unit of the faulty instruction, counted from 0.
+    pub fn unit(self) -> usize
+        ensures { result ≡ faulty_unit self }
+    {
+        match self {
+            FlowFault::BackwardJump(unit)
+            | FlowFault::JumpOut(unit)
+            | FlowFault::JumpIntoWide(unit)
+            | FlowFault::FallsOffEnd(unit) => unit,
+        }
+    }
+}
+
+impl fmt::Display for FlowFault {
+    fn fmt<W: fmt::Write>(&self, f: &mut fmt::Formatter<W>) -> fmt::Result {
+        let text = match self {
+            FlowFault::BackwardJump(_) => "a jump goes backward",
+            FlowFault::JumpOut(_) => "a jump leaves the program",
+            FlowFault::JumpIntoWide(_) => "a jump goes into a wide instruction",
+            FlowFault::FallsOffEnd(_) => "the last instruction is neither an exit nor a jump",
+        };
+        write!(f, "{text} (unit {})", self.unit())
+    }
+}

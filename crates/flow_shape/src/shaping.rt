@@ -1,0 +1,73 @@
+//! The test of a program's flow.
+ghost use Rattle.std.specs.Prelude.{◌≡◌, ◌↔◌, IsOk, IfOk, OnOk, IfErr};
+ghost use Rattle.bpf_model.specs.Program.{IsProgram};
+ghost use Rattle.flow_shape.specs.FlowShape.{IsWellShaped, IsFirstFault, IsForward};
+
+use crate::fault::FlowFault;
+use crate::jumps::units;
+use crate::layout::Layout;
+use bpf_model::{Insn, Program};
+use std::marker::Model;
+
+/// A program without a fault of flow.
+#[derive(Debug, Drop)]
+pub struct Shaped {
+    program: Program,
+}
+
+impl Model for Shaped {
+    ghost use Rattle.std.specs.Prelude.{List};
+    ghost use Rattle.bpf_model.specs.declared.instruction.Insn.{Insn};
+    ghost use Rattle.flow_shape.specs.FlowShape.{IsWellShaped};
+
+    ghost Value = { List Insn };
+
+    ghost view = { λ s. s.program };
+
+    ghost invariant = { λ s. IsWellShaped s.program };
+}
+
+impl Shaped {
+    /// The program.
+    pub fn program(&self) -> &Program
+        ensures value { result.now ≡ self.now }
+        ensures shaped { IsWellShaped self.now }
+        ensures forward { IsForward self.now }
+    {
+        &self.program
+    }
+
+    /// The program, taken out.
+    pub fn into_program(self) -> Program
+        ensures value { result ≡ self }
+        ensures shaped { IsWellShaped self }
+        ensures forward { IsForward self }
+    {
+        self.program
+    }
+}
+
+fn find_fault(program: &[Insn]) -> Result<(), FlowFault>
+    requires { IsProgram program.now }
+    ensures ok { OnOk result (IsWellShaped program.now) }
+    ensures err { IfErr result (IsFirstFault program.now) }
+{
+    let layout = Layout::new(program);
+    let mut unit = 0;
+    for insn in program {
+        layout.check(unit, insn)?;
+        unit += units(insn);
+    }
+    Ok(())
+}
+
+/// The program, where its flow has no fault, else the first fault: the first faulty unit, and there the least number.
+/// The program is then given up. Takes no memory.
+pub fn shape(program: Program) -> Result<Shaped, FlowFault>
+    ensures ok { IsOk result ↔ IsWellShaped program }
+    ensures same { IfOk result (λ s. s ≡ program) }
+    ensures first_fault { IfErr result (λ fault. IsFirstFault program fault) }
+{
+    find_fault(program.instructions())?;
+    Ok(Shaped { program })
+}
