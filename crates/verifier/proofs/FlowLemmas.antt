@@ -1,12 +1,13 @@
 -- The last instruction of a program without faults of flow.
-use Rattle.std.proofs.Common.{◌≡◌, ◌≢◌, ℕ, suc, ◌+◌, ◌-◌, ◌<◌, ◌≤◌, true, ◌⊎◌, List, length, take, get_or, Some, refl, sym, ap, subst, ◌∙◌, inl, inr, arith}
+use Rattle.std.proofs.Common.{◌≡◌, ℕ, suc, true, List, length, take, Some, sym, ap, ◌∙◌}
 use Rattle.std.specs.Prelude.{slice_get}
 use Rattle.std.proofs.Math.Seq.{take-length}
 use Rattle.bpf_model.specs.declared.instruction.Insn.{Insn}
-use Rattle.bpf_model.specs.Program.{IsProgram, unit_count, instruction_at}
+use Rattle.bpf_model.specs.Program.{unit_count}
 use Rattle.bpf_model.proofs.ProgramLemmas.{starts_at, unit_count-next}
-use Rattle.verifier.specs.declared.flow_shape.FlowFault.TheVariants.{FallsOffEnd}
-use Rattle.verifier.specs.FlowShape.{falls_through, Falls, IsWellShaped}
+use Rattle.flow_shape.specs.declared.fault.FlowFault.TheVariants.{FallsOffEnd}
+use Rattle.flow_shape.specs.Jumps.{falls_through}
+use Rattle.flow_shape.specs.FlowShape.{Falls, IsWellShaped}
 
 -- no run falls off its end
 pub last_falls : (program : List Insn) (k : ℕ) (i : Insn) → IsWellShaped program → suc k ≡ length program → slice_get program k ≡ Some i → falls_through i ≡ true → ⊥

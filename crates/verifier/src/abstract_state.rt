@@ -105,13 +105,7 @@ impl AbstractState {
         self.assign(unit, dst, sum(a, b))
     }
 
-    fn mov(
-        &mut self,
-        unit: usize,
-        width: Width,
-        dst: Reg,
-        src: Operand,
-    ) -> Result<(), VerifyFault>
+    fn mov(&mut self, unit: usize, width: Width, dst: Reg, src: Operand) -> Result<(), VerifyFault>
         ensures ok { OnOk result ((sizes : DeclaredSizes) → Leads self.old sizes (Mov width dst src) self.new) }
         ensures err { IfErr result (IsFoundAt unit) }
     {

@@ -1,11 +1,12 @@
 //! Small programs, each with the number and the unit of its refusal, and the offsets at which windows and pointers end.
 ghost use Rattle.std.specs.Prelude.{◌≤◌};
 
-use crate::{FlowFault, VerifyFault, shape, verify};
+use crate::{VerifyFault, verify};
 use bpf_model::{
-    AccessSize, AluOp, ByteOrder, Insn, JumpOp, LoadKind, Operand, Program, Reg, SignExtension, Sizes, SwapWidth,
-    Width,
+    AccessSize, AluOp, ByteOrder, Insn, JumpOp, LoadKind, Operand, Program, Reg, SignExtension,
+    Sizes, SwapWidth, Width,
 };
+use flow_shape::shape;
 use std::alloc::Global;
 use std::test::Fail;
 
@@ -624,10 +625,6 @@ fn refusals_print_their_reason_and_unit(rt: HostRuntime) -> Result<(), Fail> {
     assert_eq!(rt;
         format!(in alloc; "{}", VerifyFault::NotYet(3))?.as_str(),
         "the instruction is not taken yet (unit 3)"
-    );
-    assert_eq!(rt;
-        format!(in alloc; "{}", FlowFault::FallsOffEnd(7))?.as_str(),
-        "the last instruction is no exit (unit 7)"
     );
     Ok(())
 }
