@@ -7,10 +7,11 @@ use Rattle.std.proofs.Math.ListN.{get_or-eq_default}
 use Rattle.bpf_model.specs.declared.limits.TheConstants.{VALUE_BYTES, STACK_BYTES}
 use Rattle.bpf_model.specs.declared.region.Region.{Region}
 use Rattle.bpf_model.specs.declared.region.Region.TheVariants.{Key, Old, Arg, Result, Stack}
-use Rattle.bpf_model.specs.declared.instruction.AccessSize.{AccessSize}
-use Rattle.bpf_model.specs.declared.instruction.AccessSize.TheVariants.{DoubleWord}
+use Rattle.bpf_model.specs.declared.accesses.AccessSize.{AccessSize}
+use Rattle.bpf_model.specs.declared.accesses.AccessSize.TheVariants.{Byte, HalfWord, Word, DoubleWord}
 use Rattle.bpf_model.specs.Words.{IsWord, word_of}
-use Rattle.bpf_model.specs.Memory.{Partial, first_address, byte_count, bytes_at, with_bytes}
+use Rattle.bpf_model.specs.Accesses.{byte_count}
+use Rattle.bpf_model.specs.Memory.{Partial, first_address, bytes_at, with_bytes}
 use Rattle.bpf_model.proofs.Options.{test_of, value_there}
 use Rattle.bpf_model.proofs.MemoryLemmas.{bytes_present, byte_read, length-bytes_at}
 use Rattle.bpf_model.proofs.WordLemmas.{word_of-bound}
@@ -68,6 +69,9 @@ store_describes f g a memory bs len marks d r i e =
 
 -- an access has at most the bytes of a word
 pub byte_count-word : (size : AccessSize) → (0 < byte_count size) × (256 ^ byte_count size ≤ 2 ^ 64)
+byte_count-word Byte = (omega arith, omega arith)
+byte_count-word HalfWord = (omega arith, omega arith)
+byte_count-word Word = (omega arith, omega arith)
 byte_count-word DoubleWord = (omega arith, omega arith)
 
 -- bytes that a memory has are bytes, and past the last there is the default

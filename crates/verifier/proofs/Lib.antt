@@ -5,4 +5,5 @@ pub mod FrameLemmas
 pub mod RegisterLemmas
 pub mod WindowLemmas
 pub mod EntryLemmas
+pub mod LeadsLemmas
 pub mod WalkLemmas

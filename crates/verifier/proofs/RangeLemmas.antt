@@ -5,16 +5,7 @@ use Rattle.std.specs.Int.{w64}
 use Rattle.std.proofs.lemmas.Int.{ints, to_z_pos}
 use Rattle.std.proofs.lemmas.Bool.{cases_lt}
 use Rattle.std.proofs.lemmas.Bool.Decides.{nat_tests}
-use Rattle.bpf_model.specs.declared.instruction.AluOp.{AluOp}
-use Rattle.bpf_model.specs.declared.instruction.AluOp.TheVariants.{Add}
-use Rattle.bpf_model.specs.declared.instruction.Width.{Width}
-use Rattle.bpf_model.specs.declared.instruction.Width.TheVariants.{W64}
 use Rattle.bpf_model.specs.Words.{IsWord, signed, minus_one}
-use Rattle.bpf_model.specs.Arithmetic.{alu_value}
-
--- what an operation gives is a word
-pub alu_value-word : (op : AluOp) (width : Width) (x y : ℕ) → IsWord (alu_value op width x y)
-alu_value-word Add W64 x y = omega arith
 
 -- the signed reading as a linear fact
 pub biased : (w : ℕ) → IsWord w → signed w +ℤ pos (2 ^ 63) ≡ pos ((w + 2 ^ 63) % 2 ^ 64)

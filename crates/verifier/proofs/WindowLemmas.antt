@@ -7,11 +7,12 @@ use Rattle.bpf_model.specs.declared.limits.TheConstants.{VALUE_BYTES}
 use Rattle.bpf_model.specs.declared.input.Sizes.{Sizes}
 use Rattle.bpf_model.specs.declared.region.Region.{Region}
 use Rattle.bpf_model.specs.declared.region.Region.TheVariants.{Key, Old, Arg, Result, Stack}
-use Rattle.bpf_model.specs.declared.instruction.AccessSize.{AccessSize}
+use Rattle.bpf_model.specs.declared.accesses.AccessSize.{AccessSize}
 use Rattle.bpf_model.specs.declared.instruction.Insn.TheVariants.{Exit}
 use Rattle.bpf_model.specs.Fits.{AreWithinLimits}
 use Rattle.bpf_model.specs.Words.{IsWord, minus_one, word_of, bytes_of}
-use Rattle.bpf_model.specs.Memory.{Partial, first_address, size_of, byte_count, can_read, can_write, bytes_at, with_bytes}
+use Rattle.bpf_model.specs.Accesses.{byte_count}
+use Rattle.bpf_model.specs.Memory.{Partial, first_address, size_of, can_read, can_write, bytes_at, with_bytes}
 use Rattle.bpf_model.specs.State.{State}
 use Rattle.bpf_model.specs.Step.{stores, ends_in}
 use Rattle.bpf_model.proofs.Options.{test_of, value_there}

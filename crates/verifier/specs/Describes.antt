@@ -1,15 +1,17 @@
 -- Which states an abstract state speaks of, and where instructions lead from them.
-use Rattle.std.specs.Prelude.{◌≡◌, ℕ, ◌+◌, ◌<◌, ◌≤◌, true, ◌⊎◌, List, Option, Some, IsSome, slice_get}
+use Rattle.std.specs.Prelude.{◌≡◌, ℕ, ◌+◌, ◌<◌, ◌≤◌, Bool, true, false, ◌⊎◌, List, Option, Some, IsSome, slice_get}
 use Rattle.bpf_model.specs.declared.input.Input.{Input}
 use Rattle.bpf_model.specs.declared.input.Sizes.{Sizes}
 use Rattle.bpf_model.specs.declared.instruction.Insn.{Insn}
-use Rattle.bpf_model.specs.declared.instruction.Insn.TheVariants.{Exit}
-use Rattle.bpf_model.specs.declared.instruction.AccessSize.{AccessSize}
+use Rattle.bpf_model.specs.declared.instruction.Insn.TheVariants.{Alu, Negate, Mov, SignExtend, Reorder, Wide, Load, Store, Jump, JumpLong, Branch, Exit}
+use Rattle.bpf_model.specs.declared.accesses.AccessSize.{AccessSize}
 use Rattle.bpf_model.specs.declared.region.Region.{Region}
 use Rattle.bpf_model.specs.declared.region.Region.TheVariants.{Result}
+use Rattle.bpf_model.specs.Program.{units_of}
 use Rattle.bpf_model.specs.Fits.{Fits, HasBytes as HasInputBytes, AreWithinLimits}
 use Rattle.bpf_model.specs.Words.{word_of}
-use Rattle.bpf_model.specs.Memory.{first_address, size_of, byte_count, bytes_at}
+use Rattle.bpf_model.specs.Accesses.{byte_count}
+use Rattle.bpf_model.specs.Memory.{first_address, size_of, bytes_at}
 use Rattle.bpf_model.specs.State.{State, entry_state}
 use Rattle.bpf_model.specs.Step.{sets, stores, act, ends_in}
 use Rattle.verifier.specs.declared.stack_slots.reg_value.RegValue.{RegValue}
@@ -38,11 +40,12 @@ pub record Describes (a : AbstractState) (sizes : Sizes) (s : State) : Type 0 wh
 abbrev pub Knows : AbstractState → ℕ → RegValue → Type 0
 Knows a r x = (sizes : Sizes) (s : State) → Describes a sizes s → HasWord x (s.registers r)
 
--- from each described state a register may be set to a word for which the value stands, and then the second describes it
+-- from each described state a register may be set to a word for which the value stands, and then the second describes
+-- it, whichever unit is next
 abbrev pub Sets : AbstractState → ℕ → RegValue → AbstractState → Type 0
 Sets a dst x b =
-    (sizes : Sizes) (s : State) (w : ℕ) → Describes a sizes s → StandsFor x (Some w)
-    → (t : State) × ((sets s dst w ≡ Some t) × Describes b sizes t)
+    (sizes : Sizes) (s : State) (units w : ℕ) → Describes a sizes s → StandsFor x (Some w)
+    → (t : State) × ((sets s units dst w ≡ Some t) × Describes b sizes t)
 
 -- an access at this distance from the window's first byte lies inside the window
 abbrev pub LiesInside : Sizes → Region → ℕ → AccessSize → Type 0
@@ -70,7 +73,28 @@ DescribesEntry a =
     (sizes : Sizes) (input : Input) → AreWithinLimits sizes → HasInputBytes input → Fits input sizes
     → Describes a sizes (entry_state sizes input)
 
--- from each state of the first the instruction ends the run or leads to a state of the second
+-- whether the run may go on elsewhere than at the next instruction
+abbrev pub is_jump : Insn → Bool
+is_jump (Alu op width dst src) = false
+is_jump (Negate width dst) = false
+is_jump (Mov width dst src) = false
+is_jump (SignExtend extension dst src) = false
+is_jump (Reorder order size dst) = false
+is_jump (Wide dst value) = false
+is_jump (Load kind dst src offset) = false
+is_jump (Store size dst src offset) = false
+is_jump (Jump distance) = true
+is_jump (JumpLong distance) = true
+is_jump (Branch test width dst src distance) = true
+is_jump Exit = false
+
+-- the instruction leads to a state at the next one, and it is described
+pub record LeadsOn (sizes : Sizes) (i : Insn) (s : State) (b : AbstractState) : Type 0 where
+  pub next : State
+  pub acts : act sizes i s ≡ Some next
+  pub unit : next.unit ≡ s.unit + units_of i
+  pub described : Describes b sizes next
+
+-- from each state of the first the instruction ends the run or leads on to a state of the second
 abbrev pub Leads : AbstractState → Sizes → Insn → AbstractState → Type 0
-Leads a sizes i b =
-    (s : State) → Describes a sizes s → IsSome (ends_in sizes i s) ⊎ ((t : State) × ((act sizes i s ≡ Some t) × Describes b sizes t))
+Leads a sizes i b = (s : State) → Describes a sizes s → IsSome (ends_in sizes i s) ⊎ LeadsOn sizes i s b

@@ -3,7 +3,7 @@ use Rattle.std.specs.Prelude.{◌≡◌, ◌≢◌, ℕ, ◌<◌, ◌⊎◌}
 use Rattle.bpf_model.specs.declared.limits.TheConstants.{KEY_BYTES, VALUE_BYTES}
 use Rattle.bpf_model.specs.declared.input.Sizes.{Sizes}
 use Rattle.verifier.specs.declared.fault.VerifyFault.{VerifyFault}
-use Rattle.verifier.specs.declared.fault.VerifyFault.TheVariants.{SizesTooLarge, UnwrittenRegister, WriteToR10, NotAWindow, OutOfWindow, ReadOnly, UnwrittenBytes, BadExitValue}
+use Rattle.verifier.specs.declared.fault.VerifyFault.TheVariants.{SizesTooLarge, UnwrittenRegister, WriteToR10, NotAWindow, OutOfWindow, ReadOnly, UnwrittenBytes, BadExitValue, NotYet}
 
 -- the number under which a refusal is printed and sent
 abbrev pub number_of : VerifyFault → ℕ
@@ -15,6 +15,7 @@ number_of (ReadOnly unit) = 44
 number_of (UnwrittenBytes unit) = 45
 number_of (BadExitValue unit) = 46
 number_of SizesTooLarge = 47
+number_of (NotYet unit) = 48
 
 -- the unit of the faulty instruction; sizes are refused at unit 0
 abbrev pub unit_of : VerifyFault → ℕ
@@ -26,6 +27,7 @@ unit_of (ReadOnly unit) = unit
 unit_of (UnwrittenBytes unit) = unit
 unit_of (BadExitValue unit) = unit
 unit_of SizesTooLarge = 0
+unit_of (NotYet unit) = unit
 
 -- a fault of the instruction at this unit
 pub record IsFoundAt (place : ℕ) (fault : VerifyFault) : Type 0 where

@@ -3,7 +3,8 @@ use Rattle.std.specs.Prelude.{◌≡◌, ℕ, ◌+◌, ◌<◌, Bool, true, fals
 use Rattle.bpf_model.specs.declared.region.Region.{Region}
 use Rattle.bpf_model.specs.declared.region.Region.TheVariants.{Key, Old, Arg, Result, Stack}
 use Rattle.bpf_model.specs.Words.{IsWord, bytes_of, word_of}
-use Rattle.bpf_model.specs.Memory.{Partial, first_address, byte_count, bytes_at, with_bytes}
+use Rattle.bpf_model.specs.Accesses.{byte_count}
+use Rattle.bpf_model.specs.Memory.{Partial, first_address, bytes_at, with_bytes}
 use Rattle.bpf_model.specs.Step.{address_of}
 use Rattle.verifier.specs.Ranges.{LiesIn}
 use Rattle.verifier.specs.declared.stack_slots.pointer.Pointer.{Pointer}

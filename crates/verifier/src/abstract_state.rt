@@ -1,19 +1,23 @@
 //! What is known of every state that a run brings to a unit.
-ghost use Rattle.std.specs.Prelude.{◌≡◌, ◌≢◌, ◌≤◌, ◌+◌, ℕ, ◌⊎◌, Some, Ok, Err, OnOk, IfOk, IfErr, nat_eq, if◌then◌else◌};
+ghost use Rattle.std.specs.Prelude.{◌≡◌, ◌≢◌, ◌≤◌, ◌+◌, ℕ, ◌⊎◌, false, Some, Ok, Err, OnOk, IfOk, IfErr, nat_eq, if◌then◌else◌};
+ghost use Rattle.bpf_model.specs.declared.input.Sizes.{Sizes as DeclaredSizes};
+ghost use Rattle.bpf_model.specs.declared.instruction.Insn.TheVariants.{Alu, Mov, Load, Store};
 ghost use Rattle.bpf_model.specs.Fits.{AreWithinLimits};
 ghost use Rattle.bpf_model.specs.Memory.{first_address};
 ghost use Rattle.bpf_model.specs.Step.{address_of};
 ghost use Rattle.verifier.specs.declared.fault.VerifyFault.TheVariants.{UnwrittenRegister, WriteToR10, NotAWindow, OutOfWindow, ReadOnly, UnwrittenBytes};
 ghost use Rattle.verifier.specs.Faults.{IsFoundAt};
 ghost use Rattle.verifier.specs.Frames.{StandsFor};
-ghost use Rattle.verifier.specs.Describes.{DescribesEntry, Leads, Knows, Sets, Loads, Stores, Exits, LiesInside};
+ghost use Rattle.verifier.specs.Describes.{DescribesEntry, Leads, Knows, Sets, Loads, Stores, Exits, LiesInside, is_jump};
 
-use crate::arithmetic::operate;
+use crate::arithmetic::sum;
 use crate::fault::VerifyFault;
 use crate::stack_slots::{Access, Frame, Pointer, RegValue};
 use crate::value_ranges::Range;
 use bpf_model::limits::STACK_BYTES;
-use bpf_model::{AccessSize, Insn, Reg, Region, Sizes};
+use bpf_model::{
+    AccessSize, AluOp, Insn, LoadKind, Operand, Reg, Region, Sizes, Width, immediate_word,
+};
 
 /// The number of r10, which points to the stack's end and is never written.
 const FRAME_POINTER: u8 = 10;
@@ -50,10 +54,11 @@ impl AbstractState {
     }
 
     /// Tests the instruction at a unit, and goes on to what is known after it. Faults are tested in the order of their
-    /// numbers.
+    /// numbers, but first of all whether the instruction is taken yet.
     pub fn step(&mut self, unit: usize, sizes: Sizes, insn: Insn) -> Result<(), VerifyFault>
         requires { AreWithinLimits sizes }
         ensures ok { OnOk result (Leads self.old sizes insn self.new) }
+        ensures straight { OnOk result (is_jump insn ≡ false) }
         ensures err { IfErr result (IsFoundAt unit) }
     {
         match insn {
@@ -62,42 +67,98 @@ impl AbstractState {
                 width,
                 dst,
                 src,
-            } => {
-                let a = self.read(unit, dst.number())?;
-                let b = self.read(unit, src.number())?;
-                test_target(unit, dst)?;
-                self.set(dst, operate(op, width, a, b));
-            }
-            Insn::Mov { width, dst, imm } => {
-                test_target(unit, dst)?;
-                self.set(dst, RegValue::Number(Range::single(width.immediate(imm))));
-            }
+            } => self.arithmetic(unit, op, width, dst, src),
+            Insn::Mov { width, dst, src } => self.mov(unit, width, dst, src),
             Insn::Load {
-                size,
+                kind,
                 dst,
                 src,
                 offset,
-            } => {
-                let base = self.read(unit, src.number())?;
-                test_target(unit, dst)?;
-                let (region, first) = locate(unit, sizes, base, offset, size)?;
-                let loaded = self.load(unit, region, first, size)?;
-                self.set(dst, loaded);
-            }
+            } => self.load_into(unit, sizes, kind, dst, src, offset),
             Insn::Store {
                 size,
                 dst,
                 src,
                 offset,
-            } => {
-                let base = self.read(unit, dst.number())?;
-                let value = self.read(unit, src.number())?;
-                let (region, first) = locate(unit, sizes, base, offset, size)?;
-                self.store(unit, region, first, size, value)?;
-            }
-            Insn::Exit => self.exit(unit)?,
+            } => self.store_from(unit, sizes, size, dst, src, offset),
+            Insn::Exit => self.exit(unit),
+            _ => Err(VerifyFault::NotYet(unit)),
         }
+    }
+
+    fn arithmetic(
+        &mut self,
+        unit: usize,
+        op: AluOp,
+        width: Width,
+        dst: Reg,
+        src: Operand,
+    ) -> Result<(), VerifyFault>
+        ensures ok { OnOk result ((sizes : DeclaredSizes) → Leads self.old sizes (Alu op width dst src) self.new) }
+        ensures err { IfErr result (IsFoundAt unit) }
+    {
+        let (AluOp::Add, Width::W64, Operand::Register(src)) = (op, width, src) else {
+            return Err(VerifyFault::NotYet(unit));
+        };
+        let a = self.read(unit, dst.number())?;
+        let b = self.read(unit, src.number())?;
+        self.assign(unit, dst, sum(a, b))
+    }
+
+    fn mov(&mut self, unit: usize, width: Width, dst: Reg, src: Operand) -> Result<(), VerifyFault>
+        ensures ok { OnOk result ((sizes : DeclaredSizes) → Leads self.old sizes (Mov width dst src) self.new) }
+        ensures err { IfErr result (IsFoundAt unit) }
+    {
+        let (Width::W64, Operand::Immediate(imm)) = (width, src) else {
+            return Err(VerifyFault::NotYet(unit));
+        };
+        let word = Range::single(immediate_word(imm));
+        self.assign(unit, dst, RegValue::Number(word))
+    }
+
+    fn load_into(
+        &mut self,
+        unit: usize,
+        sizes: Sizes,
+        kind: LoadKind,
+        dst: Reg,
+        src: Reg,
+        offset: i16,
+    ) -> Result<(), VerifyFault>
+        requires { AreWithinLimits sizes }
+        ensures ok { OnOk result (Leads self.old sizes (Load kind dst src offset) self.new) }
+        ensures err { IfErr result (IsFoundAt unit) }
+    {
+        let LoadKind::DoubleWord = kind else {
+            return Err(VerifyFault::NotYet(unit));
+        };
+        let base = self.read(unit, src.number())?;
+        test_target(unit, dst)?;
+        let (region, first) = locate(unit, sizes, base, offset, kind.size())?;
+        let loaded = self.load(unit, region, first, kind.size())?;
+        self.set(dst, loaded);
         Ok(())
+    }
+
+    fn store_from(
+        &mut self,
+        unit: usize,
+        sizes: Sizes,
+        size: AccessSize,
+        dst: Reg,
+        src: Operand,
+        offset: i16,
+    ) -> Result<(), VerifyFault>
+        ensures ok { OnOk result (Leads self.old sizes (Store size dst src offset) self.new) }
+        ensures err { IfErr result (IsFoundAt unit) }
+    {
+        let (AccessSize::DoubleWord, Operand::Register(src)) = (size, src) else {
+            return Err(VerifyFault::NotYet(unit));
+        };
+        let base = self.read(unit, dst.number())?;
+        let value = self.read(unit, src.number())?;
+        let (region, first) = locate(unit, sizes, base, offset, size)?;
+        self.store(unit, region, first, size, value)
     }
 
     fn read(&self, unit: usize, register: u8) -> Result<RegValue, VerifyFault>
@@ -109,6 +170,15 @@ impl AbstractState {
             RegValue::Unwritten => Err(VerifyFault::UnwrittenRegister(unit)),
             value => Ok(value),
         }
+    }
+
+    fn assign(&mut self, unit: usize, dst: Reg, value: RegValue) -> Result<(), VerifyFault>
+        ensures ok { OnOk result (Sets self.old dst value self.new) }
+        ensures err { IfErr result (λ fault. fault ≡ WriteToR10 unit) }
+    {
+        test_target(unit, dst)?;
+        self.set(dst, value);
+        Ok(())
     }
 
     fn set(&mut self, dst: Reg, value: RegValue)

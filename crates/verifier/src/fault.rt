@@ -23,6 +23,8 @@ pub enum VerifyFault {
     BadExitValue(usize),
     /// A declared size is above its limit: number 47, at unit 0.
     SizesTooLarge,
+    /// The instruction is not taken yet: number 48. Nothing else is then tested of it.
+    NotYet(usize),
 }
 
 impl VerifyFault {
@@ -39,6 +41,7 @@ impl VerifyFault {
             VerifyFault::UnwrittenBytes(_) => 45,
             VerifyFault::BadExitValue(_) => 46,
             VerifyFault::SizesTooLarge => 47,
+            VerifyFault::NotYet(_) => 48,
         }
     }
 
@@ -53,7 +56,8 @@ impl VerifyFault {
             | VerifyFault::OutOfWindow(unit)
             | VerifyFault::ReadOnly(unit)
             | VerifyFault::UnwrittenBytes(unit)
-            | VerifyFault::BadExitValue(unit) => unit,
+            | VerifyFault::BadExitValue(unit)
+            | VerifyFault::NotYet(unit) => unit,
             VerifyFault::SizesTooLarge => 0,
         }
     }
@@ -70,6 +74,7 @@ impl fmt::Display for VerifyFault {
             VerifyFault::UnwrittenBytes(_) => "bytes are read that were not all written",
             VerifyFault::BadExitValue(_) => "r0 may be neither -1 nor a number of written bytes",
             VerifyFault::SizesTooLarge => return write!(f, "a declared size is above its limit"),
+            VerifyFault::NotYet(_) => "the instruction is not taken yet",
         };
         write!(f, "{text} (unit {})", self.unit())
     }

@@ -1,6 +1,7 @@
 //! Which programs are safe.
 //!
-//! `shape` tests a program's flow, `verify` walks over it with what is known at each unit.
+//! `verify` walks over a program whose flow was tested (`Shaped` of flow_shape), with what is known at each unit. It
+//! takes few instructions yet: sums of two registers, moves of immediates, loads and stores of double words, EXIT.
 //!
 //! The promise to the layers above stands in the type of `Verified`: its program is safe with its sizes. Every state
 //! that a run on a fitting input reaches is an end or has a next one, and no run has more instructions than the
@@ -11,14 +12,12 @@
 mod abstract_state;
 mod arithmetic;
 mod fault;
-mod flow_shape;
 mod stack_slots;
 mod value_ranges;
 pub mod verified;
 mod walk;
 
 pub use fault::VerifyFault;
-pub use flow_shape::{FlowFault, Shaped, shape};
 pub use verified::Verified;
 pub use walk::verify;
 

@@ -1,8 +1,12 @@
 //! Small programs, each with the number and the unit of its refusal, and the offsets at which windows and pointers end.
 ghost use Rattle.std.specs.Prelude.{◌≤◌};
 
-use crate::{FlowFault, VerifyFault, shape, verify};
-use bpf_model::{AccessSize, AluOp, Insn, Program, Reg, Sizes, Width};
+use crate::{VerifyFault, verify};
+use bpf_model::{
+    AccessSize, AluOp, ByteOrder, Insn, JumpOp, LoadKind, Operand, Program, Reg, SignExtension,
+    Sizes, SwapWidth, Width,
+};
+use flow_shape::shape;
 use std::alloc::Global;
 use std::test::Fail;
 
@@ -28,7 +32,7 @@ fn mov(dst: u8, imm: i32) -> Insn
     Insn::Mov {
         width: Width::W64,
         dst: reg(dst),
-        imm,
+        src: Operand::Immediate(imm),
     }
 }
 
@@ -40,7 +44,7 @@ fn add(dst: u8, src: u8) -> Insn
         op: AluOp::Add,
         width: Width::W64,
         dst: reg(dst),
-        src: reg(src),
+        src: Operand::Register(reg(src)),
     }
 }
 
@@ -49,7 +53,7 @@ fn load(dst: u8, src: u8, offset: i16) -> Insn
     requires src { src ≤ 10 }
 {
     Insn::Load {
-        size: AccessSize::DoubleWord,
+        kind: LoadKind::DoubleWord,
         dst: reg(dst),
         src: reg(src),
         offset,
@@ -63,17 +67,54 @@ fn store(dst: u8, offset: i16, src: u8) -> Insn
     Insn::Store {
         size: AccessSize::DoubleWord,
         dst: reg(dst),
-        src: reg(src),
+        src: Operand::Register(reg(src)),
         offset,
+    }
+}
+
+/// The operation on r10 and the unwritten r5.
+fn alu(op: AluOp, width: Width) -> Insn {
+    Insn::Alu {
+        op,
+        width,
+        dst: reg(10),
+        src: Operand::Register(reg(5)),
+    }
+}
+
+/// The bytes at the number in r6, into r10.
+fn load_of(kind: LoadKind) -> Insn {
+    Insn::Load {
+        kind,
+        dst: reg(10),
+        src: reg(6),
+        offset: 0,
+    }
+}
+
+/// The unwritten r5, to the number in r6.
+fn store_of(size: AccessSize, src: Operand) -> Insn {
+    Insn::Store {
+        size,
+        dst: reg(6),
+        src,
+        offset: 0,
+    }
+}
+
+fn wide(dst: u8) -> Insn
+    requires { dst ≤ 10 }
+{
+    Insn::Wide {
+        dst: reg(dst),
+        value: 1,
     }
 }
 
 /// Number and unit of the refusal, if the program is refused.
 fn refusal(alloc: Global, code: &[Insn], sizes: Sizes) -> Result<Option<(u8, usize)>, Fail> {
     let mut instructions = Vec::new(alloc);
-    for insn in code {
-        instructions.push(*insn)?;
-    }
+    instructions.extend_from_slice(code)?;
     let program = Program::new(instructions).ok_or("a program has 1 to 512 units")?;
     Ok(match shape(program) {
         Err(fault) => Some((fault.number(), fault.unit())),
@@ -216,6 +257,151 @@ fn the_least_number_of_a_unit_is_named(rt: HostRuntime) -> Result<(), Fail> {
     ];
     for (name, found, expected) in refused {
         assert_eq!(rt; found, Some(expected), "{name}");
+    }
+    Ok(())
+}
+
+#[test]
+fn instructions_not_taken_yet_have_no_other_fault(rt: HostRuntime) -> Result<(), Fail> {
+    let alloc = rt.alloc();
+    let unwritten = Operand::Register(reg(5));
+    let rows = [
+        ("sub", alu(AluOp::Sub, Width::W64)),
+        ("mul", alu(AluOp::Mul, Width::W64)),
+        ("div", alu(AluOp::Div, Width::W64)),
+        ("sdiv", alu(AluOp::SDiv, Width::W64)),
+        ("or", alu(AluOp::Or, Width::W64)),
+        ("and", alu(AluOp::And, Width::W64)),
+        ("lsh", alu(AluOp::Lsh, Width::W64)),
+        ("rsh", alu(AluOp::Rsh, Width::W64)),
+        ("mod", alu(AluOp::Mod, Width::W64)),
+        ("smod", alu(AluOp::SMod, Width::W64)),
+        ("xor", alu(AluOp::Xor, Width::W64)),
+        ("arsh", alu(AluOp::Arsh, Width::W64)),
+        ("add of 32 bits", alu(AluOp::Add, Width::W32)),
+        (
+            "add of an immediate",
+            Insn::Alu {
+                op: AluOp::Add,
+                width: Width::W64,
+                dst: reg(10),
+                src: Operand::Immediate(1),
+            },
+        ),
+        (
+            "neg",
+            Insn::Negate {
+                width: Width::W64,
+                dst: reg(10),
+            },
+        ),
+        (
+            "mov of 32 bits",
+            Insn::Mov {
+                width: Width::W32,
+                dst: reg(10),
+                src: Operand::Immediate(1),
+            },
+        ),
+        (
+            "mov of a register",
+            Insn::Mov {
+                width: Width::W64,
+                dst: reg(10),
+                src: unwritten,
+            },
+        ),
+        (
+            "movsx",
+            Insn::SignExtend {
+                extension: SignExtension::From8To64,
+                dst: reg(10),
+                src: reg(5),
+            },
+        ),
+        (
+            "end",
+            Insn::Reorder {
+                order: ByteOrder::Big,
+                size: SwapWidth::S64,
+                dst: reg(10),
+            },
+        ),
+        ("wide", wide(10)),
+        ("ldb", load_of(LoadKind::Byte)),
+        ("ldh", load_of(LoadKind::HalfWord)),
+        ("ldw", load_of(LoadKind::Word)),
+        ("ldsb", load_of(LoadKind::SignedByte)),
+        ("ldsh", load_of(LoadKind::SignedHalfWord)),
+        ("ldsw", load_of(LoadKind::SignedWord)),
+        ("stxb", store_of(AccessSize::Byte, unwritten)),
+        ("stxh", store_of(AccessSize::HalfWord, unwritten)),
+        ("stxw", store_of(AccessSize::Word, unwritten)),
+        (
+            "std",
+            store_of(AccessSize::DoubleWord, Operand::Immediate(1)),
+        ),
+        ("ja", Insn::Jump { distance: 0 }),
+        ("jal", Insn::JumpLong { distance: 0 }),
+        (
+            "jeq",
+            Insn::Branch {
+                test: JumpOp::Eq,
+                width: Width::W64,
+                dst: reg(5),
+                src: unwritten,
+                distance: 0,
+            },
+        ),
+    ];
+    for (name, insn) in rows {
+        let alone = refusal(alloc, &[insn, mov(0, -1), Insn::Exit], SIZES)?;
+        assert_eq!(rt; alone, Some((48, 0)), "{name}");
+        let second = refusal(alloc, &[mov(0, -1), insn, Insn::Exit], SIZES)?;
+        assert_eq!(rt; second, Some((48, 1)), "{name}, as the second");
+    }
+    Ok(())
+}
+
+#[test]
+fn what_is_not_taken_yet_has_its_turn(rt: HostRuntime) -> Result<(), Fail> {
+    let exit = Insn::Exit;
+    let alloc = rt.alloc();
+    let large = Sizes { key: 65, ..SIZES };
+    let rows = [
+        (
+            "40 at an earlier unit",
+            refusal(alloc, &[load(0, 5, 0), wide(0), exit], SIZES)?,
+            Some((40, 0)),
+        ),
+        (
+            "40 at a later unit",
+            refusal(alloc, &[wide(0), load(0, 5, 0), exit], SIZES)?,
+            Some((48, 0)),
+        ),
+        (
+            "46 at a later unit",
+            refusal(alloc, &[mov(0, 9), wide(9), exit], SIZES)?,
+            Some((48, 1)),
+        ),
+        (
+            "sizes come first",
+            refusal(alloc, &[wide(0), exit], large)?,
+            Some((47, 0)),
+        ),
+        (
+            "the flow comes before",
+            refusal(alloc, &[wide(0), wide(0)], large)?,
+            Some((33, 2)),
+        ),
+        (
+            "after the exit nothing runs",
+            refusal(alloc, &[mov(0, -1), exit, wide(10), exit], SIZES)?,
+            None,
+        ),
+    ];
+    for (name, found, expected) in rows {
+        assert_eq!(rt; found, expected, "{name}");
     }
     Ok(())
 }
@@ -437,8 +623,8 @@ fn refusals_print_their_reason_and_unit(rt: HostRuntime) -> Result<(), Fail> {
         "a declared size is above its limit"
     );
     assert_eq!(rt;
-        format!(in alloc; "{}", FlowFault::FallsOffEnd(7))?.as_str(),
-        "the last instruction is no exit (unit 7)"
+        format!(in alloc; "{}", VerifyFault::NotYet(3))?.as_str(),
+        "the instruction is not taken yet (unit 3)"
     );
     Ok(())
 }

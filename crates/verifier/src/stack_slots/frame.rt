@@ -3,7 +3,8 @@ ghost use Rattle.std.specs.Prelude.{◌≡◌, ◌≤◌, ◌<◌, ◌+◌, ◌�
 ghost use Rattle.bpf_model.specs.declared.region.Region.{Region as TheRegion};
 ghost use Rattle.bpf_model.specs.declared.region.Region.TheVariants.{Result as ResultWindow};
 ghost use Rattle.bpf_model.specs.Words.{bytes_of, word_of};
-ghost use Rattle.bpf_model.specs.Memory.{Partial, byte_count, bytes_at, with_bytes};
+ghost use Rattle.bpf_model.specs.Accesses.{byte_count};
+ghost use Rattle.bpf_model.specs.Memory.{Partial, bytes_at, with_bytes};
 ghost use Rattle.verifier.specs.Frames.{StandsFor, is_written, AreWritten, Marks, DescribesStore, LoadsFrom, DescribesMemory};
 
 use super::access::Access;

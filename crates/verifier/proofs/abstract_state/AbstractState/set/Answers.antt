@@ -3,5 +3,5 @@ use Rattle.verifier.proofs.RegisterLemmas.{set_describes}
 use Rattle.verifier.proofs.abstract_state.AbstractState.set.Goals as goal
 
 pub returns : goal.returns
-returns c = λ sizes s w d stands.
-    rw c.number.ensures.value (set_describes c.args.self.now sizes s c.args.dst w c.args.value d stands c.requires (omega arith))
+returns c = λ sizes s units w d stands.
+    rw c.number.ensures.value (set_describes c.args.self.now sizes s units c.args.dst w c.args.value d stands c.requires (omega arith))

@@ -5,7 +5,7 @@ use Rattle.std.proofs.lemmas.Int.{to_z-of_z}
 use Rattle.bpf_model.specs.Words.{signed}
 use Rattle.bpf_model.specs.Memory.{first_address}
 use Rattle.verifier.proofs.PointerLemmas.{address_moved}
-use Rattle.verifier.proofs.arithmetic.sum.Goals as goal
+use Rattle.verifier.proofs.arithmetic.moved.Goals as goal
 
 pub returns-in-Some-moved : goal.returns-in-Some-moved
 returns-in-Some-moved c =
