@@ -1,3 +1,5 @@
 pub mod AccessLemmas
 pub mod WindowLemmas
+pub mod PlaceLemmas
+pub mod ActLemmas
 pub mod ExecutionLemmas

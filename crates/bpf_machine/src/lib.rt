@@ -9,6 +9,7 @@
 mod access;
 mod execution;
 mod machine;
+mod places;
 mod windows;
 
 pub use execution::run;
