@@ -21,7 +21,7 @@ place_of TooLong = 0
 place_of NoMemory = 0
 place_of (NotHex place) = place
 place_of (Decode fault) = decode.unit_of fault
-place_of (Flow fault) = flow.unit_of fault
+place_of (Flow fault) = flow.faulty_unit fault
 place_of (Verify fault) = verify.unit_of fault
 
 abbrev pub of_hex : HexFault → Refusal
