@@ -1,5 +1,4 @@
 //! Small programs: which are shaped, and the number and unit of each other's first fault.
-ghost use Rattle.std.specs.Prelude.{◌≤◌};
 
 use crate::{FlowFault, shape};
 use bpf_model::limits::PROGRAM_UNITS;
