@@ -13,10 +13,7 @@ use Rattle.flow_shape.specs.declared.fault.FlowFault.TheVariants.{BackwardJump, 
 use Rattle.flow_shape.specs.Jumps.{distance_of, falls_through, JumpsBy, target_of}
 use Rattle.flow_shape.specs.FlowShape.{JumpsIntoWide, Falls, HasFault, HasNoFaultAt, IsFirstFaultAt, IsWellShaped, Lands, DoesLand, faulty_unit, number_of}
 
--- a jump has one distance
-one_distance : (program : List Insn) (unit : ℕ) (d e : ℤ) → JumpsBy program unit d → JumpsBy program unit e → d ≡ e
-one_distance program unit d e first second = some_is d e (sym first ∙ second)
-
+-- a whole number that is a unit is this one
 pub unit_is : (z : ℤ) (t : ℕ) → unit_of z ≡ Some t → z ≡ pos t
 unit_is (pos u) t e = ap pos (some_is u t e)
 unit_is (negsuc u) t e = absurd cc
@@ -34,23 +31,20 @@ starts_inside program unit there =
     ]
 
 -- a jump that lands has none of the three faults
-pub lands_forward : (program : List Insn) (unit : ℕ) (d e : ℤ) → Lands program unit d → JumpsBy program unit d → JumpsBy program unit e → (e <ℤ pos 0) → ⊥
-lands_forward program unit d e lands jumps by back =
-    let same = one_distance program unit d e jumps by in
+pub lands_forward : (program : List Insn) (unit : ℕ) (d : ℤ) → Lands program unit d → (d <ℤ pos 0) → ⊥
+lands_forward program unit d lands back =
     let goes = unit_is (target_of unit d) lands.target lands.goes in
-    absurd (grind (arith, same, goes, back, lands.forward))
+    absurd (grind (arith, goes, back, lands.forward))
 
-pub lands_inside : (program : List Insn) (unit : ℕ) (d e : ℤ) → Lands program unit d → JumpsBy program unit d → JumpsBy program unit e → (pos (unit_count program) ≤ℤ target_of unit e) → ⊥
-lands_inside program unit d e lands jumps by out =
-    let same = one_distance program unit d e jumps by in
+pub lands_inside : (program : List Insn) (unit : ℕ) (d : ℤ) → Lands program unit d → (pos (unit_count program) ≤ℤ target_of unit d) → ⊥
+lands_inside program unit d lands out =
     let goes = unit_is (target_of unit d) lands.target lands.goes in
-    absurd (grind (arith, same, goes, out, starts_inside program lands.target lands.starts))
+    absurd (grind (arith, goes, out, starts_inside program lands.target lands.starts))
 
-pub lands_at_start : (program : List Insn) (unit : ℕ) (d : ℤ) → Lands program unit d → JumpsBy program unit d → JumpsIntoWide program unit → ⊥
-lands_at_start program unit d lands jumps into =
-    let same = one_distance program unit d into.distance jumps into.jumps in
-    let goes = unit_is (target_of unit d) lands.target lands.goes in
-    let target : lands.target ≡ into.target = grind (arith, same, goes, into.goes) in
+pub lands_at_start : (program : List Insn) (unit : ℕ) (into : JumpsIntoWide program unit) → Lands program unit into.distance → ⊥
+lands_at_start program unit into lands =
+    let goes = unit_is (target_of unit into.distance) lands.target lands.goes in
+    let target : lands.target ≡ into.target = grind (arith, goes, into.goes) in
     let there = value_there (instruction_at program lands.target) lands.starts in
     let none : instruction_at program lands.target ≡ None = ap (instruction_at program) target ∙ into.half.1 in
     let e = there.1 in
@@ -60,14 +54,14 @@ lands_at_start program unit d lands jumps into =
 only_falls : (program : List Insn) (unit : ℕ) → DoesLand program unit → (fault : FlowFault) → HasFault program fault → faulty_unit fault ≡ unit → fault ≡ FallsOffEnd unit
 only_falls program unit lands (BackwardJump u) has here =
     let jumps = subst (λ (k : ℕ). JumpsBy program k has.0) here has.1.0 in
-    absurd (lands_forward program unit has.0 has.0 (lands has.0 jumps) jumps jumps has.1.1)
+    absurd (lands_forward program unit has.0 (lands has.0 jumps) has.1.1)
 only_falls program unit lands (JumpOut u) has here =
     let jumps = subst (λ (k : ℕ). JumpsBy program k has.0) here has.1.0 in
     let out = subst (λ (k : ℕ). pos (unit_count program) ≤ℤ target_of k has.0) here has.1.1 in
-    absurd (lands_inside program unit has.0 has.0 (lands has.0 jumps) jumps jumps out)
+    absurd (lands_inside program unit has.0 (lands has.0 jumps) out)
 only_falls program unit lands (JumpIntoWide u) has here =
     let into = subst (λ (k : ℕ). JumpsIntoWide program k) here has in
-    absurd (lands_at_start program unit into.distance (lands into.distance into.jumps) into.jumps into)
+    absurd (lands_at_start program unit into (lands into.distance into.jumps))
 only_falls program unit lands (FallsOffEnd u) has here = ap FallsOffEnd here
 
 -- an instruction whose jump lands and after which no run leaves the program has no fault
@@ -85,7 +79,7 @@ falls_here program unit i at lands goes_on last = record {
   least = λ other has here. omega (arith, ap number_of (only_falls program unit lands other has here));
 }
 
--- the units that the first k instructions come to have no fault
+-- no unit that the first k instructions take has a fault
 pub record Passed (program : List Insn) (k unit : ℕ) : Type 0 where
   pub counted : unit ≡ unit_count (take k program)
   pub clear : (fault : FlowFault) → HasFault program fault → unit ≤ faulty_unit fault

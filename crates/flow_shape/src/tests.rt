@@ -1,5 +1,4 @@
 //! Small programs: which are shaped, and the number and unit of each other's first fault.
-ghost use Rattle.std.specs.Prelude.{◌≤◌};
 
 use crate::{FlowFault, shape};
 use bpf_model::limits::PROGRAM_UNITS;
@@ -58,15 +57,25 @@ fn jeq(distance: i16) -> Insn {
 
 /// Each kind of jump, of one distance.
 fn jumps(distance: i16) -> [(&'static str, Insn); 6] {
-    let x = Operand::Register(r0());
-    let k = Operand::Immediate(0);
     [
         ("ja", ja(distance)),
         ("jal", jal(i32::from(distance))),
-        ("jeq32 X", branch(Width::W32, x, distance)),
-        ("jeq32 K", branch(Width::W32, k, distance)),
-        ("jeq64 X", branch(Width::W64, x, distance)),
-        ("jeq64 K", branch(Width::W64, k, distance)),
+        (
+            "jeq32 X",
+            branch(Width::W32, Operand::Register(r0()), distance),
+        ),
+        (
+            "jeq32 K",
+            branch(Width::W32, Operand::Immediate(0), distance),
+        ),
+        (
+            "jeq64 X",
+            branch(Width::W64, Operand::Register(r0()), distance),
+        ),
+        (
+            "jeq64 K",
+            branch(Width::W64, Operand::Immediate(0), distance),
+        ),
     ]
 }
 
@@ -290,23 +299,16 @@ fn the_first_faulty_unit_is_named(rt: HostRuntime) -> Result<(), Fail> {
     Ok(())
 }
 
-/// A jump, then exits, in 512 units.
-fn longest(alloc: Global, distance: i16) -> Result<Program, Fail> {
-    let mut instructions = Vec::new(alloc);
-    instructions.push(ja(distance))?;
-    for _ in 1..PROGRAM_UNITS {
-        instructions.push(EXIT)?;
-    }
-    Ok(Program::new(instructions).ok_or("512 units are a program")?)
-}
-
 #[test]
 fn the_longest_program_is_jumped_over(rt: HostRuntime) -> Result<(), Fail> {
-    let alloc = rt.alloc();
-    assert!(rt; shape(longest(alloc, 510)?).is_ok());
-    match shape(longest(alloc, 511)?) {
-        Ok(_) => return Err("a jump to unit 512 was accepted".into()),
-        Err(fault) => assert_eq!(rt; fault, FlowFault::JumpOut(0)),
+    for (distance, expected) in [(510, (0, 512)), (511, (31, 0)), (-1, (30, 0))] {
+        let mut code = [EXIT; PROGRAM_UNITS];
+        code[0] = ja(distance);
+        assert_eq!(rt;
+            outcome(rt.alloc(), &code)?,
+            expected,
+            "distance {distance}"
+        );
     }
     Ok(())
 }
