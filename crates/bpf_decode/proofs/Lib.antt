@@ -1,3 +1,1 @@
 pub mod UnitLemmas
-pub mod SpellingLemmas
-pub mod FaultLemmas
