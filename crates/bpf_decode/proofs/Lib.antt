@@ -1,1 +1,4 @@
+pub mod Outcomes
 pub mod UnitLemmas
+pub mod OpcodeLemmas
+pub mod FieldLemmas

@@ -20,15 +20,15 @@ fn units(instructions: &[Insn]) -> usize
     units
 }
 
-fn write(bytes: &mut Vec<u8>, insn: Insn)
-    requires { length bytes.old.items + 8 * units_of insn ≤ vec_capacity bytes.old }
-    ensures instruction { IsInstruction insn }
-    ensures written { bytes.new.items ≡ bytes.old.items ++ spelling insn }
+fn write(bytes: &mut Vec<u8>, insn: &Insn)
+    requires { length bytes.old.items + 8 * units_of insn.now ≤ vec_capacity bytes.old }
+    ensures instruction { IsInstruction insn.now }
+    ensures written { bytes.new.items ≡ bytes.old.items ++ spelling insn.now }
     ensures room { vec_capacity bytes.new ≡ vec_capacity bytes.old }
 {
     bytes.extend_from_slice(&Fields::of(insn).to_bytes()).unwrap();
     if let Insn::Wide { value, .. } = insn {
-        bytes.extend_from_slice(&Fields::second_half(value).to_bytes()).unwrap();
+        bytes.extend_from_slice(&Fields::second_half(*value).to_bytes()).unwrap();
     }
 }
 
@@ -39,7 +39,7 @@ pub fn encode(alloc: Global, program: &Program) -> Result<Vec<u8>, NoMemory>
     let instructions = program.instructions();
     let mut bytes = Vec::with_capacity(alloc, UNIT_BYTES * units(instructions))?;
     for insn in instructions {
-        write(&mut bytes, *insn);
+        write(&mut bytes, insn);
     }
     Ok(bytes)
 }

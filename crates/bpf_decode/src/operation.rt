@@ -1,6 +1,6 @@
 //! What an opcode stands for.
 ghost use Rattle.std.specs.Prelude.{◌≡◌, ◌<◌, ◌%◌, IfSome, IfNone, None};
-ghost use Rattle.bpf_model.specs.Spelling.{source_of, alu_class, jump_class, class_ld, class_ldx};
+ghost use Rattle.bpf_model.specs.Spelling.{opcode as opcode_with, source_of, alu_class, jump_class, class_ld, class_ldx};
 ghost use Rattle.bpf_decode.specs.Opcodes.{used_fields, class_in, source_in};
 ghost use Rattle.bpf_decode.specs.Operations.{source_number, stored_class, opcode_of, used_by, fields_with_opcode};
 
@@ -237,7 +237,7 @@ fn branch_class(width: Width) -> u8
 fn coded(code: u8, source: Source, class: u8) -> u8
     requires code { code < 16 }
     requires class { class < 8 }
-    ensures { result ≡ opcode code (source_number source) class }
+    ensures { result ≡ opcode_with code (source_number source) class }
 {
     16 * code + 8 * source.number() + class
 }

@@ -11,9 +11,9 @@ use bpf_model::{AluOp, Insn, Operand};
 
 impl Fields {
     /// The fields of an instruction's first unit.
-    pub(crate) fn of(insn: Insn) -> Fields
-        ensures instruction { IsInstruction insn }
-        ensures fields { result ≡ fields_of insn }
+    pub(crate) fn of(insn: &Insn) -> Fields
+        ensures instruction { IsInstruction insn.now }
+        ensures fields { result ≡ fields_of insn.now }
     {
         Fields {
             opcode: operation(insn).opcode(),
@@ -51,10 +51,10 @@ fn high_half(value: u64) -> i32
     ((value / 0x1_0000_0000) as u32).cast_signed()
 }
 
-fn operation(insn: Insn) -> Operation
-    ensures { opcode_of result ≡ (fields_of insn).opcode }
+fn operation(insn: &Insn) -> Operation
+    ensures { opcode_of result ≡ (fields_of insn.now).opcode }
 {
-    match insn {
+    match *insn {
         Insn::Alu { op, width, src, .. } => Operation::Alu(op, Source::of(src), width),
         Insn::Negate { width, .. } => Operation::Negate(width),
         Insn::Mov { width, src, .. } => Operation::Mov(Source::of(src), width),
@@ -70,11 +70,11 @@ fn operation(insn: Insn) -> Operation
     }
 }
 
-fn dst(insn: Insn) -> u8
-    ensures field { result ≡ (fields_of insn).dst }
+fn dst(insn: &Insn) -> u8
+    ensures field { result ≡ (fields_of insn.now).dst }
     ensures register { IsRegister result }
 {
-    match insn {
+    match *insn {
         Insn::Alu { dst, .. }
         | Insn::Negate { dst, .. }
         | Insn::Mov { dst, .. }
@@ -88,11 +88,11 @@ fn dst(insn: Insn) -> u8
     }
 }
 
-fn src(insn: Insn) -> u8
-    ensures field { result ≡ (fields_of insn).src }
+fn src(insn: &Insn) -> u8
+    ensures field { result ≡ (fields_of insn.now).src }
     ensures register { IsRegister result }
 {
-    match insn {
+    match *insn {
         Insn::Alu { src, .. }
         | Insn::Mov { src, .. }
         | Insn::Store { src, .. }
@@ -112,10 +112,10 @@ fn operand_register(src: Operand) -> u8
     }
 }
 
-fn offset(insn: Insn) -> i16
-    ensures { result ≡ (fields_of insn).offset }
+fn offset(insn: &Insn) -> i16
+    ensures { result ≡ (fields_of insn.now).offset }
 {
-    match insn {
+    match *insn {
         Insn::Alu { op, .. } => sign_offset(op),
         Insn::SignExtend { extension, .. } => extension.bits() as i16,
         Insn::Load { offset, .. } | Insn::Store { offset, .. } => offset,
@@ -134,10 +134,10 @@ fn sign_offset(op: AluOp) -> i16
     }
 }
 
-fn imm(insn: Insn) -> i32
-    ensures { result ≡ (fields_of insn).imm }
+fn imm(insn: &Insn) -> i32
+    ensures { result ≡ (fields_of insn.now).imm }
 {
-    match insn {
+    match *insn {
         Insn::Alu { src, .. }
         | Insn::Mov { src, .. }
         | Insn::Store { src, .. }
