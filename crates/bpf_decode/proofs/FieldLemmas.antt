@@ -3,7 +3,7 @@ use Rattle.std.proofs.Common.{◌≡◌, ℕ, ◌+◌, ◌*◌, ◌/◌, ◌%◌
 use Rattle.std.specs.Prelude.{nat_eq, nat_lt, if◌then◌else◌}
 use Rattle.std.specs.Ordering.{int_eq}
 use Rattle.std.specs.Int.{w32, cast_signed, cast_unsigned}
-use Rattle.std.proofs.lemmas.Int.{of_z-to_z, to_z-of_z}
+use Rattle.std.proofs.Math.Facts.{sfits_to_z}
 use Rattle.std.proofs.lemmas.Bool.Decides.{nat_tests}
 use Rattle.bpf_model.specs.declared.operations.AluOp.{AluOp}
 use Rattle.bpf_model.specs.declared.operations.AluOp.TheVariants.{Add, Sub, Mul, Div, SDiv, Or, And, Lsh, Rsh, Mod, SMod, Xor, Arsh}
@@ -43,7 +43,7 @@ zero_fits_imm : IsImmediate (pos 0)
 zero_fits_imm = record { sfits = omega arith }
 
 -- the source, the register and the immediate of an operand have their bits
-source_of-few : (s : Operand) → source_of s < 2
+pub source_of-few : (s : Operand) → source_of s < 2
 source_of-few (Register r) = omega arith
 source_of-few (Immediate imm) = omega arith
 
@@ -55,7 +55,7 @@ imm_of-fits : (s : Operand) → IsOperand s → IsImmediate (imm_of s)
 imm_of-fits (Register r) h = zero_fits_imm
 imm_of-fits (Immediate imm) h = h
 
-store_class-few : (s : Operand) → store_class s < 8
+pub store_class-few : (s : Operand) → store_class s < 8
 store_class-few (Register r) = omega arith
 store_class-few (Immediate imm) = omega arith
 
@@ -95,7 +95,7 @@ access_opcode-fits mode size class h g k = omega (arith, h, g, k)
 
 -- the low and the upper half of a word, read as immediates
 half_fits : (n : ℕ) → n < 2 ^ 32 → IsImmediate (cast_signed w32 n)
-half_fits n h = ?
+half_fits n h = sfits_to_z {w = w32} {n = n} (record { fits = h })
 
 -- the fields of an instruction fit their bits
 pub fit-fields_of : (i : Insn) → IsInstruction i → FitUnit (fields_of i)
