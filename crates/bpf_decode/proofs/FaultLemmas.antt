@@ -1,5 +1,5 @@
 -- First faults: bytes have one at most, and bytes that spell a program have none.
-use Rattle.std.proofs.Common.{◌≡◌, ℕ, ◌+◌, ◌*◌, ◌/◌, ◌%◌, ◌<◌, ◌≤◌, ◌⊎◌, false, true, List, [], ◌∷◌, ◌++◌, length, Option, Some, None, Result, Ok, Err, refl, sym, ap, ◌∙◌, arith, length-append, inl, inr}
+use Rattle.std.proofs.Common.{◌≡◌, ℕ, ◌+◌, ◌*◌, ◌/◌, ◌%◌, ◌<◌, ◌≤◌, ◌⊎◌, false, true, List, [], ◌∷◌, ◌++◌, length, Option, Some, None, Result, Ok, Err, refl, sym, ap, ◌∙◌, subst, arith, length-append, inl, inr}
 use Rattle.std.specs.Prelude.{nat_eq, nat_lt, IfOk, IfErr, IsErrAnd}
 use Rattle.std.proofs.lemmas.Bool.Decides.{nat_tests}
 use Rattle.std.proofs.lemmas.List.Concat.{flat_map-cons}
@@ -141,6 +141,12 @@ first_fault_is_one bytes a b (inr (e, u)) (inr (d, v)) =
     let same = unit_faults_agree u.front v.front u.fields v.fields u.rest v.rest u.of_unit v.of_unit u.instructions v.instructions u.fit v.fit u.faulty v.faulty (sym u.spelled ∙ v.spelled) in
     u.named ∙ ap (λ (is : List Insn). at_unit (unit_count is) u.of_unit) same.0 ∙ ap (at_unit (unit_count v.front)) same.1 ∙ sym v.named
 
+-- instructions with a unit are some
+some_units : (is : List Insn) → 0 < unit_count is → 0 < length is
+unfolding unit_count
+some_units [] h = absurd (omega (arith, h))
+some_units (i ∷ is) h = omega arith
+
 -- bytes of a program's length that are instructions and less than a unit are the instructions alone
 pub Spells-all : (bytes rest : List ℕ) (is : List Insn) → length_fault bytes ≡ None → AreInstructions is → bytes ≡ spelling_of_all is ++ rest → length rest < 8 → Spells bytes is
 Spells-all bytes rest is h fits e short =
@@ -148,7 +154,7 @@ Spells-all bytes rest is h fits e short =
     let units = length_fault-none bytes h in
     let nothing : rest ≡ [] = nil_from_length rest (omega (arith, len, units.1)) in
     record {
-      program = record { some = omega (arith, len, units.0, length-unit_count is); few = omega (arith, len, units.2) };
+      program = record { some = some_units is (omega (arith, len, units.0, ap length nothing)); few = omega (arith, len, units.2) };
       fits = fits;
       bytes = e ∙ ap (λ (x : List ℕ). spelling_of_all is ++ x) nothing ∙ append-nil (spelling_of_all is);
     }

@@ -22,6 +22,7 @@ use Rattle.bpf_model.specs.declared.instruction.Operand.TheVariants.{Register, I
 use Rattle.bpf_model.specs.declared.instruction.Insn.{Insn}
 use Rattle.bpf_model.specs.declared.instruction.Insn.TheVariants.{Alu, Negate, Mov, SignExtend, Reorder, Wide, Load, Store, Jump, JumpLong, Branch, Exit}
 use Rattle.bpf_model.specs.Words.{IsWord}
+use Rattle.bpf_model.specs.Program.{units_of}
 use Rattle.bpf_model.specs.Arithmetic.{swap_bits, extension_width, extension_bits}
 use Rattle.bpf_model.specs.Accesses.{loaded_size}
 use Rattle.bpf_model.specs.Spelling.{Fields, opcode, access_opcode, class_ldx, alu_class, jump_class, store_class, source_k, source_x, source_of, src_of, imm_of, code_of, offset_of, neg_code, mov_code, end_code, ja_code, exit_code, test_code, size_code, mode_mem, mode_of, order_source, order_width, fields_of, second_unit, IsInstruction, IsOperand, IsOffset, IsImmediate}
@@ -234,3 +235,22 @@ fault_of-fields_of i h =
     let used : used_fields (fields_of i).opcode ≡ Some (used_by (operation_of i)) = ap used_fields (sym (opcode_of-operation_of i)) ∙ used_fields-opcode_of (operation_of i) in
     let clean = operands_have_no_fault (used_by (operation_of i)) (fields_of i) (operands-fields_of i h) in
     ap (λ (u : Option UsedFields). fault_under u (fields_of i)) used ∙ rw (clean.0, clean.1, width-fields_of i) refl
+
+-- an instruction of one unit whose registers and fields fit is one
+pub is_instruction : (i : Insn) → (fields_of i).dst ≤ 10 → (fields_of i).src ≤ 10 → FitUnit (fields_of i) → units_of i ≡ 1 → IsInstruction i
+is_instruction (Alu o w dst (Register r)) d s fit one = (d, s)
+is_instruction (Alu o w dst (Immediate imm)) d s fit one = (d, fit.imm)
+is_instruction (Negate w dst) d s fit one = d
+is_instruction (Mov w dst (Register r)) d s fit one = (d, s)
+is_instruction (Mov w dst (Immediate imm)) d s fit one = (d, fit.imm)
+is_instruction (SignExtend e dst src) d s fit one = (d, s)
+is_instruction (Reorder order size dst) d s fit one = d
+is_instruction (Wide dst value) d s fit one = absurd (omega (arith, one))
+is_instruction (Load kind dst src offset) d s fit one = (d, s, fit.offset)
+is_instruction (Store size dst (Register r) offset) d s fit one = (d, s, fit.offset)
+is_instruction (Store size dst (Immediate imm) offset) d s fit one = (d, fit.imm, fit.offset)
+is_instruction (Jump distance) d s fit one = fit.offset
+is_instruction (JumpLong distance) d s fit one = fit.imm
+is_instruction (Branch test w dst (Register r) distance) d s fit one = (d, s, fit.offset)
+is_instruction (Branch test w dst (Immediate imm) distance) d s fit one = (d, fit.imm, fit.offset)
+is_instruction Exit d s fit one = tt

@@ -84,7 +84,7 @@ no_store : (mode size : ℕ) (s : Operand) → access_opcode mode size (store_cl
 no_store mode size (Register r) e = omega (arith, e)
 no_store mode size (Immediate imm) e = omega (arith, e)
 
-pub is_wide : (i : Insn) → IsInstruction i → (fields_of i).opcode ≡ wide_opcode → (value : ℕ) × (IsWord value × (second_bytes i ≡ unit_bytes (second_unit value)))
+pub is_wide : (i : Insn) → IsInstruction i → (fields_of i).opcode ≡ wide_opcode → (value : ℕ) × IsWord value × (second_bytes i ≡ unit_bytes (second_unit value))
 is_wide (Alu op w dst src) h e = absurd (no_alu (code_of op) (source_of src) w e)
 is_wide (Negate w dst) h e = absurd (no_alu neg_code source_k w e)
 is_wide (Mov w dst src) h e = absurd (no_alu mov_code (source_of src) w e)

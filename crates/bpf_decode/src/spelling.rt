@@ -2,7 +2,8 @@
 ghost use Rattle.std.specs.Prelude.{◌≡◌, ◌≤◌, ◌/◌, ◌%◌, ◌^◌};
 ghost use Rattle.std.specs.Int.{w32, cast_signed};
 ghost use Rattle.bpf_model.specs.Words.{IsWord};
-ghost use Rattle.bpf_model.specs.Spelling.{fields_of, second_unit, src_of, imm_of, offset_of, IsInstruction, IsRegister};
+ghost use Rattle.bpf_model.specs.Spelling.{fields_of, second_unit, src_of, imm_of, offset_of, IsRegister};
+ghost use Rattle.bpf_decode.specs.UnitFaults.{FitUnit};
 ghost use Rattle.bpf_decode.specs.Operations.{opcode_of};
 
 use crate::operation::{Operation, Source};
@@ -12,8 +13,10 @@ use bpf_model::{AluOp, Insn, Operand};
 impl Fields {
     /// The fields of an instruction's first unit.
     pub(crate) fn of(insn: &Insn) -> Fields
-        ensures instruction { IsInstruction insn.now }
         ensures fields { result ≡ fields_of insn.now }
+        ensures fit { FitUnit result }
+        ensures dst { IsRegister result.dst }
+        ensures src { IsRegister result.src }
     {
         Fields {
             opcode: operation(insn).opcode(),
