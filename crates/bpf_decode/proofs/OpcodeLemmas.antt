@@ -1,5 +1,5 @@
 -- Opcodes from their parts, and which fields they use.
-use Rattle.std.proofs.Common.{◌≡◌, ◌≢◌, ℕ, ◌+◌, ◌*◌, ◌/◌, ◌%◌, ◌<◌, ◌≤◌, Bool, false, true, ◌&&◌, ◌||◌, Option, Some, None, refl, ◌∙◌, arith, ℤ, pos}
+use Rattle.std.proofs.Common.{◌≡◌, ◌≢◌, ℕ, ◌+◌, ◌*◌, ◌/◌, ◌%◌, ◌<◌, ◌≤◌, Bool, false, true, ◌&&◌, ◌||◌, Option, Some, None, refl, sym, ap, ◌∙◌, arith, ℤ, pos}
 use Rattle.std.specs.Prelude.{nat_eq, nat_lt}
 use Rattle.std.specs.Ordering.{int_eq}
 use Rattle.std.proofs.lemmas.Bool.Decides.{nat_tests}
@@ -22,8 +22,9 @@ use Rattle.bpf_decode.specs.declared.operation.Source.TheVariants.{Immediate, Re
 use Rattle.bpf_decode.specs.declared.operation.Operation.{Operation}
 use Rattle.bpf_decode.specs.declared.operation.Operation.TheVariants.{Alu, Negate, Mov, Reorder, Wide, Load, Store, Jump, JumpLong, Branch, Exit}
 use Rattle.bpf_decode.specs.declared.unit.UsedFields.{UsedFields}
+use Rattle.bpf_decode.specs.declared.fault.UnitFault.{UnitFault}
 use Rattle.bpf_decode.specs.Opcodes.{used_fields, used_by_alu, used_by_jump, used_by_load, used_by_store, is_alu_code, is_test_code, is_division, operands}
-use Rattle.bpf_decode.specs.UnitFaults.{has_bad_width, has_bad_alu_width, is_sign, is_move, is_swap}
+use Rattle.bpf_decode.specs.UnitFaults.{has_bad_width, has_bad_alu_width, is_sign, is_move, is_swap, fault_under, fault_of}
 use Rattle.bpf_decode.specs.Operations.{source_number, stored_class, opcode_of, used_by, IsZeroUnlessUsed}
 
 -- the parts of an opcode are those that it was put together of
@@ -242,3 +243,10 @@ good_order f source w h e swap = has_bad_width-alu f end_code source w h e ∙ r
 -- a change of sign
 pub good_negation : (f : Fields) (w : Width) → f.opcode ≡ opcode neg_code source_k (alu_class w) → has_bad_width f ≡ false
 good_negation f w e = has_bad_width-alu f neg_code source_k w (omega arith) e
+
+-- a fault of the fields that an operation uses is the fields' fault
+pub fault_of_use : (f : Fields) (o : Operation) (used : UsedFields) (fault : Option UnitFault)
+    → opcode_of o ≡ f.opcode → used ≡ used_by o → fault_under (Some used) f ≡ fault → fault_of f ≡ fault
+fault_of_use f o used fault e u h =
+    let listed : used_fields f.opcode ≡ Some used = ap used_fields (sym e) ∙ used_fields-opcode_of o ∙ ap (λ (x : UsedFields). Some x) (sym u) in
+    ap (λ (x : Option UsedFields). fault_under x f) listed ∙ h
