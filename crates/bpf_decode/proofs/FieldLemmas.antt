@@ -5,6 +5,7 @@ use Rattle.std.specs.Ordering.{int_eq}
 use Rattle.std.specs.Int.{w32, cast_signed, cast_unsigned}
 use Rattle.std.proofs.Math.Facts.{sfits_to_z}
 use Rattle.std.proofs.lemmas.Bool.Decides.{nat_tests}
+use Rattle.std.proofs.lemmas.List.{append-nil}
 use Rattle.bpf_model.specs.declared.operations.AluOp.{AluOp}
 use Rattle.bpf_model.specs.declared.operations.AluOp.TheVariants.{Add, Sub, Mul, Div, SDiv, Or, And, Lsh, Rsh, Mod, SMod, Xor, Arsh}
 use Rattle.bpf_model.specs.declared.operations.Width.{Width}
@@ -25,7 +26,7 @@ use Rattle.bpf_model.specs.Words.{IsWord}
 use Rattle.bpf_model.specs.Program.{units_of}
 use Rattle.bpf_model.specs.Arithmetic.{swap_bits, extension_width, extension_bits}
 use Rattle.bpf_model.specs.Accesses.{loaded_size}
-use Rattle.bpf_model.specs.Spelling.{Fields, opcode, access_opcode, class_ldx, alu_class, jump_class, store_class, source_k, source_x, source_of, src_of, imm_of, code_of, offset_of, neg_code, mov_code, end_code, ja_code, exit_code, test_code, size_code, mode_mem, mode_of, order_source, order_width, fields_of, second_unit, IsInstruction, IsOperand, IsOffset, IsImmediate}
+use Rattle.bpf_model.specs.Spelling.{Fields, opcode, access_opcode, class_ldx, alu_class, jump_class, store_class, source_k, source_x, source_of, src_of, imm_of, code_of, offset_of, neg_code, mov_code, end_code, ja_code, exit_code, test_code, size_code, mode_mem, mode_of, order_source, order_width, unit_bytes, fields_of, second_unit, second_bytes, spelling, IsInstruction, IsOperand, IsOffset, IsImmediate}
 use Rattle.bpf_decode.specs.declared.operation.Source.{Source}
 use Rattle.bpf_decode.specs.declared.operation.Source.TheVariants.{Immediate as K, Register as X}
 use Rattle.bpf_decode.specs.declared.operation.Operation.{Operation}
@@ -254,3 +255,22 @@ is_instruction (JumpLong distance) d s fit one = fit.imm
 is_instruction (Branch test w dst (Register r) distance) d s fit one = (d, s, fit.offset)
 is_instruction (Branch test w dst (Immediate imm) distance) d s fit one = (d, fit.imm, fit.offset)
 is_instruction Exit d s fit one = tt
+
+-- an instruction that is not wide has one unit, and no second
+pub one_unit : (i : Insn) → ((dst value : ℕ) → i ≡ Wide dst value → ⊥) → (units_of i ≡ 1) × (second_bytes i ≡ [])
+one_unit (Alu o w dst src) n = (refl, refl)
+one_unit (Negate w dst) n = (refl, refl)
+one_unit (Mov w dst src) n = (refl, refl)
+one_unit (SignExtend e dst src) n = (refl, refl)
+one_unit (Reorder order size dst) n = (refl, refl)
+one_unit (Wide dst value) n = absurd (n dst value refl)
+one_unit (Load kind dst src offset) n = (refl, refl)
+one_unit (Store size dst src offset) n = (refl, refl)
+one_unit (Jump distance) n = (refl, refl)
+one_unit (JumpLong distance) n = (refl, refl)
+one_unit (Branch test w dst src distance) n = (refl, refl)
+one_unit Exit n = (refl, refl)
+
+-- so its spelling is one unit's
+pub one_unit_spelled : (i : Insn) (bytes : List ℕ) → ((dst value : ℕ) → i ≡ Wide dst value → ⊥) → bytes ≡ unit_bytes (fields_of i) → bytes ≡ spelling i
+one_unit_spelled i bytes n e = e ∙ sym (ap (λ (x : List ℕ). unit_bytes (fields_of i) ++ x) (one_unit i n).1 ∙ append-nil (unit_bytes (fields_of i)))

@@ -1,5 +1,6 @@
 -- Instructions and their spellings.
-use Rattle.std.proofs.Common.{◌≡◌, ℕ, ◌+◌, ◌-◌, ◌*◌, ◌/◌, ◌%◌, ◌^◌, ◌<◌, ◌≤◌, true, take, drop, List, [], ◌∷◌, ◌++◌, length, refl, sym, ap, ◌∙◌, append_assoc, arith, length-append, pos}
+use Rattle.std.proofs.Common.{◌≡◌, ℕ, ◌+◌, ◌-◌, ◌*◌, ◌/◌, ◌%◌, ◌^◌, ◌<◌, ◌≤◌, true, take, drop, suc, Some, List, [], ◌∷◌, ◌++◌, length, refl, sym, ap, ◌∙◌, append_assoc, arith, length-append, pos}
+use Rattle.std.specs.Prelude.{slice_get}
 use Rattle.std.proofs.lemmas.List.{append-nil, append_cancel_left, take-append-drop}
 use Rattle.std.proofs.lemmas.List.Concat.{flat_map-cons}
 use Rattle.std.proofs.lemmas.Grind.{flat_map-append}
@@ -8,7 +9,7 @@ use Rattle.bpf_model.specs.declared.instruction.Insn.TheVariants.{Alu, Negate, M
 use Rattle.bpf_model.specs.Words.{bytes_of}
 use Rattle.bpf_model.specs.Program.{units_of, unit_count}
 use Rattle.bpf_model.specs.Spelling.{Fields, unit_bytes, fields_of, second_bytes, spelling, spelling_of_all, IsInstruction, AreInstructions}
-use Rattle.bpf_model.proofs.ProgramLemmas.{units_of-some, length-unit_count}
+use Rattle.bpf_model.proofs.ProgramLemmas.{units_of-some, length-unit_count, unit_count-next, unit_count-take}
 use Rattle.bpf_decode.proofs.UnitLemmas.{fields_at, fields_at-unit_bytes, length-unit_bytes, unit_bytes-first}
 use Rattle.bpf_decode.proofs.FieldLemmas.{fit-fields_of}
 use Rattle.bpf_decode.proofs.InsnLemmas.{insn_of, insn_again}
@@ -128,3 +129,9 @@ pub rest_is_shorter : (rest next : List ℕ) (i : Insn) → rest ≡ spelling i 
 rest_is_shorter rest next i e =
     let len : length rest ≡ 8 * units_of i + length next = ap length e ∙ length-append (spelling i) next ∙ ap (λ (n : ℕ). n + length next) (length-spelling i) in
     (omega (arith, len, units_of-some i), λ h. omega (arith, len, h))
+
+-- the next instruction has room where there is room for all
+pub room_for_next : (is : List Insn) (k : ℕ) (i : Insn) (bytes : List ℕ) (room : ℕ) → slice_get is k ≡ Some i → bytes ≡ spelling_of_all (take k is) → 8 * unit_count is ≤ room → length bytes + 8 * units_of i ≤ room
+room_for_next is k i bytes room e b h =
+    let written : length bytes ≡ 8 * unit_count (take k is) = ap length b ∙ length-spelling_of_all (take k is) in
+    omega (arith, written, unit_count-next is k i e, unit_count-take is (suc k), h)

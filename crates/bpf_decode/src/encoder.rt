@@ -24,7 +24,7 @@ fn write(bytes: &mut Vec<u8>, insn: &Insn)
     requires { length bytes.old.items + 8 * units_of insn.now ≤ vec_capacity bytes.old }
     ensures instruction { IsInstruction insn.now }
     ensures written { bytes.new.items ≡ bytes.old.items ++ spelling insn.now }
-    ensures room { vec_capacity bytes.new ≡ vec_capacity bytes.old }
+    ensures room { vec_capacity bytes.old ≤ vec_capacity bytes.new }
 {
     bytes.extend_from_slice(&Fields::of(insn).to_bytes()).unwrap();
     if let Insn::Wide { value, .. } = insn {
