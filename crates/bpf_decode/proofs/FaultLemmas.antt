@@ -1,41 +1,78 @@
 -- First faults: bytes have one at most, and bytes that spell a program have none.
-use Rattle.std.proofs.Common.{◌≡◌, ℕ, ◌+◌, ◌*◌, ◌/◌, ◌%◌, ◌<◌, ◌≤◌, ◌⊎◌, false, true, List, [], ◌∷◌, ◌++◌, length, Option, Some, None, Result, Ok, Err, refl, sym, ap, ◌∙◌, arith, length-append, inl, inr}
+use Rattle.std.proofs.Common.{◌≡◌, ℕ, ◌+◌, ◌*◌, ◌/◌, ◌%◌, ◌<◌, ◌≤◌, ◌⊎◌, false, true, List, [], ◌∷◌, ◌++◌, length, Option, Some, None, Result, Ok, Err, refl, sym, ap, ◌∙◌, subst, arith, length-append, inl, inr}
 use Rattle.std.specs.Prelude.{nat_eq, nat_lt, IfOk, IfErr, IsErrAnd}
 use Rattle.std.proofs.lemmas.Bool.Decides.{nat_tests}
 use Rattle.std.proofs.lemmas.List.Concat.{flat_map-cons}
 use Rattle.bpf_model.specs.declared.instruction.Insn.{Insn}
+use Rattle.bpf_model.specs.Words.{IsWord}
 use Rattle.bpf_model.specs.Program.{unit_count}
-use Rattle.bpf_model.specs.Spelling.{Fields, fields_of, unit_bytes, spelling, spelling_of_all, IsInstruction, AreInstructions, Spells}
-use Rattle.bpf_model.proofs.ProgramLemmas.{unit_count-length}
+use Rattle.bpf_model.specs.Spelling.{Fields, fields_of, unit_bytes, second_unit, second_bytes, spelling, spelling_of_all, IsInstruction, AreInstructions, Spells}
+use Rattle.bpf_model.proofs.ProgramLemmas.{length-unit_count, units_of-some}
 use Rattle.bpf_model.specs.declared.limits.TheConstants.{PROGRAM_UNITS}
 use Rattle.bpf_model.proofs.Options.{test_of}
 use Rattle.std.proofs.lemmas.List.{append-nil, nil_from_length}
 use Rattle.bpf_decode.specs.declared.fault.DecodeFault.{DecodeFault}
 use Rattle.bpf_decode.specs.declared.fault.DecodeFault.TheVariants.{NoMemory}
 use Rattle.bpf_decode.specs.declared.fault.UnitFault.{UnitFault}
-use Rattle.bpf_decode.specs.UnitFaults.{FitUnit, fault_of}
+use Rattle.bpf_decode.specs.declared.fault.UnitFault.TheVariants.{UnusedNotZero, CutWide}
+use Rattle.bpf_decode.specs.UnitFaults.{FitUnit, fault_of, has_imm_alone, BeginsWithMore, HasSecondFault, HasFault}
 use Rattle.bpf_decode.specs.Faults.{length_fault, at_unit, IsFirstFault, GivesUnlessNoMemory}
 use Rattle.bpf_decode.proofs.UnitLemmas.{length-unit_bytes, unit_bytes-first}
-use Rattle.bpf_decode.proofs.SpellingLemmas.{length-spelling_of_all, fit-fields_of, fault_of-fields_of, spelling-first, spelling_of_all-cons, spelling_of_all-injective}
+use Rattle.bpf_decode.proofs.FieldLemmas.{fit-fields_of, fit-second_unit, fault_of-fields_of}
+use Rattle.bpf_decode.proofs.WideLemmas.{is_wide}
+use Rattle.bpf_decode.proofs.SpellingLemmas.{length-spelling_of_all, spelling-first_unit, spelling-first, spelling_of_all-cons, spelling_of_all-injective}
+
+-- bytes that are a unit and more are not empty
+is_a_unit : (f : Fields) (xs : List ℕ) → [] ≡ unit_bytes f ++ xs → ⊥
+is_a_unit f xs e =
+    let none : 0 ≡ length (unit_bytes f ++ xs) = ap length e in
+    omega (arith, none, length-append (unit_bytes f) xs, length-unit_bytes f)
+
+-- a value that is there and not there
+is_both : {A : Type 0} (o : Option A) (x : A) → o ≡ None → o ≡ Some x → ⊥
+is_both o x n s = cc
+
+-- what comes after a wide instruction's first half is its second, which has no fault
+second_is_faultless : (value : ℕ) (xs ys : List ℕ) (fault : UnitFault) → IsWord value → HasSecondFault ys fault → unit_bytes (second_unit value) ++ xs ≡ ys → ⊥
+second_is_faultless value xs ys fault word (inl (cut, none)) e = is_a_unit (second_unit value) xs (sym none ∙ sym e)
+second_is_faultless value xs ys fault word (inr (unused, more)) e =
+    let same : second_unit value ≡ more.fields = (unit_bytes-first (second_unit value) more.fields xs more.rest (fit-second_unit value word) more.fit (e ∙ more.spelled)).0 in
+    let alone : has_imm_alone (second_unit value) ≡ true = refl in
+    let not_alone : has_imm_alone (second_unit value) ≡ false = ap has_imm_alone same ∙ more.more in
+    absurd cc
 
 -- a unit with a fault begins no instruction
-begins_none : (i : Insn) (f : Fields) (xs ys : List ℕ) (fault : UnitFault) → IsInstruction i → FitUnit f → fault_of f ≡ Some fault → spelling i ++ xs ≡ unit_bytes f ++ ys → ⊥
+begins_none : (i : Insn) (f : Fields) (xs ys : List ℕ) (fault : UnitFault) → IsInstruction i → FitUnit f → HasFault f ys fault → spelling i ++ xs ≡ unit_bytes f ++ ys → ⊥
 begins_none i f xs ys fault is-i fit faulty e =
-    let same : fields_of i ≡ f = (unit_bytes-first (fields_of i) f xs ys (fit-fields_of i is-i) fit e).0 in
-    let none : fault_of f ≡ None = ap fault_of (sym same) ∙ fault_of-fields_of i is-i in
-    absurd (is_both (fault_of f) fault none faulty)
-  where
-    is_both : (o : Option UnitFault) (x : UnitFault) → o ≡ None → o ≡ Some x → ⊥
-    is_both o x n s = cc
+    let first = unit_bytes-first (fields_of i) f (second_bytes i ++ xs) ys (fit-fields_of i is-i) fit (sym (spelling-first_unit i xs) ∙ e) in
+    elim faulty [
+      | inl own ↦ is_both (fault_of f) fault (ap fault_of (sym first.0) ∙ fault_of-fields_of i is-i) own
+      | inr (half, second) ↦
+        let wide = is_wide i is-i (ap Fields.opcode first.0 ∙ half.opcode) in
+        second_is_faultless wide.0 xs ys fault wide.1 second (ap (λ (x : List ℕ). x ++ xs) (sym wide.2) ∙ first.1)
+    ]
+
+-- after a first half comes one fault at most
+second_fault_is_one : (xs : List ℕ) (a b : UnitFault) → HasSecondFault xs a → HasSecondFault xs b → a ≡ b
+second_fault_is_one xs a b (inl (cut, none)) (inl (too, nothing)) = cut ∙ sym too
+second_fault_is_one xs a b (inl (cut, none)) (inr (unused, more)) = absurd (is_a_unit more.fields more.rest (sym none ∙ more.spelled))
+second_fault_is_one xs a b (inr (unused, more)) (inl (cut, none)) = absurd (is_a_unit more.fields more.rest (sym none ∙ more.spelled))
+second_fault_is_one xs a b (inr (unused, more)) (inr (too, other)) = unused ∙ sym too
+
+-- a unit has one fault at most
+fault_is_one : (f : Fields) (xs : List ℕ) (a b : UnitFault) → HasFault f xs a → HasFault f xs b → a ≡ b
+fault_is_one f xs a b (inl own) (inl too) = let both : Some a ≡ Some b = sym own ∙ too in cc
+fault_is_one f xs a b (inl own) (inr (half, second)) = absurd (is_both (fault_of f) a half.faultless own)
+fault_is_one f xs a b (inr (half, second)) (inl own) = absurd (is_both (fault_of f) b half.faultless own)
+fault_is_one f xs a b (inr (half, second)) (inr (too, other)) = second_fault_is_one xs a b second other
 
 -- after the same instructions comes the same fault
 unit_faults_agree : (p q : List Insn) (f g : Fields) (xs ys : List ℕ) (a b : UnitFault)
-    → AreInstructions p → AreInstructions q → FitUnit f → FitUnit g → fault_of f ≡ Some a → fault_of g ≡ Some b
+    → AreInstructions p → AreInstructions q → FitUnit f → FitUnit g → HasFault f xs a → HasFault g ys b
     → spelling_of_all p ++ (unit_bytes f ++ xs) ≡ spelling_of_all q ++ (unit_bytes g ++ ys) → (p ≡ q) × (a ≡ b)
 unit_faults_agree [] [] f g xs ys a b is-p is-q fit-f fit-g has-f has-g e =
-    let same : f ≡ g = (unit_bytes-first f g xs ys fit-f fit-g e).0 in
-    let both : Some a ≡ Some b = sym has-f ∙ ap fault_of same ∙ has-g in
-    (refl, cc)
+    let same = unit_bytes-first f g xs ys fit-f fit-g e in
+    (refl, fault_is_one g ys a b (subst (λ (h : Fields). HasFault h ys a) same.0 (subst (λ (zs : List ℕ). HasFault f zs a) same.1 has-f)) has-g)
 unit_faults_agree [] (j ∷ q) f g xs ys a b is-p is-q fit-f fit-g has-f has-g e =
     absurd (begins_none j f (spelling_of_all q ++ (unit_bytes g ++ ys)) xs a is-q.0 fit-f has-f (sym (spelling_of_all-cons j q _) ∙ sym e))
 unit_faults_agree (i ∷ p) [] f g xs ys a b is-p is-q fit-f fit-g has-f has-g e =
@@ -50,7 +87,7 @@ unit_faults_agree (i ∷ p) (j ∷ q) f g xs ys a b is-p is-q fit-f fit-g has-f 
 
 -- no unit of instructions has a fault
 spelled_is_faultless : (p q : List Insn) (f : Fields) (xs : List ℕ) (fault : UnitFault)
-    → AreInstructions p → AreInstructions q → FitUnit f → fault_of f ≡ Some fault → spelling_of_all p ≡ spelling_of_all q ++ (unit_bytes f ++ xs) → ⊥
+    → AreInstructions p → AreInstructions q → FitUnit f → HasFault f xs fault → spelling_of_all p ≡ spelling_of_all q ++ (unit_bytes f ++ xs) → ⊥
 spelled_is_faultless [] q f xs fault is-p is-q fit faulty e =
     let none : 0 ≡ length (spelling_of_all q ++ (unit_bytes f ++ xs)) = ap length e in
     omega (arith, none, length-append (spelling_of_all q) (unit_bytes f ++ xs), length-append (unit_bytes f) xs, length-unit_bytes f)
@@ -83,7 +120,7 @@ pub length_fault-spelled : (bytes : List ℕ) (p : List Insn) → Spells bytes p
 length_fault-spelled bytes p h =
     let count = unit_count p in
     let len : length bytes ≡ 8 * count = ap length h.bytes ∙ length-spelling_of_all p in
-    let more : 0 < count = omega (arith, h.program.some, unit_count-length p) in
+    let more : 0 < count = omega (arith, h.program.some, length-unit_count p) in
     let some : nat_eq (length bytes) 0 ≡ false = grind (arith, nat_tests) in
     let whole : nat_eq (length bytes % 8) 0 ≡ true = grind (arith, nat_tests) in
     let few : nat_lt PROGRAM_UNITS (length bytes / 8) ≡ false = grind (arith, nat_tests, h.program.few) in
@@ -104,6 +141,12 @@ first_fault_is_one bytes a b (inr (e, u)) (inr (d, v)) =
     let same = unit_faults_agree u.front v.front u.fields v.fields u.rest v.rest u.of_unit v.of_unit u.instructions v.instructions u.fit v.fit u.faulty v.faulty (sym u.spelled ∙ v.spelled) in
     u.named ∙ ap (λ (is : List Insn). at_unit (unit_count is) u.of_unit) same.0 ∙ ap (at_unit (unit_count v.front)) same.1 ∙ sym v.named
 
+-- instructions with a unit are some
+some_units : (is : List Insn) → 0 < unit_count is → 0 < length is
+unfolding unit_count
+some_units [] h = absurd (omega (arith, h))
+some_units (i ∷ is) h = omega arith
+
 -- bytes of a program's length that are instructions and less than a unit are the instructions alone
 pub Spells-all : (bytes rest : List ℕ) (is : List Insn) → length_fault bytes ≡ None → AreInstructions is → bytes ≡ spelling_of_all is ++ rest → length rest < 8 → Spells bytes is
 Spells-all bytes rest is h fits e short =
@@ -111,7 +154,7 @@ Spells-all bytes rest is h fits e short =
     let units = length_fault-none bytes h in
     let nothing : rest ≡ [] = nil_from_length rest (omega (arith, len, units.1)) in
     record {
-      program = record { some = omega (arith, len, units.0, unit_count-length is); few = omega (arith, len, units.2) };
+      program = record { some = some_units is (omega (arith, len, units.0, ap length nothing)); few = omega (arith, len, units.2) };
       fits = fits;
       bytes = e ∙ ap (λ (x : List ℕ). spelling_of_all is ++ x) nothing ∙ append-nil (spelling_of_all is);
     }

@@ -1,3 +1,8 @@
+pub mod Outcomes
 pub mod UnitLemmas
+pub mod OpcodeLemmas
+pub mod FieldLemmas
+pub mod InsnLemmas
+pub mod WideLemmas
 pub mod SpellingLemmas
 pub mod FaultLemmas

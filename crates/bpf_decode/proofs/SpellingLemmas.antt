@@ -1,24 +1,34 @@
 -- Instructions and their spellings.
-use Rattle.std.proofs.Common.{◌≡◌, ℕ, ◌+◌, ◌-◌, ◌*◌, ◌/◌, ◌<◌, ◌≤◌, take, drop, List, [], ◌∷◌, ◌++◌, length, None, refl, sym, ap, ◌∙◌, append_assoc, arith, length-append, false, pos}
-use Rattle.std.specs.Prelude.{nat_eq, nat_lt, if◌then◌else◌}
-use Rattle.std.proofs.lemmas.Bool.Decides.{nat_tests}
-use Rattle.std.proofs.lemmas.List.{append-nil, take-append-drop}
+use Rattle.std.proofs.Common.{◌≡◌, ℕ, ◌+◌, ◌-◌, ◌*◌, ◌/◌, ◌%◌, ◌^◌, ◌<◌, ◌≤◌, true, take, drop, suc, Some, List, [], ◌∷◌, ◌++◌, length, refl, sym, ap, ◌∙◌, append_assoc, arith, length-append, pos}
+use Rattle.std.specs.Prelude.{slice_get}
+use Rattle.std.proofs.lemmas.List.{append-nil, append_cancel_left, take-append-drop}
 use Rattle.std.proofs.lemmas.List.Concat.{flat_map-cons}
 use Rattle.std.proofs.lemmas.Grind.{flat_map-append}
-use Rattle.bpf_model.specs.declared.instruction.AluOp.TheVariants.{Add}
-use Rattle.bpf_model.specs.declared.instruction.Width.TheVariants.{W64}
-use Rattle.bpf_model.specs.declared.instruction.AccessSize.TheVariants.{DoubleWord}
 use Rattle.bpf_model.specs.declared.instruction.Insn.{Insn}
-use Rattle.bpf_model.specs.declared.instruction.Insn.TheVariants.{Alu, Mov, Load, Store, Exit}
+use Rattle.bpf_model.specs.declared.instruction.Insn.TheVariants.{Alu, Negate, Mov, SignExtend, Reorder, Wide, Load, Store, Jump, JumpLong, Branch, Exit}
+use Rattle.bpf_model.specs.Words.{bytes_of}
 use Rattle.bpf_model.specs.Program.{units_of, unit_count}
-use Rattle.bpf_model.specs.Spelling.{Fields, fields_of, spelling, spelling_of_all, IsInstruction, AreInstructions, IsOffset, IsImmediate}
-use Rattle.bpf_model.proofs.ProgramLemmas.{units_of-one, unit_count-length}
-use Rattle.bpf_decode.specs.UnitFaults.{FitUnit, fault_of}
-use Rattle.bpf_decode.proofs.UnitLemmas.{length-unit_bytes, unit_bytes-first}
+use Rattle.bpf_model.specs.Spelling.{Fields, unit_bytes, fields_of, second_bytes, spelling, spelling_of_all, IsInstruction, AreInstructions}
+use Rattle.bpf_model.proofs.ProgramLemmas.{units_of-some, length-unit_count, unit_count-next, unit_count-take}
+use Rattle.bpf_decode.proofs.UnitLemmas.{fields_at, fields_at-unit_bytes, length-unit_bytes, unit_bytes-first}
+use Rattle.bpf_decode.proofs.FieldLemmas.{fit-fields_of}
+use Rattle.bpf_decode.proofs.InsnLemmas.{insn_of, insn_again}
 
 -- an instruction has eight bytes a unit
 pub length-spelling : (i : Insn) → length (spelling i) ≡ 8 * units_of i
-length-spelling i = rw (units_of-one i) (length-unit_bytes (fields_of i))
+unfolding bytes_of
+length-spelling (Alu op w dst src) = refl
+length-spelling (Negate w dst) = refl
+length-spelling (Mov w dst src) = refl
+length-spelling (SignExtend e dst src) = refl
+length-spelling (Reorder order size dst) = refl
+length-spelling (Wide dst value) = refl
+length-spelling (Load kind dst src offset) = refl
+length-spelling (Store size dst src offset) = refl
+length-spelling (Jump distance) = refl
+length-spelling (JumpLong distance) = refl
+length-spelling (Branch test w dst src distance) = refl
+length-spelling Exit = refl
 
 -- instructions have eight bytes a unit
 pub length-spelling_of_all : (is : List Insn) → length (spelling_of_all is) ≡ 8 * unit_count is
@@ -31,67 +41,38 @@ length-spelling_of_all (i ∷ is) =
 pub spelling_of_all-push : (is : List Insn) (i : Insn) → spelling_of_all (is ++ i ∷ []) ≡ spelling_of_all is ++ spelling i
 spelling_of_all-push is i = flat_map-append spelling is (i ∷ []) ∙ ap (λ (x : List ℕ). spelling_of_all is ++ x) (flat_map-cons spelling i [] ∙ append-nil (spelling i))
 
--- an instruction more has its units more
-pub unit_count-push : (is : List Insn) (i : Insn) → unit_count (is ++ i ∷ []) ≡ unit_count is + units_of i
-unfolding unit_count
-unit_count-push [] i = omega arith
-unit_count-push (x ∷ is) i = omega (arith, unit_count-push is i)
-
 -- instructions with an instruction more
 pub AreInstructions-push : (is : List Insn) (i : Insn) → AreInstructions is → IsInstruction i → AreInstructions (is ++ i ∷ [])
 AreInstructions-push [] i h g = (g, tt)
 AreInstructions-push (x ∷ is) i h g = (h.0, AreInstructions-push is i h.1 g)
 
--- zero is an offset and an immediate
-zero_fits_offset : IsOffset (pos 0)
-zero_fits_offset = record { sfits = omega arith }
+-- an instruction's first unit comes first
+pub spelling-first_unit : (i : Insn) (xs : List ℕ) → spelling i ++ xs ≡ unit_bytes (fields_of i) ++ (second_bytes i ++ xs)
+spelling-first_unit i xs = append_assoc (unit_bytes (fields_of i)) (second_bytes i) xs
 
-zero_fits_imm : IsImmediate (pos 0)
-zero_fits_imm = record { sfits = omega arith }
+-- what comes after a unit
+after_unit : (f : Fields) (xs : List ℕ) → drop 8 (unit_bytes f ++ xs) ≡ xs
+unfolding bytes_of
+after_unit f xs = refl
 
--- the fields of an instruction fit their bits
-pub fit-fields_of : (i : Insn) → IsInstruction i → FitUnit (fields_of i)
-fit-fields_of (Alu Add W64 dst src) h = record { opcode = omega arith; dst = omega (arith, h.0); src = omega (arith, h.1); offset = zero_fits_offset; imm = zero_fits_imm }
-fit-fields_of (Mov W64 dst imm) h = record { opcode = omega arith; dst = omega (arith, h.0); src = omega arith; offset = zero_fits_offset; imm = h.1 }
-fit-fields_of (Load DoubleWord dst src offset) h = record { opcode = omega arith; dst = omega (arith, h.0); src = omega (arith, h.1); offset = h.2; imm = zero_fits_imm }
-fit-fields_of (Store DoubleWord dst src offset) h = record { opcode = omega arith; dst = omega (arith, h.0); src = omega (arith, h.1); offset = h.2; imm = zero_fits_imm }
-fit-fields_of Exit h = record { opcode = omega arith; dst = omega arith; src = omega arith; offset = zero_fits_offset; imm = zero_fits_imm }
+-- the instruction with which bytes begin
+insn_at : List ℕ → Insn
+insn_at bytes = insn_of (fields_at bytes) (Fields.imm (fields_at (drop 8 bytes)))
 
--- a register's number is not above 10
-is_not_above : (r : ℕ) → r ≤ 10 → nat_lt 10 r ≡ false
-is_not_above r h = grind (arith, nat_tests)
-
--- the fields of an instruction have no fault
-pub fault_of-fields_of : (i : Insn) → IsInstruction i → fault_of (fields_of i) ≡ None
-fault_of-fields_of (Alu Add W64 dst src) h = rw (is_not_above dst h.0, is_not_above src h.1) refl
-fault_of-fields_of (Mov W64 dst imm) h = rw (is_not_above dst h.0) refl
-fault_of-fields_of (Load DoubleWord dst src offset) h = rw (is_not_above dst h.0, is_not_above src h.1) refl
-fault_of-fields_of (Store DoubleWord dst src offset) h = rw (is_not_above dst h.0, is_not_above src h.1) refl
-fault_of-fields_of Exit h = refl
-
--- the instruction of faultless fields
-insn_of : Fields → Insn
-insn_of f =
-    if nat_eq f.opcode 0x0f then Alu Add W64 f.dst f.src
-    else (if nat_eq f.opcode 0xb7 then Mov W64 f.dst f.imm
-    else (if nat_eq f.opcode 0x79 then Load DoubleWord f.dst f.src f.offset
-    else (if nat_eq f.opcode 0x7b then Store DoubleWord f.dst f.src f.offset
-    else Exit)))
-
--- the instruction of an instruction's fields is this instruction
-insn_of-fields_of : (i : Insn) → insn_of (fields_of i) ≡ i
-unfolding insn_of
-insn_of-fields_of (Alu Add W64 dst src) = refl
-insn_of-fields_of (Mov W64 dst imm) = refl
-insn_of-fields_of (Load DoubleWord dst src offset) = refl
-insn_of-fields_of (Store DoubleWord dst src offset) = refl
-insn_of-fields_of Exit = refl
+insn_at-spelling : (i : Insn) (xs : List ℕ) → IsInstruction i → insn_at (spelling i ++ xs) ≡ i
+unfolding insn_at
+insn_at-spelling i xs h =
+    let first : fields_at (spelling i ++ xs) ≡ fields_of i = ap fields_at (spelling-first_unit i xs) ∙ fields_at-unit_bytes (fields_of i) (second_bytes i ++ xs) (fit-fields_of i h) in
+    let rest : drop 8 (spelling i ++ xs) ≡ second_bytes i ++ xs = ap (drop 8) (spelling-first_unit i xs) ∙ after_unit (fields_of i) (second_bytes i ++ xs) in
+    ap (λ (f : Fields). insn_of f (Fields.imm (fields_at (drop 8 (spelling i ++ xs))))) first
+    ∙ ap (λ (bytes : List ℕ). insn_of (fields_of i) (Fields.imm (fields_at bytes))) rest
+    ∙ insn_again i xs h
 
 -- no instruction's spelling begins another's
 pub spelling-first : (i j : Insn) (xs ys : List ℕ) → IsInstruction i → IsInstruction j → spelling i ++ xs ≡ spelling j ++ ys → (i ≡ j) × (xs ≡ ys)
 spelling-first i j xs ys is-i is-j e =
-    let first = unit_bytes-first (fields_of i) (fields_of j) xs ys (fit-fields_of i is-i) (fit-fields_of j is-j) e in
-    (sym (insn_of-fields_of i) ∙ ap insn_of first.0 ∙ insn_of-fields_of j, first.1)
+    let same : i ≡ j = sym (insn_at-spelling i xs is-i) ∙ ap insn_at e ∙ insn_at-spelling j ys is-j in
+    (same, append_cancel_left (spelling i) xs ys (e ∙ ap (λ (x : Insn). spelling x ++ ys) (sym same)))
 
 -- the first instruction's spelling comes first
 pub spelling_of_all-cons : (i : Insn) (is : List Insn) (xs : List ℕ) → spelling_of_all (i ∷ is) ++ xs ≡ spelling i ++ (spelling_of_all is ++ xs)
@@ -102,7 +83,7 @@ pub is_not_empty : (i : Insn) (is : List Insn) → spelling_of_all (i ∷ is) �
 unfolding unit_count
 is_not_empty i is e =
     let none : length (spelling_of_all (i ∷ is)) ≡ 0 = ap length e in
-    omega (arith, none, length-spelling_of_all (i ∷ is), units_of-one i)
+    omega (arith, none, length-spelling_of_all (i ∷ is), units_of-some i)
 
 -- bytes spell one list of instructions at most
 pub spelling_of_all-injective : (p q : List Insn) → AreInstructions p → AreInstructions q → spelling_of_all p ≡ spelling_of_all q → p ≡ q
@@ -126,10 +107,31 @@ units_before bytes rest is e =
 pub fewer_than_units : (bytes rest : List ℕ) (is : List Insn) → bytes ≡ spelling_of_all is ++ rest → 8 ≤ length rest → length is < length bytes / 8
 fewer_than_units bytes rest is e more =
     let len : length bytes ≡ length (spelling_of_all is) + length rest = ap length e ∙ length-append (spelling_of_all is) rest in
-    omega (arith, len, length-spelling_of_all is, unit_count-length is)
+    omega (arith, len, length-spelling_of_all is, length-unit_count is)
 
--- a rest that is cut after a unit begins with the unit
+-- bytes that are cut after a unit begin with the unit
+pub cut_unit : (bytes unit after text : List ℕ) → unit ≡ take 8 bytes → after ≡ drop 8 bytes → unit ≡ text → bytes ≡ text ++ after
+cut_unit bytes unit after text u a t =
+    sym (take-append-drop 8 bytes) ∙ ap (λ (x : List ℕ). x ++ drop 8 bytes) (sym u ∙ t) ∙ ap (λ (x : List ℕ). text ++ x) (sym a)
+
+-- a unit that is cut off a rest
 pub spelled_unit : (bytes front rest unit text after : List ℕ) → bytes ≡ front ++ rest → unit ≡ take 8 rest → after ≡ drop 8 rest → unit ≡ text → bytes ≡ front ++ (text ++ after)
-spelled_unit bytes front rest unit text after e u a t =
-    let whole : rest ≡ text ++ after = sym (take-append-drop 8 rest) ∙ ap (λ (x : List ℕ). x ++ drop 8 rest) (sym u ∙ t) ∙ ap (λ (x : List ℕ). text ++ x) (sym a) in
-    e ∙ ap (λ (x : List ℕ). front ++ x) whole
+spelled_unit bytes front rest unit text after e u a t = e ∙ ap (λ (x : List ℕ). front ++ x) (cut_unit rest unit after text u a t)
+
+-- an instruction that is spelled at the front of a rest
+pub spelled_more : (bytes rest next : List ℕ) (is : List Insn) (i : Insn) → bytes ≡ spelling_of_all is ++ rest → rest ≡ spelling i ++ next → bytes ≡ spelling_of_all (is ++ i ∷ []) ++ next
+spelled_more bytes rest next is i e r =
+    e ∙ ap (λ (x : List ℕ). spelling_of_all is ++ x) r ∙ sym (append_assoc (spelling_of_all is) (spelling i) next)
+    ∙ ap (λ (x : List ℕ). x ++ next) (sym (spelling_of_all-push is i))
+
+-- a rest behind an instruction is shorter, and has whole units where all had
+pub rest_is_shorter : (rest next : List ℕ) (i : Insn) → rest ≡ spelling i ++ next → (length next < length rest) × (length rest % 8 ≡ 0 → length next % 8 ≡ 0)
+rest_is_shorter rest next i e =
+    let len : length rest ≡ 8 * units_of i + length next = ap length e ∙ length-append (spelling i) next ∙ ap (λ (n : ℕ). n + length next) (length-spelling i) in
+    (omega (arith, len, units_of-some i), λ h. omega (arith, len, h))
+
+-- the next instruction has room where there is room for all
+pub room_for_next : (is : List Insn) (k : ℕ) (i : Insn) (bytes : List ℕ) (room : ℕ) → slice_get is k ≡ Some i → bytes ≡ spelling_of_all (take k is) → 8 * unit_count is ≤ room → length bytes + 8 * units_of i ≤ room
+room_for_next is k i bytes room e b h =
+    let written : length bytes ≡ 8 * unit_count (take k is) = ap length b ∙ length-spelling_of_all (take k is) in
+    omega (arith, written, unit_count-next is k i e, unit_count-take is (suc k), h)

@@ -8,8 +8,8 @@ use Rattle.bpf_decode.specs.declared.fault.DecodeFault.{DecodeFault}
 use Rattle.bpf_decode.specs.declared.fault.DecodeFault.TheVariants.{NoMemory, Empty, NotWholeUnits, TooManyUnits}
 use Rattle.bpf_decode.specs.declared.fault.DecodeFault.TheVariants as at
 use Rattle.bpf_decode.specs.declared.fault.UnitFault.{UnitFault}
-use Rattle.bpf_decode.specs.declared.fault.UnitFault.TheVariants.{UnknownOpcode, BadRegister, UnusedNotZero}
-use Rattle.bpf_decode.specs.UnitFaults.{FitUnit, fault_of}
+use Rattle.bpf_decode.specs.declared.fault.UnitFault.TheVariants.{UnknownOpcode, BadRegister, UnusedNotZero, BadWidth, CutWide}
+use Rattle.bpf_decode.specs.UnitFaults.{FitUnit, HasFault}
 
 -- the number under which a fault is printed and sent
 abbrev pub number_of : DecodeFault → ℕ
@@ -20,6 +20,8 @@ number_of TooManyUnits = 12
 number_of (at.UnknownOpcode unit) = 13
 number_of (at.BadRegister unit) = 14
 number_of (at.UnusedNotZero unit) = 15
+number_of (at.BadWidth unit) = 16
+number_of (at.CutWide unit) = 17
 
 -- the unit that it names
 abbrev pub unit_of : DecodeFault → ℕ
@@ -30,12 +32,16 @@ unit_of TooManyUnits = 0
 unit_of (at.UnknownOpcode unit) = unit
 unit_of (at.BadRegister unit) = unit
 unit_of (at.UnusedNotZero unit) = unit
+unit_of (at.BadWidth unit) = unit
+unit_of (at.CutWide unit) = unit
 
--- a fault of the fields of this unit
+-- a fault at this unit
 abbrev pub at_unit : ℕ → UnitFault → DecodeFault
 at_unit unit UnknownOpcode = at.UnknownOpcode unit
 at_unit unit BadRegister = at.BadRegister unit
 at_unit unit UnusedNotZero = at.UnusedNotZero unit
+at_unit unit BadWidth = at.BadWidth unit
+at_unit unit CutWide = at.CutWide unit
 
 -- the fault of the number of bytes
 abbrev pub length_fault : List ℕ → Option DecodeFault
@@ -44,7 +50,7 @@ length_fault bytes =
     else (if not (nat_eq (length bytes % 8) 0) then Some NotWholeUnits
     else (if nat_lt PROGRAM_UNITS (length bytes / 8) then Some TooManyUnits else None))
 
--- the bytes spell instructions, and then comes a unit whose fields have this fault
+-- the bytes spell instructions, and then comes a unit that has this fault
 pub record HasUnitFault (bytes : List ℕ) (fault : DecodeFault) : Type 0 where
   pub front : List Insn
   pub fields : Fields
@@ -53,7 +59,7 @@ pub record HasUnitFault (bytes : List ℕ) (fault : DecodeFault) : Type 0 where
   pub instructions : AreInstructions front
   pub fit : FitUnit fields
   pub spelled : bytes ≡ spelling_of_all front ++ (unit_bytes fields ++ rest)
-  pub faulty : fault_of fields ≡ Some of_unit
+  pub faulty : HasFault fields rest of_unit
   pub named : fault ≡ at_unit (unit_count front) of_unit
 
 -- the fault of the number of bytes; where it has none, that of the first unit that is no instruction's

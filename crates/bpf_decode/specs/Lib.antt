@@ -1,3 +1,4 @@
+pub mod Opcodes
 pub mod UnitFaults
 pub mod Faults
 pub mod Operations

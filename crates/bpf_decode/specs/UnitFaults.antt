@@ -1,10 +1,13 @@
--- Which fault the fields of a unit have. The fields that an instruction uses are those of RFC 9669, sections 4 and 5.
-use Rattle.std.specs.Prelude.{ℕ, ◌^◌, ◌<◌, Bool, true, false, not, ◌&&◌, ◌||◌, Option, Some, None, nat_eq, nat_lt, if◌then◌else◌, pos}
+-- Which fault a unit has, by its fields, and which the second half of a wide instruction. Our profile of RFC 9669.
+use Rattle.std.specs.Prelude.{◌≡◌, ℕ, ◌^◌, ◌<◌, Bool, true, false, not, ◌&&◌, ◌||◌, ◌⊎◌, List, [], ◌++◌, Option, Some, None, nat_eq, nat_lt, if◌then◌else◌, ℤ, pos}
 use Rattle.std.specs.Ordering.{int_eq}
-use Rattle.bpf_model.specs.Spelling.{Fields, IsOffset, IsImmediate}
+use Rattle.bpf_model.specs.declared.operations.Width.{Width}
+use Rattle.bpf_model.specs.declared.operations.Width.TheVariants.{W32, W64}
+use Rattle.bpf_model.specs.Spelling.{Fields, unit_bytes, IsOffset, IsImmediate, alu_class, source_x, mov_code, end_code}
 use Rattle.bpf_decode.specs.declared.fault.UnitFault.{UnitFault}
-use Rattle.bpf_decode.specs.declared.fault.UnitFault.TheVariants.{UnknownOpcode, BadRegister, UnusedNotZero}
+use Rattle.bpf_decode.specs.declared.fault.UnitFault.TheVariants.{UnknownOpcode, BadRegister, UnusedNotZero, BadWidth, CutWide}
 use Rattle.bpf_decode.specs.declared.unit.UsedFields.{UsedFields}
+use Rattle.bpf_decode.specs.Opcodes.{class_in, source_in, code_in, is_division, wide_opcode, used_fields}
 
 -- the fields have the bits of a unit, as those of any eight bytes do
 pub record FitUnit (f : Fields) : Type 0 where
@@ -13,17 +16,6 @@ pub record FitUnit (f : Fields) : Type 0 where
   pub src : f.src < 2 ^ 4
   pub offset : IsOffset f.offset
   pub imm : IsImmediate f.imm
-
--- which fields the instruction of an opcode uses; none where no instruction has the opcode.
--- In this order: add of a register, move of an immediate, load, store, exit
-abbrev pub used_fields : ℕ → Option UsedFields
-used_fields opcode =
-    if nat_eq opcode 0x0f then Some (record { dst = true; src = true; offset = false; imm = false })
-    else (if nat_eq opcode 0xb7 then Some (record { dst = true; src = false; offset = false; imm = true })
-    else (if nat_eq opcode 0x79 then Some (record { dst = true; src = true; offset = true; imm = false })
-    else (if nat_eq opcode 0x7b then Some (record { dst = true; src = true; offset = true; imm = false })
-    else (if nat_eq opcode 0x95 then Some (record { dst = false; src = false; offset = false; imm = false })
-    else None))))
 
 -- a register field that is used and above 10
 abbrev pub has_bad_register : UsedFields → Fields → Bool
@@ -35,13 +27,65 @@ has_unused_not_zero used f =
     (not used.dst && not (nat_eq f.dst 0)) || ((not used.src && not (nat_eq f.src 0))
     || ((not used.offset && not (int_eq f.offset (pos 0))) || (not used.imm && not (int_eq f.imm (pos 0)))))
 
+-- the offset of a quotient or remainder: unsigned or signed
+abbrev pub is_sign : ℤ → Bool
+is_sign offset = int_eq offset (pos 0) || int_eq offset (pos 1)
+
+-- the offset of a move at a width: the whole, or how many bits have their sign extended
+abbrev pub is_move : Width → ℤ → Bool
+is_move W32 offset = int_eq offset (pos 0) || (int_eq offset (pos 8) || int_eq offset (pos 16))
+is_move W64 offset = int_eq offset (pos 0) || (int_eq offset (pos 8) || (int_eq offset (pos 16) || int_eq offset (pos 32)))
+
+-- the imm of a change of byte order: how many bits
+abbrev pub is_swap : ℤ → Bool
+is_swap imm = int_eq imm (pos 16) || (int_eq imm (pos 32) || int_eq imm (pos 64))
+
+-- an offset or imm of arithmetic that should say which of several it is, and does not
+abbrev pub has_bad_alu_width : Width → ℕ → ℕ → Fields → Bool
+has_bad_alu_width width source code f =
+    (is_division code && not (is_sign f.offset))
+    || ((nat_eq code mov_code && (nat_eq source source_x && not (is_move width f.offset)))
+    || (nat_eq code end_code && not (is_swap f.imm)))
+
+abbrev pub has_bad_width : Fields → Bool
+has_bad_width f =
+    if nat_eq (class_in f.opcode) (alu_class W32) then has_bad_alu_width W32 (source_in f.opcode) (code_in f.opcode) f
+    else (if nat_eq (class_in f.opcode) (alu_class W64) then has_bad_alu_width W64 (source_in f.opcode) (code_in f.opcode) f
+    else false)
+
 -- the least-numbered fault of fields of which these are used; with none listed there is no such opcode
 abbrev pub fault_under : Option UsedFields → Fields → Option UnitFault
 fault_under None f = Some UnknownOpcode
 fault_under (Some used) f =
     if has_bad_register used f then Some BadRegister
-    else (if has_unused_not_zero used f then Some UnusedNotZero else None)
+    else (if has_unused_not_zero used f then Some UnusedNotZero
+    else (if has_bad_width f then Some BadWidth else None))
 
 -- the least-numbered fault of a unit's fields
 abbrev pub fault_of : Fields → Option UnitFault
 fault_of f = fault_under (used_fields f.opcode) f
+
+-- the first half of a wide instruction, without fault
+pub record IsFirstHalf (f : Fields) : Type 0 where
+  pub opcode : f.opcode ≡ wide_opcode
+  pub faultless : fault_of f ≡ None
+
+-- the second half of a wide instruction has no field but imm
+abbrev pub has_imm_alone : Fields → Bool
+has_imm_alone f = nat_eq f.opcode 0 && (nat_eq f.dst 0 && (nat_eq f.src 0 && int_eq f.offset (pos 0)))
+
+-- the bytes begin with a unit that has more
+pub record BeginsWithMore (bytes : List ℕ) : Type 0 where
+  pub fields : Fields
+  pub rest : List ℕ
+  pub fit : FitUnit fields
+  pub spelled : bytes ≡ unit_bytes fields ++ rest
+  pub more : has_imm_alone fields ≡ false
+
+-- the fault of bytes after a first half: there are none, or their first unit is no second half
+abbrev pub HasSecondFault : List ℕ → UnitFault → Type 0
+HasSecondFault bytes fault = ((fault ≡ CutWide) × (bytes ≡ [])) ⊎ ((fault ≡ UnusedNotZero) × BeginsWithMore bytes)
+
+-- a unit before these bytes has this fault: in its own fields, or else in its second half
+abbrev pub HasFault : Fields → List ℕ → UnitFault → Type 0
+HasFault f bytes fault = (fault_of f ≡ Some fault) ⊎ (IsFirstHalf f × HasSecondFault bytes fault)

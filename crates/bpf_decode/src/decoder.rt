@@ -1,13 +1,17 @@
 //! Programs from bytes.
-ghost use Rattle.std.specs.Prelude.{◌≡◌, ◌⊎◌, List, IfOk, IfErr, OnOk, Ok, Err, Some, None};
+ghost use Rattle.std.specs.Prelude.{◌≡◌, ◌+◌, ◌*◌, ◌%◌, ◌^◌, ◌⊎◌, List, ◌++◌, length, IfOk, IfErr, OnOk, Ok, Err, Some, None};
+ghost use Rattle.std.specs.Int.{w32, cast_unsigned};
 ghost use Rattle.bpf_model.specs.declared.instruction.Insn.{Insn};
-ghost use Rattle.bpf_model.specs.Spelling.{Spells, fields_of, IsInstruction};
+ghost use Rattle.bpf_model.specs.Spelling.{Spells, unit_bytes, spelling, IsInstruction};
 ghost use Rattle.bpf_decode.specs.declared.fault.DecodeFault.{DecodeFault};
 ghost use Rattle.bpf_decode.specs.declared.fault.DecodeFault.TheVariants.{NoMemory};
-ghost use Rattle.bpf_decode.specs.UnitFaults.{fault_of};
+ghost use Rattle.bpf_decode.specs.Opcodes.{dst_and_imm};
+ghost use Rattle.bpf_decode.specs.UnitFaults.{IsFirstHalf, HasSecondFault, HasFault};
+ghost use Rattle.bpf_decode.specs.Operations.{AreOperands};
 ghost use Rattle.bpf_decode.specs.Faults.{length_fault, IsFirstFault, HasUnitFault, GivesUnlessNoMemory};
 
 use crate::fault::{DecodeFault, UnitFault};
+use crate::operands::register;
 use crate::operation::Operation;
 use crate::unit::{Fields, UNIT_BYTES};
 use bpf_model::limits::PROGRAM_UNITS;
@@ -30,16 +34,52 @@ fn check_length(bytes: &[u8]) -> Result<(), DecodeFault>
     Ok(())
 }
 
-fn instruction(fields: Fields) -> Result<Insn, UnitFault>
-    ensures instruction { IfOk result IsInstruction }
-    ensures spelled { IfOk result (λ i. fields_of i ≡ fields) }
-    ensures fault { IfErr result (λ e. fault_of fields ≡ Some e) }
+/// The instruction of a unit and of the bytes after it, and the bytes after the instruction.
+fn instruction(fields: Fields, after: &[u8]) -> Result<(Insn, &[u8]), UnitFault>
+    requires { length after.now % 8 ≡ 0 }
+    ensures instruction { IfOk result (λ r. IsInstruction r.0) }
+    ensures spelled { IfOk result (λ r. unit_bytes fields ++ after.now ≡ spelling r.0 ++ r.1.now) }
+    ensures fault { IfErr result (λ e. HasFault fields after.now e) }
 {
     let Some(operation) = Operation::from_opcode(fields.opcode) else {
         return Err(UnitFault::UnknownOpcode);
     };
     fields.check(operation.used_fields())?;
-    Ok(operation.with_operands(fields))
+    if operation == Operation::Wide {
+        return wide(fields, after);
+    }
+    match operation.with_operands(fields) {
+        Some(insn) => Ok((insn, after)),
+        None => Err(UnitFault::BadWidth),
+    }
+}
+
+fn wide(first: Fields, after: &[u8]) -> Result<(Insn, &[u8]), UnitFault>
+    requires first { IsFirstHalf first }
+    requires operands { AreOperands dst_and_imm first }
+    requires whole { length after.now % 8 ≡ 0 }
+    ensures instruction { IfOk result (λ r. IsInstruction r.0) }
+    ensures spelled { IfOk result (λ r. unit_bytes first ++ after.now ≡ spelling r.0 ++ r.1.now) }
+    ensures fault { IfErr result (λ e. HasSecondFault after.now e) }
+{
+    let Some((unit, rest)) = after.split_first_chunk::<UNIT_BYTES>() else {
+        return Err(UnitFault::CutWide);
+    };
+    let second = Fields::from_bytes(unit);
+    if !second.has_imm_alone() {
+        return Err(UnitFault::UnusedNotZero);
+    }
+    let insn = Insn::Wide {
+        dst: register(first.dst),
+        value: value_of_halves(first.imm, second.imm),
+    };
+    Ok((insn, rest))
+}
+
+fn value_of_halves(low: i32, high: i32) -> u64
+    ensures { result ≡ cast_unsigned w32 high * 2 ^ 32 + cast_unsigned w32 low }
+{
+    u64::from(high.cast_unsigned()) * 0x1_0000_0000 + u64::from(low.cast_unsigned())
 }
 
 fn instructions(alloc: Global, bytes: &[u8]) -> Result<Vec<Insn>, DecodeFault>
@@ -50,17 +90,19 @@ fn instructions(alloc: Global, bytes: &[u8]) -> Result<Vec<Insn>, DecodeFault>
     let mut instructions = Vec::with_capacity(alloc, bytes.len() / UNIT_BYTES)?;
     let mut rest = bytes;
     while let Some((unit, after)) = rest.split_first_chunk::<UNIT_BYTES>() {
-        match instruction(Fields::from_bytes(unit)) {
-            Ok(insn) => instructions.push(insn).unwrap(),
+        match instruction(Fields::from_bytes(unit), after) {
+            Ok((insn, next)) => {
+                instructions.push(insn).unwrap();
+                rest = next;
+            }
             Err(fault) => return Err(fault.at((bytes.len() - rest.len()) / UNIT_BYTES)),
         }
-        rest = after;
     }
     Ok(instructions)
 }
 
 /// The program that the bytes spell, all of them; else the first fault: of their number, or else of the first unit
-/// that is no instruction's. Asks for memory once, for the program, and only after their number was found right.
+/// that begins no instruction, and there the least-numbered. Asks for memory once, for the program, and only after their number was found right.
 pub fn decode(alloc: Global, bytes: &[u8]) -> Result<Program, DecodeFault>
     ensures found { IfOk result (λ p. Spells bytes.now p) }
     ensures only { (p : List Insn) → Spells bytes.now p → GivesUnlessNoMemory result (Ok p) }

@@ -1,60 +1,34 @@
 //! Bytes from programs.
-ghost use Rattle.std.specs.Prelude.{◌≡◌, ◌≤◌, IfOk};
-ghost use Rattle.bpf_model.specs.Spelling.{Spells, fields_of, IsInstruction};
-ghost use Rattle.bpf_decode.specs.Operations.{opcode_of, fields_with_opcode};
+ghost use Rattle.std.specs.Prelude.{◌≡◌, ◌+◌, ◌*◌, ◌≤◌, ◌++◌, length, IfOk};
+ghost use Rattle.std.specs.Vec.{vec_capacity};
+ghost use Rattle.bpf_model.specs.declared.limits.TheConstants.{PROGRAM_UNITS as MOST_UNITS};
+ghost use Rattle.bpf_model.specs.Program.{units_of, unit_count};
+ghost use Rattle.bpf_model.specs.Spelling.{Spells, spelling, IsInstruction};
 
-use crate::operation::Operation;
 use crate::unit::{Fields, UNIT_BYTES};
-use bpf_model::{Insn, NoMemory, Program, Reg};
+use bpf_model::{Insn, NoMemory, Program};
 use std::alloc::Global;
 
-fn registers(operation: Operation, dst: Reg, src: Reg) -> Fields
-    ensures dst { dst ≤ 10 }
-    ensures src { src ≤ 10 }
-    ensures spelled { result ≡ record (fields_with_opcode (opcode_of operation)) { dst = dst; src = src } }
+fn units(instructions: &[Insn]) -> usize
+    requires { unit_count instructions.now ≤ MOST_UNITS }
+    ensures { result ≡ unit_count instructions.now }
 {
-    Fields {
-        dst: dst.number(),
-        src: src.number(),
-        ..operation.fields()
+    let mut units = 0;
+    for insn in instructions {
+        units += insn.units();
     }
+    units
 }
 
-fn fields(insn: Insn) -> Fields
-    ensures instruction { IsInstruction insn }
-    ensures spelled { result ≡ fields_of insn }
+fn write(bytes: &mut Vec<u8>, insn: &Insn)
+    requires { length bytes.old.items + 8 * units_of insn.now ≤ vec_capacity bytes.old }
+    ensures instruction { IsInstruction insn.now }
+    ensures written { bytes.new.items ≡ bytes.old.items ++ spelling insn.now }
+    ensures room { vec_capacity bytes.old ≤ vec_capacity bytes.new }
 {
-    match insn {
-        Insn::Alu {
-            op,
-            width,
-            dst,
-            src,
-        } => registers(Operation::Alu(op, width), dst, src),
-        Insn::Mov { width, dst, imm } => Fields {
-            dst: dst.number(),
-            imm,
-            ..Operation::Mov(width).fields()
-        },
-        Insn::Load {
-            size,
-            dst,
-            src,
-            offset,
-        } => Fields {
-            offset,
-            ..registers(Operation::Load(size), dst, src)
-        },
-        Insn::Store {
-            size,
-            dst,
-            src,
-            offset,
-        } => Fields {
-            offset,
-            ..registers(Operation::Store(size), dst, src)
-        },
-        Insn::Exit => Operation::Exit.fields(),
+    bytes.extend_from_slice(&Fields::of(insn).to_bytes()).unwrap();
+    if let Insn::Wide { value, .. } = insn {
+        bytes.extend_from_slice(&Fields::second_half(*value).to_bytes()).unwrap();
     }
 }
 
@@ -63,9 +37,9 @@ pub fn encode(alloc: Global, program: &Program) -> Result<Vec<u8>, NoMemory>
     ensures spelled { IfOk result (λ v. Spells v.items program.now) }
 {
     let instructions = program.instructions();
-    let mut bytes = Vec::with_capacity(alloc, UNIT_BYTES * instructions.len())?;
+    let mut bytes = Vec::with_capacity(alloc, UNIT_BYTES * units(instructions))?;
     for insn in instructions {
-        bytes.extend_from_slice(&fields(*insn).to_bytes()).unwrap();
+        write(&mut bytes, insn);
     }
     Ok(bytes)
 }

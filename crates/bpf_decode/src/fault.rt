@@ -23,12 +23,17 @@ pub enum DecodeFault {
     UnknownOpcode(usize),
     /// A register field that is used and above 10: number 14, at this unit.
     BadRegister(usize),
-    /// A field that is not used and not zero: number 15, at this unit.
+    /// A field that is not used and not zero: number 15, at this unit; of a wide instruction's second half, at its first.
     UnusedNotZero(usize),
+    /// A quotient's or remainder's offset other than 0 and 1, a move's that is no width, or a byte order's imm that is
+    /// none: number 16, at this unit.
+    BadWidth(usize),
+    /// The first half of a wide instruction without a second: number 17, at this unit.
+    CutWide(usize),
 }
 
 impl DecodeFault {
-    /// The number under which the fault is printed and sent, 9 to 15.
+    /// The number under which the fault is printed and sent, 9 to 17.
     pub fn number(&self) -> u8
         ensures { result ≡ number_of self.now }
     {
@@ -40,6 +45,8 @@ impl DecodeFault {
             DecodeFault::UnknownOpcode(_) => 13,
             DecodeFault::BadRegister(_) => 14,
             DecodeFault::UnusedNotZero(_) => 15,
+            DecodeFault::BadWidth(_) => 16,
+            DecodeFault::CutWide(_) => 17,
         }
     }
 
@@ -50,7 +57,9 @@ impl DecodeFault {
         match self {
             DecodeFault::UnknownOpcode(unit)
             | DecodeFault::BadRegister(unit)
-            | DecodeFault::UnusedNotZero(unit) => *unit,
+            | DecodeFault::UnusedNotZero(unit)
+            | DecodeFault::BadWidth(unit)
+            | DecodeFault::CutWide(unit) => *unit,
             _ => 0,
         }
     }
@@ -69,6 +78,11 @@ impl fmt::Display for DecodeFault {
                 f,
                 "unused field is not zero at unit {unit}"
             ),
+            DecodeFault::BadWidth(unit) => write!(f, "no such width at unit {unit}"),
+            DecodeFault::CutWide(unit) => write!(
+                f,
+                "wide instruction without second half at unit {unit}"
+            ),
         }
     }
 }
@@ -83,12 +97,14 @@ impl From<AllocError> for DecodeFault {
     }
 }
 
-/// What is wrong with the fields of one unit.
+/// What is wrong with one unit, or with the second half of its instruction.
 #[derive(Clone, Copy, Debug, PartialEq, Eq)]
 pub(crate) enum UnitFault {
     UnknownOpcode,
     BadRegister,
     UnusedNotZero,
+    BadWidth,
+    CutWide,
 }
 
 impl UnitFault {
@@ -100,6 +116,8 @@ impl UnitFault {
             UnitFault::UnknownOpcode => DecodeFault::UnknownOpcode(unit),
             UnitFault::BadRegister => DecodeFault::BadRegister(unit),
             UnitFault::UnusedNotZero => DecodeFault::UnusedNotZero(unit),
+            UnitFault::BadWidth => DecodeFault::BadWidth(unit),
+            UnitFault::CutWide => DecodeFault::CutWide(unit),
         }
     }
 }

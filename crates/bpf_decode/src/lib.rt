@@ -7,10 +7,13 @@
 //! `specs/UnitFaults.antt`. Each call asks for memory once, for its result, and waits for nobody.
 #![tactic(auto)]
 
+mod codes;
 mod decoder;
 mod encoder;
 mod fault;
+mod operands;
 mod operation;
+mod spelling;
 mod unit;
 
 pub use decoder::decode;

@@ -1,7 +1,9 @@
 //! Units of eight bytes and their fields.
-ghost use Rattle.std.specs.Prelude.{◌≡◌, IfErr, OnOk, Some, None};
+ghost use Rattle.std.specs.Prelude.{◌≡◌, IfErr, OnOk, Some, None, if◌then◌else◌};
 ghost use Rattle.bpf_model.specs.Spelling.{unit_bytes};
-ghost use Rattle.bpf_decode.specs.UnitFaults.{FitUnit, has_bad_register, has_unused_not_zero, fault_under};
+ghost use Rattle.bpf_decode.specs.UnitFaults.{FitUnit, has_bad_register, has_unused_not_zero, has_bad_width, fault_under, has_imm_alone};
+ghost use Rattle.bpf_decode.specs.Operations.{AreOperands};
+ghost use Rattle.bpf_decode.specs.declared.fault.UnitFault.TheVariants.{BadWidth};
 
 use crate::fault::UnitFault;
 use byteorder::{ByteOrder, LittleEndian};
@@ -84,9 +86,17 @@ impl Fields {
             || (!used.imm && self.imm != 0)
     }
 
-    /// The least-numbered fault of fields of which these are used.
+    /// Whether these are the fields of a wide instruction's second half.
+    pub(crate) fn has_imm_alone(self) -> bool
+        ensures { result ≡ has_imm_alone self }
+    {
+        self.opcode == 0 && self.dst == 0 && self.src == 0 && self.offset == 0
+    }
+
+    /// The least-numbered fault of fields of which these are used; widths are not looked at.
     pub(crate) fn check(self, used: UsedFields) -> Result<(), UnitFault>
-        ensures ok { OnOk result (fault_under (Some used) self ≡ None) }
+        ensures operands { OnOk result (AreOperands used self) }
+        ensures ok { OnOk result (fault_under (Some used) self ≡ (if has_bad_width self then Some BadWidth else None)) }
         ensures err { IfErr result (λ e. fault_under (Some used) self ≡ Some e) }
     {
         if self.has_bad_register(used) {

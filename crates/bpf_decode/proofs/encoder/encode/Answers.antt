@@ -1,13 +1,12 @@
-use Rattle.std.proofs.Common.{◌≡◌, ◌∙◌, ap, arith, length, take, length-take}
-use Rattle.bpf_model.specs.Spelling.{spelling_of_all}
-use Rattle.bpf_model.proofs.ProgramLemmas.{unit_count-length}
-use Rattle.bpf_decode.proofs.UnitLemmas.{length-unit_bytes}
-use Rattle.bpf_decode.proofs.SpellingLemmas.{length-spelling_of_all}
+use Rattle.std.proofs.Common.{length, refl}
+use Rattle.std.specs.Vec.{vec_capacity}
+use Rattle.std.proofs.lemmas.Option.{slice_get_read}
+use Rattle.bpf_decode.proofs.SpellingLemmas.{room_for_next}
 use Rattle.bpf_decode.proofs.encoder.encode.Goals as goal
 
-pub unwrap-requires : goal.unwrap-requires
-unwrap-requires c =
-    let done = take c.loop-insn.insn-index c.instructions-instructions.result.now in
-    let written : length c.loop-insn.bytes.items ≡ length (spelling_of_all done) = ap length c.loop-insn.invariant.spelled in
-    let unit : length c.to_bytes.result ≡ 8 = ap length c.to_bytes.ensures ∙ length-unit_bytes c.fields.result in
-    c.extend_from_slice.ensures.succeeds (omega (arith, written, unit, c.loop-insn.invariant.room, c.loop-insn-test.true, length-spelling_of_all done, unit_count-length done, length-take c.loop-insn.insn-index c.instructions-instructions.result.now))
+pub write-requires : goal.write-requires
+write-requires c =
+    let xs = c.instructions-instructions.result.now in
+    let k = c.loop-insn.insn-index in
+    let here = slice_get_read xs (length xs) k c.insn-item.result refl c.loop-insn-test.true c.insn-item.is in
+    room_for_next xs k c.insn-item.result c.loop-insn.bytes.items (vec_capacity c.loop-insn.bytes) here c.loop-insn.invariant.spelled c.loop-insn.invariant.room

@@ -1,0 +1,276 @@
+-- The fields of instructions fit, have no fault, and tell the instruction.
+use Rattle.std.proofs.Common.{◌≡◌, ℕ, ◌+◌, ◌*◌, ◌/◌, ◌%◌, ◌^◌, ◌<◌, ◌≤◌, Bool, false, true, ◌&&◌, not, List, [], ◌∷◌, ◌++◌, Option, Some, None, refl, sym, ap, ◌∙◌, arith, ℤ, pos}
+use Rattle.std.specs.Prelude.{nat_eq, nat_lt, if◌then◌else◌}
+use Rattle.std.specs.Ordering.{int_eq}
+use Rattle.std.specs.Int.{w32, cast_signed, cast_unsigned}
+use Rattle.std.proofs.Math.Facts.{sfits_to_z}
+use Rattle.std.proofs.lemmas.Bool.Decides.{nat_tests}
+use Rattle.std.proofs.lemmas.List.{append-nil}
+use Rattle.bpf_model.specs.declared.operations.AluOp.{AluOp}
+use Rattle.bpf_model.specs.declared.operations.AluOp.TheVariants.{Add, Sub, Mul, Div, SDiv, Or, And, Lsh, Rsh, Mod, SMod, Xor, Arsh}
+use Rattle.bpf_model.specs.declared.operations.Width.{Width}
+use Rattle.bpf_model.specs.declared.operations.Width.TheVariants.{W32, W64}
+use Rattle.bpf_model.specs.declared.operations.SignExtension.{SignExtension}
+use Rattle.bpf_model.specs.declared.operations.SignExtension.TheVariants.{From8To32, From16To32, From8To64, From16To64, From32To64}
+use Rattle.bpf_model.specs.declared.operations.ByteOrder.{ByteOrder}
+use Rattle.bpf_model.specs.declared.operations.ByteOrder.TheVariants.{Little, Big, Swap}
+use Rattle.bpf_model.specs.declared.operations.SwapWidth.{SwapWidth}
+use Rattle.bpf_model.specs.declared.operations.SwapWidth.TheVariants.{S16, S32, S64}
+use Rattle.bpf_model.specs.declared.accesses.LoadKind.{LoadKind}
+use Rattle.bpf_model.specs.declared.accesses.LoadKind.TheVariants.{Byte as LoadByte, HalfWord as LoadHalfWord, Word as LoadWord, DoubleWord as LoadDoubleWord, SignedByte, SignedHalfWord, SignedWord}
+use Rattle.bpf_model.specs.declared.instruction.Operand.{Operand}
+use Rattle.bpf_model.specs.declared.instruction.Operand.TheVariants.{Register, Immediate}
+use Rattle.bpf_model.specs.declared.instruction.Insn.{Insn}
+use Rattle.bpf_model.specs.declared.instruction.Insn.TheVariants.{Alu, Negate, Mov, SignExtend, Reorder, Wide, Load, Store, Jump, JumpLong, Branch, Exit}
+use Rattle.bpf_model.specs.Words.{IsWord}
+use Rattle.bpf_model.specs.Program.{units_of}
+use Rattle.bpf_model.specs.Arithmetic.{swap_bits, extension_width, extension_bits}
+use Rattle.bpf_model.specs.Accesses.{loaded_size}
+use Rattle.bpf_model.specs.Spelling.{Fields, opcode, access_opcode, class_ldx, alu_class, jump_class, store_class, source_k, source_x, source_of, src_of, imm_of, code_of, offset_of, neg_code, mov_code, end_code, ja_code, exit_code, test_code, size_code, mode_mem, mode_of, order_source, order_width, unit_bytes, fields_of, second_unit, second_bytes, spelling, IsInstruction, IsOperand, IsOffset, IsImmediate}
+use Rattle.bpf_decode.specs.declared.operation.Source.{Source}
+use Rattle.bpf_decode.specs.declared.operation.Source.TheVariants.{Immediate as K, Register as X}
+use Rattle.bpf_decode.specs.declared.operation.Operation.{Operation}
+use Rattle.bpf_decode.specs.declared.operation.Operation.TheVariants as op
+use Rattle.bpf_decode.specs.declared.unit.UsedFields.{UsedFields}
+use Rattle.bpf_decode.specs.Opcodes.{used_fields, is_division, wide_opcode}
+use Rattle.bpf_decode.specs.UnitFaults.{FitUnit, has_bad_register, has_unused_not_zero, has_bad_width, fault_under, fault_of, is_sign, is_move, is_swap}
+use Rattle.bpf_decode.specs.Operations.{source_number, opcode_of, used_by, AreOperands, IsRegisterIfUsed, IsZeroUnlessUsed}
+use Rattle.bpf_decode.proofs.OpcodeLemmas.{source_number-few, order_source-few, alu_class-few, jump_class-few, size_code-few, mode_of-few, AluFacts, alu_facts, test_code-few, class_in-jump, class_in-access, used_fields-opcode_of, good_sign, good_move, good_order, good_negation, no_width, no_width_of_jump}
+
+-- zero is an offset and an immediate
+zero_fits_offset : IsOffset (pos 0)
+zero_fits_offset = record { sfits = omega arith }
+
+zero_fits_imm : IsImmediate (pos 0)
+zero_fits_imm = record { sfits = omega arith }
+
+-- the source, the register and the immediate of an operand have their bits
+pub source_of-few : (s : Operand) → source_of s < 2
+source_of-few (Register r) = omega arith
+source_of-few (Immediate imm) = omega arith
+
+src_of-register : (s : Operand) → IsOperand s → src_of s ≤ 10
+src_of-register (Register r) h = h
+src_of-register (Immediate imm) h = omega arith
+
+imm_of-fits : (s : Operand) → IsOperand s → IsImmediate (imm_of s)
+imm_of-fits (Register r) h = zero_fits_imm
+imm_of-fits (Immediate imm) h = h
+
+pub store_class-few : (s : Operand) → store_class s < 8
+store_class-few (Register r) = omega arith
+store_class-few (Immediate imm) = omega arith
+
+offset_of-fits : (op : AluOp) → IsOffset (offset_of op)
+offset_of-fits Add = zero_fits_offset
+offset_of-fits Sub = zero_fits_offset
+offset_of-fits Mul = zero_fits_offset
+offset_of-fits Div = zero_fits_offset
+offset_of-fits SDiv = record { sfits = omega arith }
+offset_of-fits Or = zero_fits_offset
+offset_of-fits And = zero_fits_offset
+offset_of-fits Lsh = zero_fits_offset
+offset_of-fits Rsh = zero_fits_offset
+offset_of-fits Mod = zero_fits_offset
+offset_of-fits SMod = record { sfits = omega arith }
+offset_of-fits Xor = zero_fits_offset
+offset_of-fits Arsh = zero_fits_offset
+
+extension_bits-fits : (e : SignExtension) → IsOffset (pos (extension_bits e))
+extension_bits-fits From8To32 = record { sfits = omega arith }
+extension_bits-fits From16To32 = record { sfits = omega arith }
+extension_bits-fits From8To64 = record { sfits = omega arith }
+extension_bits-fits From16To64 = record { sfits = omega arith }
+extension_bits-fits From32To64 = record { sfits = omega arith }
+
+swap_bits-fits : (size : SwapWidth) → IsImmediate (pos (swap_bits size))
+swap_bits-fits S16 = record { sfits = omega arith }
+swap_bits-fits S32 = record { sfits = omega arith }
+swap_bits-fits S64 = record { sfits = omega arith }
+
+-- an opcode of parts that have their bits has its bits
+opcode-fits : (code source class : ℕ) → code < 16 → source < 2 → class < 8 → opcode code source class < 2 ^ 8
+opcode-fits code source class h g k = omega (arith, h, g, k)
+
+access_opcode-fits : (mode size class : ℕ) → mode < 8 → size < 4 → class < 8 → access_opcode mode size class < 2 ^ 8
+access_opcode-fits mode size class h g k = omega (arith, h, g, k)
+
+-- the low and the upper half of a word, read as immediates
+half_fits : (n : ℕ) → n < 2 ^ 32 → IsImmediate (cast_signed w32 n)
+half_fits n h = sfits_to_z {w = w32} {n = n} (record { fits = h })
+
+-- the fields of an instruction fit their bits
+pub fit-fields_of : (i : Insn) → IsInstruction i → FitUnit (fields_of i)
+fit-fields_of (Alu op w dst src) h = record { opcode = opcode-fits (code_of op) (source_of src) (alu_class w) (AluFacts.few (alu_facts op)) (source_of-few src) (alu_class-few w); dst = omega (arith, h.0); src = omega (arith, src_of-register src h.1); offset = offset_of-fits op; imm = imm_of-fits src h.1 }
+fit-fields_of (Negate w dst) h = record { opcode = opcode-fits neg_code source_k (alu_class w) (omega arith) (omega arith) (alu_class-few w); dst = omega (arith, h); src = omega arith; offset = zero_fits_offset; imm = zero_fits_imm }
+fit-fields_of (Mov w dst src) h = record { opcode = opcode-fits mov_code (source_of src) (alu_class w) (omega arith) (source_of-few src) (alu_class-few w); dst = omega (arith, h.0); src = omega (arith, src_of-register src h.1); offset = zero_fits_offset; imm = imm_of-fits src h.1 }
+fit-fields_of (SignExtend e dst src) h = record { opcode = opcode-fits mov_code source_x (alu_class (extension_width e)) (omega arith) (omega arith) (alu_class-few (extension_width e)); dst = omega (arith, h.0); src = omega (arith, h.1); offset = extension_bits-fits e; imm = zero_fits_imm }
+fit-fields_of (Reorder order size dst) h = record { opcode = opcode-fits end_code (order_source order) (alu_class (order_width order)) (omega arith) (order_source-few order) (alu_class-few (order_width order)); dst = omega (arith, h); src = omega arith; offset = zero_fits_offset; imm = swap_bits-fits size }
+fit-fields_of (Wide dst value) h = record { opcode = omega arith; dst = omega (arith, h.0); src = omega arith; offset = zero_fits_offset; imm = half_fits (value % 2 ^ 32) (omega arith) }
+fit-fields_of (Load kind dst src offset) h = record { opcode = access_opcode-fits (mode_of kind) (size_code (loaded_size kind)) class_ldx (mode_of-few kind) (size_code-few (loaded_size kind)) (omega arith); dst = omega (arith, h.0); src = omega (arith, h.1); offset = h.2; imm = zero_fits_imm }
+fit-fields_of (Store size dst src offset) h = record { opcode = access_opcode-fits mode_mem (size_code size) (store_class src) (omega arith) (size_code-few size) (store_class-few src); dst = omega (arith, h.0); src = omega (arith, src_of-register src h.1); offset = h.2; imm = imm_of-fits src h.1 }
+fit-fields_of (Jump distance) h = record { opcode = omega arith; dst = omega arith; src = omega arith; offset = h; imm = zero_fits_imm }
+fit-fields_of (JumpLong distance) h = record { opcode = omega arith; dst = omega arith; src = omega arith; offset = zero_fits_offset; imm = h }
+fit-fields_of (Branch test w dst src distance) h = record { opcode = opcode-fits (test_code test) (source_of src) (jump_class w) (test_code-few test) (source_of-few src) (jump_class-few w); dst = omega (arith, h.0); src = omega (arith, src_of-register src h.1); offset = h.2; imm = imm_of-fits src h.1 }
+fit-fields_of Exit h = record { opcode = omega arith; dst = omega arith; src = omega arith; offset = zero_fits_offset; imm = zero_fits_imm }
+
+-- so does the second unit of a wide instruction
+pub fit-second_unit : (value : ℕ) → IsWord value → FitUnit (second_unit value)
+fit-second_unit value h = record { opcode = omega arith; dst = omega arith; src = omega arith; offset = zero_fits_offset; imm = half_fits (value / 2 ^ 32) (omega (arith, h)) }
+
+-- an instruction's operation
+source_of_operand : Operand → Source
+source_of_operand (Register r) = X
+source_of_operand (Immediate imm) = K
+
+operation_of : Insn → Operation
+operation_of (Alu o w dst src) = op.Alu o (source_of_operand src) w
+operation_of (Negate w dst) = op.Negate w
+operation_of (Mov w dst src) = op.Mov (source_of_operand src) w
+operation_of (SignExtend e dst src) = op.Mov X (extension_width e)
+operation_of (Reorder order size dst) = op.Reorder order
+operation_of (Wide dst value) = op.Wide
+operation_of (Load kind dst src offset) = op.Load kind
+operation_of (Store size dst src offset) = op.Store (source_of_operand src) size
+operation_of (Jump distance) = op.Jump
+operation_of (JumpLong distance) = op.JumpLong
+operation_of (Branch test w dst src distance) = op.Branch test (source_of_operand src) w
+operation_of Exit = op.Exit
+
+opcode_of-operation_of : (i : Insn) → opcode_of (operation_of i) ≡ (fields_of i).opcode
+unfolding operation_of source_of_operand
+opcode_of-operation_of (Alu o w dst (Register r)) = refl
+opcode_of-operation_of (Alu o w dst (Immediate imm)) = refl
+opcode_of-operation_of (Negate w dst) = refl
+opcode_of-operation_of (Mov w dst (Register r)) = refl
+opcode_of-operation_of (Mov w dst (Immediate imm)) = refl
+opcode_of-operation_of (SignExtend e dst src) = refl
+opcode_of-operation_of (Reorder order size dst) = refl
+opcode_of-operation_of (Wide dst value) = refl
+opcode_of-operation_of (Load kind dst src offset) = refl
+opcode_of-operation_of (Store size dst (Register r) offset) = refl
+opcode_of-operation_of (Store size dst (Immediate imm) offset) = refl
+opcode_of-operation_of (Jump distance) = refl
+opcode_of-operation_of (JumpLong distance) = refl
+opcode_of-operation_of (Branch test w dst (Register r) distance) = refl
+opcode_of-operation_of (Branch test w dst (Immediate imm) distance) = refl
+opcode_of-operation_of Exit = refl
+
+-- its fields are operands of its operation
+operands-fields_of : (i : Insn) → IsInstruction i → AreOperands (used_by (operation_of i)) (fields_of i)
+unfolding operation_of source_of_operand
+operands-fields_of (Alu o w dst (Register r)) h = record { dst = h.0; src = h.1; offset = AluFacts.sign (alu_facts o); imm = refl }
+operands-fields_of (Alu o w dst (Immediate imm)) h = record { dst = h.0; src = refl; offset = AluFacts.sign (alu_facts o); imm = tt }
+operands-fields_of (Negate w dst) h = record { dst = h; src = refl; offset = refl; imm = refl }
+operands-fields_of (Mov w dst (Register r)) h = record { dst = h.0; src = h.1; offset = tt; imm = refl }
+operands-fields_of (Mov w dst (Immediate imm)) h = record { dst = h.0; src = refl; offset = refl; imm = tt }
+operands-fields_of (SignExtend e dst src) h = record { dst = h.0; src = h.1; offset = tt; imm = refl }
+operands-fields_of (Reorder order size dst) h = record { dst = h; src = refl; offset = refl; imm = tt }
+operands-fields_of (Wide dst value) h = record { dst = h.0; src = refl; offset = refl; imm = tt }
+operands-fields_of (Load kind dst src offset) h = record { dst = h.0; src = h.1; offset = tt; imm = refl }
+operands-fields_of (Store size dst (Register r) offset) h = record { dst = h.0; src = h.1; offset = tt; imm = refl }
+operands-fields_of (Store size dst (Immediate imm) offset) h = record { dst = h.0; src = refl; offset = tt; imm = tt }
+operands-fields_of (Jump distance) h = record { dst = refl; src = refl; offset = tt; imm = refl }
+operands-fields_of (JumpLong distance) h = record { dst = refl; src = refl; offset = refl; imm = tt }
+operands-fields_of (Branch test w dst (Register r) distance) h = record { dst = h.0; src = h.1; offset = tt; imm = refl }
+operands-fields_of (Branch test w dst (Immediate imm) distance) h = record { dst = h.0; src = refl; offset = tt; imm = tt }
+operands-fields_of Exit h = record { dst = refl; src = refl; offset = refl; imm = refl }
+
+-- the bits of an extension are a width of moves, and those of a change of byte order a width of such
+extension_bits-move : (e : SignExtension) → is_move (extension_width e) (pos (extension_bits e)) ≡ true
+extension_bits-move From8To32 = refl
+extension_bits-move From16To32 = refl
+extension_bits-move From8To64 = refl
+extension_bits-move From16To64 = refl
+extension_bits-move From32To64 = refl
+
+swap_bits-swap : (size : SwapWidth) → is_swap (pos (swap_bits size)) ≡ true
+swap_bits-swap S16 = refl
+swap_bits-swap S32 = refl
+swap_bits-swap S64 = refl
+
+zero_is_move : (w : Width) → is_move w (pos 0) ≡ true
+zero_is_move W32 = refl
+zero_is_move W64 = refl
+
+low_class : (n class : ℕ) → n % 8 ≡ class → class < 4 → n % 8 < 4
+low_class n class e h = omega (arith, e, h)
+
+store_class-low : (s : Operand) → store_class s < 4
+store_class-low (Register r) = omega arith
+store_class-low (Immediate imm) = omega arith
+
+-- and their widths are widths
+width-fields_of : (i : Insn) → has_bad_width (fields_of i) ≡ false
+width-fields_of (Alu o w dst src) = good_sign (fields_of (Alu o w dst src)) o (source_of src) w (source_of-few src) refl (AluFacts.signed (alu_facts o))
+width-fields_of (Negate w dst) = good_negation (fields_of (Negate w dst)) w refl
+width-fields_of (Mov w dst src) = good_move (fields_of (Mov w dst src)) (source_of src) w (source_of-few src) refl (zero_is_move w)
+width-fields_of (SignExtend e dst src) = good_move (fields_of (SignExtend e dst src)) source_x (extension_width e) (omega arith) refl (extension_bits-move e)
+width-fields_of (Reorder order size dst) = good_order (fields_of (Reorder order size dst)) (order_source order) (order_width order) (order_source-few order) refl (swap_bits-swap size)
+width-fields_of (Wide dst value) = refl
+width-fields_of (Load kind dst src offset) = no_width (fields_of (Load kind dst src offset)) (low_class _ class_ldx (class_in-access (mode_of kind) (size_code (loaded_size kind)) class_ldx (size_code-few (loaded_size kind)) (omega arith)) (omega arith))
+width-fields_of (Store size dst src offset) = no_width (fields_of (Store size dst src offset)) (low_class _ (store_class src) (class_in-access mode_mem (size_code size) (store_class src) (size_code-few size) (store_class-few src)) (store_class-low src))
+width-fields_of (Jump distance) = refl
+width-fields_of (JumpLong distance) = refl
+width-fields_of (Branch test w dst src distance) = no_width_of_jump (fields_of (Branch test w dst src distance)) w (class_in-jump (test_code test) (source_of src) w (source_of-few src))
+width-fields_of Exit = refl
+
+-- fields that are operands have no fault but of their width
+pub operands_have_no_fault : (used : UsedFields) (f : Fields) → AreOperands used f → (has_bad_register used f ≡ false) × (has_unused_not_zero used f ≡ false)
+operands_have_no_fault used f h =
+    let dst = register_tests used.dst f.dst h.dst in
+    let src = register_tests used.src f.src h.src in
+    (rw (dst.0, src.0) refl, rw (dst.1, src.1, zero_test used.offset f.offset h.offset, zero_test used.imm f.imm h.imm) refl)
+  where
+    register_tests : (used : Bool) (n : ℕ) → IsRegisterIfUsed used n → ((used && nat_lt 10 n) ≡ false) × ((not used && not (nat_eq n 0)) ≡ false)
+    register_tests true n h = (grind (arith, nat_tests), refl)
+    register_tests false n h = (refl, rw h refl)
+
+    zero_test : (used : Bool) (z : ℤ) → IsZeroUnlessUsed used z → (not used && not (int_eq z (pos 0))) ≡ false
+    zero_test true z h = refl
+    zero_test false z h = rw h refl
+
+-- the fields of an instruction have no fault
+pub fault_of-fields_of : (i : Insn) → IsInstruction i → fault_of (fields_of i) ≡ None
+fault_of-fields_of i h =
+    let used : used_fields (fields_of i).opcode ≡ Some (used_by (operation_of i)) = ap used_fields (sym (opcode_of-operation_of i)) ∙ used_fields-opcode_of (operation_of i) in
+    let clean = operands_have_no_fault (used_by (operation_of i)) (fields_of i) (operands-fields_of i h) in
+    ap (λ (u : Option UsedFields). fault_under u (fields_of i)) used ∙ rw (clean.0, clean.1, width-fields_of i) refl
+
+-- an instruction of one unit whose registers and fields fit is one
+pub is_instruction : (i : Insn) → (fields_of i).dst ≤ 10 → (fields_of i).src ≤ 10 → FitUnit (fields_of i) → units_of i ≡ 1 → IsInstruction i
+is_instruction (Alu o w dst (Register r)) d s fit one = (d, s)
+is_instruction (Alu o w dst (Immediate imm)) d s fit one = (d, fit.imm)
+is_instruction (Negate w dst) d s fit one = d
+is_instruction (Mov w dst (Register r)) d s fit one = (d, s)
+is_instruction (Mov w dst (Immediate imm)) d s fit one = (d, fit.imm)
+is_instruction (SignExtend e dst src) d s fit one = (d, s)
+is_instruction (Reorder order size dst) d s fit one = d
+is_instruction (Wide dst value) d s fit one = absurd (omega (arith, one))
+is_instruction (Load kind dst src offset) d s fit one = (d, s, fit.offset)
+is_instruction (Store size dst (Register r) offset) d s fit one = (d, s, fit.offset)
+is_instruction (Store size dst (Immediate imm) offset) d s fit one = (d, fit.imm, fit.offset)
+is_instruction (Jump distance) d s fit one = fit.offset
+is_instruction (JumpLong distance) d s fit one = fit.imm
+is_instruction (Branch test w dst (Register r) distance) d s fit one = (d, s, fit.offset)
+is_instruction (Branch test w dst (Immediate imm) distance) d s fit one = (d, fit.imm, fit.offset)
+is_instruction Exit d s fit one = tt
+
+-- an instruction that is not wide has one unit, and no second
+pub one_unit : (i : Insn) → ((dst value : ℕ) → i ≡ Wide dst value → ⊥) → (units_of i ≡ 1) × (second_bytes i ≡ [])
+one_unit (Alu o w dst src) n = (refl, refl)
+one_unit (Negate w dst) n = (refl, refl)
+one_unit (Mov w dst src) n = (refl, refl)
+one_unit (SignExtend e dst src) n = (refl, refl)
+one_unit (Reorder order size dst) n = (refl, refl)
+one_unit (Wide dst value) n = absurd (n dst value refl)
+one_unit (Load kind dst src offset) n = (refl, refl)
+one_unit (Store size dst src offset) n = (refl, refl)
+one_unit (Jump distance) n = (refl, refl)
+one_unit (JumpLong distance) n = (refl, refl)
+one_unit (Branch test w dst src distance) n = (refl, refl)
+one_unit Exit n = (refl, refl)
+
+-- so its spelling is one unit's
+pub one_unit_spelled : (i : Insn) (bytes : List ℕ) → ((dst value : ℕ) → i ≡ Wide dst value → ⊥) → bytes ≡ unit_bytes (fields_of i) → bytes ≡ spelling i
+one_unit_spelled i bytes n e = e ∙ sym (ap (λ (x : List ℕ). unit_bytes (fields_of i) ++ x) (one_unit i n).1 ∙ append-nil (unit_bytes (fields_of i)))

@@ -1,0 +1,158 @@
+//! Instructions from operations and fields.
+ghost use Rattle.std.specs.Prelude.{◌≡◌, ◌≢◌, ◌≤◌, true, false, IfSome, IfNone, nat_eq, pos};
+ghost use Rattle.bpf_model.specs.Arithmetic.{swap_bits, extension_width, extension_bits};
+ghost use Rattle.bpf_model.specs.Spelling.{fields_of, IsInstruction, IsOperand, code_of, offset_of, source_of, src_of, imm_of, source_k, source_x};
+ghost use Rattle.bpf_decode.specs.Opcodes.{is_division};
+ghost use Rattle.bpf_decode.specs.UnitFaults.{has_bad_width, is_sign, is_move, is_swap};
+ghost use Rattle.bpf_decode.specs.Operations.{source_number, opcode_of, used_by, AreOperands, IsRegisterIfUsed, IsZeroUnlessUsed};
+ghost use Rattle.bpf_decode.specs.declared.operation.Operation.TheVariants.{Wide, Mov};
+
+use crate::operation::{Operation, Source};
+use crate::unit::Fields;
+use bpf_model::{AluOp, Insn, Operand, Reg, SignExtension, SwapWidth, Width};
+
+impl Operation {
+    /// Its instruction with the operands that these fields have; none where a width among them is none.
+    pub(crate) fn with_operands(self, fields: Fields) -> Option<Insn>
+        requires opcode { fields.opcode ≡ opcode_of self }
+        requires one_unit { self ≢ Wide }
+        requires operands { AreOperands (used_by self) fields }
+        ensures instruction { IfSome result IsInstruction }
+        ensures spelled { IfSome result (λ i. fields_of i ≡ fields) }
+        ensures none { IfNone result (has_bad_width fields ≡ true) }
+    {
+        match self {
+            Operation::Alu(op, source, width) => Some(Insn::Alu {
+                op: with_sign(op, fields.offset)?,
+                width,
+                dst: register(fields.dst),
+                src: operand(source, fields),
+            }),
+            Operation::Negate(width) => Some(Insn::Negate {
+                width,
+                dst: register(fields.dst),
+            }),
+            Operation::Mov(source, width) => moved(source, width, fields),
+            Operation::Reorder(order) => Some(Insn::Reorder {
+                order,
+                size: swap_width(fields.imm)?,
+                dst: register(fields.dst),
+            }),
+            Operation::Wide => unreachable!(),
+            Operation::Load(kind) => Some(Insn::Load {
+                kind,
+                dst: register(fields.dst),
+                src: register(fields.src),
+                offset: fields.offset,
+            }),
+            Operation::Store(source, size) => Some(Insn::Store {
+                size,
+                dst: register(fields.dst),
+                src: operand(source, fields),
+                offset: fields.offset,
+            }),
+            Operation::Jump => Some(Insn::Jump {
+                distance: fields.offset,
+            }),
+            Operation::JumpLong => Some(Insn::JumpLong {
+                distance: fields.imm,
+            }),
+            Operation::Branch(test, source, width) => Some(Insn::Branch {
+                test,
+                width,
+                dst: register(fields.dst),
+                src: operand(source, fields),
+                distance: fields.offset,
+            }),
+            Operation::Exit => Some(Insn::Exit),
+        }
+    }
+}
+
+/// The register of a number.
+pub(crate) fn register(number: u8) -> Reg
+    requires { number ≤ 10 }
+    ensures { result ≡ number }
+{
+    Reg::new(number).unwrap()
+}
+
+fn operand(source: Source, fields: Fields) -> Operand
+    requires src { IsRegisterIfUsed (nat_eq (source_number source) source_x) fields.src }
+    requires imm { IsZeroUnlessUsed (nat_eq (source_number source) source_k) fields.imm }
+    ensures operand { IsOperand result }
+    ensures source { source_of result ≡ source_number source }
+    ensures src { src_of result ≡ fields.src }
+    ensures imm { imm_of result ≡ fields.imm }
+{
+    match source {
+        Source::Immediate => Operand::Immediate(fields.imm),
+        Source::Register => Operand::Register(register(fields.src)),
+    }
+}
+
+// a move of the whole operand, or of its low part with its sign extended
+fn moved(source: Source, width: Width, fields: Fields) -> Option<Insn>
+    requires opcode { fields.opcode ≡ opcode_of (Mov source width) }
+    requires operands { AreOperands (used_by (Mov source width)) fields }
+    ensures instruction { IfSome result IsInstruction }
+    ensures spelled { IfSome result (λ i. fields_of i ≡ fields) }
+    ensures none { IfNone result (has_bad_width fields ≡ true) }
+{
+    let dst = register(fields.dst);
+    if fields.offset == 0 {
+        let src = operand(source, fields);
+        return Some(Insn::Mov { width, dst, src });
+    }
+    Some(Insn::SignExtend {
+        extension: sign_extension(width, fields.offset)?,
+        dst,
+        src: register(fields.src),
+    })
+}
+
+// the operation with the sign that the offset says
+fn with_sign(op: AluOp, offset: i16) -> Option<AluOp>
+    requires { IsZeroUnlessUsed (is_division (code_of op)) offset }
+    ensures code { IfSome result (λ signed. code_of signed ≡ code_of op) }
+    ensures offset { IfSome result (λ signed. offset_of signed ≡ offset) }
+    ensures division { IfNone result (is_division (code_of op) ≡ true) }
+    ensures none { IfNone result (is_sign offset ≡ false) }
+{
+    match (op, offset) {
+        (AluOp::Div | AluOp::SDiv, 0) => Some(AluOp::Div),
+        (AluOp::Div | AluOp::SDiv, 1) => Some(AluOp::SDiv),
+        (AluOp::Mod | AluOp::SMod, 0) => Some(AluOp::Mod),
+        (AluOp::Mod | AluOp::SMod, 1) => Some(AluOp::SMod),
+        (AluOp::Div | AluOp::SDiv | AluOp::Mod | AluOp::SMod, _) => None,
+        _ => Some(op),
+    }
+}
+
+fn sign_extension(width: Width, offset: i16) -> Option<SignExtension>
+    requires { offset ≢ pos 0 }
+    ensures width { IfSome result (λ extension. extension_width extension ≡ width) }
+    ensures bits { IfSome result (λ extension. pos (extension_bits extension) ≡ offset) }
+    ensures none { IfNone result (is_move width offset ≡ false) }
+{
+    match (width, offset) {
+        (Width::W32, 8) => Some(SignExtension::From8To32),
+        (Width::W32, 16) => Some(SignExtension::From16To32),
+        (Width::W64, 8) => Some(SignExtension::From8To64),
+        (Width::W64, 16) => Some(SignExtension::From16To64),
+        (Width::W64, 32) => Some(SignExtension::From32To64),
+        _ => None,
+    }
+}
+
+fn swap_width(imm: i32) -> Option<SwapWidth>
+    ensures bits { IfSome result (λ size. pos (swap_bits size) ≡ imm) }
+    ensures none { IfNone result (is_swap imm ≡ false) }
+{
+    match imm {
+        16 => Some(SwapWidth::S16),
+        32 => Some(SwapWidth::S32),
+        64 => Some(SwapWidth::S64),
+        _ => None,
+    }
+}
