@@ -1,11 +1,12 @@
 //! Places in the list of instructions, by the units that the instructions take.
-ghost use Rattle.std.specs.Prelude.{◌≡◌, ◌≤◌, ◌<◌, ◌+◌, ℕ, length, take, IsSome, pos, ◌+ℤ◌};
+ghost use Rattle.std.specs.Prelude.{◌≡◌, ◌≤◌, ◌<◌, length, take, IsSome};
 ghost use Rattle.bpf_model.specs.Program.{IsProgram, units_of, unit_count, instruction_at};
-ghost use Rattle.bpf_machine.specs.Holds.{IsTarget, HasTarget};
+ghost use Rattle.bpf_machine.specs.Places.{HasTarget, IsPlaceAfter};
 
 use bpf_model::Insn;
 use bpf_model::limits::PROGRAM_UNITS;
 
+/// How many units an instruction takes.
 fn units(insn: Insn) -> usize
     ensures { result ≡ units_of insn }
 {
@@ -27,7 +28,7 @@ fn units_of_all(instructions: &[Insn]) -> usize
     count
 }
 
-/// The place of the instruction that starts at this unit.
+/// The place of the instruction that starts at this unit. Costs a step for each instruction before it.
 fn place_of(instructions: &[Insn], unit: usize) -> usize
     requires { IsSome (instruction_at instructions.now unit) }
     ensures inside { result < length instructions.now }
@@ -43,14 +44,14 @@ fn place_of(instructions: &[Insn], unit: usize) -> usize
     unreachable!()
 }
 
-/// The place where a run goes on that has come through the instruction at `place`, and leads this many units on from
-/// there. Costs a step for each instruction that is passed over, and none more where the distance is 0; a way back costs
-/// two for each instruction up to `place`.
+/// The place of the instruction that starts at this distance, in units, from the end of the one at `place`. Costs a step
+/// for each instruction that is passed over, so none where the distance is 0. A way back is counted from the program's
+/// start: it costs a step for each instruction up to `place`, and one for each before the target.
 pub(crate) fn place_after(program: &[Insn], place: usize, distance: i32) -> usize
     requires program { IsProgram program.now }
     requires place { place < length program.now }
     requires target { HasTarget program.now place distance }
-    ensures { (unit : ℕ) → IsTarget program.now place distance unit → unit_count (take result program.now) ≡ unit }
+    ensures { IsPlaceAfter program.now place distance result }
 {
     let next = place + 1;
     let far = distance.unsigned_abs() as usize;
