@@ -1,6 +1,6 @@
-use Rattle.std.proofs.Common.{◌≡◌, ◌+◌, ◌-◌, ◌<◌, ◌≤◌, suc, [], length, take, drop, refl, arith, add-one}
+use Rattle.std.proofs.Common.{length, refl, arith, add-one}
 use Rattle.std.proofs.lemmas.Option.{slice_get_read}
-use Rattle.bpf_model.specs.Program.{unit_count, units_of}
+use Rattle.bpf_model.specs.Program.{unit_count}
 use Rattle.bpf_model.proofs.ProgramLemmas.{unit_count-next}
 use Rattle.bpf_machine.proofs.PlaceLemmas.{passes, none_past}
 use Rattle.bpf_machine.proofs.places.place_of.Goals as goal

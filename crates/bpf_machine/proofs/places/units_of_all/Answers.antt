@@ -1,6 +1,6 @@
-use Rattle.std.proofs.Common.{◌≡◌, ◌+◌, ◌≤◌, suc, length, take, refl, arith, add-one, rules}
+use Rattle.std.proofs.Common.{◌+◌, ◌≤◌, suc, length, refl, arith, add-one, rules}
 use Rattle.std.proofs.lemmas.Option.{slice_get_read}
-use Rattle.bpf_model.specs.Program.{unit_count, units_of}
+use Rattle.bpf_model.specs.Program.{unit_count}
 use Rattle.bpf_model.proofs.ProgramLemmas.{unit_count-next, unit_count-take}
 use Rattle.bpf_machine.proofs.places.units_of_all.Goals as goal
 
