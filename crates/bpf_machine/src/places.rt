@@ -54,8 +54,11 @@ pub(crate) fn place_after(program: &[Insn], place: usize, distance: i32) -> usiz
     ensures { IsPlaceAfter program.now place distance result }
 {
     let next = place + 1;
+    if distance == 0 {
+        return next;
+    }
     let far = distance.unsigned_abs() as usize;
-    if distance >= 0 {
+    if distance > 0 {
         next + place_of(&program[next..], far)
     } else {
         place_of(program, units_of_all(&program[..next]) - far)

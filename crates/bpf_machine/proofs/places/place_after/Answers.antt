@@ -11,18 +11,18 @@ place_of-requires c =
     let xs = c.args.program.now in
     let next : ℕ = c.args.place + 1 in
     let far = c.unsigned_abs-far.result in
-    let unit : c.requires.target.unit ≡ unit_count (take next xs) + far = omega (arith, ints, c.requires.target.is, c.unsigned_abs-far.ensures.value, c.if-distance-ge0.true) in
+    let unit : c.requires.target.unit ≡ unit_count (take next xs) + far = omega (arith, ints, c.requires.target.is, c.unsigned_abs-far.ensures.value, c.if-distance-gt0.true) in
     let starts = subst (λ (u : ℕ). IsSome (instruction_at xs u)) unit c.requires.target.starts in
     rw (rest_is xs next) (rw (instruction_at-drop xs next far) at starts)
 
 pub units_of_all-requires : goal.units_of_all-requires
 units_of_all-requires c = omega (arith, unit_count-take c.args.program.now (c.args.place + 1), c.requires.program.few)
 
-pub returns-then-distance-ge0 : goal.returns-then-distance-ge0
-returns-then-distance-ge0 c = λ unit h.
+pub returns-then-distance-gt0 : goal.returns-then-distance-gt0
+returns-then-distance-gt0 c = λ unit h.
     let xs = c.args.program.now in
     let next : ℕ = c.args.place + 1 in
     let far = c.unsigned_abs-far.result in
-    let is : unit ≡ unit_count (take next xs) + far = omega (arith, ints, h, c.unsigned_abs-far.ensures.value, c.if-distance-ge0.true) in
+    let is : unit ≡ unit_count (take next xs) + far = omega (arith, ints, h, c.unsigned_abs-far.ensures.value, c.if-distance-gt0.true) in
     let found = rw (rest_is xs next) at c.place_of.ensures.unit in
     unit_count-more xs next c.place_of.result ∙ omega (arith, is, found)
