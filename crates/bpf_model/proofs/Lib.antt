@@ -8,3 +8,4 @@ pub mod ArithmeticLaws
 pub mod ConditionLaws
 pub mod RunLaws
 pub mod StepLaws
+pub mod ByteOrderLaws

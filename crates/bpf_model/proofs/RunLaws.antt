@@ -37,8 +37,12 @@ end_stops program sizes s a e =
 
 -- after a state without a next one there is none
 none_after : (program : List Insn) (sizes : Sizes) (n k : ℕ) (s t : State) → after program sizes n s ≡ Some t → step program sizes t ≡ None → after program sizes (suc (k + n)) s ≡ None
-none_after program sizes n zero s t e stop = ap (option_and_then (step program sizes)) e ∙ stop
-none_after program sizes n (suc k) s t e stop = ap (option_and_then (step program sizes)) (none_after program sizes n k s t e stop)
+none_after program sizes n zero s t e stop =
+    let here : 0 + n ≡ n = omega arith in
+    rw here (ap (option_and_then (step program sizes)) e ∙ stop)
+none_after program sizes n (suc k) s t e stop =
+    let later : suc k + n ≡ suc (k + n) = omega arith in
+    rw later (ap (option_and_then (step program sizes)) (none_after program sizes n k s t e stop))
 
 -- a run that comes to an end comes to nothing later
 ended_before : (program : List Insn) (sizes : Sizes) (n m : ℕ) (s t u : State) (a : Answer) → n < m → after program sizes n s ≡ Some t → ending program sizes t ≡ Some a → after program sizes m s ≡ Some u → ⊥
@@ -51,7 +55,7 @@ ended_before program sizes n m s t u a h e ends later =
 
 -- a program answers one thing on an input
 pub one_answer : (program : List Insn) (sizes : Sizes) (input : Input) (a b : Answer) → Means program sizes input a → Means program sizes input b → a ≡ b
-one_answer program sizes input a b (n, t, e, ends) (m, u, f, stops) =
+one_answer program sizes input a b (n, (t, (e, ends))) (m, (u, (f, stops))) =
     elim (cases_order n m) [
       | inl same ↦
           let again : after program sizes n (entry_state sizes input) ≡ Some u = ap (λ (j : ℕ). after program sizes j (entry_state sizes input)) same ∙ f in

@@ -13,6 +13,7 @@ pub mod bytes;
 pub mod conditions;
 pub mod input;
 pub mod instruction;
+pub mod laws;
 pub mod limits;
 pub mod memory;
 pub mod operations;
