@@ -1,5 +1,5 @@
 //! Laws of the definitions: what holds of them whatever their arguments, each the contract of a small function.
-ghost use Rattle.std.specs.Prelude.{ℕ, ◌≡◌, ◌↔◌, ◌+◌, ◌<◌, List, Some, IsTrue, not, unsigned_abs, int_le, pos, true, ◌≤ℤ◌};
+ghost use Rattle.std.specs.Prelude.{ℕ, ◌≡◌, ◌↔◌, ◌+◌, ◌<◌, List, Some, IsTrue, not, unsigned_abs, pos, true, false, ◌≤ℤ◌};
 ghost use Rattle.bpf_model.specs.declared.input.Input.{Input};
 ghost use Rattle.bpf_model.specs.declared.input.Sizes.{Sizes as DeclaredSizes};
 ghost use Rattle.bpf_model.specs.declared.instruction.Insn.{Insn};
@@ -80,9 +80,9 @@ impl Condition {
 impl Region {
     /// Whether the window may only be read: no step changes a byte of such a window, nor any byte outside all windows.
     pub fn is_read_only(self) -> bool
-        ensures exact { (sizes : DeclaredSizes) (a n : ℕ) → AreWithinLimits sizes → IsTrue (lies_in_window sizes self a n) → result ≡ not (can_write sizes a n) }
-        ensures kept { (sizes : DeclaredSizes) (insn : Insn) (s t : State) (a : ℕ) → AreWithinLimits sizes → IsTrue result → IsTrue (lies_in_window sizes self a 1) → act sizes insn s ≡ Some t → t.memory a ≡ s.memory a }
-        ensures outside { (sizes : DeclaredSizes) (insn : Insn) (s t : State) (a : ℕ) → IsTrue (not (can_write sizes a 1)) → act sizes insn s ≡ Some t → t.memory a ≡ s.memory a }
+        ensures exact { (sizes : DeclaredSizes) (a n : ℕ) → AreWithinLimits sizes → lies_in_window sizes self a n ≡ true → result ≡ not (can_write sizes a n) }
+        ensures kept { (sizes : DeclaredSizes) (insn : Insn) (s t : State) (a : ℕ) → AreWithinLimits sizes → result ≡ true → lies_in_window sizes self a 1 ≡ true → act sizes insn s ≡ Some t → t.memory a ≡ s.memory a }
+        ensures outside { (sizes : DeclaredSizes) (insn : Insn) (s t : State) (a : ℕ) → can_write sizes a 1 ≡ false → act sizes insn s ≡ Some t → t.memory a ≡ s.memory a }
     {
         matches!(self, Region::Key | Region::Old | Region::Arg)
     }

@@ -5,4 +5,5 @@ use Rattle.bpf_model.proofs.input.Answer.is_same.Goals as goal
 pub returns-clause-one : goal.returns-clause-one
 returns-clause-one c program sizes input first second =
     let same = one_answer program sizes input c.args.self.now c.args.other.now first second in
-    c.eq.ensures.1 same
+    let equal = c.eq.ensures in
+    search rules
