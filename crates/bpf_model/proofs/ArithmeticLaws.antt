@@ -39,8 +39,8 @@ signed_right_below : (width : Width) (x y : ℕ) → x < modulus width → signe
 unfolding signed_right
 signed_right_below width x y h =
     cond_both (nat_lt x (modulus width / 2)) _ _ (λ n. n < modulus width)
-      (λ e. omega (arith, h, shr_le x (y % bits_of width)))
-      (λ e. omega (arith, h))
+    (λ e. omega (arith, h, shr_le x (y % bits_of width)))
+    (λ e. omega (arith, h))
 
 -- an operation on numbers of a width gives a number of the width
 pub low_value_below : (op : AluOp) (width : Width) (x y : ℕ) → x < modulus width → y < modulus width → low_value op width x y < modulus width
@@ -98,16 +98,16 @@ divided_again w x y p q =
     let is_product : (wrapped m quotient * y) % m < m = mod_below (wrapped m quotient * y) m some in
     let is_sum : ((wrapped m quotient * y) % m + wrapped m remainder) % m < m = mod_below _ m some in
     let product : cast_signed w ((wrapped m quotient * y) % m) ≡ int_wrap w (quotient *ℤ second) =
-        wrapping_mul-bits w (wrapped m quotient) y is_quotient q ∙ ap (λ (z : ℤ). int_wrap w (z *ℤ second)) (wrapped_reads w quotient) ∙ int_wrap-mul_left w quotient second in
+    wrapping_mul-bits w (wrapped m quotient) y is_quotient q ∙ ap (λ (z : ℤ). int_wrap w (z *ℤ second)) (wrapped_reads w quotient) ∙ int_wrap-mul_left w quotient second in
     let sum : cast_signed w (((wrapped m quotient * y) % m + wrapped m remainder) % m) ≡ int_wrap w (int_wrap w (quotient *ℤ second) +ℤ int_wrap w remainder) =
-        wrapping_add-bits w ((wrapped m quotient * y) % m) (wrapped m remainder) is_product is_remainder
-        ∙ ap (λ (z : ℤ). int_wrap w (z +ℤ cast_signed w (wrapped m remainder))) product
-        ∙ ap (λ (z : ℤ). int_wrap w (int_wrap w (quotient *ℤ second) +ℤ z)) (wrapped_reads w remainder) in
+    wrapping_add-bits w ((wrapped m quotient * y) % m) (wrapped m remainder) is_product is_remainder
+    ∙ ap (λ (z : ℤ). int_wrap w (z +ℤ cast_signed w (wrapped m remainder))) product
+    ∙ ap (λ (z : ℤ). int_wrap w (int_wrap w (quotient *ℤ second) +ℤ z)) (wrapped_reads w remainder) in
     let whole : int_wrap w (int_wrap w (quotient *ℤ second) +ℤ int_wrap w remainder) ≡ first =
-        int_wrap-add_left w (quotient *ℤ second) (int_wrap w remainder)
-        ∙ int_wrap-add_right w (quotient *ℤ second) remainder
-        ∙ ap (int_wrap w) (quot-rem first second)
-        ∙ int_wrap_fits w first (sfits_to_z (record { fits = p })) in
+    int_wrap-add_left w (quotient *ℤ second) (int_wrap w remainder)
+    ∙ int_wrap-add_right w (quotient *ℤ second) remainder
+    ∙ ap (int_wrap w) (quot-rem first second)
+    ∙ int_wrap_fits w first (sfits_to_z (record { fits = p })) in
     sym (of_z-to_z w _ is_sum) ∙ ap (cast_unsigned w) (sum ∙ whole) ∙ of_z-to_z w x p
 
 -- the same of the definitions, at a divisor that is not zero
@@ -135,9 +135,9 @@ signed_division width x y =
     let product : alu_value Mul width (alu_value SDiv width x y) y % m ≡ alu_value Mul width (alu_value SDiv width x y) y = mod-eq_of_lt (alu_value_below Mul width (alu_value SDiv width x y) y) in
     let remainder : alu_value SMod width x y % m ≡ alu_value SMod width x y = mod-eq_of_lt (alu_value_below SMod width x y) in
     let parts : alu_value Add width (alu_value Mul width (alu_value SDiv width x y) y) (alu_value SMod width x y) ≡ (((signed_quotient width (x % m) (y % m)) * (y % m)) % m + signed_remainder width (x % m) (y % m)) % m =
-        ap (λ (k : ℕ). (k + alu_value SMod width x y % m) % m) product
-        ∙ ap (λ (k : ℕ). (alu_value Mul width (alu_value SDiv width x y) y + k) % m) remainder
-        ∙ ap (λ (k : ℕ). ((k * (y % m)) % m + alu_value SMod width x y) % m) quotient in
+    ap (λ (k : ℕ). (k + alu_value SMod width x y % m) % m) product
+    ∙ ap (λ (k : ℕ). (alu_value Mul width (alu_value SDiv width x y) y + k) % m) remainder
+    ∙ ap (λ (k : ℕ). ((k * (y % m)) % m + alu_value SMod width x y) % m) quotient in
     parts ∙ elim (cases_Bool (nat_eq (y % m) 0)) [
       | inl e ↦ divided_by_zero width (x % m) (y % m) low e
       | inr e ↦ divided_low width (x % m) (y % m) low divisor e
