@@ -9,3 +9,4 @@ pub mod ConditionLaws
 pub mod RunLaws
 pub mod StepLaws
 pub mod ByteOrderLaws
+pub mod SpellingLaws

@@ -410,12 +410,11 @@ fn single_words(rt: HostRuntime) {
     assert!(rt; Answer::Nothing.is_same(&Answer::Nothing));
 }
 
-/// Whether so many wide instructions and an EXIT are a program.
-fn are_a_program(alloc: Global, wides: usize, exits: usize) -> Result<bool, Fail> {
+/// Whether so many wide instructions, and so many EXIT, are a program.
+fn are_a_program(alloc: Global, dst: Reg, wides: usize, exits: usize) -> Result<bool, Fail> {
     let mut instructions = Vec::new(alloc);
-    let wide = Reg::new(0).map_or(Insn::Exit, |dst| Insn::Wide { dst, value: MAX });
     for _ in 0..wides {
-        instructions.extend_from_slice(&[wide])?;
+        instructions.extend_from_slice(&[Insn::Wide { dst, value: MAX }])?;
     }
     for _ in 0..exits {
         instructions.extend_from_slice(&[Insn::Exit])?;
@@ -425,6 +424,7 @@ fn are_a_program(alloc: Global, wides: usize, exits: usize) -> Result<bool, Fail
 
 #[test]
 fn wide_instructions_count_twice(rt: HostRuntime) -> Result<(), Fail> {
+    let r0 = Reg::new(0).expect(&rt, "r0");
     for (wides, exits, wanted) in [
         (0, 0, false),
         (0, 1, true),
@@ -436,11 +436,8 @@ fn wide_instructions_count_twice(rt: HostRuntime) -> Result<(), Fail> {
         (255, 3, false),
         (256, 1, false),
     ] {
-        assert_eq!(rt;
-            are_a_program(rt.alloc(), wides, exits)?,
-            wanted,
-            "{wides} wide, {exits} EXIT"
-        );
+        let given = are_a_program(rt.alloc(), r0, wides, exits)?;
+        assert_eq!(rt; given, wanted, "{wides} wide and {exits} EXIT");
     }
     Ok(())
 }
