@@ -32,7 +32,7 @@ use Rattle.bpf_model.specs.declared.instruction.Insn.TheVariants.{Alu, Negate, M
 use Rattle.bpf_model.specs.Words.{IsWord, bytes_of, word_of}
 use Rattle.bpf_model.specs.Arithmetic.{swap_bits, extension_bits, extension_width}
 use Rattle.bpf_model.specs.Accesses.{loaded_size}
-use Rattle.bpf_model.specs.Program.{units_of}
+use Rattle.bpf_model.specs.Program.{units_of, unit_count}
 use Rattle.bpf_model.specs.Spelling.{Fields, unit_bytes, opcode, alu_class, jump_class, source_of, src_of, imm_of, code_of, offset_of, order_source, order_width, test_code, size_code, mode_of, store_class, fields_of, second_unit, second_bytes, spelling, spelling_of_all, IsOffset, IsImmediate, IsOperand, IsInstruction, AreInstructions, Spells}
 
 -- ---- units
@@ -461,6 +461,29 @@ spelling-first i j xs ys is-i is-j e =
     (sym (insn_of-fields_of i) ∙ ap (λ (f : Fields). insn_of f (upper_half i)) first.0 ∙ ap (insn_of (fields_of j)) second.0 ∙ insn_of-fields_of j, second.1)
 
 -- ---- programs
+
+-- an instruction has eight bytes a unit
+pub length-spelling : (i : Insn) → length (spelling i) ≡ 8 * units_of i
+unfolding bytes_of
+length-spelling (Alu op width dst src) = refl
+length-spelling (Negate width dst) = refl
+length-spelling (Mov width dst src) = refl
+length-spelling (SignExtend extension dst src) = refl
+length-spelling (Reorder order size dst) = refl
+length-spelling (Wide dst value) = refl
+length-spelling (Load kind dst src offset) = refl
+length-spelling (Store size dst src offset) = refl
+length-spelling (Jump distance) = refl
+length-spelling (JumpLong distance) = refl
+length-spelling (Branch test width dst src distance) = refl
+length-spelling Exit = refl
+
+-- instructions have eight bytes a unit
+pub length-spelling_of_all : (is : List Insn) → length (spelling_of_all is) ≡ 8 * unit_count is
+unfolding unit_count
+length-spelling_of_all [] = refl
+length-spelling_of_all (i ∷ is) =
+    ap length (flat_map-cons spelling i is) ∙ length-append (spelling i) (spelling_of_all is) ∙ omega (arith, length-spelling i, length-spelling_of_all is)
 
 -- an instruction has a byte
 spelling_of_all-some : (i : Insn) (is : List Insn) → spelling_of_all (i ∷ is) ≡ [] → ⊥

@@ -1,21 +1,25 @@
 //! Laws of the definitions: what holds of them whatever their arguments, each the contract of a small function.
-ghost use Rattle.std.specs.Prelude.{ℕ, ◌≡◌, ◌↔◌, ◌+◌, ◌<◌, List, Some, IsTrue, not, unsigned_abs, pos, true, false, ◌≤ℤ◌};
+ghost use Rattle.std.specs.Prelude.{ℕ, ◌≡◌, ◌↔◌, ◌*◌, ◌++◌, ◌<◌, ◌≤◌, length, List, Some, IsTrue, not, unsigned_abs, pos, true, false, ◌≤ℤ◌};
 ghost use Rattle.bpf_model.specs.declared.input.Input.{Input};
 ghost use Rattle.bpf_model.specs.declared.input.Sizes.{Sizes as DeclaredSizes};
-ghost use Rattle.bpf_model.specs.declared.instruction.Insn.{Insn};
+ghost use Rattle.bpf_model.specs.declared.instruction.Insn.{Insn as AnyInsn};
 ghost use Rattle.bpf_model.specs.declared.operations.AluOp.TheVariants.{Add, Mul, SDiv, SMod};
 ghost use Rattle.bpf_model.specs.declared.operations.ByteOrder.TheVariants.{Little, Big, Swap};
 ghost use Rattle.bpf_model.specs.Arithmetic.{modulus, signed_at, alu_value, negated, mov_value, extended, extension_width, reordered};
 ghost use Rattle.bpf_model.specs.Conditions.{opposite_of, holds};
 ghost use Rattle.bpf_model.specs.Fits.{AreWithinLimits};
 ghost use Rattle.bpf_model.specs.Memory.{lies_in_window, can_write};
+ghost use Rattle.bpf_model.specs.Spelling.{IsInstruction, spelling, spelling_of_all, Spells};
 ghost use Rattle.bpf_model.specs.State.{State};
 ghost use Rattle.bpf_model.specs.Step.{act};
 ghost use Rattle.bpf_model.specs.Meaning.{Means};
 
 use crate::conditions::Condition;
 use crate::input::Answer;
+use crate::instruction::Insn;
+use crate::limits::PROGRAM_UNITS;
 use crate::operations::{AluOp, ByteOrder, SignExtension, SwapWidth, Width};
+use crate::program::Program;
 use crate::region::Region;
 
 impl Width {
@@ -81,8 +85,8 @@ impl Region {
     /// Whether the window may only be read: no step changes a byte of such a window, nor any byte outside all windows.
     pub fn is_read_only(self) -> bool
         ensures exact { (sizes : DeclaredSizes) (a n : ℕ) → AreWithinLimits sizes → lies_in_window sizes self a n ≡ true → result ≡ not (can_write sizes a n) }
-        ensures kept { (sizes : DeclaredSizes) (insn : Insn) (s t : State) (a : ℕ) → AreWithinLimits sizes → result ≡ true → lies_in_window sizes self a 1 ≡ true → act sizes insn s ≡ Some t → t.memory a ≡ s.memory a }
-        ensures outside { (sizes : DeclaredSizes) (insn : Insn) (s t : State) (a : ℕ) → can_write sizes a 1 ≡ false → act sizes insn s ≡ Some t → t.memory a ≡ s.memory a }
+        ensures kept { (sizes : DeclaredSizes) (insn : AnyInsn) (s t : State) (a : ℕ) → AreWithinLimits sizes → result ≡ true → lies_in_window sizes self a 1 ≡ true → act sizes insn s ≡ Some t → t.memory a ≡ s.memory a }
+        ensures outside { (sizes : DeclaredSizes) (insn : AnyInsn) (s t : State) (a : ℕ) → can_write sizes a 1 ≡ false → act sizes insn s ≡ Some t → t.memory a ≡ s.memory a }
     {
         matches!(self, Region::Key | Region::Old | Region::Arg)
     }
@@ -92,8 +96,37 @@ impl Answer {
     /// Whether two answers are the same: those that one program gives on one input are.
     pub fn is_same(&self, other: &Answer) -> bool
         ensures exact { IsTrue result ↔ (self.now ≡ other.now) }
-        ensures one { (program : List Insn) (sizes : DeclaredSizes) (input : Input) → Means program sizes input self.now → Means program sizes input other.now → IsTrue result }
+        ensures one { (program : List AnyInsn) (sizes : DeclaredSizes) (input : Input) → Means program sizes input self.now → Means program sizes input other.now → IsTrue result }
     {
         self == other
+    }
+}
+
+impl Insn {
+    /// How many bytes spell the instruction: 8 a unit. No instruction's spelling begins another's.
+    pub fn spelled_bytes(self) -> usize
+        ensures value { result ≡ length (spelling self) }
+        ensures few { result ≤ 16 }
+        ensures fits { IsInstruction self }
+        ensures prefix { (other : AnyInsn) (xs ys : List ℕ) → IsInstruction other → spelling self ++ xs ≡ spelling other ++ ys → (self ≡ other) × (xs ≡ ys) }
+    {
+        8 * self.units()
+    }
+}
+
+impl Program {
+    /// How many bytes spell the program, at most 4096. A program has one spelling, and bytes spell one program at most.
+    pub fn spelled_bytes(&self) -> usize
+        ensures value { result ≡ length (spelling_of_all self.now) }
+        ensures few { result ≤ 8 * PROGRAM_UNITS }
+        ensures one_spelling { (text other : List ℕ) → Spells text self.now → Spells other self.now → text ≡ other }
+        ensures one_program { (text : List ℕ) (other : List AnyInsn) → Spells text self.now → Spells text other → other ≡ self.now }
+    {
+        let instructions = self.instructions();
+        let mut bytes = 0;
+        for insn in instructions {
+            bytes += insn.spelled_bytes();
+        }
+        bytes
     }
 }
