@@ -443,7 +443,7 @@ second-first i j xs ys is-i is-j (inl wide) (inl also) e rest =
     let in-i = subst IsInstruction wide.is is-i in
     let in-j = subst IsInstruction also.is is-j in
     let units : unit_bytes (second_unit wide.value) ++ xs ≡ unit_bytes (second_unit also.value) ++ ys =
-        ap (λ (k : Insn). second_bytes k ++ xs) (sym wide.is) ∙ rest ∙ ap (λ (k : Insn). second_bytes k ++ ys) also.is in
+    ap (λ (k : Insn). second_bytes k ++ xs) (sym wide.is) ∙ rest ∙ ap (λ (k : Insn). second_bytes k ++ ys) also.is in
     let halves = second_unit-first wide.value also.value xs ys in-i.1 in-j.1 units in
     (ap upper_half wide.is ∙ halves.0 ∙ ap upper_half (sym also.is), halves.1)
 second-first i j xs ys is-i is-j (inl wide) (inr narrow) e rest = absurd (not_both i j wide narrow e)
@@ -455,7 +455,7 @@ second-first i j xs ys is-i is-j (inr narrow) (inr also) e rest =
 pub spelling-first : (i j : Insn) (xs ys : List ℕ) → IsInstruction i → IsInstruction j → spelling i ++ xs ≡ spelling j ++ ys → (i ≡ j) × (xs ≡ ys)
 spelling-first i j xs ys is-i is-j e =
     let split : unit_bytes (fields_of i) ++ (second_bytes i ++ xs) ≡ unit_bytes (fields_of j) ++ (second_bytes j ++ ys) =
-        sym (append_assoc (unit_bytes (fields_of i)) (second_bytes i) xs) ∙ e ∙ append_assoc (unit_bytes (fields_of j)) (second_bytes j) ys in
+    sym (append_assoc (unit_bytes (fields_of i)) (second_bytes i) xs) ∙ e ∙ append_assoc (unit_bytes (fields_of j)) (second_bytes j) ys in
     let first = unit_bytes-first (fields_of i) (fields_of j) (second_bytes i ++ xs) (second_bytes j ++ ys) (fit-fields_of i is-i) (fit-fields_of j is-j) split in
     let second = second-first i j xs ys is-i is-j (wide_or_narrow i) (wide_or_narrow j) first.0 first.1 in
     (sym (insn_of-fields_of i) ∙ ap (λ (f : Fields). insn_of f (upper_half i)) first.0 ∙ ap (insn_of (fields_of j)) second.0 ∙ insn_of-fields_of j, second.1)

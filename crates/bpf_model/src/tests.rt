@@ -410,8 +410,8 @@ fn single_words(rt: HostRuntime) {
     assert!(rt; Answer::Nothing.is_same(&Answer::Nothing));
 }
 
-/// Whether so many wide instructions, and so many EXIT, are a program.
-fn are_a_program(alloc: Global, dst: Reg, wides: usize, exits: usize) -> Result<bool, Fail> {
+/// The bytes of a program of so many wide instructions, and so many EXIT; 0 where they are none.
+fn program_bytes(alloc: Global, dst: Reg, wides: usize, exits: usize) -> Result<usize, Fail> {
     let mut instructions = Vec::new(alloc);
     for _ in 0..wides {
         instructions.extend_from_slice(&[Insn::Wide { dst, value: MAX }])?;
@@ -419,24 +419,25 @@ fn are_a_program(alloc: Global, dst: Reg, wides: usize, exits: usize) -> Result<
     for _ in 0..exits {
         instructions.extend_from_slice(&[Insn::Exit])?;
     }
-    Ok(Program::new(instructions).is_some())
+    Ok(Program::new(instructions).map_or(0, |program| program.spelled_bytes()))
 }
 
 #[test]
 fn wide_instructions_count_twice(rt: HostRuntime) -> Result<(), Fail> {
     let r0 = Reg::new(0).expect(&rt, "r0");
     for (wides, exits, wanted) in [
-        (0, 0, false),
-        (0, 1, true),
-        (0, 512, true),
-        (0, 513, false),
-        (256, 0, true),
-        (255, 1, true),
-        (255, 2, true),
-        (255, 3, false),
-        (256, 1, false),
+        (0, 0, 0),
+        (0, 1, 8),
+        (1, 1, 24),
+        (0, 512, 4096),
+        (0, 513, 0),
+        (256, 0, 4096),
+        (255, 1, 4088),
+        (255, 2, 4096),
+        (255, 3, 0),
+        (256, 1, 0),
     ] {
-        let given = are_a_program(rt.alloc(), r0, wides, exits)?;
+        let given = program_bytes(rt.alloc(), r0, wides, exits)?;
         assert_eq!(rt; given, wanted, "{wides} wide and {exits} EXIT");
     }
     Ok(())
