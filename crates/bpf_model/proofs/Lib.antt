@@ -4,3 +4,9 @@ pub mod WordLemmas
 pub mod ProgramLemmas
 pub mod StepLemmas
 pub mod RunLemmas
+pub mod ArithmeticLaws
+pub mod ConditionLaws
+pub mod RunLaws
+pub mod StepLaws
+pub mod ByteOrderLaws
+pub mod SpellingLaws

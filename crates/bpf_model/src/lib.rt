@@ -13,6 +13,7 @@ pub mod bytes;
 pub mod conditions;
 pub mod input;
 pub mod instruction;
+pub mod laws;
 pub mod limits;
 pub mod memory;
 pub mod operations;
@@ -28,3 +29,6 @@ pub use memory::NoMemory;
 pub use operations::{AluOp, ByteOrder, SignExtension, SwapWidth, Width};
 pub use program::Program;
 pub use region::Region;
+
+#[cfg(test)]
+mod tests;

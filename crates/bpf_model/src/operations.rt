@@ -65,7 +65,8 @@ impl SignExtension {
     {
         match self {
             SignExtension::From8To32 | SignExtension::From16To32 => Width::W32,
-            SignExtension::From8To64 | SignExtension::From16To64 | SignExtension::From32To64 => Width::W64,
+            SignExtension::From8To64 | SignExtension::From16To64 | SignExtension::From32To64 =>
+                Width::W64,
         }
     }
 

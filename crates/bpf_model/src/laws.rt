@@ -1,0 +1,132 @@
+//! Laws of the definitions: what holds of them whatever their arguments, each the contract of a small function.
+ghost use Rattle.std.specs.Prelude.{ℕ, ◌≡◌, ◌↔◌, ◌*◌, ◌++◌, ◌<◌, ◌≤◌, length, List, Some, IsTrue, not, unsigned_abs, pos, true, false, ◌≤ℤ◌};
+ghost use Rattle.bpf_model.specs.declared.input.Input.{Input};
+ghost use Rattle.bpf_model.specs.declared.input.Sizes.{Sizes as DeclaredSizes};
+ghost use Rattle.bpf_model.specs.declared.instruction.Insn.{Insn as AnyInsn};
+ghost use Rattle.bpf_model.specs.declared.operations.AluOp.TheVariants.{Add, Mul, SDiv, SMod};
+ghost use Rattle.bpf_model.specs.declared.operations.ByteOrder.TheVariants.{Little, Big, Swap};
+ghost use Rattle.bpf_model.specs.Arithmetic.{modulus, signed_at, alu_value, negated, mov_value, extended, extension_width, reordered};
+ghost use Rattle.bpf_model.specs.Conditions.{opposite_of, holds};
+ghost use Rattle.bpf_model.specs.Fits.{AreWithinLimits};
+ghost use Rattle.bpf_model.specs.Memory.{lies_in_window, can_write};
+ghost use Rattle.bpf_model.specs.Spelling.{IsInstruction, spelling, spelling_of_all, Spells};
+ghost use Rattle.bpf_model.specs.State.{State};
+ghost use Rattle.bpf_model.specs.Step.{act};
+ghost use Rattle.bpf_model.specs.Meaning.{Means};
+
+use crate::conditions::Condition;
+use crate::input::Answer;
+use crate::instruction::Insn;
+use crate::limits::PROGRAM_UNITS;
+use crate::operations::{AluOp, ByteOrder, SignExtension, SwapWidth, Width};
+use crate::program::Program;
+use crate::region::Region;
+
+impl Width {
+    /// Whether the word is a number of the width: what an operation, a negation or a move gives at it always is.
+    #[tactic(auto, using(crate::proofs::ArithmeticLaws::alu_value_below, crate::proofs::ArithmeticLaws::negated_below, crate::proofs::ArithmeticLaws::low_below))]
+    pub fn has(self, n: u64) -> bool
+        ensures exact { IsTrue result ↔ (n < modulus self) }
+        ensures alu { (op : AluOp) (x y : ℕ) → alu_value op self x y < modulus self }
+        ensures negated { (x : ℕ) → negated self x < modulus self }
+        ensures moved { (x : ℕ) → mov_value self x < modulus self }
+    {
+        n <= self.greatest()
+    }
+
+    /// The dividend once more, out of its signed quotient and remainder: quotient times divisor plus remainder is the
+    /// dividend, modulo the width, and the remainder is nearer to zero than the divisor and has the dividend's sign.
+    pub fn divided_again(self, dividend: u64, divisor: u64) -> u64
+        ensures value { result ≡ mov_value self dividend }
+        ensures whole { alu_value Add self (alu_value Mul self (alu_value SDiv self dividend divisor) divisor) (alu_value SMod self dividend divisor) ≡ mov_value self dividend }
+        ensures near { 0 < mov_value self divisor → unsigned_abs (signed_at self (alu_value SMod self dividend divisor)) < unsigned_abs (signed_at self (mov_value self divisor)) }
+        ensures not_negative { pos 0 ≤ℤ signed_at self (mov_value self dividend) → pos 0 ≤ℤ signed_at self (alu_value SMod self dividend divisor) }
+        ensures not_positive { signed_at self (mov_value self dividend) ≤ℤ pos 0 → signed_at self (alu_value SMod self dividend divisor) ≤ℤ pos 0 }
+    {
+        let quotient = AluOp::SDiv.apply(self, dividend, divisor);
+        let remainder = AluOp::SMod.apply(self, dividend, divisor);
+        AluOp::Add.apply(self, AluOp::Mul.apply(self, quotient, divisor), remainder)
+    }
+}
+
+impl SignExtension {
+    /// Whether the word is a number of the result's width: what the extension gives always is.
+    #[tactic(auto, using(crate::proofs::ArithmeticLaws::extended_below))]
+    pub fn gives(self, n: u64) -> bool
+        ensures exact { IsTrue result ↔ (n < modulus (extension_width self)) }
+        ensures extended { (x : ℕ) → extended self x < modulus (extension_width self) }
+    {
+        self.width().has(n)
+    }
+}
+
+impl SwapWidth {
+    /// The low bytes of a word, reversed and reversed again: they stand as they stood.
+    pub fn reversed_twice(self, n: u64) -> u64
+        ensures value { result ≡ reordered Little self n }
+        ensures big { reordered Big self (reordered Big self n) ≡ reordered Little self n }
+        ensures swap { reordered Swap self (reordered Swap self n) ≡ reordered Little self n }
+    {
+        ByteOrder::Swap.apply(self, ByteOrder::Big.apply(self, n))
+    }
+}
+
+impl Condition {
+    /// Whether the condition fails of two words: exactly where its opposite holds.
+    pub fn fails(self, width: Width, a: u64, b: u64) -> bool
+        ensures value { result ≡ not (holds self width a b) }
+        ensures opposite { holds (opposite_of self) width a b ≡ not (holds self width a b) }
+    {
+        self.opposite().holds(width, a, b)
+    }
+}
+
+impl Region {
+    /// Whether the window may only be read: no step changes a byte of such a window, nor any byte outside all windows.
+    pub fn is_read_only(self) -> bool
+        ensures exact { (sizes : DeclaredSizes) (a n : ℕ) → AreWithinLimits sizes → lies_in_window sizes self a n ≡ true → result ≡ not (can_write sizes a n) }
+        ensures kept { (sizes : DeclaredSizes) (insn : AnyInsn) (s t : State) (a : ℕ) → AreWithinLimits sizes → result ≡ true → lies_in_window sizes self a 1 ≡ true → act sizes insn s ≡ Some t → t.memory a ≡ s.memory a }
+        ensures outside { (sizes : DeclaredSizes) (insn : AnyInsn) (s t : State) (a : ℕ) → can_write sizes a 1 ≡ false → act sizes insn s ≡ Some t → t.memory a ≡ s.memory a }
+    {
+        matches!(self, Region::Key | Region::Old | Region::Arg)
+    }
+}
+
+impl Answer {
+    /// Whether two answers are the same: those that one program gives on one input are.
+    pub fn is_same(&self, other: &Answer) -> bool
+        ensures exact { IsTrue result ↔ (self.now ≡ other.now) }
+        ensures one { (program : List AnyInsn) (sizes : DeclaredSizes) (input : Input) → Means program sizes input self.now → Means program sizes input other.now → IsTrue result }
+    {
+        self == other
+    }
+}
+
+impl Insn {
+    /// How many bytes spell the instruction: 8 a unit. No instruction's spelling begins another's.
+    pub fn spelled_bytes(self) -> usize
+        ensures value { result ≡ length (spelling self) }
+        ensures few { result ≤ 16 }
+        ensures fits { IsInstruction self }
+        ensures prefix { (other : AnyInsn) (xs ys : List ℕ) → IsInstruction other → spelling self ++ xs ≡ spelling other ++ ys → (self ≡ other) × (xs ≡ ys) }
+    {
+        8 * self.units()
+    }
+}
+
+impl Program {
+    /// How many bytes spell the program, at most 4096. A program has one spelling, and bytes spell one program at most.
+    pub fn spelled_bytes(&self) -> usize
+        ensures value { result ≡ length (spelling_of_all self.now) }
+        ensures few { result ≤ 8 * PROGRAM_UNITS }
+        ensures one_spelling { (text other : List ℕ) → Spells text self.now → Spells other self.now → text ≡ other }
+        ensures one_program { (text : List ℕ) (other : List AnyInsn) → Spells text self.now → Spells text other → other ≡ self.now }
+    {
+        let instructions = self.instructions();
+        let mut bytes = 0;
+        for insn in instructions {
+            bytes += insn.spelled_bytes();
+        }
+        bytes
+    }
+}
