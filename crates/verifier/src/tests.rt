@@ -93,11 +93,11 @@ fn load_of(kind: LoadKind) -> Insn {
 }
 
 /// The unwritten r5, to the number in r6.
-fn store_of(size: AccessSize, src: Operand) -> Insn {
+fn store_of(size: AccessSize) -> Insn {
     Insn::Store {
         size,
         dst: reg(6),
-        src,
+        src: Operand::Register(reg(5)),
         offset: 0,
     }
 }
@@ -123,6 +123,16 @@ fn refusal(alloc: Global, code: &[Insn], sizes: Sizes) -> Result<Option<(u8, usi
             Ok(_) => None,
         },
     })
+}
+
+/// The refusals of two programs: one begins with the instruction, one has it at unit 1.
+fn alone_and_second(
+    alloc: Global,
+    insn: &Insn,
+) -> Result<(Option<(u8, usize)>, Option<(u8, usize)>), Fail> {
+    let alone = refusal(alloc, &[*insn, mov(0, -1), Insn::Exit], SIZES)?;
+    let second = refusal(alloc, &[mov(0, -1), *insn, Insn::Exit], SIZES)?;
+    Ok((alone, second))
 }
 
 #[test]
@@ -264,7 +274,6 @@ fn the_least_number_of_a_unit_is_named(rt: HostRuntime) -> Result<(), Fail> {
 #[test]
 fn instructions_not_taken_yet_have_no_other_fault(rt: HostRuntime) -> Result<(), Fail> {
     let alloc = rt.alloc();
-    let unwritten = Operand::Register(reg(5));
     let rows = [
         ("sub", alu(AluOp::Sub, Width::W64)),
         ("mul", alu(AluOp::Mul, Width::W64)),
@@ -308,7 +317,7 @@ fn instructions_not_taken_yet_have_no_other_fault(rt: HostRuntime) -> Result<(),
             Insn::Mov {
                 width: Width::W64,
                 dst: reg(10),
-                src: unwritten,
+                src: Operand::Register(reg(5)),
             },
         ),
         (
@@ -334,12 +343,17 @@ fn instructions_not_taken_yet_have_no_other_fault(rt: HostRuntime) -> Result<(),
         ("ldsb", load_of(LoadKind::SignedByte)),
         ("ldsh", load_of(LoadKind::SignedHalfWord)),
         ("ldsw", load_of(LoadKind::SignedWord)),
-        ("stxb", store_of(AccessSize::Byte, unwritten)),
-        ("stxh", store_of(AccessSize::HalfWord, unwritten)),
-        ("stxw", store_of(AccessSize::Word, unwritten)),
+        ("stxb", store_of(AccessSize::Byte)),
+        ("stxh", store_of(AccessSize::HalfWord)),
+        ("stxw", store_of(AccessSize::Word)),
         (
             "std",
-            store_of(AccessSize::DoubleWord, Operand::Immediate(1)),
+            Insn::Store {
+                size: AccessSize::DoubleWord,
+                dst: reg(5),
+                src: Operand::Immediate(1),
+                offset: 0,
+            },
         ),
         ("ja", Insn::Jump { distance: 0 }),
         ("jal", Insn::JumpLong { distance: 0 }),
@@ -349,16 +363,14 @@ fn instructions_not_taken_yet_have_no_other_fault(rt: HostRuntime) -> Result<(),
                 test: JumpOp::Eq,
                 width: Width::W64,
                 dst: reg(5),
-                src: unwritten,
+                src: Operand::Register(reg(5)),
                 distance: 0,
             },
         ),
     ];
     for (name, insn) in rows {
-        let alone = refusal(alloc, &[insn, mov(0, -1), Insn::Exit], SIZES)?;
-        assert_eq!(rt; alone, Some((48, 0)), "{name}");
-        let second = refusal(alloc, &[mov(0, -1), insn, Insn::Exit], SIZES)?;
-        assert_eq!(rt; second, Some((48, 1)), "{name}, as the second");
+        let found = alone_and_second(alloc, &insn)?;
+        assert_eq!(rt; found, (Some((48, 0)), Some((48, 1))), "{name}");
     }
     Ok(())
 }
