@@ -4,7 +4,9 @@ ghost use Rattle.bpf_model.specs.Spelling.{opcode as opcode_with, source_of, alu
 ghost use Rattle.bpf_decode.specs.Opcodes.{used_fields, class_in, source_in};
 ghost use Rattle.bpf_decode.specs.Operations.{source_number, stored_class, opcode_of, used_by, fields_with_opcode};
 
-use crate::codes::{access_size, alu_code, alu_op, jump_test, load_kind, mode, size_code, test_code};
+use crate::codes::{
+    access_size, alu_code, alu_op, jump_test, load_kind, mode, size_code, test_code,
+};
 use crate::unit::{Fields, UsedFields};
 use bpf_model::{AccessSize, AluOp, ByteOrder, JumpOp, LoadKind, Operand, Width};
 
@@ -107,10 +109,7 @@ impl Operation {
         ensures none { IfNone result (used_fields opcode ≡ None) }
     {
         match opcode / 32 {
-            3 => Some(Operation::Store(
-                source,
-                access_size(opcode / 8 % 4),
-            )),
+            3 => Some(Operation::Store(source, access_size(opcode / 8 % 4))),
             _ => None,
         }
     }
@@ -141,11 +140,7 @@ impl Operation {
             (0, Source::Immediate, Width::W64) => Some(Operation::Jump),
             (0, Source::Immediate, Width::W32) => Some(Operation::JumpLong),
             (9, Source::Immediate, Width::W64) => Some(Operation::Exit),
-            (code, _, _) => Some(Operation::Branch(
-                jump_test(code)?,
-                source,
-                width,
-            )),
+            (code, _, _) => Some(Operation::Branch(jump_test(code)?, source, width)),
         }
     }
 
@@ -154,12 +149,12 @@ impl Operation {
         ensures { result ≡ opcode_of self }
     {
         match self {
-            Operation::Alu(op, source, width) => coded(alu_code(op), source, arithmetic_class(width)),
-            Operation::Negate(width) => coded(
-                8,
-                Source::Immediate,
+            Operation::Alu(op, source, width) => coded(
+                alu_code(op),
+                source,
                 arithmetic_class(width),
             ),
+            Operation::Negate(width) => coded(8, Source::Immediate, arithmetic_class(width)),
             Operation::Mov(source, width) => coded(11, source, arithmetic_class(width)),
             Operation::Reorder(ByteOrder::Little) => 0xd4,
             Operation::Reorder(ByteOrder::Big) => 0xdc,
@@ -170,7 +165,11 @@ impl Operation {
             Operation::Store(Source::Register, size) => 0x63 + 8 * size_code(size),
             Operation::Jump => 0x05,
             Operation::JumpLong => 0x06,
-            Operation::Branch(test, source, width) => coded(test_code(test), source, branch_class(width)),
+            Operation::Branch(test, source, width) => coded(
+                test_code(test),
+                source,
+                branch_class(width),
+            ),
             Operation::Exit => 0x95,
         }
     }
@@ -195,12 +194,24 @@ impl Operation {
         let (dst, src, offset, imm) = match self {
             Operation::Alu(op, source, _) => {
                 let signed = matches!(op, AluOp::Div | AluOp::SDiv | AluOp::Mod | AluOp::SMod);
-                (true, source == Source::Register, signed, source == Source::Immediate)
+                (
+                    true,
+                    source == Source::Register,
+                    signed,
+                    source == Source::Immediate,
+                )
             }
-            Operation::Mov(Source::Immediate, _) | Operation::Reorder(_) | Operation::Wide => (true, false, false, true),
+            Operation::Mov(Source::Immediate, _) | Operation::Reorder(_) | Operation::Wide => (
+                true, false, false, true,
+            ),
             Operation::Negate(_) => (true, false, false, false),
             Operation::Mov(Source::Register, _) | Operation::Load(_) => (true, true, true, false),
-            Operation::Store(source, _) | Operation::Branch(_, source, _) => (true, source == Source::Register, true, source == Source::Immediate),
+            Operation::Store(source, _) | Operation::Branch(_, source, _) => (
+                true,
+                source == Source::Register,
+                true,
+                source == Source::Immediate,
+            ),
             Operation::Jump => (false, false, true, false),
             Operation::JumpLong => (false, false, false, true),
             Operation::Exit => (false, false, false, false),
