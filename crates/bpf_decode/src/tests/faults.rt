@@ -1,7 +1,20 @@
 //! Which fault is the first.
 use super::{EXIT, fault_of};
 use crate::{DecodeFault, decode};
+use std::alloc::Global;
 use std::test::*;
+
+fn fault_of_unit(alloc: Global, unit: [u8; 8]) -> (u8, usize) {
+    fault_of(alloc, &unit)
+}
+
+fn fault_of_three(alloc: Global, first: [u8; 8], second: [u8; 8], third: [u8; 8]) -> (u8, usize) {
+    let mut bytes = [0; 24];
+    bytes[0..8].copy_from_slice(&first);
+    bytes[8..16].copy_from_slice(&second);
+    bytes[16..24].copy_from_slice(&third);
+    fault_of(alloc, &bytes)
+}
 
 #[test]
 fn one_unit_gives_its_least_fault(rt: HostRuntime) {
@@ -82,12 +95,13 @@ fn one_unit_gives_its_least_fault(rt: HostRuntime) {
         ),
         ("exit", EXIT, 0),
     ] {
-        assert_eq!(rt; fault_of(rt.alloc(), &unit), (number, 0), "{name}");
+        assert_eq!(rt; fault_of_unit(rt.alloc(), unit), (number, 0), "{name}");
     }
 }
 
 #[test]
 fn second_half_has_a_value_alone(rt: HostRuntime) {
+    let half = [0x18, 0, 0, 0, 8, 0, 0, 0];
     for (name, second, number) in [
         ("a value", [0, 0, 0, 0, 1, 2, 3, 4], 0),
         ("nothing", [0, 0, 0, 0, 0, 0, 0, 0], 0),
@@ -100,12 +114,12 @@ fn second_half_has_a_value_alone(rt: HostRuntime) {
         ("offset", [0, 0, 1, 0, 0, 0, 0, 0], 15),
         ("offset in its last byte", [0, 0, 0, 0x80, 0, 0, 0, 0], 15),
     ] {
-        let mut bytes = [0; 24];
-        bytes[0] = 0x95;
-        bytes[8] = 0x18;
-        bytes[16..24].copy_from_slice(&second);
         let unit = if number == 0 { 0 } else { 1 };
-        assert_eq!(rt; fault_of(rt.alloc(), &bytes), (number, unit), "{name}");
+        assert_eq!(rt;
+            fault_of_three(rt.alloc(), EXIT, half, second),
+            (number, unit),
+            "{name}"
+        );
     }
 }
 
@@ -131,36 +145,42 @@ fn first_faulty_unit_is_named(rt: HostRuntime) {
     let unknown = [0x85, 0, 0, 0, 0, 0, 0, 0];
     let half = [0x18, 0, 0, 0, 8, 0, 0, 0];
     let nothing = [0; 8];
-    for (name, units, fault) in [
-        ("a lesser number later", [unused, unknown, EXIT], (15, 0)),
-        ("a greater number later", [unknown, unused, EXIT], (13, 0)),
-        ("in the second unit", [EXIT, unused, unknown], (15, 1)),
-        ("in the last unit", [EXIT, EXIT, unknown], (13, 2)),
-        ("after a wide", [half, nothing, unknown], (13, 2)),
-        ("in a wide's second half", [half, unknown, unknown], (15, 0)),
+    for (name, first, second, third, fault) in [
+        ("a lesser number later", unused, unknown, EXIT, (15, 0)),
+        ("a greater number later", unknown, unused, EXIT, (13, 0)),
+        ("in the second unit", EXIT, unused, unknown, (15, 1)),
+        ("in the last unit", EXIT, EXIT, unknown, (13, 2)),
+        ("after a wide", half, nothing, unknown, (13, 2)),
+        ("in a wide's second half", half, unknown, unknown, (15, 0)),
         (
             "in a later wide's second half",
-            [EXIT, half, unknown],
+            EXIT,
+            half,
+            unknown,
             (15, 1),
         ),
-        ("a wide that is cut", [EXIT, EXIT, half], (17, 2)),
+        ("a wide that is cut", EXIT, EXIT, half, (17, 2)),
         (
             "a wide that is cut after a wide",
-            [half, nothing, half],
+            half,
+            nothing,
+            half,
             (17, 2),
         ),
         (
             "a second half without a first",
-            [EXIT, nothing, EXIT],
+            EXIT,
+            nothing,
+            EXIT,
             (13, 1),
         ),
-        ("nowhere", [half, nothing, EXIT], (0, 0)),
+        ("nowhere", half, nothing, EXIT, (0, 0)),
     ] {
-        let mut bytes = [0; 24];
-        bytes[0..8].copy_from_slice(&units[0]);
-        bytes[8..16].copy_from_slice(&units[1]);
-        bytes[16..24].copy_from_slice(&units[2]);
-        assert_eq!(rt; fault_of(rt.alloc(), &bytes), fault, "{name}");
+        assert_eq!(rt;
+            fault_of_three(rt.alloc(), first, second, third),
+            fault,
+            "{name}"
+        );
     }
 }
 

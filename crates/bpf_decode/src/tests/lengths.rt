@@ -48,6 +48,7 @@ fn length_hides_other_faults(rt: HostRuntime) {
 #[test]
 fn longest_program_may_end_with_a_wide(rt: HostRuntime) {
     let mut bytes = exits();
+    assert!(rt; bytes.len() == 4105);
     bytes[4080] = 0x18;
     bytes[4088] = 0;
     assert!(rt; is_written_again(rt.alloc(), &bytes[..4096]));

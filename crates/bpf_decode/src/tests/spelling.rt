@@ -305,8 +305,9 @@ fn conditions_have_these_codes(rt: HostRuntime) {
 }
 
 #[test]
-fn accesses_have_these_codes(rt: HostRuntime) {
-    let (dst, src) = (register(&rt, 3), register(&rt, 4));
+fn loads_have_these_codes(rt: HostRuntime) {
+    let dst = register(&rt, 3);
+    let src = register(&rt, 4);
     let offset = 6;
     for (kind, opcode) in [
         (LoadKind::Byte, 0x71),
@@ -332,14 +333,21 @@ fn accesses_have_these_codes(rt: HostRuntime) {
             "{opcode:x}"
         );
     }
-    let src = Operand::Register(src);
-    for (size, opcode) in [
-        (AccessSize::Byte, 0x73),
-        (AccessSize::HalfWord, 0x6b),
-        (AccessSize::Word, 0x63),
-        (AccessSize::DoubleWord, 0x7b),
+}
+
+#[test]
+fn stores_have_these_codes(rt: HostRuntime) {
+    let dst = register(&rt, 3);
+    let r4 = register(&rt, 4);
+    let offset = 6;
+    for (size, of_register, of_immediate) in [
+        (AccessSize::Byte, 0x73, 0x72),
+        (AccessSize::HalfWord, 0x6b, 0x6a),
+        (AccessSize::Word, 0x63, 0x62),
+        (AccessSize::DoubleWord, 0x7b, 0x7a),
     ] {
-        let bytes = [opcode, 0x43, 6, 0, 0, 0, 0, 0];
+        let bytes = [of_register, 0x43, 6, 0, 0, 0, 0, 0];
+        let src = Operand::Register(r4);
         assert!(rt;
             spells(
                 rt.alloc(),
@@ -351,17 +359,10 @@ fn accesses_have_these_codes(rt: HostRuntime) {
                     offset
                 }
             ),
-            "{opcode:x}"
+            "{of_register:x}"
         );
-    }
-    let src = Operand::Immediate(9);
-    for (size, opcode) in [
-        (AccessSize::Byte, 0x72),
-        (AccessSize::HalfWord, 0x6a),
-        (AccessSize::Word, 0x62),
-        (AccessSize::DoubleWord, 0x7a),
-    ] {
-        let bytes = [opcode, 0x03, 6, 0, 9, 0, 0, 0];
+        let bytes = [of_immediate, 0x03, 6, 0, 9, 0, 0, 0];
+        let src = Operand::Immediate(9);
         assert!(rt;
             spells(
                 rt.alloc(),
@@ -373,7 +374,7 @@ fn accesses_have_these_codes(rt: HostRuntime) {
                     offset
                 }
             ),
-            "{opcode:x}"
+            "{of_immediate:x}"
         );
     }
 }
