@@ -8,12 +8,14 @@ fn fault_of_unit(alloc: Global, unit: [u8; 8]) -> (u8, usize) {
     fault_of(alloc, &unit)
 }
 
-fn fault_of_three(alloc: Global, first: [u8; 8], second: [u8; 8], third: [u8; 8]) -> (u8, usize) {
+fn joined(first: [u8; 8], second: [u8; 8], third: [u8; 8]) -> [u8; 24] {
     let mut bytes = [0; 24];
-    bytes[0..8].copy_from_slice(&first);
-    bytes[8..16].copy_from_slice(&second);
-    bytes[16..24].copy_from_slice(&third);
-    fault_of(alloc, &bytes)
+    for i in 0..8 {
+        bytes[i] = first[i];
+        bytes[8 + i] = second[i];
+        bytes[16 + i] = third[i];
+    }
+    bytes
 }
 
 #[test]
@@ -116,7 +118,7 @@ fn second_half_has_a_value_alone(rt: HostRuntime) {
     ] {
         let unit = if number == 0 { 0 } else { 1 };
         assert_eq!(rt;
-            fault_of_three(rt.alloc(), EXIT, half, second),
+            fault_of(rt.alloc(), &joined(EXIT, half, second)),
             (number, unit),
             "{name}"
         );
@@ -177,7 +179,7 @@ fn first_faulty_unit_is_named(rt: HostRuntime) {
         ("nowhere", half, nothing, EXIT, (0, 0)),
     ] {
         assert_eq!(rt;
-            fault_of_three(rt.alloc(), first, second, third),
+            fault_of(rt.alloc(), &joined(first, second, third)),
             fault,
             "{name}"
         );
