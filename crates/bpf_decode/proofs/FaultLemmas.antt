@@ -48,8 +48,8 @@ begins_none i f xs ys fault is-i fit faulty e =
     elim faulty [
       | inl own ↦ is_both (fault_of f) fault (ap fault_of (sym first.0) ∙ fault_of-fields_of i is-i) own
       | inr (half, second) ↦
-        let wide = is_wide i is-i (ap Fields.opcode first.0 ∙ half.opcode) in
-        second_is_faultless wide.0 xs ys fault wide.1 second (ap (λ (x : List ℕ). x ++ xs) (sym wide.2) ∙ first.1)
+          let wide = is_wide i is-i (ap Fields.opcode first.0 ∙ half.opcode) in
+          second_is_faultless wide.0 xs ys fault wide.1 second (ap (λ (x : List ℕ). x ++ xs) (sym wide.2) ∙ first.1)
     ]
 
 -- after a first half comes one fault at most

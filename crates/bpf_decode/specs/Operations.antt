@@ -47,10 +47,6 @@ used_by JumpLong = imm_alone
 used_by (Branch test source width) = operands (source_number source) true
 used_by Exit = no_field
 
--- the fields of an opcode without operands
-abbrev pub fields_with_opcode : ℕ → Fields
-fields_with_opcode opcode = record { opcode = opcode; dst = 0; src = 0; offset = pos 0; imm = pos 0 }
-
 -- a register's number where the field is used, else zero
 abbrev pub IsRegisterIfUsed : Bool → ℕ → Type 0
 IsRegisterIfUsed true n = n ≤ 10

@@ -26,9 +26,13 @@ fn write(bytes: &mut Vec<u8>, insn: &Insn)
     ensures written { bytes.new.items ≡ bytes.old.items ++ spelling insn.now }
     ensures room { vec_capacity bytes.old ≤ vec_capacity bytes.new }
 {
-    bytes.extend_from_slice(&Fields::of(insn).to_bytes()).unwrap();
+    bytes
+        .extend_from_slice(&Fields::of(insn).to_bytes())
+        .unwrap();
     if let Insn::Wide { value, .. } = insn {
-        bytes.extend_from_slice(&Fields::second_half(*value).to_bytes()).unwrap();
+        bytes
+            .extend_from_slice(&Fields::second_half(*value).to_bytes())
+            .unwrap();
     }
 }
 

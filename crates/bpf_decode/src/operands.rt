@@ -5,11 +5,11 @@ ghost use Rattle.bpf_model.specs.Spelling.{fields_of, IsInstruction, IsOperand, 
 ghost use Rattle.bpf_decode.specs.Opcodes.{is_division};
 ghost use Rattle.bpf_decode.specs.UnitFaults.{has_bad_width, is_sign, is_move, is_swap};
 ghost use Rattle.bpf_decode.specs.Operations.{source_number, opcode_of, used_by, AreOperands, IsRegisterIfUsed, IsZeroUnlessUsed};
-ghost use Rattle.bpf_decode.specs.declared.operation.Operation.TheVariants.{Wide, Mov};
+ghost use Rattle.bpf_decode.specs.declared.operation.Operation.TheVariants.{Alu, Mov, Wide, Store, Branch};
 
 use crate::operation::{Operation, Source};
 use crate::unit::Fields;
-use bpf_model::{AluOp, Insn, Operand, Reg, SignExtension, SwapWidth, Width};
+use bpf_model::{AccessSize, AluOp, Insn, JumpOp, Operand, Reg, SignExtension, SwapWidth, Width};
 
 impl Operation {
     /// Its instruction with the operands that these fields have; none where a width among them is none.
@@ -22,17 +22,12 @@ impl Operation {
         ensures none { IfNone result (has_bad_width fields ≡ true) }
     {
         match self {
-            Operation::Alu(op, source, width) => Some(Insn::Alu {
-                op: with_sign(op, fields.offset)?,
-                width,
-                dst: register(fields.dst),
-                src: operand(source, fields),
-            }),
+            Operation::Alu(op, source, width) => read_alu(op, source, width, fields),
             Operation::Negate(width) => Some(Insn::Negate {
                 width,
                 dst: register(fields.dst),
             }),
-            Operation::Mov(source, width) => moved(source, width, fields),
+            Operation::Mov(source, width) => read_move(source, width, fields),
             Operation::Reorder(order) => Some(Insn::Reorder {
                 order,
                 size: swap_width(fields.imm)?,
@@ -45,25 +40,16 @@ impl Operation {
                 src: register(fields.src),
                 offset: fields.offset,
             }),
-            Operation::Store(source, size) => Some(Insn::Store {
-                size,
-                dst: register(fields.dst),
-                src: operand(source, fields),
-                offset: fields.offset,
-            }),
+            Operation::Store(source, size) => Some(read_store(source, size, fields)),
             Operation::Jump => Some(Insn::Jump {
                 distance: fields.offset,
             }),
             Operation::JumpLong => Some(Insn::JumpLong {
                 distance: fields.imm,
             }),
-            Operation::Branch(test, source, width) => Some(Insn::Branch {
-                test,
-                width,
-                dst: register(fields.dst),
-                src: operand(source, fields),
-                distance: fields.offset,
-            }),
+            Operation::Branch(test, source, width) => Some(read_branch(
+                test, source, width, fields,
+            )),
             Operation::Exit => Some(Insn::Exit),
         }
     }
@@ -91,8 +77,23 @@ fn operand(source: Source, fields: Fields) -> Operand
     }
 }
 
+fn read_alu(op: AluOp, source: Source, width: Width, fields: Fields) -> Option<Insn>
+    requires opcode { fields.opcode ≡ opcode_of (Alu op source width) }
+    requires operands { AreOperands (used_by (Alu op source width)) fields }
+    ensures instruction { IfSome result IsInstruction }
+    ensures spelled { IfSome result (λ i. fields_of i ≡ fields) }
+    ensures none { IfNone result (has_bad_width fields ≡ true) }
+{
+    Some(Insn::Alu {
+        op: with_sign(op, fields.offset)?,
+        width,
+        dst: register(fields.dst),
+        src: operand(source, fields),
+    })
+}
+
 // a move of the whole operand, or of its low part with its sign extended
-fn moved(source: Source, width: Width, fields: Fields) -> Option<Insn>
+fn read_move(source: Source, width: Width, fields: Fields) -> Option<Insn>
     requires opcode { fields.opcode ≡ opcode_of (Mov source width) }
     requires operands { AreOperands (used_by (Mov source width)) fields }
     ensures instruction { IfSome result IsInstruction }
@@ -109,6 +110,35 @@ fn moved(source: Source, width: Width, fields: Fields) -> Option<Insn>
         dst,
         src: register(fields.src),
     })
+}
+
+fn read_store(source: Source, size: AccessSize, fields: Fields) -> Insn
+    requires opcode { fields.opcode ≡ opcode_of (Store source size) }
+    requires operands { AreOperands (used_by (Store source size)) fields }
+    ensures instruction { IsInstruction result }
+    ensures spelled { fields_of result ≡ fields }
+{
+    Insn::Store {
+        size,
+        dst: register(fields.dst),
+        src: operand(source, fields),
+        offset: fields.offset,
+    }
+}
+
+fn read_branch(test: JumpOp, source: Source, width: Width, fields: Fields) -> Insn
+    requires opcode { fields.opcode ≡ opcode_of (Branch test source width) }
+    requires operands { AreOperands (used_by (Branch test source width)) fields }
+    ensures instruction { IsInstruction result }
+    ensures spelled { fields_of result ≡ fields }
+{
+    Insn::Branch {
+        test,
+        width,
+        dst: register(fields.dst),
+        src: operand(source, fields),
+        distance: fields.offset,
+    }
 }
 
 // the operation with the sign that the offset says

@@ -1,11 +1,13 @@
 //! What an opcode stands for.
 ghost use Rattle.std.specs.Prelude.{◌≡◌, ◌<◌, ◌%◌, IfSome, IfNone, None};
 ghost use Rattle.bpf_model.specs.Spelling.{opcode as opcode_with, source_of, alu_class, jump_class, class_ld, class_ldx};
-ghost use Rattle.bpf_decode.specs.Opcodes.{used_fields, class_in, source_in};
-ghost use Rattle.bpf_decode.specs.Operations.{source_number, stored_class, opcode_of, used_by, fields_with_opcode};
+ghost use Rattle.bpf_decode.specs.Opcodes.{used_fields, operands, class_in, source_in};
+ghost use Rattle.bpf_decode.specs.Operations.{source_number, stored_class, opcode_of, used_by};
 
-use crate::codes::{access_size, alu_code, alu_op, jump_test, load_kind, mode, size_code, test_code};
-use crate::unit::{Fields, UsedFields};
+use crate::codes::{
+    access_size, alu_code, alu_op, jump_test, load_kind, mode, size_code, test_code,
+};
+use crate::unit::{NO_FIELD, UsedFields};
 use bpf_model::{AccessSize, AluOp, ByteOrder, JumpOp, LoadKind, Operand, Width};
 
 /// Where an instruction has its second operand: in imm (K) or in the register src (X).
@@ -32,6 +34,18 @@ impl Source {
         match opcode / 8 % 2 {
             0 => Source::Immediate,
             _ => Source::Register,
+        }
+    }
+
+    // dst and an operand of this source, and the offset or not
+    fn used_fields(self, offset: bool) -> UsedFields
+        ensures { result ≡ operands (source_number self) offset }
+    {
+        UsedFields {
+            dst: true,
+            src: self == Source::Register,
+            offset,
+            imm: self == Source::Immediate,
         }
     }
 
@@ -107,10 +121,7 @@ impl Operation {
         ensures none { IfNone result (used_fields opcode ≡ None) }
     {
         match opcode / 32 {
-            3 => Some(Operation::Store(
-                source,
-                access_size(opcode / 8 % 4),
-            )),
+            3 => Some(Operation::Store(source, access_size(opcode / 8 % 4))),
             _ => None,
         }
     }
@@ -141,11 +152,7 @@ impl Operation {
             (0, Source::Immediate, Width::W64) => Some(Operation::Jump),
             (0, Source::Immediate, Width::W32) => Some(Operation::JumpLong),
             (9, Source::Immediate, Width::W64) => Some(Operation::Exit),
-            (code, _, _) => Some(Operation::Branch(
-                jump_test(code)?,
-                source,
-                width,
-            )),
+            (code, _, _) => Some(Operation::Branch(jump_test(code)?, source, width)),
         }
     }
 
@@ -154,12 +161,12 @@ impl Operation {
         ensures { result ≡ opcode_of self }
     {
         match self {
-            Operation::Alu(op, source, width) => coded(alu_code(op), source, arithmetic_class(width)),
-            Operation::Negate(width) => coded(
-                8,
-                Source::Immediate,
+            Operation::Alu(op, source, width) => coded(
+                alu_code(op),
+                source,
                 arithmetic_class(width),
             ),
+            Operation::Negate(width) => coded(8, Source::Immediate, arithmetic_class(width)),
             Operation::Mov(source, width) => coded(11, source, arithmetic_class(width)),
             Operation::Reorder(ByteOrder::Little) => 0xd4,
             Operation::Reorder(ByteOrder::Big) => 0xdc,
@@ -170,21 +177,12 @@ impl Operation {
             Operation::Store(Source::Register, size) => 0x63 + 8 * size_code(size),
             Operation::Jump => 0x05,
             Operation::JumpLong => 0x06,
-            Operation::Branch(test, source, width) => coded(test_code(test), source, branch_class(width)),
+            Operation::Branch(test, source, width) => coded(
+                test_code(test),
+                source,
+                branch_class(width),
+            ),
             Operation::Exit => 0x95,
-        }
-    }
-
-    /// The fields of its opcode; the others are zero.
-    pub(crate) fn fields(self) -> Fields
-        ensures { result ≡ fields_with_opcode (opcode_of self) }
-    {
-        Fields {
-            opcode: self.opcode(),
-            dst: 0,
-            src: 0,
-            offset: 0,
-            imm: 0,
         }
     }
 
@@ -192,24 +190,34 @@ impl Operation {
     pub(crate) fn used_fields(self) -> UsedFields
         ensures { result ≡ used_by self }
     {
-        let (dst, src, offset, imm) = match self {
-            Operation::Alu(op, source, _) => {
-                let signed = matches!(op, AluOp::Div | AluOp::SDiv | AluOp::Mod | AluOp::SMod);
-                (true, source == Source::Register, signed, source == Source::Immediate)
-            }
-            Operation::Mov(Source::Immediate, _) | Operation::Reorder(_) | Operation::Wide => (true, false, false, true),
-            Operation::Negate(_) => (true, false, false, false),
-            Operation::Mov(Source::Register, _) | Operation::Load(_) => (true, true, true, false),
-            Operation::Store(source, _) | Operation::Branch(_, source, _) => (true, source == Source::Register, true, source == Source::Immediate),
-            Operation::Jump => (false, false, true, false),
-            Operation::JumpLong => (false, false, false, true),
-            Operation::Exit => (false, false, false, false),
-        };
-        UsedFields {
-            dst,
-            src,
-            offset,
-            imm,
+        match self {
+            Operation::Alu(op, source, _) => source.used_fields(matches!(
+                op,
+                AluOp::Div | AluOp::SDiv | AluOp::Mod | AluOp::SMod
+            )),
+            Operation::Mov(source, _) => source.used_fields(source == Source::Register),
+            Operation::Load(_) => Source::Register.used_fields(true),
+            Operation::Store(source, _) | Operation::Branch(_, source, _) => source.used_fields(
+                true,
+            ),
+            Operation::Negate(_) => UsedFields {
+                dst: true,
+                ..NO_FIELD
+            },
+            Operation::Reorder(_) | Operation::Wide => UsedFields {
+                dst: true,
+                imm: true,
+                ..NO_FIELD
+            },
+            Operation::Jump => UsedFields {
+                offset: true,
+                ..NO_FIELD
+            },
+            Operation::JumpLong => UsedFields {
+                imm: true,
+                ..NO_FIELD
+            },
+            Operation::Exit => NO_FIELD,
         }
     }
 }

@@ -68,7 +68,12 @@ fn operation(insn: &Insn) -> Operation
         Insn::Store { size, src, .. } => Operation::Store(Source::of(src), size),
         Insn::Jump { .. } => Operation::Jump,
         Insn::JumpLong { .. } => Operation::JumpLong,
-        Insn::Branch { test, width, src, .. } => Operation::Branch(test, Source::of(src), width),
+        Insn::Branch {
+            test,
+            width,
+            src,
+            ..
+        } => Operation::Branch(test, Source::of(src), width),
         Insn::Exit => Operation::Exit,
     }
 }

@@ -44,6 +44,13 @@ pub(crate) struct UsedFields {
     pub(crate) imm: bool,
 }
 
+pub(crate) const NO_FIELD: UsedFields = UsedFields {
+    dst: false,
+    src: false,
+    offset: false,
+    imm: false,
+};
+
 impl Fields {
     /// The fields that the bytes of a unit spell.
     pub(crate) fn from_bytes(unit: &[u8; UNIT_BYTES]) -> Fields

@@ -5,7 +5,7 @@ use Rattle.bpf_model.specs.Spelling.{Fields}
 use Rattle.bpf_decode.specs.UnitFaults.{is_move}
 use Rattle.bpf_decode.proofs.Outcomes.{IfNone-anyway}
 use Rattle.bpf_decode.proofs.OpcodeLemmas.{bad_move}
-use Rattle.bpf_decode.proofs.operands.moved.Goals as goal
+use Rattle.bpf_decode.proofs.operands.read_move.Goals as goal
 
 pub returns-in_err-sign_extension-clause-none : goal.returns-in_err-sign_extension-clause-none
 returns-in_err-sign_extension-clause-none c =
