@@ -1,6 +1,6 @@
 -- What arithmetic gives is of its width, and quotients and remainders belong together.
-use Rattle.std.proofs.Common.{◌≡◌, ℕ, zero, suc, ◌+◌, ◌-◌, ◌*◌, ◌/◌, ◌%◌, ◌^◌, ◌<◌, ◌≤◌, false, true, refl, sym, ap, ◌∙◌, ℤ, pos, negsuc, arith, inl, inr}
-use Rattle.std.specs.Prelude.{nat_eq, nat_lt, bit_or, bit_and, bit_xor, int_div, int_rem, ◌+ℤ◌, ◌*ℤ◌, ◌≤ℤ◌, FitsSigned, unsigned_abs, if◌then◌else◌}
+use Rattle.std.proofs.Common.{◌≡◌, ℕ, ◌+◌, ◌-◌, ◌*◌, ◌/◌, ◌%◌, ◌^◌, ◌<◌, ◌≤◌, false, true, refl, sym, ap, ◌∙◌, ℤ, pos, negsuc, arith, inl, inr}
+use Rattle.std.specs.Prelude.{nat_eq, nat_lt, int_div, int_rem, ◌+ℤ◌, ◌*ℤ◌, ◌≤ℤ◌, FitsSigned, unsigned_abs}
 use Rattle.std.specs.Int.{Width as IntWidth, w32, w64, cast_signed, cast_unsigned, int_wrap}
 use mir.Val.{bits, hbits}
 use lib.Signed.{mag_rem}
@@ -9,14 +9,14 @@ use Rattle.std.proofs.lemmas.Bool.Decides.{nat_tests}
 use Rattle.std.proofs.lemmas.Nat.{mod_below, or_lt, xor_lt, and_le_l, shr_le}
 use Rattle.std.proofs.lemmas.Int.{ints, of_z-to_z, wrapping_add-bits, wrapping_mul-bits, int_wrap-mul_left, int_wrap-add_left, int_wrap-add_right, int_wrap_fits, quot-rem, rem_below}
 use Rattle.std.proofs.Math.Facts.{sfits_to_z}
-use Rattle.std.proofs.Math.Nat.{mod-mod, mod-le, div-le_self, mod-eq_of_lt, zero-mod}
+use Rattle.std.proofs.Math.Nat.{mod-le, div-le_self, mod-eq_of_lt, zero-mod}
 use Rattle.bpf_model.specs.declared.operations.AluOp.{AluOp}
 use Rattle.bpf_model.specs.declared.operations.AluOp.TheVariants.{Add, Sub, Mul, Div, SDiv, Or, And, Lsh, Rsh, Mod, SMod, Xor, Arsh}
 use Rattle.bpf_model.specs.declared.operations.Width.{Width}
 use Rattle.bpf_model.specs.declared.operations.Width.TheVariants.{W32, W64}
 use Rattle.bpf_model.specs.declared.operations.SignExtension.{SignExtension}
 use Rattle.bpf_model.specs.declared.operations.SignExtension.TheVariants.{From8To32, From16To32, From8To64, From16To64, From32To64}
-use Rattle.bpf_model.specs.Arithmetic.{bits_of, modulus, signed_at, wrapped, quotient_of, remainder_of, signed_quotient, signed_remainder, signed_right, low_value, alu_value, negated, mov_value, extension_width, extension_half, extended, widened}
+use Rattle.bpf_model.specs.Arithmetic.{bits_of, modulus, signed_at, wrapped, signed_quotient, signed_remainder, signed_right, low_value, alu_value, negated, mov_value, extension_width, extended, widened}
 
 -- a modulus is a power of two
 modulus_is : (width : Width) → modulus width ≡ 2 ^ bits_of width

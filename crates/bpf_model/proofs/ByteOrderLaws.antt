@@ -1,15 +1,12 @@
 -- Bytes that are reversed twice stand as they stood.
-use Rattle.std.proofs.Common.{◌≡◌, ℕ, ◌%◌, ◌^◌, ◌<◌, List, get_or, refl, sym, ap, subst, ◌∙◌, arith}
+use Rattle.std.proofs.Common.{◌≡◌, ℕ, ◌%◌, ◌<◌, List, get_or, refl, sym, ap, subst, ◌∙◌, arith}
 use Rattle.std.specs.Prelude.{reverse}
-use Rattle.std.specs.Int.{w16, w32, w64, swap_bytes, to_le_bytes, to_be_bytes, from_be_bytes}
+use Rattle.std.specs.Int.{w16, w32, w64, swap_bytes, to_le_bytes, from_be_bytes}
 use Rattle.std.proofs.lemmas.Nat.{be_bytes_2, be_bytes_4, be_bytes_8, from_be_bytes-to_be_bytes_2, from_be_bytes-to_be_bytes_4, from_be_bytes-to_be_bytes_8}
 use Rattle.std.proofs.Math.Nat.{mod-eq_of_lt}
 use Rattle.bpf_model.specs.declared.operations.SwapWidth.{SwapWidth}
 use Rattle.bpf_model.specs.declared.operations.SwapWidth.TheVariants.{S16, S32, S64}
-use Rattle.bpf_model.specs.declared.operations.ByteOrder.{ByteOrder}
-use Rattle.bpf_model.specs.declared.operations.ByteOrder.TheVariants.{Little, Big, Swap}
-use Rattle.bpf_model.specs.Words.{bytes_of}
-use Rattle.bpf_model.specs.Arithmetic.{swap_modulus, reversed, reordered}
+use Rattle.bpf_model.specs.Arithmetic.{swap_modulus, reversed}
 use Rattle.bpf_model.proofs.WordLemmas.{bytes_of-2, bytes_of-4, bytes_of-8, bytes_of-small}
 
 small_2 : (n i : ℕ) → get_or (to_le_bytes w16 n) i 0 < 256

@@ -10,7 +10,7 @@ use Rattle.bpf_model.specs.declared.instruction.Insn.TheVariants.{Alu, Negate, M
 use Rattle.bpf_model.specs.Program.{instruction_at}
 use Rattle.bpf_model.specs.State.{State, entry_state}
 use Rattle.bpf_model.specs.Step.{act, ends_in}
-use Rattle.bpf_model.specs.Meaning.{step, ending, after, Reaches, Means}
+use Rattle.bpf_model.specs.Meaning.{step, ending, after, Means}
 use Rattle.bpf_model.proofs.Options.{chain_some, some_is}
 
 -- what ends a run does not act

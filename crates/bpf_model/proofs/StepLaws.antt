@@ -1,9 +1,9 @@
 -- What a step leaves alone: the windows that may only be read.
-use Rattle.std.proofs.Common.{◌≡◌, ℕ, zero, suc, ◌+◌, ◌-◌, ◌<◌, ◌≤◌, Bool, true, false, List, Some, length, get_or, refl, sym, ap, ◌∙◌, ℤ, pos, arith, inl, inr}
-use Rattle.std.specs.Prelude.{nat_le, nat_lt, ◌&&◌, ◌||◌, not}
+use Rattle.std.proofs.Common.{◌≡◌, ℕ, ◌+◌, ◌<◌, ◌≤◌, Bool, true, false, Some, length, sym, ap, ◌∙◌, ℤ, arith, inl, inr}
+use Rattle.std.specs.Prelude.{nat_le, nat_lt, ◌&&◌, not}
 use Rattle.std.proofs.lemmas.Bool.{cond-false, or_cases, or_left, or_right, cases_Bool, both_ways}
 use Rattle.std.proofs.lemmas.Bool.Decides.{nat_tests}
-use Rattle.bpf_model.specs.declared.limits.TheConstants.{KEY_BYTES, VALUE_BYTES, STACK_BYTES}
+use Rattle.bpf_model.specs.declared.limits.TheConstants.{STACK_BYTES}
 use Rattle.bpf_model.specs.declared.input.Sizes.{Sizes}
 use Rattle.bpf_model.specs.declared.region.Region.{Region}
 use Rattle.bpf_model.specs.declared.region.Region.TheVariants.{Key, Old, Arg, Result, Stack}
@@ -15,7 +15,7 @@ use Rattle.bpf_model.specs.Arithmetic.{alu_value, negated, mov_value, extended, 
 use Rattle.bpf_model.specs.Accesses.{byte_count, loaded_value}
 use Rattle.bpf_model.specs.Memory.{Partial, lies_in, lies_in_window, can_write, with_bytes}
 use Rattle.bpf_model.specs.State.{State}
-use Rattle.bpf_model.specs.Step.{address_of, sets, stores, jumps, act}
+use Rattle.bpf_model.specs.Step.{address_of, sets, jumps, act}
 use Rattle.bpf_model.proofs.WordLemmas.{length-bytes_of}
 use Rattle.bpf_model.proofs.StepLemmas.{alu_acts, negate_acts, mov_acts, sign_extend_acts, reorder_acts, load_acts, store_acts, branch_acts, sets_is, stores_is, jumps_is}
 

@@ -1,6 +1,6 @@
-use Rattle.std.proofs.Common.{◌≡◌, suc, length, take, refl, arith, add-one}
+use Rattle.std.proofs.Common.{suc, length, refl, arith, add-one}
 use Rattle.std.proofs.lemmas.Option.{slice_get_read}
-use Rattle.bpf_model.specs.Program.{unit_count, units_of}
+use Rattle.bpf_model.specs.Program.{unit_count}
 use Rattle.bpf_model.proofs.ProgramLemmas.{unit_count-next, unit_count-take}
 use Rattle.bpf_model.proofs.program.fit_in_a_program.Goals as goal
 

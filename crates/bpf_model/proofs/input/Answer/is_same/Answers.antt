@@ -1,4 +1,4 @@
-use Rattle.std.proofs.Common.{◌≡◌, rules}
+use Rattle.std.proofs.Common.{rules}
 use Rattle.bpf_model.proofs.RunLaws.{one_answer}
 use Rattle.bpf_model.proofs.input.Answer.is_same.Goals as goal
 

@@ -1,4 +1,4 @@
-use Rattle.std.proofs.Common.{◌≡◌, sym, arith, rules}
+use Rattle.std.proofs.Common.{arith, rules}
 use Rattle.bpf_model.specs.Spelling.{IsInstruction}
 use Rattle.bpf_model.proofs.SpellingLaws.{spelling-first, length-spelling}
 use Rattle.bpf_model.proofs.instruction.Insn.spelled_bytes.Goals as goal

@@ -1,4 +1,4 @@
-use Rattle.std.proofs.Common.{◌≡◌, ap, ◌∙◌}
+use Rattle.std.proofs.Common.{ap, ◌∙◌}
 use Rattle.bpf_model.specs.declared.operations.ByteOrder.TheVariants.{Swap}
 use Rattle.bpf_model.specs.Arithmetic.{reordered}
 use Rattle.bpf_model.proofs.ByteOrderLaws.{reversed_twice}

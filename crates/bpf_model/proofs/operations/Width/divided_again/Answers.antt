@@ -1,4 +1,4 @@
-use Rattle.std.proofs.Common.{◌≡◌, sym, ap, ◌∙◌}
+use Rattle.std.proofs.Common.{ap, ◌∙◌}
 use Rattle.bpf_model.specs.declared.operations.AluOp.TheVariants.{Add, Mul}
 use Rattle.bpf_model.specs.Arithmetic.{alu_value}
 use Rattle.bpf_model.proofs.ArithmeticLaws.{signed_division, signed_remainder_near, signed_remainder_not_negative, signed_remainder_not_positive}
