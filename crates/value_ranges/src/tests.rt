@@ -1,0 +1,1 @@
+//! Rows of ranges with the bounds that they give.
