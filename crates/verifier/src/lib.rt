@@ -13,7 +13,6 @@ mod abstract_state;
 mod arithmetic;
 mod fault;
 mod stack_slots;
-mod value_ranges;
 pub mod verified;
 mod walk;
 

@@ -72,43 +72,95 @@ fn store(dst: u8, offset: i16, src: u8) -> Insn
     }
 }
 
-/// The operation on r10 and the unwritten r5.
-fn alu(op: AluOp, width: Width) -> Insn {
+fn alu(op: AluOp, width: Width, dst: u8, imm: i32) -> Insn
+    requires { dst ≤ 10 }
+{
     Insn::Alu {
         op,
         width,
-        dst: reg(10),
-        src: Operand::Register(reg(5)),
+        dst: reg(dst),
+        src: Operand::Immediate(imm),
     }
 }
 
-/// The bytes at the number in r6, into r10.
-fn load_of(kind: LoadKind) -> Insn {
-    Insn::Load {
-        kind,
-        dst: reg(10),
-        src: reg(6),
-        offset: 0,
+/// The 64 bits of a register, into another one.
+fn copy(dst: u8, src: u8) -> Insn
+    requires dst { dst ≤ 10 }
+    requires src { src ≤ 10 }
+{
+    Insn::Mov {
+        width: Width::W64,
+        dst: reg(dst),
+        src: Operand::Register(reg(src)),
     }
 }
 
-/// The unwritten r5, to the number in r6.
-fn store_of(size: AccessSize) -> Insn {
-    Insn::Store {
-        size,
-        dst: reg(6),
-        src: Operand::Register(reg(5)),
-        offset: 0,
+fn negate(dst: u8) -> Insn
+    requires { dst ≤ 10 }
+{
+    Insn::Negate {
+        width: Width::W64,
+        dst: reg(dst),
     }
 }
 
-fn wide(dst: u8) -> Insn
+fn sign_extend(dst: u8, src: u8) -> Insn
+    requires dst { dst ≤ 10 }
+    requires src { src ≤ 10 }
+{
+    Insn::SignExtend {
+        extension: SignExtension::From8To64,
+        dst: reg(dst),
+        src: reg(src),
+    }
+}
+
+/// The low 16 bits.
+fn low_half(dst: u8) -> Insn
+    requires { dst ≤ 10 }
+{
+    Insn::Reorder {
+        order: ByteOrder::Little,
+        size: SwapWidth::S16,
+        dst: reg(dst),
+    }
+}
+
+fn wide(dst: u8, value: u64) -> Insn
     requires { dst ≤ 10 }
 {
     Insn::Wide {
         dst: reg(dst),
-        value: 1,
+        value,
     }
+}
+
+/// The byte there, into r0.
+fn load_byte(kind: LoadKind, src: u8, offset: i16) -> Insn
+    requires { src ≤ 10 }
+{
+    Insn::Load {
+        kind,
+        dst: reg(0),
+        src: reg(src),
+        offset,
+    }
+}
+
+fn store_number(size: AccessSize, dst: u8, offset: i16, imm: i32) -> Insn
+    requires { dst ≤ 10 }
+{
+    Insn::Store {
+        size,
+        dst: reg(dst),
+        src: Operand::Immediate(imm),
+        offset,
+    }
+}
+
+/// To the next instruction.
+fn jump() -> Insn {
+    Insn::Jump { distance: 0 }
 }
 
 /// Number and unit of the refusal, if the program is refused.
@@ -123,16 +175,6 @@ fn refusal(alloc: Global, code: &[Insn], sizes: Sizes) -> Result<Option<(u8, usi
             Ok(_) => None,
         },
     })
-}
-
-/// The refusals of two programs: one begins with the instruction, one has it at unit 1.
-fn alone_and_second(
-    alloc: Global,
-    insn: &Insn,
-) -> Result<(Option<(u8, usize)>, Option<(u8, usize)>), Fail> {
-    let alone = refusal(alloc, &[*insn, mov(0, -1), Insn::Exit], SIZES)?;
-    let second = refusal(alloc, &[mov(0, -1), *insn, Insn::Exit], SIZES)?;
-    Ok((alone, second))
 }
 
 #[test]
@@ -272,105 +314,101 @@ fn the_least_number_of_a_unit_is_named(rt: HostRuntime) -> Result<(), Fail> {
 }
 
 #[test]
-fn instructions_not_taken_yet_have_no_other_fault(rt: HostRuntime) -> Result<(), Fail> {
+fn each_class_has_its_faults(rt: HostRuntime) -> Result<(), Fail> {
+    let exit = Insn::Exit;
     let alloc = rt.alloc();
-    let rows = [
-        ("sub", alu(AluOp::Sub, Width::W64)),
-        ("mul", alu(AluOp::Mul, Width::W64)),
-        ("div", alu(AluOp::Div, Width::W64)),
-        ("sdiv", alu(AluOp::SDiv, Width::W64)),
-        ("or", alu(AluOp::Or, Width::W64)),
-        ("and", alu(AluOp::And, Width::W64)),
-        ("lsh", alu(AluOp::Lsh, Width::W64)),
-        ("rsh", alu(AluOp::Rsh, Width::W64)),
-        ("mod", alu(AluOp::Mod, Width::W64)),
-        ("smod", alu(AluOp::SMod, Width::W64)),
-        ("xor", alu(AluOp::Xor, Width::W64)),
-        ("arsh", alu(AluOp::Arsh, Width::W64)),
-        ("add of 32 bits", alu(AluOp::Add, Width::W32)),
+    let w64 = Width::W64;
+    let refused = [
         (
-            "add of an immediate",
-            Insn::Alu {
-                op: AluOp::Add,
-                width: Width::W64,
-                dst: reg(10),
-                src: Operand::Immediate(1),
-            },
+            "the destination of xor is unwritten",
+            refusal(alloc, &[alu(AluOp::Xor, w64, 5, 1), exit], SIZES)?,
+            (40, 0),
         ),
         (
-            "neg",
-            Insn::Negate {
-                width: Width::W64,
-                dst: reg(10),
-            },
+            "an unwritten register is negated",
+            refusal(alloc, &[negate(0), exit], SIZES)?,
+            (40, 0),
         ),
         (
-            "mov of 32 bits",
-            Insn::Mov {
-                width: Width::W32,
-                dst: reg(10),
-                src: Operand::Immediate(1),
-            },
+            "an unwritten register is copied",
+            refusal(alloc, &[copy(0, 5), exit], SIZES)?,
+            (40, 0),
         ),
         (
-            "mov of a register",
-            Insn::Mov {
-                width: Width::W64,
-                dst: reg(10),
-                src: Operand::Register(reg(5)),
-            },
+            "an unwritten register is extended",
+            refusal(alloc, &[sign_extend(0, 9), exit], SIZES)?,
+            (40, 0),
         ),
         (
-            "movsx",
-            Insn::SignExtend {
-                extension: SignExtension::From8To64,
-                dst: reg(10),
-                src: reg(5),
-            },
+            "an unwritten register is reordered",
+            refusal(alloc, &[low_half(9), exit], SIZES)?,
+            (40, 0),
         ),
         (
-            "end",
-            Insn::Reorder {
-                order: ByteOrder::Big,
-                size: SwapWidth::S64,
-                dst: reg(10),
-            },
+            "sub writes r10",
+            refusal(alloc, &[alu(AluOp::Sub, w64, 10, 8), exit], SIZES)?,
+            (41, 0),
         ),
-        ("wide", wide(10)),
-        ("ldb", load_of(LoadKind::Byte)),
-        ("ldh", load_of(LoadKind::HalfWord)),
-        ("ldw", load_of(LoadKind::Word)),
-        ("ldsb", load_of(LoadKind::SignedByte)),
-        ("ldsh", load_of(LoadKind::SignedHalfWord)),
-        ("ldsw", load_of(LoadKind::SignedWord)),
-        ("stxb", store_of(AccessSize::Byte)),
-        ("stxh", store_of(AccessSize::HalfWord)),
-        ("stxw", store_of(AccessSize::Word)),
         (
-            "std",
-            Insn::Store {
-                size: AccessSize::DoubleWord,
-                dst: reg(5),
-                src: Operand::Immediate(1),
-                offset: 0,
-            },
+            "neg writes r10",
+            refusal(alloc, &[negate(10), exit], SIZES)?,
+            (41, 0),
         ),
-        ("ja", Insn::Jump { distance: 0 }),
-        ("jal", Insn::JumpLong { distance: 0 }),
         (
-            "jeq",
-            Insn::Branch {
-                test: JumpOp::Eq,
-                width: Width::W64,
-                dst: reg(5),
-                src: Operand::Register(reg(5)),
-                distance: 0,
-            },
+            "mov writes r10",
+            refusal(alloc, &[copy(10, 1), exit], SIZES)?,
+            (41, 0),
+        ),
+        (
+            "movsx writes r10",
+            refusal(alloc, &[sign_extend(10, 6), exit], SIZES)?,
+            (41, 0),
+        ),
+        (
+            "end writes r10",
+            refusal(alloc, &[low_half(10), exit], SIZES)?,
+            (41, 0),
+        ),
+        (
+            "wide writes r10",
+            refusal(alloc, &[wide(10, 1), exit], SIZES)?,
+            (41, 0),
+        ),
+        (
+            "the unit after a wide",
+            refusal(alloc, &[wide(0, 1), load(0, 6, 0), exit], SIZES)?,
+            (42, 2),
+        ),
+        (
+            "a sum of 32 bits is no pointer",
+            refusal(
+                alloc,
+                &[alu(AluOp::Add, Width::W32, 1, 0), load(0, 1, 0), exit],
+                SIZES,
+            )?,
+            (42, 1),
+        ),
+        (
+            "a number is stored past the stack",
+            refusal(
+                alloc,
+                &[store_number(AccessSize::DoubleWord, 10, 0, 1), exit],
+                SIZES,
+            )?,
+            (43, 0),
+        ),
+        (
+            "a byte is stored into the key",
+            refusal(
+                alloc,
+                &[store_number(AccessSize::Byte, 1, 0, 1), exit],
+                SIZES,
+            )?,
+            (44, 0),
         ),
     ];
-    for (name, insn) in rows {
-        let found = alone_and_second(alloc, &insn)?;
-        assert_eq!(rt; found, (Some((48, 0)), Some((48, 1))), "{name}");
+    for (name, found, expected) in refused {
+        assert_eq!(rt; found, Some(expected), "{name}");
     }
     Ok(())
 }
@@ -382,34 +420,314 @@ fn what_is_not_taken_yet_has_its_turn(rt: HostRuntime) -> Result<(), Fail> {
     let large = Sizes { key: 65, ..SIZES };
     let rows = [
         (
+            "a jump",
+            refusal(alloc, &[jump(), mov(0, -1), exit], SIZES)?,
+            Some((48, 0)),
+        ),
+        (
+            "a long jump",
+            refusal(
+                alloc,
+                &[wide(0, 1), Insn::JumpLong { distance: 0 }, exit],
+                SIZES,
+            )?,
+            Some((48, 2)),
+        ),
+        (
+            "a condition on an unwritten register",
+            refusal(
+                alloc,
+                &[
+                    mov(0, -1),
+                    Insn::Branch {
+                        test: JumpOp::Eq,
+                        width: Width::W64,
+                        dst: reg(5),
+                        src: Operand::Immediate(0),
+                        distance: 0,
+                    },
+                    exit,
+                ],
+                SIZES,
+            )?,
+            Some((48, 1)),
+        ),
+        (
+            "one of several bytes",
+            refusal(alloc, &[add(1, 6), load(0, 1, 0), exit], SIZES)?,
+            Some((48, 1)),
+        ),
+        (
+            "41 before 48: one of several bytes into r10",
+            refusal(alloc, &[add(1, 6), load(10, 1, 0), exit], SIZES)?,
+            Some((41, 1)),
+        ),
+        (
             "40 at an earlier unit",
-            refusal(alloc, &[load(0, 5, 0), wide(0), exit], SIZES)?,
+            refusal(alloc, &[load(0, 5, 0), jump(), exit], SIZES)?,
             Some((40, 0)),
         ),
         (
             "40 at a later unit",
-            refusal(alloc, &[wide(0), load(0, 5, 0), exit], SIZES)?,
+            refusal(alloc, &[jump(), load(0, 5, 0), exit], SIZES)?,
             Some((48, 0)),
         ),
         (
             "46 at a later unit",
-            refusal(alloc, &[mov(0, 9), wide(9), exit], SIZES)?,
+            refusal(alloc, &[mov(0, 9), jump(), exit], SIZES)?,
             Some((48, 1)),
         ),
         (
             "sizes come first",
-            refusal(alloc, &[wide(0), exit], large)?,
+            refusal(alloc, &[jump(), exit], large)?,
             Some((47, 0)),
         ),
         (
             "the flow comes before",
-            refusal(alloc, &[wide(0), wide(0)], large)?,
+            refusal(alloc, &[wide(0, 1), wide(0, 1)], large)?,
             Some((33, 2)),
         ),
         (
             "after the exit nothing runs",
-            refusal(alloc, &[mov(0, -1), exit, wide(10), exit], SIZES)?,
+            refusal(alloc, &[mov(0, -1), exit, jump(), exit], SIZES)?,
             None,
+        ),
+    ];
+    for (name, found, expected) in rows {
+        assert_eq!(rt; found, expected, "{name}");
+    }
+    Ok(())
+}
+
+#[test]
+fn lengths_and_results_have_their_ranges(rt: HostRuntime) -> Result<(), Fail> {
+    let exit = Insn::Exit;
+    let alloc = rt.alloc();
+    let empty = Sizes {
+        key: 0,
+        old: 0,
+        arg: 0,
+        result: 0,
+    };
+    let byte = LoadKind::Byte;
+    let signed = LoadKind::SignedByte;
+    let rows = [
+        (
+            "the length of an empty key",
+            refusal(alloc, &[copy(0, 6), exit], empty)?,
+            None,
+        ),
+        (
+            "a length of 1 is no answer",
+            refusal(alloc, &[copy(0, 6), exit], Sizes { key: 1, ..empty })?,
+            Some((46, 1)),
+        ),
+        (
+            "the length of an old value of no byte, or -1",
+            refusal(alloc, &[copy(0, 7), exit], empty)?,
+            None,
+        ),
+        (
+            "the old value may have a byte",
+            refusal(alloc, &[copy(0, 7), exit], Sizes { old: 1, ..empty })?,
+            Some((46, 1)),
+        ),
+        (
+            "the length of an argument of no byte, or -1",
+            refusal(alloc, &[copy(0, 8), exit], empty)?,
+            None,
+        ),
+        (
+            "the argument may have a byte",
+            refusal(alloc, &[copy(0, 8), exit], Sizes { arg: 1, ..empty })?,
+            Some((46, 1)),
+        ),
+        (
+            "1 is negated",
+            refusal(alloc, &[mov(0, 1), negate(0), exit], empty)?,
+            None,
+        ),
+        (
+            "the sign of 255 is extended",
+            refusal(alloc, &[mov(9, 255), sign_extend(0, 9), exit], empty)?,
+            None,
+        ),
+        (
+            "the low half of 2^16",
+            refusal(alloc, &[mov(0, 0x10000), low_half(0), exit], empty)?,
+            None,
+        ),
+        (
+            "the greatest word is -1",
+            refusal(alloc, &[wide(0, u64::MAX), exit], empty)?,
+            None,
+        ),
+        (
+            "no number modulo 1 is above 0",
+            refusal(
+                alloc,
+                &[load(0, 2, 0), alu(AluOp::Mod, Width::W64, 0, 1), exit],
+                SIZES,
+            )?,
+            None,
+        ),
+        (
+            "a byte, to the right by 8",
+            refusal(
+                alloc,
+                &[
+                    load_byte(byte, 2, 7),
+                    alu(AluOp::Rsh, Width::W64, 0, 8),
+                    exit,
+                ],
+                SIZES,
+            )?,
+            None,
+        ),
+        (
+            "a signed byte, to the right by 7",
+            refusal(
+                alloc,
+                &[
+                    load_byte(signed, 2, 7),
+                    alu(AluOp::Arsh, Width::W64, 0, 7),
+                    exit,
+                ],
+                SIZES,
+            )?,
+            None,
+        ),
+        (
+            "a byte past the old value",
+            refusal(alloc, &[load_byte(byte, 2, 8), exit], SIZES)?,
+            Some((43, 0)),
+        ),
+    ];
+    for (name, found, expected) in rows {
+        assert_eq!(rt; found, expected, "{name}");
+    }
+    Ok(())
+}
+
+#[test]
+fn pointers_are_copied_and_lessened(rt: HostRuntime) -> Result<(), Fail> {
+    let exit = Insn::Exit;
+    let alloc = rt.alloc();
+    let w64 = Width::W64;
+    let one = AccessSize::Byte;
+    let rows = [
+        (
+            "8 below the stack's end",
+            refusal(
+                alloc,
+                &[
+                    copy(9, 10),
+                    alu(AluOp::Sub, w64, 9, 8),
+                    store(9, 0, 6),
+                    load(0, 10, -8),
+                    mov(0, -1),
+                    exit,
+                ],
+                SIZES,
+            )?,
+            None,
+        ),
+        (
+            "a number less a pointer",
+            refusal(
+                alloc,
+                &[
+                    mov(9, 0),
+                    Insn::Alu {
+                        op: AluOp::Sub,
+                        width: Width::W64,
+                        dst: reg(9),
+                        src: Operand::Register(reg(1)),
+                    },
+                    load(0, 9, 0),
+                    exit,
+                ],
+                SIZES,
+            )?,
+            Some((42, 2)),
+        ),
+        (
+            "a word that is -1 is added",
+            refusal(
+                alloc,
+                &[
+                    wide(9, u64::MAX),
+                    add(4, 9),
+                    store_number(one, 4, 1, 7),
+                    mov(0, 1),
+                    exit,
+                ],
+                SIZES,
+            )?,
+            None,
+        ),
+        (
+            "and a byte before the result is written",
+            refusal(
+                alloc,
+                &[
+                    wide(9, u64::MAX),
+                    add(4, 9),
+                    store_number(one, 4, 0, 7),
+                    mov(0, 1),
+                    exit,
+                ],
+                SIZES,
+            )?,
+            Some((43, 3)),
+        ),
+        (
+            "2^20 on and back",
+            refusal(
+                alloc,
+                &[
+                    alu(AluOp::Add, w64, 4, 1_048_576),
+                    alu(AluOp::Sub, w64, 4, 1_048_576),
+                    store_number(one, 4, 0, 1),
+                    mov(0, 1),
+                    exit,
+                ],
+                SIZES,
+            )?,
+            None,
+        ),
+        (
+            "2^20 + 1 before and back",
+            refusal(
+                alloc,
+                &[
+                    alu(AluOp::Sub, w64, 4, 1_048_577),
+                    alu(AluOp::Add, w64, 4, 1_048_577),
+                    store_number(one, 4, 0, 1),
+                    exit,
+                ],
+                SIZES,
+            )?,
+            Some((42, 2)),
+        ),
+        (
+            "a length there and back is no one place",
+            refusal(
+                alloc,
+                &[
+                    add(1, 6),
+                    Insn::Alu {
+                        op: AluOp::Sub,
+                        width: Width::W64,
+                        dst: reg(1),
+                        src: Operand::Register(reg(6)),
+                    },
+                    load(0, 1, 0),
+                    exit,
+                ],
+                SIZES,
+            )?,
+            Some((48, 2)),
         ),
     ];
     for (name, found, expected) in rows {
@@ -594,8 +912,12 @@ fn pointers_reach_as_far_as_they_should(rt: HostRuntime) -> Result<(), Fail> {
         ),
         (
             "plus any number",
-            refusal(alloc, &[add(1, 6), load(0, 1, 0), exit], SIZES)?,
-            Some((42, 1)),
+            refusal(
+                alloc,
+                &[load(9, 2, 0), add(1, 9), load(0, 1, 0), exit],
+                SIZES,
+            )?,
+            Some((42, 2)),
         ),
         (
             "an address that is -1",
