@@ -1,10 +1,10 @@
 -- What is known of a register, and which bytes of the windows that may be written were written.
-use Rattle.std.specs.Prelude.{◌≡◌, ℕ, ◌+◌, ◌<◌, Bool, true, false, ◌&&◌, ◌||◌, List, Option, Some, None, IsSome, ℤ, ◌≤ℤ◌, slice_index_or, nat_eq, nat_le, nat_lt}
+use Rattle.std.specs.Prelude.{◌≡◌, ℕ, ◌+◌, ◌<◌, Bool, true, false, ◌&&◌, ◌||◌, Option, Some, None, IsSome, ℤ, ◌≤ℤ◌, slice_index_or, nat_eq, nat_le, nat_lt}
 use Rattle.bpf_model.specs.declared.region.Region.{Region}
 use Rattle.bpf_model.specs.declared.region.Region.TheVariants.{Key, Old, Arg, Result, Stack}
-use Rattle.bpf_model.specs.Words.{IsWord, bytes_of, word_of}
+use Rattle.bpf_model.specs.Words.{IsWord, bytes_of}
 use Rattle.bpf_model.specs.Accesses.{byte_count}
-use Rattle.bpf_model.specs.Memory.{Partial, first_address, bytes_at, with_bytes}
+use Rattle.bpf_model.specs.Memory.{Partial, first_address, with_bytes}
 use Rattle.bpf_model.specs.Step.{address_of}
 use Rattle.value_ranges.specs.In.{IsIn}
 use Rattle.verifier.specs.declared.stack_slots.pointer.Pointer.{Pointer}

@@ -57,7 +57,7 @@ impl AbstractState {
     }
 
     /// Tests the instruction at a unit, and goes on to what is known after it. Faults are tested in the order of their
-    /// numbers, but first of all whether the instruction is taken yet.
+    /// numbers; of a jump nothing but that it is not taken yet.
     pub fn step(&mut self, unit: usize, sizes: Sizes, insn: Insn) -> Result<(), VerifyFault>
         requires { AreWithinLimits sizes }
         ensures ok { OnOk result (Leads self.old sizes insn self.new) }
@@ -97,9 +97,7 @@ impl AbstractState {
                 offset,
             } => self.store_from(unit, sizes, size, dst, src, offset),
             Insn::Exit => self.exit(unit),
-            Insn::Jump { .. } | Insn::JumpLong { .. } | Insn::Branch { .. } => Err(
-                VerifyFault::NotYet(unit),
-            ),
+            _ => Err(VerifyFault::NotYet(unit)),
         }
     }
 
