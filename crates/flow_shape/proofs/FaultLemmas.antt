@@ -1,22 +1,19 @@
 -- Which faults the instruction at a unit has, and which a program has up to a unit.
-use Rattle.std.proofs.Common.{◌≡◌, ◌≢◌, ℕ, suc, ◌+◌, ◌<◌, ◌≤◌, ◌⊎◌, Bool, true, false, List, length, take, Some, None, refl, sym, ap, subst, ◌∙◌, inl, inr, arith, Option, ℤ, pos, negsuc, ◌+ℤ◌, ◌<ℤ◌, ◌≤ℤ◌}
-use Rattle.std.specs.Prelude.{slice_get, IsSome, option_and_then}
+use Rattle.std.proofs.Common.{◌≡◌, ◌≢◌, ℕ, suc, ◌+◌, ◌<◌, ◌≤◌, true, List, length, take, Some, None, refl, sym, ap, subst, ◌∙◌, inl, inr, arith, ℤ, pos, negsuc, ◌<ℤ◌, ◌≤ℤ◌}
+use Rattle.std.specs.Prelude.{slice_get, IsSome}
 use Rattle.std.proofs.lemmas.Bool.{cases_order}
 use Rattle.std.proofs.lemmas.List.{take_all}
 use Rattle.bpf_model.specs.declared.instruction.Insn.{Insn}
-use Rattle.bpf_model.specs.Program.{IsProgram, units_of, unit_count, instruction_at}
+use Rattle.bpf_model.specs.Program.{units_of, unit_count, instruction_at}
 use Rattle.bpf_model.specs.Step.{unit_of}
-use Rattle.bpf_model.proofs.Options.{chain_some, value_there, is_there, some_is}
+use Rattle.bpf_model.proofs.Options.{chain_some, value_there, some_is}
 use Rattle.bpf_model.proofs.ProgramLemmas.{unit_count-next, none_inside, none_past}
 use Rattle.flow_shape.specs.declared.fault.FlowFault.{FlowFault}
 use Rattle.flow_shape.specs.declared.fault.FlowFault.TheVariants.{BackwardJump, JumpOut, JumpIntoWide, FallsOffEnd}
 use Rattle.flow_shape.specs.Jumps.{distance_of, falls_through, JumpsBy, target_of}
-use Rattle.flow_shape.specs.FlowShape.{JumpsBack, JumpsOut, JumpsIntoWide, Falls, HasFault, HasNoFaultAt, IsFirstFaultAt, IsFirstFault, IsWellShaped, Lands, DoesLand, faulty_unit, number_of}
+use Rattle.flow_shape.specs.FlowShape.{JumpsIntoWide, Falls, HasFault, HasNoFaultAt, IsFirstFaultAt, IsWellShaped, Lands, DoesLand, faulty_unit, number_of}
 
--- a jump has one distance
-one_distance : (program : List Insn) (unit : ℕ) (d e : ℤ) → JumpsBy program unit d → JumpsBy program unit e → d ≡ e
-one_distance program unit d e first second = some_is d e (sym first ∙ second)
-
+-- a whole number that is a unit is this one
 pub unit_is : (z : ℤ) (t : ℕ) → unit_of z ≡ Some t → z ≡ pos t
 unit_is (pos u) t e = ap pos (some_is u t e)
 unit_is (negsuc u) t e = absurd cc
@@ -28,65 +25,43 @@ starts_inside program unit there =
     elim (cases_order unit (unit_count program)) [
       | inl end ↦ absurd (let none = none_past program unit (omega (arith, end)) in let e = x.1 in cc)
       | inr apart ↦ elim apart [
-          | inl inside ↦ inside
-          | inr past ↦ absurd (let none = none_past program unit (omega (arith, past)) in let e = x.1 in cc)
-        ]
+        | inl inside ↦ inside
+        | inr past ↦ absurd (let none = none_past program unit (omega (arith, past)) in let e = x.1 in cc)
+      ]
     ]
 
 -- a jump that lands has none of the three faults
-pub lands_forward : (program : List Insn) (unit : ℕ) (d e : ℤ) → Lands program unit d → JumpsBy program unit d → JumpsBy program unit e → (e <ℤ pos 0) → ⊥
-lands_forward program unit d e lands jumps by back =
-    let same = one_distance program unit d e jumps by in
+pub lands_forward : (program : List Insn) (unit : ℕ) (d : ℤ) → Lands program unit d → (d <ℤ pos 0) → ⊥
+lands_forward program unit d lands back =
     let goes = unit_is (target_of unit d) lands.target lands.goes in
-    absurd (grind (arith, same, goes, back, lands.forward))
+    absurd (grind (arith, goes, back, lands.forward))
 
-pub lands_inside : (program : List Insn) (unit : ℕ) (d e : ℤ) → Lands program unit d → JumpsBy program unit d → JumpsBy program unit e → (pos (unit_count program) ≤ℤ target_of unit e) → ⊥
-lands_inside program unit d e lands jumps by out =
-    let same = one_distance program unit d e jumps by in
+pub lands_inside : (program : List Insn) (unit : ℕ) (d : ℤ) → Lands program unit d → (pos (unit_count program) ≤ℤ target_of unit d) → ⊥
+lands_inside program unit d lands out =
     let goes = unit_is (target_of unit d) lands.target lands.goes in
-    absurd (grind (arith, same, goes, out, starts_inside program lands.target lands.starts))
+    absurd (grind (arith, goes, out, starts_inside program lands.target lands.starts))
 
-pub lands_at_start : (program : List Insn) (unit : ℕ) (d : ℤ) → Lands program unit d → JumpsBy program unit d → JumpsIntoWide program unit → ⊥
-lands_at_start program unit d lands jumps into =
-    let same = one_distance program unit d into.distance jumps into.jumps in
-    let goes = unit_is (target_of unit d) lands.target lands.goes in
-    let target : lands.target ≡ into.target = grind (arith, same, goes, into.goes) in
+pub lands_at_start : (program : List Insn) (unit : ℕ) (into : JumpsIntoWide program unit) → Lands program unit into.distance → ⊥
+lands_at_start program unit into lands =
+    let goes = unit_is (target_of unit into.distance) lands.target lands.goes in
+    let target : lands.target ≡ into.target = grind (arith, goes, into.goes) in
     let there = value_there (instruction_at program lands.target) lands.starts in
     let none : instruction_at program lands.target ≡ None = ap (instruction_at program) target ∙ into.half.1 in
     let e = there.1 in
     absurd cc
 
--- a jump at the unit of an instruction is that instruction
-jump_here : (program : List Insn) (unit : ℕ) (i : Insn) (d : ℤ) → instruction_at program unit ≡ Some i → JumpsBy program unit d → distance_of i ≡ Some d
-jump_here program unit i d at jumps =
-    let j = chain_some distance_of (instruction_at program unit) d jumps in
-    ap distance_of (some_is i j.0 (sym at ∙ j.1)) ∙ j.2
-
--- and it jumps
-pub jumps_here : (program : List Insn) (unit : ℕ) (i : Insn) (d : ℤ) → instruction_at program unit ≡ Some i → distance_of i ≡ Some d → JumpsBy program unit d
-jumps_here program unit i d at jumps = ap (λ (o : Option Insn). option_and_then distance_of o) at ∙ jumps
-
--- an instruction that is no jump lands nowhere else
-pub no_jump_lands : (program : List Insn) (unit : ℕ) (i : Insn) → instruction_at program unit ≡ Some i → distance_of i ≡ None → DoesLand program unit
-no_jump_lands program unit i at none d jumps = let is = jump_here program unit i d at jumps in absurd cc
-
--- a jump that lands has no other distance
-pub jump_lands_here : (program : List Insn) (unit : ℕ) (i : Insn) (d : ℤ) → instruction_at program unit ≡ Some i → distance_of i ≡ Some d → Lands program unit d → DoesLand program unit
-jump_lands_here program unit i d at is lands e jumps =
-    subst (λ (z : ℤ). Lands program unit z) (some_is d e (sym is ∙ jump_here program unit i e at jumps)) lands
-
 -- an instruction whose jump lands can only fall off the end
 only_falls : (program : List Insn) (unit : ℕ) → DoesLand program unit → (fault : FlowFault) → HasFault program fault → faulty_unit fault ≡ unit → fault ≡ FallsOffEnd unit
 only_falls program unit lands (BackwardJump u) has here =
     let jumps = subst (λ (k : ℕ). JumpsBy program k has.0) here has.1.0 in
-    absurd (lands_forward program unit has.0 has.0 (lands has.0 jumps) jumps jumps has.1.1)
+    absurd (lands_forward program unit has.0 (lands has.0 jumps) has.1.1)
 only_falls program unit lands (JumpOut u) has here =
     let jumps = subst (λ (k : ℕ). JumpsBy program k has.0) here has.1.0 in
     let out = subst (λ (k : ℕ). pos (unit_count program) ≤ℤ target_of k has.0) here has.1.1 in
-    absurd (lands_inside program unit has.0 has.0 (lands has.0 jumps) jumps jumps out)
+    absurd (lands_inside program unit has.0 (lands has.0 jumps) out)
 only_falls program unit lands (JumpIntoWide u) has here =
     let into = subst (λ (k : ℕ). JumpsIntoWide program k) here has in
-    absurd (lands_at_start program unit into.distance (lands into.distance into.jumps) into.jumps into)
+    absurd (lands_at_start program unit into (lands into.distance into.jumps))
 only_falls program unit lands (FallsOffEnd u) has here = ap FallsOffEnd here
 
 -- an instruction whose jump lands and after which no run leaves the program has no fault
@@ -104,7 +79,7 @@ falls_here program unit i at lands goes_on last = record {
   least = λ other has here. omega (arith, ap number_of (only_falls program unit lands other has here));
 }
 
--- the units that the first k instructions come to have no fault
+-- no unit that the first k instructions take has a fault
 pub record Passed (program : List Insn) (k unit : ℕ) : Type 0 where
   pub counted : unit ≡ unit_count (take k program)
   pub clear : (fault : FlowFault) → HasFault program fault → unit ≤ faulty_unit fault
@@ -128,14 +103,14 @@ more_passed program k unit i here passed none = record { counted = omega (arith,
         elim (cases_order (faulty_unit fault) (unit + units_of i)) [
           | inl end ↦ omega (arith, end)
           | inr apart ↦ elim apart [
-              | inl inside ↦
-                  let later : unit < faulty_unit fault = omega (arith, passed.clear fault has, none fault has) in
-                  let nothing = none_inside program k i (faulty_unit fault) here (omega (arith, passed.counted, later)) (omega (arith, passed.counted, inside)) in
-                  let stands = fault_stands program fault has in
-                  let e = stands.1 in
-                  absurd cc
-              | inr past ↦ omega (arith, past)
-            ]
+            | inl inside ↦
+                let later : unit < faulty_unit fault = omega (arith, passed.clear fault has, none fault has) in
+                let nothing = none_inside program k i (faulty_unit fault) here (omega (arith, passed.counted, later)) (omega (arith, passed.counted, inside)) in
+                let stands = fault_stands program fault has in
+                let e = stands.1 in
+                absurd cc
+            | inr past ↦ omega (arith, past)
+          ]
         ]
 
 -- where all instructions are passed, the program is well shaped
@@ -146,24 +121,3 @@ all_passed program k unit all passed fault has =
     let e = stands.1 in
     let nothing = none_past program (faulty_unit fault) (omega (arith, end, passed.counted, passed.clear fault has)) in
     cc
-
--- the first fault at the next unit is the first of all
-pub first_of_all : (program : List Insn) (k unit : ℕ) (fault : FlowFault) → Passed program k unit → IsFirstFaultAt program unit fault → IsFirstFault program fault
-first_of_all program k unit fault passed first = record { has = first.has; first = before }
-  where
-    before : (other : FlowFault) → HasFault program other → (faulty_unit fault < faulty_unit other) ⊎ ((faulty_unit fault ≡ faulty_unit other) × (number_of fault ≤ number_of other))
-    before other has =
-        elim (cases_order (faulty_unit other) unit) [
-          | inl same ↦ inr (first.at ∙ sym same, first.least other has same)
-          | inr apart ↦ elim apart [
-              | inl lower ↦ absurd (omega (arith, lower, passed.clear other has))
-              | inr higher ↦ inl (omega (arith, higher, first.at))
-            ]
-        ]
-
--- a program that has a first fault is not well shaped
-pub fault_refuses : (program : List Insn) (fault : FlowFault) → IsFirstFault program fault → IsWellShaped program → ⊥
-fault_refuses program fault first shaped = shaped fault first.has
-
-pub starts_here : (program : List Insn) (unit : ℕ) (i : Insn) → instruction_at program unit ≡ Some i → unit < unit_count program
-starts_here program unit i at = starts_inside program unit (is_there (instruction_at program unit) i at)

@@ -1,5 +1,5 @@
 -- Marking the units at which an instruction starts.
-use Rattle.std.proofs.Common.{◌≡◌, ◌≢◌, ℕ, zero, suc, ◌+◌, ◌<◌, ◌≤◌, ◌⊎◌, Bool, true, false, List, length, take, get_or, set, replicate, Some, None, refl, sym, ap, ◌∙◌, inl, inr, arith}
+use Rattle.std.proofs.Common.{◌≡◌, ◌≢◌, ℕ, zero, suc, ◌+◌, ◌<◌, ◌≤◌, Bool, true, false, List, length, take, get_or, set, replicate, Some, refl, sym, ap, ◌∙◌, inl, inr, arith}
 use Rattle.std.specs.Prelude.{slice_get, slice_index_or, is_some, nat_lt, ◌&&◌}
 use Rattle.std.proofs.lemmas.Bool.Decides.{nat_tests}
 use Rattle.std.proofs.lemmas.Bool.{cases_order}
@@ -42,10 +42,13 @@ more_marked program k i flags total few here marked = record {
   where
     some : 1 ≤ units_of i
     some = units_of-some i
+
     inside : total < length flags
     inside = omega (arith, some, few, marked.len, next_inside program k i total here marked.counted)
+
     at : instruction_at program total ≡ Some i
     at = ap (instruction_at program) marked.counted ∙ starts_at program k i here
+
     starts : (unit : ℕ) → slice_index_or (set flags total true) unit false ≡ (nat_lt unit (total + units_of i) && is_some (instruction_at program unit))
     starts unit =
         elim (cases_order unit total) [
@@ -64,12 +67,12 @@ more_marked program k i flags total few here marked = record {
                     rw past (sym (elim (cases_order unit (total + units_of i)) [
                       | inl end ↦ unmarked unit (grind (arith, nat_tests, end))
                       | inr beside ↦ elim beside [
-                          | inl second ↦
-                              let none = none_inside program k i unit here (omega (arith, marked.counted, after)) (omega (arith, marked.counted, second)) in
-                              let below : nat_lt unit (total + units_of i) ≡ true = grind (arith, nat_tests, second) in
-                              rw (below, none) refl
-                          | inr later ↦ unmarked unit (grind (arith, nat_tests, later))
-                        ]
+                        | inl second ↦
+                            let none = none_inside program k i unit here (omega (arith, marked.counted, after)) (omega (arith, marked.counted, second)) in
+                            let below : nat_lt unit (total + units_of i) ≡ true = grind (arith, nat_tests, second) in
+                            rw (below, none) refl
+                        | inr later ↦ unmarked unit (grind (arith, nat_tests, later))
+                      ]
                     ]))
               ]
         ]
@@ -83,13 +86,14 @@ all_marked program k flags total few all marked = record { starts = starts; coun
   where
     counted : total ≡ unit_count program
     counted = marked.counted ∙ ap unit_count (take_all k program all)
+
     starts : (unit : ℕ) → slice_index_or flags unit false ≡ is_some (instruction_at program unit)
     starts unit = marked.starts unit ∙ elim (cases_order unit total) [
       | inl end ↦ past unit (omega (arith, end))
       | inr apart ↦ elim apart [
-          | inl before ↦ let lt : nat_lt unit total ≡ true = grind (arith, nat_tests, before) in rw lt refl
-          | inr after ↦ past unit (omega (arith, after))
-        ]
+        | inl before ↦ let lt : nat_lt unit total ≡ true = grind (arith, nat_tests, before) in rw lt refl
+        | inr after ↦ past unit (omega (arith, after))
+      ]
     ]
       where
         past : (unit : ℕ) → total ≤ unit → (nat_lt unit total && is_some (instruction_at program unit)) ≡ is_some (instruction_at program unit)

@@ -1,4 +1,3 @@
 pub mod LayoutLemmas
 pub mod FaultLemmas
-
 pub mod ShapeLemmas

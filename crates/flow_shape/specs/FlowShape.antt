@@ -1,5 +1,5 @@
 -- Which faults of flow a program has, and what a program without one keeps. Our profile of RFC 9669.
-use Rattle.std.specs.Prelude.{◌≡◌, ◌≢◌, ℕ, ◌+◌, ◌<◌, ◌≤◌, ◌⊎◌, Bool, true, List, Some, None, IsSome, ℤ, pos, ◌+ℤ◌, ◌<ℤ◌, ◌≤ℤ◌}
+use Rattle.std.specs.Prelude.{◌≡◌, ◌≢◌, ℕ, ◌+◌, ◌<◌, ◌≤◌, ◌⊎◌, true, List, Some, None, IsSome, ℤ, pos, ◌<ℤ◌, ◌≤ℤ◌}
 use Rattle.bpf_model.specs.declared.instruction.Insn.{Insn}
 use Rattle.bpf_model.specs.Program.{units_of, unit_count, instruction_at}
 use Rattle.bpf_model.specs.Step.{unit_of}

@@ -1,3 +1,4 @@
 pub mod Jumps
 pub mod FlowShape
 pub mod Layouts
+pub mod Messages

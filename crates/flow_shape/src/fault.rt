@@ -1,6 +1,7 @@
 //! Why a program's flow is refused.
 ghost use Rattle.std.specs.Prelude.{◌≡◌};
 ghost use Rattle.flow_shape.specs.FlowShape.{number_of, faulty_unit};
+ghost use Rattle.flow_shape.specs.Messages.{reason_of};
 
 use std::fmt;
 
@@ -41,16 +42,26 @@ impl FlowFault {
             | FlowFault::FallsOffEnd(unit) => unit,
         }
     }
-}
 
-impl fmt::Display for FlowFault {
-    fn fmt<W: fmt::Write>(&self, f: &mut fmt::Formatter<W>) -> fmt::Result {
-        let text = match self {
+    fn reason(self) -> &'static str
+        ensures { result.now ≡ reason_of self }
+    {
+        match self {
             FlowFault::BackwardJump(_) => "a jump goes backward",
             FlowFault::JumpOut(_) => "a jump leaves the program",
             FlowFault::JumpIntoWide(_) => "a jump goes into a wide instruction",
             FlowFault::FallsOffEnd(_) => "the last instruction is neither an exit nor a jump",
-        };
-        write!(f, "{text} (unit {})", self.unit())
+        }
+    }
+}
+
+impl fmt::Display for FlowFault {
+    ghost use Rattle.std.specs.Prelude.{Some};
+    ghost use Rattle.flow_shape.specs.Messages.{message_of};
+
+    ghost output = { λ fault. Some (message_of fault) };
+
+    fn fmt<W: fmt::Write>(&self, f: &mut fmt::Formatter<W>) -> fmt::Result {
+        write!(f, "{} (unit {})", self.reason(), self.unit())
     }
 }

@@ -15,3 +15,6 @@ pub mod shaping;
 
 pub use fault::FlowFault;
 pub use shaping::{Shaped, shape};
+
+#[cfg(test)]
+mod tests;

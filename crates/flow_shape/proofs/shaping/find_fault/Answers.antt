@@ -1,9 +1,8 @@
-use Rattle.std.proofs.Common.{◌∙◌, length, refl, ap, arith, add-one}
+use Rattle.std.proofs.Common.{length, refl, arith, add-one}
 use Rattle.std.proofs.lemmas.Option.{slice_get_read}
-use Rattle.bpf_model.specs.Program.{instruction_at}
 use Rattle.bpf_model.proofs.ProgramLemmas.{starts_at}
 use Rattle.flow_shape.proofs.LayoutLemmas.{next_inside}
-use Rattle.flow_shape.proofs.FaultLemmas.{none_passed, more_passed, all_passed, first_of_all}
+use Rattle.flow_shape.proofs.FaultLemmas.{none_passed, more_passed, all_passed}
 use Rattle.flow_shape.proofs.shaping.find_fault.Goals as goal
 
 pub loop-insn-init : goal.loop-insn-init
