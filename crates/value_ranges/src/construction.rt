@@ -17,14 +17,7 @@ impl Range {
         ensures umax { result.umax ≡ umax }
         ensures mask { umax < 2 ^ 63 → IsSignedUpToMask result umax }
     {
-        if umax < 0x8000_0000_0000_0000 {
-            Range {
-                umin,
-                umax,
-                smin: umin.cast_signed(),
-                smax: umax.cast_signed(),
-            }
-        } else if umin >= 0x8000_0000_0000_0000 {
+        if umax < 0x8000_0000_0000_0000 || umin >= 0x8000_0000_0000_0000 {
             Range {
                 umin,
                 umax,
@@ -104,14 +97,14 @@ impl Range {
     }
 
     /// All numbers of a width.
-    pub fn any(width: Width) -> Range
+    pub(crate) fn any(width: Width) -> Range
         ensures { (w : ℕ) → w < modulus width → IsIn w result }
     {
         Range::unsigned(0, width.greatest())
     }
 
     /// The low parts, at a width of 32 bits; at 64 the range itself.
-    pub fn low(self, width: Width) -> Range
+    pub(crate) fn low(self, width: Width) -> Range
         ensures holds { (x : ℕ) → IsIn x self → IsIn (x % modulus width) result }
         ensures bounded { result.umax < modulus width }
         ensures whole { width ≡ Width.W64 → result.umax ≡ self.umax }
@@ -119,12 +112,10 @@ impl Range {
         match width {
             Width::W64 => self,
             Width::W32 => {
-                if self.umin == self.umax {
-                    Range::single(width.low(self.umin))
-                } else if self.umax < 0x1_0000_0000 {
-                    self
-                } else {
-                    Range::unsigned(0, 0xffff_ffff)
+                match self.single_value() {
+                    Some(word) => Range::single(width.low(word)),
+                    None if self.umax < 0x1_0000_0000 => self,
+                    None => Range::unsigned(0, 0xffff_ffff),
                 }
             }
         }
