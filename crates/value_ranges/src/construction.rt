@@ -17,20 +17,19 @@ impl Range {
         ensures umax { result.umax ≡ umax }
         ensures mask { umax < 2 ^ 63 → IsSignedUpToMask result umax }
     {
-        if umax < 0x8000_0000_0000_0000 || umin >= 0x8000_0000_0000_0000 {
-            Range {
-                umin,
-                umax,
-                smin: umin.cast_signed(),
-                smax: umax.cast_signed(),
-            }
-        } else {
-            Range {
+        if umin < 0x8000_0000_0000_0000 && umax >= 0x8000_0000_0000_0000 {
+            return Range {
                 umin,
                 umax,
                 smin: i64::MIN,
                 smax: i64::MAX,
-            }
+            };
+        }
+        Range {
+            umin,
+            umax,
+            smin: umin.cast_signed(),
+            smax: umax.cast_signed(),
         }
     }
 

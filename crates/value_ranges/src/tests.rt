@@ -12,8 +12,8 @@ mod signed_comparison_rows;
 mod sum_rows;
 mod word_rows;
 
-use crate::{Range, alu, refine};
-use bpf_model::{AluOp, Condition, Width};
+use crate::{Range, alu, mov, negate, refine, reorder, sign_extend};
+use bpf_model::{AluOp, ByteOrder, Condition, SignExtension, SwapWidth, Width};
 use std::process::Abort;
 use std::test::*;
 
@@ -73,6 +73,26 @@ impl Row {
     }
 }
 
+/// An operation of one operand.
+#[derive(Clone, Copy, Debug)]
+enum Change {
+    Negate(Width),
+    Mov(Width),
+    SignExtend(SignExtension),
+    Reorder(ByteOrder, SwapWidth),
+}
+
+impl Change {
+    fn of(self, a: Range) -> Range {
+        match self {
+            Change::Negate(width) => negate(width, a),
+            Change::Mov(width) => mov(width, a),
+            Change::SignExtend(extension) => sign_extend(extension, a),
+            Change::Reorder(order, size) => reorder(order, size, a),
+        }
+    }
+}
+
 fn bounds(range: Range) -> (u64, u64, i64, i64) {
     (range.umin, range.umax, range.smin, range.smax)
 }
@@ -99,9 +119,13 @@ fn check_words(rt: &impl Abort, rows: &[(AluOp, u64, u64, u64, u64)]) {
     }
 }
 
-fn check_each(rt: &impl Abort, rows: &[(Row, Row)], operation: impl Fn(Range) -> Range) {
+fn check_each(rt: &impl Abort, change: Change, rows: &[(Row, Row)]) {
     for (a, result) in rows {
-        assert_eq!(rt; bounds(operation(a.range(rt))), result.bounds(), "{a:?}");
+        assert_eq!(rt;
+            bounds(change.of(a.range(rt))),
+            result.bounds(),
+            "{change:?} of {a:?}"
+        );
     }
 }
 

@@ -1,7 +1,6 @@
 //! Extensions of signs.
 use super::Row::{Four, One, Same, Signed};
-use super::{BIT31, BIT32, BIT63, FULL, MAX31, MAX32, MAX63, MAX64, WORD, check_each};
-use crate::sign_extend;
+use super::{BIT31, BIT32, BIT63, Change, FULL, MAX31, MAX32, MAX63, MAX64, WORD, check_each};
 use bpf_model::SignExtension;
 use std::test::*;
 
@@ -33,7 +32,7 @@ fn extensions_of_8_to_32_bits(rt: HostRuntime) {
         (Four(0, 5, -5, 20), Four(0, 5, -5, 20)),
         (Four(5, 5, 0, 10), One(5)),
     ];
-    check_each(&rt, &rows, |a| sign_extend(SignExtension::From8To32, a));
+    check_each(&rt, Change::SignExtend(SignExtension::From8To32), &rows);
 }
 
 #[test]
@@ -64,7 +63,7 @@ fn extensions_of_16_to_32_bits(rt: HostRuntime) {
         (Four(0, 5, -5, 20), Four(0, 5, -5, 20)),
         (Four(5, 5, 0, 10), One(5)),
     ];
-    check_each(&rt, &rows, |a| sign_extend(SignExtension::From16To32, a));
+    check_each(&rt, Change::SignExtend(SignExtension::From16To32), &rows);
 }
 
 #[test]
@@ -95,7 +94,7 @@ fn extensions_of_8_to_64_bits(rt: HostRuntime) {
         (Four(0, 5, -5, 20), Four(0, 5, -5, 20)),
         (Four(5, 5, 0, 10), One(5)),
     ];
-    check_each(&rt, &rows, |a| sign_extend(SignExtension::From8To64, a));
+    check_each(&rt, Change::SignExtend(SignExtension::From8To64), &rows);
 }
 
 #[test]
@@ -126,7 +125,7 @@ fn extensions_of_16_to_64_bits(rt: HostRuntime) {
         (Four(0, 5, -5, 20), Four(0, 5, -5, 20)),
         (Four(5, 5, 0, 10), One(5)),
     ];
-    check_each(&rt, &rows, |a| sign_extend(SignExtension::From16To64, a));
+    check_each(&rt, Change::SignExtend(SignExtension::From16To64), &rows);
 }
 
 #[test]
@@ -158,5 +157,5 @@ fn extensions_of_32_to_64_bits(rt: HostRuntime) {
         (Four(0, 5, -5, 20), Four(0, 5, -5, 20)),
         (Four(5, 5, 0, 10), One(5)),
     ];
-    check_each(&rt, &rows, |a| sign_extend(SignExtension::From32To64, a));
+    check_each(&rt, Change::SignExtend(SignExtension::From32To64), &rows);
 }

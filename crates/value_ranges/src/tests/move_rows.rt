@@ -1,7 +1,6 @@
 //! Negations and moves.
 use super::Row::{Four, One, Same, Signed, Unsigned};
-use super::{BIT31, BIT32, BIT63, FULL, MAX31, MAX32, MAX63, MAX64, WORD, check_each};
-use crate::{mov, negate};
+use super::{BIT31, BIT32, BIT63, Change, FULL, MAX31, MAX32, MAX63, MAX64, WORD, check_each};
 use bpf_model::Width;
 use std::test::*;
 
@@ -55,7 +54,7 @@ fn negations_of_64_bits(rt: HostRuntime) {
         (Four(0, 10, -5, -1), Same(1, 5)),
         (Four(5, 5, 0, 10), One(MAX64 - 4)),
     ];
-    check_each(&rt, &rows, |a| negate(Width::W64, a));
+    check_each(&rt, Change::Negate(Width::W64), &rows);
 }
 
 #[test]
@@ -89,7 +88,7 @@ fn negations_of_32_bits(rt: HostRuntime) {
         (Four(0, 10, -5, -1), WORD),
         (Four(5, 5, 0, 10), One(MAX32 - 4)),
     ];
-    check_each(&rt, &rows, |a| negate(Width::W32, a));
+    check_each(&rt, Change::Negate(Width::W32), &rows);
 }
 
 #[test]
@@ -132,7 +131,7 @@ fn moves_of_64_bits(rt: HostRuntime) {
         (Four(0, 10, -5, -1), Four(0, 10, -5, -1)),
         (Four(5, 5, 0, 10), One(5)),
     ];
-    check_each(&rt, &rows, |a| mov(Width::W64, a));
+    check_each(&rt, Change::Mov(Width::W64), &rows);
 }
 
 #[test]
@@ -166,5 +165,5 @@ fn moves_of_32_bits(rt: HostRuntime) {
         (Four(0, 10, -5, -1), Four(0, 10, -5, -1)),
         (Four(5, 5, 0, 10), One(5)),
     ];
-    check_each(&rt, &rows, |a| mov(Width::W32, a));
+    check_each(&rt, Change::Mov(Width::W32), &rows);
 }

@@ -1,7 +1,6 @@
 //! Changes of byte order.
 use super::Row::{Four, One, Same, Signed};
-use super::{BIT31, BIT32, BIT63, FULL, MAX31, MAX32, MAX64, WORD, check_each};
-use crate::reorder;
+use super::{BIT31, BIT32, BIT63, Change, FULL, MAX31, MAX32, MAX64, WORD, check_each};
 use bpf_model::{ByteOrder, SwapWidth};
 use std::test::*;
 
@@ -27,8 +26,8 @@ fn little_ends_of_16_bits(rt: HostRuntime) {
     ];
     check_each(
         &rt,
+        Change::Reorder(ByteOrder::Little, SwapWidth::S16),
         &rows,
-        |a| reorder(ByteOrder::Little, SwapWidth::S16, a),
     );
 }
 
@@ -54,8 +53,8 @@ fn little_ends_of_32_bits(rt: HostRuntime) {
     ];
     check_each(
         &rt,
+        Change::Reorder(ByteOrder::Little, SwapWidth::S32),
         &rows,
-        |a| reorder(ByteOrder::Little, SwapWidth::S32, a),
     );
 }
 
@@ -84,8 +83,8 @@ fn little_ends_of_64_bits(rt: HostRuntime) {
     ];
     check_each(
         &rt,
+        Change::Reorder(ByteOrder::Little, SwapWidth::S64),
         &rows,
-        |a| reorder(ByteOrder::Little, SwapWidth::S64, a),
     );
 }
 
@@ -109,7 +108,7 @@ fn big_ends_of_16_bits(rt: HostRuntime) {
         (Signed(-5, 3), Same(0, 65535)),
         (FULL, Same(0, 65535)),
     ];
-    check_each(&rt, &rows, |a| reorder(ByteOrder::Big, SwapWidth::S16, a));
+    check_each(&rt, Change::Reorder(ByteOrder::Big, SwapWidth::S16), &rows);
 }
 
 #[test]
@@ -132,7 +131,7 @@ fn big_ends_of_32_bits(rt: HostRuntime) {
         (Signed(-5, 3), WORD),
         (FULL, WORD),
     ];
-    check_each(&rt, &rows, |a| reorder(ByteOrder::Big, SwapWidth::S32, a));
+    check_each(&rt, Change::Reorder(ByteOrder::Big, SwapWidth::S32), &rows);
 }
 
 #[test]
@@ -155,7 +154,7 @@ fn big_ends_of_64_bits(rt: HostRuntime) {
         (Signed(-5, 3), FULL),
         (FULL, FULL),
     ];
-    check_each(&rt, &rows, |a| reorder(ByteOrder::Big, SwapWidth::S64, a));
+    check_each(&rt, Change::Reorder(ByteOrder::Big, SwapWidth::S64), &rows);
 }
 
 #[test]
@@ -178,7 +177,7 @@ fn swaps_of_16_bits(rt: HostRuntime) {
         (Signed(-5, 3), Same(0, 65535)),
         (FULL, Same(0, 65535)),
     ];
-    check_each(&rt, &rows, |a| reorder(ByteOrder::Swap, SwapWidth::S16, a));
+    check_each(&rt, Change::Reorder(ByteOrder::Swap, SwapWidth::S16), &rows);
 }
 
 #[test]
@@ -201,7 +200,7 @@ fn swaps_of_32_bits(rt: HostRuntime) {
         (Signed(-5, 3), WORD),
         (FULL, WORD),
     ];
-    check_each(&rt, &rows, |a| reorder(ByteOrder::Swap, SwapWidth::S32, a));
+    check_each(&rt, Change::Reorder(ByteOrder::Swap, SwapWidth::S32), &rows);
 }
 
 #[test]
@@ -224,5 +223,5 @@ fn swaps_of_64_bits(rt: HostRuntime) {
         (Signed(-5, 3), FULL),
         (FULL, FULL),
     ];
-    check_each(&rt, &rows, |a| reorder(ByteOrder::Swap, SwapWidth::S64, a));
+    check_each(&rt, Change::Reorder(ByteOrder::Swap, SwapWidth::S64), &rows);
 }
