@@ -62,12 +62,7 @@ impl Range {
     pub fn full() -> Range
         ensures { (w : ℕ) → IsWord w → IsIn w result }
     {
-        Range {
-            umin: 0,
-            umax: u64::MAX,
-            smin: i64::MIN,
-            smax: i64::MAX,
-        }
+        Range::unsigned(0, u64::MAX)
     }
 
     /// This word alone.
