@@ -44,14 +44,7 @@ impl Bounds {
             smin,
             smax,
         } = self;
-        if smin >= 0 && smax >= 0 {
-            Bounds {
-                umin: umin.max(smin.cast_unsigned()),
-                umax: umax.min(smax.cast_unsigned()),
-                smin,
-                smax,
-            }
-        } else if smax < 0 && smin < 0 {
+        if smin >= 0 || smax < 0 {
             Bounds {
                 umin: umin.max(smin.cast_unsigned()),
                 umax: umax.min(smax.cast_unsigned()),
@@ -73,14 +66,7 @@ impl Bounds {
             smin,
             smax,
         } = self;
-        if umax < 0x8000_0000_0000_0000 && umin < 0x8000_0000_0000_0000 {
-            Bounds {
-                umin,
-                umax,
-                smin: smin.max(umin.cast_signed()),
-                smax: smax.min(umax.cast_signed()),
-            }
-        } else if umin >= 0x8000_0000_0000_0000 && umax >= 0x8000_0000_0000_0000 {
+        if umax < 0x8000_0000_0000_0000 || umin >= 0x8000_0000_0000_0000 {
             Bounds {
                 umin,
                 umax,

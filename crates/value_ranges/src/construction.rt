@@ -17,27 +17,19 @@ impl Range {
         ensures umax { result.umax ≡ umax }
         ensures mask { umax < 2 ^ 63 → IsSignedUpToMask result umax }
     {
-        if umax < 0x8000_0000_0000_0000 {
-            Range {
-                umin,
-                umax,
-                smin: umin.cast_signed(),
-                smax: umax.cast_signed(),
-            }
-        } else if umin >= 0x8000_0000_0000_0000 {
-            Range {
-                umin,
-                umax,
-                smin: umin.cast_signed(),
-                smax: umax.cast_signed(),
-            }
-        } else {
-            Range {
+        if umin < 0x8000_0000_0000_0000 && umax >= 0x8000_0000_0000_0000 {
+            return Range {
                 umin,
                 umax,
                 smin: i64::MIN,
                 smax: i64::MAX,
-            }
+            };
+        }
+        Range {
+            umin,
+            umax,
+            smin: umin.cast_signed(),
+            smax: umax.cast_signed(),
         }
     }
 
@@ -70,12 +62,7 @@ impl Range {
     pub fn full() -> Range
         ensures { (w : ℕ) → IsWord w → IsIn w result }
     {
-        Range {
-            umin: 0,
-            umax: u64::MAX,
-            smin: i64::MIN,
-            smax: i64::MAX,
-        }
+        Range::unsigned(0, u64::MAX)
     }
 
     /// This word alone.
@@ -104,14 +91,14 @@ impl Range {
     }
 
     /// All numbers of a width.
-    pub fn any(width: Width) -> Range
+    pub(crate) fn any(width: Width) -> Range
         ensures { (w : ℕ) → w < modulus width → IsIn w result }
     {
         Range::unsigned(0, width.greatest())
     }
 
     /// The low parts, at a width of 32 bits; at 64 the range itself.
-    pub fn low(self, width: Width) -> Range
+    pub(crate) fn low(self, width: Width) -> Range
         ensures holds { (x : ℕ) → IsIn x self → IsIn (x % modulus width) result }
         ensures bounded { result.umax < modulus width }
         ensures whole { width ≡ Width.W64 → result.umax ≡ self.umax }
@@ -119,12 +106,10 @@ impl Range {
         match width {
             Width::W64 => self,
             Width::W32 => {
-                if self.umin == self.umax {
-                    Range::single(width.low(self.umin))
-                } else if self.umax < 0x1_0000_0000 {
-                    self
-                } else {
-                    Range::unsigned(0, 0xffff_ffff)
+                match self.single_value() {
+                    Some(word) => Range::single(width.low(word)),
+                    None if self.umax < 0x1_0000_0000 => self,
+                    None => Range::unsigned(0, 0xffff_ffff),
                 }
             }
         }
