@@ -1,6 +1,7 @@
 -- What is known at entry.
-use Rattle.std.proofs.Common.{◌≡◌, ℕ, zero, suc, ◌+◌, ◌-◌, ◌<◌, ◌≤◌, ◌⊎◌, true, false, List, [], ◌∷◌, length, Option, Some, None, get_or, subst, arith, rules, inl, inr, All}
-use Rattle.std.specs.Prelude.{IsSome, IfSome, slice_get, unwrap_or}
+use Rattle.std.proofs.Common.{◌≡◌, ℕ, zero, suc, ◌+◌, ◌-◌, ◌<◌, ◌≤◌, ◌⊎◌, true, false, List, [], ◌∷◌, length, Option, Some, None, get_or, subst, arith, rules, inl, inr, All, pos}
+use Rattle.std.specs.Prelude.{IsSome, IfSome, slice_get, unwrap_or, neg_ℤ}
+use Rattle.std.proofs.lemmas.Int.{ints}
 use Rattle.std.proofs.lemmas.Bool.Decides.{nat_tests}
 use Rattle.std.proofs.Math.ListN.{get_or-eq_default}
 use Rattle.bpf_model.specs.declared.limits.TheConstants.{VALUE_BYTES, STACK_BYTES}
@@ -16,14 +17,19 @@ use Rattle.bpf_model.proofs.Options.{test_of, some_is}
 use Rattle.verifier.specs.declared.stack_slots.reg_value.RegValue.{RegValue}
 use Rattle.verifier.specs.declared.stack_slots.reg_value.RegValue.TheVariants.{Unwritten}
 use Rattle.verifier.specs.declared.stack_slots.frame.Frame.{Frame}
+use Rattle.value_ranges.specs.In.{IsWithinUnsigned, IsWithinSigned}
+use Rattle.value_ranges.proofs.WordLemmas.{signed_small}
 use Rattle.verifier.specs.Kept.{kept_bytes}
 use Rattle.verifier.specs.Frames.{StandsFor, is_written, HasBytes, DescribesMemory}
 use Rattle.verifier.specs.Describes.{Describes}
 
--- a length that is at most a limit is a word, and so is the one of an absent value
-length-word : (o : Option (List ℕ)) (n : ℕ) → n ≤ VALUE_BYTES → IfSome o (λ v. length v ≤ n) → IsWord (length_or_absent o)
-length-word None n le h = omega arith
-length-word (Some v) n le h = omega arith
+-- a length that is at most a limit lies from -1 up to it, and so does -1 for an absent value
+length-within : (o : Option (List ℕ)) (n : ℕ) → n ≤ VALUE_BYTES → IfSome o (λ v. length v ≤ n) → IsWithinSigned (length_or_absent o) (neg_ℤ (pos 1)) (pos n)
+length-within None n le h = record { word = omega arith; smin = omega (arith, ints); smax = omega (arith, ints) }
+length-within (Some v) n le h =
+    let word : IsWord (length v) = omega (arith, h) in
+    let reads = signed_small (length v) (omega (arith, h)) in
+    record { word = word; smin = omega (arith, ints, reads); smax = omega (arith, ints, reads, h) }
 
 -- each value stands for what the map has at its place
 abbrev StandInOrder : List RegValue → Partial → Type 0
@@ -36,22 +42,24 @@ stands_at (y ∷ ys) f h zero x e = subst (λ (z : RegValue). StandsFor z (f 0))
 stands_at (y ∷ ys) f h (suc r) x e = stands_at ys (λ q. f (suc q)) h.1 r x e
 
 -- the values of the registers at entry
-pub record HoldEntry (k o a r n s : RegValue) : Type 0 where
+pub record HoldEntry (sizes : Sizes) (k o a r n m l s : RegValue) : Type 0 where
   pub key : StandsFor k (Some (first_address Key))
   pub old : StandsFor o (Some (first_address Old))
   pub arg : StandsFor a (Some (first_address Arg))
   pub result : StandsFor r (Some (first_address Result))
-  pub any : (w : ℕ) → IsWord w → StandsFor n (Some w)
+  pub key_length : (w : ℕ) → IsWithinUnsigned w 0 sizes.key → StandsFor n (Some w)
+  pub old_length : (w : ℕ) → IsWithinSigned w (neg_ℤ (pos 1)) (pos sizes.old) → StandsFor m (Some w)
+  pub arg_length : (w : ℕ) → IsWithinSigned w (neg_ℤ (pos 1)) (pos sizes.arg) → StandsFor l (Some w)
   pub stack : StandsFor s (Some (first_address Stack + STACK_BYTES))
 
-abbrev pub entry_values : RegValue → RegValue → RegValue → RegValue → RegValue → RegValue → List RegValue
-entry_values k o a r n s = Unwritten ∷ k ∷ o ∷ a ∷ r ∷ Unwritten ∷ n ∷ n ∷ n ∷ Unwritten ∷ s ∷ []
+abbrev pub entry_values : RegValue → RegValue → RegValue → RegValue → RegValue → RegValue → RegValue → RegValue → List RegValue
+entry_values k o a r n m l s = Unwritten ∷ k ∷ o ∷ a ∷ r ∷ Unwritten ∷ n ∷ m ∷ l ∷ Unwritten ∷ s ∷ []
 
-registers_at_entry : (k o a r n s : RegValue) (sizes : Sizes) (input : Input) → HoldEntry k o a r n s → AreWithinLimits sizes → Fits input sizes → StandInOrder (entry_values k o a r n s) (entry_registers input)
-registers_at_entry k o a r n s sizes input h limits f =
-    let key = h.any (length input.key) (omega (arith, f.key, limits.key)) in
-    let old = h.any (length_or_absent input.old) (length-word input.old sizes.old limits.old f.old) in
-    let arg = h.any (length_or_absent input.arg) (length-word input.arg sizes.arg limits.arg f.arg) in
+registers_at_entry : (k o a r n m l s : RegValue) (sizes : Sizes) (input : Input) → HoldEntry sizes k o a r n m l s → AreWithinLimits sizes → Fits input sizes → StandInOrder (entry_values k o a r n m l s) (entry_registers input)
+registers_at_entry k o a r n m l s sizes input h limits f =
+    let key = h.key_length (length input.key) (record { word = omega (arith, f.key, limits.key); umin = omega arith; umax = f.key }) in
+    let old = h.old_length (length_or_absent input.old) (length-within input.old sizes.old limits.old f.old) in
+    let arg = h.arg_length (length_or_absent input.arg) (length-within input.arg sizes.arg limits.arg f.arg) in
     (tt, (h.key, (h.old, (h.arg, (h.result, (tt, (key, (old, (arg, (tt, (h.stack, tt)))))))))))
 
 -- the bytes of a list of bytes, at any place
@@ -111,9 +119,9 @@ read_only_at_entry : (sizes : Sizes) (input : Input) (r : Region) (i : ℕ) → 
 read_only_at_entry sizes input r i none lt = there_at_entry sizes input r (first_address r + i) none (lies_inside sizes r i lt)
 
 -- these registers and an empty frame describe each entry state
-pub entry_describes : (k o a r n s : RegValue) (frame : Frame) (sizes : Sizes) (input : Input) → HoldEntry k o a r n s → ((w : Region) (i : ℕ) → is_written frame w i ≡ false) → ((memory : Partial) → DescribesMemory frame memory) → AreWithinLimits sizes → HasInputBytes input → Fits input sizes → Describes (record { registers = entry_values k o a r n s; frame = frame }) sizes (entry_state sizes input)
-entry_describes k o a r n s frame sizes input holds blank describes limits bytes fits = record {
-  registers = stands_at (entry_values k o a r n s) (entry_registers input) (registers_at_entry k o a r n s sizes input holds limits fits);
+pub entry_describes : (k o a r n m l s : RegValue) (frame : Frame) (sizes : Sizes) (input : Input) → HoldEntry sizes k o a r n m l s → ((w : Region) (i : ℕ) → is_written frame w i ≡ false) → ((memory : Partial) → DescribesMemory frame memory) → AreWithinLimits sizes → HasInputBytes input → Fits input sizes → Describes (record { registers = entry_values k o a r n m l s; frame = frame }) sizes (entry_state sizes input)
+entry_describes k o a r n m l s frame sizes input holds blank describes limits bytes fits = record {
+  registers = stands_at (entry_values k o a r n m l s) (entry_registers input) (registers_at_entry k o a r n m l s sizes input holds limits fits);
   written = describes (entry_memory sizes input);
   inside = λ i e. absurd (let no : false ≡ true = rw (blank Result i) at e in cc);
   read_only = read_only_at_entry sizes input;

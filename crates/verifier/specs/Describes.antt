@@ -5,15 +5,17 @@ use Rattle.bpf_model.specs.declared.input.Sizes.{Sizes}
 use Rattle.bpf_model.specs.declared.instruction.Insn.{Insn}
 use Rattle.bpf_model.specs.declared.instruction.Insn.TheVariants.{Alu, Negate, Mov, SignExtend, Reorder, Wide, Load, Store, Jump, JumpLong, Branch, Exit}
 use Rattle.bpf_model.specs.declared.accesses.AccessSize.{AccessSize}
+use Rattle.bpf_model.specs.declared.accesses.LoadKind.{LoadKind}
+use Rattle.bpf_model.specs.declared.instruction.Operand.{Operand}
 use Rattle.bpf_model.specs.declared.region.Region.{Region}
 use Rattle.bpf_model.specs.declared.region.Region.TheVariants.{Result}
 use Rattle.bpf_model.specs.Program.{units_of}
 use Rattle.bpf_model.specs.Fits.{Fits, HasBytes as HasInputBytes, AreWithinLimits}
 use Rattle.bpf_model.specs.Words.{word_of}
-use Rattle.bpf_model.specs.Accesses.{byte_count}
+use Rattle.bpf_model.specs.Accesses.{byte_count, loaded_size, loaded_count, loaded_value}
 use Rattle.bpf_model.specs.Memory.{first_address, size_of, bytes_at}
 use Rattle.bpf_model.specs.State.{State, entry_state}
-use Rattle.bpf_model.specs.Step.{sets, stores, act, ends_in}
+use Rattle.bpf_model.specs.Step.{operand_word, sets, stores, act, ends_in}
 use Rattle.verifier.specs.declared.stack_slots.reg_value.RegValue.{RegValue}
 use Rattle.verifier.specs.declared.abstract_state.AbstractState.{AbstractState}
 use Rattle.verifier.specs.Kept.{kept_bytes}
@@ -40,6 +42,10 @@ pub record Describes (a : AbstractState) (sizes : Sizes) (s : State) : Type 0 wh
 abbrev pub Knows : AbstractState → ℕ → RegValue → Type 0
 Knows a r x = (sizes : Sizes) (s : State) → Describes a sizes s → HasWord x (s.registers r)
 
+-- in each described state the operand has a word for which the value stands
+abbrev pub KnowsOperand : AbstractState → Operand → RegValue → Type 0
+KnowsOperand a src x = (sizes : Sizes) (s : State) → Describes a sizes s → HasWord x (operand_word s.registers src)
+
 -- from each described state a register may be set to a word for which the value stands, and then the second describes
 -- it, whichever unit is next
 abbrev pub Sets : AbstractState → ℕ → RegValue → AbstractState → Type 0
@@ -52,10 +58,10 @@ abbrev pub LiesInside : Sizes → Region → ℕ → AccessSize → Type 0
 LiesInside sizes r first size = first + byte_count size ≤ size_of sizes r
 
 -- in each described state a load gives a word for which the value stands
-abbrev pub Loads : AbstractState → Region → ℕ → AccessSize → RegValue → Type 0
-Loads a r first size x =
-    (sizes : Sizes) (s : State) → AreWithinLimits sizes → LiesInside sizes r first size → Describes a sizes s
-    → (bs : List ℕ) × ((bytes_at s.memory (first_address r + first) (byte_count size) ≡ Some bs) × StandsFor x (Some (word_of bs)))
+abbrev pub Loads : AbstractState → Region → ℕ → LoadKind → RegValue → Type 0
+Loads a r first kind x =
+    (sizes : Sizes) (s : State) → AreWithinLimits sizes → LiesInside sizes r first (loaded_size kind) → Describes a sizes s
+    → (bs : List ℕ) × ((bytes_at s.memory (first_address r + first) (loaded_count kind) ≡ Some bs) × StandsFor x (Some (loaded_value kind (word_of bs))))
 
 -- from each described state a word for which the value stands may be stored, and then the second describes it
 abbrev pub Stores : AbstractState → Region → ℕ → AccessSize → RegValue → AbstractState → Type 0
@@ -68,10 +74,9 @@ abbrev pub Exits : AbstractState → Type 0
 Exits a = (sizes : Sizes) (s : State) → Describes a sizes s → IsSome (ends_in sizes Exit s)
 
 -- every entry state is described
-abbrev pub DescribesEntry : AbstractState → Type 0
-DescribesEntry a =
-    (sizes : Sizes) (input : Input) → AreWithinLimits sizes → HasInputBytes input → Fits input sizes
-    → Describes a sizes (entry_state sizes input)
+abbrev pub DescribesEntry : Sizes → AbstractState → Type 0
+DescribesEntry sizes a =
+    (input : Input) → AreWithinLimits sizes → HasInputBytes input → Fits input sizes → Describes a sizes (entry_state sizes input)
 
 -- whether the run may go on elsewhere than at the next instruction
 abbrev pub is_jump : Insn → Bool

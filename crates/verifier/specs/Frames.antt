@@ -1,30 +1,33 @@
 -- What is known of a register, and which bytes of the windows that may be written were written.
-use Rattle.std.specs.Prelude.{◌≡◌, ℕ, ◌+◌, ◌<◌, Bool, true, false, ◌&&◌, ◌||◌, List, Option, Some, None, IsSome, slice_index_or, nat_eq, nat_le, nat_lt}
+use Rattle.std.specs.Prelude.{◌≡◌, ℕ, ◌+◌, ◌<◌, Bool, true, false, ◌&&◌, ◌||◌, Option, Some, None, IsSome, ℤ, ◌≤ℤ◌, slice_index_or, nat_eq, nat_le, nat_lt}
 use Rattle.bpf_model.specs.declared.region.Region.{Region}
 use Rattle.bpf_model.specs.declared.region.Region.TheVariants.{Key, Old, Arg, Result, Stack}
-use Rattle.bpf_model.specs.Words.{IsWord, bytes_of, word_of}
+use Rattle.bpf_model.specs.Words.{IsWord, bytes_of}
 use Rattle.bpf_model.specs.Accesses.{byte_count}
-use Rattle.bpf_model.specs.Memory.{Partial, first_address, bytes_at, with_bytes}
+use Rattle.bpf_model.specs.Memory.{Partial, first_address, with_bytes}
 use Rattle.bpf_model.specs.Step.{address_of}
-use Rattle.verifier.specs.Ranges.{LiesIn}
+use Rattle.value_ranges.specs.In.{IsIn}
 use Rattle.verifier.specs.declared.stack_slots.pointer.Pointer.{Pointer}
 use Rattle.verifier.specs.declared.stack_slots.reg_value.RegValue.{RegValue}
 use Rattle.verifier.specs.declared.stack_slots.reg_value.RegValue.TheVariants.{Unwritten, Number, Pointer as PointerInto}
 use Rattle.verifier.specs.declared.stack_slots.access.Access.{Access}
 use Rattle.verifier.specs.declared.stack_slots.frame.Frame.{Frame}
 
--- the address that a pointer holds
-abbrev pub pointer_address : Pointer → ℕ
-pointer_address p = address_of (first_address p.region) p.offset
+-- the word is the window's first address plus an offset of the pointer
+pub record PointsTo (p : Pointer) (w : ℕ) : Type 0 where
+  pub offset : ℤ
+  pub least : p.least ≤ℤ offset
+  pub greatest : offset ≤ℤ p.greatest
+  pub address : w ≡ address_of (first_address p.region) offset
 
--- the register may hold this: any word or none, a word of the range, or the pointer's address
+-- the register may hold this: any word or none, a word of the range, or an address of the pointer
 abbrev pub StandsFor : RegValue → Option ℕ → Type 0
 StandsFor Unwritten None = Unit {0}
 StandsFor Unwritten (Some w) = IsWord w
 StandsFor (Number r) None = ⊥
-StandsFor (Number r) (Some w) = LiesIn w r
+StandsFor (Number r) (Some w) = IsIn w r
 StandsFor (PointerInto p) None = ⊥
-StandsFor (PointerInto p) (Some w) = w ≡ pointer_address p
+StandsFor (PointerInto p) (Some w) = PointsTo p w
 
 -- whether the frame has the window's byte at this distance as written
 abbrev pub is_written : Frame → Region → ℕ → Bool
@@ -64,9 +67,3 @@ abbrev pub DescribesStore : Frame → Access → RegValue → Frame → Type 0
 DescribesStore f a x g =
     (memory : Partial) (w : ℕ) → StandsFor x (Some w) → DescribesMemory f memory
     → DescribesMemory g (with_bytes memory (access_address a) (bytes_of (byte_count a.size) w))
-
--- where the frame describes a memory, the access's bytes are present, and the value stands for the word that they make
-abbrev pub LoadsFrom : Frame → Access → RegValue → Type 0
-LoadsFrom f a x =
-    (memory : Partial) → HasBytes memory → DescribesMemory f memory
-    → (bs : List ℕ) × ((bytes_at memory (access_address a) (byte_count a.size) ≡ Some bs) × StandsFor x (Some (word_of bs)))

@@ -1,5 +1,4 @@
 pub mod Checked
-pub mod Ranges
 pub mod Kept
 pub mod Frames
 pub mod Faults

@@ -1,23 +1,24 @@
 //! What is known of every state that a run brings to a unit.
-ghost use Rattle.std.specs.Prelude.{◌≡◌, ◌≢◌, ◌≤◌, ◌+◌, ℕ, ◌⊎◌, false, Some, Ok, Err, OnOk, IfOk, IfErr, nat_eq, if◌then◌else◌};
+ghost use Rattle.std.specs.Prelude.{◌≡◌, ◌≢◌, ◌≤◌, ◌+◌, ℕ, false, Some, Ok, Err, OnOk, IfOk, IfErr, nat_eq, if◌then◌else◌};
 ghost use Rattle.bpf_model.specs.declared.input.Sizes.{Sizes as DeclaredSizes};
-ghost use Rattle.bpf_model.specs.declared.instruction.Insn.TheVariants.{Alu, Mov, Load, Store};
+ghost use Rattle.bpf_model.specs.declared.instruction.Insn.TheVariants.{Alu, Negate, Mov, SignExtend, Reorder, Load, Store};
 ghost use Rattle.bpf_model.specs.Fits.{AreWithinLimits};
 ghost use Rattle.bpf_model.specs.Memory.{first_address};
 ghost use Rattle.bpf_model.specs.Step.{address_of};
-ghost use Rattle.verifier.specs.declared.fault.VerifyFault.TheVariants.{UnwrittenRegister, WriteToR10, NotAWindow, OutOfWindow, ReadOnly, UnwrittenBytes};
+ghost use Rattle.verifier.specs.declared.fault.VerifyFault.TheVariants.{UnwrittenRegister, WriteToR10, ReadOnly, UnwrittenBytes};
 ghost use Rattle.verifier.specs.Faults.{IsFoundAt};
 ghost use Rattle.verifier.specs.Frames.{StandsFor};
-ghost use Rattle.verifier.specs.Describes.{DescribesEntry, Leads, Knows, Sets, Loads, Stores, Exits, LiesInside, is_jump};
+ghost use Rattle.verifier.specs.Describes.{DescribesEntry, Leads, Knows, KnowsOperand, Sets, Loads, Stores, Exits, LiesInside, is_jump};
 
-use crate::arithmetic::sum;
+use crate::arithmetic::{moved, operate};
 use crate::fault::VerifyFault;
-use crate::stack_slots::{Access, Frame, Pointer, RegValue};
-use crate::value_ranges::Range;
+use crate::stack_slots::{Access, Frame, Pointer, RegValue, loaded};
 use bpf_model::limits::STACK_BYTES;
 use bpf_model::{
-    AccessSize, AluOp, Insn, LoadKind, Operand, Reg, Region, Sizes, Width, immediate_word,
+    AccessSize, AluOp, ByteOrder, Insn, LoadKind, Operand, Reg, Region, SignExtension, Sizes,
+    SwapWidth, Width, immediate_word,
 };
+use value_ranges::{Range, negate, reorder, sign_extend};
 
 /// The number of r10, which points to the stack's end and is never written.
 const FRAME_POINTER: u8 = 10;
@@ -31,10 +32,12 @@ pub struct AbstractState {
 
 impl AbstractState {
     /// What is known at entry.
-    pub fn entry() -> AbstractState
-        ensures { DescribesEntry result }
+    pub fn entry(sizes: Sizes) -> AbstractState
+        ensures { DescribesEntry sizes result }
     {
-        let any = RegValue::Number(Range::full());
+        let key = Range::unsigned(0, u64::from(sizes.key));
+        let old = Range::signed(-1, i64::from(sizes.old));
+        let arg = Range::signed(-1, i64::from(sizes.arg));
         AbstractState {
             registers: [
                 RegValue::Unwritten,
@@ -43,9 +46,9 @@ impl AbstractState {
                 address_in(Region::Arg, 0),
                 address_in(Region::Result, 0),
                 RegValue::Unwritten,
-                any,
-                any,
-                any,
+                RegValue::Number(key),
+                RegValue::Number(old),
+                RegValue::Number(arg),
                 RegValue::Unwritten,
                 address_in(Region::Stack, STACK_BYTES as u16),
             ],
@@ -54,7 +57,7 @@ impl AbstractState {
     }
 
     /// Tests the instruction at a unit, and goes on to what is known after it. Faults are tested in the order of their
-    /// numbers, but first of all whether the instruction is taken yet.
+    /// numbers; of a jump nothing but that it is not taken yet.
     pub fn step(&mut self, unit: usize, sizes: Sizes, insn: Insn) -> Result<(), VerifyFault>
         requires { AreWithinLimits sizes }
         ensures ok { OnOk result (Leads self.old sizes insn self.new) }
@@ -68,7 +71,19 @@ impl AbstractState {
                 dst,
                 src,
             } => self.arithmetic(unit, op, width, dst, src),
+            Insn::Negate { width, dst } => self.negate(unit, width, dst),
             Insn::Mov { width, dst, src } => self.mov(unit, width, dst, src),
+            Insn::SignExtend {
+                extension,
+                dst,
+                src,
+            } => self.sign_extend(unit, extension, dst, src),
+            Insn::Reorder { order, size, dst } => self.reorder(unit, order, size, dst),
+            Insn::Wide { dst, value } => self.assign(
+                unit,
+                dst,
+                RegValue::Number(Range::single(value)),
+            ),
             Insn::Load {
                 kind,
                 dst,
@@ -97,23 +112,53 @@ impl AbstractState {
         ensures ok { OnOk result ((sizes : DeclaredSizes) → Leads self.old sizes (Alu op width dst src) self.new) }
         ensures err { IfErr result (IsFoundAt unit) }
     {
-        let (AluOp::Add, Width::W64, Operand::Register(src)) = (op, width, src) else {
-            return Err(VerifyFault::NotYet(unit));
-        };
         let a = self.read(unit, dst.number())?;
-        let b = self.read(unit, src.number())?;
-        self.assign(unit, dst, sum(a, b))
+        let b = self.operand(unit, src)?;
+        self.assign(unit, dst, operate(op, width, a, b))
+    }
+
+    fn negate(&mut self, unit: usize, width: Width, dst: Reg) -> Result<(), VerifyFault>
+        ensures ok { OnOk result ((sizes : DeclaredSizes) → Leads self.old sizes (Negate width dst) self.new) }
+        ensures err { IfErr result (IsFoundAt unit) }
+    {
+        let number = self.read(unit, dst.number())?.as_number();
+        self.assign(unit, dst, RegValue::Number(negate(width, number)))
     }
 
     fn mov(&mut self, unit: usize, width: Width, dst: Reg, src: Operand) -> Result<(), VerifyFault>
         ensures ok { OnOk result ((sizes : DeclaredSizes) → Leads self.old sizes (Mov width dst src) self.new) }
         ensures err { IfErr result (IsFoundAt unit) }
     {
-        let (Width::W64, Operand::Immediate(imm)) = (width, src) else {
-            return Err(VerifyFault::NotYet(unit));
-        };
-        let word = Range::single(immediate_word(imm));
-        self.assign(unit, dst, RegValue::Number(word))
+        let value = self.operand(unit, src)?;
+        self.assign(unit, dst, moved(width, value))
+    }
+
+    fn sign_extend(
+        &mut self,
+        unit: usize,
+        extension: SignExtension,
+        dst: Reg,
+        src: Reg,
+    ) -> Result<(), VerifyFault>
+        ensures ok { OnOk result ((sizes : DeclaredSizes) → Leads self.old sizes (SignExtend extension dst src) self.new) }
+        ensures err { IfErr result (IsFoundAt unit) }
+    {
+        let number = self.read(unit, src.number())?.as_number();
+        self.assign(unit, dst, RegValue::Number(sign_extend(extension, number)))
+    }
+
+    fn reorder(
+        &mut self,
+        unit: usize,
+        order: ByteOrder,
+        size: SwapWidth,
+        dst: Reg,
+    ) -> Result<(), VerifyFault>
+        ensures ok { OnOk result ((sizes : DeclaredSizes) → Leads self.old sizes (Reorder order size dst) self.new) }
+        ensures err { IfErr result (IsFoundAt unit) }
+    {
+        let number = self.read(unit, dst.number())?.as_number();
+        self.assign(unit, dst, RegValue::Number(reorder(order, size, number)))
     }
 
     fn load_into(
@@ -129,14 +174,11 @@ impl AbstractState {
         ensures ok { OnOk result (Leads self.old sizes (Load kind dst src offset) self.new) }
         ensures err { IfErr result (IsFoundAt unit) }
     {
-        let LoadKind::DoubleWord = kind else {
-            return Err(VerifyFault::NotYet(unit));
-        };
         let base = self.read(unit, src.number())?;
         test_target(unit, dst)?;
         let (region, first) = locate(unit, sizes, base, offset, kind.size())?;
-        let loaded = self.load(unit, region, first, kind.size())?;
-        self.set(dst, loaded);
+        let value = self.load(unit, region, first, kind)?;
+        self.set(dst, value);
         Ok(())
     }
 
@@ -152,13 +194,20 @@ impl AbstractState {
         ensures ok { OnOk result (Leads self.old sizes (Store size dst src offset) self.new) }
         ensures err { IfErr result (IsFoundAt unit) }
     {
-        let (AccessSize::DoubleWord, Operand::Register(src)) = (size, src) else {
-            return Err(VerifyFault::NotYet(unit));
-        };
         let base = self.read(unit, dst.number())?;
-        let value = self.read(unit, src.number())?;
+        let value = self.operand(unit, src)?;
         let (region, first) = locate(unit, sizes, base, offset, size)?;
         self.store(unit, region, first, size, value)
+    }
+
+    fn operand(&self, unit: usize, src: Operand) -> Result<RegValue, VerifyFault>
+        ensures ok { IfOk result (KnowsOperand self.now src) }
+        ensures err { IfErr result (λ fault. fault ≡ UnwrittenRegister unit) }
+    {
+        match src {
+            Operand::Register(register) => self.read(unit, register.number()),
+            Operand::Immediate(imm) => Ok(RegValue::Number(Range::single(immediate_word(imm)))),
+        }
     }
 
     fn read(&self, unit: usize, register: u8) -> Result<RegValue, VerifyFault>
@@ -193,18 +242,21 @@ impl AbstractState {
         unit: usize,
         region: Region,
         first: usize,
-        size: AccessSize,
+        kind: LoadKind,
     ) -> Result<RegValue, VerifyFault>
-        ensures ok { IfOk result (Loads self.now region first size) }
+        ensures ok { IfOk result (Loads self.now region first kind) }
         ensures err { IfErr result (λ fault. fault ≡ UnwrittenBytes unit) }
     {
-        match Access::new(region, first, size) {
-            Some(access) => self
-                .frame
-                .load(&access)
-                .ok_or(VerifyFault::UnwrittenBytes(unit)),
+        match Access::new(region, first, kind.size()) {
+            Some(access) => {
+                if self.frame.are_written(&access) {
+                    Ok(RegValue::Number(loaded(kind)))
+                } else {
+                    Err(VerifyFault::UnwrittenBytes(unit))
+                }
+            }
             // The windows that may only be read have all their bytes.
-            None => Ok(RegValue::Number(Range::full())),
+            None => Ok(RegValue::Number(loaded(kind))),
         }
     }
 
@@ -243,9 +295,11 @@ impl AbstractState {
 fn address_in(region: Region, offset: u16) -> RegValue
     ensures { StandsFor result (Some (first_address region + offset)) }
 {
+    let offset = i64::from(offset);
     RegValue::Pointer(Pointer {
         region,
-        offset: i64::from(offset),
+        least: offset,
+        greatest: offset,
     })
 }
 
@@ -270,12 +324,15 @@ fn locate(
     ensures address { IfOk result (λ at. (w : ℕ) → StandsFor base (Some w)
         → address_of w offset ≡ first_address at.0 + at.1) }
     ensures inside { IfOk result (λ at. LiesInside sizes at.0 at.1 size) }
-    ensures err { IfErr result (λ fault. (fault ≡ NotAWindow unit) ⊎ (fault ≡ OutOfWindow unit)) }
+    ensures err { IfErr result (IsFoundAt unit) }
 {
     let RegValue::Pointer(pointer) = base else {
         return Err(VerifyFault::NotAWindow(unit));
     };
-    match usize::try_from(pointer.offset + i64::from(offset)) {
+    let Some(distance) = pointer.offset() else {
+        return Err(VerifyFault::NotYet(unit));
+    };
+    match usize::try_from(distance + i64::from(offset)) {
         Ok(first) if first + size.bytes() <= pointer.region.size(sizes) => Ok((
             pointer.region,
             first,

@@ -1,35 +1,56 @@
 //! What arithmetic makes of register values.
-ghost use Rattle.std.specs.Prelude.{◌≡◌, ℕ, ◌+◌, ◌%◌, ◌^◌, Some};
-ghost use Rattle.bpf_model.specs.declared.operations.AluOp.TheVariants.{Add};
-ghost use Rattle.bpf_model.specs.declared.operations.Width.TheVariants.{W64};
-ghost use Rattle.bpf_model.specs.Arithmetic.{alu_value};
-ghost use Rattle.verifier.specs.Ranges.{LiesIn};
-ghost use Rattle.verifier.specs.Frames.{StandsFor, pointer_address};
+ghost use Rattle.std.specs.Prelude.{ℕ, ◌+◌, ◌-◌, ◌%◌, ◌^◌, Some};
+ghost use Rattle.bpf_model.specs.Arithmetic.{alu_value, mov_value};
+ghost use Rattle.value_ranges.specs.In.{IsIn};
+ghost use Rattle.verifier.specs.Frames.{StandsFor, PointsTo};
 
 use crate::stack_slots::{Pointer, RegValue};
-use crate::value_ranges::{Range, sum_of};
+use bpf_model::{AluOp, Width};
+use value_ranges::{Range, alu, mov};
 
-/// What is known of the sum of words for which these values stand. A pointer and a number add up to a pointer; all
-/// else is arithmetic on numbers.
-pub fn sum(a: RegValue, b: RegValue) -> RegValue
-    ensures holds { (x y : ℕ) → StandsFor a (Some x) → StandsFor b (Some y) → StandsFor result (Some (alu_value Add W64 x y)) }
+/// What is known of the operation's result on words for which these values stand. At 64 bits a pointer and a number add
+/// up to a pointer, and a pointer less a number is one; all else is arithmetic on numbers.
+pub fn operate(op: AluOp, width: Width, a: RegValue, b: RegValue) -> RegValue
+    ensures holds { (x y : ℕ) → StandsFor a (Some x) → StandsFor b (Some y) → StandsFor result (Some (alu_value op width x y)) }
 {
-    match (a, b) {
-        (RegValue::Pointer(pointer), RegValue::Number(number)) => moved(pointer, number),
-        (RegValue::Number(number), RegValue::Pointer(pointer)) => moved(pointer, number),
-        _ => RegValue::Number(sum_of(a.as_number(), b.as_number())),
+    match (op, width, a, b) {
+        (AluOp::Add, Width::W64, RegValue::Pointer(pointer), RegValue::Number(number)) => sum(
+            pointer, number,
+        ),
+        (AluOp::Add, Width::W64, RegValue::Number(number), RegValue::Pointer(pointer)) => sum(
+            pointer, number,
+        ),
+        (AluOp::Sub, Width::W64, RegValue::Pointer(pointer), RegValue::Number(number)) =>
+            difference(pointer, number),
+        _ => RegValue::Number(alu(op, width, a.as_number(), b.as_number())),
     }
 }
 
-/// A pointer plus a number. Where the number is not one word, or leads out of reach, the sum may be any word.
-fn moved(pointer: Pointer, number: Range) -> RegValue
-    ensures holds { (y : ℕ) → LiesIn y number → StandsFor result (Some ((pointer_address pointer + y) % 2 ^ 64)) }
+/// What is known of a moved word: at 64 bits what was known of it.
+pub fn moved(width: Width, value: RegValue) -> RegValue
+    ensures holds { (x : ℕ) → StandsFor value (Some x) → StandsFor result (Some (mov_value width x)) }
 {
-    match number.as_single() {
-        Some(distance) => match pointer.moved(distance.cast_signed()) {
-            Some(moved) => RegValue::Pointer(moved),
-            None => RegValue::Number(Range::full()),
-        },
+    match width {
+        Width::W64 => value,
+        Width::W32 => RegValue::Number(mov(width, value.as_number())),
+    }
+}
+
+// a pointer out of reach may be any word
+fn sum(pointer: Pointer, number: Range) -> RegValue
+    ensures holds { (x y : ℕ) → PointsTo pointer x → IsIn y number → StandsFor result (Some ((x + y) % 2 ^ 64)) }
+{
+    match pointer.plus(number) {
+        Some(moved) => RegValue::Pointer(moved),
+        None => RegValue::Number(Range::full()),
+    }
+}
+
+fn difference(pointer: Pointer, number: Range) -> RegValue
+    ensures holds { (x y : ℕ) → PointsTo pointer x → IsIn y number → StandsFor result (Some ((x + (2 ^ 64 - y)) % 2 ^ 64)) }
+{
+    match pointer.minus(number) {
+        Some(moved) => RegValue::Pointer(moved),
         None => RegValue::Number(Range::full()),
     }
 }

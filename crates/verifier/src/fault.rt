@@ -23,7 +23,8 @@ pub enum VerifyFault {
     BadExitValue(usize),
     /// A declared size is above its limit: number 47, at unit 0.
     SizesTooLarge,
-    /// The instruction is not taken yet: number 48. Nothing else is then tested of it.
+    /// A jump, or an access through a pointer that may point to several bytes, is not taken yet: number 48. Nothing else
+    /// is tested of a jump.
     NotYet(usize),
 }
 
@@ -74,7 +75,7 @@ impl fmt::Display for VerifyFault {
             VerifyFault::UnwrittenBytes(_) => "bytes are read that were not all written",
             VerifyFault::BadExitValue(_) => "r0 may be neither -1 nor a number of written bytes",
             VerifyFault::SizesTooLarge => return write!(f, "a declared size is above its limit"),
-            VerifyFault::NotYet(_) => "the instruction is not taken yet",
+            VerifyFault::NotYet(_) => "the instruction or its access is not taken yet",
         };
         write!(f, "{text} (unit {})", self.unit())
     }

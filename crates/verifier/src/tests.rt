@@ -2,13 +2,12 @@
 ghost use Rattle.std.specs.Prelude.{◌≤◌};
 
 use crate::{VerifyFault, verify};
-use bpf_model::{
-    AccessSize, AluOp, ByteOrder, Insn, JumpOp, LoadKind, Operand, Program, Reg, SignExtension,
-    Sizes, SwapWidth, Width,
-};
+use bpf_model::{AccessSize, AluOp, Insn, JumpOp, LoadKind, Operand, Program, Reg, Sizes, Width};
 use flow_shape::shape;
 use std::alloc::Global;
 use std::test::Fail;
+
+mod values;
 
 const SIZES: Sizes = Sizes {
     key: 64,
@@ -72,43 +71,18 @@ fn store(dst: u8, offset: i16, src: u8) -> Insn
     }
 }
 
-/// The operation on r10 and the unwritten r5.
-fn alu(op: AluOp, width: Width) -> Insn {
-    Insn::Alu {
-        op,
-        width,
-        dst: reg(10),
-        src: Operand::Register(reg(5)),
-    }
-}
-
-/// The bytes at the number in r6, into r10.
-fn load_of(kind: LoadKind) -> Insn {
-    Insn::Load {
-        kind,
-        dst: reg(10),
-        src: reg(6),
-        offset: 0,
-    }
-}
-
-/// The unwritten r5, to the number in r6.
-fn store_of(size: AccessSize) -> Insn {
-    Insn::Store {
-        size,
-        dst: reg(6),
-        src: Operand::Register(reg(5)),
-        offset: 0,
-    }
-}
-
-fn wide(dst: u8) -> Insn
+fn wide(dst: u8, value: u64) -> Insn
     requires { dst ≤ 10 }
 {
     Insn::Wide {
         dst: reg(dst),
-        value: 1,
+        value,
     }
+}
+
+/// To the next instruction.
+fn jump() -> Insn {
+    Insn::Jump { distance: 0 }
 }
 
 /// Number and unit of the refusal, if the program is refused.
@@ -123,16 +97,6 @@ fn refusal(alloc: Global, code: &[Insn], sizes: Sizes) -> Result<Option<(u8, usi
             Ok(_) => None,
         },
     })
-}
-
-/// The refusals of two programs: one begins with the instruction, one has it at unit 1.
-fn alone_and_second(
-    alloc: Global,
-    insn: &Insn,
-) -> Result<(Option<(u8, usize)>, Option<(u8, usize)>), Fail> {
-    let alone = refusal(alloc, &[*insn, mov(0, -1), Insn::Exit], SIZES)?;
-    let second = refusal(alloc, &[mov(0, -1), *insn, Insn::Exit], SIZES)?;
-    Ok((alone, second))
 }
 
 #[test]
@@ -272,143 +236,82 @@ fn the_least_number_of_a_unit_is_named(rt: HostRuntime) -> Result<(), Fail> {
 }
 
 #[test]
-fn instructions_not_taken_yet_have_no_other_fault(rt: HostRuntime) -> Result<(), Fail> {
-    let alloc = rt.alloc();
-    let rows = [
-        ("sub", alu(AluOp::Sub, Width::W64)),
-        ("mul", alu(AluOp::Mul, Width::W64)),
-        ("div", alu(AluOp::Div, Width::W64)),
-        ("sdiv", alu(AluOp::SDiv, Width::W64)),
-        ("or", alu(AluOp::Or, Width::W64)),
-        ("and", alu(AluOp::And, Width::W64)),
-        ("lsh", alu(AluOp::Lsh, Width::W64)),
-        ("rsh", alu(AluOp::Rsh, Width::W64)),
-        ("mod", alu(AluOp::Mod, Width::W64)),
-        ("smod", alu(AluOp::SMod, Width::W64)),
-        ("xor", alu(AluOp::Xor, Width::W64)),
-        ("arsh", alu(AluOp::Arsh, Width::W64)),
-        ("add of 32 bits", alu(AluOp::Add, Width::W32)),
-        (
-            "add of an immediate",
-            Insn::Alu {
-                op: AluOp::Add,
-                width: Width::W64,
-                dst: reg(10),
-                src: Operand::Immediate(1),
-            },
-        ),
-        (
-            "neg",
-            Insn::Negate {
-                width: Width::W64,
-                dst: reg(10),
-            },
-        ),
-        (
-            "mov of 32 bits",
-            Insn::Mov {
-                width: Width::W32,
-                dst: reg(10),
-                src: Operand::Immediate(1),
-            },
-        ),
-        (
-            "mov of a register",
-            Insn::Mov {
-                width: Width::W64,
-                dst: reg(10),
-                src: Operand::Register(reg(5)),
-            },
-        ),
-        (
-            "movsx",
-            Insn::SignExtend {
-                extension: SignExtension::From8To64,
-                dst: reg(10),
-                src: reg(5),
-            },
-        ),
-        (
-            "end",
-            Insn::Reorder {
-                order: ByteOrder::Big,
-                size: SwapWidth::S64,
-                dst: reg(10),
-            },
-        ),
-        ("wide", wide(10)),
-        ("ldb", load_of(LoadKind::Byte)),
-        ("ldh", load_of(LoadKind::HalfWord)),
-        ("ldw", load_of(LoadKind::Word)),
-        ("ldsb", load_of(LoadKind::SignedByte)),
-        ("ldsh", load_of(LoadKind::SignedHalfWord)),
-        ("ldsw", load_of(LoadKind::SignedWord)),
-        ("stxb", store_of(AccessSize::Byte)),
-        ("stxh", store_of(AccessSize::HalfWord)),
-        ("stxw", store_of(AccessSize::Word)),
-        (
-            "std",
-            Insn::Store {
-                size: AccessSize::DoubleWord,
-                dst: reg(5),
-                src: Operand::Immediate(1),
-                offset: 0,
-            },
-        ),
-        ("ja", Insn::Jump { distance: 0 }),
-        ("jal", Insn::JumpLong { distance: 0 }),
-        (
-            "jeq",
-            Insn::Branch {
-                test: JumpOp::Eq,
-                width: Width::W64,
-                dst: reg(5),
-                src: Operand::Register(reg(5)),
-                distance: 0,
-            },
-        ),
-    ];
-    for (name, insn) in rows {
-        let found = alone_and_second(alloc, &insn)?;
-        assert_eq!(rt; found, (Some((48, 0)), Some((48, 1))), "{name}");
-    }
-    Ok(())
-}
-
-#[test]
 fn what_is_not_taken_yet_has_its_turn(rt: HostRuntime) -> Result<(), Fail> {
     let exit = Insn::Exit;
     let alloc = rt.alloc();
     let large = Sizes { key: 65, ..SIZES };
     let rows = [
         (
+            "a jump",
+            refusal(alloc, &[jump(), mov(0, -1), exit], SIZES)?,
+            Some((48, 0)),
+        ),
+        (
+            "a long jump",
+            refusal(
+                alloc,
+                &[wide(0, 1), Insn::JumpLong { distance: 0 }, exit],
+                SIZES,
+            )?,
+            Some((48, 2)),
+        ),
+        (
+            "a condition on an unwritten register",
+            refusal(
+                alloc,
+                &[
+                    mov(0, -1),
+                    Insn::Branch {
+                        test: JumpOp::Eq,
+                        width: Width::W64,
+                        dst: reg(5),
+                        src: Operand::Immediate(0),
+                        distance: 0,
+                    },
+                    exit,
+                ],
+                SIZES,
+            )?,
+            Some((48, 1)),
+        ),
+        (
+            "one of several bytes",
+            refusal(alloc, &[add(1, 6), load(0, 1, 0), exit], SIZES)?,
+            Some((48, 1)),
+        ),
+        (
+            "41 before 48: one of several bytes into r10",
+            refusal(alloc, &[add(1, 6), load(10, 1, 0), exit], SIZES)?,
+            Some((41, 1)),
+        ),
+        (
             "40 at an earlier unit",
-            refusal(alloc, &[load(0, 5, 0), wide(0), exit], SIZES)?,
+            refusal(alloc, &[load(0, 5, 0), jump(), exit], SIZES)?,
             Some((40, 0)),
         ),
         (
             "40 at a later unit",
-            refusal(alloc, &[wide(0), load(0, 5, 0), exit], SIZES)?,
+            refusal(alloc, &[jump(), load(0, 5, 0), exit], SIZES)?,
             Some((48, 0)),
         ),
         (
             "46 at a later unit",
-            refusal(alloc, &[mov(0, 9), wide(9), exit], SIZES)?,
+            refusal(alloc, &[mov(0, 9), jump(), exit], SIZES)?,
             Some((48, 1)),
         ),
         (
             "sizes come first",
-            refusal(alloc, &[wide(0), exit], large)?,
+            refusal(alloc, &[jump(), exit], large)?,
             Some((47, 0)),
         ),
         (
             "the flow comes before",
-            refusal(alloc, &[wide(0), wide(0)], large)?,
+            refusal(alloc, &[wide(0, 1), wide(0, 1)], large)?,
             Some((33, 2)),
         ),
         (
             "after the exit nothing runs",
-            refusal(alloc, &[mov(0, -1), exit, wide(10), exit], SIZES)?,
+            refusal(alloc, &[mov(0, -1), exit, jump(), exit], SIZES)?,
             None,
         ),
     ];
@@ -548,81 +451,6 @@ fn accesses_lie_in_their_windows(rt: HostRuntime) -> Result<(), Fail> {
     Ok(())
 }
 
-/// Goes `distance` on from the key, in either order of the sum, and back, and reads the key there.
-fn there_and_back(alloc: Global, distance: i32, back: i32) -> Result<Option<(u8, usize)>, Fail> {
-    let code = [
-        mov(9, distance),
-        add(9, 1),
-        mov(5, back),
-        add(9, 5),
-        load(0, 9, 0),
-        mov(0, -1),
-        Insn::Exit,
-    ];
-    refusal(alloc, &code, SIZES)
-}
-
-#[test]
-fn pointers_reach_as_far_as_they_should(rt: HostRuntime) -> Result<(), Fail> {
-    let exit = Insn::Exit;
-    let alloc = rt.alloc();
-    let rows = [
-        (
-            "2^20 on",
-            there_and_back(alloc, 1_048_576, -1_048_576)?,
-            None,
-        ),
-        (
-            "2^20 on, wrongly back",
-            there_and_back(alloc, 1_048_576, -1_048_577)?,
-            Some((43, 4)),
-        ),
-        (
-            "2^20 + 1 on",
-            there_and_back(alloc, 1_048_577, -1_048_577)?,
-            Some((42, 4)),
-        ),
-        (
-            "2^20 before",
-            there_and_back(alloc, -1_048_576, 1_048_576)?,
-            None,
-        ),
-        (
-            "2^20 + 1 before",
-            there_and_back(alloc, -1_048_577, 1_048_577)?,
-            Some((42, 4)),
-        ),
-        (
-            "plus any number",
-            refusal(alloc, &[add(1, 6), load(0, 1, 0), exit], SIZES)?,
-            Some((42, 1)),
-        ),
-        (
-            "an address that is -1",
-            refusal(alloc, &[mov(0, -0x10001), add(0, 1), exit], SIZES)?,
-            None,
-        ),
-        (
-            "an address that is -2",
-            refusal(alloc, &[mov(0, -0x10002), add(0, 1), exit], SIZES)?,
-            Some((46, 2)),
-        ),
-        (
-            "two addresses",
-            refusal(
-                alloc,
-                &[mov(0, -0x30000), add(0, 1), add(0, 2), exit],
-                SIZES,
-            )?,
-            None,
-        ),
-    ];
-    for (name, found, expected) in rows {
-        assert_eq!(rt; found, expected, "{name}");
-    }
-    Ok(())
-}
-
 #[test]
 fn refusals_print_their_reason_and_unit(rt: HostRuntime) -> Result<(), Fail> {
     let alloc = rt.alloc();
@@ -636,7 +464,7 @@ fn refusals_print_their_reason_and_unit(rt: HostRuntime) -> Result<(), Fail> {
     );
     assert_eq!(rt;
         format!(in alloc; "{}", VerifyFault::NotYet(3))?.as_str(),
-        "the instruction is not taken yet (unit 3)"
+        "the instruction or its access is not taken yet (unit 3)"
     );
     Ok(())
 }

@@ -1,15 +1,14 @@
 //! The written bytes of stack and result.
-ghost use Rattle.std.specs.Prelude.{◌≡◌, ◌≤◌, ◌<◌, ◌+◌, ◌↔◌, ℕ, List, Bool, true, false, ◌||◌, ◌&&◌, Some, IsSome, IfSome, IsTrue, All, length, slice_range, slice_index_or, nat_le, nat_lt};
+ghost use Rattle.std.specs.Prelude.{◌≡◌, ◌≤◌, ◌<◌, ◌+◌, ◌↔◌, ℕ, List, Bool, true, false, ◌||◌, ◌&&◌, Some, IsTrue, All, length, slice_range, slice_index_or, nat_le, nat_lt};
 ghost use Rattle.bpf_model.specs.declared.region.Region.{Region as TheRegion};
 ghost use Rattle.bpf_model.specs.declared.region.Region.TheVariants.{Result as ResultWindow};
-ghost use Rattle.bpf_model.specs.Words.{bytes_of, word_of};
+ghost use Rattle.bpf_model.specs.Words.{bytes_of};
 ghost use Rattle.bpf_model.specs.Accesses.{byte_count};
-ghost use Rattle.bpf_model.specs.Memory.{Partial, bytes_at, with_bytes};
-ghost use Rattle.verifier.specs.Frames.{StandsFor, is_written, AreWritten, Marks, DescribesStore, LoadsFrom, DescribesMemory};
+ghost use Rattle.bpf_model.specs.Memory.{Partial, with_bytes};
+ghost use Rattle.verifier.specs.Frames.{StandsFor, is_written, AreWritten, Marks, DescribesStore, DescribesMemory};
 
 use super::access::Access;
 use super::reg_value::RegValue;
-use crate::value_ranges::Range;
 use bpf_model::Region;
 use bpf_model::limits::{STACK_BYTES, VALUE_BYTES};
 
@@ -40,18 +39,6 @@ impl Frame {
         self.mark(access);
     }
 
-    /// What is known of a loaded word; none where not all its bytes were written.
-    pub fn load(&self, access: &Access) -> Option<RegValue>
-        ensures some { IsSome result ↔ AreWritten self.now access.now }
-        ensures value { IfSome result (LoadsFrom self.now access.now) }
-    {
-        if self.are_written(access) {
-            Some(RegValue::Number(Range::full()))
-        } else {
-            None
-        }
-    }
-
     fn mark(&mut self, access: &Access)
         ensures { Marks self.old access.now self.new }
     {
@@ -63,7 +50,8 @@ impl Frame {
         }
     }
 
-    fn are_written(&self, access: &Access) -> bool
+    /// Whether each byte of the access was written.
+    pub fn are_written(&self, access: &Access) -> bool
         ensures { IsTrue result ↔ AreWritten self.now access.now }
     {
         let end = access.first + access.size.bytes();

@@ -1,10 +1,10 @@
 //! What is known of a register.
 ghost use Rattle.std.specs.Prelude.{◌≡◌, ℕ, Some};
-ghost use Rattle.verifier.specs.Ranges.{LiesIn};
+ghost use Rattle.value_ranges.specs.In.{IsIn};
 ghost use Rattle.verifier.specs.Frames.{StandsFor};
 
 use super::pointer::Pointer;
-use crate::value_ranges::Range;
+use value_ranges::Range;
 
 /// What is known of a register's word.
 #[derive(Clone, Copy, Debug, PartialEq, Eq)]
@@ -20,12 +20,12 @@ pub enum RegValue {
 impl RegValue {
     /// The range of the words that the value stands for.
     pub fn as_number(self) -> Range
-        ensures holds { (w : ℕ) → StandsFor self (Some w) → LiesIn w result }
+        ensures holds { (w : ℕ) → StandsFor self (Some w) → IsIn w result }
     {
         match self {
             RegValue::Unwritten => Range::full(),
             RegValue::Number(range) => range,
-            RegValue::Pointer(pointer) => Range::single(pointer.address()),
+            RegValue::Pointer(pointer) => pointer.addresses(),
         }
     }
 }

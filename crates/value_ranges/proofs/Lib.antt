@@ -1,0 +1,8 @@
+pub mod WordLemmas
+pub mod SumLemmas
+pub mod ProductLemmas
+pub mod BitLemmas
+pub mod ShiftLemmas
+pub mod MoveLemmas
+pub mod ValueLemmas
+pub mod ConditionLemmas

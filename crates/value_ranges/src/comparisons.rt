@@ -1,0 +1,122 @@
+//! What comparisons of words say of their ranges.
+ghost use Rattle.std.specs.Prelude.{ℕ, ◌≡◌, ◌+◌, ◌-◌, ◌<◌, ◌≤◌, ◌≤ℤ◌, ◌<ℤ◌, ◌^◌};
+ghost use Rattle.bpf_model.specs.Words.{IsWord, signed};
+ghost use Rattle.value_ranges.specs.In.{IsIn, IsWithin, IsInSome, AreInSome};
+
+use crate::bounds::Bounds;
+use crate::range::Range;
+
+/// The ranges of these bounds; none where one is empty.
+pub fn both(a: Bounds, b: Bounds) -> Option<(Range, Range)>
+    ensures { (x y : ℕ) → IsWithin x a → IsWithin y b → AreInSome x y result }
+{
+    match (a.tighten(), b.tighten()) {
+        (Some(first), Some(second)) => Some((first, second)),
+        _ => None,
+    }
+}
+
+/// The pair the other way round.
+pub fn swapped(pair: Option<(Range, Range)>) -> Option<(Range, Range)>
+    ensures { (x y : ℕ) → AreInSome x y pair → AreInSome y x result }
+{
+    match pair {
+        Some((a, b)) => Some((b, a)),
+        None => None,
+    }
+}
+
+/// Where both words are the same.
+pub fn equal(a: Range, b: Range) -> Option<(Range, Range)>
+    ensures { (x y : ℕ) → IsIn x a → IsIn y b → x ≡ y → AreInSome x y result }
+{
+    let common = Bounds {
+        umin: a.umin.max(b.umin),
+        umax: a.umax.min(b.umax),
+        smin: a.smin.max(b.smin),
+        smax: a.smax.min(b.smax),
+    };
+    both(common, common)
+}
+
+/// Where the first word is greater.
+pub fn greater(a: Range, b: Range) -> Option<(Range, Range)>
+    ensures { (x y : ℕ) → IsIn x a → IsIn y b → y < x → AreInSome x y result }
+{
+    if b.umin == u64::MAX || a.umax == 0 {
+        return None;
+    }
+    let first = Bounds {
+        umin: a.umin.max(b.umin + 1),
+        umax: a.umax,
+        smin: a.smin,
+        smax: a.smax,
+    };
+    let second = Bounds {
+        umin: b.umin,
+        umax: b.umax.min(a.umax - 1),
+        smin: b.smin,
+        smax: b.smax,
+    };
+    both(first, second)
+}
+
+/// Where the first word is at least the second.
+pub fn at_least(a: Range, b: Range) -> Option<(Range, Range)>
+    ensures { (x y : ℕ) → IsIn x a → IsIn y b → y ≤ x → AreInSome x y result }
+{
+    let first = Bounds {
+        umin: a.umin.max(b.umin),
+        umax: a.umax,
+        smin: a.smin,
+        smax: a.smax,
+    };
+    let second = Bounds {
+        umin: b.umin,
+        umax: b.umax.min(a.umax),
+        smin: b.smin,
+        smax: b.smax,
+    };
+    both(first, second)
+}
+
+/// Where the signed reading of the first word is greater.
+pub fn signed_greater(a: Range, b: Range) -> Option<(Range, Range)>
+    ensures { (x y : ℕ) → IsIn x a → IsIn y b → signed y <ℤ signed x → AreInSome x y result }
+{
+    if b.smin == i64::MAX || a.smax == i64::MIN {
+        return None;
+    }
+    let first = Bounds {
+        umin: a.umin,
+        umax: a.umax,
+        smin: a.smin.max(b.smin + 1),
+        smax: a.smax,
+    };
+    let second = Bounds {
+        umin: b.umin,
+        umax: b.umax,
+        smin: b.smin,
+        smax: b.smax.min(a.smax - 1),
+    };
+    both(first, second)
+}
+
+/// Where the signed reading of the first word is at least the second's.
+pub fn signed_at_least(a: Range, b: Range) -> Option<(Range, Range)>
+    ensures { (x y : ℕ) → IsIn x a → IsIn y b → signed y ≤ℤ signed x → AreInSome x y result }
+{
+    let first = Bounds {
+        umin: a.umin,
+        umax: a.umax,
+        smin: a.smin.max(b.smin),
+        smax: a.smax,
+    };
+    let second = Bounds {
+        umin: b.umin,
+        umax: b.umax,
+        smin: b.smin,
+        smax: b.smax.min(a.smax),
+    };
+    both(first, second)
+}

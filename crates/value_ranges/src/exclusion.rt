@@ -1,0 +1,94 @@
+//! What it says of a range that its word is not another one.
+ghost use Rattle.std.specs.Prelude.{ℕ, ◌≡◌, ◌≢◌, ◌+◌, ◌-◌, ◌<◌, ◌≤◌, ◌≤ℤ◌, ◌^◌, IfSome};
+ghost use Rattle.bpf_model.specs.Words.{IsWord, signed};
+ghost use Rattle.value_ranges.specs.In.{IsIn, IsWithin, IsInSome, AreInSome};
+ghost use Rattle.value_ranges.specs.Edges.{IsFrom, IsUpTo, IsSignedFrom, IsSignedUpTo};
+
+use crate::bounds::Bounds;
+use crate::range::Range;
+
+/// Where the words differ: a single second one is taken away from the edges of the first range.
+pub fn unequal(a: Range, b: Range) -> Option<(Range, Range)>
+    ensures { (x y : ℕ) → IsIn x a → IsIn y b → x ≢ y → AreInSome x y result }
+{
+    let first = match b.single_value() {
+        Some(word) => without(a, word),
+        None => Bounds::of(a).tighten(),
+    };
+    pair(first, Bounds::of(b).tighten())
+}
+
+fn pair(a: Option<Range>, b: Option<Range>) -> Option<(Range, Range)>
+    ensures { (x y : ℕ) → IsInSome x a → IsInSome y b → AreInSome x y result }
+{
+    match (a, b) {
+        (Some(first), Some(second)) => Some((first, second)),
+        _ => None,
+    }
+}
+
+fn without(a: Range, word: u64) -> Option<Range>
+    ensures { (x : ℕ) → IsIn x a → x ≢ word → IsInSome x result }
+{
+    let Some(umin) = raised(a.umin, word) else {
+        return None;
+    };
+    let Some(umax) = lowered(a.umax, word) else {
+        return None;
+    };
+    let reading = word.cast_signed();
+    let Some(smin) = signed_raised(a.smin, reading) else {
+        return None;
+    };
+    let Some(smax) = signed_lowered(a.smax, reading) else {
+        return None;
+    };
+    let bounds = Bounds {
+        umin,
+        umax,
+        smin,
+        smax,
+    };
+    bounds.tighten()
+}
+
+// a minimum without this word, if there is a greater one
+fn raised(bound: u64, word: u64) -> Option<u64>
+    ensures { (x : ℕ) → IsWord x → bound ≤ x → x ≢ word → IsFrom x result }
+{
+    if bound == word {
+        word.checked_add(1)
+    } else {
+        Some(bound)
+    }
+}
+
+fn lowered(bound: u64, word: u64) -> Option<u64>
+    ensures { (x : ℕ) → IsWord x → x ≤ bound → x ≢ word → IsUpTo x result }
+{
+    if bound == word {
+        word.checked_sub(1)
+    } else {
+        Some(bound)
+    }
+}
+
+fn signed_raised(bound: i64, reading: i64) -> Option<i64>
+    ensures { (x : ℕ) → IsWord x → bound ≤ℤ signed x → signed x ≢ reading → IsSignedFrom (signed x) result }
+{
+    if bound == reading {
+        reading.checked_add(1)
+    } else {
+        Some(bound)
+    }
+}
+
+fn signed_lowered(bound: i64, reading: i64) -> Option<i64>
+    ensures { (x : ℕ) → IsWord x → signed x ≤ℤ bound → signed x ≢ reading → IsSignedUpTo (signed x) result }
+{
+    if bound == reading {
+        reading.checked_sub(1)
+    } else {
+        Some(bound)
+    }
+}

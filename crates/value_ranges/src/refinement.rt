@@ -1,0 +1,61 @@
+//! What a condition says of the ranges of its words.
+ghost use Rattle.std.specs.Prelude.{ℕ, ◌≡◌, ◌%◌, ◌<◌, ◌≤◌, ◌^◌, IfSome, IsTrue};
+ghost use Rattle.bpf_model.specs.Words.{signed};
+ghost use Rattle.bpf_model.specs.Conditions.{compare, holds};
+ghost use Rattle.value_ranges.specs.In.{IsIn, IsWithin, IsInSome, AreInSome};
+
+use crate::bounds::Bounds;
+use crate::comparisons::{
+    at_least, both, equal, greater, signed_at_least, signed_greater, swapped,
+};
+use crate::exclusion::unequal;
+use crate::range::Range;
+use bpf_model::{Condition, Width};
+
+/// The ranges in which the words of these lie where the condition holds of them; none where it holds of no pair.
+///
+/// At 32 bits the bounds count where all words of both ranges are below 2 to the 31, where low parts and words have
+/// the same readings. Elsewhere the ranges stay, and none is answered only where both have one word.
+pub fn refine(condition: Condition, width: Width, a: Range, b: Range) -> Option<(Range, Range)>
+    ensures { (x y : ℕ) → IsIn x a → IsIn y b → IsTrue (holds condition width x y) → AreInSome x y result }
+{
+    match width {
+        Width::W64 => refine_words(condition, a, b),
+        Width::W32 => {
+            if a.umax < 0x8000_0000 && b.umax < 0x8000_0000 {
+                refine_words(condition, a, b)
+            } else {
+                kept(condition, width, a, b)
+            }
+        }
+    }
+}
+
+// by the whole words
+fn refine_words(condition: Condition, a: Range, b: Range) -> Option<(Range, Range)>
+    ensures { (x y : ℕ) → IsIn x a → IsIn y b → IsTrue (compare condition x y (signed x) (signed y)) → AreInSome x y result }
+{
+    match condition {
+        Condition::Eq => equal(a, b),
+        Condition::Ne => unequal(a, b),
+        Condition::Gt => greater(a, b),
+        Condition::Ge => at_least(a, b),
+        Condition::Lt => swapped(greater(b, a)),
+        Condition::Le => swapped(at_least(b, a)),
+        Condition::SGt => signed_greater(a, b),
+        Condition::SGe => signed_at_least(a, b),
+        Condition::SLt => swapped(signed_greater(b, a)),
+        Condition::SLe => swapped(signed_at_least(b, a)),
+        Condition::CommonBit | Condition::NoCommonBit => kept(condition, Width::W64, a, b),
+    }
+}
+
+// the ranges themselves; none where each has one word and the condition is false
+fn kept(condition: Condition, width: Width, a: Range, b: Range) -> Option<(Range, Range)>
+    ensures { (x y : ℕ) → IsIn x a → IsIn y b → IsTrue (holds condition width x y) → AreInSome x y result }
+{
+    match (a.single_value(), b.single_value()) {
+        (Some(x), Some(y)) if !condition.holds(width, x, y) => None,
+        _ => both(Bounds::of(a), Bounds::of(b)),
+    }
+}
