@@ -1,4 +1,5 @@
 //! Tests of `bpfmap_on` over memory.
 mod answers;
+mod arithmetic;
 mod faults;
 mod memory;
