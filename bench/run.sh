@@ -1,0 +1,44 @@
+#!/usr/bin/env bash
+# Times `run` of bpf_machine beside a plain C loop over decoded instructions, in one go: a whole run of the six-instruction
+# sum, and one instruction of 500 of arithmetic. By hand, not by the gate. A first time takes minutes, since a program is
+# built only when all below it is proved.
+set -euo pipefail
+cd "$(dirname "$0")/.."
+work=$(mktemp -d)
+trap 'rm -rf "$work"' EXIT
+cp -r crates crates.txt HANDLES "$work"
+mkdir -p "$work/crates/bench/src"
+cp bench/main.rt.in "$work/crates/bench/src/main.rt"
+echo "bench: map_server bpf_model bpf_decode flow_shape verifier bpf_machine" >> "$work/crates.txt"
+gcc -O2 -o "$work/interpreter" bench/interpreter.c
+
+cp bench/sum.hex "$work/sum.hex"
+{
+    echo "b700000001000000 b709000002000000"
+    for _ in $(seq 49); do cat bench/turn.hex; done
+    for _ in $(seq 6); do echo 0f09000000000000; done
+    echo "7b94000000000000 b700000008000000 9500000000000000"
+} > "$work/alu.hex"
+(cd "$work/crates/bench" && rt run -- 0 < "$work/sum.hex" > "$work/build.log") || { cat "$work/build.log"; exit 1; }
+
+# nanoseconds that a command takes
+elapsed() {
+    local start end
+    start=$(date +%s%N)
+    "$@" > "$work/out"
+    end=$(date +%s%N)
+    echo $((end - start))
+}
+rattle() { "$work/crates/bench/out/bench" "$2" < "$work/$1.hex"; }
+plain() { "$work/interpreter" "$1" "$2"; }
+
+# program, runs, what a figure is of, parts of a run
+measure() {
+    local ours theirs
+    ours=$(($(elapsed rattle "$1" "$2") - $(elapsed rattle "$1" 0)))
+    theirs=$(($(elapsed plain "$1" "$2") - $(elapsed plain "$1" 0)))
+    awk -v ours="$ours" -v theirs="$theirs" -v n="$(($2 * $4))" -v what="$3" \
+        'BEGIN { printf "%s: run %.2f ns, plain C %.2f ns, ratio %.2f\n", what, ours / n, theirs / n, ours / theirs }'
+}
+measure sum 5000000 "a run of the sum" 1
+measure alu 200000 "an instruction of 500" 501
