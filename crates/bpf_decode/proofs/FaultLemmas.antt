@@ -7,15 +7,14 @@ use Rattle.bpf_model.specs.declared.instruction.Insn.{Insn}
 use Rattle.bpf_model.specs.Words.{IsWord}
 use Rattle.bpf_model.specs.Program.{unit_count}
 use Rattle.bpf_model.specs.Spelling.{Fields, fields_of, unit_bytes, second_unit, second_bytes, spelling, spelling_of_all, IsInstruction, AreInstructions, Spells}
-use Rattle.bpf_model.proofs.ProgramLemmas.{length-unit_count, units_of-some}
+use Rattle.bpf_model.proofs.ProgramLemmas.{length-unit_count}
 use Rattle.bpf_model.specs.declared.limits.TheConstants.{PROGRAM_UNITS}
 use Rattle.bpf_model.proofs.Options.{test_of}
 use Rattle.std.proofs.lemmas.List.{append-nil, nil_from_length}
 use Rattle.bpf_decode.specs.declared.fault.DecodeFault.{DecodeFault}
 use Rattle.bpf_decode.specs.declared.fault.DecodeFault.TheVariants.{NoMemory}
 use Rattle.bpf_decode.specs.declared.fault.UnitFault.{UnitFault}
-use Rattle.bpf_decode.specs.declared.fault.UnitFault.TheVariants.{UnusedNotZero, CutWide}
-use Rattle.bpf_decode.specs.UnitFaults.{FitUnit, fault_of, has_imm_alone, BeginsWithMore, HasSecondFault, HasFault}
+use Rattle.bpf_decode.specs.UnitFaults.{FitUnit, fault_of, has_imm_alone, HasSecondFault, HasFault}
 use Rattle.bpf_decode.specs.Faults.{length_fault, at_unit, IsFirstFault, GivesUnlessNoMemory}
 use Rattle.bpf_decode.proofs.UnitLemmas.{length-unit_bytes, unit_bytes-first}
 use Rattle.bpf_decode.proofs.FieldLemmas.{fit-fields_of, fit-second_unit, fault_of-fields_of}

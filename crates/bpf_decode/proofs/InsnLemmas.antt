@@ -1,5 +1,5 @@
 -- The instruction that a unit's fields tell, with the upper half of a wide value. So no two have one spelling.
-use Rattle.std.proofs.Common.{◌≡◌, ℕ, ◌+◌, ◌*◌, ◌/◌, ◌%◌, ◌^◌, ◌<◌, ◌≤◌, false, true, List, ◌++◌, refl, ap, ◌∙◌, arith, ℤ, pos}
+use Rattle.std.proofs.Common.{◌≡◌, ℕ, ◌+◌, ◌*◌, ◌/◌, ◌%◌, ◌^◌, ◌<◌, List, ◌++◌, refl, ap, ◌∙◌, arith, ℤ, pos}
 use Rattle.std.specs.Prelude.{nat_eq, if◌then◌else◌}
 use Rattle.std.specs.Ordering.{int_eq}
 use Rattle.std.specs.Int.{w32, cast_signed, cast_unsigned}
@@ -24,14 +24,13 @@ use Rattle.bpf_model.specs.declared.instruction.Operand.{Operand}
 use Rattle.bpf_model.specs.declared.instruction.Operand.TheVariants.{Register, Immediate}
 use Rattle.bpf_model.specs.declared.instruction.Insn.{Insn}
 use Rattle.bpf_model.specs.declared.instruction.Insn.TheVariants.{Alu, Negate, Mov, SignExtend, Reorder, Wide, Load, Store, Jump, JumpLong, Branch, Exit}
-use Rattle.bpf_model.specs.Words.{IsWord}
 use Rattle.bpf_model.specs.Accesses.{loaded_size}
-use Rattle.bpf_model.specs.Arithmetic.{extension_bits, extension_width, swap_bits}
-use Rattle.bpf_model.specs.Spelling.{Fields, opcode, access_opcode, class_ldx, alu_class, jump_class, store_class, source_x, source_of, src_of, imm_of, code_of, offset_of, neg_code, mov_code, end_code, exit_code, test_code, size_code, mode_mem, mode_of, fields_of, second_unit, second_bytes, IsInstruction}
+use Rattle.bpf_model.specs.Arithmetic.{swap_bits}
+use Rattle.bpf_model.specs.Spelling.{Fields, opcode, class_ldx, alu_class, jump_class, source_x, source_of, src_of, imm_of, code_of, offset_of, neg_code, mov_code, end_code, exit_code, test_code, size_code, mode_mem, mode_of, fields_of, second_unit, second_bytes, IsInstruction}
 use Rattle.bpf_decode.specs.Opcodes.{is_test_code}
 use Rattle.bpf_decode.proofs.UnitLemmas.{fields_at, fields_at-unit_bytes}
-use Rattle.bpf_decode.proofs.OpcodeLemmas.{AluFacts, alu_facts, test_code-listed, size_code-few, class_in-access, size_in-access, mode_in-access}
-use Rattle.bpf_decode.proofs.FieldLemmas.{source_of-few, store_class-few, fit-second_unit}
+use Rattle.bpf_decode.proofs.OpcodeLemmas.{alu_facts, test_code-listed, size_code-few, class_in-access, size_in-access, mode_in-access}
+use Rattle.bpf_decode.proofs.FieldLemmas.{source_of-few, fit-second_unit}
 
 -- what a code, and what stands beside it, stands for
 alu_op_at : ℕ → ℤ → AluOp

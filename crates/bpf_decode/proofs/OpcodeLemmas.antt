@@ -1,7 +1,6 @@
 -- Opcodes from their parts, and which fields they use.
-use Rattle.std.proofs.Common.{◌≡◌, ◌≢◌, ℕ, ◌+◌, ◌*◌, ◌/◌, ◌%◌, ◌<◌, ◌≤◌, Bool, false, true, ◌&&◌, ◌||◌, Option, Some, None, refl, sym, ap, ◌∙◌, arith, ℤ, pos}
-use Rattle.std.specs.Prelude.{nat_eq, nat_lt}
-use Rattle.std.specs.Ordering.{int_eq}
+use Rattle.std.proofs.Common.{◌≡◌, ◌≢◌, ℕ, ◌/◌, ◌%◌, ◌<◌, Bool, false, true, ◌&&◌, ◌||◌, Option, Some, refl, sym, ap, ◌∙◌, arith, pos}
+use Rattle.std.specs.Prelude.{nat_eq}
 use Rattle.std.proofs.lemmas.Bool.Decides.{nat_tests}
 use Rattle.bpf_model.specs.declared.operations.AluOp.{AluOp}
 use Rattle.bpf_model.specs.declared.operations.AluOp.TheVariants.{Add, Sub, Mul, Div, SDiv, Or, And, Lsh, Rsh, Mod, SMod, Xor, Arsh}
@@ -16,7 +15,7 @@ use Rattle.bpf_model.specs.declared.accesses.AccessSize.TheVariants.{Byte, HalfW
 use Rattle.bpf_model.specs.declared.accesses.LoadKind.{LoadKind}
 use Rattle.bpf_model.specs.declared.accesses.LoadKind.TheVariants.{Byte as LoadByte, HalfWord as LoadHalfWord, Word as LoadWord, DoubleWord as LoadDoubleWord, SignedByte, SignedHalfWord, SignedWord}
 use Rattle.bpf_model.specs.Accesses.{loaded_size}
-use Rattle.bpf_model.specs.Spelling.{Fields, opcode, access_opcode, class_ldx, class_st, class_stx, alu_class, jump_class, source_k, source_x, code_of, offset_of, neg_code, mov_code, end_code, test_code, size_code, mode_mem, mode_of, order_source, order_width}
+use Rattle.bpf_model.specs.Spelling.{Fields, opcode, access_opcode, class_ldx, alu_class, jump_class, source_k, source_x, code_of, offset_of, neg_code, mov_code, end_code, test_code, size_code, mode_mem, mode_of, order_source}
 use Rattle.bpf_decode.specs.declared.operation.Source.{Source}
 use Rattle.bpf_decode.specs.declared.operation.Source.TheVariants.{Immediate, Register}
 use Rattle.bpf_decode.specs.declared.operation.Operation.{Operation}

@@ -1,5 +1,5 @@
 -- Instructions and their spellings.
-use Rattle.std.proofs.Common.{◌≡◌, ℕ, ◌+◌, ◌-◌, ◌*◌, ◌/◌, ◌%◌, ◌^◌, ◌<◌, ◌≤◌, true, take, drop, suc, Some, List, [], ◌∷◌, ◌++◌, length, refl, sym, ap, ◌∙◌, append_assoc, arith, length-append, pos}
+use Rattle.std.proofs.Common.{◌≡◌, ℕ, ◌+◌, ◌-◌, ◌*◌, ◌/◌, ◌%◌, ◌<◌, ◌≤◌, take, drop, suc, Some, List, [], ◌∷◌, ◌++◌, length, refl, sym, ap, ◌∙◌, append_assoc, arith, length-append}
 use Rattle.std.specs.Prelude.{slice_get}
 use Rattle.std.proofs.lemmas.List.{append-nil, append_cancel_left, take-append-drop}
 use Rattle.std.proofs.lemmas.List.Concat.{flat_map-cons}
@@ -10,7 +10,7 @@ use Rattle.bpf_model.specs.Words.{bytes_of}
 use Rattle.bpf_model.specs.Program.{units_of, unit_count}
 use Rattle.bpf_model.specs.Spelling.{Fields, unit_bytes, fields_of, second_bytes, spelling, spelling_of_all, IsInstruction, AreInstructions}
 use Rattle.bpf_model.proofs.ProgramLemmas.{units_of-some, length-unit_count, unit_count-next, unit_count-take}
-use Rattle.bpf_decode.proofs.UnitLemmas.{fields_at, fields_at-unit_bytes, length-unit_bytes, unit_bytes-first}
+use Rattle.bpf_decode.proofs.UnitLemmas.{fields_at, fields_at-unit_bytes}
 use Rattle.bpf_decode.proofs.FieldLemmas.{fit-fields_of}
 use Rattle.bpf_decode.proofs.InsnLemmas.{insn_of, insn_again}
 

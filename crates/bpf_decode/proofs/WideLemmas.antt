@@ -18,8 +18,6 @@ use Rattle.bpf_model.specs.Spelling.{Fields, opcode, access_opcode, class_ldx, a
 use Rattle.bpf_decode.specs.Opcodes.{dst_and_imm, wide_opcode}
 use Rattle.bpf_decode.specs.UnitFaults.{FitUnit, has_imm_alone}
 use Rattle.bpf_decode.specs.Operations.{AreOperands}
-use Rattle.bpf_decode.proofs.OpcodeLemmas.{class_in-access, size_code-few}
-use Rattle.bpf_decode.proofs.FieldLemmas.{store_class-few}
 
 -- fields are equal where each of them is
 fields_are : (f : Fields) (opcode dst src : ℕ) (offset imm : ℤ) → f.opcode ≡ opcode → f.dst ≡ dst → f.src ≡ src → f.offset ≡ offset → f.imm ≡ imm

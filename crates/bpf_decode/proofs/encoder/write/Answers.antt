@@ -1,4 +1,4 @@
-use Rattle.std.proofs.Common.{◌≡◌, ◌∙◌, ◌++◌, ap, subst, arith}
+use Rattle.std.proofs.Common.{◌∙◌, ◌++◌, ap, subst}
 use Rattle.bpf_model.specs.Spelling.{IsRegister, unit_bytes}
 use Rattle.bpf_decode.specs.UnitFaults.{FitUnit}
 use Rattle.bpf_decode.proofs.Outcomes.{where_ok}
