@@ -5,7 +5,7 @@ ghost use Rattle.value_ranges.specs.In.{IsIn, IsWithin, IsInSome};
 use crate::range::Range;
 
 /// Bounds in any order.
-#[derive(Clone, Copy, Debug, PartialEq, Eq)]
+#[derive(Clone, Copy)]
 pub struct Bounds {
     pub umin: u64,
     pub umax: u64,
