@@ -1,5 +1,5 @@
 //! What bounds of one reading say of the other.
-ghost use Rattle.std.specs.Prelude.{ℕ, ◌≤◌, ◌≤ℤ◌, ◌<◌, ◌+◌};
+ghost use Rattle.std.specs.Prelude.{ℕ};
 ghost use Rattle.value_ranges.specs.In.{IsIn, IsWithin, IsInSome};
 
 use crate::range::Range;
