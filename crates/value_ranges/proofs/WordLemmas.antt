@@ -5,7 +5,6 @@ use Rattle.std.specs.Int.{w64}
 use Rattle.std.proofs.lemmas.Int.{ints, to_z_pos}
 use Rattle.std.proofs.lemmas.Bool.{cases_lt}
 use Rattle.std.proofs.lemmas.Bool.Decides.{nat_tests}
-use Rattle.std.proofs.lemmas.Nat.{mod_below}
 use Rattle.bpf_model.specs.declared.operations.Width.{Width}
 use Rattle.bpf_model.specs.declared.operations.Width.TheVariants.{W32, W64}
 use Rattle.bpf_model.specs.Arithmetic.{modulus}
@@ -37,7 +36,3 @@ unsigned_part x a b c d p = record { word = p.word; umin = p.umin; umax = p.umax
 
 pub signed_part : (x a b : ℕ) (c d : ℤ) → IsWithinBoth x a b c d → IsWithinSigned x c d
 signed_part x a b c d p = record { word = p.word; smin = p.smin; smax = p.smax }
-
--- a low part, by the greatest number of its width
-pub low_part : (x g m : ℕ) → IsWord g → g + 1 ≡ m → IsWithinUnsigned (x % m) 0 g
-low_part x g m h e = let below : x % m < m = mod_below x m (omega arith) in record { word = omega arith; umin = omega arith; umax = omega arith }

@@ -1,6 +1,6 @@
 //! Ranges of what the operations on single bits give.
 ghost use Rattle.std.specs.Prelude.{ℕ, ◌≡◌, ◌+◌, ◌<◌, ◌≤◌, ◌^◌, bit_and, bit_or, bit_xor};
-ghost use Rattle.value_ranges.specs.In.{IsIn, IsWithinUnsigned, IsSignedUpToMask};
+ghost use Rattle.value_ranges.specs.In.{IsIn, IsSignedUpToMask};
 
 use crate::range::Range;
 

@@ -1,11 +1,11 @@
 //! What bounds of one reading say of the other.
-ghost use Rattle.std.specs.Prelude.{ℕ, ◌≤◌, ◌≤ℤ◌, ◌<◌, ◌+◌};
+ghost use Rattle.std.specs.Prelude.{ℕ};
 ghost use Rattle.value_ranges.specs.In.{IsIn, IsWithin, IsInSome};
 
 use crate::range::Range;
 
 /// Bounds in any order.
-#[derive(Clone, Copy, Debug, PartialEq, Eq)]
+#[derive(Clone, Copy)]
 pub struct Bounds {
     pub umin: u64,
     pub umax: u64,

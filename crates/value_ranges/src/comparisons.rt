@@ -1,7 +1,7 @@
 //! What comparisons of words say of their ranges.
-ghost use Rattle.std.specs.Prelude.{ℕ, ◌≡◌, ◌+◌, ◌-◌, ◌<◌, ◌≤◌, ◌≤ℤ◌, ◌<ℤ◌, ◌^◌};
-ghost use Rattle.bpf_model.specs.Words.{IsWord, signed};
-ghost use Rattle.value_ranges.specs.In.{IsIn, IsWithin, IsInSome, AreInSome};
+ghost use Rattle.std.specs.Prelude.{ℕ, ◌≡◌, ◌<◌, ◌≤◌, ◌≤ℤ◌, ◌<ℤ◌};
+ghost use Rattle.bpf_model.specs.Words.{signed};
+ghost use Rattle.value_ranges.specs.In.{IsIn, IsWithin, AreInSome};
 
 use crate::bounds::Bounds;
 use crate::range::Range;

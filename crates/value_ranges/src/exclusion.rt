@@ -1,7 +1,7 @@
 //! What it says of a range that its word is not another one.
-ghost use Rattle.std.specs.Prelude.{ℕ, ◌≡◌, ◌≢◌, ◌+◌, ◌-◌, ◌<◌, ◌≤◌, ◌≤ℤ◌, ◌^◌, IfSome};
+ghost use Rattle.std.specs.Prelude.{ℕ, ◌≢◌, ◌≤◌, ◌≤ℤ◌};
 ghost use Rattle.bpf_model.specs.Words.{IsWord, signed};
-ghost use Rattle.value_ranges.specs.In.{IsIn, IsWithin, IsInSome, AreInSome};
+ghost use Rattle.value_ranges.specs.In.{IsIn, IsInSome, AreInSome};
 ghost use Rattle.value_ranges.specs.Edges.{IsFrom, IsUpTo, IsSignedFrom, IsSignedUpTo};
 
 use crate::bounds::Bounds;

@@ -2,8 +2,8 @@
 //!
 //! The promise to the layers above: what an operation gives on words of its operands' ranges lies in the answered
 //! range (`alu`, `negate`, `mov`, `sign_extend`, `reorder`, clause `holds`); `refine` loses no pair of words of which
-//! the condition holds; `join` loses no word. Ranges need not be the least ones: the sum of a range that reaches the
-//! greatest word and a larger one is any word.
+//! the condition holds; `join` loses no word. Ranges need not be the least ones: 1 added to the two greatest words
+//! gives any unsigned reading. Their exact bounds are shown by the rows of `tests`, and promised by no contract.
 //! No call refuses, waits or takes memory. What it is to lie in a range: `specs/In.antt`; the arithmetic is bpf_model's.
 #![tactic(auto)]
 

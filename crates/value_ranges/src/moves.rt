@@ -1,7 +1,7 @@
 //! Ranges of moved, extended and reordered words.
-ghost use Rattle.std.specs.Prelude.{ℕ, ◌≡◌, ◌+◌, ◌*◌, ◌%◌, ◌<◌, ◌≤◌, ◌≤ℤ◌, ◌^◌, IfSome};
-ghost use Rattle.bpf_model.specs.Arithmetic.{modulus, mov_value, extended, extension_width, extension_half, reordered, swap_modulus};
-ghost use Rattle.value_ranges.specs.In.{IsIn, IsWithinUnsigned, IsWithinSigned, IsSingle};
+ghost use Rattle.std.specs.Prelude.{ℕ, ◌≡◌, ◌+◌, ◌≤◌, ◌^◌};
+ghost use Rattle.bpf_model.specs.Arithmetic.{mov_value, extended, extension_half, reordered, swap_modulus};
+ghost use Rattle.value_ranges.specs.In.{IsIn, IsSingle};
 
 use crate::range::Range;
 use bpf_model::{ByteOrder, SignExtension, SwapWidth, Width};

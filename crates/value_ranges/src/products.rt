@@ -1,7 +1,7 @@
 //! Ranges of products, quotients and remainders.
-ghost use Rattle.std.specs.Prelude.{ℕ, ◌≡◌, ◌+◌, ◌-◌, ◌*◌, ◌/◌, ◌%◌, ◌<◌, ◌≤◌, ◌^◌};
-ghost use Rattle.bpf_model.specs.Arithmetic.{modulus, product_of, quotient_of, remainder_of};
-ghost use Rattle.value_ranges.specs.In.{IsIn, IsWithinUnsigned};
+ghost use Rattle.std.specs.Prelude.{ℕ};
+ghost use Rattle.bpf_model.specs.Arithmetic.{product_of, quotient_of, remainder_of};
+ghost use Rattle.value_ranges.specs.In.{IsIn};
 
 use crate::range::Range;
 use bpf_model::Width;

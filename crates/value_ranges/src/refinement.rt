@@ -1,8 +1,8 @@
 //! What a condition says of the ranges of its words.
-ghost use Rattle.std.specs.Prelude.{ℕ, ◌≡◌, ◌%◌, ◌<◌, ◌≤◌, ◌^◌, IfSome, IsTrue};
+ghost use Rattle.std.specs.Prelude.{ℕ, IsTrue};
 ghost use Rattle.bpf_model.specs.Words.{signed};
 ghost use Rattle.bpf_model.specs.Conditions.{compare, holds};
-ghost use Rattle.value_ranges.specs.In.{IsIn, IsWithin, IsInSome, AreInSome};
+ghost use Rattle.value_ranges.specs.In.{IsIn, AreInSome};
 
 use crate::bounds::Bounds;
 use crate::comparisons::{

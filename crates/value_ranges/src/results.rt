@@ -1,6 +1,6 @@
 //! Ranges of what the operations give.
-ghost use Rattle.std.specs.Prelude.{ℕ, ◌≡◌, ◌+◌, ◌%◌, ◌<◌, ◌≤◌, ◌^◌, IfSome};
-ghost use Rattle.bpf_model.specs.Arithmetic.{modulus, low_value, alu_value, negated, difference_of};
+ghost use Rattle.std.specs.Prelude.{ℕ, ◌≡◌, ◌<◌, ◌^◌};
+ghost use Rattle.bpf_model.specs.Arithmetic.{modulus, low_value, alu_value, negated};
 ghost use Rattle.value_ranges.specs.In.{IsIn, IsSingle, IsSignedUpToMask};
 
 use crate::bits::{and, or, xor};

@@ -1,7 +1,7 @@
 //! Ranges of shifts.
-ghost use Rattle.std.specs.Prelude.{ℕ, ◌≡◌, ◌+◌, ◌-◌, ◌*◌, ◌/◌, ◌%◌, ◌<◌, ◌≤◌, ◌≤ℤ◌, ◌^◌, IfSome};
-ghost use Rattle.bpf_model.specs.Arithmetic.{modulus, bits_of, shifted_left, shifted_right, signed_right};
-ghost use Rattle.value_ranges.specs.In.{IsIn, IsWithinUnsigned, IsWithinSigned};
+ghost use Rattle.std.specs.Prelude.{ℕ, ◌<◌};
+ghost use Rattle.bpf_model.specs.Arithmetic.{modulus, shifted_left, shifted_right, signed_right};
+ghost use Rattle.value_ranges.specs.In.{IsIn};
 
 use crate::range::Range;
 use bpf_model::Width;

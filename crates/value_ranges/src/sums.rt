@@ -1,8 +1,8 @@
 //! Ranges of sums and differences.
-ghost use Rattle.std.specs.Prelude.{ℕ, ◌≡◌, ◌+◌, ◌-◌, ◌%◌, ◌<◌, ◌≤◌, ◌≤ℤ◌, ◌^◌, IfSome};
+ghost use Rattle.std.specs.Prelude.{ℕ, ◌+◌, ◌-◌, ◌%◌, ◌<◌, ◌^◌};
 ghost use Rattle.bpf_model.specs.Words.{IsWord};
 ghost use Rattle.bpf_model.specs.Arithmetic.{modulus, sum_of, difference_of};
-ghost use Rattle.value_ranges.specs.In.{IsIn, IsWithin, IsInSome, IsWithinUnsigned, IsWithinSigned};
+ghost use Rattle.value_ranges.specs.In.{IsIn, IsWithinUnsigned, IsWithinSigned};
 
 use crate::bounds::Bounds;
 use crate::range::Range;

@@ -1,5 +1,5 @@
 //! The words of either of two ranges.
-ghost use Rattle.std.specs.Prelude.{ℕ, ◌≡◌, ◌≤◌, ◌≤ℤ◌, min, max};
+ghost use Rattle.std.specs.Prelude.{ℕ, ◌≡◌, min, max};
 ghost use Rattle.std.specs.Int.{int_min, int_max};
 ghost use Rattle.value_ranges.specs.In.{IsIn};
 
