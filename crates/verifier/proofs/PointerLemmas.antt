@@ -25,15 +25,19 @@ pub record IsNear (offset : ℤ) : Type 0 where
   pub least : neg_ℤ (pos (2 ^ 20)) ≤ℤ offset
   pub most : offset ≤ℤ pos (2 ^ 20)
 
-pos_small : (n : ℕ) → pos n ≤ℤ pos (2 ^ 20) → n ≤ 2 ^ 20
-pos_small n h = omega (arith, ints)
+-- a number from -2^21 to 2^21 fits a signed word
+pos_fits : (n : ℕ) → pos n ≤ℤ pos (2 ^ 21) → n ≤ 2 ^ 21
+pos_fits n h = omega (arith, ints)
 
-neg_small : (n : ℕ) → neg_ℤ (pos (2 ^ 20)) ≤ℤ negsuc n → n < 2 ^ 20
-neg_small n h = omega (arith, ints)
+neg_fits : (n : ℕ) → neg_ℤ (pos (2 ^ 21)) ≤ℤ negsuc n → n < 2 ^ 21
+neg_fits n h = omega (arith, ints)
+
+between_fits : (z : ℤ) → neg_ℤ (pos (2 ^ 21)) ≤ℤ z → z ≤ℤ pos (2 ^ 21) → SFits w64 z
+between_fits (pos n) low high = let s : n ≤ 2 ^ 21 = pos_fits n high in record { sfits = omega arith }
+between_fits (negsuc n) low high = let s : n < 2 ^ 21 = neg_fits n low in record { sfits = omega arith }
 
 near_fits : (z : ℤ) → IsNear z → SFits w64 z
-near_fits (pos n) near = let s : n ≤ 2 ^ 20 = pos_small n near.most in record { sfits = omega arith }
-near_fits (negsuc n) near = let s : n < 2 ^ 20 = neg_small n near.least in record { sfits = omega arith }
+near_fits z near = between_fits z (omega (arith, ints, near.least)) (omega (arith, ints, near.most))
 
 -- the bits of a small number, as a linear fact
 near_bits : (z : ℤ) → IsNear z → (sign_extended z < 2 ^ 64) × (z +ℤ pos (2 ^ 63) ≡ pos ((sign_extended z + 2 ^ 63) % 2 ^ 64))
@@ -109,13 +113,6 @@ first_small Arg = omega arith
 first_small Result = omega arith
 first_small Stack = omega arith
 
-pub first_some : (r : Region) → 0x10000 ≤ first_address r
-first_some Key = omega arith
-first_some Old = omega arith
-first_some Arg = omega arith
-first_some Result = omega arith
-first_some Stack = omega arith
-
 -- so an address near one is read as first address and offset
 pub signed_address : (first : ℕ) (offset : ℤ) → first ≤ 0x50000 → IsNear offset → signed (address_of first offset) ≡ pos first +ℤ offset
 signed_address first offset small near =
@@ -135,12 +132,6 @@ points_within p w low high l h at =
       smax = omega (arith, ints, reads, h, at.greatest);
     }
 
--- where the least offset is the greatest there is one address
-pub points_only : (p : Pointer) (w : ℕ) → p.least ≡ p.greatest → PointsTo p w → w ≡ address_of (first_address p.region) p.least
-points_only p w same at =
-    let is : at.offset ≡ p.least = omega (arith, ints, same, at.least, at.greatest) in
-    at.address ∙ ap (λ (z : ℤ). address_of (first_address p.region) z) is
-
 -- sums and differences of words, as pointers give them
 pub sum_is : (x y : ℕ) → (x + y) % 2 ^ 64 ≡ alu_value Add W64 x y
 sum_is x y = omega arith
@@ -157,18 +148,7 @@ stands_word Unwritten w stands = stands
 stands_word (Number r) w stands = stands.word
 stands_word (PointerInto p) w stands = rw stands.address (omega arith)
 
--- a number from -2^21 to 2^21 fits a signed word
-pos_fits : (n : ℕ) → pos n ≤ℤ pos (2 ^ 21) → n ≤ 2 ^ 21
-pos_fits n h = omega (arith, ints)
-
-neg_fits : (n : ℕ) → neg_ℤ (pos (2 ^ 21)) ≤ℤ negsuc n → n < 2 ^ 21
-neg_fits n h = omega (arith, ints)
-
-between_fits : (z : ℤ) → neg_ℤ (pos (2 ^ 21)) ≤ℤ z → z ≤ℤ pos (2 ^ 21) → SFits w64 z
-between_fits (pos n) low high = let s : n ≤ 2 ^ 21 = pos_fits n high in record { sfits = omega arith }
-between_fits (negsuc n) low high = let s : n < 2 ^ 21 = neg_fits n low in record { sfits = omega arith }
-
--- so the first address with an offset does
+-- so the first address with an offset fits a signed word
 pub address_fits : (first : ℕ) (z : ℤ) → first ≤ 0x50000 → IsNear z → SFits w64 (pos first +ℤ z)
 address_fits first z small near = between_fits (pos first +ℤ z) (omega (arith, ints, near.least)) (omega (arith, ints, near.most, small))
 

@@ -1,5 +1,5 @@
 //! What arithmetic makes of register values.
-ghost use Rattle.std.specs.Prelude.{ℕ, ◌+◌, ◌-◌, ◌%◌, ◌^◌, Some};
+ghost use Rattle.std.specs.Prelude.{◌≡◌, ℕ, ◌+◌, ◌-◌, ◌%◌, ◌^◌, Some};
 ghost use Rattle.bpf_model.specs.Arithmetic.{alu_value, mov_value};
 ghost use Rattle.value_ranges.specs.In.{IsIn};
 ghost use Rattle.verifier.specs.Frames.{StandsFor, PointsTo};
@@ -29,6 +29,7 @@ pub fn operate(op: AluOp, width: Width, a: RegValue, b: RegValue) -> RegValue
 /// What is known of a moved word: at 64 bits what was known of it.
 pub fn moved(width: Width, value: RegValue) -> RegValue
     ensures holds { (x : ℕ) → StandsFor value (Some x) → StandsFor result (Some (mov_value width x)) }
+    ensures whole { width ≡ Width.W64 → result ≡ value }
 {
     match width {
         Width::W64 => value,
