@@ -19,7 +19,7 @@ cp bench/sum.hex "$work/sum.hex"
     for _ in $(seq 6); do echo 0f09000000000000; done
     echo "7b94000000000000 b700000008000000 9500000000000000"
 } > "$work/alu.hex"
-(cd "$work/crates/bench" && rt run -- 0 < "$work/sum.hex" > "$work/build.log") || { cat "$work/build.log"; exit 1; }
+(cd "$work/crates/bench" && rt run -- 0 < "$work/sum.hex" > "$work/build.log" 2>&1) || { cat "$work/build.log"; exit 1; }
 
 # nanoseconds that a command takes
 elapsed() {
