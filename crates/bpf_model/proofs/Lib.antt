@@ -9,4 +9,6 @@ pub mod ConditionLaws
 pub mod RunLaws
 pub mod StepLaws
 pub mod ByteOrderLaws
+pub mod UnitLaws
+pub mod InstructionLaws
 pub mod SpellingLaws

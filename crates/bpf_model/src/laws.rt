@@ -56,7 +56,7 @@ impl SignExtension {
         ensures exact { IsTrue result ↔ (n < modulus (extension_width self)) }
         ensures extended { (x : ℕ) → extended self x < modulus (extension_width self) }
     {
-        self.width().has(n)
+        n <= self.width().greatest()
     }
 }
 

@@ -1,4 +1,4 @@
-//! Values worked out by hand from RFC 9669: what the definitions give on words at the edges of both widths.
+//! What RFC 9669 gives on words at the edges of both widths. The values were worked out apart from this program.
 use crate::AluOp::{Add, And, Arsh, Div, Lsh, Mod, Mul, Or, Rsh, SDiv, SMod, Sub, Xor};
 use crate::Width::{self, W32, W64};
 use crate::{
