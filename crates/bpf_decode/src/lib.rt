@@ -4,7 +4,8 @@
 //! `only`), want of memory aside, and else names the first faulty unit and there the least number (`first_fault` and
 //! `refused`). `encode` gives the spelling (`spelled`), so decoding what was encoded gives it back. Spelling is a
 //! definition of bpf_model, after RFC 9669; which fault is first stands in `specs/Faults.antt`, which one a unit has in
-//! `specs/UnitFaults.antt`, and which fields an opcode uses in `specs/Opcodes.antt`. Each call asks for memory once, for its result, and waits for nobody.
+//! `specs/UnitFaults.antt`, and which fields an opcode uses in `specs/Opcodes.antt`. Each call asks for memory once,
+//! for its result, and waits for nobody.
 #![tactic(auto)]
 
 mod codes;
