@@ -2,7 +2,10 @@
 ghost use Rattle.std.specs.Prelude.{◌≤◌};
 
 use super::*;
-use bpf_model::{AccessSize, AluOp, Insn, Key, LoadKind, Operand, Program, Reg, Sizes, TooLong, Value, Width, Window};
+use bpf_model::{
+    AccessSize, AluOp, Insn, Key, LoadKind, Operand, Program, Reg, Sizes, TooLong, Value, Width,
+    Window,
+};
 use flow_shape::shape;
 use std::test::Fail;
 use verifier::{Verified, verify};
