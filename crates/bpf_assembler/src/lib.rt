@@ -1,0 +1,8 @@
+//! Programs from text, and text from programs: one instruction a line.
+#![tactic(auto)]
+
+mod mnemonic;
+mod printer;
+mod tables;
+
+pub use printer::disassemble;
