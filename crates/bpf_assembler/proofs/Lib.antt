@@ -1,1 +1,2 @@
 pub mod SignLemmas
+pub mod NameLemmas

@@ -1,5 +1,5 @@
 -- The names of instructions: a word for what is done, and one for the width, the size or the kind.
-use Rattle.std.specs.Prelude.{ℕ, List, [], ◌++◌, codes}
+use Rattle.std.specs.Prelude.{ℕ, List, [], ◌∷◌, ◌++◌, codes, map}
 use Rattle.bpf_model.specs.declared.operations.AluOp.{AluOp}
 use Rattle.bpf_model.specs.declared.operations.AluOp.TheVariants.{Add, Sub, Mul, Div, SDiv, Or, And, Lsh, Rsh, Mod, SMod, Xor, Arsh}
 use Rattle.bpf_model.specs.declared.operations.Width.{Width}
@@ -16,6 +16,8 @@ use Rattle.bpf_model.specs.declared.accesses.AccessSize.{AccessSize}
 use Rattle.bpf_model.specs.declared.accesses.AccessSize.TheVariants.{Byte, HalfWord, Word, DoubleWord}
 use Rattle.bpf_model.specs.declared.accesses.LoadKind.{LoadKind}
 use Rattle.bpf_model.specs.declared.accesses.LoadKind.TheVariants.{Byte as LoadByte, HalfWord as LoadHalfWord, Word as LoadWord, DoubleWord as LoadDoubleWord, SignedByte, SignedHalfWord, SignedWord}
+use Rattle.bpf_assembler.specs.declared.mnemonic.Stem.{Stem}
+use Rattle.bpf_assembler.specs.declared.mnemonic.Stem.TheVariants as stem
 use Rattle.bpf_assembler.specs.declared.mnemonic.Mnemonic.{Mnemonic}
 use Rattle.bpf_assembler.specs.declared.mnemonic.Mnemonic.TheVariants.{Alu, Negate, Mov, SignExtend, Reorder, Wide, Load, Store, StoreImmediate, Jump, JumpLong, Branch, Exit}
 
@@ -84,23 +86,39 @@ test_word Le = codes "jle"
 test_word SLt = codes "jslt"
 test_word SLe = codes "jsle"
 
--- what is done
-abbrev pub stem_of : Mnemonic → List ℕ
-stem_of (Alu op width) = alu_word op
-stem_of (Negate width) = codes "neg"
-stem_of (Mov width) = codes "mov"
-stem_of (SignExtend extension) = codes "sx"
-stem_of (Reorder order size) = order_word order
-stem_of Wide = codes "wide"
-stem_of (Load kind) = codes "ld"
-stem_of (Store size) = codes "stx"
-stem_of (StoreImmediate size) = codes "st"
-stem_of Jump = codes "ja"
-stem_of JumpLong = codes "jal"
-stem_of (Branch test width) = test_word test
-stem_of Exit = codes "exit"
+-- the word for what is done
+abbrev pub stem_word : Stem → List ℕ
+stem_word (stem.Alu op) = alu_word op
+stem_word stem.Negate = codes "neg"
+stem_word stem.Mov = codes "mov"
+stem_word stem.SignExtend = codes "sx"
+stem_word (stem.Reorder order) = order_word order
+stem_word stem.Wide = codes "wide"
+stem_word stem.Load = codes "ld"
+stem_word stem.Store = codes "stx"
+stem_word stem.StoreImmediate = codes "st"
+stem_word stem.Jump = codes "ja"
+stem_word stem.JumpLong = codes "jal"
+stem_word (stem.Branch test) = test_word test
+stem_word stem.Exit = codes "exit"
 
--- at which width, size or kind
+-- what is done
+abbrev pub stem_of : Mnemonic → Stem
+stem_of (Alu op width) = stem.Alu op
+stem_of (Negate width) = stem.Negate
+stem_of (Mov width) = stem.Mov
+stem_of (SignExtend extension) = stem.SignExtend
+stem_of (Reorder order size) = stem.Reorder order
+stem_of Wide = stem.Wide
+stem_of (Load kind) = stem.Load
+stem_of (Store size) = stem.Store
+stem_of (StoreImmediate size) = stem.StoreImmediate
+stem_of Jump = stem.Jump
+stem_of JumpLong = stem.JumpLong
+stem_of (Branch test width) = stem.Branch test
+stem_of Exit = stem.Exit
+
+-- the word for the width, the size or the kind
 abbrev pub suffix_of : Mnemonic → List ℕ
 suffix_of (Alu op width) = width_word width
 suffix_of (Negate width) = width_word width
@@ -117,4 +135,35 @@ suffix_of (Branch test width) = width_word width
 suffix_of Exit = []
 
 unfoldable pub name_of : Mnemonic → List ℕ
-name_of m = stem_of m ++ suffix_of m
+name_of m = stem_word (stem_of m) ++ suffix_of m
+
+-- all of each kind
+abbrev pub widths : List Width
+widths = W32 ∷ W64 ∷ []
+
+abbrev pub swap_widths : List SwapWidth
+swap_widths = S16 ∷ S32 ∷ S64 ∷ []
+
+abbrev pub extensions : List SignExtension
+extensions = From8To32 ∷ From16To32 ∷ From8To64 ∷ From16To64 ∷ From32To64 ∷ []
+
+abbrev pub sizes : List AccessSize
+sizes = Byte ∷ HalfWord ∷ Word ∷ DoubleWord ∷ []
+
+abbrev pub kinds : List LoadKind
+kinds = LoadByte ∷ LoadHalfWord ∷ LoadWord ∷ LoadDoubleWord ∷ SignedByte ∷ SignedHalfWord ∷ SignedWord ∷ []
+
+abbrev pub alu_stems : List Stem
+alu_stems = map stem.Alu (Add ∷ Sub ∷ Mul ∷ Div ∷ SDiv ∷ Or ∷ And ∷ Lsh ∷ Rsh ∷ Mod ∷ SMod ∷ Xor ∷ Arsh ∷ [])
+
+abbrev pub branch_stems : List Stem
+branch_stems = map stem.Branch (Eq ∷ Gt ∷ Ge ∷ Set ∷ Ne ∷ SGt ∷ SGe ∷ Lt ∷ Le ∷ SLt ∷ SLe ∷ [])
+
+abbrev pub reorder_stems : List Stem
+reorder_stems = map stem.Reorder (Little ∷ Big ∷ Swap ∷ [])
+
+abbrev pub other_stems : List Stem
+other_stems = stem.Negate ∷ stem.Mov ∷ stem.SignExtend ∷ stem.Wide ∷ stem.Load ∷ stem.Store ∷ stem.StoreImmediate ∷ stem.Jump ∷ stem.JumpLong ∷ stem.Exit ∷ []
+
+abbrev pub stems : List Stem
+stems = alu_stems ++ branch_stems ++ reorder_stems ++ other_stems

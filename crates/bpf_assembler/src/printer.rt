@@ -1,9 +1,11 @@
 //! Text from programs.
-ghost use Rattle.std.specs.Prelude.{◌≡◌, ◌++◌, codes, IfOk, OnOk, string_bytes};
+ghost use Rattle.std.specs.Prelude.{◌≡◌, ◌≤◌, ◌++◌, codes, IfOk, OnOk, string_bytes};
+ghost use Rattle.bpf_model.specs.Spelling.{IsOperand, IsInstruction};
 ghost use Rattle.bpf_assembler.specs.Names.{name_of};
 ghost use Rattle.bpf_assembler.specs.Text.{register, operand, offset, place, mnemonic_of, operands_of, line_of, text_of, IsTextOf};
 
 use crate::mnemonic::Mnemonic;
+use crate::tables::Named;
 use bpf_model::{Insn, NoMemory, Operand, Program, Reg};
 use std::alloc::{AllocError, Global};
 use std::fmt::Write;
@@ -12,11 +14,12 @@ use std::fmt::Write;
 fn write_name(text: &mut String, mnemonic: Mnemonic) -> Result<(), AllocError>
     ensures { OnOk result (string_bytes text.new ≡ string_bytes text.old ++ name_of mnemonic) }
 {
-    write!(text, "{}{}", mnemonic.stem(), mnemonic.suffix())
+    write!(text, "{}{}", mnemonic.stem().word(), mnemonic.suffix())
 }
 
 fn write_operand(text: &mut String, src: Operand) -> Result<(), AllocError>
-    ensures { OnOk result (string_bytes text.new ≡ string_bytes text.old ++ operand src) }
+    ensures text { OnOk result (string_bytes text.new ≡ string_bytes text.old ++ operand src) }
+    ensures fits { OnOk result (IsOperand src) }
 {
     match src {
         Operand::Register(r) => write!(text, "r{}", r.number()),
@@ -32,7 +35,8 @@ fn write_distance(text: &mut String, distance: i32) -> Result<(), AllocError>
 }
 
 fn write_place(text: &mut String, base: Reg, distance: i16) -> Result<(), AllocError>
-    ensures { OnOk result (string_bytes text.new ≡ string_bytes text.old ++ place base distance) }
+    ensures text { OnOk result (string_bytes text.new ≡ string_bytes text.old ++ place base distance) }
+    ensures fits { OnOk result (base ≤ 10) }
 {
     write!(text, "[r{}", base.number())?;
     write_distance(text, i32::from(distance))?;
@@ -41,7 +45,8 @@ fn write_place(text: &mut String, base: Reg, distance: i16) -> Result<(), AllocE
 
 #[tactic(auto, unfolding(crate::specs::Text::operands_of))]
 fn write_operands(text: &mut String, insn: Insn) -> Result<(), AllocError>
-    ensures { OnOk result (string_bytes text.new ≡ string_bytes text.old ++ operands_of insn) }
+    ensures text { OnOk result (string_bytes text.new ≡ string_bytes text.old ++ operands_of insn) }
+    ensures fits { OnOk result (IsInstruction insn) }
 {
     match insn {
         Insn::Alu { dst, src, .. } | Insn::Mov { dst, src, .. } => {
@@ -91,7 +96,8 @@ fn write_operands(text: &mut String, insn: Insn) -> Result<(), AllocError>
 
 #[tactic(auto, unfolding(crate::specs::Text::line_of))]
 fn write_line(text: &mut String, insn: &Insn) -> Result<(), AllocError>
-    ensures { OnOk result (string_bytes text.new ≡ string_bytes text.old ++ line_of insn.now) }
+    ensures text { OnOk result (string_bytes text.new ≡ string_bytes text.old ++ line_of insn.now) }
+    ensures fits { OnOk result (IsInstruction insn.now) }
 {
     write_name(text, Mnemonic::of(*insn))?;
     write_operands(text, *insn)?;

@@ -1,6 +1,7 @@
 //! The words that names of instructions are made of.
-ghost use Rattle.std.specs.Prelude.{◌≡◌, ℕ, List, Some, slice_get};
-ghost use Rattle.bpf_assembler.specs.Names.{alu_word, width_word, order_word, swap_word, extension_word, size_word, kind_word, test_word};
+ghost use Rattle.std.specs.Prelude.{◌≡◌, ℕ, List};
+ghost use Rattle.bpf_assembler.specs.Names.{alu_word, width_word, order_word, swap_word, extension_word, size_word, kind_word, test_word, widths, swap_widths, extensions, sizes, kinds};
+ghost use Rattle.bpf_assembler.specs.Reading.{named_at};
 
 use bpf_model::{AccessSize, AluOp, ByteOrder, JumpOp, LoadKind, SignExtension, SwapWidth, Width};
 
@@ -11,6 +12,27 @@ pub(crate) trait Named: Copy {
     /// Its word.
     fn word(self) -> &'static str
         ensures { result.now ≡ text self };
+}
+
+/// What can be found by its word.
+pub(crate) trait Listed: Named {
+    ghost values: { List Self };
+
+    /// All there are.
+    fn all() -> &'static [Self]
+        ensures { result.now ≡ values };
+}
+
+/// What has this word; none where nothing has it.
+pub(crate) fn with_word<T: Listed + 'static>(text: &[u8]) -> Option<T>
+    ensures { result ≡ named_at T.text T.values text.now }
+{
+    for item in T::all() {
+        if item.word().as_bytes() == text {
+            return Some(*item);
+        }
+    }
+    None
 }
 
 impl Named for AluOp {
@@ -130,5 +152,45 @@ impl Named for JumpOp {
             JumpOp::SLt => "jslt",
             JumpOp::SLe => "jsle",
         }
+    }
+}
+
+impl Listed for Width {
+    ghost values = { widths };
+
+    fn all() -> &'static [Width] {
+        &[Width::W32, Width::W64]
+    }
+}
+
+impl Listed for SignExtension {
+    ghost values = { extensions };
+
+    fn all() -> &'static [SignExtension] {
+        &[SignExtension::From8To32, SignExtension::From16To32, SignExtension::From8To64, SignExtension::From16To64, SignExtension::From32To64]
+    }
+}
+
+impl Listed for SwapWidth {
+    ghost values = { swap_widths };
+
+    fn all() -> &'static [SwapWidth] {
+        &[SwapWidth::S16, SwapWidth::S32, SwapWidth::S64]
+    }
+}
+
+impl Listed for AccessSize {
+    ghost values = { sizes };
+
+    fn all() -> &'static [AccessSize] {
+        &[AccessSize::Byte, AccessSize::HalfWord, AccessSize::Word, AccessSize::DoubleWord]
+    }
+}
+
+impl Listed for LoadKind {
+    ghost values = { kinds };
+
+    fn all() -> &'static [LoadKind] {
+        &[LoadKind::Byte, LoadKind::HalfWord, LoadKind::Word, LoadKind::DoubleWord, LoadKind::SignedByte, LoadKind::SignedHalfWord, LoadKind::SignedWord]
     }
 }
