@@ -1,2 +1,3 @@
 pub mod SignLemmas
 pub mod NameLemmas
+pub mod RunLemmas

@@ -1,6 +1,7 @@
 //! Programs from text, and text from programs: one instruction a line.
 #![tactic(auto)]
 
+mod cursor;
 mod fault;
 mod mnemonic;
 mod printer;
