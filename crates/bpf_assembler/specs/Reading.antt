@@ -1,5 +1,5 @@
 -- Reading a line from left to right, with the first fault that is met.
-use Rattle.std.specs.Prelude.{◌≡◌, ℕ, zero, suc, ◌+◌, ◌-◌, ◌*◌, ◌^◌, Bool, false, not, ◌&&◌, ◌||◌, List, [], ◌∷◌, ◌++◌, length, take, drop, Option, Some, None, Result, Ok, Err, nat_eq, nat_lt, nat_le, if◌then◌else◌, ℤ, pos, negsuc, bytes_eq, option_map, option_and_then, find}
+use Rattle.std.specs.Prelude.{◌≡◌, ℕ, zero, suc, ◌+◌, ◌-◌, ◌*◌, ◌^◌, ◌<◌, Bool, false, not, ◌&&◌, ◌||◌, List, [], ◌∷◌, ◌++◌, length, take, drop, Option, Some, None, Result, Ok, Err, nat_eq, nat_lt, nat_le, if◌then◌else◌, ℤ, pos, negsuc, bytes_eq, option_map, option_and_then, find}
 use Rattle.std.specs.Option.{option_or}
 use Rattle.bpf_model.specs.declared.instruction.Operand.{Operand}
 use Rattle.bpf_model.specs.declared.instruction.Operand.TheVariants.{Register, Immediate}
@@ -86,10 +86,13 @@ or_unknown (Some m) rest = Ok (m, rest)
 unfoldable pub name_at : List ℕ → Read Mnemonic
 name_at text = or_unknown (mnemonic_at stems (take (run is_name_byte text) text)) (drop (run is_name_byte text) text)
 
+abbrev pub begins_with : ℕ → List ℕ → Bool
+begins_with b [] = false
+begins_with b (c ∷ rest) = nat_eq c b
+
 -- this byte
 unfoldable pub byte_at : ℕ → List ℕ → Read (Unit {0})
-byte_at b [] = Err BadOperand
-byte_at b (c ∷ rest) = if nat_eq c b then Ok (tt, rest) else Err BadOperand
+byte_at b text = if begins_with b text then Ok (tt, drop 1 text) else Err BadOperand
 
 -- a number, the whole run of its digits
 unfoldable pub number_at : ℕ → List ℕ → Read ℕ
@@ -114,23 +117,35 @@ negative_at half text = do
   n ← number_at half text
   if nat_eq n.0 0 then Err BadOperand else Ok (negsuc (n.0 - 1), n.1)
 
+-- from half less than zero to one below half
+abbrev pub FitsBelow : ℕ → ℤ → Type 0
+FitsBelow half (pos n) = n < half
+FitsBelow half (negsuc n) = n < half
+
 unfoldable pub immediate_at : List ℕ → Read ℤ
-immediate_at [] = Err BadOperand
-immediate_at (c ∷ rest) = if nat_eq c 45 then negative_at (2 ^ 31) rest else positive_at (2 ^ 31) (c ∷ rest)
+immediate_at text = if begins_with 45 text then negative_at (2 ^ 31) (drop 1 text) else positive_at (2 ^ 31) text
 
 -- an offset or a distance, with its sign
 unfoldable pub offset_at : ℕ → List ℕ → Read ℤ
-offset_at half [] = Err BadOperand
-offset_at half (c ∷ rest) = if nat_eq c 43 then positive_at half rest else (if nat_eq c 45 then negative_at half rest else Err BadOperand)
+offset_at half text =
+    if begins_with 43 text then positive_at half (drop 1 text)
+    else (if begins_with 45 text then negative_at half (drop 1 text) else Err BadOperand)
 
 unfoldable pub operand_at : List ℕ → Read Operand
-operand_at [] = Err BadOperand
-operand_at (c ∷ rest) = if nat_eq c 114 then (register_at (c ∷ rest) >>= λ r. Ok (Register r.0, r.1)) else (immediate_at (c ∷ rest) >>= λ z. Ok (Immediate z.0, z.1))
+operand_at text =
+    if begins_with 114 text then (register_at text >>= λ r. Ok (Register r.0, r.1))
+    else (immediate_at text >>= λ z. Ok (Immediate z.0, z.1))
 
 unfoldable pub comma_at : List ℕ → Read (Unit {0})
 comma_at text = do
   comma ← byte_at 44 text
   byte_at 32 comma.1
+
+-- a blank and a register
+unfoldable pub dst_at : List ℕ → Read ℕ
+dst_at text = do
+  blank ← byte_at 32 text
+  register_at blank.1
 
 -- a bracket and a register
 unfoldable pub base_at : List ℕ → Read ℕ
@@ -148,40 +163,33 @@ displacement_at text = do
 -- the operands, with the blank before them
 unfoldable pub operands_at : Mnemonic → List ℕ → Read Insn
 operands_at (Alu op width) text = do
-  blank ← byte_at 32 text
-  dst ← register_at blank.1
+  dst ← dst_at text
   comma ← comma_at dst.1
   src ← operand_at comma.1
   Ok (insn.Alu op width dst.0 src.0, src.1)
 operands_at (Negate width) text = do
-  blank ← byte_at 32 text
-  dst ← register_at blank.1
+  dst ← dst_at text
   Ok (insn.Negate width dst.0, dst.1)
 operands_at (Mov width) text = do
-  blank ← byte_at 32 text
-  dst ← register_at blank.1
+  dst ← dst_at text
   comma ← comma_at dst.1
   src ← operand_at comma.1
   Ok (insn.Mov width dst.0 src.0, src.1)
 operands_at (SignExtend extension) text = do
-  blank ← byte_at 32 text
-  dst ← register_at blank.1
+  dst ← dst_at text
   comma ← comma_at dst.1
   src ← register_at comma.1
   Ok (insn.SignExtend extension dst.0 src.0, src.1)
 operands_at (Reorder order size) text = do
-  blank ← byte_at 32 text
-  dst ← register_at blank.1
+  dst ← dst_at text
   Ok (insn.Reorder order size dst.0, dst.1)
 operands_at Wide text = do
-  blank ← byte_at 32 text
-  dst ← register_at blank.1
+  dst ← dst_at text
   comma ← comma_at dst.1
   value ← number_at (2 ^ 64 - 1) comma.1
   Ok (insn.Wide dst.0 value.0, value.1)
 operands_at (Load kind) text = do
-  blank ← byte_at 32 text
-  dst ← register_at blank.1
+  dst ← dst_at text
   comma ← comma_at dst.1
   base ← base_at comma.1
   z ← displacement_at base.1
@@ -209,8 +217,7 @@ operands_at JumpLong text = do
   z ← offset_at (2 ^ 31) blank.1
   Ok (insn.JumpLong z.0, z.1)
 operands_at (Branch test width) text = do
-  blank ← byte_at 32 text
-  dst ← register_at blank.1
+  dst ← dst_at text
   comma ← comma_at dst.1
   src ← operand_at comma.1
   second ← comma_at src.1
@@ -220,8 +227,7 @@ operands_at Exit text = Ok (insn.Exit, text)
 
 -- the end of a line: a newline
 unfoldable pub newline_at : List ℕ → Read (Unit {0})
-newline_at [] = Err Trailing
-newline_at (c ∷ rest) = if nat_eq c 10 then Ok (tt, rest) else Err Trailing
+newline_at text = if begins_with 10 text then Ok (tt, drop 1 text) else Err Trailing
 
 -- a line, with its newline
 unfoldable pub line_at : List ℕ → Read Insn

@@ -1,6 +1,6 @@
 //! A place in a text, from which bytes are read in order.
-ghost use Rattle.std.specs.Prelude.{◌≡◌, ◌≤◌, ◌++◌, ◌∷◌, take, drop, length, codes, OnOk, nat_eq, slice_get};
-ghost use Rattle.bpf_assembler.specs.Reading.{Gives, run, is_digit, is_name_byte, byte_at, newline_at};
+ghost use Rattle.std.specs.Prelude.{◌≡◌, ◌≤◌, ◌++◌, ◌∷◌, take, drop, length, codes, OnOk, IsTrue, nat_eq, if◌then◌else◌};
+ghost use Rattle.bpf_assembler.specs.Reading.{Gives, run, is_digit, is_name_byte, begins_with, byte_at, newline_at};
 
 use crate::fault::LineFault;
 
@@ -60,11 +60,27 @@ impl<'a> Cursor<'a> {
         self.rest.is_empty()
     }
 
-    /// The next byte, which isn't taken.
-    pub(crate) fn next(&self) -> Option<u8>
-        ensures { result ≡ slice_get self.now.rest.now 0 }
+    /// Whether this byte is next.
+    pub(crate) fn begins_with(&self, byte: u8) -> bool
+        ensures { result ≡ begins_with byte self.now.rest.now }
     {
-        self.rest.first().copied()
+        match self.rest {
+            [first, ..] => *first == byte,
+            [] => false,
+        }
+    }
+
+    /// Takes this byte where it is next, and tells whether it was.
+    pub(crate) fn take(&mut self, byte: u8) -> bool
+        ensures value { result ≡ begins_with byte self.old.rest.now }
+        ensures rest { self.new.rest.now ≡ (if result then drop 1 self.old.rest.now else self.old.rest.now) }
+        ensures found { IsTrue result → self.old.rest.now ≡ byte ∷ self.new.rest.now }
+    {
+        let next = self.begins_with(byte);
+        if next {
+            self.rest = &self.rest[1..];
+        }
+        next
     }
 
     /// Takes all digits up to something else.
@@ -87,18 +103,16 @@ impl<'a> Cursor<'a> {
         name
     }
 
-    /// Takes this byte.
+    /// Takes this byte, which has to be next.
     #[tactic(auto, unfolding(crate::specs::Reading::byte_at))]
     pub(crate) fn byte(&mut self, byte: u8) -> Result<(), LineFault>
         ensures exact { Gives self.new.rest.now result (byte_at byte self.old.rest.now) }
         ensures found { OnOk result (self.old.rest.now ≡ byte ∷ self.new.rest.now) }
     {
-        match self.rest {
-            [first, rest @ ..] if *first == byte => {
-                self.rest = rest;
-                Ok(())
-            }
-            _ => Err(LineFault::BadOperand),
+        if self.take(byte) {
+            Ok(())
+        } else {
+            Err(LineFault::BadOperand)
         }
     }
 
@@ -108,12 +122,10 @@ impl<'a> Cursor<'a> {
         ensures exact { Gives self.new.rest.now result (newline_at self.old.rest.now) }
         ensures found { OnOk result (self.old.rest.now ≡ codes "\n" ++ self.new.rest.now) }
     {
-        match self.rest {
-            [b'\n', rest @ ..] => {
-                self.rest = rest;
-                Ok(())
-            }
-            _ => Err(LineFault::Trailing),
+        if self.take(b'\n') {
+            Ok(())
+        } else {
+            Err(LineFault::Trailing)
         }
     }
 }

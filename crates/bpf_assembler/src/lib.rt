@@ -3,7 +3,10 @@
 
 mod cursor;
 mod fault;
+mod line;
 mod mnemonic;
+mod number;
+mod operands;
 mod printer;
 mod tables;
 
