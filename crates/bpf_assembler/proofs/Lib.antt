@@ -6,3 +6,4 @@ pub mod SignedLemmas
 pub mod NameLaws
 pub mod LineLaws
 pub mod OperandLaws
+pub mod FaultLemmas

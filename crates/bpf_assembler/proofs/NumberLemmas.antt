@@ -72,7 +72,7 @@ digits_test = record {
   more = λ c cs r h. (range_digit c r.0 r.1, h);
 }
 
-own : IsNumeralModel AreDigits (value_from 0)
+pub own : IsNumeralModel AreDigits (value_from 0)
 unfolding value_from
 own = numerals_by_fold AreDigits digits_test value_from (record {
   empty = λ n. refl;

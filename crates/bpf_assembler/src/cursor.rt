@@ -5,6 +5,7 @@ ghost use Rattle.bpf_assembler.specs.Reading.{Gives, run, is_digit, is_name_byte
 use crate::fault::LineFault;
 
 /// What is left of a text.
+#[derive(Drop)]
 pub(crate) struct Cursor<'a> {
     rest: &'a [u8],
 }

@@ -68,4 +68,16 @@ impl<'a> Cursor<'a> {
             None => Err(LineFault::UnknownName),
         }
     }
+
+    /// Takes a line with its newline.
+    #[tactic(auto, unfolding(crate::specs::Reading::line_at, crate::specs::Text::line_of))]
+    pub(crate) fn line(&mut self) -> Result<Insn, LineFault>
+        ensures exact { Gives self.new.rest.now result (line_at self.old.rest.now) }
+        ensures found { IfOk result (λ i. (self.old.rest.now ≡ line_of i ++ self.new.rest.now) × IsInstruction i) }
+    {
+        let mnemonic = self.mnemonic()?;
+        let insn = self.operands(mnemonic)?;
+        self.newline()?;
+        Ok(insn)
+    }
 }
