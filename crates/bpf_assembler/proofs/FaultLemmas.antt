@@ -1,18 +1,22 @@
 -- Texts have one program at most, and the text of a program has no faulty line.
-use Rattle.std.proofs.Common.{◌≡◌, ℕ, ◌+◌, ◌<◌, ◌≤◌, ◌⊎◌, List, [], ◌∷◌, ◌++◌, length, Result, Ok, Err, refl, ap, sym, ◌∙◌, arith, length-append, append_assoc, inl, inr}
-use Rattle.std.specs.Prelude.{IfOk, IfErr, IsErrAnd}
+use Rattle.std.proofs.Common.{◌≡◌, ℕ, ◌+◌, ◌<◌, ◌≤◌, ◌⊎◌, List, [], ◌∷◌, ◌++◌, length, Result, Ok, Err, Bool, false, refl, ap, sym, ◌∙◌, arith, length-append, append_assoc, inl, inr}
+use Rattle.std.specs.Prelude.{IfOk, IfErr, IsErrAnd, nat_eq}
+use Rattle.std.proofs.lemmas.Bool.Decides.{nat_tests}
 use Rattle.std.proofs.lemmas.List.{append-nil}
 use Rattle.std.proofs.lemmas.List.Concat.{flat_map-cons}
 use Rattle.std.proofs.lemmas.Grind.{flat_map-append}
 use Rattle.bpf_model.specs.declared.limits.TheConstants.{PROGRAM_UNITS}
 use Rattle.bpf_model.specs.declared.instruction.Insn.{Insn}
-use Rattle.bpf_model.specs.Program.{units_of, unit_count}
+use Rattle.bpf_model.specs.Program.{units_of, unit_count, IsProgram}
 use Rattle.bpf_model.specs.Spelling.{IsInstruction, AreInstructions}
 use Rattle.bpf_assembler.specs.declared.fault.AsmFault.{AsmFault}
 use Rattle.bpf_assembler.specs.declared.fault.AsmFault.TheVariants.{NoMemory}
+use Rattle.bpf_assembler.specs.declared.fault.LineFault.{LineFault}
+use Rattle.bpf_assembler.specs.declared.fault.LineFault.TheVariants.{UnknownName}
+use Rattle.bpf_assembler.specs.Reading.{line_at}
 use Rattle.bpf_assembler.specs.Text.{line_of, text_of, IsTextOf}
-use Rattle.bpf_assembler.specs.Faults.{line_number, IsFaultyLine, IsFirstFault, GivesUnlessNoMemory}
-use Rattle.bpf_assembler.proofs.OperandLaws.{line-first, line_some}
+use Rattle.bpf_assembler.specs.Faults.{line_number, at_line, IsFaultyLine, IsFirstFault, GivesUnlessNoMemory}
+use Rattle.bpf_assembler.proofs.OperandLaws.{line-first, line_again, line_some}
 
 -- ---- texts of lists
 
@@ -92,3 +96,67 @@ only_program text p (Err e) h is_text = elim h.first_fault [
   | inl refused ↦ inl (ap (λ x. Err x) refused)
   | inr faulty ↦ absurd (no_faulty_line text p (line_number e) is_text faulty)
 ]
+
+-- ---- the line that is refused
+
+-- what can't be read begins with no line
+pub no_line : (rest : List ℕ) (fault : LineFault) (i : Insn) (more : List ℕ) → line_at rest ≡ Err fault → IsInstruction i → rest ≡ line_of i ++ more → ⊥
+no_line rest fault i more unread h e =
+    let read : line_at rest ≡ Ok (i, more) = ap line_at e ∙ line_again i more h in
+    absurd (let both = sym unread ∙ read in cc)
+
+line_number-at_line : (n : ℕ) (fault : LineFault) → line_number (at_line n fault) ≡ n
+line_number-at_line n UnknownName = refl
+line_number-at_line n fault = refl
+
+not_empty : (rest : List ℕ) (done : Bool) → done ≡ nat_eq (length rest) 0 → done ≡ false → 0 < length rest
+not_empty rest done is more = let test : nat_eq (length rest) 0 ≡ false = sym is ∙ more in grind (arith, nat_tests)
+
+pub unread_line : (text rest : List ℕ) (is : List Insn) (units : ℕ) (done : Bool) (fault : LineFault) (e : AsmFault) → AreInstructions is → units ≡ unit_count is → units ≤ PROGRAM_UNITS → text ≡ text_of is ++ rest
+    → done ≡ nat_eq (length rest) 0 → done ≡ false → line_at rest ≡ Err fault → e ≡ at_line (length is + 1) fault → IsFaultyLine text (line_number e)
+unread_line text rest is units done fault e fits counted few lines is_done more unread named = record {
+  front = is;
+  rest = rest;
+  fits = fits;
+  few = omega (arith, counted, few);
+  lines = lines;
+  some = not_empty rest done is_done more;
+  faulty = λ i behind h begins. absurd (no_line rest fault i behind unread h begins);
+  named = ap line_number named ∙ line_number-at_line (length is + 1) fault;
+}
+
+pub line_past_units : (text rest new : List ℕ) (is : List Insn) (units : ℕ) (done : Bool) (i : Insn) → AreInstructions is → units ≡ unit_count is → units ≤ PROGRAM_UNITS → text ≡ text_of is ++ rest
+    → done ≡ nat_eq (length rest) 0 → done ≡ false → rest ≡ line_of i ++ new → IsInstruction i → PROGRAM_UNITS < units + units_of i → IsFaultyLine text (length is + 1)
+line_past_units text rest new is units done i fits counted few lines is_done more read h past = record {
+  front = is;
+  rest = rest;
+  fits = fits;
+  few = omega (arith, counted, few);
+  lines = lines;
+  some = not_empty rest done is_done more;
+  faulty = λ j behind g begins.
+      let same : units_of i ≡ units_of j = ap units_of (line-first i j new behind h g (sym read ∙ begins)).0 in
+      omega (arith, same, counted, past);
+  named = refl;
+}
+
+pub unit_count-push : (is : List Insn) (i : Insn) → unit_count (is ++ i ∷ []) ≡ unit_count is + units_of i
+unfolding unit_count
+unit_count-push [] i = omega arith
+unit_count-push (x ∷ is) i = omega (arith, unit_count-push is i)
+
+-- a line more was read
+pub lines_push : (text rest new : List ℕ) (is : List Insn) (i : Insn) → text ≡ text_of is ++ rest → rest ≡ line_of i ++ new → text ≡ text_of (is ++ i ∷ []) ++ new
+lines_push text rest new is i lines read = rw (text_of-push is i) (lines ∙ ap (λ x. text_of is ++ x) read ∙ sym (append_assoc (text_of is) (line_of i) new))
+
+-- each line takes a byte at least
+pub line_shortens : (rest new : List ℕ) (i : Insn) → rest ≡ line_of i ++ new → length new < length rest
+line_shortens rest new i read =
+    let parts : length rest ≡ length (line_of i ++ new) = ap length read in
+    omega (arith, parts, length-append (line_of i) new, line_some i)
+
+-- instructions that are no program, though few enough, are none, and so is their text
+pub empty_text : (text : List ℕ) (is : List Insn) → (IsProgram is → ⊥) → unit_count is ≤ PROGRAM_UNITS → text ≡ text_of is → text ≡ []
+unfolding text_of
+empty_text text [] none few lines = lines
+empty_text text (i ∷ is) none few lines = absurd (none (record { some = omega arith; few = few }))
