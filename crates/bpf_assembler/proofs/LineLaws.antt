@@ -1,23 +1,15 @@
 -- What was written is read again: numbers, operands and lines.
-use Rattle.std.proofs.Common.{◌≡◌, ℕ, zero, suc, ◌+◌, ◌-◌, ◌^◌, ◌≤◌, ◌<◌, List, [], ◌∷◌, ◌++◌, drop, take, length, refl, ap, sym, ◌∙◌, arith, true, false, Bool, cond, Result, Ok, Err, inl, inr, append_assoc}
-use Rattle.std.specs.Prelude.{decimal, nat_eq, ℤ, pos, negsuc, codes}
-use Rattle.std.specs.List.{AllByRecursion}
+use Rattle.std.proofs.Common.{◌≡◌, ℕ, suc, ◌-◌, ◌^◌, ◌≤◌, ◌<◌, List, [], ◌∷◌, ◌++◌, length, refl, ap, ◌∙◌, arith, true, false, Ok, inl, inr}
+use Rattle.std.specs.Prelude.{decimal, nat_eq, ℤ, pos, negsuc}
 use Rattle.std.proofs.lemmas.Bool.Decides.{nat_tests}
-use Rattle.std.proofs.lemmas.List.{take_at, drop_at}
 use Rattle.std.proofs.lemmas.Fmt.{digits_decimal, decimal_nonempty}
 use Rattle.bpf_model.proofs.Options.{test_of}
 use Rattle.bpf_model.specs.declared.instruction.Operand.{Operand}
 use Rattle.bpf_model.specs.declared.instruction.Operand.TheVariants.{Register, Immediate}
-use Rattle.bpf_model.specs.declared.instruction.Insn.{Insn}
-use Rattle.bpf_model.specs.declared.instruction.Insn.TheVariants.{Alu, Negate, Mov, SignExtend, Reorder, Wide, Load, Store, Jump, JumpLong, Branch, Exit}
-use Rattle.bpf_model.specs.Spelling.{IsImmediate, IsOffset, IsOperand, IsInstruction}
-use Rattle.bpf_assembler.specs.declared.mnemonic.Mnemonic.{Mnemonic}
-use Rattle.bpf_assembler.specs.Names.{name_of}
-use Rattle.bpf_assembler.specs.Text.{immediate, offset, register, operand, mnemonic_of, operands_of, line_of}
-use Rattle.bpf_assembler.specs.Reading.{◌>>=◌, run, is_digit, is_name_byte, begins_with, byte_at, register_at, positive_at, negative_at, FitsBelow, immediate_at, offset_at, operand_at, comma_at, dst_at, base_at, displacement_at, operands_at, name_at, newline_at, line_at}
-use Rattle.bpf_assembler.proofs.RunLemmas.{run-front}
+use Rattle.bpf_model.specs.Spelling.{IsImmediate, IsOffset, IsOperand}
+use Rattle.bpf_assembler.specs.Text.{immediate, offset, register, operand}
+use Rattle.bpf_assembler.specs.Reading.{run, is_digit, begins_with, byte_at, register_at, positive_at, negative_at, FitsBelow, immediate_at, offset_at, operand_at, comma_at, dst_at, base_at, displacement_at}
 use Rattle.bpf_assembler.proofs.NumberLemmas.{AreDigits, own, number_again}
-use Rattle.bpf_assembler.proofs.NameLaws.{mnemonic_again, name_bytes}
 
 -- what comes is no digit
 abbrev pub Stops : List ℕ → Type 0

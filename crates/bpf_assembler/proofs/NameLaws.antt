@@ -1,6 +1,6 @@
 -- Each instruction has one name, and each name one instruction.
 use Rattle.std.proofs.Common.{◌≡◌, ℕ, List, [], ◌∷◌, ◌++◌, drop, take, length, Option, Some, None, refl, ap, sym, subst, ◌∙◌, arith, true, false, Bool, cond, inl, inr, ◌⊎◌}
-use Rattle.std.specs.Prelude.{option_and_then, option_map, bytes_eq, nat_eq, find, ◌&&◌}
+use Rattle.std.specs.Prelude.{option_map, bytes_eq, nat_eq, find, ◌&&◌}
 use Rattle.std.specs.Option.{option_or}
 use Rattle.std.specs.List.{list_all, AllByRecursion}
 use Rattle.std.proofs.lemmas.Bool.Decides.{nat_tests}

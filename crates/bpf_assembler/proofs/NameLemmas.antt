@@ -1,7 +1,7 @@
 -- Names: a word for what is done, and a suffix.
-use Rattle.std.proofs.Common.{◌≡◌, ℕ, zero, suc, ◌+◌, ◌≤◌, ◌<◌, List, [], ◌∷◌, ◌++◌, drop, take, length, get_or, Option, Some, None, refl, ap, sym, ◌∙◌, arith, is_some, true, false, Bool, add-one, drop-cons}
+use Rattle.std.proofs.Common.{◌≡◌, ℕ, ◌+◌, ◌≤◌, ◌<◌, List, drop, length, get_or, Option, Some, None, refl, ap, sym, ◌∙◌, is_some, true, false, add-one, drop-cons}
 use Rattle.std.proofs.lemmas.List.{drop_all}
-use Rattle.std.specs.Prelude.{slice_get, option_and_then, option_map, IsSome}
+use Rattle.std.specs.Prelude.{option_and_then}
 use Rattle.std.specs.Option.{option_or}
 use Rattle.bpf_assembler.specs.declared.mnemonic.Stem.{Stem}
 use Rattle.bpf_assembler.specs.declared.mnemonic.Mnemonic.{Mnemonic}

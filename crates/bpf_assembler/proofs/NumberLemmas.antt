@@ -1,11 +1,10 @@
 -- Numbers and their digits.
-use Rattle.std.proofs.Common.{◌≡◌, ◌≢◌, ℕ, zero, suc, ◌+◌, ◌-◌, ◌*◌, ◌^◌, ◌≤◌, ◌<◌, List, [], ◌∷◌, ◌++◌, drop, take, length, get_or, refl, ap, sym, ◌∙◌, arith, true, false, Bool, add-one, drop-cons, rules, All, not, cond, Result, Ok, Err, inl, inr}
-use Rattle.std.specs.Prelude.{decimal, nat_eq, nat_lt, nat_le, ◌&&◌, ◌||◌}
+use Rattle.std.proofs.Common.{◌≡◌, ℕ, zero, suc, ◌+◌, ◌-◌, ◌*◌, ◌^◌, ◌≤◌, ◌<◌, List, [], ◌∷◌, ◌++◌, drop, take, length, get_or, refl, ap, sym, ◌∙◌, arith, true, add-one, drop-cons, All, Ok, inl, inr}
+use Rattle.std.specs.Prelude.{decimal, nat_eq, nat_le}
 use Rattle.std.specs.List.{AllByRecursion}
-use Rattle.std.specs.Int.{IsInRange}
 use Rattle.std.proofs.lemmas.Bool.Decides.{nat_tests}
 use Rattle.std.proofs.lemmas.List.Elements.{All-from_recursion}
-use Rattle.std.proofs.lemmas.List.{drop_all, take_at, drop_at, take-append-drop, append-nil}
+use Rattle.std.proofs.lemmas.List.{drop_all, take_at, drop_at, take-append-drop}
 use Rattle.std.proofs.lemmas.Fmt.{digits_decimal, digits_value-decimal, decimal-digits_value, decimal_nonempty, decimal_digit, first_decimal}
 use Rattle.std.proofs.lemmas.Str.Parse.{IsNumeralModel, IsDigitsTest, numerals_by_fold}
 use Rattle.bpf_model.proofs.Options.{test_of}

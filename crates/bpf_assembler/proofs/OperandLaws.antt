@@ -1,8 +1,7 @@
 -- The operands of each instruction are read again, and so are lines.
-use Rattle.std.proofs.Common.{◌≡◌, ℕ, ◌^◌, ◌-◌, List, [], ◌∷◌, ◌++◌, drop, take, length, ◌<◌, refl, ap, sym, ◌∙◌, arith, length-append, Result, Ok, Err, append_assoc}
-use Rattle.std.specs.Prelude.{decimal, ℤ, codes}
+use Rattle.std.proofs.Common.{◌≡◌, ℕ, ◌^◌, ◌-◌, List, ◌∷◌, ◌++◌, length, ◌<◌, refl, ap, sym, ◌∙◌, arith, length-append, Result, Ok, Err, append_assoc}
+use Rattle.std.specs.Prelude.{decimal, codes}
 use Rattle.std.proofs.lemmas.List.{take_at, drop_at}
-use Rattle.bpf_model.specs.declared.instruction.Operand.{Operand}
 use Rattle.bpf_model.specs.declared.instruction.Operand.TheVariants.{Register, Immediate}
 use Rattle.bpf_model.specs.declared.instruction.Insn.{Insn}
 use Rattle.bpf_model.specs.declared.instruction.Insn.TheVariants.{Alu, Negate, Mov, SignExtend, Reorder, Wide, Load, Store, Jump, JumpLong, Branch, Exit}
@@ -11,7 +10,7 @@ use Rattle.bpf_assembler.specs.declared.mnemonic.Mnemonic.{Mnemonic}
 use Rattle.bpf_assembler.specs.declared.fault.LineFault.{LineFault}
 use Rattle.bpf_assembler.specs.Names.{name_of}
 use Rattle.bpf_assembler.specs.Text.{immediate, offset, register, operand, mnemonic_of, operands_of, line_of}
-use Rattle.bpf_assembler.specs.Reading.{◌>>=◌, run, is_name_byte, operands_at, name_at, newline_at, line_at}
+use Rattle.bpf_assembler.specs.Reading.{run, is_name_byte, operands_at, name_at, newline_at, line_at}
 use Rattle.bpf_assembler.proofs.RunLemmas.{run-front}
 use Rattle.bpf_assembler.proofs.NumberLemmas.{number_again}
 use Rattle.bpf_assembler.proofs.NameLaws.{mnemonic_again, name_bytes}

@@ -1,6 +1,6 @@
 -- What `{:+}` writes.
-use Rattle.std.proofs.Common.{◌≡◌, ℕ, suc, ◌-◌, List, [], ◌∷◌, ◌++◌, length, refl, ap, ◌∙◌, arith, ◌^◌, Bool, true, false, ltb}
-use Rattle.std.specs.Prelude.{ℤ, pos, negsuc, decimal, codes}
+use Rattle.std.proofs.Common.{◌≡◌, ℕ, suc, ◌-◌, List, [], ◌∷◌, length, ap, arith, true, false, ltb}
+use Rattle.std.specs.Prelude.{ℤ, pos, negsuc, decimal}
 use Rattle.std.specs.Fmt.{format_spec, styled_signed_decimal, padded_integral, char_count}
 use Rattle.std.proofs.lemmas.Bool.{le-ltb}
 use Rattle.std.proofs.lemmas.List.{append-nil}

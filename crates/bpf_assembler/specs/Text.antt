@@ -1,6 +1,6 @@
 -- The canonical text of a program: one instruction a line. An instruction is a name and, where there are operands,
 -- one blank and the operands, with a comma and one blank between them.
-use Rattle.std.specs.Prelude.{◌≡◌, ℕ, suc, ◌≤◌, List, [], ◌∷◌, ◌++◌, codes, decimal, ℤ, pos, negsuc}
+use Rattle.std.specs.Prelude.{◌≡◌, ℕ, suc, List, [], ◌++◌, codes, decimal, ℤ, pos, negsuc}
 use Rattle.std.specs.List.{flat_map}
 use Rattle.bpf_model.specs.declared.instruction.Operand.{Operand}
 use Rattle.bpf_model.specs.declared.instruction.Operand.TheVariants.{Register, Immediate}

@@ -1,4 +1,4 @@
-use Rattle.std.proofs.Common.{◌≡◌, ◌⊎◌, List, ℕ, ap, Ok, Err, inl, inr, refl, sym, subst, ◌∙◌}
+use Rattle.std.proofs.Common.{◌≡◌, ◌⊎◌, List, ℕ, Ok, Err, inl, inr, refl, sym, subst, ◌∙◌}
 use Rattle.bpf_assembler.specs.declared.fault.AsmFault.TheVariants.{NoMemory, BadCount}
 use Rattle.bpf_assembler.specs.Faults.{line_number, IsFaultyLine, IsFirstFault}
 use Rattle.bpf_assembler.proofs.FaultLemmas.{IsTrueOf, IsTrueOf-passed, only_program, empty_text}

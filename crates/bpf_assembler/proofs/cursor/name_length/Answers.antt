@@ -1,4 +1,4 @@
-use Rattle.std.proofs.Common.{sym, ◌∙◌, arith, not}
+use Rattle.std.proofs.Common.{sym, ◌∙◌, arith}
 use Rattle.bpf_assembler.specs.Reading.{is_name_byte}
 use Rattle.bpf_assembler.proofs.RunLemmas.{run-more, run-stops, run-ends}
 use Rattle.bpf_assembler.proofs.cursor.name_length.Goals as goal

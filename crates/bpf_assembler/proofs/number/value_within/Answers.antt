@@ -1,5 +1,4 @@
-use Rattle.std.proofs.Common.{◌≡◌, ◌<◌, ◌≤◌, ◌+◌, ◌*◌, ◌-◌, arith, get_or, ap, sym, ◌∙◌}
-use Rattle.bpf_assembler.specs.Reading.{value_from}
+use Rattle.std.proofs.Common.{◌≡◌, ◌+◌, ◌*◌, ◌-◌, arith, get_or}
 use Rattle.bpf_assembler.proofs.NumberLemmas.{value_from-next, value_from-passes, value_from-end}
 use Rattle.bpf_assembler.proofs.number.value_within.Goals as goal
 

@@ -1,4 +1,4 @@
-use Rattle.std.proofs.Common.{◌++◌, ◌∙◌, sym, ap, drop}
+use Rattle.std.proofs.Common.{◌∙◌, sym}
 use Rattle.std.proofs.lemmas.List.{take-append-drop}
 use Rattle.bpf_assembler.specs.Names.{stems}
 use Rattle.bpf_assembler.specs.Reading.{run, is_name_byte}
