@@ -1,0 +1,162 @@
+-- Texts have one program at most, and the text of a program has no faulty line.
+use Rattle.std.proofs.Common.{◌≡◌, ℕ, ◌+◌, ◌<◌, ◌≤◌, ◌⊎◌, List, [], ◌∷◌, ◌++◌, length, Result, Ok, Err, Bool, false, refl, ap, sym, ◌∙◌, arith, length-append, append_assoc, inl, inr}
+use Rattle.std.specs.Prelude.{IfOk, IfErr, IsErrAnd, nat_eq}
+use Rattle.std.proofs.lemmas.Bool.Decides.{nat_tests}
+use Rattle.std.proofs.lemmas.List.{append-nil}
+use Rattle.std.proofs.lemmas.List.Concat.{flat_map-cons}
+use Rattle.std.proofs.lemmas.Grind.{flat_map-append}
+use Rattle.bpf_model.specs.declared.limits.TheConstants.{PROGRAM_UNITS}
+use Rattle.bpf_model.specs.declared.instruction.Insn.{Insn}
+use Rattle.bpf_model.specs.Program.{units_of, unit_count, IsProgram}
+use Rattle.bpf_model.specs.Spelling.{IsInstruction, AreInstructions}
+use Rattle.bpf_assembler.specs.declared.fault.AsmFault.{AsmFault}
+use Rattle.bpf_assembler.specs.declared.fault.AsmFault.TheVariants.{NoMemory}
+use Rattle.bpf_assembler.specs.declared.fault.LineFault.{LineFault}
+use Rattle.bpf_assembler.specs.declared.fault.LineFault.TheVariants.{UnknownName}
+use Rattle.bpf_assembler.specs.Reading.{line_at}
+use Rattle.bpf_assembler.specs.Text.{line_of, text_of, IsTextOf}
+use Rattle.bpf_assembler.specs.Faults.{line_number, at_line, IsFaultyLine, IsFirstFault, GivesUnlessNoMemory}
+use Rattle.bpf_assembler.proofs.OperandLaws.{line-first, line_again, line_some}
+
+-- ---- texts of lists
+
+pub text_of-cons : (i : Insn) (is : List Insn) (rest : List ℕ) → text_of (i ∷ is) ++ rest ≡ line_of i ++ (text_of is ++ rest)
+unfolding text_of
+text_of-cons i is rest = ap (λ x. x ++ rest) (flat_map-cons line_of i is) ∙ append_assoc (line_of i) (text_of is) rest
+
+pub text_of-push : (is : List Insn) (i : Insn) → text_of (is ++ i ∷ []) ≡ text_of is ++ line_of i
+unfolding text_of
+text_of-push is i = flat_map-append line_of is (i ∷ []) ∙ ap (λ x. text_of is ++ x) (flat_map-cons line_of i [] ∙ append-nil (line_of i))
+
+pub AreInstructions-push : (is : List Insn) (i : Insn) → AreInstructions is → IsInstruction i → AreInstructions (is ++ i ∷ [])
+AreInstructions-push [] i h g = (g, tt)
+AreInstructions-push (x ∷ is) i h g = (h.0, AreInstructions-push is i h.1 g)
+
+text_some : (i : Insn) (is : List Insn) (rest : List ℕ) → 0 < length (text_of (i ∷ is) ++ rest)
+text_some i is rest =
+    let parts = ap length (text_of-cons i is rest) in
+    omega (arith, parts, length-append (line_of i) (text_of is ++ rest), line_some i)
+
+-- ---- one program at most
+
+pub text_of-injective : (p q : List Insn) (a b : List ℕ) → AreInstructions p → AreInstructions q → a ≡ [] → b ≡ [] → text_of p ++ a ≡ text_of q ++ b → p ≡ q
+unfolding text_of
+text_of-injective [] [] a b hp hq ea eb e = refl
+text_of-injective [] (j ∷ q) a b hp hq ea eb e = absurd (let none : length a ≡ length (text_of (j ∷ q) ++ b) = ap length e in let no_more : length a ≡ 0 = ap length ea in omega (arith, none, no_more, text_some j q b))
+text_of-injective (i ∷ p) [] a b hp hq ea eb e = absurd (let none : length (text_of (i ∷ p) ++ a) ≡ length b = ap length e in let no_more : length b ≡ 0 = ap length eb in omega (arith, none, no_more, text_some i p a))
+text_of-injective (i ∷ p) (j ∷ q) a b hp hq ea eb e =
+    let (head, behind) = line-first i j (text_of p ++ a) (text_of q ++ b) hp.0 hq.0 (sym (text_of-cons i p a) ∙ e ∙ text_of-cons j q b) in
+    let tail = text_of-injective p q a b hp.1 hq.1 ea eb behind in
+    cc (head, tail)
+
+-- ---- no faulty line
+
+faultless : (k : ℕ) (p q : List Insn) (rest : List ℕ) → AreInstructions p → AreInstructions q → text_of p ++ [] ≡ text_of q ++ rest → 0 < length rest
+    → ((i : Insn) (more : List ℕ) → IsInstruction i → rest ≡ line_of i ++ more → PROGRAM_UNITS < k + unit_count q + units_of i) → k + unit_count p ≤ PROGRAM_UNITS → ⊥
+unfolding text_of unit_count
+faultless k [] q rest hp hq e some faulty few =
+    let none : 0 ≡ length (text_of q ++ rest) = ap length e in
+    omega (arith, none, some, length-append (text_of q) rest)
+faultless k (i ∷ p) [] rest hp hq e some faulty few =
+    let past = faulty i (text_of p ++ []) hp.0 (sym e ∙ text_of-cons i p []) in
+    omega (arith, past, few)
+faultless k (i ∷ p) (j ∷ q) rest hp hq e some faulty few =
+    let (head, behind) = line-first i j (text_of p ++ []) (text_of q ++ rest) hp.0 hq.0 (sym (text_of-cons i p []) ∙ e ∙ text_of-cons j q rest) in
+    let same : units_of i ≡ units_of j = ap units_of head in
+    faultless (k + units_of i) p q rest hp.1 hq.1 behind some (λ x more h g. omega (arith, same, faulty x more h g)) (omega (arith, few))
+
+pub no_faulty_line : (text : List ℕ) (p : List Insn) (line : ℕ) → IsTextOf text p → IsFirstFault text line → ⊥
+unfolding text_of
+no_faulty_line text [] line h fault = omega (arith, h.program.some)
+no_faulty_line text (i ∷ p) line h (inl empty) =
+    let none : length (text_of (i ∷ p) ++ []) ≡ 0 = ap length (append-nil (text_of (i ∷ p)) ∙ sym h.lines ∙ empty.0) in
+    omega (arith, none, text_some i p [])
+no_faulty_line text (i ∷ p) line h (inr fault) =
+    faultless 0 (i ∷ p) fault.front fault.rest h.fits fault.fits (append-nil (text_of (i ∷ p)) ∙ sym h.lines ∙ fault.lines) fault.some
+    (λ x more g e. omega (arith, fault.faulty x more g e)) (omega (arith, h.program.few))
+
+-- ---- answers
+
+-- an answer that is the text's program, or its first faulty line, or a refusal of memory
+pub record IsTrueOf (text : List ℕ) (result : Result (List Insn) AsmFault) : Type 0 where
+  pub found : IfOk result (IsTextOf text)
+  pub first_fault : IfErr result (λ e. (e ≡ NoMemory) ⊎ IsFirstFault text (line_number e))
+
+-- an error that was passed on
+pub IsTrueOf-passed : (text : List ℕ) (e : AsmFault) (result : Result (List Insn) AsmFault) → IsErrAnd result (λ x. x ≡ e) → (e ≡ NoMemory) ⊎ IsFirstFault text (line_number e) → IsTrueOf text result
+IsTrueOf-passed text e (Ok q) passed h = absurd passed
+IsTrueOf-passed text e (Err x) passed h = record { found = tt; first_fault = rw passed h }
+
+-- where a program has this text no other answer is true
+pub only_program : (text : List ℕ) (p : List Insn) (result : Result (List Insn) AsmFault) → IsTrueOf text result → IsTextOf text p → GivesUnlessNoMemory result (Ok p)
+only_program text p (Ok q) h is_text =
+    let same : text_of q ++ [] ≡ text_of p ++ [] = ap (λ x. x ++ []) (sym h.found.lines ∙ is_text.lines) in
+    inr (ap (λ x. Ok x) (text_of-injective q p [] [] h.found.fits is_text.fits refl refl same))
+only_program text p (Err e) h is_text = elim h.first_fault [
+  | inl refused ↦ inl (ap (λ x. Err x) refused)
+  | inr faulty ↦ absurd (no_faulty_line text p (line_number e) is_text faulty)
+]
+
+-- ---- the line that is refused
+
+-- what can't be read begins with no line
+pub no_line : (rest : List ℕ) (fault : LineFault) (i : Insn) (more : List ℕ) → line_at rest ≡ Err fault → IsInstruction i → rest ≡ line_of i ++ more → ⊥
+no_line rest fault i more unread h e =
+    let read : line_at rest ≡ Ok (i, more) = ap line_at e ∙ line_again i more h in
+    absurd (let both = sym unread ∙ read in cc)
+
+line_number-at_line : (n : ℕ) (fault : LineFault) → line_number (at_line n fault) ≡ n
+line_number-at_line n UnknownName = refl
+line_number-at_line n fault = refl
+
+not_empty : (rest : List ℕ) (done : Bool) → done ≡ nat_eq (length rest) 0 → done ≡ false → 0 < length rest
+not_empty rest done is more = let test : nat_eq (length rest) 0 ≡ false = sym is ∙ more in grind (arith, nat_tests)
+
+pub unread_line : (text rest : List ℕ) (is : List Insn) (units : ℕ) (done : Bool) (fault : LineFault) (e : AsmFault) → AreInstructions is → units ≡ unit_count is → units ≤ PROGRAM_UNITS → text ≡ text_of is ++ rest
+    → done ≡ nat_eq (length rest) 0 → done ≡ false → line_at rest ≡ Err fault → e ≡ at_line (length is + 1) fault → IsFaultyLine text (line_number e)
+unread_line text rest is units done fault e fits counted few lines is_done more unread named = record {
+  front = is;
+  rest = rest;
+  fits = fits;
+  few = omega (arith, counted, few);
+  lines = lines;
+  some = not_empty rest done is_done more;
+  faulty = λ i behind h begins. absurd (no_line rest fault i behind unread h begins);
+  named = ap line_number named ∙ line_number-at_line (length is + 1) fault;
+}
+
+pub line_past_units : (text rest new : List ℕ) (is : List Insn) (units : ℕ) (done : Bool) (i : Insn) → AreInstructions is → units ≡ unit_count is → units ≤ PROGRAM_UNITS → text ≡ text_of is ++ rest
+    → done ≡ nat_eq (length rest) 0 → done ≡ false → rest ≡ line_of i ++ new → IsInstruction i → PROGRAM_UNITS < units + units_of i → IsFaultyLine text (length is + 1)
+line_past_units text rest new is units done i fits counted few lines is_done more read h past = record {
+  front = is;
+  rest = rest;
+  fits = fits;
+  few = omega (arith, counted, few);
+  lines = lines;
+  some = not_empty rest done is_done more;
+  faulty = λ j behind g begins.
+      let same : units_of i ≡ units_of j = ap units_of (line-first i j new behind h g (sym read ∙ begins)).0 in
+      omega (arith, same, counted, past);
+  named = refl;
+}
+
+pub unit_count-push : (is : List Insn) (i : Insn) → unit_count (is ++ i ∷ []) ≡ unit_count is + units_of i
+unfolding unit_count
+unit_count-push [] i = omega arith
+unit_count-push (x ∷ is) i = omega (arith, unit_count-push is i)
+
+-- a line more was read
+pub lines_push : (text rest new : List ℕ) (is : List Insn) (i : Insn) → text ≡ text_of is ++ rest → rest ≡ line_of i ++ new → text ≡ text_of (is ++ i ∷ []) ++ new
+lines_push text rest new is i lines read = rw (text_of-push is i) (lines ∙ ap (λ x. text_of is ++ x) read ∙ sym (append_assoc (text_of is) (line_of i) new))
+
+-- each line takes a byte at least
+pub line_shortens : (rest new : List ℕ) (i : Insn) → rest ≡ line_of i ++ new → length new < length rest
+line_shortens rest new i read =
+    let parts : length rest ≡ length (line_of i ++ new) = ap length read in
+    omega (arith, parts, length-append (line_of i) new, line_some i)
+
+-- instructions that are no program, though few enough, are none, and so is their text
+pub empty_text : (text : List ℕ) (is : List Insn) → (IsProgram is → ⊥) → unit_count is ≤ PROGRAM_UNITS → text ≡ text_of is → text ≡ []
+unfolding text_of
+empty_text text [] none few lines = lines
+empty_text text (i ∷ is) none few lines = absurd (none (record { some = omega arith; few = few }))

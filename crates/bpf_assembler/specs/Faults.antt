@@ -1,0 +1,56 @@
+-- Which line of a text is the first faulty one.
+use Rattle.std.specs.Prelude.{◌≡◌, ℕ, ◌+◌, ◌<◌, ◌≤◌, ◌⊎◌, List, [], ◌++◌, length, Result, Err}
+use Rattle.bpf_model.specs.declared.limits.TheConstants.{PROGRAM_UNITS}
+use Rattle.bpf_model.specs.declared.instruction.Insn.{Insn}
+use Rattle.bpf_model.specs.Program.{units_of, unit_count}
+use Rattle.bpf_model.specs.Spelling.{IsInstruction, AreInstructions}
+use Rattle.bpf_assembler.specs.declared.fault.AsmFault.{AsmFault}
+use Rattle.bpf_assembler.specs.declared.fault.AsmFault.TheVariants.{NoMemory, UnknownName, BadOperand, OutOfRange, Trailing, BadCount}
+use Rattle.bpf_assembler.specs.declared.fault.LineFault.{LineFault}
+use Rattle.bpf_assembler.specs.declared.fault.LineFault.TheVariants as line
+use Rattle.bpf_assembler.specs.Text.{line_of, text_of}
+
+-- the number under which a fault is printed
+abbrev pub number_of : AsmFault → ℕ
+number_of NoMemory = 9
+number_of (UnknownName line) = 20
+number_of (BadOperand line) = 21
+number_of (OutOfRange line) = 22
+number_of (Trailing line) = 23
+number_of (BadCount line) = 24
+
+-- the line that it names
+abbrev pub line_number : AsmFault → ℕ
+line_number NoMemory = 0
+line_number (UnknownName line) = line
+line_number (BadOperand line) = line
+line_number (OutOfRange line) = line
+line_number (Trailing line) = line
+line_number (BadCount line) = line
+
+-- a fault of this line
+abbrev pub at_line : ℕ → LineFault → AsmFault
+at_line n line.UnknownName = UnknownName n
+at_line n line.BadOperand = BadOperand n
+at_line n line.OutOfRange = OutOfRange n
+at_line n line.Trailing = Trailing n
+
+-- behind the lines of instructions that have 512 units at most stands one that is no instruction's, or one whose
+-- instruction passes 512 units
+pub record IsFaultyLine (text : List ℕ) (line : ℕ) : Type 0 where
+  pub front : List Insn
+  pub rest : List ℕ
+  pub fits : AreInstructions front
+  pub few : unit_count front ≤ PROGRAM_UNITS
+  pub lines : text ≡ text_of front ++ rest
+  pub some : 0 < length rest
+  pub faulty : (i : Insn) (more : List ℕ) → IsInstruction i → rest ≡ line_of i ++ more → PROGRAM_UNITS < unit_count front + units_of i
+  pub named : line ≡ length front + 1
+
+-- the first faulty line; an empty text has its fault in line 0
+abbrev pub IsFirstFault : List ℕ → ℕ → Type 0
+IsFirstFault text line = ((text ≡ []) × (line ≡ 0)) ⊎ IsFaultyLine text line
+
+-- the call answers so, unless memory was refused to it
+abbrev pub GivesUnlessNoMemory : {A : Type 0} → Result A AsmFault → Result A AsmFault → Type 0
+GivesUnlessNoMemory result answer = (result ≡ Err NoMemory) ⊎ (result ≡ answer)

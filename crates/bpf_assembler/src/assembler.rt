@@ -1,0 +1,61 @@
+//! Programs from text.
+ghost use Rattle.std.specs.Prelude.{◌≡◌, ◌≤◌, ◌⊎◌, ◌++◌, ◌∷◌, List, [], IfOk, IfErr, OnOk, Ok};
+ghost use Rattle.bpf_model.specs.declared.instruction.Insn.{Insn};
+ghost use Rattle.bpf_model.specs.Program.{unit_count};
+ghost use Rattle.bpf_model.specs.Spelling.{AreInstructions};
+ghost use Rattle.bpf_assembler.specs.declared.fault.AsmFault.TheVariants.{NoMemory};
+ghost use Rattle.bpf_assembler.specs.Text.{text_of, IsTextOf};
+ghost use Rattle.bpf_assembler.specs.Faults.{line_number, IsFaultyLine, IsFirstFault, GivesUnlessNoMemory};
+
+use crate::cursor::Cursor;
+use crate::fault::AsmFault;
+use bpf_model::limits::PROGRAM_UNITS;
+use bpf_model::{Insn, Program};
+use std::alloc::{AllocError, Global};
+
+fn append(instructions: &mut Vec<Insn>, insn: &Insn) -> Result<(), AllocError>
+    ensures { OnOk result (instructions.new.items ≡ instructions.old.items ++ insn.now ∷ []) }
+{
+    instructions.extend_from_slice(&[*insn])
+}
+
+fn instructions(alloc: Global, text: &[u8]) -> Result<Vec<Insn>, AsmFault>
+    ensures fits { IfOk result (λ v. AreInstructions v.items) }
+    ensures few { IfOk result (λ v. unit_count v.items ≤ PROGRAM_UNITS) }
+    ensures lines { IfOk result (λ v. text.now ≡ text_of v.items) }
+    ensures first_fault { IfErr result (λ e. (e ≡ NoMemory) ⊎ IsFaultyLine text.now (line_number e)) }
+{
+    let mut cursor = Cursor::new(text);
+    let mut instructions = Vec::new(alloc);
+    let mut units = 0;
+    while !cursor.is_done() {
+        let line = instructions.len() + 1;
+        let insn = match cursor.line() {
+            Ok(insn) => insn,
+            Err(fault) => return Err(fault.at(line)),
+        };
+        units += insn.units();
+        if units > PROGRAM_UNITS {
+            return Err(AsmFault::BadCount(line));
+        }
+        append(&mut instructions, &insn)?;
+    }
+    Ok(instructions)
+}
+
+/// The program whose canonical text this is; else the first faulty line, and what is wrong with it. Asks for memory
+/// for the program alone.
+pub fn assemble(alloc: Global, text: &str) -> Result<Program, AsmFault>
+    // What is read has this text.
+    ensures found { IfOk result (IsTextOf text.now) }
+    // A program that has this text is read, unless memory is refused.
+    ensures only { (p : List Insn) → IsTextOf text.now p → GivesUnlessNoMemory result (Ok p) }
+    // Which line is refused.
+    ensures first_fault { IfErr result (λ e. (e ≡ NoMemory) ⊎ IsFirstFault text.now (line_number e)) }
+{
+    let instructions = instructions(alloc, text.as_bytes())?;
+    match Program::new(instructions) {
+        Some(program) => Ok(program),
+        None => Err(AsmFault::BadCount(0)),
+    }
+}

@@ -1,0 +1,132 @@
+//! A place in a text, from which bytes are read in order.
+ghost use Rattle.std.specs.Prelude.{◌≡◌, ◌≤◌, ◌++◌, ◌∷◌, take, drop, length, codes, OnOk, IsTrue, nat_eq, if◌then◌else◌};
+ghost use Rattle.bpf_assembler.specs.Reading.{Gives, run, is_digit, is_name_byte, begins_with, byte_at, newline_at};
+
+use crate::fault::LineFault;
+
+/// What is left of a text.
+#[derive(Drop)]
+pub(crate) struct Cursor<'a> {
+    rest: &'a [u8],
+}
+
+fn is_digit(byte: u8) -> bool
+    ensures { result ≡ is_digit byte }
+{
+    byte.is_ascii_digit()
+}
+
+fn is_name_byte(byte: u8) -> bool
+    ensures { result ≡ is_name_byte byte }
+{
+    byte != b' ' && byte != b'\n'
+}
+
+fn digits_length(text: &[u8]) -> usize
+    ensures value { result ≡ run is_digit text.now }
+    ensures within { result ≤ length text.now }
+{
+    for place in 0..text.len() {
+        if !is_digit(text[place]) {
+            return place;
+        }
+    }
+    text.len()
+}
+
+fn name_length(text: &[u8]) -> usize
+    ensures value { result ≡ run is_name_byte text.now }
+    ensures within { result ≤ length text.now }
+{
+    for place in 0..text.len() {
+        if !is_name_byte(text[place]) {
+            return place;
+        }
+    }
+    text.len()
+}
+
+impl<'a> Cursor<'a> {
+    /// The start of a text.
+    pub(crate) fn new(text: &'a [u8]) -> Cursor<'a>
+        ensures { result.rest.now ≡ text.now }
+    {
+        Cursor { rest: text }
+    }
+
+    /// Whether nothing is left.
+    pub(crate) fn is_done(&self) -> bool
+        ensures { result ≡ nat_eq (length self.now.rest.now) 0 }
+    {
+        self.rest.is_empty()
+    }
+
+    /// Whether this byte is next.
+    pub(crate) fn begins_with(&self, byte: u8) -> bool
+        ensures { result ≡ begins_with byte self.now.rest.now }
+    {
+        match self.rest {
+            [first, ..] => *first == byte,
+            [] => false,
+        }
+    }
+
+    /// Takes this byte where it is next, and tells whether it was.
+    pub(crate) fn take(&mut self, byte: u8) -> bool
+        ensures value { result ≡ begins_with byte self.old.rest.now }
+        ensures rest { self.new.rest.now ≡ (if result then drop 1 self.old.rest.now else self.old.rest.now) }
+        ensures found { IsTrue result → self.old.rest.now ≡ byte ∷ self.new.rest.now }
+    {
+        let next = self.begins_with(byte);
+        if next {
+            self.rest = &self.rest[1..];
+        }
+        next
+    }
+
+    /// Takes all digits up to something else.
+    pub(crate) fn digits(&mut self) -> &'a [u8]
+        ensures digits { result.now ≡ take (run is_digit self.old.rest.now) self.old.rest.now }
+        ensures rest { self.new.rest.now ≡ drop (run is_digit self.old.rest.now) self.old.rest.now }
+    {
+        let (digits, rest) = self.rest.split_at(digits_length(self.rest));
+        self.rest = rest;
+        digits
+    }
+
+    /// Takes all bytes up to a blank or a newline.
+    pub(crate) fn name(&mut self) -> &'a [u8]
+        ensures name { result.now ≡ take (run is_name_byte self.old.rest.now) self.old.rest.now }
+        ensures rest { self.new.rest.now ≡ drop (run is_name_byte self.old.rest.now) self.old.rest.now }
+    {
+        let (name, rest) = self.rest.split_at(name_length(self.rest));
+        self.rest = rest;
+        name
+    }
+
+    /// Takes this byte, which has to be next.
+    #[tactic(auto, unfolding(crate::specs::Reading::byte_at))]
+    pub(crate) fn byte(&mut self, byte: u8) -> Result<(), LineFault>
+        ensures exact { Gives self.new.rest.now result (byte_at byte self.old.rest.now) }
+        ensures found { OnOk result (self.old.rest.now ≡ byte ∷ self.new.rest.now) }
+    {
+        if self.take(byte) {
+            Ok(())
+        } else {
+            Err(LineFault::BadOperand)
+        }
+    }
+
+    /// Takes the newline at the end of a line.
+    #[tactic(auto, unfolding(crate::specs::Reading::newline_at))]
+    pub(crate) fn newline(&mut self) -> Result<(), LineFault>
+        ensures exact { Gives self.new.rest.now result (newline_at self.old.rest.now) }
+        ensures found { OnOk result (self.old.rest.now ≡ codes "\n" ++ self.new.rest.now) }
+    {
+        if self.take(b'\n') {
+            Ok(())
+        } else {
+            Err(LineFault::Trailing)
+        }
+    }
+}

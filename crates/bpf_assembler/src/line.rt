@@ -1,0 +1,83 @@
+//! Lines of a text.
+ghost use Rattle.std.specs.Prelude.{◌≡◌, ◌++◌, codes, IfOk, OnOk};
+ghost use Rattle.bpf_model.specs.Spelling.{IsRegister, IsOffset, IsOperand, IsInstruction};
+ghost use Rattle.bpf_assembler.specs.Names.{name_of};
+ghost use Rattle.bpf_assembler.specs.Text.{register, operand, offset, mnemonic_of, operands_of, line_of};
+ghost use Rattle.bpf_assembler.specs.Reading.{Gives, comma_at, operand_at, base_at, displacement_at, operands_at, name_at, line_at};
+
+use crate::cursor::Cursor;
+use crate::fault::LineFault;
+use crate::mnemonic::Mnemonic;
+use bpf_model::{Insn, Operand, Reg};
+
+impl<'a> Cursor<'a> {
+    /// Takes a comma and a blank.
+    #[tactic(auto, unfolding(crate::specs::Reading::comma_at))]
+    pub(crate) fn comma(&mut self) -> Result<(), LineFault>
+        ensures exact { Gives self.new.rest.now result (comma_at self.old.rest.now) }
+        ensures found { OnOk result (self.old.rest.now ≡ codes ", " ++ self.new.rest.now) }
+    {
+        self.byte(b',')?;
+        self.byte(b' ')
+    }
+
+    /// Takes a register or an immediate.
+    #[tactic(auto, unfolding(crate::specs::Reading::operand_at))]
+    pub(crate) fn operand(&mut self) -> Result<Operand, LineFault>
+        ensures exact { Gives self.new.rest.now result (operand_at self.old.rest.now) }
+        ensures found { IfOk result (λ src. (self.old.rest.now ≡ operand src ++ self.new.rest.now) × IsOperand src) }
+    {
+        if self.begins_with(b'r') {
+            let register = self.register()?;
+            Ok(Operand::Register(register))
+        } else {
+            let imm = self.immediate()?;
+            Ok(Operand::Immediate(imm))
+        }
+    }
+
+    /// Takes the start of a place in memory: a bracket and a register.
+    #[tactic(auto, unfolding(crate::specs::Reading::base_at))]
+    pub(crate) fn base(&mut self) -> Result<Reg, LineFault>
+        ensures exact { Gives self.new.rest.now result (base_at self.old.rest.now) }
+        ensures found { IfOk result (λ r. (self.old.rest.now ≡ codes "[" ++ register r ++ self.new.rest.now) × IsRegister r) }
+    {
+        self.byte(b'[')?;
+        self.register()
+    }
+
+    /// Takes the end of a place in memory: an offset and a bracket.
+    #[tactic(auto, unfolding(crate::specs::Reading::displacement_at))]
+    pub(crate) fn displacement(&mut self) -> Result<i16, LineFault>
+        ensures exact { Gives self.new.rest.now result (displacement_at self.old.rest.now) }
+        ensures found { IfOk result (λ z. (self.old.rest.now ≡ offset z ++ codes "]" ++ self.new.rest.now) × IsOffset z) }
+    {
+        let offset = self.offset()?;
+        self.byte(b']')?;
+        Ok(offset)
+    }
+
+    /// Takes the instruction's name.
+    #[tactic(auto, unfolding(crate::specs::Reading::name_at))]
+    fn mnemonic(&mut self) -> Result<Mnemonic, LineFault>
+        ensures exact { Gives self.new.rest.now result (name_at self.old.rest.now) }
+        ensures found { IfOk result (λ m. self.old.rest.now ≡ name_of m ++ self.new.rest.now) }
+    {
+        match Mnemonic::from_name(self.name()) {
+            Some(mnemonic) => Ok(mnemonic),
+            None => Err(LineFault::UnknownName),
+        }
+    }
+
+    /// Takes a line with its newline.
+    #[tactic(auto, unfolding(crate::specs::Reading::line_at, crate::specs::Text::line_of))]
+    pub(crate) fn line(&mut self) -> Result<Insn, LineFault>
+        ensures exact { Gives self.new.rest.now result (line_at self.old.rest.now) }
+        ensures found { IfOk result (λ i. (self.old.rest.now ≡ line_of i ++ self.new.rest.now) × IsInstruction i) }
+    {
+        let mnemonic = self.mnemonic()?;
+        let insn = self.operands(mnemonic)?;
+        self.newline()?;
+        Ok(insn)
+    }
+}

@@ -1,0 +1,117 @@
+//! Text from programs.
+ghost use Rattle.std.specs.Prelude.{◌≡◌, ◌≤◌, ◌++◌, codes, IfOk, OnOk, string_bytes};
+ghost use Rattle.bpf_model.specs.Spelling.{IsOperand, IsInstruction};
+ghost use Rattle.bpf_assembler.specs.Names.{name_of};
+ghost use Rattle.bpf_assembler.specs.Text.{register, operand, offset, place, mnemonic_of, operands_of, line_of, text_of, IsTextOf};
+
+use crate::mnemonic::Mnemonic;
+use crate::tables::Named;
+use bpf_model::{Insn, NoMemory, Operand, Program, Reg};
+use std::alloc::{AllocError, Global};
+use std::fmt::Write;
+
+#[tactic(auto, unfolding(crate::specs::Names::name_of))]
+fn write_name(text: &mut String, mnemonic: Mnemonic) -> Result<(), AllocError>
+    ensures { OnOk result (string_bytes text.new ≡ string_bytes text.old ++ name_of mnemonic) }
+{
+    write!(text, "{}{}", mnemonic.stem().word(), mnemonic.suffix())
+}
+
+fn write_operand(text: &mut String, src: Operand) -> Result<(), AllocError>
+    ensures text { OnOk result (string_bytes text.new ≡ string_bytes text.old ++ operand src) }
+    ensures fits { OnOk result (IsOperand src) }
+{
+    match src {
+        Operand::Register(r) => write!(text, "r{}", r.number()),
+        Operand::Immediate(imm) => write!(text, "{imm}"),
+    }
+}
+
+#[tactic(auto, using(crate::proofs::SignLemmas::styled_with_sign))]
+fn write_distance(text: &mut String, distance: i32) -> Result<(), AllocError>
+    ensures { OnOk result (string_bytes text.new ≡ string_bytes text.old ++ offset distance) }
+{
+    write!(text, "{distance:+}")
+}
+
+fn write_place(text: &mut String, base: Reg, distance: i16) -> Result<(), AllocError>
+    ensures text { OnOk result (string_bytes text.new ≡ string_bytes text.old ++ place base distance) }
+    ensures fits { OnOk result (base ≤ 10) }
+{
+    write!(text, "[r{}", base.number())?;
+    write_distance(text, i32::from(distance))?;
+    text.push_str("]")
+}
+
+#[tactic(auto, unfolding(crate::specs::Text::operands_of))]
+fn write_operands(text: &mut String, insn: Insn) -> Result<(), AllocError>
+    ensures text { OnOk result (string_bytes text.new ≡ string_bytes text.old ++ operands_of insn) }
+    ensures fits { OnOk result (IsInstruction insn) }
+{
+    match insn {
+        Insn::Alu { dst, src, .. } | Insn::Mov { dst, src, .. } => {
+            write!(text, " r{}, ", dst.number())?;
+            write_operand(text, src)
+        }
+        Insn::Negate { dst, .. } | Insn::Reorder { dst, .. } => {
+            write!(text, " r{}", dst.number())
+        }
+        Insn::SignExtend { dst, src, .. } => {
+            write!(text, " r{}, r{}", dst.number(), src.number())
+        }
+        Insn::Wide { dst, value } => write!(text, " r{}, {value}", dst.number()),
+        Insn::Load {
+            dst, src, offset, ..
+        } => {
+            write!(text, " r{}, ", dst.number())?;
+            write_place(text, src, offset)
+        }
+        Insn::Store {
+            dst, src, offset, ..
+        } => {
+            text.push_str(" ")?;
+            write_place(text, dst, offset)?;
+            text.push_str(", ")?;
+            write_operand(text, src)
+        }
+        Insn::Jump { distance } => {
+            text.push_str(" ")?;
+            write_distance(text, i32::from(distance))
+        }
+        Insn::JumpLong { distance } => {
+            text.push_str(" ")?;
+            write_distance(text, distance)
+        }
+        Insn::Branch {
+            dst, src, distance, ..
+        } => {
+            write!(text, " r{}, ", dst.number())?;
+            write_operand(text, src)?;
+            text.push_str(", ")?;
+            write_distance(text, i32::from(distance))
+        }
+        Insn::Exit => Ok(()),
+    }
+}
+
+#[tactic(auto, unfolding(crate::specs::Text::line_of))]
+fn write_line(text: &mut String, insn: &Insn) -> Result<(), AllocError>
+    ensures text { OnOk result (string_bytes text.new ≡ string_bytes text.old ++ line_of insn.now) }
+    ensures fits { OnOk result (IsInstruction insn.now) }
+{
+    write_name(text, Mnemonic::of(*insn))?;
+    write_operands(text, *insn)?;
+    text.push_str("\n")
+}
+
+/// The canonical text of a program, which `assemble` reads back. Asks for memory for the text alone.
+#[tactic(auto, unfolding(crate::specs::Text::text_of))]
+pub fn disassemble(alloc: Global, program: &Program) -> Result<String, NoMemory>
+    ensures text { IfOk result (λ text. IsTextOf (string_bytes text) program.now) }
+{
+    let mut text = String::new(alloc);
+    for insn in program.instructions() {
+        write_line(&mut text, insn)?;
+    }
+    Ok(text)
+}
