@@ -3,3 +3,4 @@ pub mod MapEdits
 pub mod CallLemmas
 pub mod ListLemmas
 pub mod HexLemmas
+pub mod UnitLineLemmas

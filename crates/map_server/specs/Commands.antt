@@ -1,6 +1,7 @@
 -- What is true where a command reports so: of the text on standard input, and of the words of the command line.
 use Rattle.std.specs.Prelude.{◌≡◌, ◌↔◌, ◌⊎◌, ◌<◌, ℕ, List, length, Option, Some, None, Err}
 use Rattle.std.specs.Borrow.{Bor}
+use Rattle.std.specs.Str.{IsUtf8}
 use Rattle.bpf_model.specs.declared.input.Sizes.{Sizes}
 use Rattle.bpf_model.specs.declared.input.Input.{Input}
 use Rattle.bpf_model.specs.declared.instruction.Insn.{Insn}
@@ -8,6 +9,9 @@ use Rattle.bpf_model.specs.declared.limits.TheConstants.{KEY_BYTES, VALUE_BYTES}
 use Rattle.bpf_model.specs.Fits.{Fits, first_unfit}
 use Rattle.bpf_model.specs.Meaning.{IsSafe, Means}
 use Rattle.bpf_model.specs.Spelling.{Spells}
+use Rattle.bpf_assembler.specs.Text.{IsTextOf}
+use Rattle.bpf_assembler.specs.Faults as assemble
+use Rattle.bpf_assembler.specs.declared.fault.AsmFault.TheVariants as asm_faults
 use Rattle.bpf_decode.specs.Faults as decode
 use Rattle.bpf_decode.specs.declared.fault.DecodeFault.TheVariants as decode_faults
 use Rattle.flow_shape.specs.FlowShape as flow
@@ -16,11 +20,12 @@ use Rattle.verifier.specs.declared.fault.VerifyFault.TheVariants.{SizesTooLarge}
 use Rattle.map_server.specs.Hex.{SpellsBytes, IsFault}
 use Rattle.map_server.specs.declared.words.RunTexts.{RunTexts}
 use Rattle.map_server.specs.declared.words.Command.{Command}
-use Rattle.map_server.specs.declared.words.Command.TheVariants.{Check, Run}
+use Rattle.map_server.specs.declared.words.Command.TheVariants.{Asm, Disasm, Check, Run}
 use Rattle.map_server.specs.declared.refusal.Refusal.{Refusal}
-use Rattle.map_server.specs.declared.refusal.Refusal.TheVariants.{TooLong, NoMemory, NotHex, Decode, Flow, Verify}
+use Rattle.map_server.specs.declared.refusal.Refusal.TheVariants.{TooLong, NoMemory, NotHex, Assemble, Decode, Flow, Verify}
 use Rattle.map_server.specs.declared.report.Report.{Report}
-use Rattle.map_server.specs.declared.report.Report.TheVariants.{Accepted, Answered, Unfit, Refused}
+use Rattle.map_server.specs.declared.report.Report.TheVariants.{Text, Accepted, Answered, Unfit, Refused}
+use Rattle.map_server.specs.Reports.{unit_lines}
 
 -- hex text spells the bytes of this program
 pub record SpellsProgram (text : List ℕ) (program : List Insn) : Type 0 where
@@ -46,12 +51,23 @@ pub record SpellsInput (texts : RunTexts) (input : Input) : Type 0 where
   pub old : SpellsValue texts.old input.old
   pub arg : SpellsValue texts.arg input.arg
 
--- why the text on standard input spells no program that is found safe with these sizes
+-- why the text on standard input spells no program
+abbrev pub IsBytesRefused : List ℕ → Refusal → Type 0
+IsBytesRefused text TooLong = ⊥
+IsBytesRefused text NoMemory = Unit {0}
+IsBytesRefused text (NotHex place) = IsFault text place
+IsBytesRefused text (Assemble fault) = ⊥
+IsBytesRefused text (Decode fault) = (bytes : List ℕ) × SpellsBytes text bytes × ((fault ≡ decode_faults.NoMemory) ⊎ decode.IsFirstFault bytes fault)
+IsBytesRefused text (Flow fault) = ⊥
+IsBytesRefused text (Verify fault) = ⊥
+
+-- why it spells no program that is found safe with these sizes
 abbrev pub IsProgramRefused : List ℕ → Sizes → Refusal → Type 0
 IsProgramRefused text sizes TooLong = ⊥
 IsProgramRefused text sizes NoMemory = Unit {0}
-IsProgramRefused text sizes (NotHex place) = IsFault text place
-IsProgramRefused text sizes (Decode fault) = (bytes : List ℕ) × SpellsBytes text bytes × ((fault ≡ decode_faults.NoMemory) ⊎ decode.IsFirstFault bytes fault)
+IsProgramRefused text sizes (NotHex place) = IsBytesRefused text (NotHex place)
+IsProgramRefused text sizes (Assemble fault) = ⊥
+IsProgramRefused text sizes (Decode fault) = IsBytesRefused text (Decode fault)
 IsProgramRefused text sizes (Flow fault) = (program : List Insn) × SpellsProgram text program × flow.IsFirstFault program fault
 IsProgramRefused text sizes (Verify fault) =
     (program : List Insn) × SpellsProgram text program × flow.IsWellShaped program × ((fault ≡ SizesTooLarge) ↔ ExceedLimits sizes)
@@ -61,6 +77,7 @@ abbrev pub IsTextRefused : List ℕ → ℕ → Refusal → Type 0
 IsTextRefused text most TooLong = (bytes : List ℕ) × SpellsBytes text bytes × (most < length bytes)
 IsTextRefused text most NoMemory = Unit {0}
 IsTextRefused text most (NotHex place) = IsFault text place
+IsTextRefused text most (Assemble fault) = ⊥
 IsTextRefused text most (Decode fault) = ⊥
 IsTextRefused text most (Flow fault) = ⊥
 IsTextRefused text most (Verify fault) = ⊥
@@ -79,6 +96,7 @@ IsInputRefused texts refusal =
 
 -- what holds of the program and the input of a run that is reported so
 abbrev pub IsRunReport : Sizes → RunTexts → List ℕ → Report → Type 0
+IsRunReport sizes texts text (Text printed) = ⊥
 IsRunReport sizes texts text Accepted = ⊥
 IsRunReport sizes texts text (Answered answer) =
     (program : List Insn) × SpellsSafe text sizes program
@@ -90,11 +108,48 @@ IsRunReport sizes texts text (Refused refusal) =
     IsProgramRefused text sizes refusal ⊎ ((program : List Insn) × SpellsSafe text sizes program × IsInputRefused texts refusal)
 
 abbrev pub IsCheckReport : Sizes → List ℕ → Report → Type 0
+IsCheckReport sizes text (Text printed) = ⊥
 IsCheckReport sizes text Accepted = (program : List Insn) × SpellsSafe text sizes program
 IsCheckReport sizes text (Answered answer) = ⊥
 IsCheckReport sizes text (Unfit window) = ⊥
 IsCheckReport sizes text (Refused refusal) = IsProgramRefused text sizes refusal
 
+-- why a text is no program's
+abbrev pub IsAsmRefused : List ℕ → Refusal → Type 0
+IsAsmRefused text TooLong = ⊥
+IsAsmRefused text NoMemory = Unit {0}
+IsAsmRefused text (NotHex place) = ⊥
+IsAsmRefused text (Assemble fault) = (fault ≡ asm_faults.NoMemory) ⊎ assemble.IsFirstFault text (assemble.line_number fault)
+IsAsmRefused text (Decode fault) = ⊥
+IsAsmRefused text (Flow fault) = ⊥
+IsAsmRefused text (Verify fault) = ⊥
+
+-- the bytes of the program whose text it is are printed
+abbrev pub IsAsmReport : List ℕ → Report → Type 0
+IsAsmReport text (Text printed) =
+    (program : List Insn) × IsTextOf text program × ((bytes : List ℕ) × Spells bytes program × (printed.items ≡ unit_lines bytes))
+IsAsmReport text Accepted = ⊥
+IsAsmReport text (Answered answer) = ⊥
+IsAsmReport text (Unfit window) = ⊥
+IsAsmReport text (Refused refusal) = IsAsmRefused text refusal
+
+-- the text of the program that hex text spells is printed
+abbrev pub IsDisasmReport : List ℕ → Report → Type 0
+IsDisasmReport text (Text printed) = (program : List Insn) × SpellsProgram text program × IsTextOf printed.items program
+IsDisasmReport text Accepted = ⊥
+IsDisasmReport text (Answered answer) = ⊥
+IsDisasmReport text (Unfit window) = ⊥
+IsDisasmReport text (Refused refusal) = IsBytesRefused text refusal
+
+-- the command reads a program's text, and this is no text
+abbrev pub IsUnreadable : Command → List ℕ → Type 0
+IsUnreadable Asm text = IsUtf8 text → ⊥
+IsUnreadable Disasm text = ⊥
+IsUnreadable (Check sizes) text = ⊥
+IsUnreadable (Run sizes texts) text = ⊥
+
 abbrev pub IsReport : Command → List ℕ → Report → Type 0
+IsReport Asm text report = IsAsmReport text report
+IsReport Disasm text report = IsDisasmReport text report
 IsReport (Check sizes) text report = IsCheckReport sizes text report
 IsReport (Run sizes texts) text report = IsRunReport sizes texts text report

@@ -1,11 +1,11 @@
--- The line that is printed for a report, and its status.
-use Rattle.std.specs.Prelude.{ℕ, ◌/◌, ◌%◌, List, [], ◌∷◌, ◌++◌, slice_index, codes, decimal}
+-- What is printed for a report, and its status.
+use Rattle.std.specs.Prelude.{ℕ, suc, ◌/◌, ◌%◌, List, [], ◌∷◌, ◌++◌, slice_index, codes, decimal, nat_eq, if◌then◌else◌}
 use Rattle.std.specs.List.{flat_map}
 use Rattle.bpf_model.specs.declared.input.Answer.TheVariants.{Nothing, Bytes}
 use Rattle.bpf_model.specs.declared.input.Window.{Window}
 use Rattle.bpf_model.specs.declared.input.Window.TheVariants.{Key, Old, Arg}
 use Rattle.map_server.specs.declared.report.Report.{Report}
-use Rattle.map_server.specs.declared.report.Report.TheVariants.{Accepted, Answered, Unfit, Refused}
+use Rattle.map_server.specs.declared.report.Report.TheVariants.{Text, Accepted, Answered, Unfit, Refused}
 use Rattle.map_server.specs.Refusals.{number_of, place_of}
 
 -- a digit of a byte, in lower case
@@ -16,13 +16,34 @@ digit n = slice_index (codes "0123456789abcdef") n
 abbrev pub spaced : ℕ → List ℕ
 spaced byte = 32 ∷ digit (byte / 16) ∷ digit (byte % 16) ∷ []
 
+-- a unit's bytes stand on a line: after the eighth comes a newline, after each other one a blank
+abbrev pub separator : ℕ → ℕ
+separator place = if nat_eq (place % 8) 7 then 10 else 32
+
+-- the lines of bytes, the first of which has this place
+unfoldable pub unit_lines_from : ℕ → List ℕ → List ℕ
+unit_lines_from place [] = []
+unit_lines_from place (byte ∷ bytes) = digit (byte / 16) ∷ digit (byte % 16) ∷ separator place ∷ unit_lines_from (suc place) bytes
+
+abbrev pub unit_lines : List ℕ → List ℕ
+unit_lines bytes = unit_lines_from 0 bytes
+
 abbrev pub name_of : Window → List ℕ
 name_of Key = codes "key"
 name_of Old = codes "old"
 name_of Arg = codes "arg"
 
--- the line with its newline
+-- what is printed is one line
+abbrev pub IsLine : Report → Type 0
+IsLine (Text text) = ⊥
+IsLine Accepted = Unit {0}
+IsLine (Answered answer) = Unit {0}
+IsLine (Unfit window) = Unit {0}
+IsLine (Refused refusal) = Unit {0}
+
+-- what is printed, each line with its newline
 abbrev pub text_of : Report → List ℕ
+text_of (Text text) = text.items
 text_of Accepted = codes "accepted\n"
 text_of (Answered Nothing) = codes "nothing\n"
 text_of (Answered (Bytes value)) = codes "bytes" ++ flat_map spaced value ++ codes "\n"
@@ -30,6 +51,7 @@ text_of (Unfit window) = codes "unfit " ++ name_of window ++ codes "\n"
 text_of (Refused refusal) = codes "refused " ++ decimal (number_of refusal) ++ codes " at " ++ decimal (place_of refusal) ++ codes "\n"
 
 abbrev pub status_of : Report → ℕ
+status_of (Text text) = 0
 status_of Accepted = 0
 status_of (Answered answer) = 0
 status_of (Unfit window) = 1

@@ -4,8 +4,8 @@ ghost use Rattle.std.specs.Io.KnownBytes.{Appends};
 ghost use Rattle.std.specs.IoError.{error_kind};
 ghost use Rattle.std.specs.declared.io.ErrorKind.TheVariants.{OutOfMemory};
 ghost use Rattle.map_server.specs.Commands.{IsReport};
-ghost use Rattle.map_server.specs.Endings.{Prints, Tells};
-ghost use Rattle.map_server.specs.Reports.{text_of};
+ghost use Rattle.map_server.specs.Endings.{Prints, Tells, FailsToRead};
+ghost use Rattle.map_server.specs.Reports.{text_of, status_of};
 ghost use Rattle.map_server.specs.declared.words.Command.{Command};
 
 #[cfg(test)]
@@ -34,10 +34,11 @@ fn read_report<R: Source>(
     ensures report { IfOk result (λ report. IfSome (R.left reader.old)
         (λ text. IsReport command.now text report)) }
     ensures ok { OnOk result (R.failures reader.new ≡ R.failures reader.old) }
-    ensures err { OnErr result (R.failures reader.new ≡ R.failures reader.old + 1) }
+    ensures err { OnErr result (FailsToRead command.now (R.failures reader.old) (R.failures reader.new)
+        (R.left reader.old)) }
 {
     match read_all(alloc, reader) {
-        Ok(text) => Ok(report_of(alloc, command, &text)),
+        Ok(text) => report_of(alloc, command, &text),
         Err(ReadFault::NoMemory) => Ok(Report::Refused(Refusal::NoMemory)),
         Err(ReadFault::Failed) => Err(Failed),
     }
@@ -72,6 +73,23 @@ fn print<W: Sink, E: Sink>(text: &[u8], status: u8, writer: &mut W, errors: &mut
     }
 }
 
+/// Prints what came of a command, and answers its status, or that of a failed write.
+fn print_report<W: Sink, E: Sink>(report: &Report, writer: &mut W, errors: &mut E) -> u8
+    requires writes { W.failures writer.old < 2 ^ 64 - 1 }
+    requires tells { E.failures errors.old < 2 ^ 64 - 1 }
+    ensures status { (result ≢ 3) → result ≡ status_of report.now }
+    ensures printed { (result ≢ 3) → Appends (W.held writer.old) (W.held writer.new) (text_of report.now) }
+    ensures sound { (result ≢ 3) → W.failures writer.new ≡ W.failures writer.old }
+    ensures failed { result ≡ 3 → (W.failures writer.new ≡ W.failures writer.old + 1)
+        × Tells (E.failures errors.old) (E.failures errors.new)
+        (E.held errors.old) (E.held errors.new) (codes "failed write\n") }
+{
+    match report {
+        Report::Text(text) => print(text.as_slice(), report.status(), writer, errors),
+        _ => print(report.line().as_slice(), report.status(), writer, errors),
+    }
+}
+
 /// Prints that a request for memory was refused.
 fn refuse_memory<W: Sink, E: Sink>(writer: &mut W, errors: &mut E) -> u8
     requires writes { W.failures writer.old < 2 ^ 64 - 1 }
@@ -84,8 +102,7 @@ fn refuse_memory<W: Sink, E: Sink>(writer: &mut W, errors: &mut E) -> u8
         × Tells (E.failures errors.old) (E.failures errors.new)
         (E.held errors.old) (E.held errors.new) (codes "failed write\n") }
 {
-    let report = Report::Refused(Refusal::NoMemory);
-    print(report.line().as_slice(), report.status(), writer, errors)
+    print_report(&Report::Refused(Refusal::NoMemory), writer, errors)
 }
 
 /// Prints the text that clap has for the user: help and version on standard output, a fault on standard error. Where
@@ -158,7 +175,8 @@ pub fn carry_out<R: Source, W: Sink, E: Sink>(
         → Prints command.now (R.left reader.old) (W.held writer.old) (W.held writer.new) result }
     ensures sound { (result ≢ 3) → (R.failures reader.new ≡ R.failures reader.old)
         × (W.failures writer.new ≡ W.failures writer.old) }
-    ensures failed { result ≡ 3 → ((R.failures reader.new ≡ R.failures reader.old + 1)
+    ensures failed { result ≡ 3 → (FailsToRead command.now (R.failures reader.old)
+        (R.failures reader.new) (R.left reader.old)
         × Tells (E.failures errors.old) (E.failures errors.new)
         (E.held errors.old) (E.held errors.new) (codes "failed read\n"))
         ⊎ ((W.failures writer.new ≡ W.failures writer.old + 1)
@@ -166,7 +184,7 @@ pub fn carry_out<R: Source, W: Sink, E: Sink>(
         (E.held errors.old) (E.held errors.new) (codes "failed write\n")) }
 {
     match read_report(alloc, command, reader) {
-        Ok(report) => print(report.line().as_slice(), report.status(), writer, errors),
+        Ok(report) => print_report(&report, writer, errors),
         Err(Failed) => tell_failed(errors, b"failed read\n"),
     }
 }
@@ -191,7 +209,8 @@ pub fn bpfmap_on<R: Source, W: Sink, E: Sink>(
         × (W.held writer.new ≡ W.held writer.old) }
     ensures sound { (result ≢ 3) → (R.failures reader.new ≡ R.failures reader.old)
         × (W.failures writer.new ≡ W.failures writer.old) }
-    ensures failed { result ≡ 3 → ((R.failures reader.new ≡ R.failures reader.old + 1)
+    ensures failed { result ≡ 3 → ((command : Command)
+        × FailsToRead command (R.failures reader.old) (R.failures reader.new) (R.left reader.old)
         × Tells (E.failures errors.old) (E.failures errors.new)
         (E.held errors.old) (E.held errors.new) (codes "failed read\n"))
         ⊎ ((W.failures writer.new ≡ W.failures writer.old + 1)

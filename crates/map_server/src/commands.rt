@@ -1,28 +1,53 @@
 //! What comes of a command on a text: the steps from hex text to an answer.
-ghost use Rattle.std.specs.Prelude.{◌≡◌, IfOk, IfErr};
+ghost use Rattle.std.specs.Prelude.{◌≡◌, IfOk, IfErr, OnErr};
 ghost use Rattle.bpf_model.specs.declared.limits.TheConstants.{KEY_BYTES};
 ghost use Rattle.map_server.specs.Hex.{SpellsBytes};
-ghost use Rattle.map_server.specs.Commands.{SpellsSafe, SpellsValue, SpellsInput, IsProgramRefused, IsTextRefused, IsValueRefused, IsInputRefused, IsCheckReport, IsRunReport, IsReport};
+ghost use Rattle.map_server.specs.Commands.{SpellsProgram, SpellsSafe, SpellsValue, SpellsInput, IsBytesRefused, IsProgramRefused, IsTextRefused, IsValueRefused, IsInputRefused, IsAsmReport, IsDisasmReport, IsCheckReport, IsRunReport, IsUnreadable, IsReport};
 
+use crate::devices::Failed;
 use crate::hex::hex_bytes;
 use crate::refusal::Refusal;
-use crate::report::Report;
+use crate::report::{Report, unit_lines};
 use crate::words::{Command, RunTexts};
-use bpf_decode::decode;
+use bpf_assembler::{assemble, disassemble};
+use bpf_decode::{decode, encode};
 use bpf_machine::run;
-use bpf_model::{Input, Key, Sizes, Value, fits};
+use bpf_model::{Input, Key, Program, Sizes, Value, fits};
 use flow_shape::shape;
 use std::alloc::Global;
 use verifier::{Verified, verify};
+
+fn program_of(alloc: Global, text: &[u8]) -> Result<Program, Refusal>
+    ensures ok { IfOk result (λ program. SpellsProgram text.now program) }
+    ensures err { IfErr result (λ refusal. IsBytesRefused text.now refusal) }
+{
+    let bytes = hex_bytes(alloc, text)?;
+    Ok(decode(alloc, &bytes)?)
+}
+
+fn asm_once(alloc: Global, text: &str) -> Result<Report, Refusal>
+    ensures ok { IfOk result (λ report. IsAsmReport text.now report) }
+    ensures err { IfErr result (λ refusal. IsAsmReport text.now (Report.Refused refusal)) }
+{
+    let program = assemble(alloc, text)?;
+    let bytes = encode(alloc, &program)?;
+    Ok(Report::Text(unit_lines(alloc, &bytes)?))
+}
+
+fn disasm_once(alloc: Global, text: &[u8]) -> Result<Report, Refusal>
+    ensures ok { IfOk result (λ report. IsDisasmReport text.now report) }
+    ensures err { IfErr result (λ refusal. IsDisasmReport text.now (Report.Refused refusal)) }
+{
+    let program = program_of(alloc, text)?;
+    Ok(Report::Text(disassemble(alloc, &program)?.into_bytes()))
+}
 
 fn verified(alloc: Global, text: &[u8], sizes: Sizes) -> Result<Verified, Refusal>
     ensures ok { IfOk result (λ v. SpellsSafe text.now sizes v.program) }
     ensures sizes { IfOk result (λ v. v.sizes ≡ sizes) }
     ensures err { IfErr result (λ refusal. IsProgramRefused text.now sizes refusal) }
 {
-    let bytes = hex_bytes(alloc, text)?;
-    let program = decode(alloc, &bytes)?;
-    let shaped = shape(program)?;
+    let shaped = shape(program_of(alloc, text)?)?;
     Ok(verify(shaped, sizes)?)
 }
 
@@ -73,6 +98,24 @@ fn run_once(
     }
 }
 
+fn asm_report(alloc: Global, text: &str) -> Report
+    ensures { IsAsmReport text.now result }
+{
+    match asm_once(alloc, text) {
+        Ok(report) => report,
+        Err(refusal) => Report::Refused(refusal),
+    }
+}
+
+fn disasm_report(alloc: Global, text: &[u8]) -> Report
+    ensures { IsDisasmReport text.now result }
+{
+    match disasm_once(alloc, text) {
+        Ok(report) => report,
+        Err(refusal) => Report::Refused(refusal),
+    }
+}
+
 fn check_report(alloc: Global, text: &[u8], sizes: Sizes) -> Report
     ensures { IsCheckReport sizes text.now result }
 {
@@ -92,12 +135,18 @@ fn run_report(alloc: Global, text: &[u8], sizes: Sizes, texts: &RunTexts<'_>) ->
 }
 
 /// What comes of the command on this text: the first refusal, in the order text, program, key, old value, argument,
-/// else a value that doesn't fit, else the answer.
-pub fn report_of(alloc: Global, command: &Command<'_>, text: &[u8]) -> Report
-    ensures { IsReport command.now text.now result }
+/// else a value that doesn't fit, else the answer. `Failed` where a program's text is to be read and this is no UTF-8.
+pub fn report_of(alloc: Global, command: &Command<'_>, text: &[u8]) -> Result<Report, Failed>
+    ensures ok { IfOk result (λ report. IsReport command.now text.now report) }
+    ensures err { OnErr result (IsUnreadable command.now text.now) }
 {
     match command {
-        Command::Check(sizes) => check_report(alloc, text, *sizes),
-        Command::Run(sizes, texts) => run_report(alloc, text, *sizes, texts),
+        Command::Asm => match str::from_utf8(text) {
+            Ok(text) => Ok(asm_report(alloc, text)),
+            Err(_) => Err(Failed),
+        },
+        Command::Disasm => Ok(disasm_report(alloc, text)),
+        Command::Check(sizes) => Ok(check_report(alloc, text, *sizes)),
+        Command::Run(sizes, texts) => Ok(run_report(alloc, text, *sizes, texts)),
     }
 }

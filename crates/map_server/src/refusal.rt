@@ -3,6 +3,7 @@ ghost use Rattle.std.specs.Prelude.{◌≡◌};
 ghost use Rattle.map_server.specs.Refusals.{number_of, place_of};
 
 use crate::hex::HexFault;
+use bpf_assembler::AsmFault;
 use bpf_decode::DecodeFault;
 use bpf_model::{NoMemory, TooLong};
 use flow_shape::FlowFault;
@@ -21,6 +22,9 @@ pub enum Refusal {
     /// A text is no hex text: number 70, at the place of its first byte that begins neither blank space nor a pair.
     #[error("no hex text at place {place}")]
     NotHex { place: usize },
+    /// The text is no program's: numbers 9 and 20 to 24, at the faulty line.
+    #[error("{0}")]
+    Assemble(AsmFault),
     /// The bytes are no program: numbers 9 to 17, at the faulty unit.
     #[error("{0}")]
     Decode(DecodeFault),
@@ -41,19 +45,21 @@ impl Refusal {
             Refusal::TooLong => TooLong::NUMBER,
             Refusal::NoMemory => NoMemory::NUMBER,
             Refusal::NotHex { .. } => 70,
+            Refusal::Assemble(fault) => fault.number(),
             Refusal::Decode(fault) => fault.number(),
             Refusal::Flow(fault) => fault.number(),
             Refusal::Verify(fault) => fault.number(),
         }
     }
 
-    /// The unit of the program or the place in the text that the refusal is about, else 0.
+    /// The unit of the program, the line or the place in the text that the refusal is about, else 0.
     pub fn place(&self) -> usize
         ensures { result ≡ place_of self.now }
     {
         match self {
             Refusal::TooLong | Refusal::NoMemory => 0,
             Refusal::NotHex { place } => *place,
+            Refusal::Assemble(fault) => fault.line(),
             Refusal::Decode(fault) => fault.unit(),
             Refusal::Flow(fault) => fault.unit(),
             Refusal::Verify(fault) => fault.unit(),
@@ -83,6 +89,28 @@ impl From<HexFault> for Refusal {
             HexFault::NotHex { place } => Refusal::NotHex { place },
             HexFault::NoMemory => Refusal::NoMemory,
         }
+    }
+}
+
+impl From<NoMemory> for Refusal {
+    ghost use Rattle.std.specs.Prelude.{◌≡◌};
+    ghost use Rattle.map_server.specs.declared.refusal.Refusal.TheVariants.{NoMemory as OutOfMemory};
+
+    ghost from_gives = { λ _ e. e ≡ OutOfMemory };
+
+    fn from(_: NoMemory) -> Refusal {
+        Refusal::NoMemory
+    }
+}
+
+impl From<AsmFault> for Refusal {
+    ghost use Rattle.std.specs.Prelude.{◌≡◌};
+    ghost use Rattle.map_server.specs.declared.refusal.Refusal.TheVariants.{Assemble};
+
+    ghost from_gives = { λ fault e. e ≡ Assemble fault };
+
+    fn from(fault: AsmFault) -> Refusal {
+        Refusal::Assemble(fault)
     }
 }
 

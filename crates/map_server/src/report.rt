@@ -1,18 +1,21 @@
 //! What is printed for a command, and the status that goes with it.
-ghost use Rattle.std.specs.Prelude.{◌≡◌, ◌≤◌, ◌+◌, ◌++◌, codes, length};
+ghost use Rattle.std.specs.Prelude.{◌≡◌, ◌≤◌, ◌+◌, ◌/◌, ◌%◌, ◌++◌, codes, length, IfOk};
 ghost use Rattle.std.specs.List.{flat_map};
 ghost use Rattle.arrayvec.specs.ArrayVec.{array_vec_len};
-ghost use Rattle.map_server.specs.Reports.{text_of, status_of, spaced};
+ghost use Rattle.map_server.specs.Reports.{text_of, status_of, spaced, digit, separator, unit_lines, IsLine};
 
 use crate::refusal::Refusal;
 use arrayvec::ArrayVec;
 use bpf_model::limits::VALUE_BYTES;
-use bpf_model::{Answer, Window};
+use bpf_model::{Answer, NoMemory, Window};
 use itoa::Buffer;
+use std::alloc::Global;
 
 /// What came of a command.
 #[derive(Debug, Drop)]
 pub enum Report {
+    /// A program, as text or in hex.
+    Text(Vec<u8>),
     /// The program is safe.
     Accepted,
     /// The program's answer.
@@ -40,6 +43,34 @@ fn append(line: &mut Line, text: &[u8])
         Ok(()) => {}
         Err(_) => unreachable!(),
     }
+}
+
+/// The two digits of a byte, in lower case.
+fn digits(byte: u8) -> (u8, u8)
+    ensures high { result.0 ≡ digit (byte / 16) }
+    ensures low { result.1 ≡ digit (byte % 16) }
+{
+    let high = DIGITS[usize::from(byte / 16)];
+    let low = DIGITS[usize::from(byte % 16)];
+    (high, low)
+}
+
+fn separator(place: usize) -> u8
+    ensures { result ≡ separator place }
+{
+    if place % 8 == 7 { b'\n' } else { b' ' }
+}
+
+/// The bytes in hex, a unit on a line.
+pub fn unit_lines(alloc: Global, bytes: &[u8]) -> Result<Vec<u8>, NoMemory>
+    ensures lines { IfOk result (λ text. text.items ≡ unit_lines bytes.now) }
+{
+    let mut text = Vec::new(alloc);
+    for (place, byte) in bytes.iter().enumerate() {
+        let (high, low) = digits(*byte);
+        text.extend_from_slice(&[high, low, separator(place)])?;
+    }
+    Ok(text)
 }
 
 fn bytes_line(bytes: &[u8]) -> Line
@@ -84,16 +115,18 @@ impl Report {
         ensures { result ≡ status_of self.now }
     {
         match self {
-            Report::Accepted | Report::Answered(_) => 0,
+            Report::Text(_) | Report::Accepted | Report::Answered(_) => 0,
             Report::Unfit(_) | Report::Refused(_) => 1,
         }
     }
 
-    /// The line that is printed, with its newline. Takes no memory.
+    /// The line that is printed for all but a text, with its newline. Takes no memory.
     pub fn line(&self) -> Line
+        requires { IsLine self.now }
         ensures { result.items ≡ text_of self.now }
     {
         match self {
+            Report::Text(_) => unreachable!(),
             Report::Accepted => text_line(b"accepted\n"),
             Report::Answered(Answer::Nothing) => text_line(b"nothing\n"),
             Report::Answered(Answer::Bytes(value)) => bytes_line(value.as_slice()),

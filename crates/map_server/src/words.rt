@@ -8,6 +8,10 @@ use std::alloc::{AllocError, Global};
 /// What `bpfmap` is asked to do.
 #[derive(Clone, Copy, Debug, PartialEq, Eq)]
 pub enum Command<'a> {
+    /// Make bytes of a program's text.
+    Asm,
+    /// Make text of a program's bytes.
+    Disasm,
     /// Verify the program with these sizes.
     Check(Sizes),
     /// Verify the program with these sizes, and run it once.
@@ -70,6 +74,18 @@ fn with_size_options(
         ))
 }
 
+fn asm_command<'a>(alloc: Global) -> clap::Command<'a> {
+    clap::Command::new(alloc, "asm").about(
+        "Prints in hex the program whose text is on standard input",
+    )
+}
+
+fn disasm_command<'a>(alloc: Global) -> clap::Command<'a> {
+    clap::Command::new(alloc, "disasm").about(
+        "Prints the text of the program that standard input spells in hex",
+    )
+}
+
 fn check_command<'a>(alloc: Global) -> Result<clap::Command<'a>, AllocError> {
     let command = clap::Command::new(alloc, "check").about(
         "Verifies the program that standard input spells in hex",
@@ -90,9 +106,11 @@ fn run_command<'a>(alloc: Global) -> Result<clap::Command<'a>, AllocError> {
 fn bpfmap_command<'a>(alloc: Global) -> Result<clap::Command<'a>, AllocError> {
     clap::Command::new(alloc, "bpfmap")
         .version("0.1.0")
-        .about("Verifies BPF programs and runs them")
+        .about("Assembles BPF programs, verifies them and runs them")
         .subcommand_required(true)
         .arg_required_else_help(true)
+        .subcommand(asm_command(alloc))?
+        .subcommand(disasm_command(alloc))?
         .subcommand(check_command(alloc)?)?
         .subcommand(run_command(alloc)?)
 }
@@ -120,6 +138,8 @@ pub fn parse_words<'a>(alloc: Global, words: &'a [&'a str]) -> Result<Command<'a
     let mut command = bpfmap_command(alloc)?;
     let matches = command.try_get_matches_from_mut(words)?;
     match matches.subcommand() {
+        Some(("asm", _)) => Ok(Command::Asm),
+        Some(("disasm", _)) => Ok(Command::Disasm),
         Some(("check", inner)) => Ok(Command::Check(sizes_of(inner))),
         Some(("run", inner)) => Ok(Command::Run(sizes_of(inner), texts_of(inner))),
         _ => Err(command.error(ErrorKind::MissingSubcommand, "a command is missing")?),

@@ -3,3 +3,4 @@ mod answers;
 mod arithmetic;
 mod faults;
 mod memory;
+mod texts;

@@ -15,6 +15,9 @@ fn faults_of_the_words_are_told(rt: HostRuntime) -> Result<(), Fail> {
         "verify",
         "",
         "check run",
+        "asm exit",
+        "asm --key 1",
+        "disasm --with-key 00",
         "check --keys 1",
         "check --key",
         "check --key ",
@@ -56,7 +59,7 @@ fn faults_of_the_words_are_told(rt: HostRuntime) -> Result<(), Fail> {
 fn no_command_shows_the_help(rt: HostRuntime) -> Result<(), Fail> {
     let alone = call(rt.alloc(), &["bpfmap"], pieces(b"", 1, false), ROOM, ROOM);
     assert!(rt; alone.status == 2 && alone.output.is_empty());
-    assert!(rt; alone.errors.starts_with(b"Verifies BPF programs"));
+    assert!(rt; alone.errors.starts_with(b"Assembles BPF programs"));
     let none = call(rt.alloc(), &[], pieces(b"", 1, false), ROOM, ROOM);
     assert!(rt; none.status == 2 && none.output.is_empty() && !none.errors.is_empty());
     Ok(())
@@ -65,9 +68,11 @@ fn no_command_shows_the_help(rt: HostRuntime) -> Result<(), Fail> {
 #[test]
 fn help_and_version_are_no_faults(rt: HostRuntime) -> Result<(), Fail> {
     for (words, start) in [
-        ("--help", "Verifies BPF programs"),
-        ("help", "Verifies BPF programs"),
+        ("--help", "Assembles BPF programs"),
+        ("help", "Assembles BPF programs"),
         ("--version", "bpfmap 0.1.0\n"),
+        ("asm --help", "Prints in hex"),
+        ("help disasm", "Prints the text"),
         ("check --help", "Verifies the program"),
         ("help run", "Verifies the program"),
     ] {
