@@ -96,7 +96,7 @@ fn text_that_is_no_utf_8_fails_to_be_read(rt: HostRuntime) -> Result<(), Fail> {
         };
         let found = call(rt.alloc(), &["bpfmap", "asm"], input, ROOM, ROOM);
         assert!(rt; found.status == 3 && found.output.is_empty());
-        assert!(rt; found.errors.as_slice() == b"failed read\n");
+        assert!(rt; found.errors.as_slice() == b"failed read\n".as_slice());
     }
     Ok(())
 }
@@ -111,7 +111,7 @@ fn a_text_that_can_not_be_written_is_told(rt: HostRuntime) -> Result<(), Fail> {
         };
         let found = call(rt.alloc(), &["bpfmap", "asm"], input, room, ROOM);
         assert!(rt; found.status == 3 && found.output.len() == room);
-        assert!(rt; found.errors.as_slice() == b"failed write\n");
+        assert!(rt; found.errors.as_slice() == b"failed write\n".as_slice());
     }
     Ok(())
 }
