@@ -106,7 +106,7 @@ first_fault_is_one text a b (inr x) (inl y) =
     absurd (omega (arith, none, x.some, length-append (text_of x.front) x.rest))
 first_fault_is_one text a b (inr x) (inr y) =
     let (front, rest) = fronts_agree 0 x.front y.front x.rest y.rest x.fits y.fits (sym x.lines ∙ y.lines)
-        (λ i more h e. omega (arith, x.faulty i more h e)) (λ i more h e. omega (arith, y.faulty i more h e)) (omega (arith, x.few)) (omega (arith, y.few)) in
+    (λ i more h e. omega (arith, x.faulty i more h e)) (λ i more h e. omega (arith, y.faulty i more h e)) (omega (arith, x.few)) (omega (arith, y.few)) in
     x.first ∙ ap (λ r. fault_in (line_at r) (length x.front + 1)) rest ∙ ap (λ (is : List Insn). fault_in (line_at y.rest) (length is + 1)) front ∙ sym y.first
 
 -- ---- answers

@@ -84,18 +84,21 @@ is_numeral-of : (ds : List ℕ) → 0 < length ds → (get_or ds 0 0 ≡ 48 → 
 is_numeral-of [] some one = absurd (omega arith)
 is_numeral-of (c ∷ cs) some one = elim (test_of (nat_eq c 48)) [
   | inl e ↦
-    let zero_first : c ≡ 48 = grind (arith, nat_tests) in
-    let alone : nat_eq (length cs) 0 ≡ true = grind (arith, nat_tests, one zero_first) in
-    rw (e, alone) refl
+      let zero_first : c ≡ 48 = grind (arith, nat_tests) in
+      let alone : nat_eq (length cs) 0 ≡ true = grind (arith, nat_tests, one zero_first) in
+      rw (e, alone) refl
   | inr e ↦ rw e refl
 ]
 
 numeral_first : (ds : List ℕ) → is_numeral ds ≡ true → (0 < length ds) × (get_or ds 0 0 ≡ 48 → length ds ≡ 1)
 numeral_first [] e = absurd cc
-numeral_first (c ∷ cs) e = (omega arith, λ zero_first.
-    let first : nat_eq c 48 ≡ true = grind (arith, nat_tests) in
-    let alone : nat_eq (length cs) 0 ≡ true = rw first at e in
-    grind (arith, nat_tests))
+numeral_first (c ∷ cs) e = (
+  omega arith,
+  λ zero_first.
+      let first : nat_eq c 48 ≡ true = grind (arith, nat_tests) in
+      let alone : nat_eq (length cs) 0 ≡ true = rw first at e in
+      grind (arith, nat_tests),
+)
 
 is_numeral-decimal : (n : ℕ) → n < 2 ^ 64 → is_numeral (decimal n) ≡ true
 is_numeral-decimal zero h = rw (decimal_digit 0 (omega arith)) refl

@@ -147,6 +147,7 @@ line-first i j a b hi hj e =
     insn_in : Insn → Result (Insn × List ℕ) LineFault → Insn
     insn_in d (Ok x) = x.0
     insn_in d (Err e) = d
+
     rest_in : List ℕ → Result (Insn × List ℕ) LineFault → List ℕ
     rest_in d (Ok x) = x.1
     rest_in d (Err e) = d

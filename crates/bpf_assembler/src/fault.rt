@@ -63,7 +63,10 @@ impl fmt::Display for AsmFault {
             AsmFault::UnknownName(line) => write!(f, "unknown name in line {line}"),
             AsmFault::BadOperand(line) => write!(f, "bad operand in line {line}"),
             AsmFault::OutOfRange(line) => write!(f, "number out of range in line {line}"),
-            AsmFault::Trailing(line) => write!(f, "no newline after the last operand in line {line}"),
+            AsmFault::Trailing(line) => write!(
+                f,
+                "no newline after the last operand in line {line}"
+            ),
             AsmFault::BadCount(0) => write!(f, "no line"),
             AsmFault::BadCount(line) => write!(f, "more than 512 units in line {line}"),
         }

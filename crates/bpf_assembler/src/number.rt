@@ -25,7 +25,9 @@ fn value_within(digits: &[u8], limit: u64) -> Option<u64>
 {
     let mut value: u64 = 0;
     for digit in digits {
-        value = value.checked_mul(10)?.checked_add(u64::from(*digit - b'0'))?;
+        value = value
+            .checked_mul(10)?
+            .checked_add(u64::from(*digit - b'0'))?;
     }
     if value <= limit { Some(value) } else { None }
 }

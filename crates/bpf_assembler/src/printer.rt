@@ -61,13 +61,19 @@ fn write_operands(text: &mut String, insn: Insn) -> Result<(), AllocError>
         }
         Insn::Wide { dst, value } => write!(text, " r{}, {value}", dst.number()),
         Insn::Load {
-            dst, src, offset, ..
+            dst,
+            src,
+            offset,
+            ..
         } => {
             write!(text, " r{}, ", dst.number())?;
             write_place(text, src, offset)
         }
         Insn::Store {
-            dst, src, offset, ..
+            dst,
+            src,
+            offset,
+            ..
         } => {
             text.push_str(" ")?;
             write_place(text, dst, offset)?;
@@ -83,7 +89,10 @@ fn write_operands(text: &mut String, insn: Insn) -> Result<(), AllocError>
             write_distance(text, distance)
         }
         Insn::Branch {
-            dst, src, distance, ..
+            dst,
+            src,
+            distance,
+            ..
         } => {
             write!(text, " r{}, ", dst.number())?;
             write_operand(text, src)?;

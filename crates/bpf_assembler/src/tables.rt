@@ -167,7 +167,13 @@ impl Listed for SignExtension {
     ghost values = { extensions };
 
     fn all() -> &'static [SignExtension] {
-        &[SignExtension::From8To32, SignExtension::From16To32, SignExtension::From8To64, SignExtension::From16To64, SignExtension::From32To64]
+        &[
+            SignExtension::From8To32,
+            SignExtension::From16To32,
+            SignExtension::From8To64,
+            SignExtension::From16To64,
+            SignExtension::From32To64,
+        ]
     }
 }
 
@@ -183,7 +189,12 @@ impl Listed for AccessSize {
     ghost values = { sizes };
 
     fn all() -> &'static [AccessSize] {
-        &[AccessSize::Byte, AccessSize::HalfWord, AccessSize::Word, AccessSize::DoubleWord]
+        &[
+            AccessSize::Byte,
+            AccessSize::HalfWord,
+            AccessSize::Word,
+            AccessSize::DoubleWord,
+        ]
     }
 }
 
@@ -191,6 +202,14 @@ impl Listed for LoadKind {
     ghost values = { kinds };
 
     fn all() -> &'static [LoadKind] {
-        &[LoadKind::Byte, LoadKind::HalfWord, LoadKind::Word, LoadKind::DoubleWord, LoadKind::SignedByte, LoadKind::SignedHalfWord, LoadKind::SignedWord]
+        &[
+            LoadKind::Byte,
+            LoadKind::HalfWord,
+            LoadKind::Word,
+            LoadKind::DoubleWord,
+            LoadKind::SignedByte,
+            LoadKind::SignedHalfWord,
+            LoadKind::SignedWord,
+        ]
     }
 }

@@ -199,7 +199,13 @@ fn other_names_stand_for_one_instruction(rt: HostRuntime) {
                 src: Operand::Register(dst),
             },
         ),
-        ("wide r9, 4294967297\n", Insn::Wide { dst, value: 0x1_0000_0001 }),
+        (
+            "wide r9, 4294967297\n",
+            Insn::Wide {
+                dst,
+                value: 0x1_0000_0001,
+            },
+        ),
         ("ja -3\n", Insn::Jump { distance: -3 }),
         ("jal +3\n", Insn::JumpLong { distance: 3 }),
         ("exit\n", Insn::Exit),
