@@ -10,12 +10,12 @@ use Rattle.bpf_model.specs.declared.instruction.Insn.{Insn}
 use Rattle.bpf_model.specs.Program.{units_of, unit_count, IsProgram}
 use Rattle.bpf_model.specs.Spelling.{IsInstruction, AreInstructions}
 use Rattle.bpf_assembler.specs.declared.fault.AsmFault.{AsmFault}
-use Rattle.bpf_assembler.specs.declared.fault.AsmFault.TheVariants.{NoMemory}
+use Rattle.bpf_assembler.specs.declared.fault.AsmFault.TheVariants.{NoMemory, BadCount}
 use Rattle.bpf_assembler.specs.declared.fault.LineFault.{LineFault}
 use Rattle.bpf_assembler.specs.declared.fault.LineFault.TheVariants.{UnknownName}
 use Rattle.bpf_assembler.specs.Reading.{line_at}
 use Rattle.bpf_assembler.specs.Text.{line_of, text_of, IsTextOf}
-use Rattle.bpf_assembler.specs.Faults.{line_number, at_line, IsFaultyLine, IsFirstFault, GivesUnlessNoMemory}
+use Rattle.bpf_assembler.specs.Faults.{line_number, at_line, fault_in, IsFaultyLine, IsFirstFault, GivesUnlessNoMemory}
 use Rattle.bpf_assembler.proofs.OperandLaws.{line-first, line_again, line_some}
 
 -- ---- texts of lists
@@ -65,25 +65,59 @@ faultless k (i ∷ p) (j ∷ q) rest hp hq e some faulty few =
     let same : units_of i ≡ units_of j = ap units_of head in
     faultless (k + units_of i) p q rest hp.1 hq.1 behind some (λ x more h g. omega (arith, same, faulty x more h g)) (omega (arith, few))
 
-pub no_faulty_line : (text : List ℕ) (p : List Insn) (line : ℕ) → IsTextOf text p → IsFirstFault text line → ⊥
+pub no_faulty_line : (text : List ℕ) (p : List Insn) (fault : AsmFault) → IsTextOf text p → IsFirstFault text fault → ⊥
 unfolding text_of
-no_faulty_line text [] line h fault = omega (arith, h.program.some)
-no_faulty_line text (i ∷ p) line h (inl empty) =
+no_faulty_line text [] e h fault = omega (arith, h.program.some)
+no_faulty_line text (i ∷ p) e h (inl empty) =
     let none : length (text_of (i ∷ p) ++ []) ≡ 0 = ap length (append-nil (text_of (i ∷ p)) ∙ sym h.lines ∙ empty.0) in
     omega (arith, none, text_some i p [])
-no_faulty_line text (i ∷ p) line h (inr fault) =
+no_faulty_line text (i ∷ p) e h (inr fault) =
     faultless 0 (i ∷ p) fault.front fault.rest h.fits fault.fits (append-nil (text_of (i ∷ p)) ∙ sym h.lines ∙ fault.lines) fault.some
     (λ x more g e. omega (arith, fault.faulty x more g e)) (omega (arith, h.program.few))
+
+-- ---- one first fault
+
+-- the lines before a faulty line are the same
+fronts_agree : (k : ℕ) (p q : List Insn) (r s : List ℕ) → AreInstructions p → AreInstructions q → text_of p ++ r ≡ text_of q ++ s
+    → ((i : Insn) (more : List ℕ) → IsInstruction i → r ≡ line_of i ++ more → PROGRAM_UNITS < k + unit_count p + units_of i)
+    → ((i : Insn) (more : List ℕ) → IsInstruction i → s ≡ line_of i ++ more → PROGRAM_UNITS < k + unit_count q + units_of i)
+    → k + unit_count p ≤ PROGRAM_UNITS → k + unit_count q ≤ PROGRAM_UNITS → (p ≡ q) × (r ≡ s)
+unfolding text_of unit_count
+fronts_agree k [] [] r s hp hq e past_r past_s few_p few_q = (refl, e)
+fronts_agree k [] (j ∷ q) r s hp hq e past_r past_s few_p few_q =
+    let past = past_r j (text_of q ++ s) hq.0 (e ∙ text_of-cons j q s) in
+    absurd (omega (arith, past, few_q))
+fronts_agree k (i ∷ p) [] r s hp hq e past_r past_s few_p few_q =
+    let past = past_s i (text_of p ++ r) hp.0 (sym e ∙ text_of-cons i p r) in
+    absurd (omega (arith, past, few_p))
+fronts_agree k (i ∷ p) (j ∷ q) r s hp hq e past_r past_s few_p few_q =
+    let (head, behind) = line-first i j (text_of p ++ r) (text_of q ++ s) hp.0 hq.0 (sym (text_of-cons i p r) ∙ e ∙ text_of-cons j q s) in
+    let same : units_of i ≡ units_of j = ap units_of head in
+    let (tail, rest) = fronts_agree (k + units_of i) p q r s hp.1 hq.1 behind (λ x more h g. omega (arith, past_r x more h g)) (λ x more h g. omega (arith, same, past_s x more h g)) (omega (arith, few_p)) (omega (arith, same, few_q)) in
+    (cc (head, tail), rest)
+
+first_fault_is_one : (text : List ℕ) (a b : AsmFault) → IsFirstFault text a → IsFirstFault text b → a ≡ b
+first_fault_is_one text a b (inl x) (inl y) = x.1 ∙ sym y.1
+first_fault_is_one text a b (inl x) (inr y) =
+    let none : length (text_of y.front ++ y.rest) ≡ 0 = ap length (sym y.lines ∙ x.0) in
+    absurd (omega (arith, none, y.some, length-append (text_of y.front) y.rest))
+first_fault_is_one text a b (inr x) (inl y) =
+    let none : length (text_of x.front ++ x.rest) ≡ 0 = ap length (sym x.lines ∙ y.0) in
+    absurd (omega (arith, none, x.some, length-append (text_of x.front) x.rest))
+first_fault_is_one text a b (inr x) (inr y) =
+    let (front, rest) = fronts_agree 0 x.front y.front x.rest y.rest x.fits y.fits (sym x.lines ∙ y.lines)
+    (λ i more h e. omega (arith, x.faulty i more h e)) (λ i more h e. omega (arith, y.faulty i more h e)) (omega (arith, x.few)) (omega (arith, y.few)) in
+    x.first ∙ ap (λ r. fault_in (line_at r) (length x.front + 1)) rest ∙ ap (λ (is : List Insn). fault_in (line_at y.rest) (length is + 1)) front ∙ sym y.first
 
 -- ---- answers
 
 -- an answer that is the text's program, or its first faulty line, or a refusal of memory
 pub record IsTrueOf (text : List ℕ) (result : Result (List Insn) AsmFault) : Type 0 where
   pub found : IfOk result (IsTextOf text)
-  pub first_fault : IfErr result (λ e. (e ≡ NoMemory) ⊎ IsFirstFault text (line_number e))
+  pub first_fault : IfErr result (λ e. (e ≡ NoMemory) ⊎ IsFirstFault text e)
 
 -- an error that was passed on
-pub IsTrueOf-passed : (text : List ℕ) (e : AsmFault) (result : Result (List Insn) AsmFault) → IsErrAnd result (λ x. x ≡ e) → (e ≡ NoMemory) ⊎ IsFirstFault text (line_number e) → IsTrueOf text result
+pub IsTrueOf-passed : (text : List ℕ) (e : AsmFault) (result : Result (List Insn) AsmFault) → IsErrAnd result (λ x. x ≡ e) → (e ≡ NoMemory) ⊎ IsFirstFault text e → IsTrueOf text result
 IsTrueOf-passed text e (Ok q) passed h = absurd passed
 IsTrueOf-passed text e (Err x) passed h = record { found = tt; first_fault = rw passed h }
 
@@ -94,7 +128,15 @@ only_program text p (Ok q) h is_text =
     inr (ap (λ x. Ok x) (text_of-injective q p [] [] h.found.fits is_text.fits refl refl same))
 only_program text p (Err e) h is_text = elim h.first_fault [
   | inl refused ↦ inl (ap (λ x. Err x) refused)
-  | inr faulty ↦ absurd (no_faulty_line text p (line_number e) is_text faulty)
+  | inr faulty ↦ absurd (no_faulty_line text p e is_text faulty)
+]
+
+-- where there is a first fault no other answer is true
+pub only_fault : (text : List ℕ) (fault : AsmFault) (result : Result (List Insn) AsmFault) → IsTrueOf text result → IsFirstFault text fault → GivesUnlessNoMemory result (Err fault)
+only_fault text fault (Ok q) h first = absurd (no_faulty_line text q fault h.found first)
+only_fault text fault (Err e) h first = elim h.first_fault [
+  | inl refused ↦ inl (ap (λ x. Err x) refused)
+  | inr faulty ↦ inr (ap (λ x. Err x) (first_fault_is_one text e fault faulty first))
 ]
 
 -- ---- the line that is refused
@@ -113,7 +155,7 @@ not_empty : (rest : List ℕ) (done : Bool) → done ≡ nat_eq (length rest) 0 
 not_empty rest done is more = let test : nat_eq (length rest) 0 ≡ false = sym is ∙ more in grind (arith, nat_tests)
 
 pub unread_line : (text rest : List ℕ) (is : List Insn) (units : ℕ) (done : Bool) (fault : LineFault) (e : AsmFault) → AreInstructions is → units ≡ unit_count is → units ≤ PROGRAM_UNITS → text ≡ text_of is ++ rest
-    → done ≡ nat_eq (length rest) 0 → done ≡ false → line_at rest ≡ Err fault → e ≡ at_line (length is + 1) fault → IsFaultyLine text (line_number e)
+    → done ≡ nat_eq (length rest) 0 → done ≡ false → line_at rest ≡ Err fault → e ≡ at_line (length is + 1) fault → IsFaultyLine text e
 unread_line text rest is units done fault e fits counted few lines is_done more unread named = record {
   front = is;
   rest = rest;
@@ -122,11 +164,12 @@ unread_line text rest is units done fault e fits counted few lines is_done more 
   lines = lines;
   some = not_empty rest done is_done more;
   faulty = λ i behind h begins. absurd (no_line rest fault i behind unread h begins);
-  named = ap line_number named ∙ line_number-at_line (length is + 1) fault;
+  line = ap line_number named ∙ line_number-at_line (length is + 1) fault;
+  first = named ∙ ap (λ r. fault_in r (length is + 1)) (sym unread);
 }
 
 pub line_past_units : (text rest new : List ℕ) (is : List Insn) (units : ℕ) (done : Bool) (i : Insn) → AreInstructions is → units ≡ unit_count is → units ≤ PROGRAM_UNITS → text ≡ text_of is ++ rest
-    → done ≡ nat_eq (length rest) 0 → done ≡ false → rest ≡ line_of i ++ new → IsInstruction i → PROGRAM_UNITS < units + units_of i → IsFaultyLine text (length is + 1)
+    → done ≡ nat_eq (length rest) 0 → done ≡ false → rest ≡ line_of i ++ new → IsInstruction i → PROGRAM_UNITS < units + units_of i → IsFaultyLine text (BadCount (length is + 1))
 line_past_units text rest new is units done i fits counted few lines is_done more read h past = record {
   front = is;
   rest = rest;
@@ -137,7 +180,8 @@ line_past_units text rest new is units done i fits counted few lines is_done mor
   faulty = λ j behind g begins.
       let same : units_of i ≡ units_of j = ap units_of (line-first i j new behind h g (sym read ∙ begins)).0 in
       omega (arith, same, counted, past);
-  named = refl;
+  line = refl;
+  first = ap (λ r. fault_in r (length is + 1)) (sym (line_again i new h) ∙ ap line_at (sym read));
 }
 
 pub unit_count-push : (is : List Insn) (i : Insn) → unit_count (is ++ i ∷ []) ≡ unit_count is + units_of i

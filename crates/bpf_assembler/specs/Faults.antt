@@ -1,5 +1,5 @@
--- Which line of a text is the first faulty one.
-use Rattle.std.specs.Prelude.{◌≡◌, ℕ, ◌+◌, ◌<◌, ◌≤◌, ◌⊎◌, List, [], ◌++◌, length, Result, Err}
+-- Which line of a text is the first faulty one, and what is wrong with it.
+use Rattle.std.specs.Prelude.{◌≡◌, ℕ, ◌+◌, ◌<◌, ◌≤◌, ◌⊎◌, List, [], ◌++◌, length, Result, Ok, Err}
 use Rattle.bpf_model.specs.declared.limits.TheConstants.{PROGRAM_UNITS}
 use Rattle.bpf_model.specs.declared.instruction.Insn.{Insn}
 use Rattle.bpf_model.specs.Program.{units_of, unit_count}
@@ -9,6 +9,7 @@ use Rattle.bpf_assembler.specs.declared.fault.AsmFault.TheVariants.{NoMemory, Un
 use Rattle.bpf_assembler.specs.declared.fault.LineFault.{LineFault}
 use Rattle.bpf_assembler.specs.declared.fault.LineFault.TheVariants as line
 use Rattle.bpf_assembler.specs.Text.{line_of, text_of}
+use Rattle.bpf_assembler.specs.Reading.{Read, line_at}
 
 -- the number under which a fault is printed
 abbrev pub number_of : AsmFault → ℕ
@@ -35,9 +36,14 @@ at_line n line.BadOperand = BadOperand n
 at_line n line.OutOfRange = OutOfRange n
 at_line n line.Trailing = Trailing n
 
+-- the fault that is met first in a line, read from left to right; a line without one can pass the units alone
+abbrev pub fault_in : Read Insn → ℕ → AsmFault
+fault_in (Err fault) n = at_line n fault
+fault_in (Ok read) n = BadCount n
+
 -- behind the lines of instructions that have 512 units at most stands one that is no instruction's, or one whose
 -- instruction passes 512 units
-pub record IsFaultyLine (text : List ℕ) (line : ℕ) : Type 0 where
+pub record IsFaultyLine (text : List ℕ) (fault : AsmFault) : Type 0 where
   pub front : List Insn
   pub rest : List ℕ
   pub fits : AreInstructions front
@@ -45,11 +51,12 @@ pub record IsFaultyLine (text : List ℕ) (line : ℕ) : Type 0 where
   pub lines : text ≡ text_of front ++ rest
   pub some : 0 < length rest
   pub faulty : (i : Insn) (more : List ℕ) → IsInstruction i → rest ≡ line_of i ++ more → PROGRAM_UNITS < unit_count front + units_of i
-  pub named : line ≡ length front + 1
+  pub line : line_number fault ≡ length front + 1
+  pub first : fault ≡ fault_in (line_at rest) (length front + 1)
 
--- the first faulty line; an empty text has its fault in line 0
-abbrev pub IsFirstFault : List ℕ → ℕ → Type 0
-IsFirstFault text line = ((text ≡ []) × (line ≡ 0)) ⊎ IsFaultyLine text line
+-- the fault of the first faulty line; an empty text has its fault in line 0
+abbrev pub IsFirstFault : List ℕ → AsmFault → Type 0
+IsFirstFault text fault = ((text ≡ []) × (fault ≡ BadCount 0)) ⊎ IsFaultyLine text fault
 
 -- the call answers so, unless memory was refused to it
 abbrev pub GivesUnlessNoMemory : {A : Type 0} → Result A AsmFault → Result A AsmFault → Type 0

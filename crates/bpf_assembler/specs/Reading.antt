@@ -1,16 +1,18 @@
 -- Reading a line from left to right, with the first fault that is met.
-use Rattle.std.specs.Prelude.{◌≡◌, ℕ, suc, ◌+◌, ◌-◌, ◌*◌, ◌^◌, ◌<◌, Bool, false, not, ◌&&◌, ◌||◌, List, [], ◌∷◌, length, take, drop, Option, Some, None, Result, Ok, Err, nat_eq, nat_le, if◌then◌else◌, ℤ, pos, negsuc, bytes_eq, option_map, option_and_then, find}
+use Rattle.std.specs.Prelude.{◌≡◌, IfOk, ◌++◌, ℕ, suc, ◌+◌, ◌-◌, ◌*◌, ◌^◌, ◌<◌, Bool, false, not, ◌&&◌, ◌||◌, List, [], ◌∷◌, length, take, drop, Option, Some, None, Result, Ok, Err, nat_eq, nat_le, if◌then◌else◌, ℤ, pos, negsuc, bytes_eq, option_map, option_and_then, find}
 use Rattle.std.specs.Option.{option_or}
 use Rattle.bpf_model.specs.declared.instruction.Operand.{Operand}
 use Rattle.bpf_model.specs.declared.instruction.Operand.TheVariants.{Register, Immediate}
 use Rattle.bpf_model.specs.declared.instruction.Insn.{Insn}
 use Rattle.bpf_model.specs.declared.instruction.Insn.TheVariants as insn
+use Rattle.bpf_model.specs.Spelling.{IsInstruction}
 use Rattle.bpf_assembler.specs.declared.fault.LineFault.{LineFault}
 use Rattle.bpf_assembler.specs.declared.fault.LineFault.TheVariants.{UnknownName, BadOperand, OutOfRange, Trailing}
 use Rattle.bpf_assembler.specs.declared.mnemonic.Stem.{Stem}
 use Rattle.bpf_assembler.specs.declared.mnemonic.Stem.TheVariants as stem
 use Rattle.bpf_assembler.specs.declared.mnemonic.Mnemonic.{Mnemonic}
 use Rattle.bpf_assembler.specs.declared.mnemonic.Mnemonic.TheVariants.{Alu, Negate, Mov, SignExtend, Reorder, Wide, Load, Store, StoreImmediate, Jump, JumpLong, Branch, Exit}
+use Rattle.bpf_assembler.specs.Text.{mnemonic_of, operands_of}
 use Rattle.bpf_assembler.specs.Names.{width_word, swap_word, extension_word, size_word, kind_word, stem_word, widths, swap_widths, extensions, sizes, kinds, stems}
 
 -- what was read and the bytes after it, or the fault
@@ -26,6 +28,14 @@ abbrev pub ◌>>=◌ : {A B : Type 0} → Result A LineFault → (A → Result B
 abbrev pub Gives : {A : Type 0} → List ℕ → Result A LineFault → Read A → Type 0
 Gives rest (Ok x) read = read ≡ Ok (x, rest)
 Gives rest (Err e) read = read ≡ Err e
+
+-- a call that returned what fits took its text
+abbrev pub Takes : {A : Type 0} → (A → List ℕ) → (A → Type 0) → List ℕ → List ℕ → Result A LineFault → Type 0
+Takes text fits old new result = IfOk result (λ x. (old ≡ text x ++ new) × fits x)
+
+-- a call that returned an instruction of this name took its operands
+abbrev pub TakesOperands : Mnemonic → List ℕ → List ℕ → Result Insn LineFault → Type 0
+TakesOperands m old new result = IfOk result (λ i. (old ≡ operands_of i ++ new) × (mnemonic_of i ≡ m) × IsInstruction i)
 
 -- how many bytes at the front have the property
 unfoldable pub run : (ℕ → Bool) → List ℕ → ℕ

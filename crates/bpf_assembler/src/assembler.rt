@@ -1,11 +1,12 @@
 //! Programs from text.
-ghost use Rattle.std.specs.Prelude.{◌≡◌, ◌≤◌, ◌⊎◌, ◌++◌, ◌∷◌, List, [], IfOk, IfErr, OnOk, Ok};
+ghost use Rattle.std.specs.Prelude.{◌≡◌, ◌≤◌, ◌⊎◌, ◌++◌, ◌∷◌, List, [], IfOk, IfErr, OnOk, Ok, Err};
 ghost use Rattle.bpf_model.specs.declared.instruction.Insn.{Insn};
 ghost use Rattle.bpf_model.specs.Program.{unit_count};
 ghost use Rattle.bpf_model.specs.Spelling.{AreInstructions};
+ghost use Rattle.bpf_assembler.specs.declared.fault.AsmFault.{AsmFault};
 ghost use Rattle.bpf_assembler.specs.declared.fault.AsmFault.TheVariants.{NoMemory};
 ghost use Rattle.bpf_assembler.specs.Text.{text_of, IsTextOf};
-ghost use Rattle.bpf_assembler.specs.Faults.{line_number, IsFaultyLine, IsFirstFault, GivesUnlessNoMemory};
+ghost use Rattle.bpf_assembler.specs.Faults.{IsFaultyLine, IsFirstFault, GivesUnlessNoMemory};
 
 use crate::cursor::Cursor;
 use crate::fault::AsmFault;
@@ -23,7 +24,7 @@ fn instructions(alloc: Global, text: &[u8]) -> Result<Vec<Insn>, AsmFault>
     ensures fits { IfOk result (λ v. AreInstructions v.items) }
     ensures few { IfOk result (λ v. unit_count v.items ≤ PROGRAM_UNITS) }
     ensures lines { IfOk result (λ v. text.now ≡ text_of v.items) }
-    ensures first_fault { IfErr result (λ e. (e ≡ NoMemory) ⊎ IsFaultyLine text.now (line_number e)) }
+    ensures first_fault { IfErr result (λ e. (e ≡ NoMemory) ⊎ IsFaultyLine text.now e) }
 {
     let mut cursor = Cursor::new(text);
     let mut instructions = Vec::new(alloc);
@@ -50,8 +51,10 @@ pub fn assemble(alloc: Global, text: &str) -> Result<Program, AsmFault>
     ensures found { IfOk result (IsTextOf text.now) }
     // A program that has this text is read, unless memory is refused.
     ensures only { (p : List Insn) → IsTextOf text.now p → GivesUnlessNoMemory result (Ok p) }
-    // Which line is refused.
-    ensures first_fault { IfErr result (λ e. (e ≡ NoMemory) ⊎ IsFirstFault text.now (line_number e)) }
+    // Which line is refused, and why.
+    ensures first_fault { IfErr result (λ e. (e ≡ NoMemory) ⊎ IsFirstFault text.now e) }
+    // A text with a faulty line is refused.
+    ensures refused { (e : AsmFault) → IsFirstFault text.now e → GivesUnlessNoMemory result (Err e) }
 {
     let instructions = instructions(alloc, text.as_bytes())?;
     match Program::new(instructions) {

@@ -20,3 +20,6 @@ mod tables;
 pub use assembler::assemble;
 pub use fault::AsmFault;
 pub use printer::disassemble;
+
+#[cfg(test)]
+mod tests;

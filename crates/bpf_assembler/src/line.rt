@@ -3,7 +3,7 @@ ghost use Rattle.std.specs.Prelude.{◌≡◌, ◌++◌, codes, IfOk, OnOk};
 ghost use Rattle.bpf_model.specs.Spelling.{IsRegister, IsOffset, IsOperand, IsInstruction};
 ghost use Rattle.bpf_assembler.specs.Names.{name_of};
 ghost use Rattle.bpf_assembler.specs.Text.{register, operand, offset, mnemonic_of, operands_of, line_of};
-ghost use Rattle.bpf_assembler.specs.Reading.{Gives, comma_at, operand_at, base_at, displacement_at, operands_at, name_at, line_at};
+ghost use Rattle.bpf_assembler.specs.Reading.{Gives, Takes, comma_at, operand_at, base_at, displacement_at, operands_at, name_at, line_at};
 
 use crate::cursor::Cursor;
 use crate::fault::LineFault;
@@ -25,7 +25,7 @@ impl<'a> Cursor<'a> {
     #[tactic(auto, unfolding(crate::specs::Reading::operand_at))]
     pub(crate) fn operand(&mut self) -> Result<Operand, LineFault>
         ensures exact { Gives self.new.rest.now result (operand_at self.old.rest.now) }
-        ensures found { IfOk result (λ src. (self.old.rest.now ≡ operand src ++ self.new.rest.now) × IsOperand src) }
+        ensures found { Takes operand IsOperand self.old.rest.now self.new.rest.now result }
     {
         if self.begins_with(b'r') {
             let register = self.register()?;
@@ -40,7 +40,7 @@ impl<'a> Cursor<'a> {
     #[tactic(auto, unfolding(crate::specs::Reading::base_at))]
     pub(crate) fn base(&mut self) -> Result<Reg, LineFault>
         ensures exact { Gives self.new.rest.now result (base_at self.old.rest.now) }
-        ensures found { IfOk result (λ r. (self.old.rest.now ≡ codes "[" ++ register r ++ self.new.rest.now) × IsRegister r) }
+        ensures found { Takes (λ r. codes "[" ++ register r) IsRegister self.old.rest.now self.new.rest.now result }
     {
         self.byte(b'[')?;
         self.register()
@@ -50,7 +50,7 @@ impl<'a> Cursor<'a> {
     #[tactic(auto, unfolding(crate::specs::Reading::displacement_at))]
     pub(crate) fn displacement(&mut self) -> Result<i16, LineFault>
         ensures exact { Gives self.new.rest.now result (displacement_at self.old.rest.now) }
-        ensures found { IfOk result (λ z. (self.old.rest.now ≡ offset z ++ codes "]" ++ self.new.rest.now) × IsOffset z) }
+        ensures found { Takes (λ z. offset z ++ codes "]") IsOffset self.old.rest.now self.new.rest.now result }
     {
         let offset = self.offset()?;
         self.byte(b']')?;
@@ -73,7 +73,7 @@ impl<'a> Cursor<'a> {
     #[tactic(auto, unfolding(crate::specs::Reading::line_at, crate::specs::Text::line_of))]
     pub(crate) fn line(&mut self) -> Result<Insn, LineFault>
         ensures exact { Gives self.new.rest.now result (line_at self.old.rest.now) }
-        ensures found { IfOk result (λ i. (self.old.rest.now ≡ line_of i ++ self.new.rest.now) × IsInstruction i) }
+        ensures found { Takes line_of IsInstruction self.old.rest.now self.new.rest.now result }
     {
         let mnemonic = self.mnemonic()?;
         let insn = self.operands(mnemonic)?;

@@ -2,7 +2,7 @@
 ghost use Rattle.std.specs.Prelude.{◌≡◌, ◌≤◌, ◌<◌, ◌^◌, ◌++◌, ℕ, suc, pos, negsuc, length, decimal, All, IfOk, IfSome, IfNone};
 ghost use Rattle.bpf_model.specs.Spelling.{IsRegister, IsImmediate, IsOffset};
 ghost use Rattle.bpf_assembler.specs.Text.{register, immediate, offset};
-ghost use Rattle.bpf_assembler.specs.Reading.{Gives, value_from, is_digit, is_numeral, number_at, register_at, positive_at, negative_at, immediate_at, offset_at, FitsBelow};
+ghost use Rattle.bpf_assembler.specs.Reading.{Gives, Takes, value_from, is_digit, is_numeral, number_at, register_at, positive_at, negative_at, immediate_at, offset_at, FitsBelow};
 
 use crate::cursor::Cursor;
 use crate::fault::LineFault;
@@ -37,7 +37,7 @@ impl<'a> Cursor<'a> {
     #[tactic(auto, unfolding(crate::specs::Reading::number_at))]
     pub(crate) fn number(&mut self, limit: u64) -> Result<u64, LineFault>
         ensures exact { Gives self.new.rest.now result (number_at limit self.old.rest.now) }
-        ensures found { IfOk result (λ n. (self.old.rest.now ≡ decimal n ++ self.new.rest.now) × (n ≤ limit)) }
+        ensures found { Takes decimal (λ n. n ≤ limit) self.old.rest.now self.new.rest.now result }
     {
         let digits = self.digits();
         if !is_numeral(digits) {
@@ -53,7 +53,7 @@ impl<'a> Cursor<'a> {
     #[tactic(auto, unfolding(crate::specs::Reading::register_at))]
     pub(crate) fn register(&mut self) -> Result<Reg, LineFault>
         ensures exact { Gives self.new.rest.now result (register_at self.old.rest.now) }
-        ensures found { IfOk result (λ r. (self.old.rest.now ≡ register r ++ self.new.rest.now) × IsRegister r) }
+        ensures found { Takes register IsRegister self.old.rest.now self.new.rest.now result }
     {
         self.byte(b'r')?;
         let number = self.number(10)?;

@@ -3,7 +3,7 @@ ghost use Rattle.std.specs.Prelude.{◌≡◌, ◌++◌, codes, IfOk};
 ghost use Rattle.bpf_model.specs.Spelling.{IsRegister, IsInstruction};
 ghost use Rattle.bpf_assembler.specs.declared.mnemonic.Mnemonic.TheVariants.{Alu, Negate, Mov, SignExtend, Reorder, Wide, Load, Store, StoreImmediate, Jump, JumpLong, Branch};
 ghost use Rattle.bpf_assembler.specs.Text.{register, mnemonic_of, operands_of};
-ghost use Rattle.bpf_assembler.specs.Reading.{Gives, dst_at, operands_at};
+ghost use Rattle.bpf_assembler.specs.Reading.{Gives, Takes, TakesOperands, dst_at, operands_at};
 
 use crate::cursor::Cursor;
 use crate::fault::LineFault;
@@ -17,7 +17,7 @@ impl<'a> Cursor<'a> {
     #[tactic(auto, unfolding(crate::specs::Reading::dst_at))]
     fn dst(&mut self) -> Result<Reg, LineFault>
         ensures exact { Gives self.new.rest.now result (dst_at self.old.rest.now) }
-        ensures found { IfOk result (λ r. (self.old.rest.now ≡ codes " " ++ register r ++ self.new.rest.now) × IsRegister r) }
+        ensures found { Takes (λ r. codes " " ++ register r) IsRegister self.old.rest.now self.new.rest.now result }
     {
         self.byte(b' ')?;
         self.register()
@@ -26,7 +26,7 @@ impl<'a> Cursor<'a> {
     #[tactic(auto, unfolding(crate::specs::Reading::operands_at, crate::specs::Text::operands_of))]
     fn alu(&mut self, op: AluOp, width: Width) -> Result<Insn, LineFault>
         ensures exact { Gives self.new.rest.now result (operands_at (Alu op width) self.old.rest.now) }
-        ensures found { IfOk result (λ i. (self.old.rest.now ≡ operands_of i ++ self.new.rest.now) × (mnemonic_of i ≡ Alu op width) × IsInstruction i) }
+        ensures found { TakesOperands (Alu op width) self.old.rest.now self.new.rest.now result }
     {
         let dst = self.dst()?;
         self.comma()?;
@@ -42,7 +42,7 @@ impl<'a> Cursor<'a> {
     #[tactic(auto, unfolding(crate::specs::Reading::operands_at, crate::specs::Text::operands_of))]
     fn negate(&mut self, width: Width) -> Result<Insn, LineFault>
         ensures exact { Gives self.new.rest.now result (operands_at (Negate width) self.old.rest.now) }
-        ensures found { IfOk result (λ i. (self.old.rest.now ≡ operands_of i ++ self.new.rest.now) × (mnemonic_of i ≡ Negate width) × IsInstruction i) }
+        ensures found { TakesOperands (Negate width) self.old.rest.now self.new.rest.now result }
     {
         let dst = self.dst()?;
         Ok(Insn::Negate { width, dst })
@@ -51,7 +51,7 @@ impl<'a> Cursor<'a> {
     #[tactic(auto, unfolding(crate::specs::Reading::operands_at, crate::specs::Text::operands_of))]
     fn mov(&mut self, width: Width) -> Result<Insn, LineFault>
         ensures exact { Gives self.new.rest.now result (operands_at (Mov width) self.old.rest.now) }
-        ensures found { IfOk result (λ i. (self.old.rest.now ≡ operands_of i ++ self.new.rest.now) × (mnemonic_of i ≡ Mov width) × IsInstruction i) }
+        ensures found { TakesOperands (Mov width) self.old.rest.now self.new.rest.now result }
     {
         let dst = self.dst()?;
         self.comma()?;
@@ -62,7 +62,7 @@ impl<'a> Cursor<'a> {
     #[tactic(auto, unfolding(crate::specs::Reading::operands_at, crate::specs::Text::operands_of))]
     fn sign_extend(&mut self, extension: SignExtension) -> Result<Insn, LineFault>
         ensures exact { Gives self.new.rest.now result (operands_at (SignExtend extension) self.old.rest.now) }
-        ensures found { IfOk result (λ i. (self.old.rest.now ≡ operands_of i ++ self.new.rest.now) × (mnemonic_of i ≡ SignExtend extension) × IsInstruction i) }
+        ensures found { TakesOperands (SignExtend extension) self.old.rest.now self.new.rest.now result }
     {
         let dst = self.dst()?;
         self.comma()?;
@@ -77,7 +77,7 @@ impl<'a> Cursor<'a> {
     #[tactic(auto, unfolding(crate::specs::Reading::operands_at, crate::specs::Text::operands_of))]
     fn reorder(&mut self, order: ByteOrder, size: SwapWidth) -> Result<Insn, LineFault>
         ensures exact { Gives self.new.rest.now result (operands_at (Reorder order size) self.old.rest.now) }
-        ensures found { IfOk result (λ i. (self.old.rest.now ≡ operands_of i ++ self.new.rest.now) × (mnemonic_of i ≡ Reorder order size) × IsInstruction i) }
+        ensures found { TakesOperands (Reorder order size) self.old.rest.now self.new.rest.now result }
     {
         let dst = self.dst()?;
         Ok(Insn::Reorder { order, size, dst })
@@ -86,7 +86,7 @@ impl<'a> Cursor<'a> {
     #[tactic(auto, unfolding(crate::specs::Reading::operands_at, crate::specs::Text::operands_of))]
     fn wide(&mut self) -> Result<Insn, LineFault>
         ensures exact { Gives self.new.rest.now result (operands_at Wide self.old.rest.now) }
-        ensures found { IfOk result (λ i. (self.old.rest.now ≡ operands_of i ++ self.new.rest.now) × (mnemonic_of i ≡ Wide) × IsInstruction i) }
+        ensures found { TakesOperands Wide self.old.rest.now self.new.rest.now result }
     {
         let dst = self.dst()?;
         self.comma()?;
@@ -97,7 +97,7 @@ impl<'a> Cursor<'a> {
     #[tactic(auto, unfolding(crate::specs::Reading::operands_at, crate::specs::Text::operands_of))]
     fn load(&mut self, kind: LoadKind) -> Result<Insn, LineFault>
         ensures exact { Gives self.new.rest.now result (operands_at (Load kind) self.old.rest.now) }
-        ensures found { IfOk result (λ i. (self.old.rest.now ≡ operands_of i ++ self.new.rest.now) × (mnemonic_of i ≡ Load kind) × IsInstruction i) }
+        ensures found { TakesOperands (Load kind) self.old.rest.now self.new.rest.now result }
     {
         let dst = self.dst()?;
         self.comma()?;
@@ -114,7 +114,7 @@ impl<'a> Cursor<'a> {
     #[tactic(auto, unfolding(crate::specs::Reading::operands_at, crate::specs::Text::operands_of))]
     fn store(&mut self, size: AccessSize) -> Result<Insn, LineFault>
         ensures exact { Gives self.new.rest.now result (operands_at (Store size) self.old.rest.now) }
-        ensures found { IfOk result (λ i. (self.old.rest.now ≡ operands_of i ++ self.new.rest.now) × (mnemonic_of i ≡ Store size) × IsInstruction i) }
+        ensures found { TakesOperands (Store size) self.old.rest.now self.new.rest.now result }
     {
         self.byte(b' ')?;
         let dst = self.base()?;
@@ -132,7 +132,7 @@ impl<'a> Cursor<'a> {
     #[tactic(auto, unfolding(crate::specs::Reading::operands_at, crate::specs::Text::operands_of))]
     fn store_immediate(&mut self, size: AccessSize) -> Result<Insn, LineFault>
         ensures exact { Gives self.new.rest.now result (operands_at (StoreImmediate size) self.old.rest.now) }
-        ensures found { IfOk result (λ i. (self.old.rest.now ≡ operands_of i ++ self.new.rest.now) × (mnemonic_of i ≡ StoreImmediate size) × IsInstruction i) }
+        ensures found { TakesOperands (StoreImmediate size) self.old.rest.now self.new.rest.now result }
     {
         self.byte(b' ')?;
         let dst = self.base()?;
@@ -150,7 +150,7 @@ impl<'a> Cursor<'a> {
     #[tactic(auto, unfolding(crate::specs::Reading::operands_at, crate::specs::Text::operands_of))]
     fn jump(&mut self) -> Result<Insn, LineFault>
         ensures exact { Gives self.new.rest.now result (operands_at Jump self.old.rest.now) }
-        ensures found { IfOk result (λ i. (self.old.rest.now ≡ operands_of i ++ self.new.rest.now) × (mnemonic_of i ≡ Jump) × IsInstruction i) }
+        ensures found { TakesOperands Jump self.old.rest.now self.new.rest.now result }
     {
         self.byte(b' ')?;
         let distance = self.offset()?;
@@ -160,7 +160,7 @@ impl<'a> Cursor<'a> {
     #[tactic(auto, unfolding(crate::specs::Reading::operands_at, crate::specs::Text::operands_of))]
     fn jump_long(&mut self) -> Result<Insn, LineFault>
         ensures exact { Gives self.new.rest.now result (operands_at JumpLong self.old.rest.now) }
-        ensures found { IfOk result (λ i. (self.old.rest.now ≡ operands_of i ++ self.new.rest.now) × (mnemonic_of i ≡ JumpLong) × IsInstruction i) }
+        ensures found { TakesOperands JumpLong self.old.rest.now self.new.rest.now result }
     {
         self.byte(b' ')?;
         let distance = self.distance()?;
@@ -170,7 +170,7 @@ impl<'a> Cursor<'a> {
     #[tactic(auto, unfolding(crate::specs::Reading::operands_at, crate::specs::Text::operands_of))]
     fn branch(&mut self, test: JumpOp, width: Width) -> Result<Insn, LineFault>
         ensures exact { Gives self.new.rest.now result (operands_at (Branch test width) self.old.rest.now) }
-        ensures found { IfOk result (λ i. (self.old.rest.now ≡ operands_of i ++ self.new.rest.now) × (mnemonic_of i ≡ Branch test width) × IsInstruction i) }
+        ensures found { TakesOperands (Branch test width) self.old.rest.now self.new.rest.now result }
     {
         let dst = self.dst()?;
         self.comma()?;
@@ -190,7 +190,7 @@ impl<'a> Cursor<'a> {
     #[tactic(auto, unfolding(crate::specs::Reading::operands_at, crate::specs::Text::operands_of))]
     pub(crate) fn operands(&mut self, mnemonic: Mnemonic) -> Result<Insn, LineFault>
         ensures exact { Gives self.new.rest.now result (operands_at mnemonic self.old.rest.now) }
-        ensures found { IfOk result (λ i. (self.old.rest.now ≡ operands_of i ++ self.new.rest.now) × (mnemonic_of i ≡ mnemonic) × IsInstruction i) }
+        ensures found { TakesOperands mnemonic self.old.rest.now self.new.rest.now result }
     {
         match mnemonic {
             Mnemonic::Alu(op, width) => self.alu(op, width),

@@ -1,6 +1,6 @@
 //! Text from programs.
 ghost use Rattle.std.specs.Prelude.{◌≡◌, ◌≤◌, ◌++◌, codes, IfOk, OnOk, string_bytes};
-ghost use Rattle.bpf_model.specs.Spelling.{IsOperand, IsInstruction};
+ghost use Rattle.bpf_model.specs.Spelling.{IsRegister, IsOperand, IsInstruction};
 ghost use Rattle.bpf_assembler.specs.Names.{name_of};
 ghost use Rattle.bpf_assembler.specs.Text.{register, operand, offset, place, mnemonic_of, operands_of, line_of, text_of, IsTextOf};
 
@@ -36,11 +36,36 @@ fn write_distance(text: &mut String, distance: i32) -> Result<(), AllocError>
 
 fn write_place(text: &mut String, base: Reg, distance: i16) -> Result<(), AllocError>
     ensures text { OnOk result (string_bytes text.new ≡ string_bytes text.old ++ place base distance) }
-    ensures fits { OnOk result (base ≤ 10) }
+    ensures fits { OnOk result (IsRegister base) }
 {
     write!(text, "[r{}", base.number())?;
     write_distance(text, i32::from(distance))?;
     text.push_str("]")
+}
+
+fn write_pair(text: &mut String, dst: Reg, src: Operand) -> Result<(), AllocError>
+    ensures text { OnOk result (string_bytes text.new ≡ string_bytes text.old ++ codes " " ++ register dst ++ codes ", " ++ operand src) }
+    ensures fits { OnOk result (IsRegister dst × IsOperand src) }
+{
+    write!(text, " r{}, ", dst.number())?;
+    write_operand(text, src)
+}
+
+fn write_jump(text: &mut String, distance: i32) -> Result<(), AllocError>
+    ensures { OnOk result (string_bytes text.new ≡ string_bytes text.old ++ codes " " ++ offset distance) }
+{
+    text.push_str(" ")?;
+    write_distance(text, distance)
+}
+
+fn write_store(text: &mut String, dst: Reg, at: i16, src: Operand) -> Result<(), AllocError>
+    ensures text { OnOk result (string_bytes text.new ≡ string_bytes text.old ++ codes " " ++ place dst at ++ codes ", " ++ operand src) }
+    ensures fits { OnOk result (IsRegister dst × IsOperand src) }
+{
+    text.push_str(" ")?;
+    write_place(text, dst, at)?;
+    text.push_str(", ")?;
+    write_operand(text, src)
 }
 
 #[tactic(auto, unfolding(crate::specs::Text::operands_of))]
@@ -49,16 +74,9 @@ fn write_operands(text: &mut String, insn: Insn) -> Result<(), AllocError>
     ensures fits { OnOk result (IsInstruction insn) }
 {
     match insn {
-        Insn::Alu { dst, src, .. } | Insn::Mov { dst, src, .. } => {
-            write!(text, " r{}, ", dst.number())?;
-            write_operand(text, src)
-        }
-        Insn::Negate { dst, .. } | Insn::Reorder { dst, .. } => {
-            write!(text, " r{}", dst.number())
-        }
-        Insn::SignExtend { dst, src, .. } => {
-            write!(text, " r{}, r{}", dst.number(), src.number())
-        }
+        Insn::Alu { dst, src, .. } | Insn::Mov { dst, src, .. } => write_pair(text, dst, src),
+        Insn::Negate { dst, .. } | Insn::Reorder { dst, .. } => write!(text, " r{}", dst.number()),
+        Insn::SignExtend { dst, src, .. } => write_pair(text, dst, Operand::Register(src)),
         Insn::Wide { dst, value } => write!(text, " r{}, {value}", dst.number()),
         Insn::Load {
             dst,
@@ -74,28 +92,16 @@ fn write_operands(text: &mut String, insn: Insn) -> Result<(), AllocError>
             src,
             offset,
             ..
-        } => {
-            text.push_str(" ")?;
-            write_place(text, dst, offset)?;
-            text.push_str(", ")?;
-            write_operand(text, src)
-        }
-        Insn::Jump { distance } => {
-            text.push_str(" ")?;
-            write_distance(text, i32::from(distance))
-        }
-        Insn::JumpLong { distance } => {
-            text.push_str(" ")?;
-            write_distance(text, distance)
-        }
+        } => write_store(text, dst, offset, src),
+        Insn::Jump { distance } => write_jump(text, i32::from(distance)),
+        Insn::JumpLong { distance } => write_jump(text, distance),
         Insn::Branch {
             dst,
             src,
             distance,
             ..
         } => {
-            write!(text, " r{}, ", dst.number())?;
-            write_operand(text, src)?;
+            write_pair(text, dst, src)?;
             text.push_str(", ")?;
             write_distance(text, i32::from(distance))
         }
