@@ -119,7 +119,7 @@ abbrev pub IsAsmRefused : List ℕ → Refusal → Type 0
 IsAsmRefused text TooLong = ⊥
 IsAsmRefused text NoMemory = Unit {0}
 IsAsmRefused text (NotHex place) = ⊥
-IsAsmRefused text (Assemble fault) = (fault ≡ asm_faults.NoMemory) ⊎ assemble.IsFirstFault text (assemble.line_number fault)
+IsAsmRefused text (Assemble fault) = (fault ≡ asm_faults.NoMemory) ⊎ assemble.IsFirstFault text fault
 IsAsmRefused text (Decode fault) = ⊥
 IsAsmRefused text (Flow fault) = ⊥
 IsAsmRefused text (Verify fault) = ⊥

@@ -1,5 +1,5 @@
-use Rattle.std.proofs.Common.{◌≡◌, ℕ, suc, ◌/◌, ◌%◌, ◌++◌, List, [], ◌∷◌, length, drop, get_or, sym, ap, ◌∙◌, append_assoc, append-nil, add-one, arith}
-use Rattle.map_server.specs.Reports.{unit_lines, unit_lines_from, digit, separator}
+use Rattle.std.proofs.Common.{◌≡◌, ℕ, suc, ◌/◌, ◌%◌, ◌++◌, List, [], ◌∷◌, drop, get_or, sym, ap, ◌∙◌, append_assoc, append-nil, add-one, arith}
+use Rattle.map_server.specs.Reports.{unit_lines_from, digit, separator}
 use Rattle.map_server.proofs.UnitLineLemmas.{unit_lines_from-next, unit_lines_from-done}
 use Rattle.map_server.proofs.report.unit_lines.Goals as goal
 
