@@ -12,3 +12,4 @@ pub mod ByteOrderLaws
 pub mod UnitLaws
 pub mod InstructionLaws
 pub mod SpellingLaws
+pub mod Examples
