@@ -3,4 +3,5 @@ mod answers;
 mod arithmetic;
 mod faults;
 mod memory;
+mod programs;
 mod texts;
