@@ -8,7 +8,7 @@ use std::test::*;
 #[test]
 fn arithmetic_has_its_names(rt: HostRuntime) -> Result<(), Fail> {
     let dst = register(&rt, 3);
-    let src = Operand::Register(register(&rt, 10));
+    let last = register(&rt, 10);
     for (word, op) in [
         ("add", AluOp::Add),
         ("sub", AluOp::Sub),
@@ -30,7 +30,7 @@ fn arithmetic_has_its_names(rt: HostRuntime) -> Result<(), Fail> {
                 op,
                 width,
                 dst,
-                src,
+                src: Operand::Register(last),
             };
             assert!(rt; is_text_of(rt.alloc(), &text, insn), "{text}");
         }
@@ -41,7 +41,6 @@ fn arithmetic_has_its_names(rt: HostRuntime) -> Result<(), Fail> {
 #[test]
 fn tests_of_jumps_have_their_names(rt: HostRuntime) -> Result<(), Fail> {
     let dst = register(&rt, 7);
-    let src = Operand::Immediate(-1);
     for (word, test) in [
         ("jeq", JumpOp::Eq),
         ("jgt", JumpOp::Gt),
@@ -61,7 +60,7 @@ fn tests_of_jumps_have_their_names(rt: HostRuntime) -> Result<(), Fail> {
                 test,
                 width,
                 dst,
-                src,
+                src: Operand::Immediate(-1),
                 distance: 2,
             };
             assert!(rt; is_text_of(rt.alloc(), &text, insn), "{text}");
@@ -119,26 +118,29 @@ fn loads_have_their_names(rt: HostRuntime) -> Result<(), Fail> {
 #[test]
 fn stores_have_their_names(rt: HostRuntime) -> Result<(), Fail> {
     let dst = register(&rt, 4);
-    let register = Operand::Register(register(&rt, 9));
+    let src = register(&rt, 9);
     for (letter, size) in [
         ("b", AccessSize::Byte),
         ("h", AccessSize::HalfWord),
         ("w", AccessSize::Word),
         ("d", AccessSize::DoubleWord),
     ] {
-        for (word, src, operand) in [
-            ("stx", register, "r9"),
-            ("st", Operand::Immediate(-9), "-9"),
-        ] {
-            let text = format!(in rt.alloc(); "{word}{letter} [r4+0], {operand}\n")?;
-            let insn = Insn::Store {
-                size,
-                dst,
-                src,
-                offset: 0,
-            };
-            assert!(rt; is_text_of(rt.alloc(), &text, insn), "{text}");
-        }
+        let text = format!(in rt.alloc(); "stx{letter} [r4+0], r9\n")?;
+        let insn = Insn::Store {
+            size,
+            dst,
+            src: Operand::Register(src),
+            offset: 0,
+        };
+        assert!(rt; is_text_of(rt.alloc(), &text, insn), "{text}");
+        let text = format!(in rt.alloc(); "st{letter} [r4+0], -9\n")?;
+        let insn = Insn::Store {
+            size,
+            dst,
+            src: Operand::Immediate(-9),
+            offset: 0,
+        };
+        assert!(rt; is_text_of(rt.alloc(), &text, insn), "{text}");
     }
     Ok(())
 }
