@@ -8,7 +8,7 @@ use std::test::*;
 #[test]
 fn arithmetic_has_its_names(rt: HostRuntime) -> Result<(), Fail> {
     let dst = register(&rt, 3);
-    let src = register(&rt, 10);
+    let last = register(&rt, 10);
     for (word, op) in [
         ("add", AluOp::Add),
         ("sub", AluOp::Sub),
@@ -30,7 +30,7 @@ fn arithmetic_has_its_names(rt: HostRuntime) -> Result<(), Fail> {
                 op,
                 width,
                 dst,
-                src: Operand::Register(src),
+                src: Operand::Register(last),
             };
             assert!(rt; is_text_of(rt.alloc(), &text, insn), "{text}");
         }
@@ -119,7 +119,6 @@ fn loads_have_their_names(rt: HostRuntime) -> Result<(), Fail> {
 fn stores_have_their_names(rt: HostRuntime) -> Result<(), Fail> {
     let dst = register(&rt, 4);
     let src = register(&rt, 9);
-    let offset = 0;
     for (letter, size) in [
         ("b", AccessSize::Byte),
         ("h", AccessSize::HalfWord),
@@ -131,7 +130,7 @@ fn stores_have_their_names(rt: HostRuntime) -> Result<(), Fail> {
             size,
             dst,
             src: Operand::Register(src),
-            offset,
+            offset: 0,
         };
         assert!(rt; is_text_of(rt.alloc(), &text, insn), "{text}");
         let text = format!(in rt.alloc(); "st{letter} [r4+0], -9\n")?;
@@ -139,7 +138,7 @@ fn stores_have_their_names(rt: HostRuntime) -> Result<(), Fail> {
             size,
             dst,
             src: Operand::Immediate(-9),
-            offset,
+            offset: 0,
         };
         assert!(rt; is_text_of(rt.alloc(), &text, insn), "{text}");
     }

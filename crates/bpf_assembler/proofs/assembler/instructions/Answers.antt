@@ -1,4 +1,4 @@
-use Rattle.std.proofs.Common.{◌≡◌, ◌+◌, ◌<◌, sym, ap, ◌∙◌, refl, arith, inr, length, subst, ℕ}
+use Rattle.std.proofs.Common.{◌≡◌, ◌+◌, ◌<◌, sym, refl, arith, inr, length, subst, ℕ}
 use Rattle.bpf_model.specs.declared.limits.TheConstants.{PROGRAM_UNITS}
 use Rattle.bpf_model.specs.Program.{unit_count, units_of}
 use Rattle.bpf_assembler.specs.Text.{text_of}
@@ -17,7 +17,8 @@ pub returns-in-Err-clause-first_fault : goal.returns-in-Err-clause-first_fault
 returns-in-Err-clause-first_fault c =
     let l = c.loop-cursor in
     let line : c.len-line.result ≡ length l.instructions.items = omega (arith, c.len-line.ensures, l.instructions.ok.0) in
-    let named = c.at.ensures ∙ ap (λ n. at_line (n + 1) c.in-Err.fault) line in
+    let told = c.at.ensures in
+    let named : c.at.result ≡ at_line (length l.instructions.items + 1) c.in-Err.fault = cc in
     inr (unread_line c.args.text.now l.cursor.rest.now l.instructions.items l.units c.is_done.result c.in-Err.fault c.at.result l.invariant.fits l.invariant.counted l.invariant.few l.invariant.lines c.is_done.ensures c.loop-cursor-test.true c.in-Err.ensures.exact named)
 
 pub returns-then-units-gt-PROGRAM_UNITS-clause-first_fault :
