@@ -1,5 +1,5 @@
 -- Which line of a text is the first faulty one, and what is wrong with it.
-use Rattle.std.specs.Prelude.{◌≡◌, ℕ, ◌+◌, ◌<◌, ◌≤◌, ◌⊎◌, List, [], ◌++◌, length, Result, Ok, Err}
+use Rattle.std.specs.Prelude.{◌≡◌, ℕ, zero, suc, codes, decimal, ◌+◌, ◌<◌, ◌≤◌, ◌⊎◌, List, [], ◌++◌, length, Result, Ok, Err}
 use Rattle.bpf_model.specs.declared.limits.TheConstants.{PROGRAM_UNITS}
 use Rattle.bpf_model.specs.declared.instruction.Insn.{Insn}
 use Rattle.bpf_model.specs.Program.{units_of, unit_count}
@@ -28,6 +28,16 @@ line_number (BadOperand line) = line
 line_number (OutOfRange line) = line
 line_number (Trailing line) = line
 line_number (BadCount line) = line
+
+-- what is printed of it
+abbrev pub message_of : AsmFault → List ℕ
+message_of NoMemory = codes "no memory"
+message_of (UnknownName line) = codes "unknown name in line " ++ decimal line
+message_of (BadOperand line) = codes "bad operand in line " ++ decimal line
+message_of (OutOfRange line) = codes "number out of range in line " ++ decimal line
+message_of (Trailing line) = codes "no newline after the last operand in line " ++ decimal line
+message_of (BadCount zero) = codes "no line"
+message_of (BadCount (suc n)) = codes "more than 512 units in line " ++ decimal (suc n)
 
 -- a fault of this line
 abbrev pub at_line : ℕ → LineFault → AsmFault

@@ -1,7 +1,7 @@
 //! Why a text is no program.
-ghost use Rattle.std.specs.Prelude.{◌≡◌};
+ghost use Rattle.std.specs.Prelude.{◌≡◌, Some};
 ghost use Rattle.bpf_assembler.specs.declared.fault.AsmFault.TheVariants.{NoMemory as OutOfMemory};
-ghost use Rattle.bpf_assembler.specs.Faults.{number_of, line_number, at_line};
+ghost use Rattle.bpf_assembler.specs.Faults.{number_of, line_number, message_of, at_line};
 
 use bpf_model::NoMemory;
 use std::alloc::AllocError;
@@ -57,6 +57,8 @@ impl AsmFault {
 }
 
 impl fmt::Display for AsmFault {
+    ghost output = { λ fault. Some (message_of fault) };
+
     fn fmt<W: fmt::Write>(&self, f: &mut fmt::Formatter<W>) -> fmt::Result {
         match self {
             AsmFault::NoMemory => write!(f, "no memory"),
