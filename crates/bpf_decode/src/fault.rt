@@ -66,6 +66,11 @@ impl DecodeFault {
 }
 
 impl fmt::Display for DecodeFault {
+    ghost use Rattle.std.specs.Prelude.{Some};
+    ghost use Rattle.bpf_decode.specs.Messages.{message_of};
+
+    ghost output = { λ fault. Some (message_of fault) };
+
     fn fmt<W: fmt::Write>(&self, f: &mut fmt::Formatter<W>) -> fmt::Result {
         match self {
             DecodeFault::NoMemory => write!(f, "no memory"),

@@ -3,6 +3,8 @@ ghost use Rattle.std.specs.Prelude.{◌≡◌, ◌≤◌, ◌<◌, ◌↔◌, Li
 
 use crate::limits::{KEY_BYTES, VALUE_BYTES};
 use arrayvec::ArrayVec;
+use std::error::Error;
+use std::fmt;
 use std::marker::Model;
 
 /// More bytes than there is room for: number 1.
@@ -13,6 +15,18 @@ impl TooLong {
     /// The number under which this refusal is printed and sent.
     pub const NUMBER: u8 = 1;
 }
+
+impl fmt::Display for TooLong {
+    ghost use Rattle.std.specs.Prelude.{Some, codes};
+
+    ghost output = { λ _. Some (codes "too many bytes") };
+
+    fn fmt<W: fmt::Write>(&self, f: &mut fmt::Formatter<W>) -> fmt::Result {
+        write!(f, "too many bytes")
+    }
+}
+
+impl Error for TooLong {}
 
 /// A key of 0 to 64 bytes. Keys are ordered by their bytes; a key that begins another comes before it.
 #[derive(Clone, Debug, PartialEq, Eq, PartialOrd, Ord, Drop)]

@@ -3,6 +3,7 @@ ghost use Rattle.std.specs.Prelude.{◌≡◌};
 ghost use Rattle.flow_shape.specs.FlowShape.{number_of, faulty_unit};
 ghost use Rattle.flow_shape.specs.Messages.{reason_of};
 
+use std::error::Error;
 use std::fmt;
 
 /// Why a program's flow is refused, with the unit of the faulty instruction, counted from 0.
@@ -65,3 +66,5 @@ impl fmt::Display for FlowFault {
         write!(f, "{} (unit {})", self.reason(), self.unit())
     }
 }
+
+impl Error for FlowFault {}

@@ -1,8 +1,13 @@
--- The numbers under which refusals are printed and sent.
-use Rattle.std.specs.Prelude.{ℕ}
+-- The numbers under which refusals are printed and sent, and how they are told.
+use Rattle.std.specs.Prelude.{ℕ, List, codes}
 use Rattle.map_server.specs.declared.striped.OpenFault.{OpenFault}
 use Rattle.map_server.specs.declared.striped.OpenFault.TheVariants.{BadStripes, NoMemory}
 
 abbrev pub open_fault_number : OpenFault → ℕ
 open_fault_number BadStripes = 50
 open_fault_number NoMemory = 9
+
+-- what is wrong
+abbrev pub open_fault_message : OpenFault → List ℕ
+open_fault_message BadStripes = codes "a table has 1 stripe"
+open_fault_message NoMemory = codes "no memory"

@@ -35,6 +35,11 @@ impl OpenFault {
 }
 
 impl fmt::Display for OpenFault {
+    ghost use Rattle.std.specs.Prelude.{Some};
+    ghost use Rattle.map_server.specs.Faults.{open_fault_message};
+
+    ghost output = { λ fault. Some (open_fault_message fault) };
+
     fn fmt<W: fmt::Write>(&self, f: &mut fmt::Formatter<W>) -> fmt::Result {
         match self {
             OpenFault::BadStripes => write!(f, "a table has 1 stripe"),

@@ -3,3 +3,4 @@ pub mod Kept
 pub mod Frames
 pub mod Faults
 pub mod Describes
+pub mod Messages

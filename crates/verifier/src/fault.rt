@@ -2,6 +2,7 @@
 ghost use Rattle.std.specs.Prelude.{◌≡◌};
 ghost use Rattle.verifier.specs.Faults.{number_of, unit_of};
 
+use std::error::Error;
 use std::fmt;
 
 /// Why a program is refused, with the unit of the faulty instruction. At one unit the least number is named.
@@ -65,18 +66,28 @@ impl VerifyFault {
 }
 
 impl fmt::Display for VerifyFault {
+    ghost use Rattle.std.specs.Prelude.{Some};
+    ghost use Rattle.verifier.specs.Messages.{message_of};
+
+    ghost output = { λ fault. Some (message_of fault) };
+
     fn fmt<W: fmt::Write>(&self, f: &mut fmt::Formatter<W>) -> fmt::Result {
-        let text = match self {
-            VerifyFault::UnwrittenRegister(_) => "a register is read that was not written",
-            VerifyFault::WriteToR10(_) => "r10 is written",
-            VerifyFault::NotAWindow(_) => "the address does not point into a window",
-            VerifyFault::OutOfWindow(_) => "the access does not lie in the window",
-            VerifyFault::ReadOnly(_) => "the window may only be read",
-            VerifyFault::UnwrittenBytes(_) => "bytes are read that were not all written",
-            VerifyFault::BadExitValue(_) => "r0 may be neither -1 nor a number of written bytes",
+        let (reason, unit) = match self {
+            VerifyFault::UnwrittenRegister(unit) => ("a register is read that was not written", unit),
+            VerifyFault::WriteToR10(unit) => ("r10 is written", unit),
+            VerifyFault::NotAWindow(unit) => ("the address does not point into a window", unit),
+            VerifyFault::OutOfWindow(unit) => ("the access does not lie in the window", unit),
+            VerifyFault::ReadOnly(unit) => ("the window may only be read", unit),
+            VerifyFault::UnwrittenBytes(unit) => ("bytes are read that were not all written", unit),
+            VerifyFault::BadExitValue(unit) => (
+                "r0 may be neither -1 nor a number of written bytes",
+                unit,
+            ),
             VerifyFault::SizesTooLarge => return write!(f, "a declared size is above its limit"),
-            VerifyFault::NotYet(_) => "the instruction or its access is not taken yet",
+            VerifyFault::NotYet(unit) => ("the instruction or its access is not taken yet", unit),
         };
-        write!(f, "{text} (unit {})", self.unit())
+        write!(f, "{reason} (unit {unit})")
     }
 }
+
+impl Error for VerifyFault {}
