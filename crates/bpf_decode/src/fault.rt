@@ -4,6 +4,7 @@ ghost use Rattle.bpf_decode.specs.declared.fault.DecodeFault.TheVariants.{NoMemo
 ghost use Rattle.bpf_decode.specs.Faults.{number_of, unit_of, at_unit};
 
 use bpf_model::NoMemory;
+use bpf_model::limits::PROGRAM_UNITS;
 use std::alloc::AllocError;
 use std::error::Error;
 use std::fmt;
@@ -76,7 +77,7 @@ impl fmt::Display for DecodeFault {
             DecodeFault::NoMemory => write!(f, "no memory"),
             DecodeFault::Empty => write!(f, "no byte"),
             DecodeFault::NotWholeUnits => write!(f, "the number of bytes is no multiple of 8"),
-            DecodeFault::TooManyUnits => write!(f, "more than 512 units"),
+            DecodeFault::TooManyUnits => write!(f, "more than {PROGRAM_UNITS} units"),
             DecodeFault::UnknownOpcode(unit) => write!(f, "unknown opcode at unit {unit}"),
             DecodeFault::BadRegister(unit) => write!(f, "register above 10 at unit {unit}"),
             DecodeFault::UnusedNotZero(unit) => write!(

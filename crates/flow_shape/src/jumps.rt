@@ -1,20 +1,8 @@
 //! What an instruction means for the flow of a program.
-ghost use Rattle.std.specs.Prelude.{◌≡◌, ◌≤◌};
-ghost use Rattle.bpf_model.specs.Program.{units_of};
+ghost use Rattle.std.specs.Prelude.{◌≡◌};
 ghost use Rattle.flow_shape.specs.Jumps.{distance_of, falls_through};
 
 use bpf_model::Insn;
-
-/// How many units an instruction takes.
-pub(crate) fn units(insn: &Insn) -> usize
-    ensures value { result ≡ units_of insn.now }
-    ensures few { result ≤ 2 }
-{
-    match insn {
-        Insn::Wide { .. } => 2,
-        _ => 1,
-    }
-}
 
 /// The distance of a jump.
 pub(crate) fn distance(insn: &Insn) -> Option<i32>

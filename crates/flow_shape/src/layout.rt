@@ -4,7 +4,7 @@ ghost use Rattle.bpf_model.specs.Program.{IsProgram, instruction_at};
 ghost use Rattle.flow_shape.specs.FlowShape.{DoesLand, HasNoFaultAt, IsFirstFaultAt};
 
 use crate::fault::FlowFault;
-use crate::jumps::{distance, falls_through, units};
+use crate::jumps::{distance, falls_through};
 use bpf_model::Insn;
 use bpf_model::limits::PROGRAM_UNITS;
 use std::marker::Model;
@@ -38,7 +38,7 @@ impl<'a> Layout<'a> {
         let mut total = 0;
         for insn in instructions {
             starts[total] = true;
-            total += units(insn);
+            total += insn.units();
         }
         Layout {
             instructions,
@@ -77,7 +77,7 @@ impl<'a> Layout<'a> {
         ensures err { IfErr result (IsFirstFaultAt self.now unit) }
     {
         self.check_jump(unit, insn)?;
-        if falls_through(insn) && unit + units(insn) == self.total {
+        if falls_through(insn) && unit + insn.units() == self.total {
             return Err(FlowFault::FallsOffEnd(unit));
         }
         Ok(())

@@ -4,7 +4,6 @@ ghost use Rattle.bpf_model.specs.Program.{IsProgram};
 ghost use Rattle.flow_shape.specs.FlowShape.{IsWellShaped, IsFirstFault, IsForward};
 
 use crate::fault::FlowFault;
-use crate::jumps::units;
 use crate::layout::Layout;
 use bpf_model::{Insn, Program};
 use std::marker::Model;
@@ -56,7 +55,7 @@ fn find_fault(program: &[Insn]) -> Result<(), FlowFault>
     let mut unit = 0;
     for insn in program {
         layout.check(unit, insn)?;
-        unit += units(insn);
+        unit += insn.units();
     }
     Ok(())
 }

@@ -1,6 +1,7 @@
 //! Which fault is the first.
 use super::{EXIT, fault_of};
 use crate::{DecodeFault, decode};
+use bpf_model::Insn;
 use std::alloc::Global;
 use std::test::*;
 
@@ -216,7 +217,8 @@ fn faults_are_printed(rt: HostRuntime) {
 
 #[test]
 fn memory_refused_is_number_nine(rt: HostRuntime) {
-    if let Err(fault) = decode(rt.alloc(), &EXIT) {
-        assert_eq!(rt; (fault.number(), fault.unit()), (9, 0));
+    match decode(rt.alloc(), &EXIT) {
+        Ok(program) => assert!(rt; program.instructions() == [Insn::Exit].as_slice()),
+        Err(fault) => assert_eq!(rt; (fault.number(), fault.unit()), (9, 0)),
     }
 }
