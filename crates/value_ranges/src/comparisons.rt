@@ -1,19 +1,26 @@
 //! What comparisons of words say of their ranges.
 ghost use Rattle.std.specs.Prelude.{ℕ, ◌≡◌, ◌<◌, ◌≤◌, ◌≤ℤ◌, ◌<ℤ◌};
 ghost use Rattle.bpf_model.specs.Words.{signed};
-ghost use Rattle.value_ranges.specs.In.{IsIn, IsWithin, AreInSome};
+ghost use Rattle.value_ranges.specs.In.{IsIn, IsWithin, IsInSome, AreInSome};
 
 use crate::bounds::Bounds;
 use crate::range::Range;
+
+/// Both ranges; none where one of them is none.
+pub fn pair(a: Option<Range>, b: Option<Range>) -> Option<(Range, Range)>
+    ensures { (x y : ℕ) → IsInSome x a → IsInSome y b → AreInSome x y result }
+{
+    match (a, b) {
+        (Some(first), Some(second)) => Some((first, second)),
+        _ => None,
+    }
+}
 
 /// The ranges of these bounds; none where one is empty.
 pub fn both(a: Bounds, b: Bounds) -> Option<(Range, Range)>
     ensures { (x y : ℕ) → IsWithin x a → IsWithin y b → AreInSome x y result }
 {
-    match (a.tighten(), b.tighten()) {
-        (Some(first), Some(second)) => Some((first, second)),
-        _ => None,
-    }
+    pair(a.tighten(), b.tighten())
 }
 
 /// The pair the other way round.
