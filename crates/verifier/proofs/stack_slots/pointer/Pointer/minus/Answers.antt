@@ -22,6 +22,14 @@ returns-clause-some c =
     let order : (p.least -ℤ n.smax) ≤ℤ (p.greatest -ℤ n.smin) = omega (arith, ints, p.order, n.signed_order) in
     (λ yes. let h = some.0 yes in (h.0, h.1.0), λ near. some.1 (near.0, (near.1, order)))
 
+pub returns-clause-value : goal.returns-clause-value
+returns-clause-value c =
+    let p = c.args.self in
+    let n = c.args.number in
+    let low = reads p.least n.smax c.in_ok-least.least (search rules) (search rules) c.in_ok-least.ensures in
+    let high = reads p.greatest n.smin c.in_ok-greatest.greatest (search rules) (search rules) c.in_ok-greatest.ensures in
+    IfSome_then c.new.result c.new.ensures.value (λ q is. (is.0, (is.1.0 ∙ low, is.1.1 ∙ high)))
+
 pub returns-clause-holds : goal.returns-clause-holds
 returns-clause-holds c =
     let p = c.args.self in
