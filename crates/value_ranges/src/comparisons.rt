@@ -55,15 +55,11 @@ pub fn greater(a: Range, b: Range) -> Option<(Range, Range)>
     }
     let first = Bounds {
         umin: a.umin.max(b.umin + 1),
-        umax: a.umax,
-        smin: a.smin,
-        smax: a.smax,
+        ..Bounds::of(a)
     };
     let second = Bounds {
-        umin: b.umin,
         umax: b.umax.min(a.umax - 1),
-        smin: b.smin,
-        smax: b.smax,
+        ..Bounds::of(b)
     };
     both(first, second)
 }
@@ -74,15 +70,11 @@ pub fn at_least(a: Range, b: Range) -> Option<(Range, Range)>
 {
     let first = Bounds {
         umin: a.umin.max(b.umin),
-        umax: a.umax,
-        smin: a.smin,
-        smax: a.smax,
+        ..Bounds::of(a)
     };
     let second = Bounds {
-        umin: b.umin,
         umax: b.umax.min(a.umax),
-        smin: b.smin,
-        smax: b.smax,
+        ..Bounds::of(b)
     };
     both(first, second)
 }
@@ -95,16 +87,12 @@ pub fn signed_greater(a: Range, b: Range) -> Option<(Range, Range)>
         return None;
     }
     let first = Bounds {
-        umin: a.umin,
-        umax: a.umax,
         smin: a.smin.max(b.smin + 1),
-        smax: a.smax,
+        ..Bounds::of(a)
     };
     let second = Bounds {
-        umin: b.umin,
-        umax: b.umax,
-        smin: b.smin,
         smax: b.smax.min(a.smax - 1),
+        ..Bounds::of(b)
     };
     both(first, second)
 }
@@ -114,16 +102,12 @@ pub fn signed_at_least(a: Range, b: Range) -> Option<(Range, Range)>
     ensures { (x y : ℕ) → IsIn x a → IsIn y b → signed y ≤ℤ signed x → AreInSome x y result }
 {
     let first = Bounds {
-        umin: a.umin,
-        umax: a.umax,
         smin: a.smin.max(b.smin),
-        smax: a.smax,
+        ..Bounds::of(a)
     };
     let second = Bounds {
-        umin: b.umin,
-        umax: b.umax,
-        smin: b.smin,
         smax: b.smax.min(a.smax),
+        ..Bounds::of(b)
     };
     both(first, second)
 }
