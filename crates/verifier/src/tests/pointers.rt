@@ -3,7 +3,6 @@ use super::{
     EXIT, Row, SIZES, add, alu, check, combine, copy, load, mov, refusal, store, store_byte, wide,
 };
 use bpf_model::{AluOp, Insn};
-use std::alloc::Global;
 use std::test::Fail;
 
 #[test]
