@@ -1,4 +1,4 @@
--- Which words lie in a range.
+-- Which words lie in a range. This verifier's own.
 use Rattle.std.specs.Prelude.{◌≡◌, ℕ, ◌≤◌, ℤ, pos, ◌≤ℤ◌, Option, Some, None}
 use Rattle.bpf_model.specs.Words.{IsWord, signed}
 use Rattle.value_ranges.specs.declared.range.Range.{Range}

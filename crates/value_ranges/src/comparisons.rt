@@ -1,19 +1,26 @@
 //! What comparisons of words say of their ranges.
 ghost use Rattle.std.specs.Prelude.{ℕ, ◌≡◌, ◌<◌, ◌≤◌, ◌≤ℤ◌, ◌<ℤ◌};
 ghost use Rattle.bpf_model.specs.Words.{signed};
-ghost use Rattle.value_ranges.specs.In.{IsIn, IsWithin, AreInSome};
+ghost use Rattle.value_ranges.specs.In.{IsIn, IsWithin, IsInSome, AreInSome};
 
 use crate::bounds::Bounds;
 use crate::range::Range;
+
+/// Both ranges; none where one of them is none.
+pub fn pair(a: Option<Range>, b: Option<Range>) -> Option<(Range, Range)>
+    ensures { (x y : ℕ) → IsInSome x a → IsInSome y b → AreInSome x y result }
+{
+    match (a, b) {
+        (Some(first), Some(second)) => Some((first, second)),
+        _ => None,
+    }
+}
 
 /// The ranges of these bounds; none where one is empty.
 pub fn both(a: Bounds, b: Bounds) -> Option<(Range, Range)>
     ensures { (x y : ℕ) → IsWithin x a → IsWithin y b → AreInSome x y result }
 {
-    match (a.tighten(), b.tighten()) {
-        (Some(first), Some(second)) => Some((first, second)),
-        _ => None,
-    }
+    pair(a.tighten(), b.tighten())
 }
 
 /// The pair the other way round.
@@ -48,15 +55,11 @@ pub fn greater(a: Range, b: Range) -> Option<(Range, Range)>
     }
     let first = Bounds {
         umin: a.umin.max(b.umin + 1),
-        umax: a.umax,
-        smin: a.smin,
-        smax: a.smax,
+        ..Bounds::of(a)
     };
     let second = Bounds {
-        umin: b.umin,
         umax: b.umax.min(a.umax - 1),
-        smin: b.smin,
-        smax: b.smax,
+        ..Bounds::of(b)
     };
     both(first, second)
 }
@@ -67,15 +70,11 @@ pub fn at_least(a: Range, b: Range) -> Option<(Range, Range)>
 {
     let first = Bounds {
         umin: a.umin.max(b.umin),
-        umax: a.umax,
-        smin: a.smin,
-        smax: a.smax,
+        ..Bounds::of(a)
     };
     let second = Bounds {
-        umin: b.umin,
         umax: b.umax.min(a.umax),
-        smin: b.smin,
-        smax: b.smax,
+        ..Bounds::of(b)
     };
     both(first, second)
 }
@@ -88,16 +87,12 @@ pub fn signed_greater(a: Range, b: Range) -> Option<(Range, Range)>
         return None;
     }
     let first = Bounds {
-        umin: a.umin,
-        umax: a.umax,
         smin: a.smin.max(b.smin + 1),
-        smax: a.smax,
+        ..Bounds::of(a)
     };
     let second = Bounds {
-        umin: b.umin,
-        umax: b.umax,
-        smin: b.smin,
         smax: b.smax.min(a.smax - 1),
+        ..Bounds::of(b)
     };
     both(first, second)
 }
@@ -107,16 +102,12 @@ pub fn signed_at_least(a: Range, b: Range) -> Option<(Range, Range)>
     ensures { (x y : ℕ) → IsIn x a → IsIn y b → signed y ≤ℤ signed x → AreInSome x y result }
 {
     let first = Bounds {
-        umin: a.umin,
-        umax: a.umax,
         smin: a.smin.max(b.smin),
-        smax: a.smax,
+        ..Bounds::of(a)
     };
     let second = Bounds {
-        umin: b.umin,
-        umax: b.umax,
-        smin: b.smin,
         smax: b.smax.min(a.smax),
+        ..Bounds::of(b)
     };
     both(first, second)
 }

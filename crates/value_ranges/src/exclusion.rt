@@ -5,6 +5,7 @@ ghost use Rattle.value_ranges.specs.In.{IsIn, IsInSome, AreInSome};
 ghost use Rattle.value_ranges.specs.Edges.{IsFrom, IsUpTo, IsSignedFrom, IsSignedUpTo};
 
 use crate::bounds::Bounds;
+use crate::comparisons::pair;
 use crate::range::Range;
 
 /// Where the words differ: a single second one is taken away from the edges of the first range.
@@ -16,15 +17,6 @@ pub fn unequal(a: Range, b: Range) -> Option<(Range, Range)>
         None => Bounds::of(a).tighten(),
     };
     pair(first, Bounds::of(b).tighten())
-}
-
-fn pair(a: Option<Range>, b: Option<Range>) -> Option<(Range, Range)>
-    ensures { (x y : ℕ) → IsInSome x a → IsInSome y b → AreInSome x y result }
-{
-    match (a, b) {
-        (Some(first), Some(second)) => Some((first, second)),
-        _ => None,
-    }
 }
 
 fn without(a: Range, word: u64) -> Option<Range>

@@ -4,7 +4,7 @@ use super::{BIT31, BIT32, BIT63, FULL, MAX31, MAX32, MAX63, MAX64, Row, WORD, ch
 use bpf_model::{AluOp, Width};
 use std::test::*;
 
-const COMMON_BITS_OF_64_BITS: [(Row, Row, Row); 15] = [
+const COMMON_BITS_OF_64_BITS: [(Row, Row, Row); 16] = [
     (FULL, One(7), Same(0, 7)),
     (One(7), FULL, Same(0, 7)),
     (Same(0, 10), One(MAX64), Same(0, 10)),
@@ -24,6 +24,7 @@ const COMMON_BITS_OF_64_BITS: [(Row, Row, Row); 15] = [
     ),
     (Signed(-3, 4), Four(MAX64 - 2, MAX64, -3, -1), FULL),
     (FULL, FULL, FULL),
+    (Four(5, 5, 0, 10), One(3), One(1)),
 ];
 
 #[test]
@@ -31,7 +32,7 @@ fn common_bits_of_64_bits(rt: HostRuntime) {
     check(&rt, AluOp::And, Width::W64, &COMMON_BITS_OF_64_BITS);
 }
 
-const COMMON_BITS_OF_32_BITS: [(Row, Row, Row); 12] = [
+const COMMON_BITS_OF_32_BITS: [(Row, Row, Row); 15] = [
     (FULL, One(7), Same(0, 7)),
     (One(7), FULL, Same(0, 7)),
     (FULL, One(MAX32 + 8), Same(0, 7)),
@@ -44,6 +45,9 @@ const COMMON_BITS_OF_32_BITS: [(Row, Row, Row); 12] = [
     (One(BIT63), FULL, One(0)),
     (Signed(-3, 4), Four(MAX64 - 2, MAX64, -3, -1), WORD),
     (FULL, FULL, WORD),
+    (Four(5, 5, 0, 10), One(3), One(1)),
+    (Same(1, MAX32), One(7), Same(0, 7)),
+    (Unsigned(MAX63, BIT63), One(7), Same(0, 7)),
 ];
 
 #[test]
@@ -82,7 +86,7 @@ fn bits_of_either_of_64_bits(rt: HostRuntime) {
     check(&rt, AluOp::Or, Width::W64, &BITS_OF_EITHER_OF_64_BITS);
 }
 
-const BITS_OF_EITHER_OF_32_BITS: [(Row, Row, Row); 13] = [
+const BITS_OF_EITHER_OF_32_BITS: [(Row, Row, Row); 15] = [
     (Same(0, 10), One(3), Same(3, 15)),
     (Same(0, 10), One(MAX32 + 4), Same(3, 15)),
     (Same(8, 16), One(3), Same(8, 31)),
@@ -96,6 +100,8 @@ const BITS_OF_EITHER_OF_32_BITS: [(Row, Row, Row); 13] = [
     (Same(0, BIT32), One(1), Same(1, MAX32)),
     (FULL, One(0), WORD),
     (FULL, FULL, WORD),
+    (Same(1, MAX32), One(0), Same(1, MAX32)),
+    (Unsigned(MAX63, BIT63), One(0), WORD),
 ];
 
 #[test]
@@ -130,7 +136,7 @@ fn bits_of_one_alone_of_64_bits(rt: HostRuntime) {
     check(&rt, AluOp::Xor, Width::W64, &BITS_OF_ONE_ALONE_OF_64_BITS);
 }
 
-const BITS_OF_ONE_ALONE_OF_32_BITS: [(Row, Row, Row); 13] = [
+const BITS_OF_ONE_ALONE_OF_32_BITS: [(Row, Row, Row); 15] = [
     (Same(0, 10), One(3), Same(0, 15)),
     (Same(0, 10), One(MAX32 + 4), Same(0, 15)),
     (Same(8, 16), One(3), Same(0, 31)),
@@ -144,6 +150,8 @@ const BITS_OF_ONE_ALONE_OF_32_BITS: [(Row, Row, Row); 13] = [
     (Same(0, BIT32), One(1), WORD),
     (FULL, One(0), WORD),
     (FULL, FULL, WORD),
+    (Same(1, MAX32), One(0), WORD),
+    (Unsigned(MAX63, BIT63), One(0), WORD),
 ];
 
 #[test]

@@ -158,7 +158,7 @@ fn greater_at_64_bits(rt: HostRuntime) {
     check_refined(&rt, Condition::Gt, Width::W64, &GREATER_AT_64_BITS);
 }
 
-const GREATER_AT_32_BITS: [(Row, Row, Option<(Row, Row)>, Option<(Row, Row)>); 25] = [
+const GREATER_AT_32_BITS: [(Row, Row, Option<(Row, Row)>, Option<(Row, Row)>); 26] = [
     (One(5), One(4), Some((One(5), One(4))), None),
     (One(5), One(5), None, Some((One(5), One(5)))),
     (One(5), One(6), None, Some((One(5), One(6)))),
@@ -244,6 +244,7 @@ const GREATER_AT_32_BITS: [(Row, Row, Option<(Row, Row)>, Option<(Row, Row)>); 2
         Some((Same(0, 10), One(3))),
         Some((Same(0, 10), One(3))),
     ),
+    (One(BIT32), One(0), None, Some((One(BIT32), One(0)))),
 ];
 
 #[test]
@@ -405,7 +406,7 @@ fn at_least_at_64_bits(rt: HostRuntime) {
     check_refined(&rt, Condition::Ge, Width::W64, &AT_LEAST_AT_64_BITS);
 }
 
-const AT_LEAST_AT_32_BITS: [(Row, Row, Option<(Row, Row)>, Option<(Row, Row)>); 25] = [
+const AT_LEAST_AT_32_BITS: [(Row, Row, Option<(Row, Row)>, Option<(Row, Row)>); 26] = [
     (One(5), One(4), Some((One(5), One(4))), None),
     (One(5), One(5), Some((One(5), One(5))), None),
     (One(5), One(6), None, Some((One(5), One(6)))),
@@ -491,6 +492,7 @@ const AT_LEAST_AT_32_BITS: [(Row, Row, Option<(Row, Row)>, Option<(Row, Row)>); 
         Some((Same(0, 10), One(3))),
         Some((Same(0, 10), One(3))),
     ),
+    (One(BIT32), One(1), None, Some((One(BIT32), One(1)))),
 ];
 
 #[test]

@@ -1,10 +1,10 @@
 //! Extensions of signs.
-use super::Row::{Four, One, Same, Signed};
+use super::Row::{Four, One, Same, Signed, Unsigned};
 use super::{BIT31, BIT32, BIT63, Change, FULL, MAX31, MAX32, MAX63, MAX64, Row, WORD, check_each};
 use bpf_model::SignExtension;
 use std::test::*;
 
-const EXTENSIONS_OF_8_TO_32_BITS: [(Row, Row); 24] = [
+const EXTENSIONS_OF_8_TO_32_BITS: [(Row, Row); 26] = [
     (One(0), One(0)),
     (One(127), One(127)),
     (One(128), One(0xffff_ff80)),
@@ -29,6 +29,8 @@ const EXTENSIONS_OF_8_TO_32_BITS: [(Row, Row); 24] = [
     (FULL, WORD),
     (Four(0, 5, -5, 20), Four(0, 5, -5, 20)),
     (Four(5, 5, 0, 10), One(5)),
+    (Same(MAX31, BIT31), WORD),
+    (Unsigned(MAX63, BIT63), WORD),
 ];
 
 #[test]
@@ -40,7 +42,7 @@ fn extensions_of_8_to_32_bits(rt: HostRuntime) {
     );
 }
 
-const EXTENSIONS_OF_16_TO_32_BITS: [(Row, Row); 24] = [
+const EXTENSIONS_OF_16_TO_32_BITS: [(Row, Row); 26] = [
     (One(0), One(0)),
     (One(32767), One(32767)),
     (One(32768), One(0xffff_8000)),
@@ -65,6 +67,8 @@ const EXTENSIONS_OF_16_TO_32_BITS: [(Row, Row); 24] = [
     (FULL, WORD),
     (Four(0, 5, -5, 20), Four(0, 5, -5, 20)),
     (Four(5, 5, 0, 10), One(5)),
+    (Same(MAX31, BIT31), WORD),
+    (Unsigned(MAX63, BIT63), WORD),
 ];
 
 #[test]
@@ -76,7 +80,7 @@ fn extensions_of_16_to_32_bits(rt: HostRuntime) {
     );
 }
 
-const EXTENSIONS_OF_8_TO_64_BITS: [(Row, Row); 24] = [
+const EXTENSIONS_OF_8_TO_64_BITS: [(Row, Row); 26] = [
     (One(0), One(0)),
     (One(127), One(127)),
     (One(128), One(0xffff_ffff_ffff_ff80)),
@@ -101,6 +105,8 @@ const EXTENSIONS_OF_8_TO_64_BITS: [(Row, Row); 24] = [
     (FULL, Signed(-128, 127)),
     (Four(0, 5, -5, 20), Four(0, 5, -5, 20)),
     (Four(5, 5, 0, 10), One(5)),
+    (Same(MAX31, BIT31), Signed(-128, 127)),
+    (Unsigned(MAX63, BIT63), Signed(-128, 127)),
 ];
 
 #[test]
@@ -112,7 +118,7 @@ fn extensions_of_8_to_64_bits(rt: HostRuntime) {
     );
 }
 
-const EXTENSIONS_OF_16_TO_64_BITS: [(Row, Row); 24] = [
+const EXTENSIONS_OF_16_TO_64_BITS: [(Row, Row); 26] = [
     (One(0), One(0)),
     (One(32767), One(32767)),
     (One(32768), One(0xffff_ffff_ffff_8000)),
@@ -137,6 +143,8 @@ const EXTENSIONS_OF_16_TO_64_BITS: [(Row, Row); 24] = [
     (FULL, Signed(-32768, 32767)),
     (Four(0, 5, -5, 20), Four(0, 5, -5, 20)),
     (Four(5, 5, 0, 10), One(5)),
+    (Same(MAX31, BIT31), Signed(-32768, 32767)),
+    (Unsigned(MAX63, BIT63), Signed(-32768, 32767)),
 ];
 
 #[test]
@@ -148,7 +156,7 @@ fn extensions_of_16_to_64_bits(rt: HostRuntime) {
     );
 }
 
-const EXTENSIONS_OF_32_TO_64_BITS: [(Row, Row); 19] = [
+const EXTENSIONS_OF_32_TO_64_BITS: [(Row, Row); 20] = [
     (One(0), One(0)),
     (One(MAX31), One(MAX31)),
     (One(BIT31), One(0xffff_ffff_8000_0000)),
@@ -174,6 +182,7 @@ const EXTENSIONS_OF_32_TO_64_BITS: [(Row, Row); 19] = [
     (FULL, Signed(-0x8000_0000, 0x7fff_ffff)),
     (Four(0, 5, -5, 20), Four(0, 5, -5, 20)),
     (Four(5, 5, 0, 10), One(5)),
+    (Unsigned(MAX63, BIT63), Signed(-0x8000_0000, 0x7fff_ffff)),
 ];
 
 #[test]

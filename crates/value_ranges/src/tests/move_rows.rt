@@ -4,7 +4,7 @@ use super::{BIT31, BIT32, BIT63, Change, FULL, MAX31, MAX32, MAX63, MAX64, Row, 
 use bpf_model::Width;
 use std::test::*;
 
-const NEGATIONS_OF_64_BITS: [(Row, Row); 27] = [
+const NEGATIONS_OF_64_BITS: [(Row, Row); 26] = [
     (One(0), One(0)),
     (One(1), One(MAX64)),
     (One(MAX31), One(0xffff_ffff_8000_0001)),
@@ -46,7 +46,6 @@ const NEGATIONS_OF_64_BITS: [(Row, Row); 27] = [
     (Four(BIT63, MAX64, i64::MIN, -1), FULL),
     (Four(MAX63 + 2, MAX64, i64::MIN + 1, -1), Same(1, MAX63)),
     (Signed(-5, 3), Signed(-3, 5)),
-    (Four(BIT63, MAX64, i64::MIN, -1), FULL),
     (Signed(i64::MIN, 0), FULL),
     (FULL, FULL),
     (Four(0, 10, -5, -1), Same(1, 5)),
@@ -58,7 +57,7 @@ fn negations_of_64_bits(rt: HostRuntime) {
     check_each(&rt, Change::Negate(Width::W64), &NEGATIONS_OF_64_BITS);
 }
 
-const NEGATIONS_OF_32_BITS: [(Row, Row); 27] = [
+const NEGATIONS_OF_32_BITS: [(Row, Row); 26] = [
     (One(0), One(0)),
     (One(1), One(MAX32)),
     (One(MAX31), One(MAX31 + 2)),
@@ -81,7 +80,6 @@ const NEGATIONS_OF_32_BITS: [(Row, Row); 27] = [
     (Four(BIT63, MAX64, i64::MIN, -1), WORD),
     (Four(MAX63 + 2, MAX64, i64::MIN + 1, -1), WORD),
     (Signed(-5, 3), WORD),
-    (Four(BIT63, MAX64, i64::MIN, -1), WORD),
     (Signed(i64::MIN, 0), WORD),
     (FULL, WORD),
     (Four(0, 10, -5, -1), WORD),
@@ -93,7 +91,7 @@ fn negations_of_32_bits(rt: HostRuntime) {
     check_each(&rt, Change::Negate(Width::W32), &NEGATIONS_OF_32_BITS);
 }
 
-const MOVES_OF_64_BITS: [(Row, Row); 27] = [
+const MOVES_OF_64_BITS: [(Row, Row); 26] = [
     (One(0), One(0)),
     (One(1), One(1)),
     (One(MAX31), One(MAX31)),
@@ -122,10 +120,6 @@ const MOVES_OF_64_BITS: [(Row, Row); 27] = [
         Four(MAX63 + 2, MAX64, i64::MIN + 1, -1),
     ),
     (Signed(-5, 3), Signed(-5, 3)),
-    (
-        Four(BIT63, MAX64, i64::MIN, -1),
-        Four(BIT63, MAX64, i64::MIN, -1),
-    ),
     (Signed(i64::MIN, 0), Signed(i64::MIN, 0)),
     (FULL, FULL),
     (Four(0, 10, -5, -1), Four(0, 10, -5, -1)),
@@ -137,7 +131,7 @@ fn moves_of_64_bits(rt: HostRuntime) {
     check_each(&rt, Change::Mov(Width::W64), &MOVES_OF_64_BITS);
 }
 
-const MOVES_OF_32_BITS: [(Row, Row); 27] = [
+const MOVES_OF_32_BITS: [(Row, Row); 26] = [
     (One(0), One(0)),
     (One(1), One(1)),
     (One(MAX31), One(MAX31)),
@@ -160,7 +154,6 @@ const MOVES_OF_32_BITS: [(Row, Row); 27] = [
     (Four(BIT63, MAX64, i64::MIN, -1), WORD),
     (Four(MAX63 + 2, MAX64, i64::MIN + 1, -1), WORD),
     (Signed(-5, 3), WORD),
-    (Four(BIT63, MAX64, i64::MIN, -1), WORD),
     (Signed(i64::MIN, 0), WORD),
     (FULL, WORD),
     (Four(0, 10, -5, -1), Four(0, 10, -5, -1)),

@@ -4,7 +4,7 @@ use super::{BIT31, BIT32, BIT63, FULL, MAX31, MAX32, MAX63, MAX64, Row, check_re
 use bpf_model::{Condition, Width};
 use std::test::*;
 
-const EQUAL_AT_64_BITS: [(Row, Row, Option<(Row, Row)>, Option<(Row, Row)>); 26] = [
+const EQUAL_AT_64_BITS: [(Row, Row, Option<(Row, Row)>, Option<(Row, Row)>); 35] = [
     (One(5), One(5), Some((One(5), One(5))), None),
     (One(5), One(6), None, Some((One(5), One(6)))),
     (
@@ -124,6 +124,60 @@ const EQUAL_AT_64_BITS: [(Row, Row, Option<(Row, Row)>, Option<(Row, Row)>); 26]
     ),
     (Four(3, 3, 0, 10), One(3), Some((One(3), One(3))), None),
     (Four(0, 10, 3, 3), One(3), Some((One(3), One(3))), None),
+    (
+        One(0),
+        Same(0, 10),
+        Some((One(0), One(0))),
+        Some((One(0), Same(0, 10))),
+    ),
+    (
+        One(10),
+        Same(0, 10),
+        Some((One(10), One(10))),
+        Some((One(10), Same(0, 10))),
+    ),
+    (
+        Same(5, 10),
+        Four(5, 5, 0, 10),
+        Some((One(5), One(5))),
+        Some((Same(6, 10), One(5))),
+    ),
+    (
+        Four(0, MAX64, i64::MAX, i64::MAX),
+        One(MAX63),
+        Some((One(MAX63), One(MAX63))),
+        None,
+    ),
+    (
+        Four(0, MAX64, i64::MIN, i64::MIN),
+        One(BIT63),
+        Some((One(BIT63), One(BIT63))),
+        None,
+    ),
+    (
+        Same(MAX31, BIT32),
+        One(MAX31),
+        Some((One(MAX31), One(MAX31))),
+        Some((Same(BIT31, BIT32), One(MAX31))),
+    ),
+    (
+        Same(MAX31, BIT32),
+        One(BIT31),
+        Some((One(BIT31), One(BIT31))),
+        Some((Same(MAX31, BIT32), One(BIT31))),
+    ),
+    (
+        Same(BIT31, MAX32),
+        One(MAX32),
+        Some((One(MAX32), One(MAX32))),
+        Some((Same(BIT31, MAX32 - 1), One(MAX32))),
+    ),
+    (
+        Same(MAX31, BIT32),
+        One(BIT32),
+        Some((One(BIT32), One(BIT32))),
+        Some((Same(MAX31, MAX32), One(BIT32))),
+    ),
 ];
 
 #[test]
@@ -131,7 +185,7 @@ fn equal_at_64_bits(rt: HostRuntime) {
     check_refined(&rt, Condition::Eq, Width::W64, &EQUAL_AT_64_BITS);
 }
 
-const EQUAL_AT_32_BITS: [(Row, Row, Option<(Row, Row)>, Option<(Row, Row)>); 23] = [
+const EQUAL_AT_32_BITS: [(Row, Row, Option<(Row, Row)>, Option<(Row, Row)>); 25] = [
     (One(5), One(5), Some((One(5), One(5))), None),
     (One(5), One(6), None, Some((One(5), One(6)))),
     (One(MAX32 + 6), One(5), Some((One(MAX32 + 6), One(5))), None),
@@ -205,6 +259,18 @@ const EQUAL_AT_32_BITS: [(Row, Row, Option<(Row, Row)>, Option<(Row, Row)>); 23]
         Some((Same(0, 10), One(3))),
         Some((Same(0, 10), One(3))),
     ),
+    (
+        One(0),
+        Same(0, 10),
+        Some((One(0), One(0))),
+        Some((One(0), Same(0, 10))),
+    ),
+    (
+        One(10),
+        Same(0, 10),
+        Some((One(10), One(10))),
+        Some((One(10), Same(0, 10))),
+    ),
 ];
 
 #[test]
@@ -212,7 +278,7 @@ fn equal_at_32_bits(rt: HostRuntime) {
     check_refined(&rt, Condition::Eq, Width::W32, &EQUAL_AT_32_BITS);
 }
 
-const COMMON_BIT_AT_64_BITS: [(Row, Row, Option<(Row, Row)>, Option<(Row, Row)>); 14] = [
+const COMMON_BIT_AT_64_BITS: [(Row, Row, Option<(Row, Row)>, Option<(Row, Row)>); 15] = [
     (One(5), One(4), Some((One(5), One(4))), None),
     (One(5), One(2), None, Some((One(5), One(2)))),
     (One(0), One(0), None, Some((One(0), One(0)))),
@@ -247,6 +313,7 @@ const COMMON_BIT_AT_64_BITS: [(Row, Row, Option<(Row, Row)>, Option<(Row, Row)>)
     ),
     (Four(0, 10, -5, -1), One(3), None, None),
     (One(0), Four(5, 5, 0, 10), None, Some((One(0), One(5)))),
+    (One(MAX31), One(BIT31), None, Some((One(MAX31), One(BIT31)))),
 ];
 
 #[test]
@@ -259,7 +326,7 @@ fn common_bit_at_64_bits(rt: HostRuntime) {
     );
 }
 
-const COMMON_BIT_AT_32_BITS: [(Row, Row, Option<(Row, Row)>, Option<(Row, Row)>); 16] = [
+const COMMON_BIT_AT_32_BITS: [(Row, Row, Option<(Row, Row)>, Option<(Row, Row)>); 17] = [
     (One(5), One(4), Some((One(5), One(4))), None),
     (One(5), One(2), None, Some((One(5), One(2)))),
     (One(0), One(0), None, Some((One(0), One(0)))),
@@ -296,6 +363,7 @@ const COMMON_BIT_AT_32_BITS: [(Row, Row, Option<(Row, Row)>, Option<(Row, Row)>)
         Some((Same(0, 10), One(3))),
         Some((Same(0, 10), One(3))),
     ),
+    (One(MAX63), One(BIT31), Some((One(MAX63), One(BIT31))), None),
 ];
 
 #[test]

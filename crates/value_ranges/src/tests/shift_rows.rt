@@ -56,7 +56,7 @@ fn shifts_to_the_left_of_64_bits(rt: HostRuntime) {
     check(&rt, AluOp::Lsh, Width::W64, &SHIFTS_TO_THE_LEFT_OF_64_BITS);
 }
 
-const SHIFTS_TO_THE_LEFT_OF_32_BITS: [(Row, Row, Row); 21] = [
+const SHIFTS_TO_THE_LEFT_OF_32_BITS: [(Row, Row, Row); 22] = [
     (Same(1, 10), One(0), Same(1, 10)),
     (Same(1, 10), One(1), Same(2, 20)),
     (Same(1, 10), One(28), Same(0x1000_0000, 0xa000_0000)),
@@ -78,6 +78,7 @@ const SHIFTS_TO_THE_LEFT_OF_32_BITS: [(Row, Row, Row); 21] = [
     (One(1), Same(0, 3), WORD),
     (Same(0, 10), Same(1, 2), WORD),
     (FULL, FULL, WORD),
+    (Unsigned(MAX63, BIT63), One(1), WORD),
 ];
 
 #[test]
@@ -85,7 +86,7 @@ fn shifts_to_the_left_of_32_bits(rt: HostRuntime) {
     check(&rt, AluOp::Lsh, Width::W32, &SHIFTS_TO_THE_LEFT_OF_32_BITS);
 }
 
-const SHIFTS_TO_THE_RIGHT_OF_64_BITS: [(Row, Row, Row); 23] = [
+const SHIFTS_TO_THE_RIGHT_OF_64_BITS: [(Row, Row, Row); 24] = [
     (Same(17, 100), One(0), Same(17, 100)),
     (Same(17, 100), One(1), Same(8, 50)),
     (Same(17, 100), One(4), Same(1, 6)),
@@ -117,6 +118,7 @@ const SHIFTS_TO_THE_RIGHT_OF_64_BITS: [(Row, Row, Row); 23] = [
     (Same(17, 100), Same(1, 2), Same(0, 100)),
     (Signed(-4, 3), One(1), Same(0, MAX63)),
     (FULL, FULL, FULL),
+    (Same(MAX31, BIT31), One(1), Same(0x3fff_ffff, 0x4000_0000)),
 ];
 
 #[test]
@@ -124,7 +126,7 @@ fn shifts_to_the_right_of_64_bits(rt: HostRuntime) {
     check(&rt, AluOp::Rsh, Width::W64, &SHIFTS_TO_THE_RIGHT_OF_64_BITS);
 }
 
-const SHIFTS_TO_THE_RIGHT_OF_32_BITS: [(Row, Row, Row); 21] = [
+const SHIFTS_TO_THE_RIGHT_OF_32_BITS: [(Row, Row, Row); 23] = [
     (Same(17, 100), One(0), Same(17, 100)),
     (Same(17, 100), One(1), Same(8, 50)),
     (Same(17, 100), One(4), Same(1, 6)),
@@ -146,6 +148,8 @@ const SHIFTS_TO_THE_RIGHT_OF_32_BITS: [(Row, Row, Row); 21] = [
     (Same(17, 100), Same(1, 2), Same(0, 100)),
     (Signed(-4, 3), One(1), Same(0, MAX31)),
     (FULL, FULL, WORD),
+    (Same(MAX31, BIT31), One(1), Same(0x3fff_ffff, 0x4000_0000)),
+    (Unsigned(MAX63, BIT63), One(1), Same(0, MAX31)),
 ];
 
 #[test]
@@ -153,7 +157,7 @@ fn shifts_to_the_right_of_32_bits(rt: HostRuntime) {
     check(&rt, AluOp::Rsh, Width::W32, &SHIFTS_TO_THE_RIGHT_OF_32_BITS);
 }
 
-const SIGNED_SHIFTS_TO_THE_RIGHT_OF_64_BITS: [(Row, Row, Row); 30] = [
+const SIGNED_SHIFTS_TO_THE_RIGHT_OF_64_BITS: [(Row, Row, Row); 31] = [
     (Signed(-8, 7), One(1), Signed(-4, 3)),
     (Same(17, 100), One(2), Same(4, 25)),
     (Signed(-9, 10), One(0), Signed(-9, 10)),
@@ -200,6 +204,7 @@ const SIGNED_SHIFTS_TO_THE_RIGHT_OF_64_BITS: [(Row, Row, Row); 30] = [
     (Same(3, 4), Same(1, 2), Same(0, 4)),
     (Four(0, 10, -5, 20), One(1), Signed(-3, 10)),
     (FULL, FULL, FULL),
+    (Same(MAX31, BIT31), One(1), Same(0x3fff_ffff, 0x4000_0000)),
 ];
 
 #[test]
@@ -212,7 +217,7 @@ fn signed_shifts_to_the_right_of_64_bits(rt: HostRuntime) {
     );
 }
 
-const SIGNED_SHIFTS_TO_THE_RIGHT_OF_32_BITS: [(Row, Row, Row); 20] = [
+const SIGNED_SHIFTS_TO_THE_RIGHT_OF_32_BITS: [(Row, Row, Row); 22] = [
     (Same(17, 100), One(0), Same(17, 100)),
     (Same(17, 100), One(1), Same(8, 50)),
     (Same(17, 100), One(4), Same(1, 6)),
@@ -233,6 +238,8 @@ const SIGNED_SHIFTS_TO_THE_RIGHT_OF_32_BITS: [(Row, Row, Row); 20] = [
     (Same(17, 100), Same(1, 2), Same(0, 100)),
     (Signed(-4, 3), One(1), WORD),
     (FULL, FULL, WORD),
+    (Same(1, BIT32), One(1), WORD),
+    (Unsigned(MAX63, BIT63), One(1), WORD),
 ];
 
 #[test]

@@ -154,7 +154,7 @@ fn signed_greater_at_64_bits(rt: HostRuntime) {
     check_refined(&rt, Condition::SGt, Width::W64, &SIGNED_GREATER_AT_64_BITS);
 }
 
-const SIGNED_GREATER_AT_32_BITS: [(Row, Row, Option<(Row, Row)>, Option<(Row, Row)>); 24] = [
+const SIGNED_GREATER_AT_32_BITS: [(Row, Row, Option<(Row, Row)>, Option<(Row, Row)>); 25] = [
     (One(5), One(4), Some((One(5), One(4))), None),
     (One(5), One(5), None, Some((One(5), One(5)))),
     (One(5), One(6), None, Some((One(5), One(6)))),
@@ -229,6 +229,7 @@ const SIGNED_GREATER_AT_32_BITS: [(Row, Row, Option<(Row, Row)>, Option<(Row, Ro
         Some((Same(0, 10), One(3))),
         Some((Same(0, 10), One(3))),
     ),
+    (One(BIT32), One(MAX32), Some((One(BIT32), One(MAX32))), None),
 ];
 
 #[test]
@@ -383,7 +384,7 @@ fn signed_at_least_at_64_bits(rt: HostRuntime) {
     check_refined(&rt, Condition::SGe, Width::W64, &SIGNED_AT_LEAST_AT_64_BITS);
 }
 
-const SIGNED_AT_LEAST_AT_32_BITS: [(Row, Row, Option<(Row, Row)>, Option<(Row, Row)>); 24] = [
+const SIGNED_AT_LEAST_AT_32_BITS: [(Row, Row, Option<(Row, Row)>, Option<(Row, Row)>); 25] = [
     (One(5), One(4), Some((One(5), One(4))), None),
     (One(5), One(5), Some((One(5), One(5))), None),
     (One(5), One(6), None, Some((One(5), One(6)))),
@@ -458,6 +459,7 @@ const SIGNED_AT_LEAST_AT_32_BITS: [(Row, Row, Option<(Row, Row)>, Option<(Row, R
         Some((Same(0, 10), One(3))),
         Some((Same(0, 10), One(3))),
     ),
+    (One(BIT32), One(MAX32), Some((One(BIT32), One(MAX32))), None),
 ];
 
 #[test]

@@ -4,7 +4,7 @@ use super::{BIT31, BIT32, BIT63, FULL, MAX31, MAX32, MAX63, MAX64, Row, WORD, ch
 use bpf_model::{AluOp, Width};
 use std::test::*;
 
-const SUMS_OF_64_BITS: [(Row, Row, Row); 20] = [
+const SUMS_OF_64_BITS: [(Row, Row, Row); 21] = [
     (Same(0, 10), One(3), Same(3, 13)),
     (One(0), Same(0, 10), Same(0, 10)),
     (Same(5, 20), Same(7, 9), Same(12, 29)),
@@ -33,6 +33,7 @@ const SUMS_OF_64_BITS: [(Row, Row, Row); 20] = [
     ),
     (Four(0, 10, -5, -1), One(1), FULL),
     (Four(0, 10, -5, -1), Same(0, 3), Four(0, 13, 0, 2)),
+    (Four(5, 5, 0, 10), One(3), One(8)),
 ];
 
 #[test]
@@ -40,7 +41,7 @@ fn sums_of_64_bits(rt: HostRuntime) {
     check(&rt, AluOp::Add, Width::W64, &SUMS_OF_64_BITS);
 }
 
-const SUMS_OF_32_BITS: [(Row, Row, Row); 16] = [
+const SUMS_OF_32_BITS: [(Row, Row, Row); 17] = [
     (WORD, One(1), WORD),
     (Same(0, 10), One(3), Same(3, 13)),
     (Same(0, 10), One(MAX32 + 4), Same(3, 13)),
@@ -57,6 +58,7 @@ const SUMS_OF_32_BITS: [(Row, Row, Row); 16] = [
     (FULL, One(0), WORD),
     (FULL, FULL, WORD),
     (Four(0, 10, -5, -1), One(1), Same(1, 11)),
+    (Four(5, 5, 0, 10), One(3), One(8)),
 ];
 
 #[test]
@@ -64,7 +66,7 @@ fn sums_of_32_bits(rt: HostRuntime) {
     check(&rt, AluOp::Add, Width::W32, &SUMS_OF_32_BITS);
 }
 
-const DIFFERENCES_OF_64_BITS: [(Row, Row, Row); 22] = [
+const DIFFERENCES_OF_64_BITS: [(Row, Row, Row); 23] = [
     (Same(0, 10), One(3), Signed(-3, 7)),
     (Same(3, 10), One(3), Same(0, 7)),
     (One(10), Same(0, 10), Same(0, 10)),
@@ -103,6 +105,7 @@ const DIFFERENCES_OF_64_BITS: [(Row, Row, Row); 22] = [
     ),
     (Four(5, 10, -5, -1), One(2), FULL),
     (Four(20, 30, -5, -1), Same(0, 3), FULL),
+    (Four(5, 5, 0, 10), One(3), One(2)),
 ];
 
 #[test]
@@ -110,7 +113,7 @@ fn differences_of_64_bits(rt: HostRuntime) {
     check(&rt, AluOp::Sub, Width::W64, &DIFFERENCES_OF_64_BITS);
 }
 
-const DIFFERENCES_OF_32_BITS: [(Row, Row, Row); 14] = [
+const DIFFERENCES_OF_32_BITS: [(Row, Row, Row); 15] = [
     (Same(0, 10), One(3), WORD),
     (Same(3, 10), One(3), Same(0, 7)),
     (Same(3, 10), One(MAX32 + 4), Same(0, 7)),
@@ -125,6 +128,7 @@ const DIFFERENCES_OF_32_BITS: [(Row, Row, Row); 14] = [
     (FULL, One(0), WORD),
     (FULL, FULL, WORD),
     (Four(5, 10, -5, -1), One(2), Same(3, 8)),
+    (Four(5, 5, 0, 10), One(3), One(2)),
 ];
 
 #[test]

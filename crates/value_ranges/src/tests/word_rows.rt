@@ -87,7 +87,7 @@ fn quotients_and_remainders_of_words(rt: HostRuntime) {
     check_words(&rt, &QUOTIENTS_AND_REMAINDERS_OF_WORDS);
 }
 
-const SINGLE_BITS_OF_WORDS: [(AluOp, u64, u64, u64, u64); 15] = [
+const SINGLE_BITS_OF_WORDS: [(AluOp, u64, u64, u64, u64); 18] = [
     (AluOp::And, 0, MAX64, 0, 0),
     (AluOp::And, MAX31, BIT31, 0, 0),
     (AluOp::And, MAX32, MAX32 + 6, 5, 5),
@@ -103,6 +103,9 @@ const SINGLE_BITS_OF_WORDS: [(AluOp, u64, u64, u64, u64); 15] = [
     (AluOp::Xor, MAX32, MAX32 + 6, 0x1_ffff_fffa, MAX32 - 5),
     (AluOp::Xor, MAX63, BIT63, MAX64, MAX32),
     (AluOp::Xor, MAX64, BIT31, 0xffff_ffff_7fff_ffff, MAX31),
+    (AluOp::And, BIT32, MAX64, BIT32, 0),
+    (AluOp::Or, BIT32, MAX32, 0x1_ffff_ffff, MAX32),
+    (AluOp::Xor, BIT32, MAX32, 0x1_ffff_ffff, MAX32),
 ];
 
 #[test]

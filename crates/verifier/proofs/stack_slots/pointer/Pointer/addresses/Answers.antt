@@ -22,7 +22,7 @@ signed-requires c =
     let is = first_reads p c.first_address.result first c.first_address.ensures c.cast_signed-first.ensures in
     let low = sum_reads first (first_address p.region) p.least is small (offset_near p p.least (same_below p.least) p.order) in
     let high = sum_reads first (first_address p.region) p.greatest is small (offset_near p p.greatest p.order (same_below p.greatest)) in
-    rw (low, high) (omega (arith, ints, p.order))
+    omega (arith, ints, low, high, p.order)
 
 pub returns : goal.returns
 returns c =

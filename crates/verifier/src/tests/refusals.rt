@@ -1,0 +1,268 @@
+//! Programs that are refused, each fault with its number and unit, and what each fault is printed as.
+use super::{
+    EXIT, Row, SIZES, add, alu, check, copy, load, low_half, mov, negate, reg, sign_extend, store,
+    store_byte, wide,
+};
+use crate::VerifyFault::{
+    BadExitValue, NotAWindow, NotYet, OutOfWindow, ReadOnly, SizesTooLarge, UnwrittenBytes,
+    UnwrittenRegister, WriteToR10,
+};
+use bpf_model::{AccessSize, AluOp, Insn, JumpOp, Operand, Sizes, Width};
+use std::test::Fail;
+
+#[test]
+fn what_is_not_written_is_not_read(rt: HostRuntime) -> Result<(), Fail> {
+    let rows: [Row; 11] = [
+        ("nothing but the exit", &[EXIT], Some((40, 0))),
+        ("r0 at the exit", &[mov(5, 0), EXIT], Some((40, 1))),
+        ("r5 as an address", &[load(0, 5, 0), EXIT], Some((40, 0))),
+        ("r9 is stored", &[store(4, 0, 9), EXIT], Some((40, 0))),
+        ("r5 and r0 are added", &[add(0, 5), EXIT], Some((40, 0))),
+        ("r5 is added", &[mov(0, 1), add(0, 5), EXIT], Some((40, 1))),
+        (
+            "r5 is changed",
+            &[alu(AluOp::Xor, 5, 1), EXIT],
+            Some((40, 0)),
+        ),
+        ("r0 is negated", &[negate(0), EXIT], Some((40, 0))),
+        ("r5 is copied", &[copy(0, 5), EXIT], Some((40, 0))),
+        ("r9 is extended", &[sign_extend(0, 9), EXIT], Some((40, 0))),
+        ("r9 is reordered", &[low_half(9), EXIT], Some((40, 0))),
+    ];
+    check(&rt, rt.alloc(), SIZES, &rows)
+}
+
+#[test]
+fn r10_is_never_written(rt: HostRuntime) -> Result<(), Fail> {
+    let rows: [Row; 8] = [
+        ("a number", &[mov(10, 0), EXIT], Some((41, 0))),
+        (
+            "a difference",
+            &[alu(AluOp::Sub, 10, 8), EXIT],
+            Some((41, 0)),
+        ),
+        ("a negation", &[negate(10), EXIT], Some((41, 0))),
+        ("a copy", &[copy(10, 1), EXIT], Some((41, 0))),
+        ("an extension", &[sign_extend(10, 6), EXIT], Some((41, 0))),
+        ("low bits", &[low_half(10), EXIT], Some((41, 0))),
+        ("a wide number", &[wide(10, 1), EXIT], Some((41, 0))),
+        ("a loaded word", &[load(10, 1, 0), EXIT], Some((41, 0))),
+    ];
+    check(&rt, rt.alloc(), SIZES, &rows)
+}
+
+#[test]
+fn addresses_are_pointers(rt: HostRuntime) -> Result<(), Fail> {
+    let low_sum = Insn::Alu {
+        op: AluOp::Add,
+        width: Width::W32,
+        dst: reg(1),
+        src: Operand::Immediate(0),
+    };
+    let rows: [Row; 4] = [
+        ("a length", &[load(0, 6, 0), EXIT], Some((42, 0))),
+        (
+            "a store through a number",
+            &[mov(9, 0x40000), store(9, 0, 9), EXIT],
+            Some((42, 1)),
+        ),
+        (
+            "the unit after a wide",
+            &[wide(0, 1), load(0, 6, 0), EXIT],
+            Some((42, 2)),
+        ),
+        (
+            "a sum of 32 bits",
+            &[low_sum, load(0, 1, 0), EXIT],
+            Some((42, 1)),
+        ),
+    ];
+    check(&rt, rt.alloc(), SIZES, &rows)
+}
+
+#[test]
+fn windows_have_their_faults(rt: HostRuntime) -> Result<(), Fail> {
+    let store_number = Insn::Store {
+        size: AccessSize::DoubleWord,
+        dst: reg(10),
+        src: Operand::Immediate(1),
+        offset: 0,
+    };
+    let rows: [Row; 4] = [
+        ("past the stack", &[store_number, EXIT], Some((43, 0))),
+        ("into the key", &[store(1, 0, 6), EXIT], Some((44, 0))),
+        (
+            "a byte into it",
+            &[store_byte(1, 0, 1), EXIT],
+            Some((44, 0)),
+        ),
+        ("no result yet", &[load(0, 4, 0), EXIT], Some((45, 0))),
+    ];
+    check(&rt, rt.alloc(), SIZES, &rows)
+}
+
+#[test]
+fn answers_and_ends_have_their_faults(rt: HostRuntime) -> Result<(), Fail> {
+    let rows: [Row; 3] = [
+        (
+            "falls off the end",
+            &[mov(0, -1), mov(0, -1)],
+            Some((33, 1)),
+        ),
+        ("-2 is no answer", &[mov(0, -2), EXIT], Some((46, 1))),
+        ("8 bytes are not written", &[mov(0, 8), EXIT], Some((46, 1))),
+    ];
+    check(&rt, rt.alloc(), SIZES, &rows)
+}
+
+/// To the next instruction.
+fn jump() -> Insn {
+    Insn::Jump { distance: 0 }
+}
+
+#[test]
+fn sizes_are_tested_first(rt: HostRuntime) -> Result<(), Fail> {
+    let alloc = rt.alloc();
+    let long_key = Sizes { key: 65, ..SIZES };
+    let long_result = Sizes {
+        result: 257,
+        ..SIZES
+    };
+    let limits = Sizes {
+        key: 64,
+        old: 256,
+        arg: 256,
+        result: 256,
+    };
+    let rows: [Row; 3] = [
+        ("the key is too long", &[mov(0, -1), EXIT], Some((47, 0))),
+        ("a jump", &[jump(), EXIT], Some((47, 0))),
+        (
+            "the flow comes before",
+            &[wide(0, 1), wide(0, 1)],
+            Some((33, 2)),
+        ),
+    ];
+    check(&rt, alloc, long_key, &rows)?;
+    let into_r10: [Row; 1] = [("before r10", &[mov(10, 0), EXIT], Some((47, 0)))];
+    check(&rt, alloc, long_result, &into_r10)?;
+    let accepted: [Row; 1] = [("the limits", &[mov(0, -1), EXIT], None)];
+    check(&rt, alloc, limits, &accepted)
+}
+
+#[test]
+fn the_least_number_of_a_unit_is_named(rt: HostRuntime) -> Result<(), Fail> {
+    let rows: [Row; 10] = [
+        ("40 before 41, sum", &[add(10, 5), EXIT], Some((40, 0))),
+        ("40 before 41, copy", &[copy(10, 5), EXIT], Some((40, 0))),
+        (
+            "40 before 41, extension",
+            &[sign_extend(10, 5), EXIT],
+            Some((40, 0)),
+        ),
+        ("40 before 41, load", &[load(10, 5, 0), EXIT], Some((40, 0))),
+        ("40 before 42", &[store(6, 0, 9), EXIT], Some((40, 0))),
+        ("41 before 42", &[load(10, 6, 0), EXIT], Some((41, 0))),
+        ("41 before 43", &[load(10, 1, 64), EXIT], Some((41, 0))),
+        ("43 before 44", &[store(1, 64, 6), EXIT], Some((43, 0))),
+        ("43 before 45", &[load(0, 4, 16), EXIT], Some((43, 0))),
+        (
+            "the first unit, not the least number",
+            &[load(0, 6, 0), mov(10, 0), EXIT],
+            Some((42, 0)),
+        ),
+    ];
+    check(&rt, rt.alloc(), SIZES, &rows)
+}
+
+#[test]
+fn jumps_are_not_taken_yet(rt: HostRuntime) -> Result<(), Fail> {
+    let long_jump = Insn::JumpLong { distance: 0 };
+    let branch = Insn::Branch {
+        test: JumpOp::Eq,
+        width: Width::W64,
+        dst: reg(5),
+        src: Operand::Immediate(0),
+        distance: 0,
+    };
+    let rows: [Row; 7] = [
+        ("a jump", &[jump(), mov(0, -1), EXIT], Some((48, 0))),
+        ("a long jump", &[wide(0, 1), long_jump, EXIT], Some((48, 2))),
+        ("on r5", &[mov(0, -1), branch, EXIT], Some((48, 1))),
+        (
+            "40 before it",
+            &[load(0, 5, 0), jump(), EXIT],
+            Some((40, 0)),
+        ),
+        ("40 after it", &[jump(), load(0, 5, 0), EXIT], Some((48, 0))),
+        ("46 after it", &[mov(0, 9), jump(), EXIT], Some((48, 1))),
+        ("it is not reached", &[mov(0, -1), EXIT, jump(), EXIT], None),
+    ];
+    check(&rt, rt.alloc(), SIZES, &rows)
+}
+
+#[test]
+fn one_of_several_bytes_is_not_taken_yet(rt: HostRuntime) -> Result<(), Fail> {
+    let rows: [Row; 5] = [
+        ("a load", &[add(1, 6), load(0, 1, 0), EXIT], Some((48, 1))),
+        (
+            "40 before it: r9 is stored",
+            &[add(4, 6), store(4, 0, 9), EXIT],
+            Some((40, 1)),
+        ),
+        (
+            "41 before it: into r10",
+            &[add(1, 6), load(10, 1, 0), EXIT],
+            Some((41, 1)),
+        ),
+        (
+            "43 after it: past the key",
+            &[add(1, 6), load(0, 1, 64), EXIT],
+            Some((48, 1)),
+        ),
+        (
+            "44 after it: into the key",
+            &[add(1, 6), store(1, 0, 6), EXIT],
+            Some((48, 1)),
+        ),
+    ];
+    check(&rt, rt.alloc(), SIZES, &rows)
+}
+
+#[test]
+fn refusals_print_their_reason_and_unit(rt: HostRuntime) -> Result<(), Fail> {
+    let alloc = rt.alloc();
+    let rows = [
+        (
+            UnwrittenRegister(0),
+            "a register is read that was not written (unit 0)",
+        ),
+        (WriteToR10(1), "r10 is written (unit 1)"),
+        (
+            NotAWindow(2),
+            "the address does not point into a window (unit 2)",
+        ),
+        (
+            OutOfWindow(3),
+            "the access does not lie in the window (unit 3)",
+        ),
+        (ReadOnly(10), "the window may only be read (unit 10)"),
+        (
+            UnwrittenBytes(5),
+            "bytes are read that were not all written (unit 5)",
+        ),
+        (
+            BadExitValue(511),
+            "r0 may be neither -1 nor a number of written bytes (unit 511)",
+        ),
+        (SizesTooLarge, "a declared size is above its limit"),
+        (
+            NotYet(8),
+            "the instruction or its access is not taken yet (unit 8)",
+        ),
+    ];
+    for (fault, message) in rows {
+        assert_eq!(rt; format!(in alloc; "{fault}")?.as_str(), message);
+    }
+    Ok(())
+}
