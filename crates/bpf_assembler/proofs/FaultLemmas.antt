@@ -12,9 +12,9 @@ use Rattle.bpf_model.specs.Spelling.{IsInstruction, AreInstructions}
 use Rattle.bpf_assembler.specs.declared.fault.AsmFault.{AsmFault}
 use Rattle.bpf_assembler.specs.declared.fault.AsmFault.TheVariants.{NoMemory, BadCount}
 use Rattle.bpf_assembler.specs.declared.fault.LineFault.{LineFault}
-use Rattle.bpf_assembler.specs.declared.fault.LineFault.TheVariants.{UnknownName}
+use Rattle.bpf_assembler.specs.declared.fault.LineFault.TheVariants.{UnknownName, BadOperand, OutOfRange, Trailing}
 use Rattle.bpf_assembler.specs.Reading.{line_at}
-use Rattle.bpf_assembler.specs.Text.{line_of, text_of, IsTextOf}
+use Rattle.bpf_assembler.specs.Text.{line_of, text_of, IsTextOf, BeginsWithLine}
 use Rattle.bpf_assembler.specs.Faults.{line_number, at_line, fault_in, IsFaultyLine, IsFirstFault, GivesUnlessNoMemory}
 use Rattle.bpf_assembler.proofs.OperandLaws.{line-first, line_again, line_some}
 
@@ -192,6 +192,19 @@ unit_count-push (x ∷ is) i = omega (arith, unit_count-push is i)
 -- a line more was read
 pub lines_push : (text rest new : List ℕ) (is : List Insn) (i : Insn) → text ≡ text_of is ++ rest → rest ≡ line_of i ++ new → text ≡ text_of (is ++ i ∷ []) ++ new
 lines_push text rest new is i lines read = rw (text_of-push is i) (lines ∙ ap (λ x. text_of is ++ x) read ∙ sym (append_assoc (text_of is) (line_of i) new))
+
+-- the first line of all, once another was read
+pub first_line : (text rest new : List ℕ) (is : List Insn) (i : Insn) → AreInstructions is → IsInstruction i → text ≡ text_of is ++ rest → rest ≡ line_of i ++ new → BeginsWithLine text
+unfolding text_of
+first_line text rest new [] i fits h lines read = record { first = i; rest = new; fits = h; line = lines ∙ read }
+first_line text rest new (j ∷ is) i fits h lines read = record { first = j; rest = text_of is ++ rest; fits = fits.0; line = lines ∙ text_of-cons j is rest }
+
+-- no line's own fault is want of memory
+pub at_line_says_no_memory : (n : ℕ) (fault : LineFault) → at_line n fault ≡ NoMemory → ⊥
+at_line_says_no_memory n UnknownName e = absurd cc
+at_line_says_no_memory n BadOperand e = absurd cc
+at_line_says_no_memory n OutOfRange e = absurd cc
+at_line_says_no_memory n Trailing e = absurd cc
 
 -- each line takes a byte at least
 pub line_shortens : (rest new : List ℕ) (i : Insn) → rest ≡ line_of i ++ new → length new < length rest

@@ -8,7 +8,7 @@ use Rattle.bpf_model.specs.declared.instruction.Operand.{Operand}
 use Rattle.bpf_model.specs.declared.instruction.Operand.TheVariants.{Register, Immediate}
 use Rattle.bpf_model.specs.Spelling.{IsImmediate, IsOffset, IsOperand}
 use Rattle.bpf_assembler.specs.Text.{immediate, offset, register, operand}
-use Rattle.bpf_assembler.specs.Reading.{run, is_digit, begins_with, byte_at, register_at, positive_at, negative_at, FitsBelow, immediate_at, offset_at, operand_at, comma_at, dst_at, base_at, displacement_at}
+use Rattle.bpf_assembler.specs.Operands.{run, is_digit, begins_with, byte_at, register_at, positive_at, negative_at, FitsBelow, immediate_at, offset_at, operand_at, comma_at, dst_at, base_at, displacement_at}
 use Rattle.bpf_assembler.proofs.NumberLemmas.{AreDigits, own, number_again}
 
 -- what comes is no digit

@@ -8,7 +8,7 @@ use Rattle.std.proofs.lemmas.List.{drop_all, take_at, drop_at, take-append-drop}
 use Rattle.std.proofs.lemmas.Fmt.{digits_decimal, digits_value-decimal, decimal-digits_value, decimal_nonempty, decimal_digit, first_decimal}
 use Rattle.std.proofs.lemmas.Str.Parse.{IsNumeralModel, IsDigitsTest, numerals_by_fold}
 use Rattle.bpf_model.proofs.Options.{test_of}
-use Rattle.bpf_assembler.specs.Reading.{run, value_from, is_digit, is_numeral, number_at}
+use Rattle.bpf_assembler.specs.Operands.{run, value_from, is_digit, is_numeral, number_at}
 use Rattle.bpf_assembler.proofs.RunLemmas.{run-front}
 
 -- the digit at a place goes into the number

@@ -10,7 +10,8 @@ use Rattle.bpf_assembler.specs.declared.mnemonic.Mnemonic.{Mnemonic}
 use Rattle.bpf_assembler.specs.declared.fault.LineFault.{LineFault}
 use Rattle.bpf_assembler.specs.Names.{name_of}
 use Rattle.bpf_assembler.specs.Text.{immediate, offset, register, operand, mnemonic_of, operands_of, line_of}
-use Rattle.bpf_assembler.specs.Reading.{run, is_name_byte, operands_at, name_at, newline_at, line_at}
+use Rattle.bpf_assembler.specs.Operands.{run}
+use Rattle.bpf_assembler.specs.Reading.{is_name_byte, operands_at, name_at, newline_at, line_at}
 use Rattle.bpf_assembler.proofs.RunLemmas.{run-front}
 use Rattle.bpf_assembler.proofs.NumberLemmas.{number_again}
 use Rattle.bpf_assembler.proofs.NameLaws.{mnemonic_again, name_bytes}

@@ -1,29 +1,35 @@
 -- Runs of bytes that have a property.
-use Rattle.std.proofs.Common.{◌≡◌, ℕ, suc, ◌+◌, ◌≤◌, ◌<◌, List, [], ◌∷◌, ◌++◌, drop, length, get_or, refl, ap, arith, true, false, Bool, add-one, drop-cons}
-use Rattle.std.proofs.lemmas.List.{drop_all}
-use Rattle.std.specs.List.{AllByRecursion}
-use Rattle.bpf_assembler.specs.Reading.{run}
+use Rattle.std.proofs.Common.{◌≡◌, ℕ, suc, ◌≤◌, List, [], ◌∷◌, ◌++◌, length, refl, ap, arith, true, Bool, inl, inr}
+use Rattle.std.specs.Prelude.{not, nat_lt, unwrap_or}
+use Rattle.std.specs.List.{AllByRecursion, position, position_or_len}
+use Rattle.std.proofs.lemmas.Bool.Decides.{nat_tests}
+use Rattle.bpf_model.proofs.Options.{test_of}
+use Rattle.bpf_assembler.specs.Operands.{run}
 
--- one byte more
-pub run-more : (has : ℕ → Bool) (xs : List ℕ) (k d total : ℕ) → k < length xs → has (get_or xs k d) ≡ true → k + run has (drop k xs) ≡ total → (k + 1) + run has (drop (k + 1) xs) ≡ total
+first_without : (has : ℕ → Bool) (xs : List ℕ) → position_or_len (λ c. not (has c)) xs ≡ run has xs
 unfolding run
-run-more has xs k d total h e before =
-    let here : run has (drop k xs) ≡ suc (run has (drop (suc k) xs)) = rw (drop-cons xs k d h, e) refl in
-    rw add-one (omega (arith, here, before))
+first_without has [] = refl
+first_without has (c ∷ cs) = elim (test_of (has c)) [
+  | inl e ↦ rw e (omega (arith, first_without has cs))
+  | inr e ↦ rw e refl
+]
 
--- the first that has it not
-pub run-stops : (has : ℕ → Bool) (xs : List ℕ) (k d total : ℕ) → k < length xs → has (get_or xs k d) ≡ false → k + run has (drop k xs) ≡ total → k ≡ total
+run-within : (has : ℕ → Bool) (xs : List ℕ) → run has xs ≤ length xs
 unfolding run
-run-stops has xs k d total h e before =
-    let here : run has (drop k xs) ≡ 0 = rw (drop-cons xs k d h, e) refl in
-    omega (arith, here, before)
+run-within has [] = omega arith
+run-within has (c ∷ cs) = elim (test_of (has c)) [
+  | inl e ↦ rw e (omega (arith, run-within has cs))
+  | inr e ↦ rw e (omega arith)
+]
 
--- all of them
-pub run-ends : (has : ℕ → Bool) (xs : List ℕ) (k total : ℕ) → length xs ≤ k → k ≤ length xs → k + run has (drop k xs) ≡ total → length xs ≡ total
-unfolding run
-run-ends has xs k total h g before =
-    let here : run has (drop k xs) ≡ 0 = rw (drop_all k xs h) refl in
-    omega (arith, here, before)
+-- up to the first that has it not, or else all of them
+pub run-position : (has : ℕ → Bool) (xs : List ℕ) → unwrap_or (position (λ c. not (has c)) xs) (length xs) ≡ run has xs
+run-position has xs = elim (test_of (nat_lt (run has xs) (length xs))) [
+  | inl e ↦ rw (first_without has xs, e) refl
+  | inr e ↦
+      let all : length xs ≤ run has xs = grind (arith, nat_tests) in
+      rw (first_without has xs, e) (omega (arith, all, run-within has xs))
+]
 
 -- a front of such bytes and what begins with another one are told apart
 pub run-front : (has : ℕ → Bool) (xs rest : List ℕ) → AllByRecursion (λ c. has c ≡ true) xs → run has rest ≡ 0 → run has (xs ++ rest) ≡ length xs

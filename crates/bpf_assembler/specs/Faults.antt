@@ -9,7 +9,8 @@ use Rattle.bpf_assembler.specs.declared.fault.AsmFault.TheVariants.{NoMemory, Un
 use Rattle.bpf_assembler.specs.declared.fault.LineFault.{LineFault}
 use Rattle.bpf_assembler.specs.declared.fault.LineFault.TheVariants as line
 use Rattle.bpf_assembler.specs.Text.{line_of, text_of}
-use Rattle.bpf_assembler.specs.Reading.{Read, line_at}
+use Rattle.bpf_assembler.specs.Operands.{Read}
+use Rattle.bpf_assembler.specs.Reading.{line_at}
 
 -- the number under which a fault is printed
 abbrev pub number_of : AsmFault → ℕ
@@ -37,7 +38,7 @@ message_of (BadOperand line) = codes "bad operand in line " ++ decimal line
 message_of (OutOfRange line) = codes "number out of range in line " ++ decimal line
 message_of (Trailing line) = codes "no newline after the last operand in line " ++ decimal line
 message_of (BadCount zero) = codes "no line"
-message_of (BadCount (suc n)) = codes "more than 512 units in line " ++ decimal (suc n)
+message_of (BadCount (suc n)) = codes "more than " ++ decimal PROGRAM_UNITS ++ codes " units in line " ++ decimal (suc n)
 
 -- a fault of this line
 abbrev pub at_line : ℕ → LineFault → AsmFault

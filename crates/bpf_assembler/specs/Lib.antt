@@ -1,4 +1,5 @@
 pub mod Names
 pub mod Text
+pub mod Operands
 pub mod Reading
 pub mod Faults

@@ -7,7 +7,7 @@ use Rattle.bpf_model.specs.declared.instruction.Operand.TheVariants.{Register, I
 use Rattle.bpf_model.specs.declared.instruction.Insn.{Insn}
 use Rattle.bpf_model.specs.declared.instruction.Insn.TheVariants as insn
 use Rattle.bpf_model.specs.Program.{IsProgram}
-use Rattle.bpf_model.specs.Spelling.{AreInstructions}
+use Rattle.bpf_model.specs.Spelling.{IsInstruction, AreInstructions}
 use Rattle.bpf_assembler.specs.declared.mnemonic.Mnemonic.{Mnemonic}
 use Rattle.bpf_assembler.specs.declared.mnemonic.Mnemonic.TheVariants.{Alu, Negate, Mov, SignExtend, Reorder, Wide, Load, Store, StoreImmediate, Jump, JumpLong, Branch, Exit}
 use Rattle.bpf_assembler.specs.Names.{name_of}
@@ -70,6 +70,13 @@ line_of i = name_of (mnemonic_of i) ++ operands_of i ++ codes "\n"
 
 unfoldable pub text_of : List Insn → List ℕ
 text_of instructions = flat_map line_of instructions
+
+-- the first line is an instruction's
+pub record BeginsWithLine (text : List ℕ) : Type 0 where
+  pub first : Insn
+  pub rest : List ℕ
+  pub fits : IsInstruction first
+  pub line : text ≡ line_of first ++ rest
 
 -- the text is the program's
 pub record IsTextOf (text : List ℕ) (instructions : List Insn) : Type 0 where

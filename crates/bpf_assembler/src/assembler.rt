@@ -5,7 +5,7 @@ ghost use Rattle.bpf_model.specs.Program.{unit_count};
 ghost use Rattle.bpf_model.specs.Spelling.{AreInstructions};
 ghost use Rattle.bpf_assembler.specs.declared.fault.AsmFault.{AsmFault};
 ghost use Rattle.bpf_assembler.specs.declared.fault.AsmFault.TheVariants.{NoMemory};
-ghost use Rattle.bpf_assembler.specs.Text.{text_of, IsTextOf};
+ghost use Rattle.bpf_assembler.specs.Text.{text_of, IsTextOf, BeginsWithLine};
 ghost use Rattle.bpf_assembler.specs.Faults.{IsFaultyLine, IsFirstFault, GivesUnlessNoMemory};
 
 use crate::cursor::Cursor;
@@ -25,6 +25,7 @@ fn instructions(alloc: Global, text: &[u8]) -> Result<Vec<Insn>, AsmFault>
     ensures few { IfOk result (λ v. unit_count v.items ≤ PROGRAM_UNITS) }
     ensures lines { IfOk result (λ v. text.now ≡ text_of v.items) }
     ensures first_fault { IfErr result (λ e. (e ≡ NoMemory) ⊎ IsFaultyLine text.now e) }
+    ensures memory { result ≡ Err NoMemory → BeginsWithLine text.now }
 {
     let mut cursor = Cursor::new(text);
     let mut instructions = Vec::new(alloc);
@@ -45,7 +46,7 @@ fn instructions(alloc: Global, text: &[u8]) -> Result<Vec<Insn>, AsmFault>
 }
 
 /// The program whose canonical text this is; else the first faulty line, and what is wrong with it. Asks for memory
-/// for the program alone.
+/// for the program alone, and only when a line was read.
 pub fn assemble(alloc: Global, text: &str) -> Result<Program, AsmFault>
     // What is read has this text.
     ensures found { IfOk result (IsTextOf text.now) }
@@ -53,6 +54,8 @@ pub fn assemble(alloc: Global, text: &str) -> Result<Program, AsmFault>
     ensures only { (p : List Insn) → IsTextOf text.now p → GivesUnlessNoMemory result (Ok p) }
     // Which line is refused, and why.
     ensures first_fault { IfErr result (λ e. (e ≡ NoMemory) ⊎ IsFirstFault text.now e) }
+    // Memory can be refused only where a line was read.
+    ensures memory { result ≡ Err NoMemory → BeginsWithLine text.now }
     // A text with a faulty line is refused.
     ensures refused { (e : AsmFault) → IsFirstFault text.now e → GivesUnlessNoMemory result (Err e) }
 {

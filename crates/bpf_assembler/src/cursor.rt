@@ -1,6 +1,7 @@
 //! A place in a text, from which bytes are read in order.
 ghost use Rattle.std.specs.Prelude.{◌≡◌, ◌≤◌, ◌++◌, ◌∷◌, take, drop, length, codes, OnOk, IsTrue, nat_eq, if◌then◌else◌};
-ghost use Rattle.bpf_assembler.specs.Reading.{Gives, run, is_digit, is_name_byte, begins_with, byte_at, newline_at};
+ghost use Rattle.bpf_assembler.specs.Operands.{Gives, run, is_digit, begins_with, byte_at};
+ghost use Rattle.bpf_assembler.specs.Reading.{is_name_byte, newline_at};
 
 use crate::fault::LineFault;
 
@@ -26,24 +27,16 @@ fn digits_length(text: &[u8]) -> usize
     ensures value { result ≡ run is_digit text.now }
     ensures within { result ≤ length text.now }
 {
-    for place in 0..text.len() {
-        if !is_digit(text[place]) {
-            return place;
-        }
-    }
-    text.len()
+    let end = text.iter().position(|byte| !is_digit(*byte));
+    end.unwrap_or(text.len())
 }
 
 fn name_length(text: &[u8]) -> usize
     ensures value { result ≡ run is_name_byte text.now }
     ensures within { result ≤ length text.now }
 {
-    for place in 0..text.len() {
-        if !is_name_byte(text[place]) {
-            return place;
-        }
-    }
-    text.len()
+    let end = text.iter().position(|byte| !is_name_byte(*byte));
+    end.unwrap_or(text.len())
 }
 
 impl<'a> Cursor<'a> {
@@ -105,7 +98,7 @@ impl<'a> Cursor<'a> {
     }
 
     /// Takes this byte, which has to be next.
-    #[tactic(auto, unfolding(crate::specs::Reading::byte_at))]
+    #[tactic(auto, unfolding(crate::specs::Operands::byte_at))]
     pub(crate) fn byte(&mut self, byte: u8) -> Result<(), LineFault>
         ensures exact { Gives self.new.rest.now result (byte_at byte self.old.rest.now) }
         ensures found { OnOk result (self.old.rest.now ≡ byte ∷ self.new.rest.now) }

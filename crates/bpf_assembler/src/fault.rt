@@ -4,6 +4,7 @@ ghost use Rattle.bpf_assembler.specs.declared.fault.AsmFault.TheVariants.{NoMemo
 ghost use Rattle.bpf_assembler.specs.Faults.{number_of, line_number, message_of, at_line};
 
 use bpf_model::NoMemory;
+use bpf_model::limits::PROGRAM_UNITS;
 use std::alloc::AllocError;
 use std::error::Error;
 use std::fmt;
@@ -15,14 +16,14 @@ pub enum AsmFault {
     NoMemory,
     /// The bytes up to the first blank, newline or end are no name: number 20, in this line.
     UnknownName(usize),
-    /// An operand, a separator or the blank after the name is missing or ill-formed, or a number has a needless zero:
-    /// number 21, in this line.
+    /// An operand, a separator or the blank after the name is missing or ill-formed, a number has a needless zero, or
+    /// zero a minus: number 21, in this line.
     BadOperand(usize),
     /// A well-formed number that doesn't fit its field: number 22, in this line.
     OutOfRange(usize),
     /// After the last operand stands anything but a newline, the end of the text included: number 23, in this line.
     Trailing(usize),
-    /// Number 24: this line's instruction passes 512 units, or there is no line at all, in line 0.
+    /// Number 24: this line's instruction passes `PROGRAM_UNITS`, or there is no line at all, in line 0.
     BadCount(usize),
 }
 
@@ -70,7 +71,7 @@ impl fmt::Display for AsmFault {
                 "no newline after the last operand in line {line}"
             ),
             AsmFault::BadCount(0) => write!(f, "no line"),
-            AsmFault::BadCount(line) => write!(f, "more than 512 units in line {line}"),
+            AsmFault::BadCount(line) => write!(f, "more than {PROGRAM_UNITS} units in line {line}"),
         }
     }
 }

@@ -3,7 +3,8 @@ ghost use Rattle.std.specs.Prelude.{◌≡◌, ◌++◌, codes, IfOk, OnOk};
 ghost use Rattle.bpf_model.specs.Spelling.{IsRegister, IsOffset, IsOperand, IsInstruction};
 ghost use Rattle.bpf_assembler.specs.Names.{name_of};
 ghost use Rattle.bpf_assembler.specs.Text.{register, operand, offset, mnemonic_of, operands_of, line_of};
-ghost use Rattle.bpf_assembler.specs.Reading.{Gives, Takes, comma_at, operand_at, base_at, displacement_at, operands_at, name_at, line_at};
+ghost use Rattle.bpf_assembler.specs.Operands.{Gives, Takes, comma_at, operand_at, base_at, displacement_at};
+ghost use Rattle.bpf_assembler.specs.Reading.{operands_at, name_at, line_at};
 
 use crate::cursor::Cursor;
 use crate::fault::LineFault;
@@ -12,7 +13,7 @@ use bpf_model::{Insn, Operand, Reg};
 
 impl<'a> Cursor<'a> {
     /// Takes a comma and a blank.
-    #[tactic(auto, unfolding(crate::specs::Reading::comma_at))]
+    #[tactic(auto, unfolding(crate::specs::Operands::comma_at))]
     pub(crate) fn comma(&mut self) -> Result<(), LineFault>
         ensures exact { Gives self.new.rest.now result (comma_at self.old.rest.now) }
         ensures found { OnOk result (self.old.rest.now ≡ codes ", " ++ self.new.rest.now) }
@@ -22,7 +23,7 @@ impl<'a> Cursor<'a> {
     }
 
     /// Takes a register or an immediate.
-    #[tactic(auto, unfolding(crate::specs::Reading::operand_at))]
+    #[tactic(auto, unfolding(crate::specs::Operands::operand_at))]
     pub(crate) fn operand(&mut self) -> Result<Operand, LineFault>
         ensures exact { Gives self.new.rest.now result (operand_at self.old.rest.now) }
         ensures found { Takes operand IsOperand self.old.rest.now self.new.rest.now result }
@@ -37,7 +38,7 @@ impl<'a> Cursor<'a> {
     }
 
     /// Takes the start of a place in memory: a bracket and a register.
-    #[tactic(auto, unfolding(crate::specs::Reading::base_at))]
+    #[tactic(auto, unfolding(crate::specs::Operands::base_at))]
     pub(crate) fn base(&mut self) -> Result<Reg, LineFault>
         ensures exact { Gives self.new.rest.now result (base_at self.old.rest.now) }
         ensures found { Takes (λ r. codes "[" ++ register r) IsRegister self.old.rest.now self.new.rest.now result }
@@ -47,7 +48,7 @@ impl<'a> Cursor<'a> {
     }
 
     /// Takes the end of a place in memory: an offset and a bracket.
-    #[tactic(auto, unfolding(crate::specs::Reading::displacement_at))]
+    #[tactic(auto, unfolding(crate::specs::Operands::displacement_at))]
     pub(crate) fn displacement(&mut self) -> Result<i16, LineFault>
         ensures exact { Gives self.new.rest.now result (displacement_at self.old.rest.now) }
         ensures found { Takes (λ z. offset z ++ codes "]") IsOffset self.old.rest.now self.new.rest.now result }

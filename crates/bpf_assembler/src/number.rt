@@ -2,7 +2,7 @@
 ghost use Rattle.std.specs.Prelude.{◌≡◌, ◌≤◌, ◌<◌, ◌^◌, ◌++◌, ℕ, suc, pos, negsuc, length, decimal, All, IfOk, IfSome, IfNone};
 ghost use Rattle.bpf_model.specs.Spelling.{IsRegister, IsImmediate, IsOffset};
 ghost use Rattle.bpf_assembler.specs.Text.{register, immediate, offset};
-ghost use Rattle.bpf_assembler.specs.Reading.{Gives, Takes, value_from, is_digit, is_numeral, number_at, register_at, positive_at, negative_at, immediate_at, offset_at, FitsBelow};
+ghost use Rattle.bpf_assembler.specs.Operands.{Gives, Takes, value_from, is_digit, is_numeral, number_at, register_at, positive_at, negative_at, immediate_at, offset_at, FitsBelow};
 
 use crate::cursor::Cursor;
 use crate::fault::LineFault;
@@ -34,7 +34,7 @@ fn value_within(digits: &[u8], limit: u64) -> Option<u64>
 
 impl<'a> Cursor<'a> {
     /// Takes a number without needless zeros, which is at most the limit.
-    #[tactic(auto, unfolding(crate::specs::Reading::number_at))]
+    #[tactic(auto, unfolding(crate::specs::Operands::number_at))]
     pub(crate) fn number(&mut self, limit: u64) -> Result<u64, LineFault>
         ensures exact { Gives self.new.rest.now result (number_at limit self.old.rest.now) }
         ensures found { Takes decimal (λ n. n ≤ limit) self.old.rest.now self.new.rest.now result }
@@ -50,7 +50,7 @@ impl<'a> Cursor<'a> {
     }
 
     /// Takes a register.
-    #[tactic(auto, unfolding(crate::specs::Reading::register_at))]
+    #[tactic(auto, unfolding(crate::specs::Operands::register_at))]
     pub(crate) fn register(&mut self) -> Result<Reg, LineFault>
         ensures exact { Gives self.new.rest.now result (register_at self.old.rest.now) }
         ensures found { Takes register IsRegister self.old.rest.now self.new.rest.now result }
@@ -61,7 +61,7 @@ impl<'a> Cursor<'a> {
     }
 
     /// Takes a number that is no negative one, below half the numbers of its field.
-    #[tactic(auto, unfolding(crate::specs::Reading::positive_at))]
+    #[tactic(auto, unfolding(crate::specs::Operands::positive_at))]
     fn positive(&mut self, half: u32) -> Result<i32, LineFault>
         requires some { 1 ≤ half }
         requires few { half ≤ 2 ^ 31 }
@@ -73,7 +73,7 @@ impl<'a> Cursor<'a> {
     }
 
     /// Takes the rest of a negative number, behind its sign.
-    #[tactic(auto, unfolding(crate::specs::Reading::negative_at))]
+    #[tactic(auto, unfolding(crate::specs::Operands::negative_at))]
     fn negative(&mut self, half: u32) -> Result<i32, LineFault>
         requires few { half ≤ 2 ^ 31 }
         ensures exact { Gives self.new.rest.now result (negative_at half self.old.rest.now) }
@@ -87,7 +87,7 @@ impl<'a> Cursor<'a> {
     }
 
     /// Takes an immediate.
-    #[tactic(auto, unfolding(crate::specs::Reading::immediate_at))]
+    #[tactic(auto, unfolding(crate::specs::Operands::immediate_at))]
     pub(crate) fn immediate(&mut self) -> Result<i32, LineFault>
         ensures exact { Gives self.new.rest.now result (immediate_at self.old.rest.now) }
         ensures found { IfOk result (λ z. self.old.rest.now ≡ immediate z ++ self.new.rest.now) }
@@ -101,7 +101,7 @@ impl<'a> Cursor<'a> {
     }
 
     /// Takes a number with its sign, from `half` less than zero to one below `half`.
-    #[tactic(auto, unfolding(crate::specs::Reading::offset_at))]
+    #[tactic(auto, unfolding(crate::specs::Operands::offset_at))]
     fn signed(&mut self, half: u32) -> Result<i32, LineFault>
         requires some { 1 ≤ half }
         requires few { half ≤ 2 ^ 31 }

@@ -3,7 +3,8 @@ ghost use Rattle.std.specs.Prelude.{◌≡◌, ◌++◌, codes, IfOk};
 ghost use Rattle.bpf_model.specs.Spelling.{IsRegister, IsInstruction};
 ghost use Rattle.bpf_assembler.specs.declared.mnemonic.Mnemonic.TheVariants.{Alu, Negate, Mov, SignExtend, Reorder, Wide, Load, Store, StoreImmediate, Jump, JumpLong, Branch};
 ghost use Rattle.bpf_assembler.specs.Text.{register, mnemonic_of, operands_of};
-ghost use Rattle.bpf_assembler.specs.Reading.{Gives, Takes, TakesOperands, dst_at, operands_at};
+ghost use Rattle.bpf_assembler.specs.Operands.{Gives, Takes, dst_at};
+ghost use Rattle.bpf_assembler.specs.Reading.{TakesOperands, operands_at};
 
 use crate::cursor::Cursor;
 use crate::fault::LineFault;
@@ -14,7 +15,7 @@ use bpf_model::{
 };
 
 impl<'a> Cursor<'a> {
-    #[tactic(auto, unfolding(crate::specs::Reading::dst_at))]
+    #[tactic(auto, unfolding(crate::specs::Operands::dst_at))]
     fn dst(&mut self) -> Result<Reg, LineFault>
         ensures exact { Gives self.new.rest.now result (dst_at self.old.rest.now) }
         ensures found { Takes (λ r. codes " " ++ register r) IsRegister self.old.rest.now self.new.rest.now result }

@@ -28,18 +28,18 @@ fn write_operand(text: &mut String, src: Operand) -> Result<(), AllocError>
 }
 
 #[tactic(auto, using(crate::proofs::SignLemmas::styled_with_sign))]
-fn write_distance(text: &mut String, distance: i32) -> Result<(), AllocError>
-    ensures { OnOk result (string_bytes text.new ≡ string_bytes text.old ++ offset distance) }
+fn write_signed(text: &mut String, number: i32) -> Result<(), AllocError>
+    ensures { OnOk result (string_bytes text.new ≡ string_bytes text.old ++ offset number) }
 {
-    write!(text, "{distance:+}")
+    write!(text, "{number:+}")
 }
 
-fn write_place(text: &mut String, base: Reg, distance: i16) -> Result<(), AllocError>
-    ensures text { OnOk result (string_bytes text.new ≡ string_bytes text.old ++ place base distance) }
+fn write_place(text: &mut String, base: Reg, displacement: i16) -> Result<(), AllocError>
+    ensures text { OnOk result (string_bytes text.new ≡ string_bytes text.old ++ place base displacement) }
     ensures fits { OnOk result (IsRegister base) }
 {
     write!(text, "[r{}", base.number())?;
-    write_distance(text, i32::from(distance))?;
+    write_signed(text, i32::from(displacement))?;
     text.push_str("]")
 }
 
@@ -55,15 +55,20 @@ fn write_jump(text: &mut String, distance: i32) -> Result<(), AllocError>
     ensures { OnOk result (string_bytes text.new ≡ string_bytes text.old ++ codes " " ++ offset distance) }
 {
     text.push_str(" ")?;
-    write_distance(text, distance)
+    write_signed(text, distance)
 }
 
-fn write_store(text: &mut String, dst: Reg, at: i16, src: Operand) -> Result<(), AllocError>
-    ensures text { OnOk result (string_bytes text.new ≡ string_bytes text.old ++ codes " " ++ place dst at ++ codes ", " ++ operand src) }
-    ensures fits { OnOk result (IsRegister dst × IsOperand src) }
+fn write_store(
+    text: &mut String,
+    base: Reg,
+    displacement: i16,
+    src: Operand,
+) -> Result<(), AllocError>
+    ensures text { OnOk result (string_bytes text.new ≡ string_bytes text.old ++ codes " " ++ place base displacement ++ codes ", " ++ operand src) }
+    ensures fits { OnOk result (IsRegister base × IsOperand src) }
 {
     text.push_str(" ")?;
-    write_place(text, dst, at)?;
+    write_place(text, base, displacement)?;
     text.push_str(", ")?;
     write_operand(text, src)
 }
@@ -103,7 +108,7 @@ fn write_operands(text: &mut String, insn: Insn) -> Result<(), AllocError>
         } => {
             write_pair(text, dst, src)?;
             text.push_str(", ")?;
-            write_distance(text, i32::from(distance))
+            write_signed(text, i32::from(distance))
         }
         Insn::Exit => Ok(()),
     }

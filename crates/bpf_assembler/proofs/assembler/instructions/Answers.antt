@@ -2,9 +2,9 @@ use Rattle.std.proofs.Common.{◌≡◌, ◌+◌, ◌<◌, sym, refl, arith, inr
 use Rattle.bpf_model.specs.declared.limits.TheConstants.{PROGRAM_UNITS}
 use Rattle.bpf_model.specs.Program.{unit_count, units_of}
 use Rattle.bpf_assembler.specs.Text.{text_of}
-use Rattle.bpf_assembler.specs.declared.fault.AsmFault.TheVariants.{BadCount}
+use Rattle.bpf_assembler.specs.declared.fault.AsmFault.TheVariants.{NoMemory, BadCount}
 use Rattle.bpf_assembler.specs.Faults.{at_line, IsFaultyLine}
-use Rattle.bpf_assembler.proofs.FaultLemmas.{unread_line, line_past_units, line_shortens, lines_push, unit_count-push, AreInstructions-push}
+use Rattle.bpf_assembler.proofs.FaultLemmas.{unread_line, line_past_units, first_line, at_line_says_no_memory, line_shortens, lines_push, unit_count-push, AreInstructions-push}
 use Rattle.bpf_assembler.proofs.assembler.instructions.Goals as goal
 
 pub loop-cursor-init : goal.loop-cursor-init
@@ -30,6 +30,18 @@ returns-then-units-gt-PROGRAM_UNITS-clause-first_fault c =
     let past : PROGRAM_UNITS < l.units + units_of c.in-Ok.insn = omega (arith, c.if-units-gt-PROGRAM_UNITS.true, c.units-units.ensures.value) in
     let here = line_past_units c.args.text.now l.cursor.rest.now c.line.new.self.rest.now l.instructions.items l.units c.is_done.result c.in-Ok.insn l.invariant.fits l.invariant.counted l.invariant.few l.invariant.lines c.is_done.ensures c.loop-cursor-test.true read fits past in
     inr (subst (λ (n : ℕ). IsFaultyLine c.args.text.now (BadCount (n + 1))) line here)
+
+pub returns-in_err-append-clause-memory : goal.returns-in_err-append-clause-memory
+returns-in_err-append-clause-memory c = λ e.
+    let l = c.loop-cursor in
+    let (read, fits) = c.in-Ok.ensures.found in
+    first_line c.args.text.now l.cursor.rest.now c.line.new.self.rest.now l.instructions.items c.in-Ok.insn l.invariant.fits fits l.invariant.lines read
+
+pub returns-in-Err-clause-memory : goal.returns-in-Err-clause-memory
+returns-in-Err-clause-memory c = λ e.
+    let told = c.at.ensures in
+    let named : at_line (c.len-line.result + 1) c.in-Err.fault ≡ NoMemory = cc in
+    absurd (at_line_says_no_memory (c.len-line.result + 1) c.in-Err.fault named)
 
 pub loop-cursor-smaller : goal.loop-cursor-smaller
 loop-cursor-smaller c = line_shortens c.loop-cursor.cursor.rest.now c.line.new.self.rest.now c.in-Ok.insn c.in-Ok.ensures.found.0

@@ -1,5 +1,5 @@
 use Rattle.std.proofs.Common.{◌≡◌, drop}
-use Rattle.bpf_assembler.specs.Reading.{value_from}
+use Rattle.bpf_assembler.specs.Operands.{value_from}
 use Rattle.bpf_assembler.proofs.number.value_within.Given as goal
 
 -- the digits so far have this value

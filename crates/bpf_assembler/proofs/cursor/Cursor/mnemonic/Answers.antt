@@ -1,7 +1,8 @@
 use Rattle.std.proofs.Common.{◌∙◌, sym}
 use Rattle.std.proofs.lemmas.List.{take-append-drop}
 use Rattle.bpf_assembler.specs.Names.{stems}
-use Rattle.bpf_assembler.specs.Reading.{run, is_name_byte}
+use Rattle.bpf_assembler.specs.Operands.{run}
+use Rattle.bpf_assembler.specs.Reading.{is_name_byte}
 use Rattle.bpf_assembler.proofs.NameLaws.{mnemonic_found}
 use Rattle.bpf_assembler.proofs.cursor.Cursor.mnemonic.Goals as goal
 

@@ -1,5 +1,5 @@
 use Rattle.std.proofs.Common.{◌∙◌, sym, arith, take}
-use Rattle.bpf_assembler.specs.Reading.{run, is_digit}
+use Rattle.bpf_assembler.specs.Operands.{run, is_digit}
 use Rattle.bpf_assembler.proofs.NumberLemmas.{AreDigits-run, digits_in_range, number_found}
 use Rattle.bpf_assembler.proofs.cursor.Cursor.number.Goals as goal
 
