@@ -178,17 +178,87 @@ store_class (Immediate imm) = class_st
 
 -- the fields of an instruction's first unit; a field that it doesn't use is zero
 abbrev pub fields_of : Insn → Fields
-fields_of (Alu op width dst src) = record { opcode = opcode (code_of op) (source_of src) (alu_class width); dst = dst; src = src_of src; offset = offset_of op; imm = imm_of src }
-fields_of (Negate width dst) = record { opcode = opcode neg_code source_k (alu_class width); dst = dst; src = 0; offset = pos 0; imm = pos 0 }
-fields_of (Mov width dst src) = record { opcode = opcode mov_code (source_of src) (alu_class width); dst = dst; src = src_of src; offset = pos 0; imm = imm_of src }
-fields_of (SignExtend extension dst src) = record { opcode = opcode mov_code source_x (alu_class (extension_width extension)); dst = dst; src = src; offset = pos (extension_bits extension); imm = pos 0 }
-fields_of (Reorder order size dst) = record { opcode = opcode end_code (order_source order) (alu_class (order_width order)); dst = dst; src = 0; offset = pos 0; imm = pos (swap_bits size) }
-fields_of (Wide dst value) = record { opcode = access_opcode mode_imm (size_code DoubleWord) class_ld; dst = dst; src = 0; offset = pos 0; imm = cast_signed w32 (value % 2 ^ 32) }
-fields_of (Load kind dst src offset) = record { opcode = access_opcode (mode_of kind) (size_code (loaded_size kind)) class_ldx; dst = dst; src = src; offset = offset; imm = pos 0 }
-fields_of (Store size dst src offset) = record { opcode = access_opcode mode_mem (size_code size) (store_class src); dst = dst; src = src_of src; offset = offset; imm = imm_of src }
+fields_of (Alu op width dst src) =
+    record {
+      opcode = opcode (code_of op) (source_of src) (alu_class width);
+      dst = dst;
+      src = src_of src;
+      offset = offset_of op;
+      imm = imm_of src;
+    }
+fields_of (Negate width dst) =
+    record {
+      opcode = opcode neg_code source_k (alu_class width);
+      dst = dst;
+      src = 0;
+      offset = pos 0;
+      imm = pos 0;
+    }
+fields_of (Mov width dst src) =
+    record {
+      opcode = opcode mov_code (source_of src) (alu_class width);
+      dst = dst;
+      src = src_of src;
+      offset = pos 0;
+      imm = imm_of src;
+    }
+fields_of (SignExtend extension dst src) =
+    record {
+      opcode = opcode mov_code source_x (alu_class (extension_width extension));
+      dst = dst;
+      src = src;
+      offset = pos (extension_bits extension);
+      imm = pos 0;
+    }
+fields_of (Reorder order size dst) =
+    record {
+      opcode = opcode end_code (order_source order) (alu_class (order_width order));
+      dst = dst;
+      src = 0;
+      offset = pos 0;
+      imm = pos (swap_bits size);
+    }
+fields_of (Wide dst value) =
+    record {
+      opcode = access_opcode mode_imm (size_code DoubleWord) class_ld;
+      dst = dst;
+      src = 0;
+      offset = pos 0;
+      imm = cast_signed w32 (value % 2 ^ 32);
+    }
+fields_of (Load kind dst src offset) =
+    record {
+      opcode = access_opcode (mode_of kind) (size_code (loaded_size kind)) class_ldx;
+      dst = dst;
+      src = src;
+      offset = offset;
+      imm = pos 0;
+    }
+fields_of (Store size dst src offset) =
+    record {
+      opcode = access_opcode mode_mem (size_code size) (store_class src);
+      dst = dst;
+      src = src_of src;
+      offset = offset;
+      imm = imm_of src;
+    }
 fields_of (Jump distance) = record { opcode = opcode ja_code source_k (jump_class W64); dst = 0; src = 0; offset = distance; imm = pos 0 }
-fields_of (JumpLong distance) = record { opcode = opcode ja_code source_k (jump_class W32); dst = 0; src = 0; offset = pos 0; imm = distance }
-fields_of (Branch test width dst src distance) = record { opcode = opcode (test_code test) (source_of src) (jump_class width); dst = dst; src = src_of src; offset = distance; imm = imm_of src }
+fields_of (JumpLong distance) =
+    record {
+      opcode = opcode ja_code source_k (jump_class W32);
+      dst = 0;
+      src = 0;
+      offset = pos 0;
+      imm = distance;
+    }
+fields_of (Branch test width dst src distance) =
+    record {
+      opcode = opcode (test_code test) (source_of src) (jump_class width);
+      dst = dst;
+      src = src_of src;
+      offset = distance;
+      imm = imm_of src;
+    }
 fields_of Exit = record { opcode = opcode exit_code source_k (jump_class W64); dst = 0; src = 0; offset = pos 0; imm = pos 0 }
 
 -- the second unit of a wide instruction has the upper half of its value, and no other field

@@ -1,6 +1,7 @@
 //! The arithmetic of words, exact to the definitions: what the processor does, with no request for memory.
-ghost use Rattle.std.specs.Prelude.{ℕ, ◌≡◌, ◌+◌, ◌-◌, ◌*◌, ◌%◌, ◌<◌, ◌≤◌, ◌^◌};
-ghost use Rattle.bpf_model.specs.Arithmetic.{modulus, bits_of, sum_of, difference_of, product_of, quotient_of, remainder_of, signed_quotient, signed_remainder, shifted_left, shifted_right, signed_right, low_value, alu_value, negated, mov_value, extended, extension_half, swap_modulus, reversed, reordered};
+ghost use Rattle.std.specs.Prelude.{ℕ, ◌≡◌, ◌+◌, ◌-◌, ◌*◌, ◌%◌, ◌<◌, ◌^◌};
+ghost use Rattle.std.specs.Int.{w8, w16, w32, cast_signed};
+ghost use Rattle.bpf_model.specs.Arithmetic.{modulus, bits_of, sum_of, difference_of, product_of, quotient_of, remainder_of, signed_quotient, signed_remainder, shifted_left, shifted_right, signed_right, low_value, alu_value, negated, mov_value, extended, swap_modulus, reversed, reordered};
 
 use crate::operations::{AluOp, ByteOrder, SignExtension, SwapWidth, Width};
 
@@ -101,12 +102,10 @@ impl Width {
         requires { a < modulus self }
         ensures { result ≡ signed_right self a by }
     {
-        let greatest = self.greatest();
         let amount = self.shift_amount(by);
-        if a <= greatest / 2 {
-            a >> amount
-        } else {
-            greatest - ((greatest - a) >> amount)
+        match self {
+            Width::W32 => u64::from(((a as u32).cast_signed() >> amount).cast_unsigned()),
+            Width::W64 => (a.cast_signed() >> amount).cast_unsigned(),
         }
     }
 }
@@ -207,31 +206,37 @@ impl AluOp {
     }
 }
 
+// the low 8, 16 and 32 bits as two's complement numbers
+fn signed_byte(n: u64) -> i8
+    ensures { result ≡ cast_signed w8 (n % 2 ^ 8) }
+{
+    ((n % 0x100) as u8).cast_signed()
+}
+
+fn signed_half_word(n: u64) -> i16
+    ensures { result ≡ cast_signed w16 (n % 2 ^ 16) }
+{
+    ((n % 0x1_0000) as u16).cast_signed()
+}
+
+fn signed_word(n: u64) -> i32
+    ensures { result ≡ cast_signed w32 (n % 2 ^ 32) }
+{
+    ((n % 0x1_0000_0000) as u32).cast_signed()
+}
+
 impl SignExtension {
     /// The low bits with their sign extended; at 32 bits the upper 32 are zero.
     #[tactic(auto, unfolding(crate::specs::Arithmetic::extended))]
     pub fn apply(self, n: u64) -> u64
         ensures { result ≡ extended self n }
     {
-        let half = self.half();
-        let low = n % (2 * half);
-        if low < half {
-            low
-        } else {
-            low + (self.width().greatest() - (2 * half - 1))
-        }
-    }
-
-    // half the modulus of the low bits
-    fn half(self) -> u64
-        ensures value { result ≡ extension_half self }
-        ensures least { 1 ≤ result }
-        ensures most { result ≤ 2 ^ 31 }
-    {
         match self {
-            SignExtension::From8To32 | SignExtension::From8To64 => 0x80,
-            SignExtension::From16To32 | SignExtension::From16To64 => 0x8000,
-            SignExtension::From32To64 => 0x8000_0000,
+            SignExtension::From8To32 => u64::from(i32::from(signed_byte(n)).cast_unsigned()),
+            SignExtension::From16To32 => u64::from(i32::from(signed_half_word(n)).cast_unsigned()),
+            SignExtension::From8To64 => i64::from(signed_byte(n)).cast_unsigned(),
+            SignExtension::From16To64 => i64::from(signed_half_word(n)).cast_unsigned(),
+            SignExtension::From32To64 => i64::from(signed_word(n)).cast_unsigned(),
         }
     }
 }

@@ -1,11 +1,12 @@
 //! Laws of the definitions: what holds of them whatever their arguments, each the contract of a small function.
-ghost use Rattle.std.specs.Prelude.{ℕ, ◌≡◌, ◌↔◌, ◌*◌, ◌++◌, ◌<◌, ◌≤◌, length, List, Some, IsTrue, not, unsigned_abs, pos, true, false, ◌≤ℤ◌};
+ghost use Rattle.std.specs.Prelude.{ℕ, ◌≡◌, ◌↔◌, ◌*◌, ◌+ℤ◌, ◌*ℤ◌, ◌++◌, ◌<◌, ◌≤◌, length, List, Some, IsTrue, not, unsigned_abs, pos, true, false, ◌≤ℤ◌};
 ghost use Rattle.bpf_model.specs.declared.input.Input.{Input};
 ghost use Rattle.bpf_model.specs.declared.input.Sizes.{Sizes as DeclaredSizes};
 ghost use Rattle.bpf_model.specs.declared.instruction.Insn.{Insn as AnyInsn};
 ghost use Rattle.bpf_model.specs.declared.operations.AluOp.TheVariants.{Add, Mul, SDiv, SMod};
+ghost use Rattle.bpf_model.specs.declared.operations.ByteOrder.{ByteOrder as AnyOrder};
 ghost use Rattle.bpf_model.specs.declared.operations.ByteOrder.TheVariants.{Little, Big, Swap};
-ghost use Rattle.bpf_model.specs.Arithmetic.{modulus, signed_at, alu_value, negated, mov_value, extended, extension_width, reordered};
+ghost use Rattle.bpf_model.specs.Arithmetic.{modulus, signed_at, alu_value, negated, mov_value, extended, extension_width, reordered, swap_modulus, IsLeastByMinusOne};
 ghost use Rattle.bpf_model.specs.Conditions.{opposite_of, holds};
 ghost use Rattle.bpf_model.specs.Fits.{AreWithinLimits};
 ghost use Rattle.bpf_model.specs.Memory.{lies_in_window, can_write};
@@ -34,11 +35,15 @@ impl Width {
         n <= self.greatest()
     }
 
-    /// The dividend once more, out of its signed quotient and remainder: quotient times divisor plus remainder is the
-    /// dividend, modulo the width, and the remainder is nearer to zero than the divisor and has the dividend's sign.
+    /// The dividend once more, out of its signed quotient and remainder. Quotient times divisor plus remainder is the
+    /// dividend, as whole numbers, and the remainder is nearer to zero than the divisor and has the dividend's sign. The
+    /// least number by -1 gives itself, with remainder 0; by zero the quotient is 0.
     pub fn divided_again(self, dividend: u64, divisor: u64) -> u64
         ensures value { result ≡ mov_value self dividend }
         ensures whole { alu_value Add self (alu_value Mul self (alu_value SDiv self dividend divisor) divisor) (alu_value SMod self dividend divisor) ≡ mov_value self dividend }
+        ensures exact { 0 < mov_value self divisor → ¬ (IsLeastByMinusOne self (mov_value self dividend) (mov_value self divisor)) → signed_at self (alu_value SDiv self dividend divisor) *ℤ signed_at self (mov_value self divisor) +ℤ signed_at self (alu_value SMod self dividend divisor) ≡ signed_at self (mov_value self dividend) }
+        ensures by_zero { mov_value self divisor ≡ 0 → alu_value SDiv self dividend divisor ≡ 0 }
+        ensures least { IsLeastByMinusOne self (mov_value self dividend) (mov_value self divisor) → (alu_value SDiv self dividend divisor ≡ mov_value self dividend) × (alu_value SMod self dividend divisor ≡ 0) }
         ensures near { 0 < mov_value self divisor → unsigned_abs (signed_at self (alu_value SMod self dividend divisor)) < unsigned_abs (signed_at self (mov_value self divisor)) }
         ensures not_negative { pos 0 ≤ℤ signed_at self (mov_value self dividend) → pos 0 ≤ℤ signed_at self (alu_value SMod self dividend divisor) }
         ensures not_positive { signed_at self (mov_value self dividend) ≤ℤ pos 0 → signed_at self (alu_value SMod self dividend divisor) ≤ℤ pos 0 }
@@ -50,22 +55,25 @@ impl Width {
 }
 
 impl SignExtension {
-    /// Whether the word is a number of the result's width: what the extension gives always is.
-    #[tactic(auto, using(crate::proofs::ArithmeticLaws::extended_below))]
+    /// Whether the extension gives the word: exactly where it leaves it as it stands.
+    #[tactic(auto, using(crate::proofs::ArithmeticLaws::extended_below, crate::proofs::ArithmeticLaws::extended_again))]
     pub fn gives(self, n: u64) -> bool
-        ensures exact { IsTrue result ↔ (n < modulus (extension_width self)) }
+        ensures exact { IsTrue result ↔ (extended self n ≡ n) }
+        ensures again { (x : ℕ) → extended self (extended self x) ≡ extended self x }
         ensures extended { (x : ℕ) → extended self x < modulus (extension_width self) }
     {
-        n <= self.width().greatest()
+        self.apply(n) == n
     }
 }
 
 impl SwapWidth {
-    /// The low bytes of a word, reversed and reversed again: they stand as they stood.
+    /// The low bytes of a word, reversed and reversed again: they stand as they stood, and the others are zero.
+    #[tactic(auto, using(crate::proofs::ByteOrderLaws::reordered_below))]
     pub fn reversed_twice(self, n: u64) -> u64
         ensures value { result ≡ reordered Little self n }
         ensures big { reordered Big self (reordered Big self n) ≡ reordered Little self n }
         ensures swap { reordered Swap self (reordered Swap self n) ≡ reordered Little self n }
+        ensures below { (order : AnyOrder) (x : ℕ) → reordered order self x < swap_modulus self }
     {
         ByteOrder::Swap.apply(self, ByteOrder::Big.apply(self, n))
     }

@@ -1,6 +1,6 @@
 //! Operations and their widths.
-ghost use Rattle.std.specs.Prelude.{◌≡◌, ◌≤◌};
-ghost use Rattle.bpf_model.specs.Arithmetic.{bits_of, swap_bits, extension_width, extension_bits};
+ghost use Rattle.std.specs.Prelude.{ℕ, ◌≡◌, ◌%◌, ◌≤◌, ◌^◌};
+ghost use Rattle.bpf_model.specs.Arithmetic.{bits_of, modulus, swap_bits, swap_modulus, extension_width, extension_bits, extended};
 
 /// The width at which an instruction computes.
 #[derive(Clone, Copy, Debug, PartialEq, Eq)]
@@ -14,7 +14,8 @@ pub enum Width {
 impl Width {
     /// The number of bits.
     pub fn bits(self) -> u32
-        ensures { result ≡ bits_of self }
+        ensures value { result ≡ bits_of self }
+        ensures power { modulus self ≡ 2 ^ result }
     {
         match self {
             Width::W32 => 32,
@@ -73,6 +74,7 @@ impl SignExtension {
     /// How many low bits are read.
     pub fn bits(self) -> u32
         ensures value { result ≡ extension_bits self }
+        ensures read { (x : ℕ) → extended self (x % 2 ^ result) ≡ extended self x }
         ensures most { result ≤ 32 }
     {
         match self {
@@ -105,7 +107,8 @@ pub enum SwapWidth {
 impl SwapWidth {
     /// The number of bits.
     pub fn bits(self) -> u32
-        ensures { result ≡ swap_bits self }
+        ensures value { result ≡ swap_bits self }
+        ensures power { swap_modulus self ≡ 2 ^ result }
     {
         match self {
             SwapWidth::S16 => 16,

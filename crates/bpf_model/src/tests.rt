@@ -347,6 +347,26 @@ fn signs_are_extended(rt: HostRuntime) {
 }
 
 #[test]
+fn words_with_a_sign_extended(rt: HostRuntime) {
+    for (extension, n, given) in [
+        (SignExtension::From8To32, 0xffff_ff80, true),
+        (SignExtension::From8To32, 0xffff_ffff_ffff_ff80, false),
+        (SignExtension::From8To32, 0x80, false),
+        (SignExtension::From16To32, 0xffff_8000, true),
+        (SignExtension::From16To32, 0x8000, false),
+        (SignExtension::From8To64, MAX, true),
+        (SignExtension::From8To64, 0x7f, true),
+        (SignExtension::From8To64, 0x1234, false),
+        (SignExtension::From16To64, 0x1234, true),
+        (SignExtension::From16To64, 0xffff_8000, false),
+        (SignExtension::From32To64, 0xffff_ffff_8000_0000, true),
+        (SignExtension::From32To64, 0x1_0000_0000, false),
+    ] {
+        assert_eq!(rt; extension.gives(n), given, "{extension:?} and {n}");
+    }
+}
+
+#[test]
 fn loads_extend_what_they_read(rt: HostRuntime) {
     for (kind, bytes, n, wanted) in [
         (LoadKind::Byte, 1, 0xff, 0xff),
@@ -387,6 +407,11 @@ fn single_words(rt: HostRuntime) {
             0x8000_0000,
         ),
         ("the low part", W32.low(MAX), 0xffff_ffff),
+        ("the low part of 2 to the 32", W32.low(0x1_0000_0000), 0),
+        ("the whole word", W64.low(MAX), MAX),
+        ("the whole least word", W64.low(TOP), TOP),
+        ("zero", W64.low(0), 0),
+        ("zero of 32 bits", W32.low(0), 0),
         (
             "-13 and 3",
             W64.divided_again(13_u64.wrapping_neg(), 3),
@@ -398,6 +423,12 @@ fn single_words(rt: HostRuntime) {
             0xffff_fff3,
         ),
         ("the least word again", W64.divided_again(TOP, MAX), TOP),
+        ("13 by zero again", W64.divided_again(13, 0), 13),
+        (
+            "zero by -13 again",
+            W64.divided_again(0, 13_u64.wrapping_neg()),
+            0,
+        ),
     ] {
         assert_eq!(rt; given, wanted, "{name}");
     }

@@ -1,19 +1,18 @@
 -- Bounds of shifts.
-use Rattle.std.proofs.Common.{◌≡◌, ℕ, suc, ◌-◌, ◌*◌, ◌/◌, ◌%◌, ◌^◌, ◌<◌, ◌≤◌, refl, ap, inl, inr, ◌∙◌, arith, ℤ, pos, negsuc, SFits, to_z, of_z}
-use Rattle.std.specs.Prelude.{◌⊎◌, ◌≤ℤ◌}
-use Rattle.std.specs.Int.{w64}
+use Rattle.std.proofs.Common.{◌≡◌, ℕ, ◌*◌, ◌/◌, ◌%◌, ◌^◌, ◌<◌, ◌≤◌, refl, inl, inr, arith, ℤ, pos, negsuc, SFits, to_z, of_z}
+use Rattle.std.specs.Prelude.{◌⊎◌, ◌≤ℤ◌, FitsSigned}
+use Rattle.std.specs.Int.{w32, w64, int_shr}
 use Rattle.std.specs.Int.Signed.{shr_z, mag_shr}
-use Rattle.std.proofs.lemmas.Int.{ints, to_z-of_z}
-use Rattle.std.proofs.lemmas.Bool.{cases_lt}
-use Rattle.std.proofs.lemmas.Bool.Decides.{nat_tests}
+use Rattle.std.proofs.lemmas.Int.{ints, to_z-of_z, to_z_pos}
+use Rattle.std.proofs.Math.Facts.{sfits_to_z}
 use Rattle.std.proofs.lemmas.Nat.{mul-le, pow_pos}
 use Rattle.std.proofs.Math.Nat.{div-le_self, mod-eq_of_lt}
 use Rattle.bpf_model.specs.declared.operations.Width.{Width}
 use Rattle.bpf_model.specs.declared.operations.Width.TheVariants.{W32, W64}
-use Rattle.bpf_model.specs.Arithmetic.{modulus, bits_of, signed_right}
+use Rattle.bpf_model.specs.Arithmetic.{modulus, bits_of, signed_at, signed_right}
 use Rattle.bpf_model.specs.Words.{IsWord, signed}
 use Rattle.value_ranges.specs.In.{IsWithinUnsigned, IsWithinSigned}
-use Rattle.value_ranges.proofs.WordLemmas.{signed_small, signed_large}
+use Rattle.value_ranges.proofs.WordLemmas.{modulus_some, wrapped_below, wrapped_signed}
 use Rattle.value_ranges.proofs.ProductLemmas.{quotient_most}
 
 -- to the left, by one factor, where nothing is shifted out
@@ -70,28 +69,14 @@ shr_greatest : (z : ℤ) (m : ℕ) → (shr_z z m ≤ℤ negsuc 0) ⊎ (shr_z z 
 shr_greatest (pos a) m = inr (le_pos (a / m) a (div-le_self a m))
 shr_greatest (negsuc a) m = inl (le_neg (a / m) 0 (omega arith))
 
-right_small : (x y : ℕ) → x < 2 ^ 63 → signed_right W64 x y ≡ x / 2 ^ (y % 64)
-unfolding signed_right
-right_small x y h = grind (arith, nat_tests)
-
-right_large : (x y : ℕ) → 2 ^ 63 ≤ x → signed_right W64 x y ≡ 2 ^ 64 - 1 - (2 ^ 64 - 1 - x) / 2 ^ (y % 64)
-unfolding signed_right
-right_large x y h = grind (arith, nat_tests)
-
 -- the shift of the word is the shift of its signed reading
 signed_shift : (x y : ℕ) → IsWord x → IsWord (signed_right W64 x y) × (signed (signed_right W64 x y) ≡ shr_z (signed x) (2 ^ (y % 64)))
+unfolding signed_right
 signed_shift x y h =
-    elim (cases_lt x (2 ^ 63)) [
-      | inl t ↦
-          let less : x / 2 ^ (y % 64) ≤ x = div-le_self x (2 ^ (y % 64)) in
-          rw (right_small x y t, signed_small x t) (omega arith, signed_small (x / 2 ^ (y % 64)) (omega arith))
-      | inr t ↦
-          let less : (2 ^ 64 - 1 - x) / 2 ^ (y % 64) ≤ 2 ^ 64 - 1 - x = div-le_self (2 ^ 64 - 1 - x) (2 ^ (y % 64)) in
-          let place : 2 ^ 64 - suc x ≡ 2 ^ 64 - 1 - x = omega arith in
-          let back : 2 ^ 64 - suc (2 ^ 64 - 1 - (2 ^ 64 - 1 - x) / 2 ^ (y % 64)) ≡ (2 ^ 64 - 1 - x) / 2 ^ (y % 64) = omega arith in
-          rw (right_large x y t, signed_large x t h, place)
-          (omega arith, signed_large (2 ^ 64 - 1 - (2 ^ 64 - 1 - x) / 2 ^ (y % 64)) (omega arith) (omega arith) ∙ ap negsuc back)
-    ]
+    let shifted : ℤ = shr_z (signed x) (2 ^ (y % 64)) in
+    let read : FitsSigned w64 (signed x) = sfits_to_z (record { fits = h }) in
+    let fits : FitsSigned w64 (shr_z (signed x) (2 ^ (y % 64))) = record { sfits = omega (arith, mag_shr (signed x) (2 ^ (y % 64)), read.sfits) } in
+    (wrapped_below (2 ^ 64) shifted (omega arith), wrapped_signed shifted fits)
 
 -- by one amount
 pub shift_within : (x y : ℕ) (a b lo hi : ℤ) → IsWithinSigned x a b → lo ≡ shr_z a (2 ^ (y % 64)) → hi ≡ shr_z b (2 ^ (y % 64)) → IsWithinSigned (signed_right W64 x y) lo hi
@@ -123,10 +108,10 @@ shifted_is z m f =
 -- at 32 bits, of a number whose top bit is clear
 pub right_word : (x y : ℕ) → x < 2 ^ 31 → signed_right W32 x y ≡ x / 2 ^ (y % 32)
 unfolding signed_right
-right_word x y h = grind (arith, nat_tests)
+right_word x y h =
+    let less : x / 2 ^ (y % 32) ≤ x = div-le_self x (2 ^ (y % 32)) in
+    rw (to_z_pos w32 x h) (mod-eq_of_lt (omega (arith, h, less)))
 
-pub right_below : (width : Width) (x y : ℕ) → x < modulus width → signed_right width x y < modulus width
+pub right_below : (width : Width) (x y : ℕ) → signed_right width x y < modulus width
 unfolding signed_right
-right_below width x y h =
-    let less : x / 2 ^ (y % bits_of width) ≤ x = div-le_self x (2 ^ (y % bits_of width)) in
-    grind (arith, nat_tests)
+right_below width x y = wrapped_below (modulus width) (int_shr (signed_at width x) (y % bits_of width)) (modulus_some width)

@@ -1,15 +1,10 @@
 -- Signed quotients and remainders are numbers of their width.
-use Rattle.std.proofs.Common.{ℕ, ◌<◌, arith, ℤ, pos, negsuc}
+use Rattle.std.proofs.Common.{ℕ, ◌<◌, arith}
 use Rattle.std.specs.Prelude.{int_div, int_rem}
 use Rattle.std.proofs.lemmas.Bool.Decides.{nat_tests}
-use Rattle.std.proofs.lemmas.Nat.{mod_below}
 use Rattle.bpf_model.specs.declared.operations.Width.{Width}
 use Rattle.bpf_model.specs.Arithmetic.{modulus, wrapped, signed_at, signed_quotient, signed_remainder}
-use Rattle.value_ranges.proofs.WordLemmas.{modulus_some}
-
-wrapped_below : (m : ℕ) (z : ℤ) → 0 < m → wrapped m z < m
-wrapped_below m (pos n) h = mod_below n m h
-wrapped_below m (negsuc n) h = omega arith
+use Rattle.value_ranges.proofs.WordLemmas.{modulus_some, wrapped_below}
 
 pub signed_quotient_below : (width : Width) (x y : ℕ) → signed_quotient width x y < modulus width
 signed_quotient_below width x y =

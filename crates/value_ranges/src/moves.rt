@@ -1,6 +1,6 @@
 //! Ranges of moved, extended and reordered words.
-ghost use Rattle.std.specs.Prelude.{ℕ, ◌≡◌, ◌+◌, ◌≤◌, ◌^◌};
-ghost use Rattle.bpf_model.specs.Arithmetic.{mov_value, extended, extension_half, reordered, swap_modulus};
+ghost use Rattle.std.specs.Prelude.{ℕ, ◌≡◌, ◌+◌, ◌-◌, ◌≤◌, ◌^◌};
+ghost use Rattle.bpf_model.specs.Arithmetic.{mov_value, extended, extension_bits, reordered, swap_modulus};
 ghost use Rattle.value_ranges.specs.In.{IsIn, IsSingle};
 
 use crate::range::Range;
@@ -44,7 +44,7 @@ fn extend_low(extension: SignExtension, a: Range) -> Range
 
 // the highest of the bits that are read
 fn sign_bit(extension: SignExtension) -> u32
-    ensures value { result ≡ extension_half extension }
+    ensures value { result ≡ 2 ^ (extension_bits extension - 1) }
     ensures least { 1 ≤ result }
     ensures most { result ≤ 2 ^ 31 }
 {

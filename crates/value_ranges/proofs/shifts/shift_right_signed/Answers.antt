@@ -6,4 +6,4 @@ pub returns-then-a-lt2147483648 : goal.returns-then-a-lt2147483648
 returns-then-a-lt2147483648 c = λ x y p q. let h = rw c.in-W32.is at (c.shift_right.ensures x y p q) in rw (c.in-W32.is, right_word x y (omega arith)) h
 
 pub returns-else-a-lt2147483648 : goal.returns-else-a-lt2147483648
-returns-else-a-lt2147483648 c = λ x y p q. c.any.ensures _ (right_below c.args.width x y (omega (arith, c.requires)))
+returns-else-a-lt2147483648 c = λ x y p q. c.any.ensures _ (right_below c.args.width x y)

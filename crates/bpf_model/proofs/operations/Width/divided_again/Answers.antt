@@ -1,7 +1,7 @@
 use Rattle.std.proofs.Common.{ap, ◌∙◌}
 use Rattle.bpf_model.specs.declared.operations.AluOp.TheVariants.{Add, Mul}
 use Rattle.bpf_model.specs.Arithmetic.{alu_value}
-use Rattle.bpf_model.proofs.ArithmeticLaws.{signed_division, signed_remainder_near, signed_remainder_not_negative, signed_remainder_not_positive}
+use Rattle.bpf_model.proofs.ArithmeticLaws.{signed_division, signed_division_exact, signed_quotient_by_zero, least_by_minus_one, signed_remainder_near, signed_remainder_not_negative, signed_remainder_not_positive}
 use Rattle.bpf_model.proofs.operations.Width.divided_again.Goals as goal
 
 pub returns-clause-value : goal.returns-clause-value
@@ -14,6 +14,15 @@ returns-clause-value c =
 
 pub returns-clause-whole : goal.returns-clause-whole
 returns-clause-whole c = signed_division c.args.self c.args.dividend c.args.divisor
+
+pub returns-clause-exact : goal.returns-clause-exact
+returns-clause-exact c = signed_division_exact c.args.self c.args.dividend c.args.divisor
+
+pub returns-clause-by_zero : goal.returns-clause-by_zero
+returns-clause-by_zero c = signed_quotient_by_zero c.args.self c.args.dividend c.args.divisor
+
+pub returns-clause-least : goal.returns-clause-least
+returns-clause-least c = least_by_minus_one c.args.self c.args.dividend c.args.divisor
 
 pub returns-clause-near : goal.returns-clause-near
 returns-clause-near c = signed_remainder_near c.args.self c.args.dividend c.args.divisor
