@@ -11,6 +11,7 @@ use Rattle.std.proofs.lemmas.Nat.{mod_below, or_lt, xor_lt, and_le_l, shr_le}
 use Rattle.std.proofs.lemmas.Int.{ints, to_z-of_z, of_z-to_z, wrapping_add-bits, wrapping_mul-bits, int_wrap-mul_left, int_wrap-add_left, int_wrap-add_right, int_wrap_fits, quot-rem, rem_below, fits_signed_from_abs}
 use Rattle.std.proofs.Math.Facts.{sfits_to_z}
 use Rattle.std.proofs.Math.Nat.{mod-le, div-le_self, div-lt_self, div-one, mod-eq_of_lt, zero-mod}
+use Rattle.bpf_model.proofs.SignedLemmas.{modulus_some, wrapped_below}
 use Rattle.bpf_model.specs.declared.operations.AluOp.{AluOp}
 use Rattle.bpf_model.specs.declared.operations.AluOp.TheVariants.{Add, Sub, Mul, Div, SDiv, Or, And, Lsh, Rsh, Mod, SMod, Xor, Arsh}
 use Rattle.bpf_model.specs.declared.operations.Width.{Width}
@@ -24,17 +25,9 @@ modulus_is : (width : Width) → modulus width ≡ 2 ^ bits_of width
 modulus_is W32 = refl
 modulus_is W64 = refl
 
-modulus_some : (width : Width) → 0 < modulus width
-modulus_some W32 = omega arith
-modulus_some W64 = omega arith
-
 -- what is left modulo a width is a number of the width
 pub low_below : (width : Width) (n : ℕ) → n % modulus width < modulus width
 low_below width n = mod_below n (modulus width) (modulus_some width)
-
-wrapped_below : (m : ℕ) (z : ℤ) → 0 < m → wrapped m z < m
-wrapped_below m (pos n) h = mod_below n m h
-wrapped_below m (negsuc n) h = omega arith
 
 signed_right_below : (width : Width) (x y : ℕ) → signed_right width x y < modulus width
 unfolding signed_right

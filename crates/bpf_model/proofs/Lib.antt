@@ -1,6 +1,7 @@
 pub mod Options
 pub mod MemoryLemmas
 pub mod WordLemmas
+pub mod SignedLemmas
 pub mod ProgramLemmas
 pub mod StepLemmas
 pub mod RunLemmas

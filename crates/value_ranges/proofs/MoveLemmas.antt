@@ -20,7 +20,7 @@ use Rattle.bpf_model.specs.declared.operations.SwapWidth.TheVariants.{S16, S32, 
 use Rattle.bpf_model.specs.Arithmetic.{modulus, wrapped, extended, low_signed, extension_width, extension_bits, swap_modulus, reversed, reordered}
 use Rattle.bpf_model.specs.Words.{IsWord}
 use Rattle.value_ranges.specs.In.{IsWithinSigned}
-use Rattle.value_ranges.proofs.WordLemmas.{modulus_some, wrapped_below, wrapped_signed}
+use Rattle.bpf_model.proofs.SignedLemmas.{modulus_some, wrapped_below, wrapped_signed}
 
 -- only the low part of a word counts
 extended_part : (e : SignExtension) (x : ℕ) → IsWord x → extended e (x % modulus (extension_width e)) ≡ extended e x

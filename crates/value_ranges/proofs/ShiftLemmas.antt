@@ -12,7 +12,7 @@ use Rattle.bpf_model.specs.declared.operations.Width.TheVariants.{W32, W64}
 use Rattle.bpf_model.specs.Arithmetic.{modulus, bits_of, signed_at, signed_right}
 use Rattle.bpf_model.specs.Words.{IsWord, signed}
 use Rattle.value_ranges.specs.In.{IsWithinUnsigned, IsWithinSigned}
-use Rattle.value_ranges.proofs.WordLemmas.{modulus_some, wrapped_below, wrapped_signed}
+use Rattle.bpf_model.proofs.SignedLemmas.{modulus_some, wrapped_below, wrapped_signed}
 use Rattle.value_ranges.proofs.ProductLemmas.{quotient_most}
 
 -- to the left, by one factor, where nothing is shifted out

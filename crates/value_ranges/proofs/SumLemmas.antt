@@ -4,7 +4,7 @@ use Rattle.std.specs.Prelude.{◌+ℤ◌, ◌-ℤ◌}
 use Rattle.std.specs.Int.{w64}
 use Rattle.std.proofs.lemmas.Int.{ints}
 use Rattle.value_ranges.specs.In.{IsWithinSigned}
-use Rattle.value_ranges.proofs.WordLemmas.{biased}
+use Rattle.bpf_model.proofs.SignedLemmas.{biased}
 
 -- where both sums of bounds fit, they bound the sum
 pub sum_within : (x y : ℕ) (a b c d lo hi : ℤ) → IsWithinSigned x a b → IsWithinSigned y c d → lo ≡ a +ℤ c → hi ≡ b +ℤ d → SFits w64 lo → SFits w64 hi → IsWithinSigned ((x + y) % 2 ^ 64) lo hi

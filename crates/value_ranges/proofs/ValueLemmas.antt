@@ -4,7 +4,7 @@ use Rattle.std.specs.Prelude.{int_div, int_rem}
 use Rattle.std.proofs.lemmas.Bool.Decides.{nat_tests}
 use Rattle.bpf_model.specs.declared.operations.Width.{Width}
 use Rattle.bpf_model.specs.Arithmetic.{modulus, wrapped, signed_at, signed_quotient, signed_remainder}
-use Rattle.value_ranges.proofs.WordLemmas.{modulus_some, wrapped_below}
+use Rattle.bpf_model.proofs.SignedLemmas.{modulus_some, wrapped_below}
 
 pub signed_quotient_below : (width : Width) (x y : ℕ) → signed_quotient width x y < modulus width
 signed_quotient_below width x y =

@@ -1,6 +1,6 @@
 use Rattle.std.proofs.Common.{arith, rules, SFits, w64}
 use Rattle.std.proofs.lemmas.Int.{ints, to_z-of_z}
-use Rattle.value_ranges.proofs.WordLemmas.{biased}
+use Rattle.bpf_model.proofs.SignedLemmas.{biased}
 use Rattle.value_ranges.proofs.exclusion.without.Goals as goal
 
 pub returns-in_default : goal.returns-in_default

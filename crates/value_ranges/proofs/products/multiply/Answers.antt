@@ -1,6 +1,7 @@
 use Rattle.std.proofs.Common.{arith}
 use Rattle.std.proofs.lemmas.Nat.{mod_below}
-use Rattle.value_ranges.proofs.WordLemmas.{unsigned_part, modulus_most, modulus_some}
+use Rattle.bpf_model.proofs.SignedLemmas.{modulus_most, modulus_some}
+use Rattle.value_ranges.proofs.WordLemmas.{unsigned_part}
 use Rattle.value_ranges.proofs.ProductLemmas.{product_within}
 use Rattle.value_ranges.proofs.products.multiply.Goals as goal
 

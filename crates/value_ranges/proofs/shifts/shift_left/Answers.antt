@@ -1,7 +1,8 @@
 use Rattle.std.proofs.Common.{◌%◌, ◌^◌, arith, ap, ◌∙◌, sym}
 use Rattle.std.proofs.lemmas.Nat.{mod_below, one_shl}
 use Rattle.bpf_model.specs.Arithmetic.{bits_of}
-use Rattle.value_ranges.proofs.WordLemmas.{unsigned_part, modulus_most, modulus_some}
+use Rattle.bpf_model.proofs.SignedLemmas.{modulus_most, modulus_some}
+use Rattle.value_ranges.proofs.WordLemmas.{unsigned_part}
 use Rattle.value_ranges.proofs.ShiftLemmas.{shl_within}
 use Rattle.value_ranges.proofs.shifts.shift_left.Goals as goal
 

@@ -1,6 +1,6 @@
 use Rattle.std.proofs.Common.{arith, inl, inr}
 use Rattle.std.proofs.lemmas.Int.{ints, clamps}
-use Rattle.value_ranges.proofs.WordLemmas.{biased}
+use Rattle.bpf_model.proofs.SignedLemmas.{biased}
 use Rattle.value_ranges.proofs.bounds.Bounds.with_unsigned.Goals as goal
 
 pub returns-then-umin-ge9223372036854775808 : goal.returns-then-umin-ge9223372036854775808
