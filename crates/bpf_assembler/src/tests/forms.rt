@@ -1,7 +1,7 @@
 //! Whole programs, and numbers at their limits.
-use super::{is_read_back, number_and_line, register};
+use super::{is_read_back, is_text_of, number_and_line, register};
 use crate::{AsmFault, assemble, disassemble};
-use bpf_model::{AccessSize, AluOp, Insn, LoadKind, Operand, Program, Width};
+use bpf_model::{AccessSize, AluOp, Insn, JumpOp, LoadKind, Operand, Program, Width};
 use std::test::*;
 
 #[test]
@@ -91,6 +91,78 @@ fn numbers_at_their_limits_are_read_back(rt: HostRuntime) {
 }
 
 #[test]
+fn stores_have_numbers_at_their_limits(rt: HostRuntime) {
+    let dst = register(&rt, 1);
+    let byte = AccessSize::Byte;
+    let src = Operand::Register(register(&rt, 0));
+    let least = Operand::Immediate(-2_147_483_648);
+    let greatest = Operand::Immediate(2_147_483_647);
+    for (text, size, src, offset) in [
+        ("stxb [r1+32767], r0\n", byte, src, 32767),
+        (
+            "std [r1-32768], -2147483648\n",
+            AccessSize::DoubleWord,
+            least,
+            -32768,
+        ),
+        ("stb [r1+0], 2147483647\n", byte, greatest, 0),
+    ] {
+        let insn = Insn::Store {
+            size,
+            dst,
+            src,
+            offset,
+        };
+        assert!(rt; is_text_of(rt.alloc(), text, insn), "{text}");
+    }
+}
+
+#[test]
+fn branches_have_numbers_at_their_limits(rt: HostRuntime) {
+    let dst = register(&rt, 0);
+    for (text, width, imm, distance) in [
+        (
+            "jeq64 r0, -2147483648, +32767\n",
+            Width::W64,
+            -2_147_483_648,
+            32767,
+        ),
+        (
+            "jeq32 r0, 2147483647, -32768\n",
+            Width::W32,
+            2_147_483_647,
+            -32768,
+        ),
+    ] {
+        let insn = Insn::Branch {
+            test: JumpOp::Eq,
+            width,
+            dst,
+            src: Operand::Immediate(imm),
+            distance,
+        };
+        assert!(rt; is_text_of(rt.alloc(), text, insn), "{text}");
+    }
+}
+
+#[test]
+fn arithmetic_has_numbers_at_their_limits(rt: HostRuntime) {
+    let dst = register(&rt, 0);
+    for (text, imm) in [
+        ("add64 r0, 2147483647\n", 2_147_483_647),
+        ("add64 r0, -2147483648\n", -2_147_483_648),
+    ] {
+        let insn = Insn::Alu {
+            op: AluOp::Add,
+            width: Width::W64,
+            dst,
+            src: Operand::Immediate(imm),
+        };
+        assert!(rt; is_text_of(rt.alloc(), text, insn), "{text}");
+    }
+}
+
+#[test]
 fn numbers_past_their_limits_are_out_of_range(rt: HostRuntime) {
     for text in [
         "mov64 r11, 0\n",
@@ -103,12 +175,21 @@ fn numbers_past_their_limits_are_out_of_range(rt: HostRuntime) {
         "ldb r0, [r1+32768]\n",
         "ldb r0, [r1-32769]\n",
         "ldb r0, [r11+0]\n",
+        "stxb [r1+32768], r0\n",
+        "stb [r1-32769], 0\n",
+        "stxb [r11+0], r0\n",
+        "stxb [r1+0], r11\n",
         "stb [r1+0], 2147483648\n",
+        "stb [r1+0], -2147483649\n",
+        "sx8to64 r0, r11\n",
         "ja +32768\n",
         "ja -32769\n",
         "jal +2147483648\n",
         "jal -2147483649\n",
         "jeq64 r0, 0, +32768\n",
+        "jeq64 r0, 0, -32769\n",
+        "jeq64 r0, 2147483648, +0\n",
+        "wide r11, 0\n",
         "wide r0, 18446744073709551616\n",
         "ldb r0, [r1+32768\n",
         "mov64 r11 0\n",

@@ -1,5 +1,6 @@
-//! The programs of docs/PROGRAMS.md, from their text to their answer; and texts that are made up.
+//! The programs of docs/PROGRAMS.md, from their text to their answer; and programs that are made up.
 use super::memory::run_words;
+use std::alloc::{AllocError, Global};
 use std::fmt::Write;
 use std::process::Abort;
 use std::test::Fail;
@@ -98,52 +99,247 @@ fn worked_programs_answer_as_written(rt: HostRuntime) -> Result<(), Fail> {
     Ok(())
 }
 
-/// A line with numbers out of the seed.
-fn write_line(text: &mut String, seed: u64) -> Result<(), std::alloc::AllocError> {
-    let dst = (seed >> 8) % 11;
-    let src = (seed >> 16) % 11;
-    let near = ((seed >> 24) % 0x1_0000) as u16;
-    let near = near.cast_signed();
-    let far = (seed >> 32) as u32;
-    let far = far.cast_signed();
-    match (seed >> 40) % 14 {
-        0 => write!(text, "add64 r{dst}, r{src}\n"),
-        1 => write!(text, "smod32 r{dst}, {far}\n"),
-        2 => write!(text, "neg32 r{dst}\n"),
-        3 => write!(text, "sx32to64 r{dst}, r{src}\n"),
-        4 => write!(text, "be32 r{dst}\n"),
-        5 => write!(text, "wide r{dst}, {seed}\n"),
-        6 => write!(text, "ldsh r{dst}, [r{src}{near:+}]\n"),
-        7 => write!(text, "stxw [r{dst}{near:+}], r{src}\n"),
-        8 => write!(text, "stb [r{dst}{near:+}], {far}\n"),
-        9 => write!(text, "ja {near:+}\n"),
-        10 => write!(text, "jal {far:+}\n"),
-        11 => write!(text, "jsle32 r{dst}, {far}, {near:+}\n"),
-        12 => write!(text, "jset64 r{dst}, r{src}, {near:+}\n"),
-        _ => write!(text, "exit\n"),
+/// A program that is made up: its text, and the hex of the same instructions.
+#[derive(Drop)]
+struct MadeUp {
+    text: String,
+    hex: String,
+    seed: u64,
+}
+
+impl MadeUp {
+    fn new(alloc: Global, seed: u64) -> MadeUp {
+        MadeUp {
+            text: String::new(alloc),
+            hex: String::new(alloc),
+            seed,
+        }
+    }
+
+    /// The next 32 bits of a fixed sequence.
+    fn bits(&mut self) -> u32 {
+        self.seed = self
+            .seed
+            .wrapping_mul(6_364_136_223_846_793_005)
+            .wrapping_add(1_442_695_040_888_963_407);
+        (self.seed >> 32) as u32
+    }
+
+    fn register(&mut self) -> u8 {
+        (self.bits() % 11) as u8
+    }
+
+    fn offset(&mut self) -> i16 {
+        ((self.bits() % 0x1_0000) as u16).cast_signed()
+    }
+
+    fn imm(&mut self) -> i32 {
+        self.bits().cast_signed()
+    }
+
+    /// A unit: its opcode, registers, offset and immediate, little-endian.
+    fn unit(
+        &mut self,
+        opcode: u8,
+        dst: u8,
+        src: u8,
+        offset: i16,
+        imm: i32,
+    ) -> Result<(), AllocError> {
+        let [o0, o1] = offset.cast_unsigned().to_le_bytes();
+        let [i0, i1, i2, i3] = imm.cast_unsigned().to_le_bytes();
+        write!(
+            self.hex,
+            "{opcode:02x} {src:x}{dst:x} {o0:02x} {o1:02x} {i0:02x} {i1:02x} {i2:02x} {i3:02x}\n"
+        )
     }
 }
 
-#[test]
-fn texts_that_are_made_up_are_read_back(rt: HostRuntime) -> Result<(), Fail> {
-    let mut seed = 1u64;
-    for _ in 0..16 {
-        let mut text = String::new(rt.alloc());
-        for _ in 0..32 {
-            seed = seed
-                .wrapping_mul(6_364_136_223_846_793_005)
-                .wrapping_add(1_442_695_040_888_963_407);
-            write_line(&mut text, seed)?;
+/// The opcode of an operation and of what stands in its low four bits: the class and where the source is.
+fn opcode(operation: u8, low: u8) -> u8 {
+    operation.wrapping_mul(16).wrapping_add(low)
+}
+
+// Operations with two operands; an offset tells the signed ones apart.
+const OPERATIONS: [(&str, u8, i16); 14] = [
+    ("add", 0, 0),
+    ("sub", 1, 0),
+    ("mul", 2, 0),
+    ("div", 3, 0),
+    ("sdiv", 3, 1),
+    ("or", 4, 0),
+    ("and", 5, 0),
+    ("lsh", 6, 0),
+    ("rsh", 7, 0),
+    ("mod", 9, 0),
+    ("smod", 9, 1),
+    ("xor", 10, 0),
+    ("mov", 11, 0),
+    ("arsh", 12, 0),
+];
+
+fn add_operations(made: &mut MadeUp) -> Result<(), AllocError> {
+    for (word, operation, offset) in OPERATIONS {
+        for (width, of_imm, of_register) in [("32", 4, 12), ("64", 7, 15)] {
+            let (dst, src, imm) = (made.register(), made.register(), made.imm());
+            write!(made.text, "{word}{width} r{dst}, {imm}\n")?;
+            made.unit(opcode(operation, of_imm), dst, 0, offset, imm)?;
+            write!(made.text, "{word}{width} r{dst}, r{src}\n")?;
+            made.unit(opcode(operation, of_register), dst, src, offset, 0)?;
         }
-        let assembled = run_words(rt.alloc(), "asm", &text)?;
-        let Ok(hex) = str::from_utf8(&assembled.output) else {
-            return Err(Fail::from("no hex"));
-        };
-        let written = run_words(rt.alloc(), "disasm", hex)?;
-        let is_same = written.output.as_slice() == text.as_bytes();
-        assert!(rt; assembled.status == 0 && is_same, "{text}");
-        let again = run_words(rt.alloc(), "asm", &text)?;
-        assert!(rt; again.output.as_slice() == hex.as_bytes(), "{text}");
+    }
+    Ok(())
+}
+
+// Operations on one register; the immediate is the width of a change of byte order.
+const CHANGES: [(&str, u8, i32); 11] = [
+    ("neg32", 0x84, 0),
+    ("neg64", 0x87, 0),
+    ("le16", 0xd4, 16),
+    ("le32", 0xd4, 32),
+    ("le64", 0xd4, 64),
+    ("be16", 0xdc, 16),
+    ("be32", 0xdc, 32),
+    ("be64", 0xdc, 64),
+    ("swap16", 0xd7, 16),
+    ("swap32", 0xd7, 32),
+    ("swap64", 0xd7, 64),
+];
+
+// Moves with sign extension; the offset is the width that is extended.
+const EXTENSIONS: [(&str, u8, i16); 5] = [
+    ("sx8to32", 0xbc, 8),
+    ("sx16to32", 0xbc, 16),
+    ("sx8to64", 0xbf, 8),
+    ("sx16to64", 0xbf, 16),
+    ("sx32to64", 0xbf, 32),
+];
+
+fn add_changes(made: &mut MadeUp) -> Result<(), AllocError> {
+    for (name, opcode, imm) in CHANGES {
+        let dst = made.register();
+        write!(made.text, "{name} r{dst}\n")?;
+        made.unit(opcode, dst, 0, 0, imm)?;
+    }
+    for (name, opcode, offset) in EXTENSIONS {
+        let (dst, src) = (made.register(), made.register());
+        write!(made.text, "{name} r{dst}, r{src}\n")?;
+        made.unit(opcode, dst, src, offset, 0)?;
+    }
+    Ok(())
+}
+
+fn add_accesses(made: &mut MadeUp) -> Result<(), AllocError> {
+    for (name, opcode) in [
+        ("ldb", 0x71),
+        ("ldh", 0x69),
+        ("ldw", 0x61),
+        ("ldd", 0x79),
+        ("ldsb", 0x91),
+        ("ldsh", 0x89),
+        ("ldsw", 0x81),
+    ] {
+        let (dst, src, offset) = (made.register(), made.register(), made.offset());
+        write!(made.text, "{name} r{dst}, [r{src}{offset:+}]\n")?;
+        made.unit(opcode, dst, src, offset, 0)?;
+    }
+    for (size, of_register, of_imm) in [
+        ("b", 0x73, 0x72),
+        ("h", 0x6b, 0x6a),
+        ("w", 0x63, 0x62),
+        ("d", 0x7b, 0x7a),
+    ] {
+        let (dst, src, offset) = (made.register(), made.register(), made.offset());
+        let imm = made.imm();
+        write!(made.text, "stx{size} [r{dst}{offset:+}], r{src}\n")?;
+        made.unit(of_register, dst, src, offset, 0)?;
+        write!(made.text, "st{size} [r{dst}{offset:+}], {imm}\n")?;
+        made.unit(of_imm, dst, 0, offset, imm)?;
+    }
+    Ok(())
+}
+
+const CONDITIONS: [(&str, u8); 11] = [
+    ("jeq", 1),
+    ("jgt", 2),
+    ("jge", 3),
+    ("jset", 4),
+    ("jne", 5),
+    ("jsgt", 6),
+    ("jsge", 7),
+    ("jlt", 10),
+    ("jle", 11),
+    ("jslt", 12),
+    ("jsle", 13),
+];
+
+fn add_branches(made: &mut MadeUp) -> Result<(), AllocError> {
+    for (word, condition) in CONDITIONS {
+        for (width, of_imm, of_register) in [("64", 5, 13), ("32", 6, 14)] {
+            let (dst, src, offset) = (made.register(), made.register(), made.offset());
+            let imm = made.imm();
+            write!(made.text, "{word}{width} r{dst}, {imm}, {offset:+}\n")?;
+            made.unit(opcode(condition, of_imm), dst, 0, offset, imm)?;
+            write!(made.text, "{word}{width} r{dst}, r{src}, {offset:+}\n")?;
+            made.unit(opcode(condition, of_register), dst, src, offset, 0)?;
+        }
+    }
+    Ok(())
+}
+
+fn add_others(made: &mut MadeUp) -> Result<(), AllocError> {
+    let (dst, low, high) = (made.register(), made.bits(), made.bits());
+    let value = u64::from(high) * 0x1_0000_0000 + u64::from(low);
+    write!(made.text, "wide r{dst}, {value}\n")?;
+    made.unit(0x18, dst, 0, 0, low.cast_signed())?;
+    made.unit(0, 0, 0, 0, high.cast_signed())?;
+    let (offset, imm) = (made.offset(), made.imm());
+    write!(made.text, "ja {offset:+}\n")?;
+    made.unit(0x05, 0, 0, offset, 0)?;
+    write!(made.text, "jal {imm:+}\n")?;
+    made.unit(0x06, 0, 0, 0, imm)?;
+    write!(made.text, "exit\n")?;
+    made.unit(0x95, 0, 0, 0, 0)
+}
+
+/// A program of 408 units that has each instruction three times.
+fn made_up(alloc: Global, seed: u64) -> Result<MadeUp, AllocError> {
+    let mut made = MadeUp::new(alloc, seed);
+    for _ in 0..3 {
+        add_operations(&mut made)?;
+        add_changes(&mut made)?;
+        add_accesses(&mut made)?;
+        add_branches(&mut made)?;
+        add_others(&mut made)?;
+    }
+    Ok(made)
+}
+
+/// What the command prints on this input.
+fn printed(alloc: Global, command: &str, input: &[u8]) -> Result<Vec<u8>, Fail> {
+    let Ok(input) = str::from_utf8(input) else {
+        return Err(Fail::from("no text"));
+    };
+    Ok(run_words(alloc, command, input)?.output)
+}
+
+#[test]
+fn programs_that_are_made_up_are_read_back(rt: HostRuntime) -> Result<(), Fail> {
+    for seed in 1..5 {
+        let made = made_up(rt.alloc(), seed)?;
+        let text = printed(rt.alloc(), "disasm", made.hex.as_bytes())?;
+        let hex = printed(rt.alloc(), "asm", text.as_slice())?;
+        assert!(rt; hex.as_slice() == made.hex.as_bytes(), "hex of seed {seed}");
+        let hex = printed(rt.alloc(), "asm", made.text.as_bytes())?;
+        let text = printed(rt.alloc(), "disasm", hex.as_slice())?;
+        assert!(rt;
+            text.as_slice() == made.text.as_bytes(),
+            "text of seed {seed}"
+        );
+        assert!(rt;
+            hex.as_slice() == made.hex.as_bytes(),
+            "units of seed {seed}"
+        );
     }
     Ok(())
 }
