@@ -1,5 +1,6 @@
 pub mod AccessLemmas
 pub mod WindowLemmas
+pub mod EntryLemmas
 pub mod PlaceLemmas
 pub mod ActLemmas
 pub mod ExecutionLemmas

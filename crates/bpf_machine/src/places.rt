@@ -1,20 +1,10 @@
 //! Places in the list of instructions, by the units that the instructions take.
 ghost use Rattle.std.specs.Prelude.{◌≡◌, ◌≤◌, ◌<◌, length, take, IsSome};
-ghost use Rattle.bpf_model.specs.Program.{IsProgram, units_of, unit_count, instruction_at};
+ghost use Rattle.bpf_model.specs.Program.{IsProgram, unit_count, instruction_at};
 ghost use Rattle.bpf_machine.specs.Places.{HasTarget, IsPlaceAfter};
 
 use bpf_model::Insn;
 use bpf_model::limits::PROGRAM_UNITS;
-
-/// How many units an instruction takes.
-fn units(insn: Insn) -> usize
-    ensures { result ≡ units_of insn }
-{
-    match insn {
-        Insn::Wide { .. } => 2,
-        _ => 1,
-    }
-}
 
 /// The units of all the instructions.
 fn units_of_all(instructions: &[Insn]) -> usize
@@ -23,7 +13,7 @@ fn units_of_all(instructions: &[Insn]) -> usize
 {
     let mut count = 0;
     for insn in instructions {
-        count += units(*insn);
+        count += insn.units();
     }
     count
 }
@@ -39,7 +29,7 @@ fn place_of(instructions: &[Insn], unit: usize) -> usize
         if left == 0 {
             return place;
         }
-        left -= units(*insn);
+        left -= insn.units();
     }
     unreachable!()
 }

@@ -16,7 +16,7 @@ overflow_sub-left c =
     let insn = c.index-instructions-place.result in
     let here = slice_get_read xs (length xs) k insn refl c.loop-place-test.true c.index-instructions-place.is in
     let passed = passes xs k insn c.loop-place.left here (omega (arith, c.if-left-eq0.false)) c.loop-place.invariant.starts in
-    omega (arith, passed.0, c.units-left.ensures)
+    omega (arith, passed.0, c.units-left.ensures.value)
 
 pub loop-place-preserved : goal.loop-place-preserved
 loop-place-preserved c =
@@ -26,7 +26,7 @@ loop-place-preserved c =
     let here = slice_get_read xs (length xs) k insn refl c.loop-place-test.true c.index-instructions-place.is in
     let passed = passes xs k insn c.loop-place.left here (omega (arith, c.if-left-eq0.false)) c.loop-place.invariant.starts in
     let next = unit_count-next xs k insn here in
-    rw (add-one, c.units-left.ensures) (record { counted = omega (arith, next, passed.0, c.loop-place.invariant.counted); starts = passed.1 })
+    rw (add-one, c.units-left.ensures.value) (record { counted = omega (arith, next, passed.0, c.loop-place.invariant.counted); starts = passed.1 })
 
 pub unreachable-requires : goal.unreachable-requires
 unreachable-requires c = none_past c.args.instructions.now c.loop-place.place c.loop-place.left c.loop-place-test.false c.loop-place.invariant.starts

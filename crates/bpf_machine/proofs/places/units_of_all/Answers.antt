@@ -15,7 +15,7 @@ overflow_add-count c =
     let here = slice_get_read xs (length xs) k c.insn-item.result refl c.loop-insn-test.true c.insn-item.is in
     let next = unit_count-next xs k c.insn-item.result here in
     let part = unit_count-take xs (suc k) in
-    let small : c.loop-insn.count + c.units-count.result ≤ 512 = omega (arith, c.loop-insn.invariant, c.units-count.ensures, next, part, c.requires) in
+    let small : c.loop-insn.count + c.units-count.result ≤ 512 = omega (arith, c.loop-insn.invariant, c.units-count.ensures.value, next, part, c.requires) in
     search rules
 
 pub loop-insn-preserved : goal.loop-insn-preserved
@@ -24,4 +24,4 @@ loop-insn-preserved c =
     let k = c.loop-insn.insn-index in
     let here = slice_get_read xs (length xs) k c.insn-item.result refl c.loop-insn-test.true c.insn-item.is in
     let next = unit_count-next xs k c.insn-item.result here in
-    rw add-one (omega (arith, c.loop-insn.invariant, c.units-count.ensures, next))
+    rw add-one (omega (arith, c.loop-insn.invariant, c.units-count.ensures.value, next))
