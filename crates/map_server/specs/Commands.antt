@@ -1,5 +1,5 @@
 -- What is true where a command reports so: of the text on standard input, and of the words of the command line.
-use Rattle.std.specs.Prelude.{◌≡◌, ◌↔◌, ◌⊎◌, ◌<◌, ℕ, List, length, Option, Some, None, Err}
+use Rattle.std.specs.Prelude.{◌≡◌, ◌↔◌, ◌⊎◌, ◌<◌, ◌≤◌, ℕ, List, length, Option, Some, None, Err}
 use Rattle.std.specs.Borrow.{Bor}
 use Rattle.std.specs.Str.{IsUtf8}
 use Rattle.bpf_model.specs.declared.input.Sizes.{Sizes}
@@ -8,6 +8,7 @@ use Rattle.bpf_model.specs.declared.instruction.Insn.{Insn}
 use Rattle.bpf_model.specs.declared.limits.TheConstants.{KEY_BYTES, VALUE_BYTES}
 use Rattle.bpf_model.specs.Fits.{Fits, first_unfit}
 use Rattle.bpf_model.specs.Meaning.{IsSafe, Means}
+use Rattle.bpf_model.specs.Program.{unit_count}
 use Rattle.bpf_model.specs.Spelling.{Spells}
 use Rattle.bpf_assembler.specs.Text.{IsTextOf}
 use Rattle.bpf_assembler.specs.Faults as assemble
@@ -15,7 +16,7 @@ use Rattle.bpf_assembler.specs.declared.fault.AsmFault.TheVariants as asm_faults
 use Rattle.bpf_decode.specs.Faults as decode
 use Rattle.bpf_decode.specs.declared.fault.DecodeFault.TheVariants as decode_faults
 use Rattle.flow_shape.specs.FlowShape as flow
-use Rattle.verifier.specs.Faults.{ExceedLimits}
+use Rattle.verifier.specs.Faults.{unit_of, ExceedLimits}
 use Rattle.verifier.specs.declared.fault.VerifyFault.TheVariants.{SizesTooLarge}
 use Rattle.map_server.specs.Hex.{SpellsBytes, IsFault}
 use Rattle.map_server.specs.declared.words.RunTexts.{RunTexts}
@@ -38,16 +39,20 @@ pub record SpellsSafe (text : List ℕ) (sizes : Sizes) (program : List Insn) : 
   pub spelled : SpellsProgram text program
   pub safe : IsSafe program sizes
 
+-- hex text spells this key
+abbrev pub SpellsKey : List ℕ → List ℕ → Type 0
+SpellsKey text key = SpellsBytes text key × (length key ≤ KEY_BYTES)
+
 -- hex text spells this value; where there is no text there is no value
 abbrev pub SpellsValue : Option (Bor (List ℕ)) → Option (List ℕ) → Type 0
 SpellsValue None None = Unit {0}
 SpellsValue None (Some value) = ⊥
 SpellsValue (Some text) None = ⊥
-SpellsValue (Some text) (Some value) = SpellsBytes text.now value
+SpellsValue (Some text) (Some value) = SpellsBytes text.now value × (length value ≤ VALUE_BYTES)
 
 -- the texts of the command line spell this input
 pub record SpellsInput (texts : RunTexts) (input : Input) : Type 0 where
-  pub key : SpellsBytes texts.key.now input.key
+  pub key : SpellsKey texts.key.now input.key
   pub old : SpellsValue texts.old input.old
   pub arg : SpellsValue texts.arg input.arg
 
@@ -70,7 +75,8 @@ IsProgramRefused text sizes (Assemble fault) = ⊥
 IsProgramRefused text sizes (Decode fault) = IsBytesRefused text (Decode fault)
 IsProgramRefused text sizes (Flow fault) = (program : List Insn) × SpellsProgram text program × flow.IsFirstFault program fault
 IsProgramRefused text sizes (Verify fault) =
-    (program : List Insn) × SpellsProgram text program × flow.IsWellShaped program × ((fault ≡ SizesTooLarge) ↔ ExceedLimits sizes)
+    (program : List Insn) × SpellsProgram text program × flow.IsWellShaped program
+    × (unit_of fault < unit_count program) × ((fault ≡ SizesTooLarge) ↔ ExceedLimits sizes)
 
 -- why the text spells no value of at most this many bytes
 abbrev pub IsTextRefused : List ℕ → ℕ → Refusal → Type 0
@@ -90,7 +96,7 @@ IsValueRefused (Some text) refusal = IsTextRefused text.now VALUE_BYTES refusal
 abbrev pub IsInputRefused : RunTexts → Refusal → Type 0
 IsInputRefused texts refusal =
     IsTextRefused texts.key.now KEY_BYTES refusal
-    ⊎ ((key : List ℕ) × SpellsBytes texts.key.now key
+    ⊎ ((key : List ℕ) × SpellsKey texts.key.now key
     × (IsValueRefused texts.old refusal
     ⊎ ((old : Option (List ℕ)) × SpellsValue texts.old old × IsValueRefused texts.arg refusal)))
 
@@ -124,10 +130,11 @@ IsAsmRefused text (Decode fault) = ⊥
 IsAsmRefused text (Flow fault) = ⊥
 IsAsmRefused text (Verify fault) = ⊥
 
--- the bytes of the program whose text it is are printed
+-- the bytes of the program whose text it is are printed, in hex that spells the program
 abbrev pub IsAsmReport : List ℕ → Report → Type 0
 IsAsmReport text (Text printed) =
-    (program : List Insn) × IsTextOf text program × ((bytes : List ℕ) × Spells bytes program × (printed.items ≡ unit_lines bytes))
+    (program : List Insn) × IsTextOf text program
+    × ((spelled : SpellsProgram printed.items program) × (printed.items ≡ unit_lines spelled.bytes))
 IsAsmReport text Accepted = ⊥
 IsAsmReport text (Answered answer) = ⊥
 IsAsmReport text (Unfit window) = ⊥

@@ -1,5 +1,5 @@
 -- How a program ends: what it printed, and which line it told of a device that failed.
-use Rattle.std.specs.Prelude.{◌≡◌, ◌+◌, ◌⊎◌, ℕ, List, Option, IfSome}
+use Rattle.std.specs.Prelude.{◌≡◌, ◌+◌, ◌⊎◌, ℕ, List, Option, IfSome, codes}
 use Rattle.std.specs.Str.{IsUtf8}
 use Rattle.std.specs.Io.KnownBytes.{Appends}
 use Rattle.map_server.specs.declared.words.Command.{Command}
@@ -23,3 +23,7 @@ Tells failures failures' held held' line = failures' ≡ failures → Appends he
 abbrev pub FailsToRead : Command → ℕ → ℕ → Option (List ℕ) → Type 0
 FailsToRead command failures failures' left =
     (failures' ≡ failures + 1) ⊎ ((failures' ≡ failures) × ((command ≡ Asm) × IfSome left (λ text. IsUtf8 text → ⊥)))
+
+-- a write failed: the sink counted it, and the other sink was told
+abbrev pub FailsToWrite : ℕ → ℕ → ℕ → ℕ → Option (List ℕ) → Option (List ℕ) → Type 0
+FailsToWrite failures failures' tells tells' told told' = (failures' ≡ failures + 1) × Tells tells tells' told told' (codes "failed write\n")

@@ -4,7 +4,7 @@ ghost use Rattle.std.specs.Io.KnownBytes.{Appends};
 ghost use Rattle.std.specs.IoError.{error_kind};
 ghost use Rattle.std.specs.declared.io.ErrorKind.TheVariants.{OutOfMemory};
 ghost use Rattle.map_server.specs.Commands.{IsReport};
-ghost use Rattle.map_server.specs.Endings.{Prints, Tells, FailsToRead};
+ghost use Rattle.map_server.specs.Endings.{Prints, Tells, FailsToRead, FailsToWrite};
 ghost use Rattle.map_server.specs.Reports.{text_of, status_of};
 ghost use Rattle.map_server.specs.declared.words.Command.{Command};
 
@@ -63,9 +63,8 @@ fn print<W: Sink, E: Sink>(text: &[u8], status: u8, writer: &mut W, errors: &mut
     ensures status { (result ≢ 3) → result ≡ status }
     ensures printed { (result ≢ 3) → Appends (W.held writer.old) (W.held writer.new) text.now }
     ensures sound { (result ≢ 3) → W.failures writer.new ≡ W.failures writer.old }
-    ensures failed { result ≡ 3 → (W.failures writer.new ≡ W.failures writer.old + 1)
-        × Tells (E.failures errors.old) (E.failures errors.new)
-        (E.held errors.old) (E.held errors.new) (codes "failed write\n") }
+    ensures failed { result ≡ 3 → FailsToWrite (W.failures writer.old) (W.failures writer.new)
+        (E.failures errors.old) (E.failures errors.new) (E.held errors.old) (E.held errors.new) }
 {
     match write_all(writer, text) {
         Ok(()) => status,
@@ -80,9 +79,8 @@ fn print_report<W: Sink, E: Sink>(report: &Report, writer: &mut W, errors: &mut 
     ensures status { (result ≢ 3) → result ≡ status_of report.now }
     ensures printed { (result ≢ 3) → Appends (W.held writer.old) (W.held writer.new) (text_of report.now) }
     ensures sound { (result ≢ 3) → W.failures writer.new ≡ W.failures writer.old }
-    ensures failed { result ≡ 3 → (W.failures writer.new ≡ W.failures writer.old + 1)
-        × Tells (E.failures errors.old) (E.failures errors.new)
-        (E.held errors.old) (E.held errors.new) (codes "failed write\n") }
+    ensures failed { result ≡ 3 → FailsToWrite (W.failures writer.old) (W.failures writer.new)
+        (E.failures errors.old) (E.failures errors.new) (E.held errors.old) (E.held errors.new) }
 {
     match report {
         Report::Text(text) => print(text.as_slice(), report.status(), writer, errors),
@@ -98,9 +96,8 @@ fn refuse_memory<W: Sink, E: Sink>(writer: &mut W, errors: &mut E) -> u8
     ensures printed { (result ≢ 3) → Appends (W.held writer.old) (W.held writer.new)
         (text_of (Report.Refused Refusal.NoMemory)) }
     ensures sound { (result ≢ 3) → W.failures writer.new ≡ W.failures writer.old }
-    ensures failed { result ≡ 3 → (W.failures writer.new ≡ W.failures writer.old + 1)
-        × Tells (E.failures errors.old) (E.failures errors.new)
-        (E.held errors.old) (E.held errors.new) (codes "failed write\n") }
+    ensures failed { result ≡ 3 → FailsToWrite (W.failures writer.old) (W.failures writer.new)
+        (E.failures errors.old) (E.failures errors.new) (E.held errors.old) (E.held errors.new) }
 {
     print_report(&Report::Refused(Refusal::NoMemory), writer, errors)
 }
@@ -120,9 +117,8 @@ fn tell_words<W: Sink, E: Sink>(
         (text_of (Report.Refused Refusal.NoMemory)) }
     ensures words { result ≡ 2 → W.held writer.new ≡ W.held writer.old }
     ensures sound { (result ≢ 3) → W.failures writer.new ≡ W.failures writer.old }
-    ensures failed { result ≡ 3 → (W.failures writer.new ≡ W.failures writer.old + 1)
-        × Tells (E.failures errors.old) (E.failures errors.new)
-        (E.held errors.old) (E.held errors.new) (codes "failed write\n") }
+    ensures failed { result ≡ 3 → FailsToWrite (W.failures writer.old) (W.failures writer.new)
+        (E.failures errors.old) (E.failures errors.new) (E.held errors.old) (E.held errors.new) }
 {
     if error.kind() == ErrorKind::OutOfMemory {
         return refuse_memory(writer, errors);
@@ -148,9 +144,8 @@ pub fn tell_unread_words<W: Sink, E: Sink>(error: &io::Error, writer: &mut W, er
     ensures words { (error_kind error.now ≢ OutOfMemory) → (result ≡ 2)
         × Tells (E.failures errors.old) (E.failures errors.new)
         (E.held errors.old) (E.held errors.new) (codes "error: the command line is not UTF-8\n") }
-    ensures failed { result ≡ 3 → (W.failures writer.new ≡ W.failures writer.old + 1)
-        × Tells (E.failures errors.old) (E.failures errors.new)
-        (E.held errors.old) (E.held errors.new) (codes "failed write\n") }
+    ensures failed { result ≡ 3 → FailsToWrite (W.failures writer.old) (W.failures writer.new)
+        (E.failures errors.old) (E.failures errors.new) (E.held errors.old) (E.held errors.new) }
 {
     if error.kind() == io::ErrorKind::OutOfMemory {
         return refuse_memory(writer, errors);
@@ -179,9 +174,8 @@ pub fn carry_out<R: Source, W: Sink, E: Sink>(
         (R.failures reader.new) (R.left reader.old)
         × Tells (E.failures errors.old) (E.failures errors.new)
         (E.held errors.old) (E.held errors.new) (codes "failed read\n"))
-        ⊎ ((W.failures writer.new ≡ W.failures writer.old + 1)
-        × Tells (E.failures errors.old) (E.failures errors.new)
-        (E.held errors.old) (E.held errors.new) (codes "failed write\n")) }
+        ⊎ FailsToWrite (W.failures writer.old) (W.failures writer.new)
+        (E.failures errors.old) (E.failures errors.new) (E.held errors.old) (E.held errors.new) }
 {
     match read_report(alloc, command, reader) {
         Ok(report) => print_report(&report, writer, errors),
@@ -203,6 +197,9 @@ pub fn bpfmap_on<R: Source, W: Sink, E: Sink>(
     requires writes { W.failures writer.old < 2 ^ 64 - 1 }
     requires tells { E.failures errors.old < 2 ^ 64 - 1 }
     ensures status { result ≤ 3 }
+    ensures done { result ≡ 0 → ((command : Command)
+        × Prints command (R.left reader.old) (W.held writer.old) (W.held writer.new) result)
+        ⊎ (R.left reader.new ≡ R.left reader.old) }
     ensures refused { result ≡ 1 → (command : Command)
         × Prints command (R.left reader.old) (W.held writer.old) (W.held writer.new) result }
     ensures words { result ≡ 2 → (R.left reader.new ≡ R.left reader.old)
@@ -213,9 +210,8 @@ pub fn bpfmap_on<R: Source, W: Sink, E: Sink>(
         × FailsToRead command (R.failures reader.old) (R.failures reader.new) (R.left reader.old)
         × Tells (E.failures errors.old) (E.failures errors.new)
         (E.held errors.old) (E.held errors.new) (codes "failed read\n"))
-        ⊎ ((W.failures writer.new ≡ W.failures writer.old + 1)
-        × Tells (E.failures errors.old) (E.failures errors.new)
-        (E.held errors.old) (E.held errors.new) (codes "failed write\n")) }
+        ⊎ FailsToWrite (W.failures writer.old) (W.failures writer.new)
+        (E.failures errors.old) (E.failures errors.new) (E.held errors.old) (E.held errors.new) }
 {
     match parse_words(alloc, words) {
         Ok(command) => carry_out(alloc, &command, reader, writer, errors),

@@ -1,8 +1,7 @@
 //! What comes of a command on a text: the steps from hex text to an answer.
 ghost use Rattle.std.specs.Prelude.{◌≡◌, IfOk, IfErr, OnErr};
 ghost use Rattle.bpf_model.specs.declared.limits.TheConstants.{KEY_BYTES};
-ghost use Rattle.map_server.specs.Hex.{SpellsBytes};
-ghost use Rattle.map_server.specs.Commands.{SpellsProgram, SpellsSafe, SpellsValue, SpellsInput, IsBytesRefused, IsProgramRefused, IsTextRefused, IsValueRefused, IsInputRefused, IsAsmReport, IsDisasmReport, IsCheckReport, IsRunReport, IsUnreadable, IsReport};
+ghost use Rattle.map_server.specs.Commands.{SpellsProgram, SpellsSafe, SpellsKey, SpellsValue, SpellsInput, IsBytesRefused, IsProgramRefused, IsTextRefused, IsValueRefused, IsInputRefused, IsAsmReport, IsDisasmReport, IsCheckReport, IsRunReport, IsUnreadable, IsReport};
 
 use crate::devices::Failed;
 use crate::hex::hex_bytes;
@@ -52,7 +51,7 @@ fn verified(alloc: Global, text: &[u8], sizes: Sizes) -> Result<Verified, Refusa
 }
 
 fn key_of(alloc: Global, text: &str) -> Result<Key, Refusal>
-    ensures ok { IfOk result (λ key. SpellsBytes text.now key) }
+    ensures ok { IfOk result (λ key. SpellsKey text.now key) }
     ensures err { IfErr result (λ refusal. IsTextRefused text.now KEY_BYTES refusal) }
 {
     let bytes = hex_bytes(alloc, text.as_bytes())?;

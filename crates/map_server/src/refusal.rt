@@ -2,6 +2,9 @@
 ghost use Rattle.std.specs.Prelude.{◌≡◌};
 ghost use Rattle.map_server.specs.Refusals.{number_of, place_of};
 
+#[cfg(test)]
+mod tests;
+
 use crate::hex::HexFault;
 use bpf_assembler::AsmFault;
 use bpf_decode::DecodeFault;

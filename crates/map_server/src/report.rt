@@ -2,6 +2,7 @@
 ghost use Rattle.std.specs.Prelude.{◌≡◌, ◌≤◌, ◌+◌, ◌/◌, ◌%◌, ◌++◌, codes, length, IfOk};
 ghost use Rattle.std.specs.List.{flat_map};
 ghost use Rattle.arrayvec.specs.ArrayVec.{array_vec_len};
+ghost use Rattle.map_server.specs.Hex.{SpellsBytes};
 ghost use Rattle.map_server.specs.Reports.{text_of, status_of, spaced, digit, separator, unit_lines, IsLine};
 
 use crate::refusal::Refusal;
@@ -64,6 +65,8 @@ fn separator(place: usize) -> u8
 /// The bytes in hex, a unit on a line.
 pub fn unit_lines(alloc: Global, bytes: &[u8]) -> Result<Vec<u8>, NoMemory>
     ensures lines { IfOk result (λ text. text.items ≡ unit_lines bytes.now) }
+    // It is hex text of these bytes.
+    ensures hex { IfOk result (λ text. SpellsBytes text.items bytes.now) }
 {
     let mut text = Vec::new(alloc);
     for (place, byte) in bytes.iter().enumerate() {

@@ -1,6 +1,8 @@
-use Rattle.std.proofs.Common.{◌≡◌, ℕ, suc, ◌/◌, ◌%◌, ◌++◌, List, [], ◌∷◌, drop, get_or, sym, ap, ◌∙◌, append_assoc, append-nil, add-one, arith}
-use Rattle.map_server.specs.Reports.{unit_lines_from, digit, separator}
-use Rattle.map_server.proofs.UnitLineLemmas.{unit_lines_from-next, unit_lines_from-done}
+use Rattle.std.proofs.Common.{◌≡◌, ℕ, suc, ◌/◌, ◌%◌, ◌++◌, ◌<◌, List, [], ◌∷◌, drop, get_or, sym, ap, subst, ◌∙◌, append_assoc, append-nil, add-one, arith}
+use Rattle.std.proofs.lemmas.List.Elements.{All-from_get_or}
+use Rattle.map_server.specs.Hex.{SpellsBytes}
+use Rattle.map_server.specs.Reports.{unit_lines, unit_lines_from, digit, separator}
+use Rattle.map_server.proofs.UnitLineLemmas.{unit_lines_from-next, unit_lines_from-done, unit_lines_from-spells}
 use Rattle.map_server.proofs.report.unit_lines.Goals as goal
 
 pub loop-place-preserved : goal.loop-place-preserved
@@ -17,5 +19,9 @@ loop-place-preserved c =
 
 pub returns : goal.returns
 returns c =
-    let done = unit_lines_from-done c.loop-place.place c.loop-place.place c.args.bytes.now (omega (arith, c.loop-place-test.false)) in
-    record { lines = sym (c.loop-place.invariant ∙ ap (λ (xs : List ℕ). c.loop-place.text.items ++ xs) done ∙ append-nil c.loop-place.text.items) }
+    let bytes = c.args.bytes.now in
+    let text = c.loop-place.text.items in
+    let done = unit_lines_from-done c.loop-place.place c.loop-place.place bytes (omega (arith, c.loop-place-test.false)) in
+    let lines : text ≡ unit_lines bytes = sym (c.loop-place.invariant ∙ ap (λ (xs : List ℕ). text ++ xs) done ∙ append-nil text) in
+    let small = All-from_get_or (λ byte. byte < 256) bytes 0 (λ i within. omega (arith, c.type_inv.bytes i)) in
+    record { lines = lines; hex = subst (λ (t : List ℕ). SpellsBytes t bytes) (sym lines) (unit_lines_from-spells 0 bytes small) }

@@ -88,3 +88,22 @@ fn a_program_of_512_units_is_run(rt: HostRuntime) -> Result<(), Fail> {
     program.push_str(R9)?;
     answers(&rt, "", program.as_str(), "bytes fc 01 00 00 00 00 00 00\n")
 }
+
+// Ten units over r0 and r9: add, xor, mul, sub, or, lsh, rsh, and, add, xor.
+const TURN: &str = " 0f90000000000000 af09000000000000 270900001f000000 1f90000000000000 \
+    4f09000000000000 6700000003000000 7709000002000000 57090000ffff0000 \
+    0f09000000000000 af90000000000000";
+
+#[test]
+fn a_program_of_512_units_of_many_kinds_is_run(rt: HostRuntime) -> Result<(), Fail> {
+    let mut program = format!(in rt.alloc(); "b700000001000000 b709000002000000")?;
+    for _ in 0..50 {
+        program.push_str(TURN)?;
+    }
+    for _ in 0..7 {
+        program.push_str(" 0f09000000000000")?;
+    }
+    program.push_str(" ")?;
+    program.push_str(R9)?;
+    answers(&rt, "", program.as_str(), "bytes 00 25 a5 fc f7 ef df bf\n")
+}

@@ -1,6 +1,8 @@
 //! Faults of the command line and of devices.
-use super::memory::{Outcome, Pieces, ROOM, call, run_words};
+use super::memory::{Outcome, Pieces, ROOM, Room, call, run_words};
+use crate::{StreamSink, tell_unread_words};
 use std::alloc::{AllocError, Global};
+use std::io::{self, ErrorKind};
 use std::test::Fail;
 
 const NOTHING: &[u8] = b"b7 00 00 00 ff ff ff ff 95 00 00 00 00 00 00 00";
@@ -172,4 +174,55 @@ fn long_values_are_refused(rt: HostRuntime) -> Result<(), Fail> {
         );
     }
     Ok(())
+}
+
+#[test]
+fn the_first_bad_value_is_named(rt: HostRuntime) -> Result<(), Fail> {
+    let key = "61".repeat(rt.alloc(), 65)?;
+    let key = key.as_str();
+    let value = "61".repeat(rt.alloc(), 257)?;
+    let value = value.as_str();
+    for (first, of_first, second, of_second, printed) in [
+        ("--with-key", key, "--with-old", "zz", "refused 1 at 0\n"),
+        ("--with-key", "zz", "--with-old", value, "refused 70 at 0\n"),
+        ("--with-old", value, "--with-arg", "zz", "refused 1 at 0\n"),
+        ("--with-old", "zz", "--with-arg", value, "refused 70 at 0\n"),
+        ("--with-key", key, "--key", "0", "refused 1 at 0\n"),
+        ("--with-key", "zz", "--key", "0", "refused 70 at 0\n"),
+        ("--with-old", value, "--old", "0", "refused 1 at 0\n"),
+    ] {
+        let words = ["bpfmap", "run", first, of_first, second, of_second];
+        let found = call(rt.alloc(), &words, pieces(NOTHING, 64, false), ROOM, ROOM);
+        assert!(rt; found.status == 1, "{first} and {second}");
+        assert!(rt;
+            found.output.as_slice() == printed.as_bytes(),
+            "{first} and {second}"
+        );
+    }
+    Ok(())
+}
+
+#[test]
+fn unread_words_are_told(rt: HostRuntime) {
+    for (kind, expected, output, line) in [
+        (ErrorKind::OutOfMemory, 1, "refused 9 at 0\n", ""),
+        (
+            ErrorKind::InvalidData,
+            2,
+            "",
+            "error: the command line is not UTF-8\n",
+        ),
+    ] {
+        let mut writer = StreamSink::new(Room::new(rt.alloc(), ROOM));
+        let mut errors = StreamSink::new(Room::new(rt.alloc(), ROOM));
+        let status = tell_unread_words(&io::Error::from(kind), &mut writer, &mut errors);
+        assert!(rt; status == expected, "status {expected}");
+        let printed = writer.into_inner().bytes;
+        assert!(rt;
+            printed.as_slice() == output.as_bytes(),
+            "status {expected}"
+        );
+        let told = errors.into_inner().bytes;
+        assert!(rt; told.as_slice() == line.as_bytes(), "status {expected}");
+    }
 }
