@@ -3,6 +3,7 @@
 # sum, and one instruction of 500 of arithmetic. By hand, not by the gate. A first time takes minutes, since a program is
 # built only when all below it is proved.
 set -euo pipefail
+shopt -s inherit_errexit
 cd "$(dirname "$0")/.."
 work=$(mktemp -d)
 trap 'rm -rf "$work"' EXIT
@@ -25,18 +26,26 @@ cp bench/sum.hex "$work/sum.hex"
 elapsed() {
     local start end
     start=$(date +%s%N)
-    "$@" > "$work/out"
+    "$@" > "$work/out" || { echo "$* fails with status $?" >&2; exit 1; }
     end=$(date +%s%N)
     echo $((end - start))
 }
 rattle() { "$work/crates/bench/out/bench" "$2" < "$work/$1.hex"; }
 plain() { "$work/interpreter" "$1" "$2"; }
 
+# nanoseconds that the runs take, without what a start takes
+runs() {
+    local whole start
+    whole=$(elapsed "$1" "$2" "$3")
+    start=$(elapsed "$1" "$2" 0)
+    echo $((whole - start))
+}
+
 # program, runs, what a figure is of, parts of a run
 measure() {
     local ours theirs
-    ours=$(($(elapsed rattle "$1" "$2") - $(elapsed rattle "$1" 0)))
-    theirs=$(($(elapsed plain "$1" "$2") - $(elapsed plain "$1" 0)))
+    ours=$(runs rattle "$1" "$2")
+    theirs=$(runs plain "$1" "$2")
     awk -v ours="$ours" -v theirs="$theirs" -v n="$(($2 * $4))" -v what="$3" \
         'BEGIN { printf "%s: run %.2f ns, plain C %.2f ns, ratio %.2f\n", what, ours / n, theirs / n, ours / theirs }'
 }
