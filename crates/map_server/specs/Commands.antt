@@ -133,8 +133,8 @@ IsAsmRefused text (Verify fault) = ⊥
 -- the bytes of the program whose text it is are printed, in hex that spells the program
 abbrev pub IsAsmReport : List ℕ → Report → Type 0
 IsAsmReport text (Text printed) =
-    (program : List Insn) × IsTextOf text program
-    × ((spelled : SpellsProgram printed.items program) × (printed.items ≡ unit_lines spelled.bytes))
+    (program : List Insn) × IsTextOf text program × SpellsProgram printed.items program
+    × ((bytes : List ℕ) × Spells bytes program × (printed.items ≡ unit_lines bytes))
 IsAsmReport text Accepted = ⊥
 IsAsmReport text (Answered answer) = ⊥
 IsAsmReport text (Unfit window) = ⊥

@@ -97,24 +97,6 @@ fn run_once(
     }
 }
 
-fn asm_report(alloc: Global, text: &str) -> Report
-    ensures { IsAsmReport text.now result }
-{
-    match asm_once(alloc, text) {
-        Ok(report) => report,
-        Err(refusal) => Report::Refused(refusal),
-    }
-}
-
-fn disasm_report(alloc: Global, text: &[u8]) -> Report
-    ensures { IsDisasmReport text.now result }
-{
-    match disasm_once(alloc, text) {
-        Ok(report) => report,
-        Err(refusal) => Report::Refused(refusal),
-    }
-}
-
 fn check_report(alloc: Global, text: &[u8], sizes: Sizes) -> Report
     ensures { IsCheckReport sizes text.now result }
 {
@@ -141,10 +123,10 @@ pub fn report_of(alloc: Global, command: &Command<'_>, text: &[u8]) -> Result<Re
 {
     match command {
         Command::Asm => match str::from_utf8(text) {
-            Ok(text) => Ok(asm_report(alloc, text)),
+            Ok(text) => Ok(asm_once(alloc, text).unwrap_or_else(Report::Refused)),
             Err(_) => Err(Failed),
         },
-        Command::Disasm => Ok(disasm_report(alloc, text)),
+        Command::Disasm => Ok(disasm_once(alloc, text).unwrap_or_else(Report::Refused)),
         Command::Check(sizes) => Ok(check_report(alloc, text, *sizes)),
         Command::Run(sizes, texts) => Ok(run_report(alloc, text, *sizes, texts)),
     }
