@@ -1,7 +1,7 @@
 #!/usr/bin/env bash
 # Times `run` of bpf_machine beside a plain C loop over decoded instructions, in one go: a whole run of the six-instruction
-# sum, and one instruction of 500 of arithmetic. By hand, not by the gate. A first time takes minutes, since a program is
-# built only when all below it is proved.
+# sum, and one instruction of 500 of arithmetic. Nothing is timed unless both answer the expected bytes. By hand, not by
+# the gate. A first time takes minutes, since a program is built only when all below it is proved.
 set -euo pipefail
 shopt -s inherit_errexit
 cd "$(dirname "$0")/.."
@@ -41,13 +41,17 @@ runs() {
     echo $((whole - start))
 }
 
-# program, runs, what a figure is of, parts of a run
+# program, its answer, runs, what a figure is of, parts of a run
 measure() {
-    local ours theirs
-    ours=$(runs rattle "$1" "$2")
-    theirs=$(runs plain "$1" "$2")
-    awk -v ours="$ours" -v theirs="$theirs" -v n="$(($2 * $4))" -v what="$3" \
+    local side answer ours theirs
+    for side in rattle plain; do
+        answer=$("$side" "$1" 0)
+        [ "$answer" = "$2" ] || { echo "$1: $side answers '$answer', not '$2'" >&2; exit 1; }
+    done
+    ours=$(runs rattle "$1" "$3")
+    theirs=$(runs plain "$1" "$3")
+    awk -v ours="$ours" -v theirs="$theirs" -v n="$(($3 * $5))" -v what="$4" \
         'BEGIN { printf "%s: run %.2f ns, plain C %.2f ns, ratio %.2f\n", what, ours / n, theirs / n, ours / theirs }'
 }
-measure sum 5000000 "a run of the sum" 1
-measure alu 200000 "an instruction of 500" 501
+measure sum 0300000000000000 5000000 "a run of the sum" 1
+measure alu e1218400fffdfbf7 200000 "an instruction of 500" 501
