@@ -176,27 +176,41 @@ fn long_values_are_refused(rt: HostRuntime) -> Result<(), Fail> {
     Ok(())
 }
 
+// The same with another option and its text.
+fn run_with_two<'a>(
+    alloc: Global,
+    option: &'a str,
+    bytes: usize,
+    other: &'a str,
+    of_other: &'a str,
+) -> Result<Outcome, AllocError> {
+    let text = "61".repeat(alloc, bytes)?;
+    let words = vec![in alloc; "bpfmap", "run", option, text.as_str(), other, of_other]?;
+    Ok(call(
+        alloc,
+        words.as_slice(),
+        pieces(NOTHING, 64, false),
+        ROOM,
+        ROOM,
+    ))
+}
+
 #[test]
 fn the_first_bad_value_is_named(rt: HostRuntime) -> Result<(), Fail> {
-    let key = "61".repeat(rt.alloc(), 65)?;
-    let key = key.as_str();
-    let value = "61".repeat(rt.alloc(), 257)?;
-    let value = value.as_str();
-    for (first, of_first, second, of_second, printed) in [
-        ("--with-key", key, "--with-old", "zz", "refused 1 at 0\n"),
-        ("--with-key", "zz", "--with-old", value, "refused 70 at 0\n"),
-        ("--with-old", value, "--with-arg", "zz", "refused 1 at 0\n"),
-        ("--with-old", "zz", "--with-arg", value, "refused 70 at 0\n"),
-        ("--with-key", key, "--key", "0", "refused 1 at 0\n"),
-        ("--with-key", "zz", "--key", "0", "refused 70 at 0\n"),
-        ("--with-old", value, "--old", "0", "refused 1 at 0\n"),
+    for (option, bytes, other, of_other, printed) in [
+        ("--with-key", 65, "--with-old", "zz", "refused 1 at 0\n"),
+        ("--with-old", 257, "--with-key", "zz", "refused 70 at 0\n"),
+        ("--with-old", 257, "--with-arg", "zz", "refused 1 at 0\n"),
+        ("--with-arg", 257, "--with-old", "zz", "refused 70 at 0\n"),
+        ("--with-key", 65, "--key", "0", "refused 1 at 0\n"),
+        ("--with-old", 257, "--old", "0", "refused 1 at 0\n"),
+        ("--with-arg", 257, "--arg", "0", "refused 1 at 0\n"),
     ] {
-        let words = ["bpfmap", "run", first, of_first, second, of_second];
-        let found = call(rt.alloc(), &words, pieces(NOTHING, 64, false), ROOM, ROOM);
-        assert!(rt; found.status == 1, "{first} and {second}");
+        let found = run_with_two(rt.alloc(), option, bytes, other, of_other)?;
+        assert!(rt; found.status == 1, "{option} and {other}");
         assert!(rt;
             found.output.as_slice() == printed.as_bytes(),
-            "{first} and {second}"
+            "{option} and {other}"
         );
     }
     Ok(())
