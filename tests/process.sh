@@ -1,0 +1,99 @@
+#!/usr/bin/env bash
+# Runs the built bpfmap as a process: its status and both of its streams, which no contract reaches, and each of its
+# requests for memory refused in turn. Behind the gate, which builds the program; by hand after `rt run` in crates/bpfmap.
+set -euo pipefail
+cd "$(dirname "$0")/.."
+program=crates/bpfmap/out/bpfmap
+[ -x "$program" ] || { echo "process: $program is not built; run the gate first" >&2; exit 1; }
+work=$(mktemp -d)
+trap 'rm -rf "$work"' EXIT
+passed=0
+failed=0
+
+# The six instructions that add the argument to the old value, as bytes and as text.
+sum=792000000000000079390000000000000f900000000000007b04000000000000b7000000080000009500000000000000
+sum_text='ldd r0, [r2+0]\nldd r9, [r3+0]\nadd64 r0, r9\nstxd [r4+0], r0\nmov64 r0, 8\nexit\n'
+sizes=(--key 64 --old 8 --arg 8 --result 8)
+values=(--with-key 61 --with-old 0100000000000000 --with-arg 0200000000000000)
+
+# Says whether the case of this name holds.
+judge() {
+    local name=$1
+    shift
+    if "$@"; then
+        passed=$((passed + 1))
+    else
+        failed=$((failed + 1))
+        echo "FAILED: $name: status $got, output '$(cat "$work/out")', errors '$(cat "$work/err")'"
+    fi
+}
+
+# Runs the program on the words; $input and $sink may name other streams.
+run() {
+    got=0
+    : > "$work/out"
+    "$program" "$@" < "${input:-$work/in}" > "${sink:-$work/out}" 2> "$work/err" || got=$?
+}
+
+# Whether the last run had this status and output, and errors of this pattern.
+ended() {
+    # shellcheck disable=SC2053
+    [ "$got" = "$1" ] && [ "$(cat "$work/out")" = "$2" ] && [[ $(cat "$work/err") == $3 ]]
+}
+
+# Name, wanted status, output and pattern of errors, then the words.
+expect() {
+    local name=$1 status=$2 output=$3 errors=$4
+    shift 4
+    run "$@"
+    judge "$name" ended "$status" "$output" "$errors"
+}
+
+# Refuses each request for memory in turn: the run ends as with ample memory, or with a refusal.
+refuse_each() {
+    local name=$1 status output requests number
+    shift
+    LD_PRELOAD=$work/refuse.so REQUESTS_FILE=$work/requests run "$@"
+    status=$got
+    output=$(cat "$work/out")
+    requests=$(cat "$work/requests")
+    for number in $(seq "$requests"); do
+        LD_PRELOAD=$work/refuse.so REFUSED_REQUEST=$number run "$@"
+        judge "$name, request $number of $requests refused" \
+            eval "ended $status \"\$output\" '*' || ended 1 'refused 9 at 0' ''"
+    done
+}
+
+printf '%s' "$sum" > "$work/in"
+expect "an answer" 0 "bytes 03 00 00 00 00 00 00 00" "" run "${sizes[@]}" "${values[@]}"
+expect "a refused program" 1 "refused 43 at 0" "" run --old 0 --arg 8 --result 8
+expect "a value that does not fit" 1 "unfit old" "" run "${sizes[@]}" --with-old 010000000000000000
+expect "a check" 0 "accepted" "" check "${sizes[@]}"
+expect "the version" 0 "bpfmap 0.1.0" "" --version
+expect "an option that there is not" 2 "" "*--nothing*" run --nothing
+expect "a text that begins with a hyphen" 2 "" "?*" run --with-key -1
+expect "no command" 2 "" "?*"
+expect "words that are no UTF-8" 2 "" "error: the command line is not UTF-8" run --with-key $'\xff'
+input=/ expect "an input that can't be read" 3 "" "failed read" check
+sink=/dev/full expect "an output that can't be written" 3 "" "failed write" check
+printf '7b 0g' > "$work/in"
+expect "hex that is none" 1 "refused 70 at 3" "" check
+printf '\xff\n' > "$work/in"
+expect "a text that is no UTF-8" 3 "" "failed read" asm
+
+if command -v gcc > /dev/null; then
+    gcc -O1 -shared -fPIC -fno-builtin -o "$work/refuse.so" tests/refuse.c
+    # shellcheck disable=SC2059
+    printf "$sum_text" > "$work/in"
+    refuse_each "asm" asm
+    printf '%s' "$sum" > "$work/in"
+    refuse_each "disasm" disasm
+    refuse_each "check" check "${sizes[@]}"
+    refuse_each "run" run "${sizes[@]}" "${values[@]}"
+    refuse_each "a fault of the words" run --nothing
+else
+    echo "process: no gcc here, so no request for memory was refused"
+fi
+
+echo "process: $passed passed, $failed failed"
+[ "$failed" = 0 ]
