@@ -23,15 +23,15 @@ use Rattle.bpf_model.specs.Program.{units_of}
 use Rattle.bpf_model.specs.Arithmetic.{swap_bits, extension_width, extension_bits}
 use Rattle.bpf_model.specs.Accesses.{loaded_size}
 use Rattle.bpf_model.specs.Spelling.{Fields, opcode, access_opcode, class_ldx, alu_class, jump_class, store_class, source_k, source_x, source_of, src_of, imm_of, code_of, offset_of, neg_code, mov_code, end_code, test_code, size_code, mode_mem, mode_of, order_source, order_width, unit_bytes, fields_of, second_unit, second_bytes, spelling, IsInstruction, IsOperand, IsOffset, IsImmediate}
-use Rattle.bpf_decode.specs.declared.operation.Source.{Source}
-use Rattle.bpf_decode.specs.declared.operation.Source.TheVariants.{Immediate as K, Register as X}
-use Rattle.bpf_decode.specs.declared.operation.Operation.{Operation}
-use Rattle.bpf_decode.specs.declared.operation.Operation.TheVariants as op
+use Rattle.bpf_decode.specs.declared.opcode.Source.{Source}
+use Rattle.bpf_decode.specs.declared.opcode.Source.TheVariants.{Immediate as K, Register as X}
+use Rattle.bpf_decode.specs.declared.opcode.Opcode.{Opcode}
+use Rattle.bpf_decode.specs.declared.opcode.Opcode.TheVariants as op
 use Rattle.bpf_decode.specs.declared.unit.UsedFields.{UsedFields}
 use Rattle.bpf_decode.specs.Opcodes.{used_fields}
 use Rattle.bpf_decode.specs.UnitFaults.{FitUnit, has_bad_register, has_unused_not_zero, has_bad_width, fault_under, fault_of, is_move, is_swap}
-use Rattle.bpf_decode.specs.Operations.{opcode_of, used_by, AreOperands, IsRegisterIfUsed, IsZeroUnlessUsed}
-use Rattle.bpf_decode.proofs.OpcodeLemmas.{order_source-few, alu_class-few, jump_class-few, size_code-few, mode_of-few, AluFacts, alu_facts, test_code-few, class_in-jump, class_in-access, used_fields-opcode_of, good_sign, good_move, good_order, good_negation, no_width, no_width_of_jump}
+use Rattle.bpf_decode.specs.OpcodeFields.{byte_of, used_by, AreOperands, IsRegisterIfUsed, IsZeroUnlessUsed}
+use Rattle.bpf_decode.proofs.OpcodeLemmas.{order_source-few, alu_class-few, jump_class-few, size_code-few, mode_of-few, AluFacts, alu_facts, test_code-few, class_in-jump, class_in-access, used_fields-byte_of, good_sign, good_move, good_order, good_negation, no_width, no_width_of_jump}
 
 -- zero is an offset and an immediate
 zero_fits_offset : IsOffset (pos 0)
@@ -114,47 +114,47 @@ fit-fields_of Exit h = record { opcode = omega arith; dst = omega arith; src = o
 pub fit-second_unit : (value : ℕ) → IsWord value → FitUnit (second_unit value)
 fit-second_unit value h = record { opcode = omega arith; dst = omega arith; src = omega arith; offset = zero_fits_offset; imm = half_fits (value / 2 ^ 32) (omega (arith, h)) }
 
--- an instruction's operation
+-- an instruction's opcode
 source_of_operand : Operand → Source
 source_of_operand (Register r) = X
 source_of_operand (Immediate imm) = K
 
-operation_of : Insn → Operation
-operation_of (Alu o w dst src) = op.Alu o (source_of_operand src) w
-operation_of (Negate w dst) = op.Negate w
-operation_of (Mov w dst src) = op.Mov (source_of_operand src) w
-operation_of (SignExtend e dst src) = op.Mov X (extension_width e)
-operation_of (Reorder order size dst) = op.Reorder order
-operation_of (Wide dst value) = op.Wide
-operation_of (Load kind dst src offset) = op.Load kind
-operation_of (Store size dst src offset) = op.Store (source_of_operand src) size
-operation_of (Jump distance) = op.Jump
-operation_of (JumpLong distance) = op.JumpLong
-operation_of (Branch test w dst src distance) = op.Branch test (source_of_operand src) w
-operation_of Exit = op.Exit
+opcode_of : Insn → Opcode
+opcode_of (Alu o w dst src) = op.Alu o (source_of_operand src) w
+opcode_of (Negate w dst) = op.Negate w
+opcode_of (Mov w dst src) = op.Mov (source_of_operand src) w
+opcode_of (SignExtend e dst src) = op.Mov X (extension_width e)
+opcode_of (Reorder order size dst) = op.Reorder order
+opcode_of (Wide dst value) = op.Wide
+opcode_of (Load kind dst src offset) = op.Load kind
+opcode_of (Store size dst src offset) = op.Store (source_of_operand src) size
+opcode_of (Jump distance) = op.Jump
+opcode_of (JumpLong distance) = op.JumpLong
+opcode_of (Branch test w dst src distance) = op.Branch test (source_of_operand src) w
+opcode_of Exit = op.Exit
 
-opcode_of-operation_of : (i : Insn) → opcode_of (operation_of i) ≡ (fields_of i).opcode
-unfolding operation_of source_of_operand
-opcode_of-operation_of (Alu o w dst (Register r)) = refl
-opcode_of-operation_of (Alu o w dst (Immediate imm)) = refl
-opcode_of-operation_of (Negate w dst) = refl
-opcode_of-operation_of (Mov w dst (Register r)) = refl
-opcode_of-operation_of (Mov w dst (Immediate imm)) = refl
-opcode_of-operation_of (SignExtend e dst src) = refl
-opcode_of-operation_of (Reorder order size dst) = refl
-opcode_of-operation_of (Wide dst value) = refl
-opcode_of-operation_of (Load kind dst src offset) = refl
-opcode_of-operation_of (Store size dst (Register r) offset) = refl
-opcode_of-operation_of (Store size dst (Immediate imm) offset) = refl
-opcode_of-operation_of (Jump distance) = refl
-opcode_of-operation_of (JumpLong distance) = refl
-opcode_of-operation_of (Branch test w dst (Register r) distance) = refl
-opcode_of-operation_of (Branch test w dst (Immediate imm) distance) = refl
-opcode_of-operation_of Exit = refl
+byte_of-opcode_of : (i : Insn) → byte_of (opcode_of i) ≡ (fields_of i).opcode
+unfolding opcode_of source_of_operand
+byte_of-opcode_of (Alu o w dst (Register r)) = refl
+byte_of-opcode_of (Alu o w dst (Immediate imm)) = refl
+byte_of-opcode_of (Negate w dst) = refl
+byte_of-opcode_of (Mov w dst (Register r)) = refl
+byte_of-opcode_of (Mov w dst (Immediate imm)) = refl
+byte_of-opcode_of (SignExtend e dst src) = refl
+byte_of-opcode_of (Reorder order size dst) = refl
+byte_of-opcode_of (Wide dst value) = refl
+byte_of-opcode_of (Load kind dst src offset) = refl
+byte_of-opcode_of (Store size dst (Register r) offset) = refl
+byte_of-opcode_of (Store size dst (Immediate imm) offset) = refl
+byte_of-opcode_of (Jump distance) = refl
+byte_of-opcode_of (JumpLong distance) = refl
+byte_of-opcode_of (Branch test w dst (Register r) distance) = refl
+byte_of-opcode_of (Branch test w dst (Immediate imm) distance) = refl
+byte_of-opcode_of Exit = refl
 
--- its fields are operands of its operation
-operands-fields_of : (i : Insn) → IsInstruction i → AreOperands (used_by (operation_of i)) (fields_of i)
-unfolding operation_of source_of_operand
+-- its fields are operands of its opcode
+operands-fields_of : (i : Insn) → IsInstruction i → AreOperands (used_by (opcode_of i)) (fields_of i)
+unfolding opcode_of source_of_operand
 operands-fields_of (Alu o w dst (Register r)) h = record { dst = h.0; src = h.1; offset = AluFacts.sign (alu_facts o); imm = refl }
 operands-fields_of (Alu o w dst (Immediate imm)) h = record { dst = h.0; src = refl; offset = AluFacts.sign (alu_facts o); imm = tt }
 operands-fields_of (Negate w dst) h = record { dst = h; src = refl; offset = refl; imm = refl }
@@ -229,8 +229,8 @@ operands_have_no_fault used f h =
 -- the fields of an instruction have no fault
 pub fault_of-fields_of : (i : Insn) → IsInstruction i → fault_of (fields_of i) ≡ None
 fault_of-fields_of i h =
-    let used : used_fields (fields_of i).opcode ≡ Some (used_by (operation_of i)) = ap used_fields (sym (opcode_of-operation_of i)) ∙ used_fields-opcode_of (operation_of i) in
-    let clean = operands_have_no_fault (used_by (operation_of i)) (fields_of i) (operands-fields_of i h) in
+    let used : used_fields (fields_of i).opcode ≡ Some (used_by (opcode_of i)) = ap used_fields (sym (byte_of-opcode_of i)) ∙ used_fields-byte_of (opcode_of i) in
+    let clean = operands_have_no_fault (used_by (opcode_of i)) (fields_of i) (operands-fields_of i h) in
     ap (λ (u : Option UsedFields). fault_under u (fields_of i)) used ∙ rw (clean.0, clean.1, width-fields_of i) refl
 
 -- an instruction of one unit whose registers and fields fit is one

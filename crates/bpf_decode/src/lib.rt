@@ -12,8 +12,8 @@ mod codes;
 mod decoder;
 mod encoder;
 mod fault;
+mod opcode;
 mod operands;
-mod operation;
 mod spelling;
 mod unit;
 

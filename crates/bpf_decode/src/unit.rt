@@ -2,7 +2,7 @@
 ghost use Rattle.std.specs.Prelude.{◌≡◌, IfErr, OnOk, Some, None, if◌then◌else◌};
 ghost use Rattle.bpf_model.specs.Spelling.{unit_bytes};
 ghost use Rattle.bpf_decode.specs.UnitFaults.{FitUnit, has_bad_register, has_unused_not_zero, has_bad_width, fault_under, has_imm_alone};
-ghost use Rattle.bpf_decode.specs.Operations.{AreOperands};
+ghost use Rattle.bpf_decode.specs.OpcodeFields.{AreOperands};
 ghost use Rattle.bpf_decode.specs.declared.fault.UnitFault.TheVariants.{BadWidth};
 
 use crate::fault::UnitFault;
