@@ -23,6 +23,8 @@ use Rattle.bpf_model.specs.Program.{units_of}
 use Rattle.bpf_model.specs.Arithmetic.{swap_bits, extension_width, extension_bits}
 use Rattle.bpf_model.specs.Accesses.{loaded_size}
 use Rattle.bpf_model.specs.Spelling.{Fields, opcode, access_opcode, class_ldx, alu_class, jump_class, store_class, source_k, source_x, source_of, src_of, imm_of, code_of, offset_of, neg_code, mov_code, end_code, test_code, size_code, mode_mem, mode_of, order_source, order_width, unit_bytes, fields_of, second_unit, second_bytes, spelling, IsInstruction, IsOperand, IsOffset, IsImmediate}
+use Rattle.bpf_model.proofs.UnitLaws as laws
+use Rattle.bpf_model.proofs.UnitLaws.{zero_offset, half_fits}
 use Rattle.bpf_decode.specs.declared.opcode.Source.{Source}
 use Rattle.bpf_decode.specs.declared.opcode.Source.TheVariants.{Immediate as K, Register as X}
 use Rattle.bpf_decode.specs.declared.opcode.Opcode.{Opcode}
@@ -33,14 +35,7 @@ use Rattle.bpf_decode.specs.UnitFaults.{FitUnit, has_bad_register, has_unused_no
 use Rattle.bpf_decode.specs.OpcodeFields.{byte_of, used_by, AreOperands, IsRegisterIfUsed, IsZeroUnlessUsed}
 use Rattle.bpf_decode.proofs.OpcodeLemmas.{order_source-few, alu_class-few, jump_class-few, size_code-few, mode_of-few, AluFacts, alu_facts, test_code-few, class_in-jump, class_in-access, used_fields-byte_of, good_sign, good_move, good_order, good_negation, no_width, no_width_of_jump}
 
--- zero is an offset and an immediate
-zero_fits_offset : IsOffset (pos 0)
-zero_fits_offset = record { sfits = omega arith }
-
-zero_fits_imm : IsImmediate (pos 0)
-zero_fits_imm = record { sfits = omega arith }
-
--- the source, the register and the immediate of an operand have their bits
+-- the source and the register of an operand have their bits
 pub source_of-few : (s : Operand) → source_of s < 2
 source_of-few (Register r) = omega arith
 source_of-few (Immediate imm) = omega arith
@@ -49,40 +44,9 @@ src_of-register : (s : Operand) → IsOperand s → src_of s ≤ 10
 src_of-register (Register r) h = h
 src_of-register (Immediate imm) h = omega arith
 
-imm_of-fits : (s : Operand) → IsOperand s → IsImmediate (imm_of s)
-imm_of-fits (Register r) h = zero_fits_imm
-imm_of-fits (Immediate imm) h = h
-
 pub store_class-few : (s : Operand) → store_class s < 8
 store_class-few (Register r) = omega arith
 store_class-few (Immediate imm) = omega arith
-
-offset_of-fits : (op : AluOp) → IsOffset (offset_of op)
-offset_of-fits Add = zero_fits_offset
-offset_of-fits Sub = zero_fits_offset
-offset_of-fits Mul = zero_fits_offset
-offset_of-fits Div = zero_fits_offset
-offset_of-fits SDiv = record { sfits = omega arith }
-offset_of-fits Or = zero_fits_offset
-offset_of-fits And = zero_fits_offset
-offset_of-fits Lsh = zero_fits_offset
-offset_of-fits Rsh = zero_fits_offset
-offset_of-fits Mod = zero_fits_offset
-offset_of-fits SMod = record { sfits = omega arith }
-offset_of-fits Xor = zero_fits_offset
-offset_of-fits Arsh = zero_fits_offset
-
-extension_bits-fits : (e : SignExtension) → IsOffset (pos (extension_bits e))
-extension_bits-fits From8To32 = record { sfits = omega arith }
-extension_bits-fits From16To32 = record { sfits = omega arith }
-extension_bits-fits From8To64 = record { sfits = omega arith }
-extension_bits-fits From16To64 = record { sfits = omega arith }
-extension_bits-fits From32To64 = record { sfits = omega arith }
-
-swap_bits-fits : (size : SwapWidth) → IsImmediate (pos (swap_bits size))
-swap_bits-fits S16 = record { sfits = omega arith }
-swap_bits-fits S32 = record { sfits = omega arith }
-swap_bits-fits S64 = record { sfits = omega arith }
 
 -- an opcode of parts that have their bits has its bits
 opcode-fits : (code source class : ℕ) → code < 16 → source < 2 → class < 8 → opcode code source class < 2 ^ 8
@@ -91,28 +55,40 @@ opcode-fits code source class h g k = omega (arith, h, g, k)
 access_opcode-fits : (mode size class : ℕ) → mode < 8 → size < 4 → class < 8 → access_opcode mode size class < 2 ^ 8
 access_opcode-fits mode size class h g k = omega (arith, h, g, k)
 
--- the low and the upper half of a word, read as immediates
-half_fits : (n : ℕ) → n < 2 ^ 32 → IsImmediate (cast_signed w32 n)
-half_fits n h = sfits_to_z {w = w32} {n = n} (record { fits = h })
+-- the opcode of an instruction has its bits
+opcode-few : (i : Insn) → (fields_of i).opcode < 2 ^ 8
+opcode-few (Alu op w dst src) = opcode-fits (code_of op) (source_of src) (alu_class w) (AluFacts.few (alu_facts op)) (source_of-few src) (alu_class-few w)
+opcode-few (Negate w dst) = opcode-fits neg_code source_k (alu_class w) (omega arith) (omega arith) (alu_class-few w)
+opcode-few (Mov w dst src) = opcode-fits mov_code (source_of src) (alu_class w) (omega arith) (source_of-few src) (alu_class-few w)
+opcode-few (SignExtend e dst src) = opcode-fits mov_code source_x (alu_class (extension_width e)) (omega arith) (omega arith) (alu_class-few (extension_width e))
+opcode-few (Reorder order size dst) = opcode-fits end_code (order_source order) (alu_class (order_width order)) (omega arith) (order_source-few order) (alu_class-few (order_width order))
+opcode-few (Wide dst value) = omega arith
+opcode-few (Load kind dst src offset) = access_opcode-fits (mode_of kind) (size_code (loaded_size kind)) class_ldx (mode_of-few kind) (size_code-few (loaded_size kind)) (omega arith)
+opcode-few (Store size dst src offset) = access_opcode-fits mode_mem (size_code size) (store_class src) (omega arith) (size_code-few size) (store_class-few src)
+opcode-few (Jump distance) = omega arith
+opcode-few (JumpLong distance) = omega arith
+opcode-few (Branch test w dst src distance) = opcode-fits (test_code test) (source_of src) (jump_class w) (test_code-few test) (source_of-few src) (jump_class-few w)
+opcode-few Exit = omega arith
 
--- the fields of an instruction fit their bits
+-- the source field of an instruction has its bits
+src-few : (i : Insn) → IsInstruction i → (fields_of i).src < 2 ^ 4
+src-few (Alu op w dst src) h = omega (arith, src_of-register src h.1)
+src-few (Mov w dst src) h = omega (arith, src_of-register src h.1)
+src-few (SignExtend e dst src) h = omega (arith, h.1)
+src-few (Load kind dst src offset) h = omega (arith, h.1)
+src-few (Store size dst src offset) h = omega (arith, src_of-register src h.1)
+src-few (Branch test w dst src distance) h = omega (arith, src_of-register src h.1)
+src-few i h = omega arith
+
+-- the fields of an instruction have their bits
 pub fit-fields_of : (i : Insn) → IsInstruction i → FitUnit (fields_of i)
-fit-fields_of (Alu op w dst src) h = record { opcode = opcode-fits (code_of op) (source_of src) (alu_class w) (AluFacts.few (alu_facts op)) (source_of-few src) (alu_class-few w); dst = omega (arith, h.0); src = omega (arith, src_of-register src h.1); offset = offset_of-fits op; imm = imm_of-fits src h.1 }
-fit-fields_of (Negate w dst) h = record { opcode = opcode-fits neg_code source_k (alu_class w) (omega arith) (omega arith) (alu_class-few w); dst = omega (arith, h); src = omega arith; offset = zero_fits_offset; imm = zero_fits_imm }
-fit-fields_of (Mov w dst src) h = record { opcode = opcode-fits mov_code (source_of src) (alu_class w) (omega arith) (source_of-few src) (alu_class-few w); dst = omega (arith, h.0); src = omega (arith, src_of-register src h.1); offset = zero_fits_offset; imm = imm_of-fits src h.1 }
-fit-fields_of (SignExtend e dst src) h = record { opcode = opcode-fits mov_code source_x (alu_class (extension_width e)) (omega arith) (omega arith) (alu_class-few (extension_width e)); dst = omega (arith, h.0); src = omega (arith, h.1); offset = extension_bits-fits e; imm = zero_fits_imm }
-fit-fields_of (Reorder order size dst) h = record { opcode = opcode-fits end_code (order_source order) (alu_class (order_width order)) (omega arith) (order_source-few order) (alu_class-few (order_width order)); dst = omega (arith, h); src = omega arith; offset = zero_fits_offset; imm = swap_bits-fits size }
-fit-fields_of (Wide dst value) h = record { opcode = omega arith; dst = omega (arith, h.0); src = omega arith; offset = zero_fits_offset; imm = half_fits (value % 2 ^ 32) (omega arith) }
-fit-fields_of (Load kind dst src offset) h = record { opcode = access_opcode-fits (mode_of kind) (size_code (loaded_size kind)) class_ldx (mode_of-few kind) (size_code-few (loaded_size kind)) (omega arith); dst = omega (arith, h.0); src = omega (arith, h.1); offset = h.2; imm = zero_fits_imm }
-fit-fields_of (Store size dst src offset) h = record { opcode = access_opcode-fits mode_mem (size_code size) (store_class src) (omega arith) (size_code-few size) (store_class-few src); dst = omega (arith, h.0); src = omega (arith, src_of-register src h.1); offset = h.2; imm = imm_of-fits src h.1 }
-fit-fields_of (Jump distance) h = record { opcode = omega arith; dst = omega arith; src = omega arith; offset = h; imm = zero_fits_imm }
-fit-fields_of (JumpLong distance) h = record { opcode = omega arith; dst = omega arith; src = omega arith; offset = zero_fits_offset; imm = h }
-fit-fields_of (Branch test w dst src distance) h = record { opcode = opcode-fits (test_code test) (source_of src) (jump_class w) (test_code-few test) (source_of-few src) (jump_class-few w); dst = omega (arith, h.0); src = omega (arith, src_of-register src h.1); offset = h.2; imm = imm_of-fits src h.1 }
-fit-fields_of Exit h = record { opcode = omega arith; dst = omega arith; src = omega arith; offset = zero_fits_offset; imm = zero_fits_imm }
+fit-fields_of i h =
+    let fit = laws.fit-fields_of i h in
+    record { opcode = opcode-few i; dst = fit.dst; src = src-few i h; offset = fit.offset; imm = fit.imm }
 
 -- so does the second unit of a wide instruction
 pub fit-second_unit : (value : ℕ) → IsWord value → FitUnit (second_unit value)
-fit-second_unit value h = record { opcode = omega arith; dst = omega arith; src = omega arith; offset = zero_fits_offset; imm = half_fits (value / 2 ^ 32) (omega (arith, h)) }
+fit-second_unit value h = record { opcode = omega arith; dst = omega arith; src = omega arith; offset = zero_offset; imm = half_fits (value / 2 ^ 32) (omega (arith, h)) }
 
 -- an instruction's opcode
 source_of_operand : Operand → Source

@@ -18,7 +18,7 @@ pub enum DecodeFault {
     Empty,
     /// A number of bytes that is no multiple of 8: number 11, at unit 0.
     NotWholeUnits,
-    /// More than 512 units: number 12, at unit 0.
+    /// More than `PROGRAM_UNITS` units: number 12, at unit 0.
     TooManyUnits,
     /// An opcode that no instruction has: number 13, at this unit.
     UnknownOpcode(usize),
