@@ -3,17 +3,17 @@ use Rattle.std.proofs.Common.{◌≡◌, ◌≢◌, ℕ, ◌/◌, ◌%◌, ◌<�
 use Rattle.std.specs.Prelude.{nat_eq}
 use Rattle.std.proofs.lemmas.Bool.Decides.{nat_tests}
 use Rattle.bpf_model.specs.declared.operations.AluOp.{AluOp}
-use Rattle.bpf_model.specs.declared.operations.AluOp.TheVariants.{Add, Sub, Mul, Div, SDiv, Or, And, Lsh, Rsh, Mod, SMod, Xor, Arsh}
+use Rattle.bpf_model.specs.declared.operations.AluOp.TheVariants.{Div, SDiv, Mod, SMod}
 use Rattle.bpf_model.specs.declared.operations.Width.{Width}
 use Rattle.bpf_model.specs.declared.operations.Width.TheVariants.{W32, W64}
 use Rattle.bpf_model.specs.declared.operations.ByteOrder.{ByteOrder}
 use Rattle.bpf_model.specs.declared.operations.ByteOrder.TheVariants.{Little, Big, Swap}
 use Rattle.bpf_model.specs.declared.conditions.JumpOp.{JumpOp}
-use Rattle.bpf_model.specs.declared.conditions.JumpOp.TheVariants.{Eq, Gt, Ge, Set, Ne, SGt, SGe, Lt, Le, SLt, SLe}
+use Rattle.bpf_model.specs.declared.conditions.JumpOp.TheVariants.{Eq}
 use Rattle.bpf_model.specs.declared.accesses.AccessSize.{AccessSize}
-use Rattle.bpf_model.specs.declared.accesses.AccessSize.TheVariants.{Byte, HalfWord, Word, DoubleWord}
+use Rattle.bpf_model.specs.declared.accesses.AccessSize.TheVariants.{Byte}
 use Rattle.bpf_model.specs.declared.accesses.LoadKind.{LoadKind}
-use Rattle.bpf_model.specs.declared.accesses.LoadKind.TheVariants.{Byte as LoadByte, HalfWord as LoadHalfWord, Word as LoadWord, DoubleWord as LoadDoubleWord, SignedByte, SignedHalfWord, SignedWord}
+use Rattle.bpf_model.specs.declared.accesses.LoadKind.TheVariants.{Byte as LoadByte}
 use Rattle.bpf_model.specs.Accesses.{loaded_size}
 use Rattle.bpf_model.specs.Spelling.{Fields, opcode, access_opcode, class_ldx, alu_class, jump_class, source_k, source_x, code_of, offset_of, neg_code, mov_code, end_code, test_code, size_code, mode_mem, mode_of, order_source}
 use Rattle.bpf_decode.specs.declared.opcode.Source.{Source}
@@ -70,18 +70,11 @@ jump_class-few W64 = omega arith
 
 pub size_code-few : (size : AccessSize) → size_code size < 4
 size_code-few Byte = omega arith
-size_code-few HalfWord = omega arith
-size_code-few Word = omega arith
-size_code-few DoubleWord = omega arith
+size_code-few size = omega arith
 
 pub mode_of-few : (kind : LoadKind) → mode_of kind < 8
 mode_of-few LoadByte = omega arith
-mode_of-few LoadHalfWord = omega arith
-mode_of-few LoadWord = omega arith
-mode_of-few LoadDoubleWord = omega arith
-mode_of-few SignedByte = omega arith
-mode_of-few SignedHalfWord = omega arith
-mode_of-few SignedWord = omega arith
+mode_of-few kind = omega arith
 
 -- what holds of each operation's code and offset
 pub record AluFacts (op : AluOp) : Type 0 where
@@ -94,56 +87,25 @@ pub record AluFacts (op : AluOp) : Type 0 where
   pub signed : is_sign (offset_of op) ≡ true
 
 pub alu_facts : (op : AluOp) → AluFacts op
-alu_facts Add = record { few = omega arith; listed = refl; no_negation = refl; no_move = refl; no_order = refl; sign = refl; signed = refl }
-alu_facts Sub = record { few = omega arith; listed = refl; no_negation = refl; no_move = refl; no_order = refl; sign = refl; signed = refl }
-alu_facts Mul = record { few = omega arith; listed = refl; no_negation = refl; no_move = refl; no_order = refl; sign = refl; signed = refl }
 alu_facts Div = record { few = omega arith; listed = refl; no_negation = refl; no_move = refl; no_order = refl; sign = tt; signed = refl }
 alu_facts SDiv = record { few = omega arith; listed = refl; no_negation = refl; no_move = refl; no_order = refl; sign = tt; signed = refl }
-alu_facts Or = record { few = omega arith; listed = refl; no_negation = refl; no_move = refl; no_order = refl; sign = refl; signed = refl }
-alu_facts And = record { few = omega arith; listed = refl; no_negation = refl; no_move = refl; no_order = refl; sign = refl; signed = refl }
-alu_facts Lsh = record { few = omega arith; listed = refl; no_negation = refl; no_move = refl; no_order = refl; sign = refl; signed = refl }
-alu_facts Rsh = record { few = omega arith; listed = refl; no_negation = refl; no_move = refl; no_order = refl; sign = refl; signed = refl }
 alu_facts Mod = record { few = omega arith; listed = refl; no_negation = refl; no_move = refl; no_order = refl; sign = tt; signed = refl }
 alu_facts SMod = record { few = omega arith; listed = refl; no_negation = refl; no_move = refl; no_order = refl; sign = tt; signed = refl }
-alu_facts Xor = record { few = omega arith; listed = refl; no_negation = refl; no_move = refl; no_order = refl; sign = refl; signed = refl }
-alu_facts Arsh = record { few = omega arith; listed = refl; no_negation = refl; no_move = refl; no_order = refl; sign = refl; signed = refl }
+alu_facts op = record { few = omega arith; listed = refl; no_negation = refl; no_move = refl; no_order = refl; sign = refl; signed = refl }
 
 -- what holds of each test's code
 pub test_code-few : (test : JumpOp) → test_code test < 16
 test_code-few Eq = omega arith
-test_code-few Gt = omega arith
-test_code-few Ge = omega arith
-test_code-few Set = omega arith
-test_code-few Ne = omega arith
-test_code-few SGt = omega arith
-test_code-few SGe = omega arith
-test_code-few Lt = omega arith
-test_code-few Le = omega arith
-test_code-few SLt = omega arith
-test_code-few SLe = omega arith
+test_code-few test = omega arith
 
 pub test_code-listed : (test : JumpOp) → is_test_code (test_code test) ≡ true
 test_code-listed Eq = refl
-test_code-listed Gt = refl
-test_code-listed Ge = refl
-test_code-listed Set = refl
-test_code-listed Ne = refl
-test_code-listed SGt = refl
-test_code-listed SGe = refl
-test_code-listed Lt = refl
-test_code-listed Le = refl
-test_code-listed SLt = refl
-test_code-listed SLe = refl
+test_code-listed test = refl
 
 -- a load's mode and size are those of a load
 pub load_listed : (kind : LoadKind) → used_by_load (mode_of kind) (size_code (loaded_size kind)) ≡ Some (operands source_x true)
 load_listed LoadByte = refl
-load_listed LoadHalfWord = refl
-load_listed LoadWord = refl
-load_listed LoadDoubleWord = refl
-load_listed SignedByte = refl
-load_listed SignedHalfWord = refl
-load_listed SignedWord = refl
+load_listed kind = refl
 
 -- the fields that arithmetic, jumps and accesses use, by the parts of the opcode
 used_fields-alu : (code source : ℕ) (w : Width) → source < 2 → used_fields (opcode code source (alu_class w)) ≡ used_by_alu w source code

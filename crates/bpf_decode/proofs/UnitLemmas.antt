@@ -1,11 +1,8 @@
 -- Units and their bytes.
-use Rattle.std.proofs.Common.{◌≡◌, ℕ, zero, suc, ◌+◌, ◌*◌, ◌/◌, ◌%◌, ◌^◌, ◌<◌, List, [], ◌∷◌, ◌++◌, length, get_or, take, drop, ℤ, refl, sym, ap, ◌∙◌, arith}
+use Rattle.std.proofs.Common.{◌≡◌, ℕ, zero, suc, ◌+◌, ◌*◌, ◌/◌, ◌%◌, ◌^◌, ◌<◌, List, [], ◌∷◌, ◌++◌, length, get_or, take, drop, ℤ, refl, ap, arith}
 use mir.Val.{bits}
 use Rattle.std.specs.Int.{Width, w16, w32, cast_signed, cast_unsigned}
 use Rattle.std.proofs.lemmas.Int.{of_z-to_z, to_z-of_z}
-use Rattle.std.proofs.Math.Facts.{Fits-of_z}
-use Rattle.std.proofs.Math.Nat.{pow-succ'}
-use Rattle.std.proofs.lemmas.List.{append_cancel_left}
 use Rattle.byteorder.specs.Endian.{little_number, little_bytes}
 use Rattle.bpf_model.specs.Words.{bytes_of, word_of}
 use Rattle.bpf_model.specs.Spelling.{Fields, unit_bytes}
