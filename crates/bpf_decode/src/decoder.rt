@@ -101,14 +101,16 @@ fn instructions(alloc: Global, bytes: &[u8]) -> Result<Vec<Insn>, DecodeFault>
     Ok(instructions)
 }
 
-/// The program that the bytes spell, all of them; else the first fault: of their number, or else of the first unit
-/// that begins no instruction, and there the least-numbered. Asks for memory once, for the program, and only after their number was found right.
+/// The program that all the bytes spell; else the first fault: of their number, or else of the first unit that begins
+/// no instruction, and there the one of the least number. Asks for memory once, for the program, and only after the
+/// number of bytes was found right.
 pub fn decode(alloc: Global, bytes: &[u8]) -> Result<Program, DecodeFault>
     ensures found { IfOk result (λ p. Spells bytes.now p) }
     ensures only { (p : List Insn) → Spells bytes.now p → GivesUnlessNoMemory result (Ok p) }
     ensures first_fault { IfErr result (λ e. (e ≡ NoMemory) ⊎ IsFirstFault bytes.now e) }
     ensures memory { result ≡ Err NoMemory → length_fault bytes.now ≡ None }
-    ensures refused { (e : DecodeFault) → IsFirstFault bytes.now e → GivesUnlessNoMemory result (Err e) }
+    ensures refused { (e : DecodeFault) →
+        IsFirstFault bytes.now e → GivesUnlessNoMemory result (Err e) }
 {
     check_length(bytes)?;
     let instructions = instructions(alloc, bytes)?;

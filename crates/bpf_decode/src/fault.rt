@@ -24,7 +24,8 @@ pub enum DecodeFault {
     UnknownOpcode(usize),
     /// A register field that is used and above 10: number 14, at this unit.
     BadRegister(usize),
-    /// A field that is not used and not zero: number 15, at this unit; of a wide instruction's second half, at its first.
+    /// A field that is not used and not zero: number 15, at this unit. Of a wide instruction's second half: at its
+    /// first.
     UnusedNotZero(usize),
     /// A quotient's or remainder's offset other than 0 and 1, a move's that is no width, or a byte order's imm that is
     /// none: number 16, at this unit.

@@ -103,7 +103,8 @@ impl Fields {
     /// The least-numbered fault of fields of which these are used; widths are not looked at.
     pub(crate) fn check(self, used: UsedFields) -> Result<(), UnitFault>
         ensures operands { OnOk result (AreOperands used self) }
-        ensures ok { OnOk result (fault_under (Some used) self ≡ (if has_bad_width self then Some BadWidth else None)) }
+        ensures ok { OnOk result
+            (fault_under (Some used) self ≡ (if has_bad_width self then Some BadWidth else None)) }
         ensures err { IfErr result (λ e. fault_under (Some used) self ≡ Some e) }
     {
         if self.has_bad_register(used) {

@@ -41,7 +41,7 @@ impl Key {
 }
 
 impl Width {
-    /// Whether the word is a number of the width: what an operation, a negation or a move gives at it always is.
+    /// Whether the word is a number of the width. Whatever an operation, a negation or a move gives at it is one.
     #[tactic(auto, using(crate::proofs::ArithmeticLaws::alu_value_below, crate::proofs::ArithmeticLaws::negated_below, crate::proofs::ArithmeticLaws::low_below))]
     pub fn has(self, n: u64) -> bool
         ensures exact { IsTrue result ↔ (n < modulus self) }
@@ -67,7 +67,7 @@ impl Width {
 }
 
 impl SignExtension {
-    /// Whether the extension gives the word: exactly where it leaves it as it stands.
+    /// Whether the word is one that the extension gives: one that it leaves as it is.
     #[tactic(auto, using(crate::proofs::ArithmeticLaws::extended_below, crate::proofs::ArithmeticLaws::extended_again))]
     pub fn gives(self, n: u64) -> bool
         ensures exact { IsTrue result ↔ (extended self n ≡ n) }
@@ -79,7 +79,7 @@ impl SignExtension {
 }
 
 impl SwapWidth {
-    /// The low bytes of a word, reversed and reversed again: they stand as they stood, and the others are zero.
+    /// Reverses the low bytes of a word twice: they are as before, and the others are zero.
     #[tactic(auto, using(crate::proofs::ByteOrderLaws::reordered_below))]
     pub fn reversed_twice(self, n: u64) -> u64
         ensures value { result ≡ reordered Little self n }
@@ -92,7 +92,7 @@ impl SwapWidth {
 }
 
 impl Condition {
-    /// Whether the condition fails of two words: exactly where its opposite holds.
+    /// Whether the condition does not hold of two words: exactly then its opposite does.
     pub fn fails(self, width: Width, a: u64, b: u64) -> bool
         ensures value { result ≡ not (holds self width a b) }
         ensures opposite { holds (opposite_of self) width a b ≡ not (holds self width a b) }
@@ -108,7 +108,8 @@ impl Region {
             lies_in_window sizes self a n ≡ true → result ≡ not (can_write sizes a n) }
         ensures kept { (sizes : DeclaredSizes) (a : ℕ) → AreWithinLimits sizes → result ≡ true →
             lies_in_window sizes self a 1 ≡ true → StaysAt sizes a }
-        ensures outside { (sizes : DeclaredSizes) (a : ℕ) → can_write sizes a 1 ≡ false → StaysAt sizes a }
+        ensures outside { (sizes : DeclaredSizes) (a : ℕ) →
+            can_write sizes a 1 ≡ false → StaysAt sizes a }
     {
         matches!(self, Region::Key | Region::Old | Region::Arg)
     }
@@ -119,7 +120,8 @@ impl Answer {
     pub fn is_same(&self, other: &Answer) -> bool
         ensures exact { IsTrue result ↔ (self.now ≡ other.now) }
         ensures one { (program : List AnyInsn) (sizes : DeclaredSizes) (input : Input) →
-            Means program sizes input self.now → Means program sizes input other.now → IsTrue result }
+            Means program sizes input self.now → Means program sizes input other.now →
+            IsTrue result }
     {
         self == other
     }
@@ -142,7 +144,8 @@ impl Program {
     pub fn spelled_bytes(&self) -> usize
         ensures value { result ≡ length (spelling_of_all self.now) }
         ensures few { result ≤ 8 * PROGRAM_UNITS }
-        ensures one_spelling { (text other : List ℕ) → Spells text self.now → Spells other self.now → text ≡ other }
+        ensures one_spelling { (text other : List ℕ) →
+            Spells text self.now → Spells other self.now → text ≡ other }
         ensures one_program { (text : List ℕ) (other : List AnyInsn) →
             Spells text self.now → Spells text other → other ≡ self.now }
     {
