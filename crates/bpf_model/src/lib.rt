@@ -4,7 +4,8 @@
 //! what a run is and when a program is safe stands in `specs/`, in the terms of RFC 9669: partial maps of registers
 //! and of addresses, and a step that has no case where RFC 9669 or our profile gives none.
 //!
-//! The one promise to the layers above: `fits` is exact, and lengths are bounded by type. No call takes memory.
+//! The promise to the layers above: lengths are bounded by type, each call gives what its definition says, and whether
+//! an input fits is exact (`fits`, `fits_parts`). No call takes memory or waits.
 #![tactic(auto)]
 
 pub mod accesses;
@@ -23,7 +24,7 @@ pub mod region;
 pub use accesses::{AccessSize, LoadKind};
 pub use bytes::{Key, TooLong, Value};
 pub use conditions::{Condition, JumpOp};
-pub use input::{Answer, Input, Sizes, Window, fits};
+pub use input::{Answer, Input, Sizes, Window, fits, fits_parts};
 pub use instruction::{Insn, Operand, Reg, immediate_word};
 pub use memory::NoMemory;
 pub use operations::{AluOp, ByteOrder, SignExtension, SwapWidth, Width};
