@@ -1,4 +1,4 @@
-//! A place in a text, from which bytes are read in order.
+//! What is left of a text, of which bytes are taken from the front.
 ghost use Rattle.std.specs.Prelude.{◌≡◌, ◌≤◌, ◌++◌, ◌∷◌, take, drop, length, codes, OnOk, IsTrue, nat_eq, if◌then◌else◌};
 ghost use Rattle.bpf_assembler.specs.Operands.{Gives, run, is_digit, begins_with, byte_at};
 ghost use Rattle.bpf_assembler.specs.Reading.{is_name_byte, newline_at};
@@ -40,7 +40,7 @@ fn name_length(text: &[u8]) -> usize
 }
 
 impl<'a> Cursor<'a> {
-    /// The start of a text.
+    /// All of a text.
     pub(crate) fn new(text: &'a [u8]) -> Cursor<'a>
         ensures { result.rest.now ≡ text.now }
     {
