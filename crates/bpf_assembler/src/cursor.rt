@@ -67,7 +67,8 @@ impl<'a> Cursor<'a> {
     /// Takes this byte where it is next, and tells whether it was.
     pub(crate) fn take(&mut self, byte: u8) -> bool
         ensures value { result ≡ begins_with byte self.old.rest.now }
-        ensures rest { self.new.rest.now ≡ (if result then drop 1 self.old.rest.now else self.old.rest.now) }
+        ensures rest { self.new.rest.now
+            ≡ (if result then drop 1 self.old.rest.now else self.old.rest.now) }
         ensures found { IsTrue result → self.old.rest.now ≡ byte ∷ self.new.rest.now }
     {
         let next = self.begins_with(byte);
@@ -90,7 +91,8 @@ impl<'a> Cursor<'a> {
     /// Takes all bytes up to a blank or a newline.
     pub(crate) fn name(&mut self) -> &'a [u8]
         ensures name { result.now ≡ take (run is_name_byte self.old.rest.now) self.old.rest.now }
-        ensures rest { self.new.rest.now ≡ drop (run is_name_byte self.old.rest.now) self.old.rest.now }
+        ensures rest { self.new.rest.now
+            ≡ drop (run is_name_byte self.old.rest.now) self.old.rest.now }
     {
         let (name, rest) = self.rest.split_at(name_length(self.rest));
         self.rest = rest;
