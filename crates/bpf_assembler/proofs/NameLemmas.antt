@@ -21,7 +21,7 @@ option_or-none : {A : Type 0} (o p : Option A) → is_some o ≡ false → optio
 option_or-none None p e = refl
 option_or-none (Some x) p e = absurd cc
 
--- the stem at a place is tried before those behind it
+-- the stem at an index is tried before those behind it
 mnemonic_at-next : (ss : List Stem) (k : ℕ) (d : Stem) (name : List ℕ) → k < length ss → mnemonic_at (drop k ss) name ≡ option_or (with_stem (get_or ss k d) name) (mnemonic_at (drop (k + 1) ss) name)
 unfolding mnemonic_at
 mnemonic_at-next ss k d name h = rw (drop-cons ss k d h, add-one) refl

@@ -11,7 +11,7 @@ use Rattle.bpf_model.proofs.Options.{test_of}
 use Rattle.bpf_assembler.specs.Operands.{run, value_from, is_digit, is_numeral, number_at}
 use Rattle.bpf_assembler.proofs.RunLemmas.{run-front}
 
--- the digit at a place goes into the number
+-- the digit at an index goes into the number
 pub value_from-next : (ds : List ℕ) (k d v total : ℕ) → k < length ds → value_from v (drop k ds) ≡ total → value_from (v * 10 + (get_or ds k d - 48)) (drop (k + 1) ds) ≡ total
 unfolding value_from
 value_from-next ds k d v total h before =

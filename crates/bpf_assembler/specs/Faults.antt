@@ -52,8 +52,8 @@ abbrev pub fault_in : Read Insn → ℕ → AsmFault
 fault_in (Err fault) n = at_line n fault
 fault_in (Ok read) n = BadCount n
 
--- behind the lines of instructions that have 512 units at most stands one that is no instruction's, or one whose
--- instruction passes 512 units
+-- behind lines of instructions, of PROGRAM_UNITS units at most, stands a line that is no instruction's, or one whose
+-- instruction passes PROGRAM_UNITS
 pub record IsFaultyLine (text : List ℕ) (fault : AsmFault) : Type 0 where
   pub front : List Insn
   pub rest : List ℕ

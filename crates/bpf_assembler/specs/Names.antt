@@ -118,21 +118,18 @@ stem_of JumpLong = stem.JumpLong
 stem_of (Branch test width) = stem.Branch test
 stem_of Exit = stem.Exit
 
--- the word for the width, the size or the kind
+-- the word for the width, the size or the kind, where it has one
 abbrev pub suffix_of : Mnemonic → List ℕ
 suffix_of (Alu op width) = width_word width
 suffix_of (Negate width) = width_word width
 suffix_of (Mov width) = width_word width
+suffix_of (Branch test width) = width_word width
 suffix_of (SignExtend extension) = extension_word extension
 suffix_of (Reorder order size) = swap_word size
-suffix_of Wide = []
 suffix_of (Load kind) = kind_word kind
 suffix_of (Store size) = size_word size
 suffix_of (StoreImmediate size) = size_word size
-suffix_of Jump = []
-suffix_of JumpLong = []
-suffix_of (Branch test width) = width_word width
-suffix_of Exit = []
+suffix_of m = []
 
 unfoldable pub name_of : Mnemonic → List ℕ
 name_of m = stem_word (stem_of m) ++ suffix_of m

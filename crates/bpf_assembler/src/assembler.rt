@@ -57,7 +57,8 @@ pub fn assemble(alloc: Global, text: &str) -> Result<Program, AsmFault>
     // Memory can be refused only where a line was read.
     ensures memory { result ≡ Err NoMemory → BeginsWithLine text.now }
     // A text with a faulty line is refused.
-    ensures refused { (e : AsmFault) → IsFirstFault text.now e → GivesUnlessNoMemory result (Err e) }
+    ensures refused { (e : AsmFault) → IsFirstFault text.now e
+        → GivesUnlessNoMemory result (Err e) }
 {
     let instructions = instructions(alloc, text.as_bytes())?;
     match Program::new(instructions) {

@@ -1,4 +1,4 @@
-//! A place in a text, from which bytes are read in order.
+//! What is left of a text, of which bytes are taken from the front.
 ghost use Rattle.std.specs.Prelude.{◌≡◌, ◌≤◌, ◌++◌, ◌∷◌, take, drop, length, codes, OnOk, IsTrue, nat_eq, if◌then◌else◌};
 ghost use Rattle.bpf_assembler.specs.Operands.{Gives, run, is_digit, begins_with, byte_at};
 ghost use Rattle.bpf_assembler.specs.Reading.{is_name_byte, newline_at};
@@ -40,7 +40,7 @@ fn name_length(text: &[u8]) -> usize
 }
 
 impl<'a> Cursor<'a> {
-    /// The start of a text.
+    /// All of a text.
     pub(crate) fn new(text: &'a [u8]) -> Cursor<'a>
         ensures { result.rest.now ≡ text.now }
     {
@@ -67,7 +67,8 @@ impl<'a> Cursor<'a> {
     /// Takes this byte where it is next, and tells whether it was.
     pub(crate) fn take(&mut self, byte: u8) -> bool
         ensures value { result ≡ begins_with byte self.old.rest.now }
-        ensures rest { self.new.rest.now ≡ (if result then drop 1 self.old.rest.now else self.old.rest.now) }
+        ensures rest { self.new.rest.now
+            ≡ (if result then drop 1 self.old.rest.now else self.old.rest.now) }
         ensures found { IsTrue result → self.old.rest.now ≡ byte ∷ self.new.rest.now }
     {
         let next = self.begins_with(byte);
@@ -90,7 +91,8 @@ impl<'a> Cursor<'a> {
     /// Takes all bytes up to a blank or a newline.
     pub(crate) fn name(&mut self) -> &'a [u8]
         ensures name { result.now ≡ take (run is_name_byte self.old.rest.now) self.old.rest.now }
-        ensures rest { self.new.rest.now ≡ drop (run is_name_byte self.old.rest.now) self.old.rest.now }
+        ensures rest { self.new.rest.now
+            ≡ drop (run is_name_byte self.old.rest.now) self.old.rest.now }
     {
         let (name, rest) = self.rest.split_at(name_length(self.rest));
         self.rest = rest;

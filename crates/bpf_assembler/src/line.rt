@@ -41,7 +41,8 @@ impl<'a> Cursor<'a> {
     #[tactic(auto, unfolding(crate::specs::Operands::base_at))]
     pub(crate) fn base(&mut self) -> Result<Reg, LineFault>
         ensures exact { Gives self.new.rest.now result (base_at self.old.rest.now) }
-        ensures found { Takes (λ r. codes "[" ++ register r) IsRegister self.old.rest.now self.new.rest.now result }
+        ensures found { Takes (λ r. codes "[" ++ register r) IsRegister
+            self.old.rest.now self.new.rest.now result }
     {
         self.byte(b'[')?;
         self.register()
@@ -51,7 +52,8 @@ impl<'a> Cursor<'a> {
     #[tactic(auto, unfolding(crate::specs::Operands::displacement_at))]
     pub(crate) fn displacement(&mut self) -> Result<i16, LineFault>
         ensures exact { Gives self.new.rest.now result (displacement_at self.old.rest.now) }
-        ensures found { Takes (λ z. offset z ++ codes "]") IsOffset self.old.rest.now self.new.rest.now result }
+        ensures found { Takes (λ z. offset z ++ codes "]") IsOffset
+            self.old.rest.now self.new.rest.now result }
     {
         let offset = self.offset()?;
         self.byte(b']')?;

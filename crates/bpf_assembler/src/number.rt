@@ -66,7 +66,8 @@ impl<'a> Cursor<'a> {
         requires some { 1 ≤ half }
         requires few { half ≤ 2 ^ 31 }
         ensures exact { Gives self.new.rest.now result (positive_at half self.old.rest.now) }
-        ensures found { IfOk result (λ z. (n : ℕ) × ((z ≡ pos n) × (self.old.rest.now ≡ decimal n ++ self.new.rest.now) × (n < half))) }
+        ensures found { IfOk result (λ z. (n : ℕ) × ((z ≡ pos n)
+            × (self.old.rest.now ≡ decimal n ++ self.new.rest.now) × (n < half))) }
     {
         let number = self.number(u64::from(half) - 1)?;
         Ok(number as i32)
@@ -77,7 +78,8 @@ impl<'a> Cursor<'a> {
     fn negative(&mut self, half: u32) -> Result<i32, LineFault>
         requires few { half ≤ 2 ^ 31 }
         ensures exact { Gives self.new.rest.now result (negative_at half self.old.rest.now) }
-        ensures found { IfOk result (λ z. (n : ℕ) × ((z ≡ negsuc n) × (self.old.rest.now ≡ decimal (suc n) ++ self.new.rest.now) × (n < half))) }
+        ensures found { IfOk result (λ z. (n : ℕ) × ((z ≡ negsuc n)
+            × (self.old.rest.now ≡ decimal (suc n) ++ self.new.rest.now) × (n < half))) }
     {
         let number = self.number(u64::from(half))?;
         if number == 0 {

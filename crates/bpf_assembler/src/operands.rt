@@ -18,7 +18,8 @@ impl<'a> Cursor<'a> {
     #[tactic(auto, unfolding(crate::specs::Operands::dst_at))]
     fn dst(&mut self) -> Result<Reg, LineFault>
         ensures exact { Gives self.new.rest.now result (dst_at self.old.rest.now) }
-        ensures found { Takes (λ r. codes " " ++ register r) IsRegister self.old.rest.now self.new.rest.now result }
+        ensures found { Takes (λ r. codes " " ++ register r) IsRegister
+            self.old.rest.now self.new.rest.now result }
     {
         self.byte(b' ')?;
         self.register()
@@ -26,7 +27,8 @@ impl<'a> Cursor<'a> {
 
     #[tactic(auto, unfolding(crate::specs::Reading::operands_at, crate::specs::Text::operands_of))]
     fn alu(&mut self, op: AluOp, width: Width) -> Result<Insn, LineFault>
-        ensures exact { Gives self.new.rest.now result (operands_at (Alu op width) self.old.rest.now) }
+        ensures exact { Gives self.new.rest.now result
+            (operands_at (Alu op width) self.old.rest.now) }
         ensures found { TakesOperands (Alu op width) self.old.rest.now self.new.rest.now result }
     {
         let dst = self.dst()?;
@@ -42,7 +44,8 @@ impl<'a> Cursor<'a> {
 
     #[tactic(auto, unfolding(crate::specs::Reading::operands_at, crate::specs::Text::operands_of))]
     fn negate(&mut self, width: Width) -> Result<Insn, LineFault>
-        ensures exact { Gives self.new.rest.now result (operands_at (Negate width) self.old.rest.now) }
+        ensures exact { Gives self.new.rest.now result
+            (operands_at (Negate width) self.old.rest.now) }
         ensures found { TakesOperands (Negate width) self.old.rest.now self.new.rest.now result }
     {
         let dst = self.dst()?;
@@ -62,8 +65,10 @@ impl<'a> Cursor<'a> {
 
     #[tactic(auto, unfolding(crate::specs::Reading::operands_at, crate::specs::Text::operands_of))]
     fn sign_extend(&mut self, extension: SignExtension) -> Result<Insn, LineFault>
-        ensures exact { Gives self.new.rest.now result (operands_at (SignExtend extension) self.old.rest.now) }
-        ensures found { TakesOperands (SignExtend extension) self.old.rest.now self.new.rest.now result }
+        ensures exact { Gives self.new.rest.now result
+            (operands_at (SignExtend extension) self.old.rest.now) }
+        ensures found { TakesOperands (SignExtend extension)
+            self.old.rest.now self.new.rest.now result }
     {
         let dst = self.dst()?;
         self.comma()?;
@@ -77,8 +82,10 @@ impl<'a> Cursor<'a> {
 
     #[tactic(auto, unfolding(crate::specs::Reading::operands_at, crate::specs::Text::operands_of))]
     fn reorder(&mut self, order: ByteOrder, size: SwapWidth) -> Result<Insn, LineFault>
-        ensures exact { Gives self.new.rest.now result (operands_at (Reorder order size) self.old.rest.now) }
-        ensures found { TakesOperands (Reorder order size) self.old.rest.now self.new.rest.now result }
+        ensures exact { Gives self.new.rest.now result
+            (operands_at (Reorder order size) self.old.rest.now) }
+        ensures found { TakesOperands (Reorder order size)
+            self.old.rest.now self.new.rest.now result }
     {
         let dst = self.dst()?;
         Ok(Insn::Reorder { order, size, dst })
@@ -114,7 +121,8 @@ impl<'a> Cursor<'a> {
 
     #[tactic(auto, unfolding(crate::specs::Reading::operands_at, crate::specs::Text::operands_of))]
     fn store(&mut self, size: AccessSize) -> Result<Insn, LineFault>
-        ensures exact { Gives self.new.rest.now result (operands_at (Store size) self.old.rest.now) }
+        ensures exact { Gives self.new.rest.now result
+            (operands_at (Store size) self.old.rest.now) }
         ensures found { TakesOperands (Store size) self.old.rest.now self.new.rest.now result }
     {
         self.byte(b' ')?;
@@ -132,8 +140,10 @@ impl<'a> Cursor<'a> {
 
     #[tactic(auto, unfolding(crate::specs::Reading::operands_at, crate::specs::Text::operands_of))]
     fn store_immediate(&mut self, size: AccessSize) -> Result<Insn, LineFault>
-        ensures exact { Gives self.new.rest.now result (operands_at (StoreImmediate size) self.old.rest.now) }
-        ensures found { TakesOperands (StoreImmediate size) self.old.rest.now self.new.rest.now result }
+        ensures exact { Gives self.new.rest.now result
+            (operands_at (StoreImmediate size) self.old.rest.now) }
+        ensures found { TakesOperands (StoreImmediate size)
+            self.old.rest.now self.new.rest.now result }
     {
         self.byte(b' ')?;
         let dst = self.base()?;
@@ -170,8 +180,10 @@ impl<'a> Cursor<'a> {
 
     #[tactic(auto, unfolding(crate::specs::Reading::operands_at, crate::specs::Text::operands_of))]
     fn branch(&mut self, test: JumpOp, width: Width) -> Result<Insn, LineFault>
-        ensures exact { Gives self.new.rest.now result (operands_at (Branch test width) self.old.rest.now) }
-        ensures found { TakesOperands (Branch test width) self.old.rest.now self.new.rest.now result }
+        ensures exact { Gives self.new.rest.now result
+            (operands_at (Branch test width) self.old.rest.now) }
+        ensures found { TakesOperands (Branch test width)
+            self.old.rest.now self.new.rest.now result }
     {
         let dst = self.dst()?;
         self.comma()?;

@@ -35,7 +35,8 @@ fn write_signed(text: &mut String, number: i32) -> Result<(), AllocError>
 }
 
 fn write_place(text: &mut String, base: Reg, displacement: i16) -> Result<(), AllocError>
-    ensures text { OnOk result (string_bytes text.new ≡ string_bytes text.old ++ place base displacement) }
+    ensures text { OnOk result
+        (string_bytes text.new ≡ string_bytes text.old ++ place base displacement) }
     ensures fits { OnOk result (IsRegister base) }
 {
     write!(text, "[r{}", base.number())?;
@@ -44,7 +45,8 @@ fn write_place(text: &mut String, base: Reg, displacement: i16) -> Result<(), Al
 }
 
 fn write_pair(text: &mut String, dst: Reg, src: Operand) -> Result<(), AllocError>
-    ensures text { OnOk result (string_bytes text.new ≡ string_bytes text.old ++ codes " " ++ register dst ++ codes ", " ++ operand src) }
+    ensures text { OnOk result (string_bytes text.new
+        ≡ string_bytes text.old ++ codes " " ++ register dst ++ codes ", " ++ operand src) }
     ensures fits { OnOk result (IsRegister dst × IsOperand src) }
 {
     write!(text, " r{}, ", dst.number())?;
@@ -52,7 +54,8 @@ fn write_pair(text: &mut String, dst: Reg, src: Operand) -> Result<(), AllocErro
 }
 
 fn write_jump(text: &mut String, distance: i32) -> Result<(), AllocError>
-    ensures { OnOk result (string_bytes text.new ≡ string_bytes text.old ++ codes " " ++ offset distance) }
+    ensures { OnOk result
+        (string_bytes text.new ≡ string_bytes text.old ++ codes " " ++ offset distance) }
 {
     text.push_str(" ")?;
     write_signed(text, distance)
@@ -64,7 +67,8 @@ fn write_store(
     displacement: i16,
     src: Operand,
 ) -> Result<(), AllocError>
-    ensures text { OnOk result (string_bytes text.new ≡ string_bytes text.old ++ codes " " ++ place base displacement ++ codes ", " ++ operand src) }
+    ensures text { OnOk result (string_bytes text.new
+        ≡ string_bytes text.old ++ codes " " ++ place base displacement ++ codes ", " ++ operand src) }
     ensures fits { OnOk result (IsRegister base × IsOperand src) }
 {
     text.push_str(" ")?;
