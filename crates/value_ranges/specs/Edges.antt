@@ -1,4 +1,4 @@
--- Edges of ranges, if there are any. This verifier's own.
+-- Internal: edges of ranges, if there are any. This verifier's own.
 use Rattle.std.specs.Prelude.{ℕ, ◌≤◌, ℤ, ◌≤ℤ◌, Option, Some, None}
 
 abbrev pub IsFrom : ℕ → Option ℕ → Type 0
