@@ -4,20 +4,7 @@ use super::Row::{Four, One, Same, Signed};
 use super::{Compared, MAX64};
 use std::test::*;
 
-const SMALL_RANGES: [Compared; 8] = [
-    Compared {
-        name: "a word twice",
-        a: One(5),
-        b: One(5),
-        equal: (Kept, Kept),
-        unequal: (Never, Never),
-        greater: (Never, Never),
-        at_least: (Kept, Kept),
-        signed_greater: (Never, Never),
-        signed_at_least: (Kept, Kept),
-        common_bit: (Kept, Kept),
-        no_common_bit: (Never, Never),
-    },
+const SMALL_RANGES: [Compared; 7] = [
     Compared {
         name: "a range and its least word",
         a: Same(0, 10),

@@ -1,6 +1,8 @@
 //! Operations on small ranges.
 use super::Row::{Four, One, Same, Signed, Unsigned};
-use super::{FULL, MAX31, MAX32, MAX63, MAX64, Operands, WORD};
+use super::{FULL, MAX31, MAX32, MAX63, MAX64, Operands, WORD, bounds};
+use crate::alu;
+use bpf_model::{AluOp, Width};
 use std::test::*;
 
 const SMALL_RANGES: [Operands; 9] = [
@@ -154,5 +156,19 @@ const SMALL_RANGES: [Operands; 9] = [
 fn operations_on_small_ranges(rt: HostRuntime) {
     for row in &SMALL_RANGES {
         row.check(&rt);
+    }
+}
+
+#[test]
+fn signed_quotients_and_remainders_may_be_any_number(rt: HostRuntime) {
+    let (a, b) = (Same(0, 10).range(&rt), One(3).range(&rt));
+    for op in [AluOp::SDiv, AluOp::SMod] {
+        for (width, any) in [(Width::W64, FULL), (Width::W32, WORD)] {
+            assert_eq!(rt;
+                bounds(alu(op, width, a, b)),
+                any.bounds(),
+                "{op:?} {width:?}"
+            );
+        }
     }
 }
