@@ -1,57 +1,103 @@
 #!/usr/bin/env bash
-# Times `run` of bpf_machine beside a plain C loop over decoded instructions, in one go: a whole run of the six-instruction
-# sum, and one instruction of 500 of arithmetic. Nothing is timed unless both answer the expected bytes. By hand, not by
-# the gate. A first time takes minutes, since a program is built only when all below it is proved.
+# Times `run` of bpf_machine beside a plain C loop over decoded instructions, with and without bounds checks, and `verify`
+# of verifier: seven times in turn, and prints the medians. Where valgrind is installed, instructions a run too. By hand,
+# not by the gate. It takes some seconds; a first time takes minutes, since a program is built only when all below it is
+# proved.
 set -euo pipefail
 shopt -s inherit_errexit
 cd "$(dirname "$0")/.."
+bench=crates/bench/out/bench
 work=$(mktemp -d)
 trap 'rm -rf "$work"' EXIT
-cp -r crates crates.txt HANDLES "$work"
-mkdir -p "$work/crates/bench/src"
-cp bench/main.rt.in "$work/crates/bench/src/main.rt"
-echo "bench: map_server bpf_model bpf_decode flow_shape verifier bpf_machine" >> "$work/crates.txt"
-gcc -O2 -o "$work/interpreter" bench/interpreter.c
 
-cp bench/sum.hex "$work/sum.hex"
-{
-    echo "b700000001000000 b709000002000000"
-    for _ in $(seq 49); do cat bench/turn.hex; done
-    for _ in $(seq 6); do echo 0f09000000000000; done
-    echo "7b94000000000000 b700000008000000 9500000000000000"
-} > "$work/alu.hex"
-(cd "$work/crates/bench" && rt run -- 0 < "$work/sum.hex" > "$work/build.log" 2>&1) || { cat "$work/build.log"; exit 1; }
+if [ ! -e $bench ] || [ -n "$(find crates.txt crates/*/src crates/*/specs crates/*/proofs -newer $bench -print -quit 2>/dev/null)" ]; then
+    (cd crates/bench && rt run > "$work/build.log" 2>&1) || { cat "$work/build.log"; exit 1; }
+    touch $bench
+fi
+gcc -O2 -o "$work/plain" bench/interpreter.c
+gcc -O2 -DCHECKED -o "$work/checked" bench/interpreter.c
+for name in sum alu; do $bench hex $name > "$work/$name.hex"; done
 
-# nanoseconds that a command takes
-elapsed() {
-    local start end
-    start=$(date +%s%N)
-    "$@" > "$work/out" || { echo "$* fails with status $?" >&2; exit 1; }
-    end=$(date +%s%N)
-    echo $((end - start))
+# one side, a program, how often
+side() {
+    case $1 in
+        rattle) $bench run "$2" "$3" ;;
+        shape | verify) $bench "$1" "$2" "$3" ;;
+        *) "$work/$1" "$3" < "$work/$2.hex" ;;
+    esac
 }
-rattle() { "$work/crates/bench/out/bench" "$2" < "$work/$1.hex"; }
-plain() { "$work/interpreter" "$1" "$2"; }
 
 # nanoseconds that the runs take, without what a start takes
-runs() {
-    local whole start
-    whole=$(elapsed "$1" "$2" "$3")
-    start=$(elapsed "$1" "$2" 0)
-    echo $((whole - start))
+elapsed() {
+    local begun started ended
+    begun=$(date +%s%N)
+    side "$1" "$2" 0 > "$work/out"
+    started=$(date +%s%N)
+    side "$1" "$2" "$3" > "$work/out"
+    ended=$(date +%s%N)
+    echo $((ended - started - (started - begun)))
 }
 
-# program, its answer, runs, what a figure is of, parts of a run
-measure() {
-    local side answer ours theirs
-    for side in rattle plain; do
-        answer=$("$side" "$1" 0)
-        [ "$answer" = "$2" ] || { echo "$1: $side answers '$answer', not '$2'" >&2; exit 1; }
+# the median of seven times of each side, in turn: a program, how often, sides
+medians() {
+    local program=$1 count=$2
+    shift 2
+    for name in "$@"; do : > "$work/$name.times"; done
+    for _ in 1 2 3 4 5 6 7; do
+        for name in "$@"; do elapsed "$name" "$program" "$count" >> "$work/$name.times"; done
     done
-    ours=$(runs rattle "$1" "$3")
-    theirs=$(runs plain "$1" "$3")
-    awk -v ours="$ours" -v theirs="$theirs" -v n="$(($3 * $5))" -v what="$4" \
-        'BEGIN { printf "%s: run %.2f ns, plain C %.2f ns, ratio %.2f\n", what, ours / n, theirs / n, ours / theirs }'
+    for name in "$@"; do sort -n "$work/$name.times" | sed -n 4p; done
 }
-measure sum 0300000000000000 5000000 "a run of the sum" 1
-measure alu e1218400fffdfbf7 200000 "an instruction of 500" 501
+
+# the processor's instructions for one run, by callgrind: a side, a program, how often
+instructions() {
+    local none all
+    none=$(counted "$1" "$2" 0)
+    all=$(counted "$1" "$2" "$3")
+    echo $(((all - none) / $3))
+}
+counted() {
+    local input=/dev/null command=("$bench" run "$2" "$3")
+    if [ "$1" != rattle ]; then
+        input=$work/$2.hex
+        command=("$work/$1" "$3")
+    fi
+    valgrind --tool=callgrind --callgrind-out-file=/dev/null "${command[@]}" 2>&1 > "$work/out" < "$input" |
+        sed -n 's/.*Collected : //p'
+}
+
+# a program, its answer, how often, what a figure is of, parts of a run, how often for callgrind
+measure() {
+    local answer
+    answer=$($bench | sed -n "s/^$1 answers //p")
+    [ "$answer" = "$2" ] || { echo "$1: run answers '$answer', not '$2'" >&2; exit 1; }
+    for name in plain checked; do
+        answer=$(side $name "$1" 0)
+        [ "$answer" = "$2" ] || { echo "$1: $name C answers '$answer', not '$2'" >&2; exit 1; }
+    done
+    medians "$1" "$3" rattle plain checked | paste -s | awk -v n=$(($3 * $5)) -v what="$4" '{
+        printf "%s: run %.2f ns, plain C %.2f ns (ratio %.2f), C with bounds checks %.2f ns (ratio %.2f)\n",
+            what, $1 / n, $2 / n, $1 / $2, $3 / n, $1 / $3 }'
+    if command -v valgrind > /dev/null; then
+        echo "  instructions a run: $(instructions rattle "$1" "$6"), plain C $(instructions plain "$1" "$6")," \
+            "C with bounds checks $(instructions checked "$1" "$6")"
+    fi
+}
+
+# a program, how often: `verify` is handed what `shape` gives, so what that takes is taken off
+measure_verify() {
+    local units
+    if ! $bench verify "$1" 1 > "$work/out" 2>&1; then
+        echo "verify, $1: refused so far"
+        return
+    fi
+    units=$(($($bench hex "$1" | tr -d '\n' | wc -c) / 16))
+    medians "$1" "$2" shape verify | paste -s | awk -v n=$(($2 * units)) -v what="$1" '{
+        printf "verify, %s: %.2f ns a unit (shape before it %.2f ns)\n", what, ($2 - $1) / n, $1 / n }'
+}
+
+measure sum 0300000000000000 2000000 "a run of the sum" 1 2000
+measure alu e1218400fffdfbf7 50000 "an instruction of 501" 501 200
+measure_verify straight 2000
+measure_verify jumps 200
+measure_verify ladder 200

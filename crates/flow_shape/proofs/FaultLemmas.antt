@@ -11,7 +11,8 @@ use Rattle.bpf_model.proofs.ProgramLemmas.{unit_count-next, none_inside, none_pa
 use Rattle.flow_shape.specs.declared.fault.FlowFault.{FlowFault}
 use Rattle.flow_shape.specs.declared.fault.FlowFault.TheVariants.{BackwardJump, JumpOut, JumpIntoWide, FallsOffEnd}
 use Rattle.flow_shape.specs.Jumps.{distance_of, falls_through, JumpsBy, target_of}
-use Rattle.flow_shape.specs.FlowShape.{JumpsIntoWide, Falls, HasFault, HasNoFaultAt, IsFirstFaultAt, IsWellShaped, Lands, DoesLand, faulty_unit, number_of}
+use Rattle.flow_shape.specs.FlowShape.{JumpsIntoWide, Falls, HasFault, IsWellShaped, Lands, faulty_unit, number_of}
+use Rattle.flow_shape.specs.Layouts.{HasNoFaultAt, IsFirstFaultAt, DoesLand}
 
 -- a whole number that is a unit is this one
 pub unit_is : (z : ℤ) (t : ℕ) → unit_of z ≡ Some t → z ≡ pos t

@@ -1,5 +1,5 @@
--- Which faults of flow a program has, and what a program without one keeps. Our profile of RFC 9669.
-use Rattle.std.specs.Prelude.{◌≡◌, ◌≢◌, ℕ, ◌+◌, ◌<◌, ◌≤◌, ◌⊎◌, true, List, Some, None, IsSome, ℤ, pos, ◌<ℤ◌, ◌≤ℤ◌}
+-- Which faults of flow a program has, and what one without keeps. Our profile of RFC 9669.
+use Rattle.std.specs.Prelude.{◌≡◌, ℕ, ◌+◌, ◌<◌, ◌≤◌, ◌⊎◌, true, List, Some, None, IsSome, ℤ, pos, ◌<ℤ◌, ◌≤ℤ◌}
 use Rattle.bpf_model.specs.declared.instruction.Insn.{Insn}
 use Rattle.bpf_model.specs.Program.{units_of, unit_count, instruction_at}
 use Rattle.bpf_model.specs.Step.{unit_of}
@@ -13,7 +13,8 @@ JumpsBack program unit = (distance : ℤ) × (JumpsBy program unit distance × (
 
 -- a jump at or past the number of units
 abbrev pub JumpsOut : List Insn → ℕ → Type 0
-JumpsOut program unit = (distance : ℤ) × (JumpsBy program unit distance × (pos (unit_count program) ≤ℤ target_of unit distance))
+JumpsOut program unit =
+    (distance : ℤ) × (JumpsBy program unit distance × (pos (unit_count program) ≤ℤ target_of unit distance))
 
 -- a unit inside at which no instruction starts is the second of a wide one
 abbrev pub IsSecondHalf : List Insn → ℕ → Type 0
@@ -65,16 +66,6 @@ pub record IsFirstFault (program : List Insn) (fault : FlowFault) : Type 0 where
   pub first : (other : FlowFault) → HasFault program other
       → (faulty_unit fault < faulty_unit other) ⊎ ((faulty_unit fault ≡ faulty_unit other) × (number_of fault ≤ number_of other))
 
--- no fault is of the instruction at this unit
-abbrev pub HasNoFaultAt : List Insn → ℕ → Type 0
-HasNoFaultAt program unit = (fault : FlowFault) → HasFault program fault → faulty_unit fault ≢ unit
-
--- the program has this fault at this unit, and at this unit none of a lesser number
-pub record IsFirstFaultAt (program : List Insn) (unit : ℕ) (fault : FlowFault) : Type 0 where
-  pub has : HasFault program fault
-  pub at : faulty_unit fault ≡ unit
-  pub least : (other : FlowFault) → HasFault program other → faulty_unit other ≡ unit → number_of fault ≤ number_of other
-
 -- a jump at this unit goes forward, to a unit at which an instruction starts
 pub record Lands (program : List Insn) (unit : ℕ) (distance : ℤ) : Type 0 where
   pub target : ℕ
@@ -82,11 +73,7 @@ pub record Lands (program : List Insn) (unit : ℕ) (distance : ℤ) : Type 0 wh
   pub forward : unit < target
   pub starts : IsSome (instruction_at program target)
 
--- the instruction at this unit lands, if it is a jump
-abbrev pub DoesLand : List Insn → ℕ → Type 0
-DoesLand program unit = (distance : ℤ) → JumpsBy program unit distance → Lands program unit distance
-
--- each jump goes forward, to an instruction's start inside the program, and after no instruction does a run leave it
+-- each jump goes forward, to an instruction's start inside, and after no instruction does a run leave it
 pub record IsForward (program : List Insn) : Type 0 where
   pub lands : (unit : ℕ) (distance : ℤ) → JumpsBy program unit distance → (pos 0 ≤ℤ distance) × Lands program unit distance
   pub goes_on : (unit : ℕ) (i : Insn) → instruction_at program unit ≡ Some i → falls_through i ≡ true → IsSome (instruction_at program (unit + units_of i))

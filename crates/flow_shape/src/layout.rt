@@ -1,7 +1,7 @@
 //! At which units of a program an instruction starts, and which fault of flow an instruction has there.
 ghost use Rattle.std.specs.Prelude.{◌≡◌, Some, OnOk, IfErr};
 ghost use Rattle.bpf_model.specs.Program.{IsProgram, instruction_at};
-ghost use Rattle.flow_shape.specs.FlowShape.{DoesLand, HasNoFaultAt, IsFirstFaultAt};
+ghost use Rattle.flow_shape.specs.Layouts.{DoesLand, HasNoFaultAt, IsFirstFaultAt};
 
 use crate::fault::FlowFault;
 use crate::jumps::{distance, falls_through};

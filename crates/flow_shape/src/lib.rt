@@ -4,8 +4,8 @@
 //! program, and after no instruction does a run leave it (`Shaped::program`, clause `forward`). `shape` accepts exactly
 //! the programs without a fault of flow, unchanged, and names the first fault of any other.
 //!
-//! A call looks at each instruction twice, marks the starts in 512 flags on its stack, and takes no memory. What a
-//! fault is stands in `specs/FlowShape.antt`.
+//! A call looks at each instruction twice, marks the starts in `PROGRAM_UNITS` flags on its stack, and takes no
+//! memory. What a fault is stands in `specs/FlowShape.antt`.
 #![tactic(auto)]
 
 pub mod fault;
@@ -15,6 +15,3 @@ pub mod shaping;
 
 pub use fault::FlowFault;
 pub use shaping::{Shaped, shape};
-
-#[cfg(test)]
-mod tests;

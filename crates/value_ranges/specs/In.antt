@@ -1,5 +1,5 @@
--- Which words lie in a range. This verifier's own.
-use Rattle.std.specs.Prelude.{◌≡◌, ℕ, ◌≤◌, ℤ, pos, ◌≤ℤ◌, Option, Some, None}
+-- Which words lie in a range, and in two; from `IsBetween` on internal. This verifier's own.
+use Rattle.std.specs.Prelude.{◌≡◌, ℕ, ◌≤◌, ℤ, pos, ◌≤ℤ◌, Option, Some, None, Bool, IsTrue}
 use Rattle.bpf_model.specs.Words.{IsWord, signed}
 use Rattle.value_ranges.specs.declared.range.Range.{Range}
 use Rattle.value_ranges.specs.declared.bounds.Bounds.{Bounds}
@@ -27,9 +27,6 @@ pub record IsWithinBoth (w low high : ℕ) (signed_low signed_high : ℤ) : Type
 abbrev pub IsIn : ℕ → Range → Type 0
 IsIn w r = IsWithinBoth w r.umin r.umax r.smin r.smax
 
-abbrev pub IsWithin : ℕ → Bounds → Type 0
-IsWithin w b = IsWithinBoth w b.umin b.umax b.smin b.smax
-
 -- where there is no range no word is in it
 abbrev pub IsInSome : ℕ → Option Range → Type 0
 IsInSome w None = ⊥
@@ -38,6 +35,10 @@ IsInSome w (Some r) = IsIn w r
 abbrev pub AreInSome : ℕ → ℕ → Option (Range × Range) → Type 0
 AreInSome x y None = ⊥
 AreInSome x y (Some p) = IsIn x p.0 × IsIn y p.1
+
+-- no pair of words of the two ranges is lost of which the test is true
+abbrev pub KeepsPairs : (ℕ → ℕ → Bool) → Range → Range → Option (Range × Range) → Type 0
+KeepsPairs test a b answer = (x y : ℕ) → IsIn x a → IsIn y b → IsTrue (test x y) → AreInSome x y answer
 
 -- a range of one word: all four bounds are its readings
 pub record IsSingle (r : Range) (w : ℕ) : Type 0 where
@@ -50,3 +51,14 @@ pub record IsSingle (r : Range) (w : ℕ) : Type 0 where
 pub record IsSignedUpToMask (r : Range) (m : ℕ) : Type 0 where
   pub smin : pos 0 ≤ℤ r.smin
   pub smax : r.smax ≤ℤ pos m
+
+-- a word whose unsigned reading lies from the first bound to the second
+abbrev pub IsBetween : ℕ → ℕ × ℕ → Type 0
+IsBetween w bounds = IsWithinUnsigned w bounds.0 bounds.1
+
+-- a word whose signed reading does
+abbrev pub IsSignedBetween : ℕ → ℤ × ℤ → Type 0
+IsSignedBetween w bounds = IsWithinSigned w bounds.0 bounds.1
+
+abbrev pub IsWithin : ℕ → Bounds → Type 0
+IsWithin w b = IsWithinBoth w b.umin b.umax b.smin b.smax

@@ -66,7 +66,7 @@ fn lowered(bound: u64, word: u64) -> Option<u64>
 }
 
 fn signed_raised(bound: i64, reading: i64) -> Option<i64>
-    ensures { (x : ℕ) → IsWord x → bound ≤ℤ signed x → signed x ≢ reading → IsSignedFrom (signed x) result }
+    ensures { (x : ℕ) → IsWord x → bound ≤ℤ signed x → signed x ≢ reading → IsSignedFrom x result }
 {
     if bound == reading {
         reading.checked_add(1)
@@ -76,7 +76,7 @@ fn signed_raised(bound: i64, reading: i64) -> Option<i64>
 }
 
 fn signed_lowered(bound: i64, reading: i64) -> Option<i64>
-    ensures { (x : ℕ) → IsWord x → signed x ≤ℤ bound → signed x ≢ reading → IsSignedUpTo (signed x) result }
+    ensures { (x : ℕ) → IsWord x → signed x ≤ℤ bound → signed x ≢ reading → IsSignedUpTo x result }
 {
     if bound == reading {
         reading.checked_sub(1)

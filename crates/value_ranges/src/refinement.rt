@@ -1,8 +1,7 @@
 //! What a condition says of the ranges of its words.
-ghost use Rattle.std.specs.Prelude.{ℕ, IsTrue};
 ghost use Rattle.bpf_model.specs.Words.{signed};
 ghost use Rattle.bpf_model.specs.Conditions.{compare, holds};
-ghost use Rattle.value_ranges.specs.In.{IsIn, AreInSome};
+ghost use Rattle.value_ranges.specs.In.{KeepsPairs};
 
 use crate::bounds::Bounds;
 use crate::comparisons::{
@@ -17,7 +16,7 @@ use bpf_model::{Condition, Width};
 /// At 32 bits the bounds count where all words of both ranges are below 2 to the 31, where low parts and words have
 /// the same readings. Elsewhere the ranges stay, and none is answered only where both have one word.
 pub fn refine(condition: Condition, width: Width, a: Range, b: Range) -> Option<(Range, Range)>
-    ensures { (x y : ℕ) → IsIn x a → IsIn y b → IsTrue (holds condition width x y) → AreInSome x y result }
+    ensures { KeepsPairs (holds condition width) a b result }
 {
     match width {
         Width::W64 => refine_words(condition, a, b),
@@ -33,7 +32,7 @@ pub fn refine(condition: Condition, width: Width, a: Range, b: Range) -> Option<
 
 // by the whole words
 fn refine_words(condition: Condition, a: Range, b: Range) -> Option<(Range, Range)>
-    ensures { (x y : ℕ) → IsIn x a → IsIn y b → IsTrue (compare condition x y (signed x) (signed y)) → AreInSome x y result }
+    ensures { KeepsPairs (λ x y. compare condition x y (signed x) (signed y)) a b result }
 {
     match condition {
         Condition::Eq => equal(a, b),
@@ -52,7 +51,7 @@ fn refine_words(condition: Condition, a: Range, b: Range) -> Option<(Range, Rang
 
 // the ranges themselves; none where each has one word and the condition is false
 fn kept(condition: Condition, width: Width, a: Range, b: Range) -> Option<(Range, Range)>
-    ensures { (x y : ℕ) → IsIn x a → IsIn y b → IsTrue (holds condition width x y) → AreInSome x y result }
+    ensures { KeepsPairs (holds condition width) a b result }
 {
     match (a.single_value(), b.single_value()) {
         (Some(x), Some(y)) if !condition.holds(width, x, y) => None,

@@ -2,7 +2,7 @@
 ghost use Rattle.std.specs.Prelude.{ℕ, ◌+◌, ◌-◌, ◌%◌, ◌<◌, ◌^◌};
 ghost use Rattle.bpf_model.specs.Words.{IsWord};
 ghost use Rattle.bpf_model.specs.Arithmetic.{modulus, sum_of, difference_of};
-ghost use Rattle.value_ranges.specs.In.{IsIn, IsWithinUnsigned, IsWithinSigned};
+ghost use Rattle.value_ranges.specs.In.{IsIn, IsBetween, IsSignedBetween};
 
 use crate::bounds::Bounds;
 use crate::range::Range;
@@ -30,7 +30,7 @@ pub fn subtract(width: Width, a: Range, b: Range) -> Range
 
 // the range of these bounds, or all numbers of the width where they hold no word
 fn of_bounds(width: Width, unsigned: (u64, u64), signed: (i64, i64)) -> Range
-    ensures { (w : ℕ) → w < modulus width → IsWithinUnsigned w unsigned.0 unsigned.1 → IsWithinSigned w signed.0 signed.1 → IsIn w result }
+    ensures { (w : ℕ) → w < modulus width → IsBetween w unsigned → IsSignedBetween w signed → IsIn w result }
 {
     let bounds = Bounds {
         umin: unsigned.0,
@@ -46,7 +46,7 @@ fn of_bounds(width: Width, unsigned: (u64, u64), signed: (i64, i64)) -> Range
 
 // the greatest sum decides: where it wraps round, any number of the width may come out
 fn unsigned_sums(width: Width, a: Range, b: Range) -> (u64, u64)
-    ensures { (x y : ℕ) → IsIn x a → IsIn y b → IsWithinUnsigned (sum_of width x y) result.0 result.1 }
+    ensures { (x y : ℕ) → IsIn x a → IsIn y b → IsBetween (sum_of width x y) result }
 {
     let greatest = width.greatest();
     match a.umax.checked_add(b.umax) {
@@ -58,7 +58,7 @@ fn unsigned_sums(width: Width, a: Range, b: Range) -> (u64, u64)
 fn unsigned_differences(width: Width, a: Range, b: Range) -> (u64, u64)
     requires first { a.umax < modulus width }
     requires second { b.umax < modulus width }
-    ensures { (x y : ℕ) → IsIn x a → IsIn y b → IsWithinUnsigned (difference_of width x y) result.0 result.1 }
+    ensures { (x y : ℕ) → IsIn x a → IsIn y b → IsBetween (difference_of width x y) result }
 {
     if a.umin >= b.umax {
         (a.umin - b.umax, a.umax - b.umin)
@@ -68,7 +68,7 @@ fn unsigned_differences(width: Width, a: Range, b: Range) -> (u64, u64)
 }
 
 fn signed_sums(width: Width, a: Range, b: Range) -> (i64, i64)
-    ensures { (x y : ℕ) → IsIn x a → IsIn y b → IsWithinSigned (sum_of width x y) result.0 result.1 }
+    ensures { (x y : ℕ) → IsIn x a → IsIn y b → IsSignedBetween (sum_of width x y) result }
 {
     match width {
         Width::W32 => all_signed(),
@@ -77,7 +77,7 @@ fn signed_sums(width: Width, a: Range, b: Range) -> (i64, i64)
 }
 
 fn signed_differences(width: Width, a: Range, b: Range) -> (i64, i64)
-    ensures { (x y : ℕ) → IsIn x a → IsIn y b → IsWithinSigned (difference_of width x y) result.0 result.1 }
+    ensures { (x y : ℕ) → IsIn x a → IsIn y b → IsSignedBetween (difference_of width x y) result }
 {
     match width {
         Width::W32 => all_signed(),
@@ -86,7 +86,7 @@ fn signed_differences(width: Width, a: Range, b: Range) -> (i64, i64)
 }
 
 fn signed_double_word_sums(a: Range, b: Range) -> (i64, i64)
-    ensures { (x y : ℕ) → IsIn x a → IsIn y b → IsWithinSigned ((x + y) % 2 ^ 64) result.0 result.1 }
+    ensures { (x y : ℕ) → IsIn x a → IsIn y b → IsSignedBetween ((x + y) % 2 ^ 64) result }
 {
     match (a.smin.checked_add(b.smin), a.smax.checked_add(b.smax)) {
         (Some(low), Some(high)) => (low, high),
@@ -95,7 +95,7 @@ fn signed_double_word_sums(a: Range, b: Range) -> (i64, i64)
 }
 
 fn signed_double_word_differences(a: Range, b: Range) -> (i64, i64)
-    ensures { (x y : ℕ) → IsIn x a → IsIn y b → IsWithinSigned ((x + (2 ^ 64 - y)) % 2 ^ 64) result.0 result.1 }
+    ensures { (x y : ℕ) → IsIn x a → IsIn y b → IsSignedBetween ((x + (2 ^ 64 - y)) % 2 ^ 64) result }
 {
     match (a.smin.checked_sub(b.smax), a.smax.checked_sub(b.smin)) {
         (Some(low), Some(high)) => (low, high),
@@ -104,7 +104,7 @@ fn signed_double_word_differences(a: Range, b: Range) -> (i64, i64)
 }
 
 fn all_signed() -> (i64, i64)
-    ensures { (w : ℕ) → IsWord w → IsWithinSigned w result.0 result.1 }
+    ensures { (w : ℕ) → IsWord w → IsSignedBetween w result }
 {
     (i64::MIN, i64::MAX)
 }

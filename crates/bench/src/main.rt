@@ -1,0 +1,130 @@
+//! Runs and verifies programs as often as it is told, to be timed from outside.
+//!
+//! `run NAME COUNT`, `verify NAME COUNT` and `shape NAME COUNT` (what `verify` is handed, without `verify`); `hex NAME`
+//! prints a program's bytes. Without words it prints what each program does that `verify` takes so far.
+#![tactic(auto)]
+
+mod programs;
+
+use anyhow::{Result, bail, ensure};
+use bpf_assembler::assemble;
+use bpf_decode::encode;
+use bpf_machine::run;
+use bpf_model::limits::{KEY_BYTES, VALUE_BYTES};
+use bpf_model::{Answer, Input, Insn, Key, Program, Sizes, Value, fits};
+use flow_shape::{Shaped, shape};
+use programs::Sample;
+use std::alloc::Global;
+use std::{env, io};
+use verifier::{Verified, verify};
+
+const SIZES: Sizes = Sizes {
+    key: KEY_BYTES as u16,
+    old: VALUE_BYTES as u16,
+    arg: VALUE_BYTES as u16,
+    result: VALUE_BYTES as u16,
+};
+
+fn program(alloc: Global, sample: Sample) -> Result<Program> {
+    let text = sample.text(alloc)?;
+    Ok(assemble(alloc, &text)?)
+}
+
+fn shaped(alloc: Global, instructions: &[Insn]) -> Result<Shaped> {
+    let mut copy = Vec::new(alloc);
+    copy.extend_from_slice(instructions)?;
+    let Some(program) = Program::new(copy) else {
+        bail!("no program");
+    };
+    Ok(shape(program)?)
+}
+
+fn verified(alloc: Global, sample: Sample) -> Result<Verified> {
+    Ok(verify(shape(program(alloc, sample)?)?, SIZES)?)
+}
+
+/// The empty key, the old value 1 and the argument 2, each number of 8 bytes.
+fn input() -> Result<Input> {
+    Ok(Input {
+        key: Key::from_slice(b"")?,
+        old: Some(Value::from_slice(&1u64.to_le_bytes())?),
+        arg: Some(Value::from_slice(&2u64.to_le_bytes())?),
+    })
+}
+
+fn run_often(alloc: Global, sample: Sample, count: u64) -> Result<()> {
+    let verified = verified(alloc, sample)?;
+    let input = input()?;
+    ensure!(fits(&verified.sizes(), &input).is_ok(), "unfit");
+    for _ in 0..count {
+        ensure!(run(&verified, &input) != Answer::Nothing, "no bytes");
+    }
+    Ok(())
+}
+
+fn shape_often(alloc: Global, sample: Sample, count: u64) -> Result<()> {
+    let program = program(alloc, sample)?;
+    for _ in 0..count {
+        shaped(alloc, program.instructions())?;
+    }
+    Ok(())
+}
+
+fn verify_often(alloc: Global, sample: Sample, count: u64) -> Result<()> {
+    let program = program(alloc, sample)?;
+    for _ in 0..count {
+        verify(shaped(alloc, program.instructions())?, SIZES)?;
+    }
+    Ok(())
+}
+
+fn print_bytes(rt: &impl Print, bytes: &[u8]) -> io::Result<()> {
+    for byte in bytes {
+        print!(rt; "{byte:02x}")?;
+    }
+    println!(rt; "")
+}
+
+fn print_answer(rt: &HostRuntime, name: &str, sample: Sample) -> Result<()> {
+    let verified = verified(rt.alloc(), sample)?;
+    let input = input()?;
+    ensure!(fits(&verified.sizes(), &input).is_ok(), "unfit");
+    print!(rt; "{name} answers ")?;
+    match run(&verified, &input) {
+        Answer::Bytes(value) => print_bytes(rt, value.as_slice())?,
+        Answer::Nothing => println!(rt; "nothing")?,
+    }
+    Ok(())
+}
+
+fn print_answers(rt: &HostRuntime) -> Result<()> {
+    print_answer(rt, "sum", Sample::Sum)?;
+    print_answer(rt, "alu", Sample::Arithmetic)?;
+    print_answer(rt, "straight", Sample::Straight)
+}
+
+fn bench(rt: &HostRuntime, word: &str, name: &str, count: &str) -> Result<()> {
+    let alloc = rt.alloc();
+    let Some(sample) = Sample::named(name) else {
+        bail!("no program is named so");
+    };
+    match word {
+        "run" => run_often(alloc, sample, count.parse()?),
+        "shape" => shape_often(alloc, sample, count.parse()?),
+        "verify" => verify_often(alloc, sample, count.parse()?),
+        "hex" => {
+            let bytes = encode(alloc, &program(alloc, sample)?)?;
+            Ok(print_bytes(rt, bytes.as_slice())?)
+        }
+        _ => bail!("the first word is run, shape, verify or hex"),
+    }
+}
+
+fn main(rt: HostRuntime) -> Result<()> {
+    let words: Vec<String> = env::args(&rt)?.collect(rt.alloc())?;
+    match words.as_slice() {
+        [_, word, name] => bench(&rt, word, name, "1"),
+        [_, word, name, count] => bench(&rt, word, name, count),
+        _ => print_answers(&rt),
+    }
+}

@@ -1,0 +1,119 @@
+//! The programs that are measured, as texts of the assembler. They stand here alone: `bench/run.sh` has their bytes from
+//! here for the C loop too.
+
+use bpf_model::limits::PROGRAM_UNITS;
+use std::alloc::{AllocError, Global};
+
+/// A program that is measured.
+#[derive(Clone, Copy, Debug, PartialEq, Eq)]
+pub enum Sample {
+    /// Six instructions: the sum of the old value and the argument.
+    Sum,
+    /// 501 instructions, all but a store and EXIT arithmetic.
+    Arithmetic,
+    /// Arithmetic in all units of a program.
+    Straight,
+    /// In all units but two a jump that goes on at the next instruction either way.
+    Jumps,
+    /// In all units but two a ladder of jumps over one instruction.
+    Ladder,
+}
+
+const SUM: &str = "\
+ldd r0, [r2+0]
+ldd r9, [r3+0]
+add64 r0, r9
+stxd [r4+0], r0
+mov64 r0, 8
+exit
+";
+
+const BEGINNING: &str = "mov64 r0, 1\nmov64 r9, 2\n";
+
+const BEGINNING_UNITS: usize = 2;
+
+const TURN: &str = "\
+add64 r0, r9
+xor64 r9, r0
+mul64 r9, 31
+sub64 r0, r9
+or64 r9, r0
+lsh64 r0, 3
+rsh64 r9, 2
+and64 r9, 65535
+add64 r9, r0
+xor64 r0, r9
+";
+
+const TURN_UNITS: usize = 10;
+
+const REST: &str = "add64 r9, r0\n";
+
+const ANSWER_OF_8_BYTES: &str = "stxd [r4+0], r9\nmov64 r0, 8\nexit\n";
+
+const NO_ANSWER: &str = "mov64 r0, -1\nexit\n";
+
+const NO_ANSWER_UNITS: usize = 2;
+
+const JUMP: &str = "jset64 r6, 1, +0\n";
+
+const RUNG: &str = "jset64 r6, 1, +1\nmov64 r9, 1\n";
+
+const RUNG_UNITS: usize = 2;
+
+impl Sample {
+    /// The sample of this name; none where there is no such one.
+    pub fn named(name: &str) -> Option<Sample> {
+        match name {
+            "sum" => Some(Sample::Sum),
+            "alu" => Some(Sample::Arithmetic),
+            "straight" => Some(Sample::Straight),
+            "jumps" => Some(Sample::Jumps),
+            "ladder" => Some(Sample::Ladder),
+            _ => None,
+        }
+    }
+
+    /// The program's text.
+    pub fn text(self, alloc: Global) -> Result<String, AllocError> {
+        match self {
+            Sample::Sum => joined(alloc, &[(SUM, 1)]),
+            Sample::Arithmetic => joined(
+                alloc,
+                &[
+                    (BEGINNING, 1),
+                    (TURN, 49),
+                    (REST, 6),
+                    (ANSWER_OF_8_BYTES, 1),
+                ],
+            ),
+            Sample::Straight => {
+                let units = PROGRAM_UNITS - BEGINNING_UNITS - NO_ANSWER_UNITS;
+                let (turns, rest) = (units / TURN_UNITS, units % TURN_UNITS);
+                joined(
+                    alloc,
+                    &[(BEGINNING, 1), (TURN, turns), (REST, rest), (NO_ANSWER, 1)],
+                )
+            }
+            Sample::Jumps => {
+                let jumps = PROGRAM_UNITS - NO_ANSWER_UNITS;
+                joined(alloc, &[(JUMP, jumps), (NO_ANSWER, 1)])
+            }
+            Sample::Ladder => {
+                let rungs = (PROGRAM_UNITS - NO_ANSWER_UNITS) / RUNG_UNITS;
+                joined(alloc, &[(RUNG, rungs), (NO_ANSWER, 1)])
+            }
+        }
+    }
+}
+
+/// Each of these texts as often as the number beside it says.
+fn joined(alloc: Global, parts: &[(&str, usize)]) -> Result<String, AllocError> {
+    let mut text = String::new(alloc);
+    for (part, times) in parts {
+        for _ in 0..*times {
+            text.push_str(part)?;
+        }
+    }
+    Ok(text)
+}
