@@ -8,6 +8,7 @@ use Rattle.bpf_model.specs.Words.{IsWord}
 use Rattle.bpf_model.specs.Program.{unit_count}
 use Rattle.bpf_model.specs.Spelling.{Fields, fields_of, unit_bytes, second_unit, second_bytes, spelling, spelling_of_all, IsInstruction, AreInstructions, Spells}
 use Rattle.bpf_model.proofs.ProgramLemmas.{length-unit_count}
+use Rattle.bpf_model.proofs.SpellingLaws.{length-spelling_of_all, spelling-first, spelled_once}
 use Rattle.bpf_model.specs.declared.limits.TheConstants.{PROGRAM_UNITS}
 use Rattle.bpf_model.proofs.Options.{test_of}
 use Rattle.std.proofs.lemmas.List.{append-nil, nil_from_length}
@@ -19,7 +20,7 @@ use Rattle.bpf_decode.specs.Faults.{length_fault, at_unit, IsFirstFault, GivesUn
 use Rattle.bpf_decode.proofs.UnitLemmas.{length-unit_bytes, unit_bytes-first}
 use Rattle.bpf_decode.proofs.FieldLemmas.{fit-fields_of, fit-second_unit, fault_of-fields_of}
 use Rattle.bpf_decode.proofs.WideLemmas.{is_wide}
-use Rattle.bpf_decode.proofs.SpellingLemmas.{length-spelling_of_all, spelling-first_unit, spelling-first, spelling_of_all-cons, spelling_of_all-injective}
+use Rattle.bpf_decode.proofs.SpellingLemmas.{spelling-first_unit, spelling_of_all-cons}
 
 -- bytes that are a unit and more are not empty
 is_a_unit : (f : Fields) (xs : List ℕ) → [] ≡ unit_bytes f ++ xs → ⊥
@@ -170,7 +171,7 @@ IsTrueOf-passed bytes e (Err x) passed h = record { found = tt; first_fault = rw
 
 -- where a program is spelled no other answer is true
 pub only_program : (bytes : List ℕ) (p : List Insn) (result : Result (List Insn) DecodeFault) → IsTrueOf bytes result → Spells bytes p → GivesUnlessNoMemory result (Ok p)
-only_program bytes p (Ok q) h spells = inr (ap (λ (x : List Insn). Ok x) (spelling_of_all-injective q p h.found.fits spells.fits (sym h.found.bytes ∙ spells.bytes)))
+only_program bytes p (Ok q) h spells = inr (ap (λ (x : List Insn). Ok x) (spelled_once bytes q p h.found spells))
 only_program bytes p (Err e) h spells = elim h.first_fault [
   | inl refused ↦ inl (ap (λ (x : DecodeFault). Err x) refused)
   | inr faulty ↦ absurd (spelled_has_no_fault bytes p e spells faulty)

@@ -2,12 +2,8 @@
 use Rattle.std.proofs.Common.{◌≡◌, ℕ, ◌/◌, ◌%◌, ◌^◌, ◌<◌, ◌≤◌, Bool, false, true, ◌&&◌, not, List, [], ◌++◌, Option, Some, None, refl, sym, ap, ◌∙◌, arith, ℤ, pos}
 use Rattle.std.specs.Prelude.{nat_eq, nat_lt}
 use Rattle.std.specs.Ordering.{int_eq}
-use Rattle.std.specs.Int.{w32, cast_signed}
-use Rattle.std.proofs.Math.Facts.{sfits_to_z}
 use Rattle.std.proofs.lemmas.Bool.Decides.{nat_tests}
 use Rattle.std.proofs.lemmas.List.{append-nil}
-use Rattle.bpf_model.specs.declared.operations.AluOp.{AluOp}
-use Rattle.bpf_model.specs.declared.operations.AluOp.TheVariants.{Add, Sub, Mul, Div, SDiv, Or, And, Lsh, Rsh, Mod, SMod, Xor, Arsh}
 use Rattle.bpf_model.specs.declared.operations.Width.{Width}
 use Rattle.bpf_model.specs.declared.operations.Width.TheVariants.{W32, W64}
 use Rattle.bpf_model.specs.declared.operations.SignExtension.{SignExtension}
@@ -22,25 +18,20 @@ use Rattle.bpf_model.specs.Words.{IsWord}
 use Rattle.bpf_model.specs.Program.{units_of}
 use Rattle.bpf_model.specs.Arithmetic.{swap_bits, extension_width, extension_bits}
 use Rattle.bpf_model.specs.Accesses.{loaded_size}
-use Rattle.bpf_model.specs.Spelling.{Fields, opcode, access_opcode, class_ldx, alu_class, jump_class, store_class, source_k, source_x, source_of, src_of, imm_of, code_of, offset_of, neg_code, mov_code, end_code, test_code, size_code, mode_mem, mode_of, order_source, order_width, unit_bytes, fields_of, second_unit, second_bytes, spelling, IsInstruction, IsOperand, IsOffset, IsImmediate}
-use Rattle.bpf_decode.specs.declared.operation.Source.{Source}
-use Rattle.bpf_decode.specs.declared.operation.Source.TheVariants.{Immediate as K, Register as X}
-use Rattle.bpf_decode.specs.declared.operation.Operation.{Operation}
-use Rattle.bpf_decode.specs.declared.operation.Operation.TheVariants as op
+use Rattle.bpf_model.specs.Spelling.{Fields, opcode, access_opcode, class_ldx, alu_class, jump_class, store_class, source_k, source_x, source_of, src_of, code_of, neg_code, mov_code, end_code, test_code, size_code, mode_mem, mode_of, order_source, order_width, unit_bytes, fields_of, second_unit, second_bytes, spelling, IsInstruction, IsOperand}
+use Rattle.bpf_model.proofs.UnitLaws as laws
+use Rattle.bpf_model.proofs.UnitLaws.{zero_offset, half_fits}
+use Rattle.bpf_decode.specs.declared.opcode.Source.{Source}
+use Rattle.bpf_decode.specs.declared.opcode.Source.TheVariants.{Immediate as K, Register as X}
+use Rattle.bpf_decode.specs.declared.opcode.Opcode.{Opcode}
+use Rattle.bpf_decode.specs.declared.opcode.Opcode.TheVariants as op
 use Rattle.bpf_decode.specs.declared.unit.UsedFields.{UsedFields}
 use Rattle.bpf_decode.specs.Opcodes.{used_fields}
 use Rattle.bpf_decode.specs.UnitFaults.{FitUnit, has_bad_register, has_unused_not_zero, has_bad_width, fault_under, fault_of, is_move, is_swap}
-use Rattle.bpf_decode.specs.Operations.{opcode_of, used_by, AreOperands, IsRegisterIfUsed, IsZeroUnlessUsed}
-use Rattle.bpf_decode.proofs.OpcodeLemmas.{order_source-few, alu_class-few, jump_class-few, size_code-few, mode_of-few, AluFacts, alu_facts, test_code-few, class_in-jump, class_in-access, used_fields-opcode_of, good_sign, good_move, good_order, good_negation, no_width, no_width_of_jump}
+use Rattle.bpf_decode.specs.OpcodeFields.{byte_of, used_by, AreOperands, IsRegisterIfUsed, IsZeroUnlessUsed}
+use Rattle.bpf_decode.proofs.OpcodeLemmas.{order_source-few, alu_class-few, jump_class-few, size_code-few, mode_of-few, AluFacts, alu_facts, test_code-few, class_in-jump, class_in-access, used_fields-byte_of, good_sign, good_move, good_order, good_negation, no_width, no_width_of_jump}
 
--- zero is an offset and an immediate
-zero_fits_offset : IsOffset (pos 0)
-zero_fits_offset = record { sfits = omega arith }
-
-zero_fits_imm : IsImmediate (pos 0)
-zero_fits_imm = record { sfits = omega arith }
-
--- the source, the register and the immediate of an operand have their bits
+-- the source and the register of an operand have their bits
 pub source_of-few : (s : Operand) → source_of s < 2
 source_of-few (Register r) = omega arith
 source_of-few (Immediate imm) = omega arith
@@ -49,40 +40,9 @@ src_of-register : (s : Operand) → IsOperand s → src_of s ≤ 10
 src_of-register (Register r) h = h
 src_of-register (Immediate imm) h = omega arith
 
-imm_of-fits : (s : Operand) → IsOperand s → IsImmediate (imm_of s)
-imm_of-fits (Register r) h = zero_fits_imm
-imm_of-fits (Immediate imm) h = h
-
 pub store_class-few : (s : Operand) → store_class s < 8
 store_class-few (Register r) = omega arith
 store_class-few (Immediate imm) = omega arith
-
-offset_of-fits : (op : AluOp) → IsOffset (offset_of op)
-offset_of-fits Add = zero_fits_offset
-offset_of-fits Sub = zero_fits_offset
-offset_of-fits Mul = zero_fits_offset
-offset_of-fits Div = zero_fits_offset
-offset_of-fits SDiv = record { sfits = omega arith }
-offset_of-fits Or = zero_fits_offset
-offset_of-fits And = zero_fits_offset
-offset_of-fits Lsh = zero_fits_offset
-offset_of-fits Rsh = zero_fits_offset
-offset_of-fits Mod = zero_fits_offset
-offset_of-fits SMod = record { sfits = omega arith }
-offset_of-fits Xor = zero_fits_offset
-offset_of-fits Arsh = zero_fits_offset
-
-extension_bits-fits : (e : SignExtension) → IsOffset (pos (extension_bits e))
-extension_bits-fits From8To32 = record { sfits = omega arith }
-extension_bits-fits From16To32 = record { sfits = omega arith }
-extension_bits-fits From8To64 = record { sfits = omega arith }
-extension_bits-fits From16To64 = record { sfits = omega arith }
-extension_bits-fits From32To64 = record { sfits = omega arith }
-
-swap_bits-fits : (size : SwapWidth) → IsImmediate (pos (swap_bits size))
-swap_bits-fits S16 = record { sfits = omega arith }
-swap_bits-fits S32 = record { sfits = omega arith }
-swap_bits-fits S64 = record { sfits = omega arith }
 
 -- an opcode of parts that have their bits has its bits
 opcode-fits : (code source class : ℕ) → code < 16 → source < 2 → class < 8 → opcode code source class < 2 ^ 8
@@ -91,70 +51,82 @@ opcode-fits code source class h g k = omega (arith, h, g, k)
 access_opcode-fits : (mode size class : ℕ) → mode < 8 → size < 4 → class < 8 → access_opcode mode size class < 2 ^ 8
 access_opcode-fits mode size class h g k = omega (arith, h, g, k)
 
--- the low and the upper half of a word, read as immediates
-half_fits : (n : ℕ) → n < 2 ^ 32 → IsImmediate (cast_signed w32 n)
-half_fits n h = sfits_to_z {w = w32} {n = n} (record { fits = h })
+-- the opcode of an instruction has its bits
+opcode-few : (i : Insn) → (fields_of i).opcode < 2 ^ 8
+opcode-few (Alu op w dst src) = opcode-fits (code_of op) (source_of src) (alu_class w) (AluFacts.few (alu_facts op)) (source_of-few src) (alu_class-few w)
+opcode-few (Negate w dst) = opcode-fits neg_code source_k (alu_class w) (omega arith) (omega arith) (alu_class-few w)
+opcode-few (Mov w dst src) = opcode-fits mov_code (source_of src) (alu_class w) (omega arith) (source_of-few src) (alu_class-few w)
+opcode-few (SignExtend e dst src) = opcode-fits mov_code source_x (alu_class (extension_width e)) (omega arith) (omega arith) (alu_class-few (extension_width e))
+opcode-few (Reorder order size dst) = opcode-fits end_code (order_source order) (alu_class (order_width order)) (omega arith) (order_source-few order) (alu_class-few (order_width order))
+opcode-few (Wide dst value) = omega arith
+opcode-few (Load kind dst src offset) = access_opcode-fits (mode_of kind) (size_code (loaded_size kind)) class_ldx (mode_of-few kind) (size_code-few (loaded_size kind)) (omega arith)
+opcode-few (Store size dst src offset) = access_opcode-fits mode_mem (size_code size) (store_class src) (omega arith) (size_code-few size) (store_class-few src)
+opcode-few (Jump distance) = omega arith
+opcode-few (JumpLong distance) = omega arith
+opcode-few (Branch test w dst src distance) = opcode-fits (test_code test) (source_of src) (jump_class w) (test_code-few test) (source_of-few src) (jump_class-few w)
+opcode-few Exit = omega arith
 
--- the fields of an instruction fit their bits
+-- the source field of an instruction has its bits
+src-few : (i : Insn) → IsInstruction i → (fields_of i).src < 2 ^ 4
+src-few (Alu op w dst src) h = omega (arith, src_of-register src h.1)
+src-few (Mov w dst src) h = omega (arith, src_of-register src h.1)
+src-few (SignExtend e dst src) h = omega (arith, h.1)
+src-few (Load kind dst src offset) h = omega (arith, h.1)
+src-few (Store size dst src offset) h = omega (arith, src_of-register src h.1)
+src-few (Branch test w dst src distance) h = omega (arith, src_of-register src h.1)
+src-few i h = omega arith
+
+-- the fields of an instruction have their bits
 pub fit-fields_of : (i : Insn) → IsInstruction i → FitUnit (fields_of i)
-fit-fields_of (Alu op w dst src) h = record { opcode = opcode-fits (code_of op) (source_of src) (alu_class w) (AluFacts.few (alu_facts op)) (source_of-few src) (alu_class-few w); dst = omega (arith, h.0); src = omega (arith, src_of-register src h.1); offset = offset_of-fits op; imm = imm_of-fits src h.1 }
-fit-fields_of (Negate w dst) h = record { opcode = opcode-fits neg_code source_k (alu_class w) (omega arith) (omega arith) (alu_class-few w); dst = omega (arith, h); src = omega arith; offset = zero_fits_offset; imm = zero_fits_imm }
-fit-fields_of (Mov w dst src) h = record { opcode = opcode-fits mov_code (source_of src) (alu_class w) (omega arith) (source_of-few src) (alu_class-few w); dst = omega (arith, h.0); src = omega (arith, src_of-register src h.1); offset = zero_fits_offset; imm = imm_of-fits src h.1 }
-fit-fields_of (SignExtend e dst src) h = record { opcode = opcode-fits mov_code source_x (alu_class (extension_width e)) (omega arith) (omega arith) (alu_class-few (extension_width e)); dst = omega (arith, h.0); src = omega (arith, h.1); offset = extension_bits-fits e; imm = zero_fits_imm }
-fit-fields_of (Reorder order size dst) h = record { opcode = opcode-fits end_code (order_source order) (alu_class (order_width order)) (omega arith) (order_source-few order) (alu_class-few (order_width order)); dst = omega (arith, h); src = omega arith; offset = zero_fits_offset; imm = swap_bits-fits size }
-fit-fields_of (Wide dst value) h = record { opcode = omega arith; dst = omega (arith, h.0); src = omega arith; offset = zero_fits_offset; imm = half_fits (value % 2 ^ 32) (omega arith) }
-fit-fields_of (Load kind dst src offset) h = record { opcode = access_opcode-fits (mode_of kind) (size_code (loaded_size kind)) class_ldx (mode_of-few kind) (size_code-few (loaded_size kind)) (omega arith); dst = omega (arith, h.0); src = omega (arith, h.1); offset = h.2; imm = zero_fits_imm }
-fit-fields_of (Store size dst src offset) h = record { opcode = access_opcode-fits mode_mem (size_code size) (store_class src) (omega arith) (size_code-few size) (store_class-few src); dst = omega (arith, h.0); src = omega (arith, src_of-register src h.1); offset = h.2; imm = imm_of-fits src h.1 }
-fit-fields_of (Jump distance) h = record { opcode = omega arith; dst = omega arith; src = omega arith; offset = h; imm = zero_fits_imm }
-fit-fields_of (JumpLong distance) h = record { opcode = omega arith; dst = omega arith; src = omega arith; offset = zero_fits_offset; imm = h }
-fit-fields_of (Branch test w dst src distance) h = record { opcode = opcode-fits (test_code test) (source_of src) (jump_class w) (test_code-few test) (source_of-few src) (jump_class-few w); dst = omega (arith, h.0); src = omega (arith, src_of-register src h.1); offset = h.2; imm = imm_of-fits src h.1 }
-fit-fields_of Exit h = record { opcode = omega arith; dst = omega arith; src = omega arith; offset = zero_fits_offset; imm = zero_fits_imm }
+fit-fields_of i h =
+    let fit = laws.fit-fields_of i h in
+    record { opcode = opcode-few i; dst = fit.dst; src = src-few i h; offset = fit.offset; imm = fit.imm }
 
 -- so does the second unit of a wide instruction
 pub fit-second_unit : (value : ℕ) → IsWord value → FitUnit (second_unit value)
-fit-second_unit value h = record { opcode = omega arith; dst = omega arith; src = omega arith; offset = zero_fits_offset; imm = half_fits (value / 2 ^ 32) (omega (arith, h)) }
+fit-second_unit value h = record { opcode = omega arith; dst = omega arith; src = omega arith; offset = zero_offset; imm = half_fits (value / 2 ^ 32) (omega (arith, h)) }
 
--- an instruction's operation
+-- an instruction's opcode
 source_of_operand : Operand → Source
 source_of_operand (Register r) = X
 source_of_operand (Immediate imm) = K
 
-operation_of : Insn → Operation
-operation_of (Alu o w dst src) = op.Alu o (source_of_operand src) w
-operation_of (Negate w dst) = op.Negate w
-operation_of (Mov w dst src) = op.Mov (source_of_operand src) w
-operation_of (SignExtend e dst src) = op.Mov X (extension_width e)
-operation_of (Reorder order size dst) = op.Reorder order
-operation_of (Wide dst value) = op.Wide
-operation_of (Load kind dst src offset) = op.Load kind
-operation_of (Store size dst src offset) = op.Store (source_of_operand src) size
-operation_of (Jump distance) = op.Jump
-operation_of (JumpLong distance) = op.JumpLong
-operation_of (Branch test w dst src distance) = op.Branch test (source_of_operand src) w
-operation_of Exit = op.Exit
+opcode_of : Insn → Opcode
+opcode_of (Alu o w dst src) = op.Alu o (source_of_operand src) w
+opcode_of (Negate w dst) = op.Negate w
+opcode_of (Mov w dst src) = op.Mov (source_of_operand src) w
+opcode_of (SignExtend e dst src) = op.Mov X (extension_width e)
+opcode_of (Reorder order size dst) = op.Reorder order
+opcode_of (Wide dst value) = op.Wide
+opcode_of (Load kind dst src offset) = op.Load kind
+opcode_of (Store size dst src offset) = op.Store (source_of_operand src) size
+opcode_of (Jump distance) = op.Jump
+opcode_of (JumpLong distance) = op.JumpLong
+opcode_of (Branch test w dst src distance) = op.Branch test (source_of_operand src) w
+opcode_of Exit = op.Exit
 
-opcode_of-operation_of : (i : Insn) → opcode_of (operation_of i) ≡ (fields_of i).opcode
-unfolding operation_of source_of_operand
-opcode_of-operation_of (Alu o w dst (Register r)) = refl
-opcode_of-operation_of (Alu o w dst (Immediate imm)) = refl
-opcode_of-operation_of (Negate w dst) = refl
-opcode_of-operation_of (Mov w dst (Register r)) = refl
-opcode_of-operation_of (Mov w dst (Immediate imm)) = refl
-opcode_of-operation_of (SignExtend e dst src) = refl
-opcode_of-operation_of (Reorder order size dst) = refl
-opcode_of-operation_of (Wide dst value) = refl
-opcode_of-operation_of (Load kind dst src offset) = refl
-opcode_of-operation_of (Store size dst (Register r) offset) = refl
-opcode_of-operation_of (Store size dst (Immediate imm) offset) = refl
-opcode_of-operation_of (Jump distance) = refl
-opcode_of-operation_of (JumpLong distance) = refl
-opcode_of-operation_of (Branch test w dst (Register r) distance) = refl
-opcode_of-operation_of (Branch test w dst (Immediate imm) distance) = refl
-opcode_of-operation_of Exit = refl
+byte_of-opcode_of : (i : Insn) → byte_of (opcode_of i) ≡ (fields_of i).opcode
+unfolding opcode_of source_of_operand
+byte_of-opcode_of (Alu o w dst (Register r)) = refl
+byte_of-opcode_of (Alu o w dst (Immediate imm)) = refl
+byte_of-opcode_of (Negate w dst) = refl
+byte_of-opcode_of (Mov w dst (Register r)) = refl
+byte_of-opcode_of (Mov w dst (Immediate imm)) = refl
+byte_of-opcode_of (SignExtend e dst src) = refl
+byte_of-opcode_of (Reorder order size dst) = refl
+byte_of-opcode_of (Wide dst value) = refl
+byte_of-opcode_of (Load kind dst src offset) = refl
+byte_of-opcode_of (Store size dst (Register r) offset) = refl
+byte_of-opcode_of (Store size dst (Immediate imm) offset) = refl
+byte_of-opcode_of (Jump distance) = refl
+byte_of-opcode_of (JumpLong distance) = refl
+byte_of-opcode_of (Branch test w dst (Register r) distance) = refl
+byte_of-opcode_of (Branch test w dst (Immediate imm) distance) = refl
+byte_of-opcode_of Exit = refl
 
--- its fields are operands of its operation
-operands-fields_of : (i : Insn) → IsInstruction i → AreOperands (used_by (operation_of i)) (fields_of i)
-unfolding operation_of source_of_operand
+-- its fields are operands of its opcode
+operands-fields_of : (i : Insn) → IsInstruction i → AreOperands (used_by (opcode_of i)) (fields_of i)
+unfolding opcode_of source_of_operand
 operands-fields_of (Alu o w dst (Register r)) h = record { dst = h.0; src = h.1; offset = AluFacts.sign (alu_facts o); imm = refl }
 operands-fields_of (Alu o w dst (Immediate imm)) h = record { dst = h.0; src = refl; offset = AluFacts.sign (alu_facts o); imm = tt }
 operands-fields_of (Negate w dst) h = record { dst = h; src = refl; offset = refl; imm = refl }
@@ -229,8 +201,8 @@ operands_have_no_fault used f h =
 -- the fields of an instruction have no fault
 pub fault_of-fields_of : (i : Insn) → IsInstruction i → fault_of (fields_of i) ≡ None
 fault_of-fields_of i h =
-    let used : used_fields (fields_of i).opcode ≡ Some (used_by (operation_of i)) = ap used_fields (sym (opcode_of-operation_of i)) ∙ used_fields-opcode_of (operation_of i) in
-    let clean = operands_have_no_fault (used_by (operation_of i)) (fields_of i) (operands-fields_of i h) in
+    let used : used_fields (fields_of i).opcode ≡ Some (used_by (opcode_of i)) = ap used_fields (sym (byte_of-opcode_of i)) ∙ used_fields-byte_of (opcode_of i) in
+    let clean = operands_have_no_fault (used_by (opcode_of i)) (fields_of i) (operands-fields_of i h) in
     ap (λ (u : Option UsedFields). fault_under u (fields_of i)) used ∙ rw (clean.0, clean.1, width-fields_of i) refl
 
 -- an instruction of one unit whose registers and fields fit is one

@@ -2,7 +2,6 @@ pub mod Outcomes
 pub mod UnitLemmas
 pub mod OpcodeLemmas
 pub mod FieldLemmas
-pub mod InsnLemmas
 pub mod WideLemmas
 pub mod SpellingLemmas
 pub mod FaultLemmas

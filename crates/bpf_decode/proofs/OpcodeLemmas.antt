@@ -3,28 +3,28 @@ use Rattle.std.proofs.Common.{◌≡◌, ◌≢◌, ℕ, ◌/◌, ◌%◌, ◌<�
 use Rattle.std.specs.Prelude.{nat_eq}
 use Rattle.std.proofs.lemmas.Bool.Decides.{nat_tests}
 use Rattle.bpf_model.specs.declared.operations.AluOp.{AluOp}
-use Rattle.bpf_model.specs.declared.operations.AluOp.TheVariants.{Add, Sub, Mul, Div, SDiv, Or, And, Lsh, Rsh, Mod, SMod, Xor, Arsh}
+use Rattle.bpf_model.specs.declared.operations.AluOp.TheVariants.{Div, SDiv, Mod, SMod}
 use Rattle.bpf_model.specs.declared.operations.Width.{Width}
 use Rattle.bpf_model.specs.declared.operations.Width.TheVariants.{W32, W64}
 use Rattle.bpf_model.specs.declared.operations.ByteOrder.{ByteOrder}
 use Rattle.bpf_model.specs.declared.operations.ByteOrder.TheVariants.{Little, Big, Swap}
 use Rattle.bpf_model.specs.declared.conditions.JumpOp.{JumpOp}
-use Rattle.bpf_model.specs.declared.conditions.JumpOp.TheVariants.{Eq, Gt, Ge, Set, Ne, SGt, SGe, Lt, Le, SLt, SLe}
+use Rattle.bpf_model.specs.declared.conditions.JumpOp.TheVariants.{Eq}
 use Rattle.bpf_model.specs.declared.accesses.AccessSize.{AccessSize}
-use Rattle.bpf_model.specs.declared.accesses.AccessSize.TheVariants.{Byte, HalfWord, Word, DoubleWord}
+use Rattle.bpf_model.specs.declared.accesses.AccessSize.TheVariants.{Byte}
 use Rattle.bpf_model.specs.declared.accesses.LoadKind.{LoadKind}
-use Rattle.bpf_model.specs.declared.accesses.LoadKind.TheVariants.{Byte as LoadByte, HalfWord as LoadHalfWord, Word as LoadWord, DoubleWord as LoadDoubleWord, SignedByte, SignedHalfWord, SignedWord}
+use Rattle.bpf_model.specs.declared.accesses.LoadKind.TheVariants.{Byte as LoadByte}
 use Rattle.bpf_model.specs.Accesses.{loaded_size}
 use Rattle.bpf_model.specs.Spelling.{Fields, opcode, access_opcode, class_ldx, alu_class, jump_class, source_k, source_x, code_of, offset_of, neg_code, mov_code, end_code, test_code, size_code, mode_mem, mode_of, order_source}
-use Rattle.bpf_decode.specs.declared.operation.Source.{Source}
-use Rattle.bpf_decode.specs.declared.operation.Source.TheVariants.{Immediate, Register}
-use Rattle.bpf_decode.specs.declared.operation.Operation.{Operation}
-use Rattle.bpf_decode.specs.declared.operation.Operation.TheVariants.{Alu, Negate, Mov, Reorder, Wide, Load, Store, Jump, JumpLong, Branch, Exit}
+use Rattle.bpf_decode.specs.declared.opcode.Source.{Source}
+use Rattle.bpf_decode.specs.declared.opcode.Source.TheVariants.{Immediate, Register}
+use Rattle.bpf_decode.specs.declared.opcode.Opcode.{Opcode}
+use Rattle.bpf_decode.specs.declared.opcode.Opcode.TheVariants.{Alu, Negate, Mov, Reorder, Wide, Load, Store, Jump, JumpLong, Branch, Exit}
 use Rattle.bpf_decode.specs.declared.unit.UsedFields.{UsedFields}
 use Rattle.bpf_decode.specs.declared.fault.UnitFault.{UnitFault}
 use Rattle.bpf_decode.specs.Opcodes.{used_fields, used_by_alu, used_by_jump, used_by_load, used_by_store, is_alu_code, is_test_code, is_division, operands}
 use Rattle.bpf_decode.specs.UnitFaults.{has_bad_width, has_bad_alu_width, is_sign, is_move, is_swap, fault_under, fault_of}
-use Rattle.bpf_decode.specs.Operations.{source_number, stored_class, opcode_of, used_by, IsZeroUnlessUsed}
+use Rattle.bpf_decode.specs.OpcodeFields.{source_number, stored_class, byte_of, used_by, IsZeroUnlessUsed}
 
 -- the parts of an opcode are those that it was put together of
 pub class_in-alu : (code source : ℕ) (w : Width) → source < 2 → opcode code source (alu_class w) % 8 ≡ alu_class w
@@ -70,18 +70,11 @@ jump_class-few W64 = omega arith
 
 pub size_code-few : (size : AccessSize) → size_code size < 4
 size_code-few Byte = omega arith
-size_code-few HalfWord = omega arith
-size_code-few Word = omega arith
-size_code-few DoubleWord = omega arith
+size_code-few size = omega arith
 
 pub mode_of-few : (kind : LoadKind) → mode_of kind < 8
 mode_of-few LoadByte = omega arith
-mode_of-few LoadHalfWord = omega arith
-mode_of-few LoadWord = omega arith
-mode_of-few LoadDoubleWord = omega arith
-mode_of-few SignedByte = omega arith
-mode_of-few SignedHalfWord = omega arith
-mode_of-few SignedWord = omega arith
+mode_of-few kind = omega arith
 
 -- what holds of each operation's code and offset
 pub record AluFacts (op : AluOp) : Type 0 where
@@ -94,56 +87,25 @@ pub record AluFacts (op : AluOp) : Type 0 where
   pub signed : is_sign (offset_of op) ≡ true
 
 pub alu_facts : (op : AluOp) → AluFacts op
-alu_facts Add = record { few = omega arith; listed = refl; no_negation = refl; no_move = refl; no_order = refl; sign = refl; signed = refl }
-alu_facts Sub = record { few = omega arith; listed = refl; no_negation = refl; no_move = refl; no_order = refl; sign = refl; signed = refl }
-alu_facts Mul = record { few = omega arith; listed = refl; no_negation = refl; no_move = refl; no_order = refl; sign = refl; signed = refl }
 alu_facts Div = record { few = omega arith; listed = refl; no_negation = refl; no_move = refl; no_order = refl; sign = tt; signed = refl }
 alu_facts SDiv = record { few = omega arith; listed = refl; no_negation = refl; no_move = refl; no_order = refl; sign = tt; signed = refl }
-alu_facts Or = record { few = omega arith; listed = refl; no_negation = refl; no_move = refl; no_order = refl; sign = refl; signed = refl }
-alu_facts And = record { few = omega arith; listed = refl; no_negation = refl; no_move = refl; no_order = refl; sign = refl; signed = refl }
-alu_facts Lsh = record { few = omega arith; listed = refl; no_negation = refl; no_move = refl; no_order = refl; sign = refl; signed = refl }
-alu_facts Rsh = record { few = omega arith; listed = refl; no_negation = refl; no_move = refl; no_order = refl; sign = refl; signed = refl }
 alu_facts Mod = record { few = omega arith; listed = refl; no_negation = refl; no_move = refl; no_order = refl; sign = tt; signed = refl }
 alu_facts SMod = record { few = omega arith; listed = refl; no_negation = refl; no_move = refl; no_order = refl; sign = tt; signed = refl }
-alu_facts Xor = record { few = omega arith; listed = refl; no_negation = refl; no_move = refl; no_order = refl; sign = refl; signed = refl }
-alu_facts Arsh = record { few = omega arith; listed = refl; no_negation = refl; no_move = refl; no_order = refl; sign = refl; signed = refl }
+alu_facts op = record { few = omega arith; listed = refl; no_negation = refl; no_move = refl; no_order = refl; sign = refl; signed = refl }
 
 -- what holds of each test's code
 pub test_code-few : (test : JumpOp) → test_code test < 16
 test_code-few Eq = omega arith
-test_code-few Gt = omega arith
-test_code-few Ge = omega arith
-test_code-few Set = omega arith
-test_code-few Ne = omega arith
-test_code-few SGt = omega arith
-test_code-few SGe = omega arith
-test_code-few Lt = omega arith
-test_code-few Le = omega arith
-test_code-few SLt = omega arith
-test_code-few SLe = omega arith
+test_code-few test = omega arith
 
 pub test_code-listed : (test : JumpOp) → is_test_code (test_code test) ≡ true
 test_code-listed Eq = refl
-test_code-listed Gt = refl
-test_code-listed Ge = refl
-test_code-listed Set = refl
-test_code-listed Ne = refl
-test_code-listed SGt = refl
-test_code-listed SGe = refl
-test_code-listed Lt = refl
-test_code-listed Le = refl
-test_code-listed SLt = refl
-test_code-listed SLe = refl
+test_code-listed test = refl
 
 -- a load's mode and size are those of a load
 pub load_listed : (kind : LoadKind) → used_by_load (mode_of kind) (size_code (loaded_size kind)) ≡ Some (operands source_x true)
 load_listed LoadByte = refl
-load_listed LoadHalfWord = refl
-load_listed LoadWord = refl
-load_listed LoadDoubleWord = refl
-load_listed SignedByte = refl
-load_listed SignedHalfWord = refl
-load_listed SignedWord = refl
+load_listed kind = refl
 
 -- the fields that arithmetic, jumps and accesses use, by the parts of the opcode
 used_fields-alu : (code source : ℕ) (w : Width) → source < 2 → used_fields (opcode code source (alu_class w)) ≡ used_by_alu w source code
@@ -161,25 +123,25 @@ used_fields-store : (source : Source) (mode size : ℕ) → size < 4 → used_fi
 used_fields-store Immediate mode size h = rw (class_in-access mode size 2 h (omega arith), mode_in-access mode size 2 h (omega arith)) refl
 used_fields-store Register mode size h = rw (class_in-access mode size 3 h (omega arith), mode_in-access mode size 3 h (omega arith)) refl
 
--- each operation's opcode is in the table, with its fields
-pub used_fields-opcode_of : (o : Operation) → used_fields (opcode_of o) ≡ Some (used_by o)
-used_fields-opcode_of (Alu op source w) = used_fields-alu (code_of op) (source_number source) w (source_number-few source) ∙ rw (AluFacts.listed (alu_facts op)) refl
-used_fields-opcode_of (Negate W32) = refl
-used_fields-opcode_of (Negate W64) = refl
-used_fields-opcode_of (Mov Immediate W32) = refl
-used_fields-opcode_of (Mov Immediate W64) = refl
-used_fields-opcode_of (Mov Register W32) = refl
-used_fields-opcode_of (Mov Register W64) = refl
-used_fields-opcode_of (Reorder Little) = refl
-used_fields-opcode_of (Reorder Big) = refl
-used_fields-opcode_of (Reorder Swap) = refl
-used_fields-opcode_of Wide = refl
-used_fields-opcode_of (Load kind) = used_fields-load (mode_of kind) (size_code (loaded_size kind)) (size_code-few (loaded_size kind)) ∙ load_listed kind
-used_fields-opcode_of (Store source size) = used_fields-store source mode_mem (size_code size) (size_code-few size)
-used_fields-opcode_of Jump = refl
-used_fields-opcode_of JumpLong = refl
-used_fields-opcode_of (Branch test source w) = used_fields-jump (test_code test) (source_number source) w (source_number-few source) ∙ rw (test_code-listed test) refl
-used_fields-opcode_of Exit = refl
+-- each opcode is in the table, with its fields
+pub used_fields-byte_of : (o : Opcode) → used_fields (byte_of o) ≡ Some (used_by o)
+used_fields-byte_of (Alu op source w) = used_fields-alu (code_of op) (source_number source) w (source_number-few source) ∙ rw (AluFacts.listed (alu_facts op)) refl
+used_fields-byte_of (Negate W32) = refl
+used_fields-byte_of (Negate W64) = refl
+used_fields-byte_of (Mov Immediate W32) = refl
+used_fields-byte_of (Mov Immediate W64) = refl
+used_fields-byte_of (Mov Register W32) = refl
+used_fields-byte_of (Mov Register W64) = refl
+used_fields-byte_of (Reorder Little) = refl
+used_fields-byte_of (Reorder Big) = refl
+used_fields-byte_of (Reorder Swap) = refl
+used_fields-byte_of Wide = refl
+used_fields-byte_of (Load kind) = used_fields-load (mode_of kind) (size_code (loaded_size kind)) (size_code-few (loaded_size kind)) ∙ load_listed kind
+used_fields-byte_of (Store source size) = used_fields-store source mode_mem (size_code size) (size_code-few size)
+used_fields-byte_of Jump = refl
+used_fields-byte_of JumpLong = refl
+used_fields-byte_of (Branch test source w) = used_fields-jump (test_code test) (source_number source) w (source_number-few source) ∙ rw (test_code-listed test) refl
+used_fields-byte_of Exit = refl
 
 -- widths of arithmetic, by the parts of the opcode
 has_bad_width-alu : (f : Fields) (code source : ℕ) (w : Width) → source < 2 → f.opcode ≡ opcode code source (alu_class w) → has_bad_width f ≡ has_bad_alu_width w source code f
@@ -206,12 +168,12 @@ no_width_of_jump f W32 h = rw h refl
 no_width_of_jump f W64 h = rw h refl
 
 -- a quotient's or remainder's offset that is no sign
-pub bad_sign : (f : Fields) (op : AluOp) (source : Source) (w : Width) → f.opcode ≡ opcode_of (Alu op source w)
+pub bad_sign : (f : Fields) (op : AluOp) (source : Source) (w : Width) → f.opcode ≡ byte_of (Alu op source w)
     → is_division (code_of op) ≡ true → is_sign f.offset ≡ false → has_bad_width f ≡ true
 bad_sign f op source w e d s = has_bad_width-alu f (code_of op) (source_number source) w (source_number-few source) e ∙ rw (d, s) refl
 
 -- a move's offset that is no width
-pub bad_move : (f : Fields) (source : Source) (w : Width) → f.opcode ≡ opcode_of (Mov source w)
+pub bad_move : (f : Fields) (source : Source) (w : Width) → f.opcode ≡ byte_of (Mov source w)
     → IsZeroUnlessUsed (nat_eq (source_number source) source_x) f.offset → f.offset ≢ pos 0 → is_move w f.offset ≡ false → has_bad_width f ≡ true
 bad_move f Immediate w e z n m = absurd (n z)
 bad_move f Register w e z n m = has_bad_width-alu f mov_code source_x w (omega arith) e ∙ rw m refl
@@ -243,9 +205,9 @@ good_order f source w h e swap = has_bad_width-alu f end_code source w h e ∙ r
 pub good_negation : (f : Fields) (w : Width) → f.opcode ≡ opcode neg_code source_k (alu_class w) → has_bad_width f ≡ false
 good_negation f w e = has_bad_width-alu f neg_code source_k w (omega arith) e
 
--- a fault of the fields that an operation uses is the fields' fault
-pub fault_of_use : (f : Fields) (o : Operation) (used : UsedFields) (fault : Option UnitFault)
-    → opcode_of o ≡ f.opcode → used ≡ used_by o → fault_under (Some used) f ≡ fault → fault_of f ≡ fault
+-- a fault of the fields that an opcode uses is the fields' fault
+pub fault_of_use : (f : Fields) (o : Opcode) (used : UsedFields) (fault : Option UnitFault)
+    → byte_of o ≡ f.opcode → used ≡ used_by o → fault_under (Some used) f ≡ fault → fault_of f ≡ fault
 fault_of_use f o used fault e u h =
-    let listed : used_fields f.opcode ≡ Some used = ap used_fields (sym e) ∙ used_fields-opcode_of o ∙ ap (λ (x : UsedFields). Some x) (sym u) in
+    let listed : used_fields f.opcode ≡ Some used = ap used_fields (sym e) ∙ used_fields-byte_of o ∙ ap (λ (x : UsedFields). Some x) (sym u) in
     ap (λ (x : Option UsedFields). fault_under x f) listed ∙ h

@@ -1,41 +1,14 @@
 -- Instructions and their spellings.
-use Rattle.std.proofs.Common.{◌≡◌, ℕ, ◌+◌, ◌-◌, ◌*◌, ◌/◌, ◌%◌, ◌<◌, ◌≤◌, take, drop, suc, Some, List, [], ◌∷◌, ◌++◌, length, refl, sym, ap, ◌∙◌, append_assoc, arith, length-append}
+use Rattle.std.proofs.Common.{◌≡◌, ℕ, ◌+◌, ◌-◌, ◌*◌, ◌/◌, ◌%◌, ◌<◌, ◌≤◌, take, drop, suc, Some, List, [], ◌∷◌, ◌++◌, length, sym, ap, ◌∙◌, append_assoc, arith, length-append}
 use Rattle.std.specs.Prelude.{slice_get}
-use Rattle.std.proofs.lemmas.List.{append-nil, append_cancel_left, take-append-drop}
+use Rattle.std.proofs.lemmas.List.{append-nil, take-append-drop}
 use Rattle.std.proofs.lemmas.List.Concat.{flat_map-cons}
 use Rattle.std.proofs.lemmas.Grind.{flat_map-append}
 use Rattle.bpf_model.specs.declared.instruction.Insn.{Insn}
-use Rattle.bpf_model.specs.declared.instruction.Insn.TheVariants.{Alu, Negate, Mov, SignExtend, Reorder, Wide, Load, Store, Jump, JumpLong, Branch, Exit}
-use Rattle.bpf_model.specs.Words.{bytes_of}
 use Rattle.bpf_model.specs.Program.{units_of, unit_count}
-use Rattle.bpf_model.specs.Spelling.{Fields, unit_bytes, fields_of, second_bytes, spelling, spelling_of_all, IsInstruction, AreInstructions}
+use Rattle.bpf_model.specs.Spelling.{unit_bytes, fields_of, second_bytes, spelling, spelling_of_all, IsInstruction, AreInstructions}
 use Rattle.bpf_model.proofs.ProgramLemmas.{units_of-some, length-unit_count, unit_count-next, unit_count-take}
-use Rattle.bpf_decode.proofs.UnitLemmas.{fields_at, fields_at-unit_bytes}
-use Rattle.bpf_decode.proofs.FieldLemmas.{fit-fields_of}
-use Rattle.bpf_decode.proofs.InsnLemmas.{insn_of, insn_again}
-
--- an instruction has eight bytes a unit
-pub length-spelling : (i : Insn) → length (spelling i) ≡ 8 * units_of i
-unfolding bytes_of
-length-spelling (Alu op w dst src) = refl
-length-spelling (Negate w dst) = refl
-length-spelling (Mov w dst src) = refl
-length-spelling (SignExtend e dst src) = refl
-length-spelling (Reorder order size dst) = refl
-length-spelling (Wide dst value) = refl
-length-spelling (Load kind dst src offset) = refl
-length-spelling (Store size dst src offset) = refl
-length-spelling (Jump distance) = refl
-length-spelling (JumpLong distance) = refl
-length-spelling (Branch test w dst src distance) = refl
-length-spelling Exit = refl
-
--- instructions have eight bytes a unit
-pub length-spelling_of_all : (is : List Insn) → length (spelling_of_all is) ≡ 8 * unit_count is
-unfolding unit_count
-length-spelling_of_all [] = refl
-length-spelling_of_all (i ∷ is) =
-    ap length (flat_map-cons spelling i is) ∙ length-append (spelling i) (spelling_of_all is) ∙ omega (arith, length-spelling i, length-spelling_of_all is)
+use Rattle.bpf_model.proofs.SpellingLaws.{length-spelling, length-spelling_of_all}
 
 -- an instruction more is spelled behind the others
 pub spelling_of_all-push : (is : List Insn) (i : Insn) → spelling_of_all (is ++ i ∷ []) ≡ spelling_of_all is ++ spelling i
@@ -50,52 +23,9 @@ AreInstructions-push (x ∷ is) i h g = (h.0, AreInstructions-push is i h.1 g)
 pub spelling-first_unit : (i : Insn) (xs : List ℕ) → spelling i ++ xs ≡ unit_bytes (fields_of i) ++ (second_bytes i ++ xs)
 spelling-first_unit i xs = append_assoc (unit_bytes (fields_of i)) (second_bytes i) xs
 
--- what comes after a unit
-after_unit : (f : Fields) (xs : List ℕ) → drop 8 (unit_bytes f ++ xs) ≡ xs
-unfolding bytes_of
-after_unit f xs = refl
-
--- the instruction with which bytes begin
-insn_at : List ℕ → Insn
-insn_at bytes = insn_of (fields_at bytes) (Fields.imm (fields_at (drop 8 bytes)))
-
-insn_at-spelling : (i : Insn) (xs : List ℕ) → IsInstruction i → insn_at (spelling i ++ xs) ≡ i
-unfolding insn_at
-insn_at-spelling i xs h =
-    let first : fields_at (spelling i ++ xs) ≡ fields_of i = ap fields_at (spelling-first_unit i xs) ∙ fields_at-unit_bytes (fields_of i) (second_bytes i ++ xs) (fit-fields_of i h) in
-    let rest : drop 8 (spelling i ++ xs) ≡ second_bytes i ++ xs = ap (drop 8) (spelling-first_unit i xs) ∙ after_unit (fields_of i) (second_bytes i ++ xs) in
-    ap (λ (f : Fields). insn_of f (Fields.imm (fields_at (drop 8 (spelling i ++ xs))))) first
-    ∙ ap (λ (bytes : List ℕ). insn_of (fields_of i) (Fields.imm (fields_at bytes))) rest
-    ∙ insn_again i xs h
-
--- no instruction's spelling begins another's
-pub spelling-first : (i j : Insn) (xs ys : List ℕ) → IsInstruction i → IsInstruction j → spelling i ++ xs ≡ spelling j ++ ys → (i ≡ j) × (xs ≡ ys)
-spelling-first i j xs ys is-i is-j e =
-    let same : i ≡ j = sym (insn_at-spelling i xs is-i) ∙ ap insn_at e ∙ insn_at-spelling j ys is-j in
-    (same, append_cancel_left (spelling i) xs ys (e ∙ ap (λ (x : Insn). spelling x ++ ys) (sym same)))
-
 -- the first instruction's spelling comes first
 pub spelling_of_all-cons : (i : Insn) (is : List Insn) (xs : List ℕ) → spelling_of_all (i ∷ is) ++ xs ≡ spelling i ++ (spelling_of_all is ++ xs)
 spelling_of_all-cons i is xs = ap (λ (x : List ℕ). x ++ xs) (flat_map-cons spelling i is) ∙ append_assoc (spelling i) (spelling_of_all is) xs
-
--- an instruction has a byte
-pub is_not_empty : (i : Insn) (is : List Insn) → spelling_of_all (i ∷ is) ≡ [] → ⊥
-unfolding unit_count
-is_not_empty i is e =
-    let none : length (spelling_of_all (i ∷ is)) ≡ 0 = ap length e in
-    omega (arith, none, length-spelling_of_all (i ∷ is), units_of-some i)
-
--- bytes spell one list of instructions at most
-pub spelling_of_all-injective : (p q : List Insn) → AreInstructions p → AreInstructions q → spelling_of_all p ≡ spelling_of_all q → p ≡ q
-spelling_of_all-injective [] [] is-p is-q e = refl
-spelling_of_all-injective [] (j ∷ q) is-p is-q e = absurd (is_not_empty j q (sym e))
-spelling_of_all-injective (i ∷ p) [] is-p is-q e = absurd (is_not_empty i p e)
-spelling_of_all-injective (i ∷ p) (j ∷ q) is-p is-q e =
-    let both : spelling i ++ spelling_of_all p ≡ spelling j ++ spelling_of_all q = sym (flat_map-cons spelling i p) ∙ e ∙ flat_map-cons spelling j q in
-    let first = spelling-first i j (spelling_of_all p) (spelling_of_all q) is-p.0 is-q.0 both in
-    let rest = spelling_of_all-injective p q is-p.1 is-q.1 first.1 in
-    let same = first.0 in
-    cc
 
 -- how many units stand before the rest
 pub units_before : (bytes rest : List ℕ) (is : List Insn) → bytes ≡ spelling_of_all is ++ rest → (length bytes - length rest) / 8 ≡ unit_count is

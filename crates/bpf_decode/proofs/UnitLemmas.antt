@@ -1,16 +1,15 @@
 -- Units and their bytes.
-use Rattle.std.proofs.Common.{◌≡◌, ℕ, zero, suc, ◌+◌, ◌*◌, ◌/◌, ◌%◌, ◌^◌, ◌<◌, List, [], ◌∷◌, ◌++◌, length, get_or, take, drop, ℤ, refl, sym, ap, ◌∙◌, arith}
+use Rattle.std.proofs.Common.{◌≡◌, ℕ, zero, suc, ◌+◌, ◌*◌, ◌/◌, ◌%◌, ◌^◌, ◌<◌, List, [], ◌∷◌, ◌++◌, length, get_or, take, drop, ℤ, refl, ap, arith}
 use mir.Val.{bits}
 use Rattle.std.specs.Int.{Width, w16, w32, cast_signed, cast_unsigned}
 use Rattle.std.proofs.lemmas.Int.{of_z-to_z, to_z-of_z}
-use Rattle.std.proofs.Math.Facts.{Fits-of_z}
-use Rattle.std.proofs.Math.Nat.{pow-succ'}
-use Rattle.std.proofs.lemmas.List.{append_cancel_left}
 use Rattle.byteorder.specs.Endian.{little_number, little_bytes}
 use Rattle.bpf_model.specs.Words.{bytes_of, word_of}
 use Rattle.bpf_model.specs.Spelling.{Fields, unit_bytes}
 use Rattle.bpf_decode.specs.UnitFaults.{FitUnit}
 use Rattle.bpf_model.proofs.WordLemmas.{bytes_of-2, bytes_of-4, word_of-bound}
+use Rattle.bpf_model.proofs.UnitLaws as laws
+use Rattle.bpf_model.proofs.UnitLaws.{FitFields}
 
 -- each number is a byte
 abbrev pub AreBytes : List ℕ → Type 0
@@ -70,37 +69,10 @@ pub length-unit_bytes : (f : Fields) → length (unit_bytes f) ≡ 8
 unfolding bytes_of
 length-unit_bytes f = refl
 
--- the word of the bytes of a word is this word
-pub word_of-bytes_of : (n w : ℕ) → w < 256 ^ n → word_of (bytes_of n w) ≡ w
-unfolding bytes_of word_of
-word_of-bytes_of zero w h = omega arith
-word_of-bytes_of (suc n) w h =
-    let more : 256 ^ suc n ≡ 256 * 256 ^ n = pow-succ' 256 n in
-    let rest : word_of (bytes_of n (w / 256)) ≡ w / 256 = word_of-bytes_of n (w / 256) (omega arith) in
-    omega (arith, rest)
-
--- the fields that the first eight bytes spell
-pub fields_at : List ℕ → Fields
-fields_at bytes = record {
-  opcode = get_or bytes 0 0;
-  dst = get_or bytes 1 0 % 16;
-  src = get_or bytes 1 0 / 16;
-  offset = cast_signed w16 (word_of (take 2 (drop 2 bytes)));
-  imm = cast_signed w32 (word_of (take 4 (drop 4 bytes)));
-}
-
--- the fields of a unit's bytes are the unit's fields
-pub fields_at-unit_bytes : (f : Fields) (rest : List ℕ) → FitUnit f → fields_at (unit_bytes f ++ rest) ≡ f
-unfolding bytes_of fields_at
-fields_at-unit_bytes f rest fit =
-    let dst : (16 * f.src + f.dst) % 16 ≡ f.dst = omega (arith, fit.dst) in
-    let src : (16 * f.src + f.dst) / 16 ≡ f.src = omega (arith, fit.dst) in
-    let offset : word_of (bytes_of 2 (cast_unsigned w16 f.offset)) ≡ cast_unsigned w16 f.offset = word_of-bytes_of 2 _ (Fits-of_z fit.offset).fits in
-    let imm : word_of (bytes_of 4 (cast_unsigned w32 f.imm)) ≡ cast_unsigned w32 f.imm = word_of-bytes_of 4 _ (Fits-of_z fit.imm).fits in
-    rw (dst, src, offset, imm, to_z-of_z w16 f.offset fit.offset, to_z-of_z w32 f.imm fit.imm) refl
+-- fields that have their bits fit a unit
+fit_unit : (f : Fields) → FitUnit f → FitFields f
+fit_unit f fit = record { dst = omega (arith, fit.dst); offset = fit.offset; imm = fit.imm }
 
 -- bytes begin with one unit at most
 pub unit_bytes-first : (f g : Fields) (xs ys : List ℕ) → FitUnit f → FitUnit g → unit_bytes f ++ xs ≡ unit_bytes g ++ ys → (f ≡ g) × (xs ≡ ys)
-unit_bytes-first f g xs ys fit-f fit-g e =
-    let same : f ≡ g = sym (fields_at-unit_bytes f xs fit-f) ∙ ap fields_at e ∙ fields_at-unit_bytes g ys fit-g in
-    (same, append_cancel_left (unit_bytes f) xs ys (e ∙ ap (λ (x : Fields). unit_bytes x ++ ys) (sym same)))
+unit_bytes-first f g xs ys fit-f fit-g e = laws.unit_bytes-first f g xs ys (fit_unit f fit-f) (fit_unit g fit-g) e

@@ -17,7 +17,7 @@ use Rattle.bpf_model.specs.Arithmetic.{extension_width}
 use Rattle.bpf_model.specs.Spelling.{Fields, opcode, access_opcode, class_ldx, alu_class, jump_class, store_class, source_x, source_k, source_of, code_of, neg_code, mov_code, end_code, test_code, size_code, mode_mem, mode_of, order_source, order_width, unit_bytes, fields_of, second_unit, second_bytes, spelling, IsInstruction, IsImmediate}
 use Rattle.bpf_decode.specs.Opcodes.{dst_and_imm, wide_opcode}
 use Rattle.bpf_decode.specs.UnitFaults.{FitUnit, has_imm_alone}
-use Rattle.bpf_decode.specs.Operations.{AreOperands}
+use Rattle.bpf_decode.specs.OpcodeFields.{AreOperands}
 
 -- fields are equal where each of them is
 fields_are : (f : Fields) (opcode dst src : ℕ) (offset imm : ℤ) → f.opcode ≡ opcode → f.dst ≡ dst → f.src ≡ src → f.offset ≡ offset → f.imm ≡ imm

@@ -23,17 +23,14 @@ number_of (at.UnusedNotZero unit) = 15
 number_of (at.BadWidth unit) = 16
 number_of (at.CutWide unit) = 17
 
--- the unit that it names
+-- the unit that it names; 0 where it is of no one unit
 abbrev pub unit_of : DecodeFault → ℕ
-unit_of NoMemory = 0
-unit_of Empty = 0
-unit_of NotWholeUnits = 0
-unit_of TooManyUnits = 0
 unit_of (at.UnknownOpcode unit) = unit
 unit_of (at.BadRegister unit) = unit
 unit_of (at.UnusedNotZero unit) = unit
 unit_of (at.BadWidth unit) = unit
 unit_of (at.CutWide unit) = unit
+unit_of fault = 0
 
 -- a fault at this unit
 abbrev pub at_unit : ℕ → UnitFault → DecodeFault

@@ -1,5 +1,5 @@
 pub mod Opcodes
 pub mod UnitFaults
 pub mod Faults
-pub mod Operations
+pub mod OpcodeFields
 pub mod Messages

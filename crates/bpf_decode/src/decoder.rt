@@ -7,12 +7,12 @@ ghost use Rattle.bpf_decode.specs.declared.fault.DecodeFault.{DecodeFault};
 ghost use Rattle.bpf_decode.specs.declared.fault.DecodeFault.TheVariants.{NoMemory};
 ghost use Rattle.bpf_decode.specs.Opcodes.{dst_and_imm};
 ghost use Rattle.bpf_decode.specs.UnitFaults.{IsFirstHalf, HasSecondFault, HasFault};
-ghost use Rattle.bpf_decode.specs.Operations.{AreOperands};
+ghost use Rattle.bpf_decode.specs.OpcodeFields.{AreOperands};
 ghost use Rattle.bpf_decode.specs.Faults.{length_fault, IsFirstFault, HasUnitFault, GivesUnlessNoMemory};
 
 use crate::fault::{DecodeFault, UnitFault};
+use crate::opcode::Opcode;
 use crate::operands::register;
-use crate::operation::Operation;
 use crate::unit::{Fields, UNIT_BYTES};
 use bpf_model::limits::PROGRAM_UNITS;
 use bpf_model::{Insn, Program};
@@ -41,14 +41,14 @@ fn instruction(fields: Fields, after: &[u8]) -> Result<(Insn, &[u8]), UnitFault>
     ensures spelled { IfOk result (λ r. unit_bytes fields ++ after.now ≡ spelling r.0 ++ r.1.now) }
     ensures fault { IfErr result (λ e. HasFault fields after.now e) }
 {
-    let Some(operation) = Operation::from_opcode(fields.opcode) else {
+    let Some(opcode) = Opcode::from_byte(fields.opcode) else {
         return Err(UnitFault::UnknownOpcode);
     };
-    fields.check(operation.used_fields())?;
-    if operation == Operation::Wide {
+    fields.check(opcode.used_fields())?;
+    if opcode == Opcode::Wide {
         return wide(fields, after);
     }
-    match operation.with_operands(fields) {
+    match opcode.with_operands(fields) {
         Some(insn) => Ok((insn, after)),
         None => Err(UnitFault::BadWidth),
     }
@@ -101,14 +101,16 @@ fn instructions(alloc: Global, bytes: &[u8]) -> Result<Vec<Insn>, DecodeFault>
     Ok(instructions)
 }
 
-/// The program that the bytes spell, all of them; else the first fault: of their number, or else of the first unit
-/// that begins no instruction, and there the least-numbered. Asks for memory once, for the program, and only after their number was found right.
+/// The program that all the bytes spell; else the first fault: of their number, or else of the first unit that begins
+/// no instruction, and there the one of the least number. Asks for memory once, for the program, and only after the
+/// number of bytes was found right.
 pub fn decode(alloc: Global, bytes: &[u8]) -> Result<Program, DecodeFault>
     ensures found { IfOk result (λ p. Spells bytes.now p) }
     ensures only { (p : List Insn) → Spells bytes.now p → GivesUnlessNoMemory result (Ok p) }
     ensures first_fault { IfErr result (λ e. (e ≡ NoMemory) ⊎ IsFirstFault bytes.now e) }
     ensures memory { result ≡ Err NoMemory → length_fault bytes.now ≡ None }
-    ensures refused { (e : DecodeFault) → IsFirstFault bytes.now e → GivesUnlessNoMemory result (Err e) }
+    ensures refused { (e : DecodeFault) →
+        IsFirstFault bytes.now e → GivesUnlessNoMemory result (Err e) }
 {
     check_length(bytes)?;
     let instructions = instructions(alloc, bytes)?;

@@ -18,13 +18,14 @@ pub enum DecodeFault {
     Empty,
     /// A number of bytes that is no multiple of 8: number 11, at unit 0.
     NotWholeUnits,
-    /// More than 512 units: number 12, at unit 0.
+    /// More than `PROGRAM_UNITS` units: number 12, at unit 0.
     TooManyUnits,
     /// An opcode that no instruction has: number 13, at this unit.
     UnknownOpcode(usize),
     /// A register field that is used and above 10: number 14, at this unit.
     BadRegister(usize),
-    /// A field that is not used and not zero: number 15, at this unit; of a wide instruction's second half, at its first.
+    /// A field that is not used and not zero: number 15, at this unit. Of a wide instruction's second half: at its
+    /// first.
     UnusedNotZero(usize),
     /// A quotient's or remainder's offset other than 0 and 1, a move's that is no width, or a byte order's imm that is
     /// none: number 16, at this unit.

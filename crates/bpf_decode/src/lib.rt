@@ -5,15 +5,15 @@
 //! `refused`). `encode` gives the spelling (`spelled`), so decoding what was encoded gives it back. Spelling is a
 //! definition of bpf_model, after RFC 9669; which fault is first stands in `specs/Faults.antt`, which one a unit has in
 //! `specs/UnitFaults.antt`, and which fields an opcode uses in `specs/Opcodes.antt`. Each call asks for memory once,
-//! for its result, and waits for nobody.
+//! for its result. Never waits.
 #![tactic(auto)]
 
 mod codes;
 mod decoder;
 mod encoder;
 mod fault;
+mod opcode;
 mod operands;
-mod operation;
 mod spelling;
 mod unit;
 

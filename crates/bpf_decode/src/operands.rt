@@ -1,20 +1,20 @@
-//! Instructions from operations and fields.
+//! Instructions from opcodes and fields.
 ghost use Rattle.std.specs.Prelude.{◌≡◌, ◌≢◌, ◌≤◌, true, false, IfSome, IfNone, nat_eq, pos};
 ghost use Rattle.bpf_model.specs.Arithmetic.{swap_bits, extension_width, extension_bits};
 ghost use Rattle.bpf_model.specs.Spelling.{fields_of, IsInstruction, IsOperand, code_of, offset_of, source_of, src_of, imm_of, source_k, source_x};
 ghost use Rattle.bpf_decode.specs.Opcodes.{is_division};
 ghost use Rattle.bpf_decode.specs.UnitFaults.{has_bad_width, is_sign, is_move, is_swap};
-ghost use Rattle.bpf_decode.specs.Operations.{source_number, opcode_of, used_by, AreOperands, IsRegisterIfUsed, IsZeroUnlessUsed};
-ghost use Rattle.bpf_decode.specs.declared.operation.Operation.TheVariants.{Alu, Mov, Wide, Store, Branch};
+ghost use Rattle.bpf_decode.specs.OpcodeFields.{source_number, byte_of, used_by, AreOperands, IsRegisterIfUsed, IsZeroUnlessUsed};
+ghost use Rattle.bpf_decode.specs.declared.opcode.Opcode.TheVariants.{Alu, Mov, Wide, Store, Branch};
 
-use crate::operation::{Operation, Source};
+use crate::opcode::{Opcode, Source};
 use crate::unit::Fields;
 use bpf_model::{AccessSize, AluOp, Insn, JumpOp, Operand, Reg, SignExtension, SwapWidth, Width};
 
-impl Operation {
+impl Opcode {
     /// Its instruction with the operands that these fields have; none where a width among them is none.
     pub(crate) fn with_operands(self, fields: Fields) -> Option<Insn>
-        requires opcode { fields.opcode ≡ opcode_of self }
+        requires opcode { fields.opcode ≡ byte_of self }
         requires one_unit { self ≢ Wide }
         requires operands { AreOperands (used_by self) fields }
         ensures instruction { IfSome result IsInstruction }
@@ -22,35 +22,33 @@ impl Operation {
         ensures none { IfNone result (has_bad_width fields ≡ true) }
     {
         match self {
-            Operation::Alu(op, source, width) => read_alu(op, source, width, fields),
-            Operation::Negate(width) => Some(Insn::Negate {
+            Opcode::Alu(op, source, width) => read_alu(op, source, width, fields),
+            Opcode::Negate(width) => Some(Insn::Negate {
                 width,
                 dst: register(fields.dst),
             }),
-            Operation::Mov(source, width) => read_move(source, width, fields),
-            Operation::Reorder(order) => Some(Insn::Reorder {
+            Opcode::Mov(source, width) => read_move(source, width, fields),
+            Opcode::Reorder(order) => Some(Insn::Reorder {
                 order,
                 size: swap_width(fields.imm)?,
                 dst: register(fields.dst),
             }),
-            Operation::Wide => unreachable!(),
-            Operation::Load(kind) => Some(Insn::Load {
+            Opcode::Wide => unreachable!(),
+            Opcode::Load(kind) => Some(Insn::Load {
                 kind,
                 dst: register(fields.dst),
                 src: register(fields.src),
                 offset: fields.offset,
             }),
-            Operation::Store(source, size) => Some(read_store(source, size, fields)),
-            Operation::Jump => Some(Insn::Jump {
+            Opcode::Store(source, size) => Some(read_store(source, size, fields)),
+            Opcode::Jump => Some(Insn::Jump {
                 distance: fields.offset,
             }),
-            Operation::JumpLong => Some(Insn::JumpLong {
+            Opcode::JumpLong => Some(Insn::JumpLong {
                 distance: fields.imm,
             }),
-            Operation::Branch(test, source, width) => Some(read_branch(
-                test, source, width, fields,
-            )),
-            Operation::Exit => Some(Insn::Exit),
+            Opcode::Branch(test, source, width) => Some(read_branch(test, source, width, fields)),
+            Opcode::Exit => Some(Insn::Exit),
         }
     }
 }
@@ -78,7 +76,7 @@ fn operand(source: Source, fields: Fields) -> Operand
 }
 
 fn read_alu(op: AluOp, source: Source, width: Width, fields: Fields) -> Option<Insn>
-    requires opcode { fields.opcode ≡ opcode_of (Alu op source width) }
+    requires opcode { fields.opcode ≡ byte_of (Alu op source width) }
     requires operands { AreOperands (used_by (Alu op source width)) fields }
     ensures instruction { IfSome result IsInstruction }
     ensures spelled { IfSome result (λ i. fields_of i ≡ fields) }
@@ -94,7 +92,7 @@ fn read_alu(op: AluOp, source: Source, width: Width, fields: Fields) -> Option<I
 
 // a move of the whole operand, or of its low part with its sign extended
 fn read_move(source: Source, width: Width, fields: Fields) -> Option<Insn>
-    requires opcode { fields.opcode ≡ opcode_of (Mov source width) }
+    requires opcode { fields.opcode ≡ byte_of (Mov source width) }
     requires operands { AreOperands (used_by (Mov source width)) fields }
     ensures instruction { IfSome result IsInstruction }
     ensures spelled { IfSome result (λ i. fields_of i ≡ fields) }
@@ -113,7 +111,7 @@ fn read_move(source: Source, width: Width, fields: Fields) -> Option<Insn>
 }
 
 fn read_store(source: Source, size: AccessSize, fields: Fields) -> Insn
-    requires opcode { fields.opcode ≡ opcode_of (Store source size) }
+    requires opcode { fields.opcode ≡ byte_of (Store source size) }
     requires operands { AreOperands (used_by (Store source size)) fields }
     ensures instruction { IsInstruction result }
     ensures spelled { fields_of result ≡ fields }
@@ -127,7 +125,7 @@ fn read_store(source: Source, size: AccessSize, fields: Fields) -> Insn
 }
 
 fn read_branch(test: JumpOp, source: Source, width: Width, fields: Fields) -> Insn
-    requires opcode { fields.opcode ≡ opcode_of (Branch test source width) }
+    requires opcode { fields.opcode ≡ byte_of (Branch test source width) }
     requires operands { AreOperands (used_by (Branch test source width)) fields }
     ensures instruction { IsInstruction result }
     ensures spelled { fields_of result ≡ fields }

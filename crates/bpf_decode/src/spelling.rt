@@ -4,9 +4,9 @@ ghost use Rattle.std.specs.Int.{w32, cast_signed};
 ghost use Rattle.bpf_model.specs.Words.{IsWord};
 ghost use Rattle.bpf_model.specs.Spelling.{fields_of, second_unit, src_of, imm_of, offset_of, IsRegister};
 ghost use Rattle.bpf_decode.specs.UnitFaults.{FitUnit};
-ghost use Rattle.bpf_decode.specs.Operations.{opcode_of};
+ghost use Rattle.bpf_decode.specs.OpcodeFields.{byte_of};
 
-use crate::operation::{Operation, Source};
+use crate::opcode::{Opcode, Source};
 use crate::unit::Fields;
 use bpf_model::{AluOp, Insn, Operand};
 
@@ -19,7 +19,7 @@ impl Fields {
         ensures src { IsRegister result.src }
     {
         Fields {
-            opcode: operation(insn).opcode(),
+            opcode: opcode(insn).byte(),
             dst: dst(insn),
             src: src(insn),
             offset: offset(insn),
@@ -54,27 +54,27 @@ fn high_half(value: u64) -> i32
     ((value / 0x1_0000_0000) as u32).cast_signed()
 }
 
-fn operation(insn: &Insn) -> Operation
-    ensures { opcode_of result ≡ (fields_of insn.now).opcode }
+fn opcode(insn: &Insn) -> Opcode
+    ensures { byte_of result ≡ (fields_of insn.now).opcode }
 {
     match *insn {
-        Insn::Alu { op, width, src, .. } => Operation::Alu(op, Source::of(src), width),
-        Insn::Negate { width, .. } => Operation::Negate(width),
-        Insn::Mov { width, src, .. } => Operation::Mov(Source::of(src), width),
-        Insn::SignExtend { extension, .. } => Operation::Mov(Source::Register, extension.width()),
-        Insn::Reorder { order, .. } => Operation::Reorder(order),
-        Insn::Wide { .. } => Operation::Wide,
-        Insn::Load { kind, .. } => Operation::Load(kind),
-        Insn::Store { size, src, .. } => Operation::Store(Source::of(src), size),
-        Insn::Jump { .. } => Operation::Jump,
-        Insn::JumpLong { .. } => Operation::JumpLong,
+        Insn::Alu { op, width, src, .. } => Opcode::Alu(op, Source::of(src), width),
+        Insn::Negate { width, .. } => Opcode::Negate(width),
+        Insn::Mov { width, src, .. } => Opcode::Mov(Source::of(src), width),
+        Insn::SignExtend { extension, .. } => Opcode::Mov(Source::Register, extension.width()),
+        Insn::Reorder { order, .. } => Opcode::Reorder(order),
+        Insn::Wide { .. } => Opcode::Wide,
+        Insn::Load { kind, .. } => Opcode::Load(kind),
+        Insn::Store { size, src, .. } => Opcode::Store(Source::of(src), size),
+        Insn::Jump { .. } => Opcode::Jump,
+        Insn::JumpLong { .. } => Opcode::JumpLong,
         Insn::Branch {
             test,
             width,
             src,
             ..
-        } => Operation::Branch(test, Source::of(src), width),
-        Insn::Exit => Operation::Exit,
+        } => Opcode::Branch(test, Source::of(src), width),
+        Insn::Exit => Opcode::Exit,
     }
 }
 

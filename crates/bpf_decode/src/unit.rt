@@ -2,7 +2,7 @@
 ghost use Rattle.std.specs.Prelude.{◌≡◌, IfErr, OnOk, Some, None, if◌then◌else◌};
 ghost use Rattle.bpf_model.specs.Spelling.{unit_bytes};
 ghost use Rattle.bpf_decode.specs.UnitFaults.{FitUnit, has_bad_register, has_unused_not_zero, has_bad_width, fault_under, has_imm_alone};
-ghost use Rattle.bpf_decode.specs.Operations.{AreOperands};
+ghost use Rattle.bpf_decode.specs.OpcodeFields.{AreOperands};
 ghost use Rattle.bpf_decode.specs.declared.fault.UnitFault.TheVariants.{BadWidth};
 
 use crate::fault::UnitFault;
@@ -103,7 +103,8 @@ impl Fields {
     /// The least-numbered fault of fields of which these are used; widths are not looked at.
     pub(crate) fn check(self, used: UsedFields) -> Result<(), UnitFault>
         ensures operands { OnOk result (AreOperands used self) }
-        ensures ok { OnOk result (fault_under (Some used) self ≡ (if has_bad_width self then Some BadWidth else None)) }
+        ensures ok { OnOk result
+            (fault_under (Some used) self ≡ (if has_bad_width self then Some BadWidth else None)) }
         ensures err { IfErr result (λ e. fault_under (Some used) self ≡ Some e) }
     {
         if self.has_bad_register(used) {

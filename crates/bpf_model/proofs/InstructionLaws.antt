@@ -141,48 +141,17 @@ at_jump_class W64 code source f = refl
 at_code : (op : AluOp) (width : Width) (source : ℕ) (f : Fields) → alu_insn width (code_of op) source f ≡ Alu (op_of (code_of op) f.offset) width f.dst (operand_of source f)
 unfolding alu_insn
 at_code Add width source f = refl
-at_code Sub width source f = refl
-at_code Mul width source f = refl
-at_code Div width source f = refl
-at_code SDiv width source f = refl
-at_code Or width source f = refl
-at_code And width source f = refl
-at_code Lsh width source f = refl
-at_code Rsh width source f = refl
-at_code Mod width source f = refl
-at_code SMod width source f = refl
-at_code Xor width source f = refl
-at_code Arsh width source f = refl
+at_code op width source f = refl
 
 op_again : (op : AluOp) → op_of (code_of op) (offset_of op) ≡ op
 unfolding op_of
 op_again Add = refl
-op_again Sub = refl
-op_again Mul = refl
-op_again Div = refl
-op_again SDiv = refl
-op_again Or = refl
-op_again And = refl
-op_again Lsh = refl
-op_again Rsh = refl
-op_again Mod = refl
-op_again SMod = refl
-op_again Xor = refl
-op_again Arsh = refl
+op_again op = refl
 
 at_test_code : (test : JumpOp) (width : Width) (source : ℕ) (f : Fields) → jump_insn width (test_code test) source f ≡ Branch test width f.dst (operand_of source f) f.offset
 unfolding jump_insn test_of
 at_test_code Eq width source f = refl
-at_test_code Gt width source f = refl
-at_test_code Ge width source f = refl
-at_test_code Set width source f = refl
-at_test_code Ne width source f = refl
-at_test_code SGt width source f = refl
-at_test_code SGe width source f = refl
-at_test_code Lt width source f = refl
-at_test_code Le width source f = refl
-at_test_code SLt width source f = refl
-at_test_code SLe width source f = refl
+at_test_code test width source f = refl
 
 operand_again : (src : Operand) (op dst : ℕ) (offset : ℤ) → operand_of (source_of src) (record { opcode = op; dst = dst; src = src_of src; offset = offset; imm = imm_of src }) ≡ src
 unfolding operand_of

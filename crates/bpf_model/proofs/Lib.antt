@@ -13,4 +13,5 @@ pub mod ByteOrderLaws
 pub mod UnitLaws
 pub mod InstructionLaws
 pub mod SpellingLaws
+pub mod KeyLaws
 pub mod Examples

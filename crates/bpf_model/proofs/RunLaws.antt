@@ -6,7 +6,7 @@ use Rattle.bpf_model.specs.declared.input.Input.{Input}
 use Rattle.bpf_model.specs.declared.input.Sizes.{Sizes}
 use Rattle.bpf_model.specs.declared.input.Answer.{Answer}
 use Rattle.bpf_model.specs.declared.instruction.Insn.{Insn}
-use Rattle.bpf_model.specs.declared.instruction.Insn.TheVariants.{Alu, Negate, Mov, SignExtend, Reorder, Wide, Load, Store, Jump, JumpLong, Branch, Exit}
+use Rattle.bpf_model.specs.declared.instruction.Insn.TheVariants.{Exit}
 use Rattle.bpf_model.specs.Program.{instruction_at}
 use Rattle.bpf_model.specs.State.{State, entry_state}
 use Rattle.bpf_model.specs.Step.{act, ends_in}
@@ -15,18 +15,8 @@ use Rattle.bpf_model.proofs.Options.{chain_some, some_is}
 
 -- what ends a run does not act
 ends_or_acts : (sizes : Sizes) (i : Insn) (s : State) (a : Answer) → ends_in sizes i s ≡ Some a → act sizes i s ≡ None
-ends_or_acts sizes (Alu op width dst src) s a e = absurd cc
-ends_or_acts sizes (Negate width dst) s a e = absurd cc
-ends_or_acts sizes (Mov width dst src) s a e = absurd cc
-ends_or_acts sizes (SignExtend extension dst src) s a e = absurd cc
-ends_or_acts sizes (Reorder order size dst) s a e = absurd cc
-ends_or_acts sizes (Wide dst value) s a e = absurd cc
-ends_or_acts sizes (Load kind dst src offset) s a e = absurd cc
-ends_or_acts sizes (Store size dst src offset) s a e = absurd cc
-ends_or_acts sizes (Jump distance) s a e = absurd cc
-ends_or_acts sizes (JumpLong distance) s a e = absurd cc
-ends_or_acts sizes (Branch test width dst src distance) s a e = absurd cc
 ends_or_acts sizes Exit s a e = refl
+ends_or_acts sizes i s a e = absurd cc
 
 -- an end has no next state
 end_stops : (program : List Insn) (sizes : Sizes) (s : State) (a : Answer) → ending program sizes s ≡ Some a → step program sizes s ≡ None

@@ -123,18 +123,8 @@ spelling-first i j xs ys is-i is-j e =
 -- an instruction has eight bytes a unit
 pub length-spelling : (i : Insn) → length (spelling i) ≡ 8 * units_of i
 unfolding bytes_of
-length-spelling (Alu op width dst src) = refl
-length-spelling (Negate width dst) = refl
-length-spelling (Mov width dst src) = refl
-length-spelling (SignExtend extension dst src) = refl
-length-spelling (Reorder order size dst) = refl
 length-spelling (Wide dst value) = refl
-length-spelling (Load kind dst src offset) = refl
-length-spelling (Store size dst src offset) = refl
-length-spelling (Jump distance) = refl
-length-spelling (JumpLong distance) = refl
-length-spelling (Branch test width dst src distance) = refl
-length-spelling Exit = refl
+length-spelling i = refl
 
 -- instructions have eight bytes a unit
 pub length-spelling_of_all : (is : List Insn) → length (spelling_of_all is) ≡ 8 * unit_count is

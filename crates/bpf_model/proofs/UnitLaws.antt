@@ -6,7 +6,7 @@ use Rattle.std.proofs.lemmas.List.{append_cancel_left}
 use Rattle.std.proofs.Math.Facts.{Fits-of_z, sfits_to_z}
 use Rattle.std.proofs.Math.Nat.{pow-succ'}
 use Rattle.bpf_model.specs.declared.operations.AluOp.{AluOp}
-use Rattle.bpf_model.specs.declared.operations.AluOp.TheVariants.{Add, Sub, Mul, Div, SDiv, Or, And, Lsh, Rsh, Mod, SMod, Xor, Arsh}
+use Rattle.bpf_model.specs.declared.operations.AluOp.TheVariants.{SDiv, SMod}
 use Rattle.bpf_model.specs.declared.operations.SignExtension.{SignExtension}
 use Rattle.bpf_model.specs.declared.operations.SignExtension.TheVariants.{From8To32, From16To32, From8To64, From16To64, From32To64}
 use Rattle.bpf_model.specs.declared.operations.SwapWidth.{SwapWidth}
@@ -69,19 +69,9 @@ zero_imm : IsImmediate (pos 0)
 zero_imm = record { sfits = omega arith }
 
 offset_fits : (op : AluOp) → IsOffset (offset_of op)
-offset_fits Add = zero_offset
-offset_fits Sub = zero_offset
-offset_fits Mul = zero_offset
-offset_fits Div = zero_offset
 offset_fits SDiv = record { sfits = omega arith }
-offset_fits Or = zero_offset
-offset_fits And = zero_offset
-offset_fits Lsh = zero_offset
-offset_fits Rsh = zero_offset
-offset_fits Mod = zero_offset
 offset_fits SMod = record { sfits = omega arith }
-offset_fits Xor = zero_offset
-offset_fits Arsh = zero_offset
+offset_fits op = zero_offset
 
 imm_fits : (src : Operand) → IsOperand src → IsImmediate (imm_of src)
 imm_fits (Register r) h = zero_imm

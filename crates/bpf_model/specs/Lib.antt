@@ -9,3 +9,5 @@ pub mod State
 pub mod Step
 pub mod Meaning
 pub mod Spelling
+pub mod Keys
+pub mod Laws

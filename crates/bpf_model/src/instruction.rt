@@ -62,67 +62,70 @@ pub fn immediate_word(imm: i32) -> u64
     i64::from(imm).cast_unsigned()
 }
 
-/// An instruction. Distances of jumps count units, from the next instruction on.
+/// An instruction, by its name in RFC 9669. A jump's distance counts units, from the next instruction on.
 #[derive(Clone, Copy, Debug, PartialEq, Eq)]
 pub enum Insn {
-    /// `dst` becomes what the operation gives on `dst` and `src`.
+    /// ADD, SUB, MUL, DIV, SDIV, OR, AND, LSH, RSH, MOD, SMOD, XOR, ARSH: `dst` becomes what the operation gives on
+    /// `dst` and `src`.
     Alu {
         op: AluOp,
         width: Width,
         dst: Reg,
         src: Operand,
     },
-    /// `dst` becomes 0 less `dst`.
+    /// NEG: `dst` becomes 0 less `dst`.
     Negate {
         width: Width,
         dst: Reg,
     },
-    /// `dst` becomes `src`, or its low part.
+    /// MOV: `dst` becomes `src`, or its low part.
     Mov {
         width: Width,
         dst: Reg,
         src: Operand,
     },
-    /// `dst` becomes the low bits of `src`, with their sign extended.
+    /// MOVSX: `dst` becomes the low bits of `src`, with their sign extended.
     SignExtend {
         extension: SignExtension,
         dst: Reg,
         src: Reg,
     },
-    /// `dst` becomes its low bits, in another byte order.
+    /// END: `dst` becomes its low bits, in another byte order.
     Reorder {
         order: ByteOrder,
         size: SwapWidth,
         dst: Reg,
     },
-    /// `dst` becomes the value. The one instruction of two units.
+    /// The wide LD of IMM mode, a 64-bit immediate: `dst` becomes the value. The one instruction of two units.
     Wide {
         dst: Reg,
         value: u64,
     },
-    /// `dst` becomes the bytes at `src + offset`.
+    /// LDX of MEM or MEMSX mode: `dst` becomes the bytes at `src + offset`.
     Load {
         kind: LoadKind,
         dst: Reg,
         src: Reg,
         offset: i16,
     },
-    /// The bytes at `dst + offset` become the low bytes of `src`.
+    /// ST (`src` is an immediate) or STX (a register), of MEM mode: the bytes at `dst + offset` become the low bytes of
+    /// `src`.
     Store {
         size: AccessSize,
         dst: Reg,
         src: Operand,
         offset: i16,
     },
-    /// The run goes on at this distance.
+    /// JA of the class JMP: the run goes on at this distance, which stands in the offset.
     Jump {
         distance: i16,
     },
-    /// The same, farther.
+    /// JA of the class JMP32: the same, with the distance in the immediate.
     JumpLong {
         distance: i32,
     },
-    /// The run goes on at this distance where the test holds of `dst` and `src`, else at the next instruction.
+    /// JEQ, JGT, JGE, JSET, JNE, JSGT, JSGE, JLT, JLE, JSLT, JSLE: the run goes on at this distance where the test holds
+    /// of `dst` and `src`, else at the next instruction.
     Branch {
         test: JumpOp,
         width: Width,
@@ -130,7 +133,7 @@ pub enum Insn {
         src: Operand,
         distance: i16,
     },
-    /// The run ends.
+    /// EXIT: the run ends.
     Exit,
 }
 

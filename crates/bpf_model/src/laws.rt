@@ -1,20 +1,22 @@
 //! Laws of the definitions: what holds of them whatever their arguments, each the contract of a small function.
-ghost use Rattle.std.specs.Prelude.{ℕ, ◌≡◌, ◌↔◌, ◌*◌, ◌+ℤ◌, ◌*ℤ◌, ◌++◌, ◌<◌, ◌≤◌, length, List, Some, IsTrue, not, unsigned_abs, pos, true, false, ◌≤ℤ◌};
+ghost use Rattle.std.specs.Prelude.{ℕ, ◌≡◌, ◌↔◌, ◌*◌, ◌++◌, ◌∷◌, ◌<◌, ◌≤◌, length, List, IsTrue, not, true, false};
+ghost use Rattle.std.specs.declared.cmp.Ordering.TheVariants.{Less};
 ghost use Rattle.bpf_model.specs.declared.input.Input.{Input};
 ghost use Rattle.bpf_model.specs.declared.input.Sizes.{Sizes as DeclaredSizes};
 ghost use Rattle.bpf_model.specs.declared.instruction.Insn.{Insn as AnyInsn};
-ghost use Rattle.bpf_model.specs.declared.operations.AluOp.TheVariants.{Add, Mul, SDiv, SMod};
+ghost use Rattle.bpf_model.specs.declared.operations.AluOp.TheVariants.{SDiv, SMod};
 ghost use Rattle.bpf_model.specs.declared.operations.ByteOrder.{ByteOrder as AnyOrder};
 ghost use Rattle.bpf_model.specs.declared.operations.ByteOrder.TheVariants.{Little, Big, Swap};
-ghost use Rattle.bpf_model.specs.Arithmetic.{modulus, signed_at, alu_value, negated, mov_value, extended, extension_width, reordered, swap_modulus, IsLeastByMinusOne};
+ghost use Rattle.bpf_model.specs.Arithmetic.{modulus, alu_value, negated, mov_value, extended, extension_width, reordered, swap_modulus};
 ghost use Rattle.bpf_model.specs.Conditions.{opposite_of, holds};
 ghost use Rattle.bpf_model.specs.Fits.{AreWithinLimits};
+ghost use Rattle.bpf_model.specs.Keys.{by_bytes};
+ghost use Rattle.bpf_model.specs.Laws.{IsSignedDivision, StaysAt, IsSpelledAlone};
 ghost use Rattle.bpf_model.specs.Memory.{lies_in_window, can_write};
 ghost use Rattle.bpf_model.specs.Spelling.{IsInstruction, spelling, spelling_of_all, Spells};
-ghost use Rattle.bpf_model.specs.State.{State};
-ghost use Rattle.bpf_model.specs.Step.{act};
 ghost use Rattle.bpf_model.specs.Meaning.{Means};
 
+use crate::bytes::Key;
 use crate::conditions::Condition;
 use crate::input::Answer;
 use crate::instruction::Insn;
@@ -22,9 +24,24 @@ use crate::limits::PROGRAM_UNITS;
 use crate::operations::{AluOp, ByteOrder, SignExtension, SwapWidth, Width};
 use crate::program::Program;
 use crate::region::Region;
+use std::cmp::Ordering;
+
+impl Key {
+    /// How the key stands to another in the order of keys.
+    #[tactic(auto, using(crate::proofs::KeyLaws::by_bytes_beginning, crate::proofs::KeyLaws::by_bytes_difference))]
+    pub fn compare(&self, other: &Key) -> Ordering
+        ensures value { result ≡ by_bytes self.now other.now }
+        ensures ord { (a b : List ℕ) → ⟦<Key as Ord>⟧.cmp a b ≡ by_bytes a b }
+        ensures beginning { (key rest : List ℕ) (b : ℕ) → by_bytes key (key ++ b ∷ rest) ≡ Less }
+        ensures difference { (common xs ys : List ℕ) (a b : ℕ) → a < b →
+            by_bytes (common ++ a ∷ xs) (common ++ b ∷ ys) ≡ Less }
+    {
+        self.cmp(other)
+    }
+}
 
 impl Width {
-    /// Whether the word is a number of the width: what an operation, a negation or a move gives at it always is.
+    /// Whether the word is a number of the width. Whatever an operation, a negation or a move gives at it is one.
     #[tactic(auto, using(crate::proofs::ArithmeticLaws::alu_value_below, crate::proofs::ArithmeticLaws::negated_below, crate::proofs::ArithmeticLaws::low_below))]
     pub fn has(self, n: u64) -> bool
         ensures exact { IsTrue result ↔ (n < modulus self) }
@@ -35,18 +52,13 @@ impl Width {
         n <= self.greatest()
     }
 
-    /// The dividend once more, out of its signed quotient and remainder. Quotient times divisor plus remainder is the
-    /// dividend, as whole numbers, and the remainder is nearer to zero than the divisor and has the dividend's sign. The
-    /// least number by -1 gives itself, with remainder 0; by zero the quotient is 0.
+    /// The dividend once more, out of its signed quotient and remainder. The least number by -1 gives itself, with
+    /// remainder 0; by zero the quotient is 0 and the remainder the dividend.
     pub fn divided_again(self, dividend: u64, divisor: u64) -> u64
         ensures value { result ≡ mov_value self dividend }
-        ensures whole { alu_value Add self (alu_value Mul self (alu_value SDiv self dividend divisor) divisor) (alu_value SMod self dividend divisor) ≡ mov_value self dividend }
-        ensures exact { 0 < mov_value self divisor → ¬ (IsLeastByMinusOne self (mov_value self dividend) (mov_value self divisor)) → signed_at self (alu_value SDiv self dividend divisor) *ℤ signed_at self (mov_value self divisor) +ℤ signed_at self (alu_value SMod self dividend divisor) ≡ signed_at self (mov_value self dividend) }
-        ensures by_zero { mov_value self divisor ≡ 0 → alu_value SDiv self dividend divisor ≡ 0 }
-        ensures least { IsLeastByMinusOne self (mov_value self dividend) (mov_value self divisor) → (alu_value SDiv self dividend divisor ≡ mov_value self dividend) × (alu_value SMod self dividend divisor ≡ 0) }
-        ensures near { 0 < mov_value self divisor → unsigned_abs (signed_at self (alu_value SMod self dividend divisor)) < unsigned_abs (signed_at self (mov_value self divisor)) }
-        ensures not_negative { pos 0 ≤ℤ signed_at self (mov_value self dividend) → pos 0 ≤ℤ signed_at self (alu_value SMod self dividend divisor) }
-        ensures not_positive { signed_at self (mov_value self dividend) ≤ℤ pos 0 → signed_at self (alu_value SMod self dividend divisor) ≤ℤ pos 0 }
+        ensures division { let quotient = alu_value SDiv self dividend divisor in
+            let remainder = alu_value SMod self dividend divisor in
+            IsSignedDivision self dividend divisor quotient remainder }
     {
         let quotient = AluOp::SDiv.apply(self, dividend, divisor);
         let remainder = AluOp::SMod.apply(self, dividend, divisor);
@@ -55,7 +67,7 @@ impl Width {
 }
 
 impl SignExtension {
-    /// Whether the extension gives the word: exactly where it leaves it as it stands.
+    /// Whether the word is one that the extension gives: one that it leaves as it is.
     #[tactic(auto, using(crate::proofs::ArithmeticLaws::extended_below, crate::proofs::ArithmeticLaws::extended_again))]
     pub fn gives(self, n: u64) -> bool
         ensures exact { IsTrue result ↔ (extended self n ≡ n) }
@@ -67,7 +79,7 @@ impl SignExtension {
 }
 
 impl SwapWidth {
-    /// The low bytes of a word, reversed and reversed again: they stand as they stood, and the others are zero.
+    /// Reverses the low bytes of a word twice: they are as before, and the others are zero.
     #[tactic(auto, using(crate::proofs::ByteOrderLaws::reordered_below))]
     pub fn reversed_twice(self, n: u64) -> u64
         ensures value { result ≡ reordered Little self n }
@@ -80,7 +92,7 @@ impl SwapWidth {
 }
 
 impl Condition {
-    /// Whether the condition fails of two words: exactly where its opposite holds.
+    /// Whether the condition does not hold of two words: exactly then its opposite does.
     pub fn fails(self, width: Width, a: u64, b: u64) -> bool
         ensures value { result ≡ not (holds self width a b) }
         ensures opposite { holds (opposite_of self) width a b ≡ not (holds self width a b) }
@@ -92,9 +104,12 @@ impl Condition {
 impl Region {
     /// Whether the window may only be read: no step changes a byte of such a window, nor any byte outside all windows.
     pub fn is_read_only(self) -> bool
-        ensures exact { (sizes : DeclaredSizes) (a n : ℕ) → AreWithinLimits sizes → lies_in_window sizes self a n ≡ true → result ≡ not (can_write sizes a n) }
-        ensures kept { (sizes : DeclaredSizes) (insn : AnyInsn) (s t : State) (a : ℕ) → AreWithinLimits sizes → result ≡ true → lies_in_window sizes self a 1 ≡ true → act sizes insn s ≡ Some t → t.memory a ≡ s.memory a }
-        ensures outside { (sizes : DeclaredSizes) (insn : AnyInsn) (s t : State) (a : ℕ) → can_write sizes a 1 ≡ false → act sizes insn s ≡ Some t → t.memory a ≡ s.memory a }
+        ensures exact { (sizes : DeclaredSizes) (a n : ℕ) → AreWithinLimits sizes →
+            lies_in_window sizes self a n ≡ true → result ≡ not (can_write sizes a n) }
+        ensures kept { (sizes : DeclaredSizes) (a : ℕ) → AreWithinLimits sizes → result ≡ true →
+            lies_in_window sizes self a 1 ≡ true → StaysAt sizes a }
+        ensures outside { (sizes : DeclaredSizes) (a : ℕ) →
+            can_write sizes a 1 ≡ false → StaysAt sizes a }
     {
         matches!(self, Region::Key | Region::Old | Region::Arg)
     }
@@ -104,7 +119,9 @@ impl Answer {
     /// Whether two answers are the same: those that one program gives on one input are.
     pub fn is_same(&self, other: &Answer) -> bool
         ensures exact { IsTrue result ↔ (self.now ≡ other.now) }
-        ensures one { (program : List AnyInsn) (sizes : DeclaredSizes) (input : Input) → Means program sizes input self.now → Means program sizes input other.now → IsTrue result }
+        ensures one { (program : List AnyInsn) (sizes : DeclaredSizes) (input : Input) →
+            Means program sizes input self.now → Means program sizes input other.now →
+            IsTrue result }
     {
         self == other
     }
@@ -116,19 +133,21 @@ impl Insn {
         ensures value { result ≡ length (spelling self) }
         ensures few { result ≤ 16 }
         ensures fits { IsInstruction self }
-        ensures prefix { (other : AnyInsn) (xs ys : List ℕ) → IsInstruction other → spelling self ++ xs ≡ spelling other ++ ys → (self ≡ other) × (xs ≡ ys) }
+        ensures alone { IsSpelledAlone self }
     {
         8 * self.units()
     }
 }
 
 impl Program {
-    /// How many bytes spell the program, at most 4096. A program has one spelling, and bytes spell one program at most.
+    /// How many bytes spell the program. It has one spelling, and bytes spell one program at most.
     pub fn spelled_bytes(&self) -> usize
         ensures value { result ≡ length (spelling_of_all self.now) }
         ensures few { result ≤ 8 * PROGRAM_UNITS }
-        ensures one_spelling { (text other : List ℕ) → Spells text self.now → Spells other self.now → text ≡ other }
-        ensures one_program { (text : List ℕ) (other : List AnyInsn) → Spells text self.now → Spells text other → other ≡ self.now }
+        ensures one_spelling { (text other : List ℕ) →
+            Spells text self.now → Spells other self.now → text ≡ other }
+        ensures one_program { (text : List ℕ) (other : List AnyInsn) →
+            Spells text self.now → Spells text other → other ≡ self.now }
     {
         let instructions = self.instructions();
         let mut bytes = 0;

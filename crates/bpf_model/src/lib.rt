@@ -4,7 +4,8 @@
 //! what a run is and when a program is safe stands in `specs/`, in the terms of RFC 9669: partial maps of registers
 //! and of addresses, and a step that has no case where RFC 9669 or our profile gives none.
 //!
-//! The one promise to the layers above: `fits` is exact, and lengths are bounded by type. No call takes memory.
+//! The promise to the layers above: lengths are bounded by type, each call gives what its definition says, and whether
+//! an input fits is exact (`fits`, `fits_parts`). No call takes memory or waits.
 #![tactic(auto)]
 
 pub mod accesses;

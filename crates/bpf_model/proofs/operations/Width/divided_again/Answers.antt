@@ -12,23 +12,17 @@ returns-clause-value c =
     ∙ ap (alu_value Add width _) c.apply-remainder.ensures
     ∙ signed_division width c.args.dividend c.args.divisor
 
-pub returns-clause-whole : goal.returns-clause-whole
-returns-clause-whole c = signed_division c.args.self c.args.dividend c.args.divisor
-
-pub returns-clause-exact : goal.returns-clause-exact
-returns-clause-exact c = signed_division_exact c.args.self c.args.dividend c.args.divisor
-
-pub returns-clause-by_zero : goal.returns-clause-by_zero
-returns-clause-by_zero c = signed_quotient_by_zero c.args.self c.args.dividend c.args.divisor
-
-pub returns-clause-least : goal.returns-clause-least
-returns-clause-least c = least_by_minus_one c.args.self c.args.dividend c.args.divisor
-
-pub returns-clause-near : goal.returns-clause-near
-returns-clause-near c = signed_remainder_near c.args.self c.args.dividend c.args.divisor
-
-pub returns-clause-not_negative : goal.returns-clause-not_negative
-returns-clause-not_negative c = signed_remainder_not_negative c.args.self c.args.dividend c.args.divisor
-
-pub returns-clause-not_positive : goal.returns-clause-not_positive
-returns-clause-not_positive c = signed_remainder_not_positive c.args.self c.args.dividend c.args.divisor
+pub returns-clause-division : goal.returns-clause-division
+returns-clause-division c =
+    let width = c.args.self in
+    let dividend = c.args.dividend in
+    let divisor = c.args.divisor in
+    record {
+      modulo = signed_division width dividend divisor;
+      whole = signed_division_exact width dividend divisor;
+      by_zero = signed_quotient_by_zero width dividend divisor;
+      least = least_by_minus_one width dividend divisor;
+      near = signed_remainder_near width dividend divisor;
+      not_negative = signed_remainder_not_negative width dividend divisor;
+      not_positive = signed_remainder_not_positive width dividend divisor;
+    }

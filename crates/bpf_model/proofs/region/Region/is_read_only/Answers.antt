@@ -16,9 +16,9 @@ returns-in-Key c =
     let only = ap not (read_only window c.in-Key.is) in
     record {
       exact = λ sizes a n limits lies. sym (ap not (writable sizes limits window a n lies ∙ only));
-      kept = λ sizes i s t a limits yes lies acts. unwritable_kept sizes i s t a acts (writable sizes limits window a 1 lies ∙ only);
-      outside = λ sizes i s t a out acts. unwritable_kept sizes i s t a acts out;
+      kept = λ sizes a limits yes lies i s t acts. unwritable_kept sizes i s t a acts (writable sizes limits window a 1 lies ∙ only);
+      outside = λ sizes a out i s t acts. unwritable_kept sizes i s t a acts out;
     }
 
 pub returns-in_default-clause-outside : goal.returns-in_default-clause-outside
-returns-in_default-clause-outside c sizes i s t a out acts = unwritable_kept sizes i s t a acts out
+returns-in_default-clause-outside c = λ sizes a out i s t acts. unwritable_kept sizes i s t a acts out

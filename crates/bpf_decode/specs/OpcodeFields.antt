@@ -1,12 +1,12 @@
--- Which opcode an operation has, and which fields it uses.
+-- The byte that an opcode is, and which fields its instructions use. Internal: no public contract cites it.
 use Rattle.std.specs.Prelude.{◌≡◌, ℕ, ◌≤◌, Bool, true, false, nat_eq, ℤ, pos}
 use Rattle.bpf_model.specs.declared.operations.Width.TheVariants.{W32, W64}
 use Rattle.bpf_model.specs.Spelling.{Fields, opcode, access_opcode, class_ldx, class_st, class_stx, alu_class, jump_class, source_k, source_x, code_of, neg_code, mov_code, end_code, order_source, order_width, test_code, ja_code, exit_code, size_code, mode_mem, mode_of}
 use Rattle.bpf_model.specs.Accesses.{loaded_size}
-use Rattle.bpf_decode.specs.declared.operation.Source.{Source}
-use Rattle.bpf_decode.specs.declared.operation.Source.TheVariants.{Immediate, Register}
-use Rattle.bpf_decode.specs.declared.operation.Operation.{Operation}
-use Rattle.bpf_decode.specs.declared.operation.Operation.TheVariants.{Alu, Negate, Mov, Reorder, Wide, Load, Store, Jump, JumpLong, Branch, Exit}
+use Rattle.bpf_decode.specs.declared.opcode.Source.{Source}
+use Rattle.bpf_decode.specs.declared.opcode.Source.TheVariants.{Immediate, Register}
+use Rattle.bpf_decode.specs.declared.opcode.Opcode.{Opcode}
+use Rattle.bpf_decode.specs.declared.opcode.Opcode.TheVariants.{Alu, Negate, Mov, Reorder, Wide, Load, Store, Jump, JumpLong, Branch, Exit}
 use Rattle.bpf_decode.specs.declared.unit.UsedFields.{UsedFields}
 use Rattle.bpf_decode.specs.Opcodes.{operands, dst_alone, dst_and_imm, offset_alone, imm_alone, no_field, is_division, wide_opcode}
 
@@ -19,22 +19,22 @@ abbrev pub stored_class : Source → ℕ
 stored_class Immediate = class_st
 stored_class Register = class_stx
 
--- the opcode of the operation's instructions
-abbrev pub opcode_of : Operation → ℕ
-opcode_of (Alu op source width) = opcode (code_of op) (source_number source) (alu_class width)
-opcode_of (Negate width) = opcode neg_code source_k (alu_class width)
-opcode_of (Mov source width) = opcode mov_code (source_number source) (alu_class width)
-opcode_of (Reorder order) = opcode end_code (order_source order) (alu_class (order_width order))
-opcode_of Wide = wide_opcode
-opcode_of (Load kind) = access_opcode (mode_of kind) (size_code (loaded_size kind)) class_ldx
-opcode_of (Store source size) = access_opcode mode_mem (size_code size) (stored_class source)
-opcode_of Jump = opcode ja_code source_k (jump_class W64)
-opcode_of JumpLong = opcode ja_code source_k (jump_class W32)
-opcode_of (Branch test source width) = opcode (test_code test) (source_number source) (jump_class width)
-opcode_of Exit = opcode exit_code source_k (jump_class W64)
+-- the byte that stands for an opcode
+abbrev pub byte_of : Opcode → ℕ
+byte_of (Alu op source width) = opcode (code_of op) (source_number source) (alu_class width)
+byte_of (Negate width) = opcode neg_code source_k (alu_class width)
+byte_of (Mov source width) = opcode mov_code (source_number source) (alu_class width)
+byte_of (Reorder order) = opcode end_code (order_source order) (alu_class (order_width order))
+byte_of Wide = wide_opcode
+byte_of (Load kind) = access_opcode (mode_of kind) (size_code (loaded_size kind)) class_ldx
+byte_of (Store source size) = access_opcode mode_mem (size_code size) (stored_class source)
+byte_of Jump = opcode ja_code source_k (jump_class W64)
+byte_of JumpLong = opcode ja_code source_k (jump_class W32)
+byte_of (Branch test source width) = opcode (test_code test) (source_number source) (jump_class width)
+byte_of Exit = opcode exit_code source_k (jump_class W64)
 
 -- the fields that its instructions use
-abbrev pub used_by : Operation → UsedFields
+abbrev pub used_by : Opcode → UsedFields
 used_by (Alu op source width) = operands (source_number source) (is_division (code_of op))
 used_by (Negate width) = dst_alone
 used_by (Mov source width) = operands (source_number source) (nat_eq (source_number source) source_x)
