@@ -1,0 +1,2 @@
+pub mod SortedEntries
+pub mod MapEdits
