@@ -7,7 +7,7 @@ use Rattle.std.specs.Cmp.Lexicographic.{nat_list_cmp_total}
 use Rattle.std.specs.FinMap as map
 use Rattle.std.specs.FinMap.{IsAntisymmetric, nat_cmp-IsAntisymmetric, slice_cmp-IsAntisymmetric, find, put, is_sorted, from_sorted, same_map, same_entries_map, entries-insert, entries-from_sorted, get-remove, get-from_sorted, get_tied, empty_of_len, len-entries}
 use Rattle.std.specs.FinMap.Entries.{where_key, is_sorted-put, is_sorted-where_key, find-where_key}
-use Rattle.bins.specs.Table.{Table, by_bytes}
+use Rattle.bins.specs.Table.{Entry, Table, by_bytes}
 use Rattle.bins.specs.Places.{IsAt, IsGapFor}
 use Rattle.bins.proofs.SortedEntries.{find_found, put_found, without_found, find_gap, put_gap}
 
@@ -27,9 +27,6 @@ on_err_anyway (Err _) p = p
 opposite : {A : Type 0} (b : Bool) (x y : A) → cond (not b) x y ≡ cond b y x
 opposite true x y = refl
 opposite false x y = refl
-
-abbrev Entry : Type 0
-Entry = List ℕ × List ℕ
 
 abbrev table_of : List Entry → Table
 table_of es = from_sorted es

@@ -1,5 +1,5 @@
 -- Entries after outcomes: one more outcome, and what they make of the table.
-use Rattle.std.proofs.Common.{◌≡◌, ℕ, suc, ◌+◌, ◌<◌, Bool, true, false, T, cond, ◌&&◌, List, [], ◌∷◌, ◌++◌, length, get_or, set, Option, Some, Result, Ok, Err, Ordering, Less, Equal, Greater, is_eq, is_lt, refl, sym, ap, subst, ◌∙◌, arith}
+use Rattle.std.proofs.Common.{◌≡◌, ℕ, suc, ◌+◌, ◌<◌, Bool, true, false, T, cond, ◌&&◌, List, [], ◌∷◌, ◌++◌, length, get_or, set, Option, Some, Ok, Err, Ordering, Less, Equal, Greater, is_eq, is_lt, refl, sym, ap, subst, ◌∙◌, arith}
 use Rattle.std.specs.List.{count_by}
 use Rattle.std.proofs.lemmas.List.Sums.{sum_by-cons, sum_by_push}
 use Rattle.std.specs.Option.{option_map, unwrap_or}
@@ -7,23 +7,16 @@ use Rattle.std.specs.Ordering.{eq_by_cmp}
 use Rattle.std.specs.Cmp.{tied_itself, eq_by_cmp_equiv}
 use Rattle.std.specs.FinMap.{find, is_sorted, from_sorted, entries-from_sorted, get-from_sorted, len-entries}
 use Rattle.std.specs.FinMap.Entries.{below_all}
-use Rattle.bpf_model.specs.declared.input.Answer.{Answer}
 use Rattle.bpf_model.specs.declared.input.Answer.TheVariants.{Nothing, Bytes}
 use Rattle.bpf_model.specs.declared.input.Window.{Window}
 use Rattle.bpf_model.specs.declared.input.Window.TheVariants.{Key}
 use Rattle.bpf_model.specs.Fits.{input_of}
 use Rattle.verifier.specs.Checked.{Checked}
 use Rattle.bins.specs.declared.counts.Counts.{Counts}
-use Rattle.bins.specs.Table.{by_bytes}
-use Rattle.bins.specs.Replacements.{ComesTo, value_after, is_given, is_unfit, ReplacesEach}
+use Rattle.bins.specs.Table.{Entry, by_bytes}
+use Rattle.bins.specs.Replacements.{Outcome, ComesTo, value_after, is_given, is_unfit, ReplacesEach}
 use Rattle.bins.specs.Passes.{told_of, AreOutcomes, entries_after, ReplacesList}
 use Rattle.bins.proofs.MapEdits.{total, antisymmetric}
-
-abbrev Entry : Type 0
-Entry = List ℕ × List ℕ
-
-abbrev Outcome : Type 0
-Outcome = Result Answer Window
 
 pub length-entries_after : (es : List Entry) (os : List Outcome) → length (entries_after es os) ≡ length es
 length-entries_after es [] = refl
@@ -80,15 +73,9 @@ told_window (Ok (Bytes new)) window told = cc
 told_window (Ok Nothing) window told = cc
 told_window (Err w) window told = (refl, refl)
 
--- one more that passes, or does not
-pub counts_one : (p : Outcome → Bool) (os : List Outcome) (o : Outcome) (n : ℕ) → n ≡ count_by p os → p o ≡ true → n + 1 ≡ count_by p (os ++ o ∷ [])
-counts_one p os o n is passes = ap (λ (m : ℕ). m + 1) is ∙ ap (λ (b : Bool). count_by p os + cond b 1 0) (sym passes) ∙ sym (sum_by_push (λ x. cond (p x) 1 0) os o)
-
-pub counts_none : (p : Outcome → Bool) (os : List Outcome) (o : Outcome) (n : ℕ) → n ≡ count_by p os → p o ≡ false → n ≡ count_by p (os ++ o ∷ [])
-counts_none p os o n is fails = is ∙ and_none (count_by p os) ∙ ap (λ (b : Bool). count_by p os + cond b 1 0) (sym fails) ∙ sym (sum_by_push (λ x. cond (p x) 1 0) os o)
-  where
-    and_none : (m : ℕ) → m ≡ m + 0
-    and_none m = omega arith
+-- one more counts where it passes
+pub count_one_more : (p : Outcome → Bool) (os : List Outcome) (o : Outcome) (b : Bool) → p o ≡ b → count_by p (os ++ o ∷ []) ≡ count_by p os + cond b 1 0
+count_one_more p os o b is = sum_by_push (λ x. cond (p x) 1 0) os o ∙ ap (λ (c : Bool). count_by p os + cond c 1 0) is
 
 -- the keys are as before, so they are sorted
 below-entries_after : (x : List ℕ) (es : List Entry) (os : List Outcome) → below_all by_bytes x (entries_after es os) ≡ below_all by_bytes x es

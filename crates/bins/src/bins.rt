@@ -24,7 +24,8 @@ pub trait Bins {
     ghost entered: { Self → List ℕ → List ℕ → Self };
 
     /// What is entered is in the table.
-    ghost is_entered: { (bins : Self) → (key value : List ℕ) → table (entered bins key value) ≡ map.insert (table bins) key value };
+    ghost is_entered: { (bins : Self) → (key value : List ℕ) →
+        table (entered bins key value) ≡ map.insert (table bins) key value };
 
     /// No entries, for one of `stripes` stripes of a table. `NoMemory` where a request for memory was refused.
     fn open(alloc: Global, stripes: u64) -> Result<Self, NoMemory>

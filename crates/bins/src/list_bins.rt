@@ -1,5 +1,5 @@
 //! Entries in one list, sorted by key.
-ghost use Rattle.std.specs.Prelude.{◌≡◌, T, length, IfOk, IfErr};
+ghost use Rattle.std.specs.Prelude.{◌≡◌, ◌≤◌, T, length, insert, IfOk, IfErr, OnOk, OnErr};
 ghost use Rattle.std.specs.List.Sorted.{IsSearchInRange};
 ghost use Rattle.std.specs.FinMap.{is_sorted};
 ghost use Rattle.bins.specs.Table.{by_bytes};
@@ -41,6 +41,20 @@ fn place_of(entries: &[(Key, Value)], key: &Key) -> Result<usize, usize>
     ensures absent { IfErr result (IsGapFor entries.now key.now) }
 {
     entries.binary_search_by(|entry| entry.0.cmp(key))
+}
+
+// Adds an entry at a place; the ones from there on move.
+#[inline(always)]
+fn add_entry(
+    entries: &mut Vec<(Key, Value)>,
+    place: usize,
+    entry: (Key, Value),
+) -> Result<(), NoMemory>
+    requires { place ≤ length entries.old.items }
+    ensures ok { OnOk result (entries.new.items ≡ insert entries.old.items place entry) }
+    ensures err { OnErr result (entries.new.items ≡ entries.old.items) }
+{
+    Ok(entries.insert(place, entry)?)
 }
 
 // The entries once more, in room for just these.
@@ -89,7 +103,10 @@ impl Bins for ListBins {
                 self.entries[place].1 = value;
                 Ok(())
             }
-            Err(place) => Ok(self.entries.insert(place, (key, value))?),
+            Err(place) => {
+                add_entry(&mut self.entries, place, (key, value))?;
+                Ok(())
+            }
         }
     }
 

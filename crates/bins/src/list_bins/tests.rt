@@ -2,17 +2,17 @@
 ghost use Rattle.std.specs.Prelude.{◌≤◌};
 
 use super::*;
-use bpf_model::{AccessSize, AluOp, Insn, LoadKind, Operand, Program, Reg, Sizes, TooLong, Width};
+use bpf_model::{AccessSize, AluOp, Insn, LoadKind, Operand, Program, Reg, Sizes, Width};
 use flow_shape::shape;
 use std::test::Fail;
 use verifier::verify;
 
-fn key(name: &[u8]) -> Result<Key, TooLong> {
-    Key::from_slice(name)
-}
-
-fn put(bins: &mut ListBins, name: &[u8], bytes: &[u8]) -> Result<(), Fail> {
-    Ok(bins.put(key(name)?, Value::from_slice(bytes)?)?)
+// Puts each of these bytes under the name before it.
+fn put_all(bins: &mut ListBins, rows: &[(&[u8], &[u8])]) -> Result<(), Fail> {
+    for (name, bytes) in rows {
+        bins.put(Key::from_slice(name)?, Value::from_slice(bytes)?)?;
+    }
+    Ok(())
 }
 
 // Whether these are all entries, in this order.
@@ -28,58 +28,62 @@ fn holds(bins: &ListBins, alloc: Global, wanted: &[(&[u8], &[u8])]) -> Result<bo
 #[test]
 fn keys_that_begin_one_another_stand_in_order(rt: HostRuntime) -> Result<(), Fail> {
     let mut bins = ListBins::open(rt.alloc(), 1)?;
-    assert!(rt; holds(&bins, rt.alloc(), &[])?);
-    for (name, bytes) in [(b"b", b"1"), (b"a", b"2")] {
-        put(&mut bins, name, bytes)?;
-    }
-    put(&mut bins, b"ab", b"3")?;
-    put(&mut bins, b"", b"4")?;
-    put(&mut bins, b"a", b"")?;
-    assert!(rt;
-        holds(
-            &bins,
-            rt.alloc(),
-            &[(b"", b"4"), (b"a", b""), (b"ab", b"3"), (b"b", b"1")]
-        )?
-    );
-    if let Some(value) = bins.find_mut(&key(b"ab")?) {
-        *value = Value::from_slice(b"new")?;
-    }
-    assert!(rt; bins.find_mut(&key(b"c")?).is_none());
-    assert!(rt;
-        holds(
-            &bins,
-            rt.alloc(),
-            &[(b"", b"4"), (b"a", b""), (b"ab", b"new"), (b"b", b"1")]
-        )?
-    );
+    put_all(
+        &mut bins,
+        &[
+            (b"b", b"1"),
+            (b"ab", b"3"),
+            (b"a", b"2"),
+            (b"", b"4"),
+            (b"a", b""),
+        ],
+    )?;
+    let wanted: [(&[u8], &[u8]); 4] = [(b"", b"4"), (b"a", b""), (b"ab", b"3"), (b"b", b"1")];
+    assert!(rt; holds(&bins, rt.alloc(), &wanted)?);
     Ok(())
+}
+
+// 300 keys of two bytes in mixed order, each with itself as its value.
+fn fill(bins: &mut ListBins) -> Result<(), Fail> {
+    for i in 0..300u16 {
+        let number = (i * 7 % 300).to_be_bytes();
+        bins.put(Key::from_slice(&number)?, Value::from_slice(&number)?)?;
+    }
+    Ok(())
+}
+
+// Whether the entry at each place has that number.
+fn are_in_order(entries: &[(Key, Value)]) -> bool {
+    let mut same = entries.len() == 300;
+    for (number, entry) in (0..300u16).zip(entries) {
+        same &= entry.0.as_slice() == number.to_be_bytes().as_slice();
+    }
+    same
+}
+
+// Empties each value in another order, and removes it; whether each was there, and then was not.
+fn remove_all(bins: &mut ListBins) -> Result<bool, Fail> {
+    let mut there = true;
+    for i in 0..300u16 {
+        let number = (i * 11 % 300).to_be_bytes();
+        let key = Key::from_slice(&number)?;
+        there &= bins.find(&key).map(Value::as_slice) == Some(number.as_slice());
+        if let Some(value) = bins.find_mut(&key) {
+            *value = Value::new();
+        }
+        there &= bins.remove(&key) == Some(Value::new());
+        there &= bins.find_mut(&key).is_none();
+    }
+    Ok(there)
 }
 
 #[test]
 fn three_hundred_keys_come_and_go(rt: HostRuntime) -> Result<(), Fail> {
     let mut bins = ListBins::open(rt.alloc(), 1)?;
-    for i in 0..300u16 {
-        let number = (i * 7 % 300).to_be_bytes();
-        put(&mut bins, &number, &number)?;
-    }
-    let mut all = 0;
-    for (number, entry) in (0..300u16).zip(&bins.entries(rt.alloc())?) {
-        assert_eq!(rt; entry.0.as_slice(), number.to_be_bytes().as_slice());
-        all = number;
-    }
-    assert_eq!(rt; all, 299);
-    for i in 0..300u16 {
-        let name = (i * 11 % 300).to_be_bytes();
-        let number = key(&name)?;
-        assert_eq!(rt;
-            bins.find(&number).map(Value::as_slice),
-            Some(name.as_slice())
-        );
-        assert_eq!(rt; bins.remove(&number), Some(Value::from_slice(&name)?));
-        assert!(rt; bins.find(&number).is_none());
-    }
-    assert!(rt; holds(&bins, rt.alloc(), &[])?);
+    fill(&mut bins)?;
+    assert!(rt; are_in_order(&bins.entries(rt.alloc())?));
+    assert!(rt; remove_all(&mut bins)?);
+    assert!(rt; bins.entries.is_empty());
     Ok(())
 }
 
@@ -138,34 +142,37 @@ fn verified<const N: usize>(alloc: Global, instructions: [Insn; N]) -> Result<Ve
     Ok(verify(shape(program)?, sizes)?)
 }
 
+const ONE: [u8; 8] = [1, 0, 0, 0, 0, 0, 0, 0];
+
+const TWO: [u8; 8] = [2, 0, 0, 0, 0, 0, 0, 0];
+
+const THREE: [u8; 8] = [3, 0, 0, 0, 0, 0, 0, 0];
+
+const LONG: [u8; 9] = [9; 9];
+
 #[test]
 fn entries_that_fit_are_replaced(rt: HostRuntime) -> Result<(), Fail> {
-    let counts = |given, unfit| Counts {
-        scanned: 3,
-        given,
-        unfit,
-    };
-    let one = [1, 0, 0, 0, 0, 0, 0, 0];
-    let two = [2, 0, 0, 0, 0, 0, 0, 0];
-    let three = [3, 0, 0, 0, 0, 0, 0, 0];
-    let nine = [9; 9];
-    let mut bins = ListBins::open(rt.alloc(), 1)?;
-    for (name, bytes) in [(b"\x63", &nine[..]), (b"\x62", &two), (b"\x61", &one)] {
-        put(&mut bins, name, bytes)?;
-    }
-    let after: [(&[u8], &[u8]); 3] = [(b"\x61", &two), (b"\x62", &three), (b"\x63", &nine)];
     let sum = verified(rt.alloc(), sum())?;
-    let arg = Some(Value::from_slice(&one)?);
-    assert_eq!(rt; bins.replace_each(&sum, &arg), counts(2, 1));
-    assert!(rt; holds(&bins, rt.alloc(), &after)?);
     let nothing = verified(rt.alloc(), [mov(-1), Insn::Exit])?;
-    assert_eq!(rt; bins.replace_each(&nothing, &arg), counts(0, 1));
-    assert!(rt; holds(&bins, rt.alloc(), &after)?);
-    assert_eq!(rt; bins.replace_each(&sum, &None), counts(2, 1));
-    assert!(rt; holds(&bins, rt.alloc(), &after)?);
-    let long = Some(Value::from_slice(&nine)?);
-    assert_eq!(rt; bins.replace_each(&sum, &long), counts(0, 3));
-    assert!(rt; holds(&bins, rt.alloc(), &after)?);
+    let one = Some(Value::from_slice(&ONE)?);
+    let long = Some(Value::from_slice(&LONG)?);
+    let mut bins = ListBins::open(rt.alloc(), 1)?;
+    put_all(&mut bins, &[(b"c", &LONG), (b"b", &TWO), (b"a", &ONE)])?;
+    let after: [(&[u8], &[u8]); 3] = [(b"a", &TWO), (b"b", &THREE), (b"c", &LONG)];
+    for (name, program, arg, given, unfit) in [
+        ("sum", &sum, &one, 2, 1),
+        ("nothing", &nothing, &one, 0, 1),
+        ("equal", &sum, &None, 2, 1),
+        ("long argument", &sum, &long, 0, 3),
+    ] {
+        let counts = bins.replace_each(program, arg);
+        assert_eq!(rt;
+            (counts.scanned, counts.given, counts.unfit),
+            (3, given, unfit),
+            "{name}"
+        );
+        assert!(rt; holds(&bins, rt.alloc(), &after)?, "{name}");
+    }
     Ok(())
 }
 
@@ -174,12 +181,11 @@ fn entries_that_fit_are_replaced(rt: HostRuntime) -> Result<(), Fail> {
 fn a_refused_put_leaves_the_entries(rt: HostRuntime) -> Result<(), Fail> {
     let mut bins = ListBins::open(rt.alloc(), 1)?;
     for number in 0..40u8 {
-        let entered = bins.put(key(&[number])?, Value::new());
-        if let Err(NoMemory) = entered {
+        if let Err(NoMemory) = bins.put(Key::from_slice(&[number])?, Value::new()) {
             assert_eq!(rt; bins.entries.len(), usize::from(number));
-            bins.put(key(&[number])?, Value::new())?;
+            bins.put(Key::from_slice(&[number])?, Value::new())?;
         }
-        assert_eq!(rt; bins.entries.len(), usize::from(number) + 1);
     }
+    assert_eq!(rt; bins.entries.len(), 40);
     Ok(())
 }

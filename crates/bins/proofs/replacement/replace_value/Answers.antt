@@ -16,4 +16,4 @@ returns-then-given c =
 pub returns-else-given : goal.returns-else-given
 returns-else-given c =
     let means = rw c.if-given.false at c.run_into-given.ensures.value in
-    record { by_outcome = record { outcome = Ok Nothing; comes_to = (search rules, search rules); entered = refl; is_told = search rules } }
+    record { by_outcome = record { outcome = Ok Nothing; comes_to = (search rules, search rules); entered = search rules; is_told = search rules } }
