@@ -1,0 +1,5 @@
+pub mod Table
+pub mod Places
+pub mod Lending
+pub mod Replacements
+pub mod Passes

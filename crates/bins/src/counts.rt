@@ -1,0 +1,12 @@
+//! What a pass over entries counts.
+
+/// How many entries a pass came to, and what became of them.
+#[derive(Clone, Copy, Debug, PartialEq, Eq)]
+pub struct Counts {
+    /// All entries.
+    pub scanned: u64,
+    /// The entries whose program answered bytes, equal to the old value or not.
+    pub given: u64,
+    /// The entries that are too long for a declared size; their program did not run.
+    pub unfit: u64,
+}
