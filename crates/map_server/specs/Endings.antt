@@ -2,9 +2,9 @@
 use Rattle.std.specs.Prelude.{◌≡◌, ◌+◌, ◌⊎◌, ℕ, List, Option, IfSome, codes}
 use Rattle.std.specs.Str.{IsUtf8}
 use Rattle.std.specs.Io.KnownBytes.{Appends}
-use Rattle.map_server.specs.declared.words.Command.{Command}
-use Rattle.map_server.specs.declared.words.Command.TheVariants.{Asm}
-use Rattle.map_server.specs.declared.report.Report.{Report}
+use Rattle.map_server.specs.declared.bpfmap.words.Command.{Command}
+use Rattle.map_server.specs.declared.bpfmap.words.Command.TheVariants.{Asm}
+use Rattle.map_server.specs.declared.bpfmap.report.Report.{Report}
 use Rattle.map_server.specs.Commands.{IsReport}
 use Rattle.map_server.specs.Reports.{text_of, status_of}
 

@@ -4,8 +4,8 @@ use Rattle.std.specs.List.{flat_map}
 use Rattle.bpf_model.specs.declared.input.Answer.TheVariants.{Nothing, Bytes}
 use Rattle.bpf_model.specs.declared.input.Window.{Window}
 use Rattle.bpf_model.specs.declared.input.Window.TheVariants.{Key, Old, Arg}
-use Rattle.map_server.specs.declared.report.Report.{Report}
-use Rattle.map_server.specs.declared.report.Report.TheVariants.{Text, Accepted, Answered, Unfit, Refused}
+use Rattle.map_server.specs.declared.bpfmap.report.Report.{Report}
+use Rattle.map_server.specs.declared.bpfmap.report.Report.TheVariants.{Text, Accepted, Answered, Unfit, Refused}
 use Rattle.map_server.specs.Refusals.{number_of, place_of}
 
 -- a digit of a byte, in lower case

@@ -7,26 +7,19 @@
 //! streams and calls `bpfmap_on`; what the commands report is `report_of`'s contract.
 #![tactic(auto)]
 
+mod admission;
 mod atomic_methods;
 mod bins;
 mod bpfmap;
-mod commands;
 mod devices;
-mod hex;
 mod list_bins;
-mod refusal;
-mod report;
-mod streams;
 mod striped;
-mod words;
 
+pub use admission::{AdmissionFault, admit};
 pub use atomic_methods::{Call, Reply};
-pub use bpfmap::{bpfmap_on, carry_out, tell_unread_words};
-pub use commands::report_of;
-pub use devices::{Failed, ReadFault, Sink, Source, read_all, write_all};
-pub use hex::{HexFault, hex_bytes};
-pub use refusal::Refusal;
-pub use report::{LINE_BYTES, Line, Report, unit_lines};
-pub use streams::{StreamSink, StreamSource};
+pub use bpfmap::{
+    Command, HexFault, LINE_BYTES, Line, Refusal, Report, RunTexts, bpfmap_on, carry_out,
+    hex_bytes, parse_words, report_of, tell_unread_words, unit_lines,
+};
+pub use devices::{Failed, ReadFault, Sink, Source, StreamSink, StreamSource, read_all, write_all};
 pub use striped::{OpenFault, Striped};
-pub use words::{Command, RunTexts, parse_words};
