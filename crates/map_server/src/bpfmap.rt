@@ -1,5 +1,6 @@
 //! The program `bpfmap`: its words, what its commands do, and what it prints.
 mod commands;
+mod ending;
 mod hex;
 mod program;
 mod refusal;
@@ -9,8 +10,9 @@ mod tests;
 mod words;
 
 pub use commands::report_of;
+pub use ending::Ending;
 pub use hex::{HexFault, hex_bytes};
-pub use program::{bpfmap_on, carry_out, tell_unread_words};
+pub use program::{bpfmap_on, tell_unread_words};
 pub use refusal::Refusal;
 pub use report::{LINE_BYTES, Line, Report, unit_lines};
 pub use words::{Command, RunTexts, parse_words};

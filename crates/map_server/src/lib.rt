@@ -18,8 +18,8 @@ mod striped;
 pub use admission::{AdmissionFault, admit};
 pub use atomic_methods::{Call, Reply};
 pub use bpfmap::{
-    Command, HexFault, LINE_BYTES, Line, Refusal, Report, RunTexts, bpfmap_on, carry_out,
-    hex_bytes, parse_words, report_of, tell_unread_words, unit_lines,
+    Command, Ending, HexFault, LINE_BYTES, Line, Refusal, Report, RunTexts, bpfmap_on, hex_bytes,
+    parse_words, report_of, tell_unread_words, unit_lines,
 };
 pub use devices::{Failed, ReadFault, Sink, Source, StreamSink, StreamSource, read_all, write_all};
 pub use striped::{OpenFault, Striped};

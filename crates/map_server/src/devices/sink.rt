@@ -1,39 +1,34 @@
 //! Where bytes go.
 ghost use Rattle.std.specs.Prelude.{◌≡◌, ◌<◌, ◌≤◌, ◌+◌, ◌-◌, ◌^◌, length, OnOk, OnErr, IfOk};
 ghost use Rattle.std.specs.Io.{WritesAtMost};
-ghost use Rattle.std.specs.Io.KnownBytes.{Appends, WriteAppends};
-ghost use Rattle.map_server.specs.Devices.{AppendsPart};
+ghost use Rattle.std.specs.Io.KnownBytes.{WriteAppends};
+ghost use Rattle.map_server.specs.Devices.{Takes, TakesPart};
 
 use crate::devices::Failed;
 
 /// Where bytes go.
 pub trait Sink {
-    ghost use Rattle.std.specs.Prelude.{ℕ, List, Option};
+    ghost use Rattle.map_server.specs.Devices.{SinkState};
 
-    /// The bytes that were taken, where the device tells them.
-    ghost held: { Self → Option (List ℕ) };
-
-    /// How many writes have failed.
-    ghost failures: { Self → ℕ };
+    /// What the device tells of itself.
+    ghost state: { Self → SinkState };
 
     /// Takes a front of the bytes, at least one, and answers how many. A write that fails takes none.
     fn write(&mut self, bytes: &[u8]) -> Result<usize, Failed>
         requires some { 1 ≤ length bytes.now }
-        requires count { failures self.old < 2 ^ 64 - 1 }
+        requires count { (state self.old).failures < 2 ^ 64 - 1 }
         ensures within { WritesAtMost result bytes.now }
         ensures some { IfOk result (λ n. 1 ≤ n) }
-        ensures bytes { WriteAppends (held self.old) (held self.new) result bytes.now }
-        ensures ok { OnOk result (failures self.new ≡ failures self.old) }
-        ensures err { OnErr result (failures self.new ≡ failures self.old + 1) };
+        ensures bytes { WriteAppends (state self.old).held (state self.new).held result bytes.now }
+        ensures ok { OnOk result ((state self.new).failures ≡ (state self.old).failures) }
+        ensures err { OnErr result ((state self.new).failures ≡ (state self.old).failures + 1) };
 }
 
-/// Writes all of the bytes; where the device fails, it has taken a part of them.
+/// Writes all of the bytes.
 pub fn write_all<W: Sink>(writer: &mut W, bytes: &[u8]) -> Result<(), Failed>
-    requires { W.failures writer.old < 2 ^ 64 - 1 }
-    ensures bytes { OnOk result (Appends (W.held writer.old) (W.held writer.new) bytes.now) }
-    ensures part { OnErr result (AppendsPart (W.held writer.old) (W.held writer.new) bytes.now) }
-    ensures ok { OnOk result (W.failures writer.new ≡ W.failures writer.old) }
-    ensures err { OnErr result (W.failures writer.new ≡ W.failures writer.old + 1) }
+    requires { (W.state writer.old).failures < 2 ^ 64 - 1 }
+    ensures ok { OnOk result (Takes (W.state writer.old) (W.state writer.new) bytes.now) }
+    ensures err { OnErr result (TakesPart (W.state writer.old) (W.state writer.new) bytes.now) }
 {
     let mut rest = bytes;
     while !rest.is_empty() {

@@ -9,27 +9,21 @@ use std::alloc::{AllocError, Global};
 
 /// Where bytes come from.
 pub trait Source {
-    ghost use Rattle.std.specs.Prelude.{ℕ, List, Option, Bool};
+    ghost use Rattle.map_server.specs.Devices.{SourceState};
 
-    /// The bytes that are left, where the device tells them.
-    ghost left: { Self → Option (List ℕ) };
-
-    /// Whether the device has told its end.
-    ghost told_end: { Self → Bool };
-
-    /// How many reads have failed.
-    ghost failures: { Self → ℕ };
+    /// What the device tells of itself.
+    ghost state: { Self → SourceState };
 
     /// Reads into a front of the buffer, and answers how many bytes: 0 tells the end. A read that fails takes none.
     fn read(&mut self, buffer: &mut [u8]) -> Result<usize, Failed>
         requires room { 1 ≤ length buffer.old }
-        requires count { failures self.old < 2 ^ 64 - 1 }
+        requires count { (state self.old).failures < 2 ^ 64 - 1 }
         ensures within { ReadsAtMost result buffer.new }
-        ensures bytes { ReadConsumes (left self.old) (left self.new) result buffer.new }
-        ensures end { IfOk result (λ n. told_end self.new ≡ (told_end self.old || n == 0)) }
-        ensures ok { OnOk result (failures self.new ≡ failures self.old) }
-        ensures err { OnErr result ((failures self.new ≡ failures self.old + 1)
-            × (told_end self.new ≡ told_end self.old)) };
+        ensures bytes { ReadConsumes (state self.old).left (state self.new).left result buffer.new }
+        ensures end { IfOk result (λ n. (state self.new).told_end ≡ ((state self.old).told_end || n == 0)) }
+        ensures ok { OnOk result ((state self.new).failures ≡ (state self.old).failures) }
+        ensures err { OnErr result (((state self.new).failures ≡ (state self.old).failures + 1)
+            × ((state self.new).told_end ≡ (state self.old).told_end)) };
 }
 
 /// Why not all of a device's bytes are there.
@@ -67,14 +61,14 @@ const PIECE_BYTES: usize = 4096;
 
 /// All bytes that the device has left, up to the end that it tells.
 pub fn read_all<R: Source>(alloc: Global, reader: &mut R) -> Result<Vec<u8>, ReadFault>
-    requires { R.failures reader.old < 2 ^ 64 - 1 }
-    ensures value { IfOk result (λ v. IsAll (R.left reader.old) v.items) }
-    ensures end { OnOk result (R.told_end reader.new ≡ true) }
-    ensures ok { OnOk result (R.failures reader.new ≡ R.failures reader.old) }
+    requires { (R.state reader.old).failures < 2 ^ 64 - 1 }
+    ensures value { IfOk result (λ v. IsAll (R.state reader.old).left v.items) }
+    ensures end { OnOk result ((R.state reader.new).told_end ≡ true) }
+    ensures ok { OnOk result ((R.state reader.new).failures ≡ (R.state reader.old).failures) }
     ensures failed { result ≡ Err ReadFault.Failed
-        → R.failures reader.new ≡ R.failures reader.old + 1 }
+        → (R.state reader.new).failures ≡ (R.state reader.old).failures + 1 }
     ensures memory { result ≡ Err ReadFault.NoMemory
-        → R.failures reader.new ≡ R.failures reader.old }
+        → (R.state reader.new).failures ≡ (R.state reader.old).failures }
 {
     let mut bytes = Vec::new(alloc);
     let mut piece = [0; PIECE_BYTES];

@@ -54,9 +54,8 @@ pub struct StreamSource<R> {
 impl<R: Read> StreamSource<R> {
     /// A source that has not failed and not told its end.
     pub fn new(reader: R) -> StreamSource<R>
-        ensures left { ⟦<StreamSource<R> as Source>⟧.left result ≡ R.remaining reader }
-        ensures failures { ⟦<StreamSource<R> as Source>⟧.failures result ≡ 0 }
-        ensures end { ⟦<StreamSource<R> as Source>⟧.told_end result ≡ false }
+        ensures { ⟦<StreamSource<R> as Source>⟧.state result
+            ≡ record { left = R.remaining reader; told_end = false; failures = 0 } }
     {
         StreamSource {
             reader,
@@ -67,11 +66,11 @@ impl<R: Read> StreamSource<R> {
 }
 
 impl<R: Read> Source for StreamSource<R> {
-    ghost left = { λ s. R.remaining s.reader };
-
-    ghost told_end = { λ s. s.told_end };
-
-    ghost failures = { λ s. s.failures };
+    ghost state = { λ s. record {
+      left = R.remaining s.reader;
+      told_end = s.told_end;
+      failures = s.failures;
+    } };
 
     fn read(&mut self, buffer: &mut [u8]) -> Result<usize, Failed> {
         match read_again(&mut self.reader, buffer) {
@@ -97,8 +96,8 @@ pub struct StreamSink<W> {
 impl<W: Write> StreamSink<W> {
     /// A sink that has not failed.
     pub fn new(writer: W) -> StreamSink<W>
-        ensures held { ⟦<StreamSink<W> as Sink>⟧.held result ≡ W.contents writer }
-        ensures failures { ⟦<StreamSink<W> as Sink>⟧.failures result ≡ 0 }
+        ensures { ⟦<StreamSink<W> as Sink>⟧.state result
+            ≡ record { held = W.contents writer; failures = 0 } }
     {
         StreamSink {
             writer,
@@ -108,16 +107,14 @@ impl<W: Write> StreamSink<W> {
 
     /// The writer.
     pub fn into_inner(self) -> W
-        ensures { W.contents result ≡ ⟦<StreamSink<W> as Sink>⟧.held self }
+        ensures { W.contents result ≡ (⟦<StreamSink<W> as Sink>⟧.state self).held }
     {
         self.writer
     }
 }
 
 impl<W: Write> Sink for StreamSink<W> {
-    ghost held = { λ s. W.contents s.writer };
-
-    ghost failures = { λ s. s.failures };
+    ghost state = { λ s. record { held = W.contents s.writer; failures = s.failures } };
 
     fn write(&mut self, bytes: &[u8]) -> Result<usize, Failed> {
         match write_again(&mut self.writer, bytes) {

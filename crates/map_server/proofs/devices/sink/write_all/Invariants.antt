@@ -5,8 +5,8 @@ use Rattle.map_server.proofs.devices.sink.write_all.Given as goal
 
 abbrev pub invariant-loop-rest : goal.invariant-loop-rest
 invariant-loop-rest g l = record {
-  count : g.W.Sink.failures l.writer ≡ g.W.Sink.failures l.fn.writer;
-  taken : (front : List ℕ) × (l.fn.bytes ≡ front ++ l.rest) × Appends (g.W.Sink.held l.fn.writer) (g.W.Sink.held l.writer) front;
+  count : (g.W.Sink.state l.writer).failures ≡ (g.W.Sink.state l.fn.writer).failures;
+  taken : (front : List ℕ) × (l.fn.bytes ≡ front ++ l.rest) × Appends (g.W.Sink.state l.fn.writer).held (g.W.Sink.state l.writer).held front;
 }
 
 abbrev pub decreases-loop-rest : goal.decreases-loop-rest

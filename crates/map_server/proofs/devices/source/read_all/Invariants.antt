@@ -5,7 +5,7 @@ use Rattle.map_server.proofs.devices.source.read_all.Given as goal
 
 abbrev pub invariant-loop : goal.invariant-loop
 invariant-loop g l = record {
-  count : g.R.Source.failures l.reader ≡ g.R.Source.failures l.fn.reader;
-  taken : Consumes (g.R.Source.left l.fn.reader) (g.R.Source.left l.reader) l.bytes.items;
+  count : (g.R.Source.state l.reader).failures ≡ (g.R.Source.state l.fn.reader).failures;
+  taken : Consumes (g.R.Source.state l.fn.reader).left (g.R.Source.state l.reader).left l.bytes.items;
   turns : l.counter ≤ vec_len l.bytes;
 }
