@@ -1,12 +1,12 @@
 -- What the getters of clap's matches read, in the words of the command line.
 use Rattle.std.proofs.Common.{◌≡◌, ◌∙◌, ◌<◌, ◌⊎◌, subst, ℕ, List, [], ◌∷◌, Bool, true, false, Option, Some, None, Result, Ok, Err, refl, sym, ap, nat_lt, is_some, inl, inr, true≢false}
-use Rattle.std.specs.Prelude.{◌^◌, ◌&&◌, IsSomeAnd, unwrap_or, option_map, option_and_then, find, cond, not}
+use Rattle.std.specs.Prelude.{◌^◌, ◌&&◌, unwrap_or, option_map, option_and_then, find, cond, not}
 use Rattle.std.specs.Borrow.{Bor}
 use Rattle.std.specs.Char.{digit_value}
 use Rattle.std.specs.List.{AllByRecursion, list_all, list_any}
 use Rattle.std.specs.Str.Parse.{AllDigits, IsNumeral, ParsesUnsigned, digits_value, without_leading_plus}
 use Rattle.std.proofs.lemmas.Bool.{lt-ltb, ltb-true}
-use Rattle.clap.specs.Words.{App, HasKind, HasMatchesOf, Kinds, ReadsOne, Row, Rule, Shape, fault_of, is_simple, is_simple_and_free, subcommand_of, subcommand_rows_of}
+use Rattle.clap.specs.Words.{App, HasKind, HasMatchesOf, Kinds, ReadsOne, Row, Shape, fault_of, is_simple, is_simple_and_free, subcommand_of, subcommand_rows_of}
 use Rattle.clap.specs.Facts.{explicit_source}
 use Rattle.clap.specs.Faults.{check_fault, defaults_fault, entered_fault, settle_fault, walk_fault}
 use Rattle.clap.specs.Kinds.{check_kinds, or_else}

@@ -1,5 +1,5 @@
 -- What is true where a command reports so: of the text on standard input, and of the words of the command line.
-use Rattle.std.specs.Prelude.{◌≡◌, ◌↔◌, ◌⊎◌, ◌<◌, ◌≤◌, ℕ, List, length, Option, Some, None, Err}
+use Rattle.std.specs.Prelude.{◌≡◌, ◌⊎◌, ◌<◌, ◌≤◌, ℕ, List, length, Option, Some, None, Err}
 use Rattle.std.specs.Borrow.{Bor}
 use Rattle.std.specs.Str.{IsUtf8}
 use Rattle.bpf_model.specs.declared.input.Sizes.{Sizes}
@@ -7,8 +7,7 @@ use Rattle.bpf_model.specs.declared.input.Input.{Input}
 use Rattle.bpf_model.specs.declared.instruction.Insn.{Insn}
 use Rattle.bpf_model.specs.declared.limits.TheConstants.{KEY_BYTES, VALUE_BYTES}
 use Rattle.bpf_model.specs.Fits.{Fits, first_unfit}
-use Rattle.bpf_model.specs.Meaning.{IsSafe, Means}
-use Rattle.bpf_model.specs.Program.{unit_count}
+use Rattle.bpf_model.specs.Meaning.{Means}
 use Rattle.bpf_model.specs.Spelling.{Spells}
 use Rattle.bpf_assembler.specs.Text.{IsTextOf}
 use Rattle.bpf_assembler.specs.Faults as assemble

@@ -2,9 +2,10 @@
 //! and writers that are handed in.
 //!
 //! The promise to the layers above: one call on a `Striped` does to the whole table what the sequential map's method
-//! does, and replies what it replies (`Striped::apply`, by `Answers` of `specs/Calls.antt`). A call asks for memory
-//! only where it adds a key; where that is refused, the table is as before. A program's `main` opens the process's
-//! streams and calls `bpfmap_on`; what the commands report is `report_of`'s contract.
+//! does, and replies what it replies (`Striped::apply`, by `Answers` of `specs/Calls.antt`); `bpfmap_on` does what its
+//! words ask for, prints and tells that and nothing else (by `specs/CommandLine.antt`, `specs/Commands.antt` and
+//! `specs/Endings.antt`); `admit` takes bytes to a verified program, and knows no text. Nothing waits. What a program
+//! reads it keeps in memory; a refused request for memory is told as a refusal.
 #![tactic(auto)]
 
 mod admission;

@@ -92,7 +92,7 @@ pub fn bpfmap_on<R: Source, W: Sink, E: Sink>(
     requires reads { (R.state reader.old).failures < 2 ^ 64 - 1 }
     requires writes { (W.state writer.old).failures < 2 ^ 64 - 1 }
     requires warns { (E.state errors.old).failures < 2 ^ 64 - 1 }
-    ensures { (ending : Ending)
+    ensures ends { (ending : Ending)
         × EndsCall (texts words.now) (R.state reader.old) (R.state reader.new) ending
         × Tells ending (outputs (W.state writer.old) (E.state errors.old))
         (outputs (W.state writer.new) (E.state errors.new)) result }

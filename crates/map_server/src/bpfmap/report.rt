@@ -56,10 +56,10 @@ fn digits(byte: u8) -> (u8, u8)
     (high, low)
 }
 
-fn separator(place: usize) -> u8
-    ensures { result ≡ separator place }
+fn separator(index: usize) -> u8
+    ensures { result ≡ separator index }
 {
-    if place % 8 == 7 { b'\n' } else { b' ' }
+    if index % 8 == 7 { b'\n' } else { b' ' }
 }
 
 /// The bytes in hex, a unit on a line.
@@ -69,9 +69,9 @@ pub fn unit_lines(alloc: Global, bytes: &[u8]) -> Result<Vec<u8>, NoMemory>
     ensures hex { IfOk result (λ text. SpellsBytes text.items bytes.now) }
 {
     let mut text = Vec::new(alloc);
-    for (place, byte) in bytes.iter().enumerate() {
+    for (index, byte) in bytes.iter().enumerate() {
         let (high, low) = digits(*byte);
-        text.extend_from_slice(&[high, low, separator(place)])?;
+        text.extend_from_slice(&[high, low, separator(index)])?;
     }
     Ok(text)
 }

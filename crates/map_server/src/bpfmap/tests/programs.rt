@@ -45,7 +45,7 @@ fn answers<R: AllocGlobal + Abort>(
     let words = format!(in rt.alloc(); "run {options}")?;
     let found = run_words(rt.alloc(), words.as_str(), hex)?;
     let is_printed = found.output.as_slice() == printed.as_bytes();
-    assert!(rt; is_printed, "{options}");
+    assert!(rt; is_printed, "{text} with {options}");
     Ok(())
 }
 
@@ -352,17 +352,17 @@ fn each_operation_is_taken_at_each_width(rt: HostRuntime) -> Result<(), Fail> {
                 let text = format!(in rt.alloc();
                     "mov64 r9, 5\nmov64 r5, 3\n{word}{width} r9, {operand}\nmov64 r0, -1\nexit\n"
                 )?;
-                answers(&rt, text.as_str(), "", "nothing\n")?;
+                answers(&rt, text.as_str(), "--key 0", "nothing\n")?;
             }
         }
     }
     for (name, _, _) in CHANGES {
         let text = format!(in rt.alloc(); "mov64 r9, 5\n{name} r9\nmov64 r0, -1\nexit\n")?;
-        answers(&rt, text.as_str(), "", "nothing\n")?;
+        answers(&rt, text.as_str(), "--key 0", "nothing\n")?;
     }
     for (name, _, _) in EXTENSIONS {
         let text = format!(in rt.alloc(); "{name} r9, r6\nmov64 r0, -1\nexit\n")?;
-        answers(&rt, text.as_str(), "", "nothing\n")?;
+        answers(&rt, text.as_str(), "--key 0", "nothing\n")?;
     }
     answers(
         &rt,

@@ -5,23 +5,23 @@ use Rattle.map_server.specs.Reports.{unit_lines, unit_lines_from, digit, separat
 use Rattle.map_server.proofs.UnitLineLemmas.{unit_lines_from-next, unit_lines_from-done, unit_lines_from-spells}
 use Rattle.map_server.proofs.bpfmap.report.unit_lines.Goals as goal
 
-pub loop-place-preserved : goal.loop-place-preserved
-loop-place-preserved c =
-    let place = c.loop-place.place in
+pub loop-index-preserved : goal.loop-index-preserved
+loop-index-preserved c =
+    let index = c.loop-index.index in
     let bytes = c.args.bytes.now in
-    let byte = get_or bytes place 0 in
-    let text = c.loop-place.text.items in
-    let rest = unit_lines_from (suc place) (drop (suc place) bytes) in
-    let three : List ℕ = digit (byte / 16) ∷ digit (byte % 16) ∷ separator place ∷ [] in
+    let byte = get_or bytes index 0 in
+    let text = c.loop-index.text.items in
+    let rest = unit_lines_from (suc index) (drop (suc index) bytes) in
+    let three : List ℕ = digit (byte / 16) ∷ digit (byte % 16) ∷ separator index ∷ [] in
     let items : c.extend_from_slice.new.self.items ≡ text ++ three = rw (← c.digits-high.ensures.high, ← c.digits-high.ensures.low, ← c.separator.ensures) c.in_ok-extend_from_slice.ensures.items in
-    let next = unit_lines_from-next place place bytes c.loop-place-test.true in
-    rw add-one (c.loop-place.invariant ∙ ap (λ (xs : List ℕ). text ++ xs) next ∙ sym (append_assoc text three rest) ∙ ap (λ (xs : List ℕ). xs ++ rest) (sym items))
+    let next = unit_lines_from-next index index bytes c.loop-index-test.true in
+    rw add-one (c.loop-index.invariant ∙ ap (λ (xs : List ℕ). text ++ xs) next ∙ sym (append_assoc text three rest) ∙ ap (λ (xs : List ℕ). xs ++ rest) (sym items))
 
 pub returns : goal.returns
 returns c =
     let bytes = c.args.bytes.now in
-    let text = c.loop-place.text.items in
-    let done = unit_lines_from-done c.loop-place.place c.loop-place.place bytes (omega (arith, c.loop-place-test.false)) in
-    let lines : text ≡ unit_lines bytes = sym (c.loop-place.invariant ∙ ap (λ (xs : List ℕ). text ++ xs) done ∙ append-nil text) in
+    let text = c.loop-index.text.items in
+    let done = unit_lines_from-done c.loop-index.index c.loop-index.index bytes (omega (arith, c.loop-index-test.false)) in
+    let lines : text ≡ unit_lines bytes = sym (c.loop-index.invariant ∙ ap (λ (xs : List ℕ). text ++ xs) done ∙ append-nil text) in
     let small = All-from_get_or (λ byte. byte < 256) bytes 0 (λ i within. omega (arith, c.type_inv.bytes i)) in
     record { lines = lines; hex = subst (λ (t : List ℕ). SpellsBytes t bytes) (sym lines) (unit_lines_from-spells 0 bytes small) }

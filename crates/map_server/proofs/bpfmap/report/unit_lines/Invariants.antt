@@ -3,5 +3,5 @@ use Rattle.std.proofs.Common.{◌≡◌, ◌++◌, drop}
 use Rattle.map_server.specs.Reports.{unit_lines, unit_lines_from}
 use Rattle.map_server.proofs.bpfmap.report.unit_lines.Given as goal
 
-abbrev pub invariant-loop-place : goal.invariant-loop-place
-invariant-loop-place l = unit_lines l.bytes ≡ l.text.items ++ unit_lines_from l.place (drop l.place l.bytes)
+abbrev pub invariant-loop-index : goal.invariant-loop-index
+invariant-loop-index l = unit_lines l.bytes ≡ l.text.items ++ unit_lines_from l.index (drop l.index l.bytes)
