@@ -367,7 +367,7 @@ fn each_operation_is_taken_at_each_width(rt: HostRuntime) -> Result<(), Fail> {
     answers(
         &rt,
         "wide r0, 18446744073709551615\nexit\n",
-        "",
+        "--key 0",
         "nothing\n",
     )
 }
