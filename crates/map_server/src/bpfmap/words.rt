@@ -109,7 +109,8 @@ fn plain_command<'a>(alloc: Global, name: &'a str, about: &'a str) -> clap::Comm
 }
 
 fn check_command<'a>(alloc: Global) -> Result<clap::Command<'a>, AllocError>
-    ensures app { IfOk result (λ c. app_of c ≡ with_options (new_app (codes "check")) size_options) }
+    ensures app { IfOk result (λ c. app_of c
+        ≡ with_options (new_app (codes "check")) size_options) }
     ensures local { IfOk result (λ c. (fields_of c).has_globals ≡ false) }
 {
     let check = plain_command(

@@ -20,7 +20,8 @@ pub trait Source {
         requires count { (state self.old).failures < 2 ^ 64 - 1 }
         ensures within { ReadsAtMost result buffer.new }
         ensures bytes { ReadConsumes (state self.old).left (state self.new).left result buffer.new }
-        ensures end { IfOk result (λ n. (state self.new).told_end ≡ ((state self.old).told_end || n == 0)) }
+        ensures end { IfOk result (λ n.
+            (state self.new).told_end ≡ ((state self.old).told_end || n == 0)) }
         ensures ok { OnOk result ((state self.new).failures ≡ (state self.old).failures) }
         ensures err { OnErr result (((state self.new).failures ≡ (state self.old).failures + 1)
             × ((state self.new).told_end ≡ (state self.old).told_end)) };
