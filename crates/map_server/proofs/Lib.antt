@@ -4,3 +4,4 @@ pub mod CallLemmas
 pub mod ListLemmas
 pub mod HexLemmas
 pub mod UnitLineLemmas
+pub mod WordLemmas

@@ -7,20 +7,20 @@ use Rattle.map_server.specs.Hex.{Piece, blank, pair, IsPiece, IsBlank, digit_of,
 use Rattle.map_server.specs.Reports.{digit, separator, unit_lines_from}
 
 -- the lines of what is left begin with the next byte's
-pub unit_lines_from-next : (k place : ℕ) (bytes : List ℕ) → place < length bytes
-    → unit_lines_from k (drop place bytes) ≡ digit (get_or bytes place 0 / 16) ∷ digit (get_or bytes place 0 % 16) ∷ separator k ∷ unit_lines_from (suc k) (drop (suc place) bytes)
+pub unit_lines_from-next : (k index : ℕ) (bytes : List ℕ) → index < length bytes
+    → unit_lines_from k (drop index bytes) ≡ digit (get_or bytes index 0 / 16) ∷ digit (get_or bytes index 0 % 16) ∷ separator k ∷ unit_lines_from (suc k) (drop (suc index) bytes)
 unfolding unit_lines_from
-unit_lines_from-next k place [] h = absurd (omega arith)
+unit_lines_from-next k index [] h = absurd (omega arith)
 unit_lines_from-next k zero (b ∷ bs) h = refl
-unit_lines_from-next k (suc place) (b ∷ bs) h = unit_lines_from-next k place bs (omega arith)
+unit_lines_from-next k (suc index) (b ∷ bs) h = unit_lines_from-next k index bs (omega arith)
 
 -- and none are left where no byte is
-pub unit_lines_from-done : (k place : ℕ) (bytes : List ℕ) → length bytes ≤ place → unit_lines_from k (drop place bytes) ≡ []
+pub unit_lines_from-done : (k index : ℕ) (bytes : List ℕ) → length bytes ≤ index → unit_lines_from k (drop index bytes) ≡ []
 unfolding unit_lines_from
 unit_lines_from-done k zero [] h = refl
-unit_lines_from-done k (suc place) [] h = refl
+unit_lines_from-done k (suc index) [] h = refl
 unit_lines_from-done k zero (b ∷ bs) h = absurd (omega arith)
-unit_lines_from-done k (suc place) (b ∷ bs) h = unit_lines_from-done k place bs (omega arith)
+unit_lines_from-done k (suc index) (b ∷ bs) h = unit_lines_from-done k index bs (omega arith)
 
 -- a number's digit is read as the number
 abbrev IsRead : ℕ → Type 0

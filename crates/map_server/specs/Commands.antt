@@ -1,5 +1,5 @@
 -- What is true where a command reports so: of the text on standard input, and of the words of the command line.
-use Rattle.std.specs.Prelude.{◌≡◌, ◌↔◌, ◌⊎◌, ◌<◌, ◌≤◌, ℕ, List, length, Option, Some, None, Err}
+use Rattle.std.specs.Prelude.{◌≡◌, ◌⊎◌, ◌<◌, ◌≤◌, ℕ, List, length, Option, Some, None, Err}
 use Rattle.std.specs.Borrow.{Bor}
 use Rattle.std.specs.Str.{IsUtf8}
 use Rattle.bpf_model.specs.declared.input.Sizes.{Sizes}
@@ -7,25 +7,24 @@ use Rattle.bpf_model.specs.declared.input.Input.{Input}
 use Rattle.bpf_model.specs.declared.instruction.Insn.{Insn}
 use Rattle.bpf_model.specs.declared.limits.TheConstants.{KEY_BYTES, VALUE_BYTES}
 use Rattle.bpf_model.specs.Fits.{Fits, first_unfit}
-use Rattle.bpf_model.specs.Meaning.{IsSafe, Means}
-use Rattle.bpf_model.specs.Program.{unit_count}
+use Rattle.bpf_model.specs.Meaning.{Means}
 use Rattle.bpf_model.specs.Spelling.{Spells}
 use Rattle.bpf_assembler.specs.Text.{IsTextOf}
 use Rattle.bpf_assembler.specs.Faults as assemble
 use Rattle.bpf_assembler.specs.declared.fault.AsmFault.TheVariants as asm_faults
 use Rattle.bpf_decode.specs.Faults as decode
 use Rattle.bpf_decode.specs.declared.fault.DecodeFault.TheVariants as decode_faults
-use Rattle.flow_shape.specs.FlowShape as flow
-use Rattle.verifier.specs.Faults.{unit_of, ExceedLimits}
-use Rattle.verifier.specs.declared.fault.VerifyFault.TheVariants.{SizesTooLarge}
+use Rattle.map_server.specs.Admissions.{IsAdmitted, IsRefused}
+use Rattle.map_server.specs.declared.admission.AdmissionFault.{AdmissionFault}
+use Rattle.map_server.specs.declared.admission.AdmissionFault.TheVariants.{Decode, Flow, Verify}
 use Rattle.map_server.specs.Hex.{SpellsBytes, IsFault}
-use Rattle.map_server.specs.declared.words.RunTexts.{RunTexts}
-use Rattle.map_server.specs.declared.words.Command.{Command}
-use Rattle.map_server.specs.declared.words.Command.TheVariants.{Asm, Disasm, Check, Run}
-use Rattle.map_server.specs.declared.refusal.Refusal.{Refusal}
-use Rattle.map_server.specs.declared.refusal.Refusal.TheVariants.{TooLong, NoMemory, NotHex, Assemble, Decode, Flow, Verify}
-use Rattle.map_server.specs.declared.report.Report.{Report}
-use Rattle.map_server.specs.declared.report.Report.TheVariants.{Text, Accepted, Answered, Unfit, Refused}
+use Rattle.map_server.specs.declared.bpfmap.words.RunTexts.{RunTexts}
+use Rattle.map_server.specs.declared.bpfmap.words.Command.{Command}
+use Rattle.map_server.specs.declared.bpfmap.words.Command.TheVariants.{Asm, Disasm, Check, Run}
+use Rattle.map_server.specs.declared.bpfmap.refusal.Refusal.{Refusal}
+use Rattle.map_server.specs.declared.bpfmap.refusal.Refusal.TheVariants.{TooLong, NoMemory, NotHex, Assemble, Program}
+use Rattle.map_server.specs.declared.bpfmap.report.Report.{Report}
+use Rattle.map_server.specs.declared.bpfmap.report.Report.TheVariants.{Text, Accepted, Answered, Unfit, Refused}
 use Rattle.map_server.specs.Reports.{unit_lines}
 
 -- hex text spells the bytes of this program
@@ -34,10 +33,11 @@ pub record SpellsProgram (text : List ℕ) (program : List Insn) : Type 0 where
   pub hex : SpellsBytes text bytes
   pub spelled : Spells bytes program
 
--- and the program is safe with these sizes
+-- hex text spells the bytes of this program, and it is safe with these sizes
 pub record SpellsSafe (text : List ℕ) (sizes : Sizes) (program : List Insn) : Type 0 where
-  pub spelled : SpellsProgram text program
-  pub safe : IsSafe program sizes
+  pub bytes : List ℕ
+  pub hex : SpellsBytes text bytes
+  pub admitted : IsAdmitted bytes sizes program
 
 -- hex text spells this key
 abbrev pub SpellsKey : List ℕ → List ℕ → Type 0
@@ -56,27 +56,27 @@ pub record SpellsInput (texts : RunTexts) (input : Input) : Type 0 where
   pub old : SpellsValue texts.old input.old
   pub arg : SpellsValue texts.arg input.arg
 
--- why the text on standard input spells no program
+-- why bytes spell no program at all
+abbrev pub IsUndecoded : List ℕ → AdmissionFault → Type 0
+IsUndecoded bytes (Decode fault) = (fault ≡ decode_faults.NoMemory) ⊎ decode.IsFirstFault bytes fault
+IsUndecoded bytes (Flow fault) = ⊥
+IsUndecoded bytes (Verify fault) = ⊥
+
+-- why the text on standard input spells no bytes, or bytes that are refused so
+abbrev pub IsHexRefused : List ℕ → (List ℕ → AdmissionFault → Type 0) → Refusal → Type 0
+IsHexRefused text IsRefusedSo TooLong = ⊥
+IsHexRefused text IsRefusedSo NoMemory = Unit {0}
+IsHexRefused text IsRefusedSo (NotHex place) = IsFault text place
+IsHexRefused text IsRefusedSo (Assemble fault) = ⊥
+IsHexRefused text IsRefusedSo (Program fault) = (bytes : List ℕ) × SpellsBytes text bytes × IsRefusedSo bytes fault
+
+-- why it spells no program
 abbrev pub IsBytesRefused : List ℕ → Refusal → Type 0
-IsBytesRefused text TooLong = ⊥
-IsBytesRefused text NoMemory = Unit {0}
-IsBytesRefused text (NotHex place) = IsFault text place
-IsBytesRefused text (Assemble fault) = ⊥
-IsBytesRefused text (Decode fault) = (bytes : List ℕ) × SpellsBytes text bytes × ((fault ≡ decode_faults.NoMemory) ⊎ decode.IsFirstFault bytes fault)
-IsBytesRefused text (Flow fault) = ⊥
-IsBytesRefused text (Verify fault) = ⊥
+IsBytesRefused text refusal = IsHexRefused text IsUndecoded refusal
 
 -- why it spells no program that is found safe with these sizes
 abbrev pub IsProgramRefused : List ℕ → Sizes → Refusal → Type 0
-IsProgramRefused text sizes TooLong = ⊥
-IsProgramRefused text sizes NoMemory = Unit {0}
-IsProgramRefused text sizes (NotHex place) = IsBytesRefused text (NotHex place)
-IsProgramRefused text sizes (Assemble fault) = ⊥
-IsProgramRefused text sizes (Decode fault) = IsBytesRefused text (Decode fault)
-IsProgramRefused text sizes (Flow fault) = (program : List Insn) × SpellsProgram text program × flow.IsFirstFault program fault
-IsProgramRefused text sizes (Verify fault) =
-    (program : List Insn) × SpellsProgram text program × flow.IsWellShaped program
-    × (unit_of fault < unit_count program) × ((fault ≡ SizesTooLarge) ↔ ExceedLimits sizes)
+IsProgramRefused text sizes refusal = IsHexRefused text (λ bytes fault. IsRefused bytes sizes fault) refusal
 
 -- why the text spells no value of at most this many bytes
 abbrev pub IsTextRefused : List ℕ → ℕ → Refusal → Type 0
@@ -84,9 +84,7 @@ IsTextRefused text most TooLong = (bytes : List ℕ) × SpellsBytes text bytes �
 IsTextRefused text most NoMemory = Unit {0}
 IsTextRefused text most (NotHex place) = IsFault text place
 IsTextRefused text most (Assemble fault) = ⊥
-IsTextRefused text most (Decode fault) = ⊥
-IsTextRefused text most (Flow fault) = ⊥
-IsTextRefused text most (Verify fault) = ⊥
+IsTextRefused text most (Program fault) = ⊥
 
 abbrev pub IsValueRefused : Option (Bor (List ℕ)) → Refusal → Type 0
 IsValueRefused None refusal = ⊥
@@ -126,9 +124,7 @@ IsAsmRefused text TooLong = ⊥
 IsAsmRefused text NoMemory = Unit {0}
 IsAsmRefused text (NotHex place) = ⊥
 IsAsmRefused text (Assemble fault) = (fault ≡ asm_faults.NoMemory) ⊎ assemble.IsFirstFault text fault
-IsAsmRefused text (Decode fault) = ⊥
-IsAsmRefused text (Flow fault) = ⊥
-IsAsmRefused text (Verify fault) = ⊥
+IsAsmRefused text (Program fault) = ⊥
 
 -- the bytes of the program whose text it is are printed, in hex that spells the program
 abbrev pub IsAsmReport : List ℕ → Report → Type 0

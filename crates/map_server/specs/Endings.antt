@@ -1,29 +1,79 @@
--- How a program ends: what it printed, and which line it told of a device that failed.
-use Rattle.std.specs.Prelude.{◌≡◌, ◌+◌, ◌⊎◌, ℕ, List, Option, IfSome, codes}
-use Rattle.std.specs.Str.{IsUtf8}
-use Rattle.std.specs.Io.KnownBytes.{Appends}
-use Rattle.map_server.specs.declared.words.Command.{Command}
-use Rattle.map_server.specs.declared.words.Command.TheVariants.{Asm}
-use Rattle.map_server.specs.declared.report.Report.{Report}
-use Rattle.map_server.specs.Commands.{IsReport}
+-- How a call of `bpfmap` ends: what comes of its words and its input, and what is told of it.
+use Rattle.std.specs.Prelude.{◌≡◌, ◌+◌, ◌⊎◌, ℕ, List, IfSome, codes, string_bytes}
+use Rattle.clap.specs.Words.{IsAmong, fault_of}
+use Rattle.clap.specs.declared.error.ErrorKind.{ErrorKind}
+use Rattle.clap.specs.declared.error.ErrorKind.TheVariants.{DisplayHelp, DisplayVersion}
+use Rattle.map_server.specs.declared.bpfmap.words.Command.{Command}
+use Rattle.map_server.specs.declared.bpfmap.refusal.Refusal.TheVariants.{NoMemory}
+use Rattle.map_server.specs.declared.bpfmap.report.Report.{Report}
+use Rattle.map_server.specs.declared.bpfmap.report.Report.TheVariants.{Refused}
+use Rattle.map_server.specs.declared.bpfmap.ending.Ending.{Ending}
+use Rattle.map_server.specs.declared.bpfmap.ending.Ending.TheVariants.{Reported, Shown, Faulty, Unread, NotUtf8}
+use Rattle.map_server.specs.CommandLine.{Asks, bpfmap}
+use Rattle.map_server.specs.Commands.{IsReport, IsUnreadable}
+use Rattle.map_server.specs.Devices.{SourceState, SinkState, Takes, TakesPart, TakesIfItCan}
 use Rattle.map_server.specs.Reports.{text_of, status_of}
 
--- a report that is true of the command and the text was printed, and the status is its status
-pub record Prints (command : Command) (text before after : Option (List ℕ)) (status : ℕ) : Type 0 where
-  pub report : Report
-  pub right : IfSome text (λ bytes. IsReport command bytes report)
-  pub printed : Appends before after (text_of report)
-  pub status_is : status ≡ status_of report
+-- ---- what comes of the words and the input
 
--- where the sink's count of failed writes is as before, it got the line
-abbrev pub Tells : ℕ → ℕ → Option (List ℕ) → Option (List ℕ) → List ℕ → Type 0
-Tells failures failures' held held' line = failures' ≡ failures → Appends held held' line
+-- the report is true of the command and of what the input had, and no read failed
+abbrev pub IsReported : Command → SourceState → SourceState → Report → Type 0
+IsReported command input input' report = IfSome input.left (λ text. IsReport command text report) × (input'.failures ≡ input.failures)
 
--- the read failed: the source counted it, or a program's text was to be read and what was left is none
-abbrev pub FailsToRead : Command → ℕ → ℕ → Option (List ℕ) → Type 0
-FailsToRead command failures failures' left =
-    (failures' ≡ failures + 1) ⊎ ((failures' ≡ failures) × ((command ≡ Asm) × IfSome left (λ text. IsUtf8 text → ⊥)))
+-- the read failed: the source counted it, or a program's text was to be read and what was left is no text
+abbrev pub FailsToRead : Command → SourceState → SourceState → Type 0
+FailsToRead command input input' =
+    (input'.failures ≡ input.failures + 1)
+    ⊎ (IfSome input.left (λ text. IsUnreadable command text) × (input'.failures ≡ input.failures))
 
--- a write failed: the sink counted it, and the other sink was told
-abbrev pub FailsToWrite : ℕ → ℕ → ℕ → ℕ → Option (List ℕ) → Option (List ℕ) → Type 0
-FailsToWrite failures failures' tells tells' told told' = (failures' ≡ failures + 1) × Tells tells tells' told told' (codes "failed write\n")
+-- what the command comes to on this input
+abbrev pub EndsCommand : Command → SourceState → SourceState → Ending → Type 0
+EndsCommand command input input' (Reported report) = IsReported command input input' report
+EndsCommand command input input' (Shown text) = ⊥
+EndsCommand command input input' (Faulty text) = ⊥
+EndsCommand command input input' Unread = FailsToRead command input input'
+EndsCommand command input input' NotUtf8 = ⊥
+
+-- the kind asks for help or for the version
+abbrev pub IsRequest : ErrorKind → Type 0
+IsRequest kind = (kind ≡ DisplayHelp) ⊎ (kind ≡ DisplayVersion)
+
+-- what words come to that ask for no command, by clap's kind of error; memory may be refused to its text
+abbrev pub EndsWords : List (List ℕ) → Ending → Type 0
+EndsWords words (Reported report) = report ≡ Refused NoMemory
+EndsWords words (Shown text) = (kind : ErrorKind) × IsAmong kind (fault_of bpfmap words) × IsRequest kind
+EndsWords words (Faulty text) = (kind : ErrorKind) × IsAmong kind (fault_of bpfmap words) × (IsRequest kind → ⊥)
+EndsWords words Unread = ⊥
+EndsWords words NotUtf8 = ⊥
+
+-- what a call comes to: the words ask for a command, or the input stays as it is
+abbrev pub EndsCall : List (List ℕ) → SourceState → SourceState → Ending → Type 0
+EndsCall words input input' ending =
+    ((command : Command) × Asks words command × EndsCommand command input input' ending) ⊎ (EndsWords words ending × (input' ≡ input))
+
+-- ---- what is told of it
+
+-- standard output and standard error
+pub record Outputs : Type 0 where
+  pub output : SinkState
+  pub errors : SinkState
+
+abbrev pub outputs : SinkState → SinkState → Outputs
+outputs output errors = record { output = output; errors = errors }
+
+-- the text is on standard output, with this status; or the write failed, of which standard error is told
+abbrev pub Prints : List ℕ → ℕ → Outputs → Outputs → ℕ → Type 0
+Prints text status old new result =
+    ((result ≡ status) × Takes old.output new.output text × (new.errors ≡ old.errors))
+    ⊎ ((result ≡ 3) × TakesPart old.output new.output text × TakesIfItCan old.errors new.errors (codes "failed write\n"))
+
+-- the text is on standard error, as far as that can be, and nothing more on standard output
+abbrev pub Warns : List ℕ → ℕ → Outputs → Outputs → ℕ → Type 0
+Warns text status old new result = (result ≡ status) × (new.output ≡ old.output) × TakesIfItCan old.errors new.errors text
+
+abbrev pub Tells : Ending → Outputs → Outputs → ℕ → Type 0
+Tells (Reported report) old new result = Prints (text_of report) (status_of report) old new result
+Tells (Shown text) old new result = Prints (string_bytes text) 0 old new result
+Tells (Faulty text) old new result = Warns (string_bytes text) 2 old new result
+Tells Unread old new result = Warns (codes "failed read\n") 3 old new result
+Tells NotUtf8 old new result = Warns (codes "error: the command line is not UTF-8\n") 2 old new result

@@ -1,7 +1,7 @@
 -- What a refusal of hex text says of the text.
 use Rattle.std.specs.Prelude.{ℕ, List}
-use Rattle.map_server.specs.declared.hex.HexFault.{HexFault}
-use Rattle.map_server.specs.declared.hex.HexFault.TheVariants.{NotHex, NoMemory}
+use Rattle.map_server.specs.declared.bpfmap.hex.HexFault.{HexFault}
+use Rattle.map_server.specs.declared.bpfmap.hex.HexFault.TheVariants.{NotHex, NoMemory}
 use Rattle.map_server.specs.Hex.{IsFault}
 
 -- the fault is at the place that is named; want of memory says nothing

@@ -4,8 +4,8 @@ use Rattle.std.specs.List.{flat_map}
 use Rattle.bpf_model.specs.declared.input.Answer.TheVariants.{Nothing, Bytes}
 use Rattle.bpf_model.specs.declared.input.Window.{Window}
 use Rattle.bpf_model.specs.declared.input.Window.TheVariants.{Key, Old, Arg}
-use Rattle.map_server.specs.declared.report.Report.{Report}
-use Rattle.map_server.specs.declared.report.Report.TheVariants.{Text, Accepted, Answered, Unfit, Refused}
+use Rattle.map_server.specs.declared.bpfmap.report.Report.{Report}
+use Rattle.map_server.specs.declared.bpfmap.report.Report.TheVariants.{Text, Accepted, Answered, Unfit, Refused}
 use Rattle.map_server.specs.Refusals.{number_of, place_of}
 
 -- a digit of a byte, in lower case
@@ -18,12 +18,12 @@ spaced byte = 32 ∷ digit (byte / 16) ∷ digit (byte % 16) ∷ []
 
 -- a unit's bytes stand on a line: after the eighth comes a newline, after each other one a blank
 abbrev pub separator : ℕ → ℕ
-separator place = if nat_eq (place % 8) 7 then 10 else 32
+separator index = if nat_eq (index % 8) 7 then 10 else 32
 
--- the lines of bytes, the first of which has this place
+-- the lines of bytes, the first of which has this index
 unfoldable pub unit_lines_from : ℕ → List ℕ → List ℕ
-unit_lines_from place [] = []
-unit_lines_from place (byte ∷ bytes) = digit (byte / 16) ∷ digit (byte % 16) ∷ separator place ∷ unit_lines_from (suc place) bytes
+unit_lines_from index [] = []
+unit_lines_from index (byte ∷ bytes) = digit (byte / 16) ∷ digit (byte % 16) ∷ separator index ∷ unit_lines_from (suc index) bytes
 
 abbrev pub unit_lines : List ℕ → List ℕ
 unit_lines bytes = unit_lines_from 0 bytes

@@ -2,31 +2,25 @@
 //! and writers that are handed in.
 //!
 //! The promise to the layers above: one call on a `Striped` does to the whole table what the sequential map's method
-//! does, and replies what it replies (`Striped::apply`, by `Answers` of `specs/Calls.antt`). A call asks for memory
-//! only where it adds a key; where that is refused, the table is as before. A program's `main` opens the process's
-//! streams and calls `bpfmap_on`; what the commands report is `report_of`'s contract.
+//! does, and replies what it replies (`Striped::apply`, by `Answers` of `specs/Calls.antt`); `bpfmap_on` does what its
+//! words ask for, prints and tells that and nothing else (by `specs/CommandLine.antt`, `specs/Commands.antt` and
+//! `specs/Endings.antt`); `admit` takes bytes to a verified program, and knows no text. Nothing waits. What a program
+//! reads it keeps in memory; a refused request for memory is told as a refusal.
 #![tactic(auto)]
 
+mod admission;
 mod atomic_methods;
 mod bins;
 mod bpfmap;
-mod commands;
 mod devices;
-mod hex;
 mod list_bins;
-mod refusal;
-mod report;
-mod streams;
 mod striped;
-mod words;
 
+pub use admission::{AdmissionFault, admit};
 pub use atomic_methods::{Call, Reply};
-pub use bpfmap::{bpfmap_on, carry_out, tell_unread_words};
-pub use commands::report_of;
-pub use devices::{Failed, ReadFault, Sink, Source, read_all, write_all};
-pub use hex::{HexFault, hex_bytes};
-pub use refusal::Refusal;
-pub use report::{LINE_BYTES, Line, Report, unit_lines};
-pub use streams::{StreamSink, StreamSource};
+pub use bpfmap::{
+    Command, Ending, HexFault, LINE_BYTES, Line, Refusal, Report, RunTexts, bpfmap_on, hex_bytes,
+    parse_words, report_of, tell_unread_words, unit_lines,
+};
+pub use devices::{Failed, ReadFault, Sink, Source, StreamSink, StreamSource, read_all, write_all};
 pub use striped::{OpenFault, Striped};
-pub use words::{Command, RunTexts, parse_words};

@@ -85,20 +85,6 @@ fn a_program_runs_once(rt: HostRuntime) -> Result<(), Fail> {
 }
 
 #[test]
-fn the_first_value_that_does_not_fit_is_named(rt: HostRuntime) -> Result<(), Fail> {
-    for (sizes, unfit) in [
-        ("--key 1 --old 0 --arg 0", "unfit key\n"),
-        ("--key 2 --old 1 --arg 0", "unfit old\n"),
-        ("--key 2 --old 2 --arg 1", "unfit arg\n"),
-    ] {
-        let values = "--with-key 6161 --with-old 0000 --with-arg 0000";
-        let words = format!(in rt.alloc(); "run {sizes} {values}")?;
-        holds(&rt, words.as_str(), NOTHING, unfit, 1)?;
-    }
-    Ok(())
-}
-
-#[test]
 fn refusals_name_the_first_fault(rt: HostRuntime) -> Result<(), Fail> {
     for (input, number, place) in [
         ("b7000000ffffffff 95000000", 11, 0),
@@ -184,30 +170,32 @@ fn hex_faults_have_their_place(rt: HostRuntime) -> Result<(), Fail> {
     holds(&rt, "check", spaced, "accepted\n", 0)
 }
 
+// What `run` prints: the old value less the argument.
+const DIFFERENCE: &str = "7920000000000000 7939000000000000 1f90000000000000 7b04000000000000 \
+    b700000008000000 9500000000000000";
+
 #[test]
-fn values_are_read_as_hex_in_order(rt: HostRuntime) -> Result<(), Fail> {
-    for (words, place) in [
-        ("run --with-key zz", 0),
-        ("run --with-key 6", 0),
-        ("run --with-key 61,", 2),
-        ("run --with-key -1", 0),
-        ("run --with-old -", 0),
-        ("run --with-old 0g", 0),
-        ("run --with-arg 000", 2),
-        ("run --with-arg 00z --with-old z --with-key 0000z", 4),
-        ("run --with-arg 00z --with-old z", 0),
+fn options_are_told_apart(rt: HostRuntime) -> Result<(), Fail> {
+    for (words, printed) in [
+        (
+            "run --with-old 05 --with-arg 02",
+            "bytes 03 00 00 00 00 00 00 00\n",
+        ),
+        (
+            "run --with-arg 02 --with-old 05",
+            "bytes 03 00 00 00 00 00 00 00\n",
+        ),
+        ("run --with-old 05", "bytes 05 00 00 00 00 00 00 00\n"),
+        (
+            "run --with-arg 02 --with-key 07",
+            "bytes fe ff ff ff ff ff ff ff\n",
+        ),
+        (
+            "run --with-old= --with-arg= --with-key=",
+            "bytes 00 00 00 00 00 00 00 00\n",
+        ),
     ] {
-        refuses(&rt, words, NOTHING, 70, place)?;
-    }
-    // A blank at the end is followed by an empty word.
-    for words in [
-        "run --with-key 6A6a",
-        "run --with-key ",
-        "run --with-old ",
-        "run --with-arg ",
-        "run --old 0 --arg 0 --with-old  --with-arg ",
-    ] {
-        holds(&rt, words, NOTHING, "nothing\n", 0)?;
+        holds(&rt, words, DIFFERENCE, printed, 0)?;
     }
     Ok(())
 }

@@ -1,7 +1,6 @@
 //! Faults of the command line and of devices.
-use super::memory::{Outcome, Pieces, ROOM, Room, call, run_words};
-use crate::{StreamSink, tell_unread_words};
-use std::alloc::{AllocError, Global};
+use super::memory::{Interrupted, Pieces, ROOM, Room, call, run_words};
+use crate::{StreamSink, StreamSource, bpfmap_on, tell_unread_words};
 use std::io::{self, ErrorKind};
 use std::test::Fail;
 
@@ -47,6 +46,10 @@ fn faults_of_the_words_are_told(rt: HostRuntime) -> Result<(), Fail> {
         "run --with-old",
         "run 61",
         "--stripes 1",
+        "help",
+        "help run",
+        "run --with-key -1",
+        "run --with-old -00",
     ] {
         let found = run_words(rt.alloc(), words, "")?;
         assert!(rt; found.status == 2, "{words}");
@@ -71,12 +74,11 @@ fn no_command_shows_the_help(rt: HostRuntime) -> Result<(), Fail> {
 fn help_and_version_are_no_faults(rt: HostRuntime) -> Result<(), Fail> {
     for (words, start) in [
         ("--help", "Assembles BPF programs"),
-        ("help", "Assembles BPF programs"),
         ("--version", "bpfmap 0.1.0\n"),
+        ("-V", "bpfmap 0.1.0\n"),
+        ("-h", "Assembles BPF programs"),
         ("asm --help", "Prints in hex"),
-        ("help disasm", "Prints the text"),
         ("check --help", "Verifies the program"),
-        ("help run", "Verifies the program"),
     ] {
         let found = run_words(rt.alloc(), words, "")?;
         assert!(rt; found.status == 0, "{words}");
@@ -143,79 +145,6 @@ fn failed_writes_end_with_status_3(rt: HostRuntime) -> Result<(), Fail> {
     Ok(())
 }
 
-// A run whose option is hex text of this many bytes.
-fn run_with(alloc: Global, option: &str, bytes: usize) -> Result<Outcome, AllocError> {
-    let text = "61".repeat(alloc, bytes)?;
-    let words = vec![in alloc; "bpfmap", "run", option, text.as_str()]?;
-    Ok(call(
-        alloc,
-        words.as_slice(),
-        pieces(NOTHING, 64, false),
-        ROOM,
-        ROOM,
-    ))
-}
-
-#[test]
-fn long_values_are_refused(rt: HostRuntime) -> Result<(), Fail> {
-    for (option, bytes, status, printed) in [
-        ("--with-key", 64, 0, "nothing\n"),
-        ("--with-key", 65, 1, "refused 1 at 0\n"),
-        ("--with-old", 256, 0, "nothing\n"),
-        ("--with-old", 257, 1, "refused 1 at 0\n"),
-        ("--with-arg", 256, 0, "nothing\n"),
-        ("--with-arg", 257, 1, "refused 1 at 0\n"),
-    ] {
-        let found = run_with(rt.alloc(), option, bytes)?;
-        assert!(rt; found.status == status, "{option} of {bytes}");
-        assert!(rt;
-            found.output.as_slice() == printed.as_bytes(),
-            "{option} of {bytes}"
-        );
-    }
-    Ok(())
-}
-
-// The same with another option and its text.
-fn run_with_two<'a>(
-    alloc: Global,
-    option: &'a str,
-    bytes: usize,
-    other: &'a str,
-    of_other: &'a str,
-) -> Result<Outcome, AllocError> {
-    let text = "61".repeat(alloc, bytes)?;
-    let words = vec![in alloc; "bpfmap", "run", option, text.as_str(), other, of_other]?;
-    Ok(call(
-        alloc,
-        words.as_slice(),
-        pieces(NOTHING, 64, false),
-        ROOM,
-        ROOM,
-    ))
-}
-
-#[test]
-fn the_first_bad_value_is_named(rt: HostRuntime) -> Result<(), Fail> {
-    for (option, bytes, other, of_other, printed) in [
-        ("--with-key", 65, "--with-old", "zz", "refused 1 at 0\n"),
-        ("--with-old", 257, "--with-key", "zz", "refused 70 at 0\n"),
-        ("--with-old", 257, "--with-arg", "zz", "refused 1 at 0\n"),
-        ("--with-arg", 257, "--with-old", "zz", "refused 70 at 0\n"),
-        ("--with-key", 65, "--key", "0", "refused 1 at 0\n"),
-        ("--with-old", 257, "--old", "0", "refused 1 at 0\n"),
-        ("--with-arg", 257, "--arg", "0", "refused 1 at 0\n"),
-    ] {
-        let found = run_with_two(rt.alloc(), option, bytes, other, of_other)?;
-        assert!(rt; found.status == 1, "{option} and {other}");
-        assert!(rt;
-            found.output.as_slice() == printed.as_bytes(),
-            "{option} and {other}"
-        );
-    }
-    Ok(())
-}
-
 #[test]
 fn unread_words_are_told(rt: HostRuntime) {
     for (kind, expected, output, line) in [
@@ -239,4 +168,42 @@ fn unread_words_are_told(rt: HostRuntime) {
         let told = errors.into_inner().bytes;
         assert!(rt; told.as_slice() == line.as_bytes(), "status {expected}");
     }
+}
+
+#[test]
+fn interrupted_reads_and_writes_are_tried_again(rt: HostRuntime) {
+    for times in [0, 1, 2, 7] {
+        let mut reader = StreamSource::new(Interrupted::new(pieces(NOTHING, 5, false), times));
+        let output = Interrupted::new(Room::new(rt.alloc(), ROOM), times);
+        let mut writer = StreamSink::new(output);
+        let mut errors = StreamSink::new(Room::new(rt.alloc(), ROOM));
+        let words = ["bpfmap", "run"];
+        let status = bpfmap_on(rt.alloc(), &words, &mut reader, &mut writer, &mut errors);
+        let printed = writer.into_inner().inner.bytes;
+        assert!(rt; status == 0, "interrupted {times} times");
+        assert!(rt;
+            printed.as_slice() == b"nothing\n".as_slice(),
+            "interrupted {times} times"
+        );
+        assert!(rt;
+            errors.into_inner().bytes.is_empty(),
+            "interrupted {times} times"
+        );
+    }
+}
+
+#[test]
+fn input_of_more_than_64_kib_is_read(rt: HostRuntime) -> Result<(), Fail> {
+    let blank = " \n".repeat(rt.alloc(), 50_000)?;
+    let text = format!(in rt.alloc(); "{blank}b7000000ffffffff{blank}9500000000000000{blank}")?;
+    for size in [1000, 4096, 100_000] {
+        let input = pieces(text.as_bytes(), size, false);
+        let found = call(rt.alloc(), &["bpfmap", "run"], input, ROOM, ROOM);
+        assert!(rt; found.status == 0, "in pieces of {size}");
+        assert!(rt;
+            found.output.as_slice() == b"nothing\n".as_slice(),
+            "in pieces of {size}"
+        );
+    }
+    Ok(())
 }

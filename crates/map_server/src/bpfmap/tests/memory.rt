@@ -56,6 +56,51 @@ impl Write for Room {
     }
 }
 
+/// A device whose every call is interrupted this many times before it is made.
+#[derive(Drop)]
+pub struct Interrupted<D> {
+    pub inner: D,
+    times: u8,
+    left: u8,
+}
+
+impl<D> Interrupted<D> {
+    pub fn new(inner: D, times: u8) -> Interrupted<D> {
+        Interrupted {
+            inner,
+            times,
+            left: times,
+        }
+    }
+
+    fn interrupt(&mut self) -> io::Result<()> {
+        if self.left == 0 {
+            self.left = self.times;
+            return Ok(());
+        }
+        self.left -= 1;
+        Err(io::Error::from(ErrorKind::Interrupted))
+    }
+}
+
+impl<R: Read> Read for Interrupted<R> {
+    fn read(&mut self, buf: &mut [u8]) -> io::Result<usize> {
+        self.interrupt()?;
+        self.inner.read(buf)
+    }
+}
+
+impl<W: Write> Write for Interrupted<W> {
+    fn write(&mut self, buf: &[u8]) -> io::Result<usize> {
+        self.interrupt()?;
+        self.inner.write(buf)
+    }
+
+    fn flush(&mut self) -> io::Result<()> {
+        self.inner.flush()
+    }
+}
+
 /// What a call of `bpfmap_on` left.
 #[derive(Drop)]
 pub struct Outcome {

@@ -45,7 +45,7 @@ fn answers<R: AllocGlobal + Abort>(
     let words = format!(in rt.alloc(); "run {options}")?;
     let found = run_words(rt.alloc(), words.as_str(), hex)?;
     let is_printed = found.output.as_slice() == printed.as_bytes();
-    assert!(rt; is_printed, "{options}");
+    assert!(rt; is_printed, "{text} with {options}");
     Ok(())
 }
 
@@ -340,6 +340,59 @@ fn programs_that_are_made_up_are_read_back(rt: HostRuntime) -> Result<(), Fail> 
             hex.as_slice() == made.hex.as_bytes(),
             "units of seed {seed}"
         );
+    }
+    Ok(())
+}
+
+#[test]
+fn each_operation_is_taken_at_each_width(rt: HostRuntime) -> Result<(), Fail> {
+    for (word, _, _) in OPERATIONS {
+        for width in [32, 64] {
+            for operand in ["7", "r5"] {
+                let text = format!(in rt.alloc();
+                    "mov64 r9, 5\nmov64 r5, 3\n{word}{width} r9, {operand}\nmov64 r0, -1\nexit\n"
+                )?;
+                answers(&rt, text.as_str(), "--key 0", "nothing\n")?;
+            }
+        }
+    }
+    for (name, _, _) in CHANGES {
+        let text = format!(in rt.alloc(); "mov64 r9, 5\n{name} r9\nmov64 r0, -1\nexit\n")?;
+        answers(&rt, text.as_str(), "--key 0", "nothing\n")?;
+    }
+    for (name, _, _) in EXTENSIONS {
+        let text = format!(in rt.alloc(); "{name} r9, r6\nmov64 r0, -1\nexit\n")?;
+        answers(&rt, text.as_str(), "--key 0", "nothing\n")?;
+    }
+    answers(
+        &rt,
+        "wide r0, 18446744073709551615\nexit\n",
+        "--key 0",
+        "nothing\n",
+    )
+}
+
+#[test]
+fn each_size_of_access_is_taken(rt: HostRuntime) -> Result<(), Fail> {
+    for name in ["ldb", "ldh", "ldw", "ldd", "ldsb", "ldsh", "ldsw"] {
+        let text = format!(in rt.alloc(); "{name} r9, [r1+0]\nmov64 r0, -1\nexit\n")?;
+        answers(&rt, text.as_str(), "--key 8", "nothing\n")?;
+    }
+    for (size, printed) in [
+        ("b", "bytes 07\n"),
+        ("h", "bytes 07 00\n"),
+        ("w", "bytes 07 00 00 00\n"),
+        ("d", "bytes 07 00 00 00 00 00 00 00\n"),
+    ] {
+        // The answer has as many bytes as were written.
+        let length = (printed.len() - 6) / 3;
+        for store in ["st", "stx"] {
+            let operand = if store == "st" { "7" } else { "r9" };
+            let text = format!(in rt.alloc();
+                "mov64 r9, 7\n{store}{size} [r4+0], {operand}\nmov64 r0, {length}\nexit\n"
+            )?;
+            answers(&rt, text.as_str(), "--result 8", printed)?;
+        }
     }
     Ok(())
 }

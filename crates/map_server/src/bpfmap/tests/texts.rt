@@ -100,18 +100,3 @@ fn text_that_is_no_utf_8_fails_to_be_read(rt: HostRuntime) -> Result<(), Fail> {
     }
     Ok(())
 }
-
-#[test]
-fn a_text_that_can_not_be_written_is_told(rt: HostRuntime) -> Result<(), Fail> {
-    for room in [0, 1, 23, 24, 47] {
-        let input = Pieces {
-            rest: b"exit\nexit\n",
-            size: 3,
-            fails: false,
-        };
-        let found = call(rt.alloc(), &["bpfmap", "asm"], input, room, ROOM);
-        assert!(rt; found.status == 3 && found.output.len() == room);
-        assert!(rt; found.errors.as_slice() == b"failed write\n".as_slice());
-    }
-    Ok(())
-}

@@ -1,7 +1,0 @@
--- the bytes so far are in the text, and the lines of the others are what is left
-use Rattle.std.proofs.Common.{◌≡◌, ◌++◌, drop}
-use Rattle.map_server.specs.Reports.{unit_lines, unit_lines_from}
-use Rattle.map_server.proofs.report.unit_lines.Given as goal
-
-abbrev pub invariant-loop-place : goal.invariant-loop-place
-invariant-loop-place l = unit_lines l.bytes ≡ l.text.items ++ unit_lines_from l.place (drop l.place l.bytes)

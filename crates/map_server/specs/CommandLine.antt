@@ -1,0 +1,89 @@
+-- The command line of `bpfmap`: its commands, their options and defaults. How words are read is clap's (clap_builder 4.6).
+use Rattle.std.specs.Prelude.{◌≡◌, ℕ, ◌^◌, ◌&&◌, ◌++◌, ◌⊎◌, true, false, List, [], ◌∷◌, Option, Some, None, codes, pos, nat_lt, IsSomeAnd, unwrap_or, option_map, option_and_then, if◌then◌else◌}
+use Rattle.std.specs.Str.Parse.{digits_value, without_leading_plus}
+use Rattle.bpf_model.specs.declared.input.Sizes.{Sizes}
+use Rattle.clap.specs.Words.{App, Row, Rule, Shape, first_of, fault_of, new_rule, one_of, subcommand_of, with_rule}
+use Rattle.clap.specs.Simple.{new_shape}
+use Rattle.clap.specs.ValueTests.{is_numeral}
+use Rattle.clap.specs.declared.builder.ValueParser.TheVariants.{Signed}
+use Rattle.map_server.specs.declared.bpfmap.words.RunTexts.{RunTexts}
+use Rattle.map_server.specs.declared.bpfmap.words.Command.{Command}
+use Rattle.map_server.specs.declared.bpfmap.words.Command.TheVariants.{Asm, Disasm, Check, Run}
+
+-- an option that takes a number from 0 to 65535
+abbrev pub size_option : List ℕ → Rule
+size_option name = record (new_rule name) { long = Some name; value_names = 1; parser = Some (Signed (pos 0) (pos 65535)) }
+
+-- an option that takes a text
+abbrev pub text_option : List ℕ → Rule
+text_option name = record (new_rule name) { long = Some name; value_names = 1 }
+
+abbrev pub size_options : List Rule
+size_options = size_option (codes "key") ∷ size_option (codes "old") ∷ size_option (codes "arg") ∷ size_option (codes "result") ∷ []
+
+abbrev pub text_options : List Rule
+text_options = text_option (codes "with-key") ∷ text_option (codes "with-old") ∷ text_option (codes "with-arg") ∷ []
+
+abbrev pub command_with : List ℕ → List Rule → Shape
+command_with name options = record (new_shape name) { rules = options }
+
+-- one of four commands is wanted
+abbrev pub bpfmap : App
+bpfmap = record {
+  top = record (new_shape (codes "bpfmap")) {
+    is_leaf = false;
+    has_version = true;
+    disable_help_subcommand = true;
+    arg_required_else_help = true;
+    subcommand_required = true;
+  };
+  subs = command_with (codes "asm") [] ∷ command_with (codes "disasm") [] ∷ command_with (codes "check") size_options
+      ∷ command_with (codes "run") (size_options ++ text_options) ∷ [];
+}
+
+-- the size that a text spells; clap refuses the other texts
+abbrev pub size_in : List ℕ → Option ℕ
+size_in text =
+    let digits = without_leading_plus text in
+    if is_numeral digits && nat_lt (digits_value 10 digits) (2 ^ 16) then Some (digits_value 10 digits) else None
+
+-- the size that an option gives, or its default
+abbrev pub size_of : List Row → List ℕ → ℕ → ℕ
+size_of rows name default = unwrap_or (option_and_then size_in (one_of name rows)) default
+
+abbrev pub sizes_of : List Row → Sizes
+sizes_of rows = record {
+  key = size_of rows (codes "key") 64;
+  old = size_of rows (codes "old") 256;
+  arg = size_of rows (codes "arg") 256;
+  result = size_of rows (codes "result") 256;
+}
+
+-- a key that is not given is empty; an old value or an argument that is not given is absent
+pub record GivesTexts (rows : List Row) (texts : RunTexts) : Type 0 where
+  pub key : texts.key.now ≡ unwrap_or (first_of (codes "with-key") rows) []
+  pub old : option_map (λ text. text.now) texts.old ≡ first_of (codes "with-old") rows
+  pub arg : option_map (λ text. text.now) texts.arg ≡ first_of (codes "with-arg") rows
+
+-- the command of this name, with these options
+abbrev pub IsNamed : Option (List ℕ × List Row) → Command → Type 0
+IsNamed found Asm = (rows : List Row) × (found ≡ Some (codes "asm", rows))
+IsNamed found Disasm = (rows : List Row) × (found ≡ Some (codes "disasm", rows))
+IsNamed found (Check sizes) = (rows : List Row) × (found ≡ Some (codes "check", rows)) × (sizes ≡ sizes_of rows)
+IsNamed found (Run sizes texts) = (rows : List Row) × (found ≡ Some (codes "run", rows)) × (sizes ≡ sizes_of rows) × GivesTexts rows texts
+
+-- what the words ask for, of which the first is the program's name: clap finds no fault in them, and they name this command
+abbrev pub Asks : List (List ℕ) → Command → Type 0
+Asks words command = (fault_of bpfmap words ≡ []) × IsNamed (subcommand_of bpfmap words) command
+
+-- one of the four names
+abbrev pub IsName : List ℕ → Type 0
+IsName name = (name ≡ codes "asm") ⊎ ((name ≡ codes "disasm") ⊎ ((name ≡ codes "check") ⊎ (name ≡ codes "run")))
+
+abbrev pub NamesOne : Option (List ℕ × List Row) → Type 0
+NamesOne found = IsSomeAnd found (λ f. IsName f.0)
+
+-- options added in turn
+abbrev pub with_options : App → List Rule → App
+with_options app [] = app
+with_options app (option ∷ options) = with_options (with_rule app option) options

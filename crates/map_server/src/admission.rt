@@ -1,0 +1,96 @@
+//! How a program comes in: from its bytes to a `Verified`.
+//!
+//! It knows no text and prints nothing, so that whatever takes programs can stand on it. A program is decoded, its flow
+//! is tested, and it is verified with its sizes, in this order; the first refusal is answered.
+ghost use Rattle.std.specs.Prelude.{◌≡◌, IfOk, IfErr};
+ghost use Rattle.map_server.specs.Admissions.{number_of, unit_of, IsAdmitted, IsRefused};
+
+use bpf_decode::{DecodeFault, decode};
+use bpf_model::Sizes;
+use flow_shape::{FlowFault, shape};
+use std::alloc::Global;
+use thiserror::Error;
+use verifier::{Verified, VerifyFault, verify};
+
+/// Why no program is admitted.
+#[derive(Clone, Copy, Debug, PartialEq, Eq, Error)]
+pub enum AdmissionFault {
+    /// The bytes are no program: numbers 9 to 17.
+    #[error("{0}")]
+    Decode(DecodeFault),
+    /// A jump goes where none may, or the program may go past its end: numbers 30 to 33.
+    #[error("{0}")]
+    Flow(FlowFault),
+    /// The program was not found safe: numbers 40 to 48.
+    #[error("{0}")]
+    Verify(VerifyFault),
+}
+
+impl AdmissionFault {
+    /// The number under which the fault is printed and sent.
+    pub fn number(&self) -> u8
+        ensures { result ≡ number_of self.now }
+    {
+        match self {
+            AdmissionFault::Decode(fault) => fault.number(),
+            AdmissionFault::Flow(fault) => fault.number(),
+            AdmissionFault::Verify(fault) => fault.number(),
+        }
+    }
+
+    /// The faulty unit, counted from 0; 0 where the fault is of no unit.
+    pub fn unit(&self) -> usize
+        ensures { result ≡ unit_of self.now }
+    {
+        match self {
+            AdmissionFault::Decode(fault) => fault.unit(),
+            AdmissionFault::Flow(fault) => fault.unit(),
+            AdmissionFault::Verify(fault) => fault.unit(),
+        }
+    }
+}
+
+impl From<DecodeFault> for AdmissionFault {
+    ghost use Rattle.std.specs.Prelude.{◌≡◌};
+    ghost use Rattle.map_server.specs.declared.admission.AdmissionFault.TheVariants.{Decode};
+
+    ghost from_gives = { λ fault e. e ≡ Decode fault };
+
+    fn from(fault: DecodeFault) -> AdmissionFault {
+        AdmissionFault::Decode(fault)
+    }
+}
+
+impl From<FlowFault> for AdmissionFault {
+    ghost use Rattle.std.specs.Prelude.{◌≡◌};
+    ghost use Rattle.map_server.specs.declared.admission.AdmissionFault.TheVariants.{Flow};
+
+    ghost from_gives = { λ fault e. e ≡ Flow fault };
+
+    fn from(fault: FlowFault) -> AdmissionFault {
+        AdmissionFault::Flow(fault)
+    }
+}
+
+impl From<VerifyFault> for AdmissionFault {
+    ghost use Rattle.std.specs.Prelude.{◌≡◌};
+    ghost use Rattle.map_server.specs.declared.admission.AdmissionFault.TheVariants.{Verify};
+
+    ghost from_gives = { λ fault e. e ≡ Verify fault };
+
+    fn from(fault: VerifyFault) -> AdmissionFault {
+        AdmissionFault::Verify(fault)
+    }
+}
+
+/// The program that the bytes spell, verified with these sizes. `Decode` comes before `Flow`, and `Flow` before
+/// `Verify`; `Decode` has want of memory too.
+pub fn admit(alloc: Global, bytes: &[u8], sizes: Sizes) -> Result<Verified, AdmissionFault>
+    ensures ok { IfOk result (λ v. IsAdmitted bytes.now sizes v.program) }
+    ensures sizes { IfOk result (λ v. v.sizes ≡ sizes) }
+    ensures err { IfErr result (λ fault. IsRefused bytes.now sizes fault) }
+{
+    let program = decode(alloc, bytes)?;
+    let shaped = shape(program)?;
+    Ok(verify(shaped, sizes)?)
+}

@@ -1,0 +1,133 @@
+//! What comes of a command on a text: the steps from hex text to an answer.
+ghost use Rattle.std.specs.Prelude.{◌≡◌, IfOk, IfErr, OnErr};
+ghost use Rattle.bpf_model.specs.declared.limits.TheConstants.{KEY_BYTES};
+ghost use Rattle.map_server.specs.Commands.{SpellsProgram, SpellsSafe, SpellsKey, SpellsValue, SpellsInput, IsBytesRefused, IsProgramRefused, IsTextRefused, IsValueRefused, IsInputRefused, IsAsmReport, IsDisasmReport, IsCheckReport, IsRunReport, IsUnreadable, IsReport};
+
+use crate::admission::admit;
+use crate::bpfmap::hex::hex_bytes;
+use crate::bpfmap::refusal::Refusal;
+use crate::bpfmap::report::{Report, unit_lines};
+use crate::bpfmap::words::{Command, RunTexts};
+use crate::devices::Failed;
+use bpf_assembler::{assemble, disassemble};
+use bpf_decode::{decode, encode};
+use bpf_machine::run;
+use bpf_model::{Input, Key, Program, Sizes, Value, fits};
+use std::alloc::Global;
+use verifier::Verified;
+
+fn program_of(alloc: Global, text: &[u8]) -> Result<Program, Refusal>
+    ensures ok { IfOk result (λ program. SpellsProgram text.now program) }
+    ensures err { IfErr result (λ refusal. IsBytesRefused text.now refusal) }
+{
+    let bytes = hex_bytes(alloc, text)?;
+    Ok(decode(alloc, &bytes)?)
+}
+
+fn asm_once(alloc: Global, text: &str) -> Result<Report, Refusal>
+    ensures ok { IfOk result (λ report. IsAsmReport text.now report) }
+    ensures err { IfErr result (λ refusal. IsAsmReport text.now (Report.Refused refusal)) }
+{
+    let program = assemble(alloc, text)?;
+    let bytes = encode(alloc, &program)?;
+    Ok(Report::Text(unit_lines(alloc, &bytes)?))
+}
+
+fn disasm_once(alloc: Global, text: &[u8]) -> Result<Report, Refusal>
+    ensures ok { IfOk result (λ report. IsDisasmReport text.now report) }
+    ensures err { IfErr result (λ refusal. IsDisasmReport text.now (Report.Refused refusal)) }
+{
+    let program = program_of(alloc, text)?;
+    Ok(Report::Text(disassemble(alloc, &program)?.into_bytes()))
+}
+
+fn verified(alloc: Global, text: &[u8], sizes: Sizes) -> Result<Verified, Refusal>
+    ensures ok { IfOk result (λ v. SpellsSafe text.now sizes v.program) }
+    ensures sizes { IfOk result (λ v. v.sizes ≡ sizes) }
+    ensures err { IfErr result (λ refusal. IsProgramRefused text.now sizes refusal) }
+{
+    let bytes = hex_bytes(alloc, text)?;
+    Ok(admit(alloc, &bytes, sizes)?)
+}
+
+fn key_of(alloc: Global, text: &str) -> Result<Key, Refusal>
+    ensures ok { IfOk result (λ key. SpellsKey text.now key) }
+    ensures err { IfErr result (λ refusal. IsTextRefused text.now KEY_BYTES refusal) }
+{
+    let bytes = hex_bytes(alloc, text.as_bytes())?;
+    Ok(Key::from_slice(&bytes)?)
+}
+
+fn value_of(alloc: Global, text: Option<&str>) -> Result<Option<Value>, Refusal>
+    ensures ok { IfOk result (λ value. SpellsValue text.entry value) }
+    ensures err { IfErr result (λ refusal. IsValueRefused text.entry refusal) }
+{
+    let Some(text) = text else {
+        return Ok(None);
+    };
+    let bytes = hex_bytes(alloc, text.as_bytes())?;
+    Ok(Some(Value::from_slice(&bytes)?))
+}
+
+fn input_of(alloc: Global, texts: &RunTexts<'_>) -> Result<Input, Refusal>
+    ensures ok { IfOk result (λ input. SpellsInput texts.now input) }
+    ensures err { IfErr result (λ refusal. IsInputRefused texts.now refusal) }
+{
+    let key = key_of(alloc, texts.key)?;
+    let old = value_of(alloc, texts.old)?;
+    let arg = value_of(alloc, texts.arg)?;
+    Ok(Input { key, old, arg })
+}
+
+fn run_once(
+    alloc: Global,
+    text: &[u8],
+    sizes: Sizes,
+    texts: &RunTexts<'_>,
+) -> Result<Report, Refusal>
+    ensures ok { IfOk result (λ report. IsRunReport sizes texts.now text.now report) }
+    ensures err { IfErr result (λ refusal.
+        IsRunReport sizes texts.now text.now (Report.Refused refusal)) }
+{
+    let verified = verified(alloc, text, sizes)?;
+    let input = input_of(alloc, texts)?;
+    match fits(&sizes, &input) {
+        Ok(()) => Ok(Report::Answered(run(&verified, &input))),
+        Err(window) => Ok(Report::Unfit(window)),
+    }
+}
+
+fn check_report(alloc: Global, text: &[u8], sizes: Sizes) -> Report
+    ensures { IsCheckReport sizes text.now result }
+{
+    match verified(alloc, text, sizes) {
+        Ok(_) => Report::Accepted,
+        Err(refusal) => Report::Refused(refusal),
+    }
+}
+
+fn run_report(alloc: Global, text: &[u8], sizes: Sizes, texts: &RunTexts<'_>) -> Report
+    ensures { IsRunReport sizes texts.now text.now result }
+{
+    match run_once(alloc, text, sizes, texts) {
+        Ok(report) => report,
+        Err(refusal) => Report::Refused(refusal),
+    }
+}
+
+/// What comes of the command on this text: the first refusal, in the order text, program, key, old value, argument,
+/// else a value that doesn't fit, else the answer. `Failed` where a program's text is to be read and this is no UTF-8.
+pub fn report_of(alloc: Global, command: &Command<'_>, text: &[u8]) -> Result<Report, Failed>
+    ensures ok { IfOk result (λ report. IsReport command.now text.now report) }
+    ensures err { OnErr result (IsUnreadable command.now text.now) }
+{
+    match command {
+        Command::Asm => match str::from_utf8(text) {
+            Ok(text) => Ok(asm_once(alloc, text).unwrap_or_else(Report::Refused)),
+            Err(_) => Err(Failed),
+        },
+        Command::Disasm => Ok(disasm_once(alloc, text).unwrap_or_else(Report::Refused)),
+        Command::Check(sizes) => Ok(check_report(alloc, text, *sizes)),
+        Command::Run(sizes, texts) => Ok(run_report(alloc, text, *sizes, texts)),
+    }
+}

@@ -1,0 +1,79 @@
+//! What a call of `bpfmap` comes to, and how that is told.
+ghost use Rattle.std.specs.Prelude.{◌≡◌, ◌<◌, ◌-◌, ◌^◌};
+ghost use Rattle.map_server.specs.Devices.{TakesIfItCan};
+ghost use Rattle.map_server.specs.Endings.{outputs, Prints, Tells};
+
+use crate::bpfmap::report::Report;
+use crate::devices::{Failed, Sink, write_all};
+
+/// What a call of `bpfmap` comes to.
+#[derive(Debug, Drop)]
+pub enum Ending {
+    /// A command's report: its text goes to standard output, and its status is the call's.
+    Reported(Report),
+    /// The help or the version, which were asked for: status 0, with clap's text on standard output.
+    Shown(String),
+    /// A fault of the words: status 2, with clap's text on standard error.
+    Faulty(String),
+    /// Standard input could not be read: status 3.
+    Unread,
+    /// The words are not UTF-8: status 2.
+    NotUtf8,
+}
+
+const FAULT_OF_WORDS: u8 = 2;
+
+const FAILED_DEVICE: u8 = 3;
+
+/// Prints the text, and answers this status, or that of a failed write.
+fn print<W: Sink, E: Sink>(text: &[u8], status: u8, writer: &mut W, errors: &mut E) -> u8
+    requires writes { (W.state writer.old).failures < 2 ^ 64 - 1 }
+    requires warns { (E.state errors.old).failures < 2 ^ 64 - 1 }
+    ensures { Prints text.now status (outputs (W.state writer.old) (E.state errors.old))
+        (outputs (W.state writer.new) (E.state errors.new)) result }
+{
+    match write_all(writer, text) {
+        Ok(()) => status,
+        Err(Failed) => {
+            let _ = write_all(errors, b"failed write\n");
+            FAILED_DEVICE
+        }
+    }
+}
+
+/// Writes the text to standard error, and answers this status. Where standard error fails too, nobody is told.
+fn warn<E: Sink>(text: &[u8], status: u8, errors: &mut E) -> u8
+    requires { (E.state errors.old).failures < 2 ^ 64 - 1 }
+    ensures status { result ≡ status }
+    ensures errors { TakesIfItCan (E.state errors.old) (E.state errors.new) text.now }
+{
+    let _ = write_all(errors, text);
+    status
+}
+
+impl Ending {
+    /// Tells it, and answers the status: 3 where standard output fails, of which standard error is told in one line.
+    pub fn tell<W: Sink, E: Sink>(&self, writer: &mut W, errors: &mut E) -> u8
+        requires writes { (W.state writer.old).failures < 2 ^ 64 - 1 }
+        requires warns { (E.state errors.old).failures < 2 ^ 64 - 1 }
+        ensures { Tells self.now (outputs (W.state writer.old) (E.state errors.old))
+            (outputs (W.state writer.new) (E.state errors.new)) result }
+    {
+        match self {
+            Ending::Reported(Report::Text(text)) => print(text, 0, writer, errors),
+            Ending::Reported(report) => {
+                print(report.line().as_slice(), report.status(), writer, errors)
+            }
+            Ending::Shown(text) => print(text.as_bytes(), 0, writer, errors),
+            Ending::Faulty(text) => warn(text.as_bytes(), FAULT_OF_WORDS, errors),
+            Ending::Unread => warn(b"failed read\n", FAILED_DEVICE, errors),
+            Ending::NotUtf8 => {
+                warn(
+                    b"error: the command line is not UTF-8\n",
+                    FAULT_OF_WORDS,
+                    errors,
+                )
+            }
+        }
+    }
+}

@@ -1,0 +1,102 @@
+//! The program `bpfmap`, over devices: it reads, does what the words ask for, prints, and gives the status.
+ghost use Rattle.std.specs.Prelude.{◌≡◌, ◌≢◌, ◌<◌, ◌-◌, ◌^◌, ℕ, List};
+ghost use Rattle.std.specs.IoError.{error_kind};
+ghost use Rattle.std.specs.declared.io.ErrorKind.TheVariants.{OutOfMemory};
+ghost use Rattle.clap.specs.Walk.{texts};
+ghost use Rattle.clap.specs.Words.{fault_of, HasKind};
+ghost use Rattle.map_server.specs.CommandLine.{bpfmap};
+ghost use Rattle.map_server.specs.Endings.{outputs, EndsCommand, EndsWords, EndsCall, Tells};
+
+use crate::bpfmap::commands::report_of;
+use crate::bpfmap::ending::Ending;
+use crate::bpfmap::refusal::Refusal;
+use crate::bpfmap::report::Report;
+use crate::bpfmap::words::{Command, parse_words};
+use crate::devices::{Failed, ReadFault, Sink, Source, read_all};
+use clap::error::ErrorKind;
+use std::alloc::Global;
+use std::io;
+
+/// What comes of a command on all that the reader has left.
+fn ending_of_command<R: Source>(alloc: Global, command: &Command<'_>, reader: &mut R) -> Ending
+    requires { (R.state reader.old).failures < 2 ^ 64 - 1 }
+    ensures { EndsCommand command.now (R.state reader.old) (R.state reader.new) result }
+{
+    match read_all(alloc, reader) {
+        Ok(text) => match report_of(alloc, command, &text) {
+            Ok(report) => Ending::Reported(report),
+            Err(Failed) => Ending::Unread,
+        },
+        Err(ReadFault::NoMemory) => Ending::Reported(Report::Refused(Refusal::NoMemory)),
+        Err(ReadFault::Failed) => Ending::Unread,
+    }
+}
+
+/// What comes of words that ask for no command. Where there is no memory for clap's text, that is refused.
+fn ending_of_words(alloc: Global, error: &clap::Error) -> Ending
+    ensures { (words : List (List ℕ)) → HasKind (fault_of bpfmap words) error.now
+        → EndsWords words result }
+{
+    if error.kind() == ErrorKind::OutOfMemory {
+        return Ending::Reported(Report::Refused(Refusal::NoMemory));
+    }
+    match error.to_string(alloc) {
+        Err(_) => Ending::Reported(Report::Refused(Refusal::NoMemory)),
+        Ok(text) if error.use_stderr() => Ending::Faulty(text),
+        Ok(text) => Ending::Shown(text),
+    }
+}
+
+/// What comes of the words, and of the input where they ask for a command.
+fn ending_of<R: Source>(alloc: Global, words: &[&str], reader: &mut R) -> Ending
+    requires { (R.state reader.old).failures < 2 ^ 64 - 1 }
+    ensures { EndsCall (texts words.now) (R.state reader.old) (R.state reader.new) result }
+{
+    match parse_words(alloc, words) {
+        Ok(command) => ending_of_command(alloc, &command, reader),
+        Err(error) => ending_of_words(alloc, &error),
+    }
+}
+
+/// Tells that the words of the command line could not be read, and answers the status. A refused request for memory is
+/// printed as a refusal.
+pub fn tell_unread_words<W: Sink, E: Sink>(error: &io::Error, writer: &mut W, errors: &mut E) -> u8
+    requires writes { (W.state writer.old).failures < 2 ^ 64 - 1 }
+    requires warns { (E.state errors.old).failures < 2 ^ 64 - 1 }
+    ensures memory { error_kind error.now ≡ OutOfMemory
+        → Tells (Ending.Reported (Report.Refused Refusal.NoMemory))
+        (outputs (W.state writer.old) (E.state errors.old))
+        (outputs (W.state writer.new) (E.state errors.new)) result }
+    ensures words { (error_kind error.now ≢ OutOfMemory)
+        → Tells Ending.NotUtf8 (outputs (W.state writer.old) (E.state errors.old))
+        (outputs (W.state writer.new) (E.state errors.new)) result }
+{
+    let ending = if error.kind() == io::ErrorKind::OutOfMemory {
+        Ending::Reported(Report::Refused(Refusal::NoMemory))
+    } else {
+        Ending::NotUtf8
+    };
+    ending.tell(writer, errors)
+}
+
+/// Does what the words ask for, of which the first is the program's name, and answers the status: 0 where it was done,
+/// 1 for a refusal or a value that doesn't fit, 2 for a fault of the words, of which standard error is told in clap's
+/// text, and 3 for a failed read or write, of which it is told in one line.
+pub fn bpfmap_on<R: Source, W: Sink, E: Sink>(
+    alloc: Global,
+    words: &[&str],
+    reader: &mut R,
+    writer: &mut W,
+    errors: &mut E,
+) -> u8
+    requires reads { (R.state reader.old).failures < 2 ^ 64 - 1 }
+    requires writes { (W.state writer.old).failures < 2 ^ 64 - 1 }
+    requires warns { (E.state errors.old).failures < 2 ^ 64 - 1 }
+    ensures ends { (ending : Ending)
+        × EndsCall (texts words.now) (R.state reader.old) (R.state reader.new) ending
+        × Tells ending (outputs (W.state writer.old) (E.state errors.old))
+        (outputs (W.state writer.new) (E.state errors.new)) result }
+{
+    let ending = ending_of(alloc, words, reader);
+    ending.tell(writer, errors)
+}

@@ -1,0 +1,39 @@
+//! Where bytes go.
+ghost use Rattle.std.specs.Prelude.{◌≡◌, ◌<◌, ◌≤◌, ◌+◌, ◌-◌, ◌^◌, length, OnOk, OnErr, IfOk};
+ghost use Rattle.std.specs.Io.{WritesAtMost};
+ghost use Rattle.std.specs.Io.KnownBytes.{WriteAppends};
+ghost use Rattle.map_server.specs.Devices.{Takes, TakesPart};
+
+use crate::devices::Failed;
+
+/// Where bytes go.
+pub trait Sink {
+    ghost use Rattle.map_server.specs.Devices.{SinkState};
+
+    /// What the device tells of itself.
+    ghost state: { Self → SinkState };
+
+    /// Takes a front of the bytes, at least one, and answers how many. A write that fails takes none.
+    fn write(&mut self, bytes: &[u8]) -> Result<usize, Failed>
+        requires some { 1 ≤ length bytes.now }
+        requires count { (state self.old).failures < 2 ^ 64 - 1 }
+        ensures within { WritesAtMost result bytes.now }
+        ensures some { IfOk result (λ n. 1 ≤ n) }
+        ensures bytes { WriteAppends (state self.old).held (state self.new).held result bytes.now }
+        ensures ok { OnOk result ((state self.new).failures ≡ (state self.old).failures) }
+        ensures err { OnErr result ((state self.new).failures ≡ (state self.old).failures + 1) };
+}
+
+/// Writes all of the bytes.
+pub fn write_all<W: Sink>(writer: &mut W, bytes: &[u8]) -> Result<(), Failed>
+    requires { (W.state writer.old).failures < 2 ^ 64 - 1 }
+    ensures ok { OnOk result (Takes (W.state writer.old) (W.state writer.new) bytes.now) }
+    ensures err { OnErr result (TakesPart (W.state writer.old) (W.state writer.new) bytes.now) }
+{
+    let mut rest = bytes;
+    while !rest.is_empty() {
+        let n = writer.write(rest)?;
+        rest = &rest[n..];
+    }
+    Ok(())
+}
