@@ -1,3 +1,4 @@
+pub mod FaultLemmas
 pub mod FlowLemmas
 pub mod RangeLemmas
 pub mod PointerLemmas
