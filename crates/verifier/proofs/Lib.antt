@@ -1,5 +1,4 @@
 pub mod FaultLemmas
-pub mod FlowLemmas
 pub mod RangeLemmas
 pub mod PointerLemmas
 pub mod FrameLemmas
@@ -7,4 +6,8 @@ pub mod RegisterLemmas
 pub mod WindowLemmas
 pub mod EntryLemmas
 pub mod LeadsLemmas
+pub mod JoinLemmas
+pub mod FlowLemmas
 pub mod WalkLemmas
+pub mod PassLemmas
+pub mod ArriveLemmas

@@ -1,11 +1,12 @@
 //! What is known of every state that a run brings to a unit, and what an instruction makes of it.
-ghost use Rattle.std.specs.Prelude.{◌≡◌, false, OnOk};
+ghost use Rattle.std.specs.Prelude.{◌≡◌, true, OnOk};
 ghost use Rattle.bpf_model.specs.declared.input.Sizes.{Sizes as DeclaredSizes};
 ghost use Rattle.bpf_model.specs.declared.instruction.Insn.TheVariants.{Alu, Negate, Mov, SignExtend, Reorder};
 ghost use Rattle.bpf_model.specs.Fits.{AreWithinLimits};
-ghost use Rattle.verifier.specs.Describes.{Leads, is_jump};
+ghost use Rattle.verifier.specs.Describes.{Leads, goes_straight};
 
 mod accesses;
+mod branches;
 mod entry;
 mod registers;
 
@@ -16,19 +17,19 @@ use bpf_model::{AluOp, ByteOrder, Insn, Operand, Reg, SignExtension, Sizes, Swap
 use value_ranges::{Range, negate, reorder, sign_extend};
 
 /// What is known of the registers, and which bytes of stack and result were written.
-#[derive(Debug, Drop)]
+#[derive(Clone, Copy, Debug)]
 pub struct AbstractState {
     registers: [RegValue; 11],
     frame: Frame,
 }
 
 impl AbstractState {
-    /// Tests an instruction, and goes on to what is known after it. Faults are tested in the order of their numbers, but
-    /// for 48: at a jump nothing else is tested, and at an access 48 comes after 40 to 42 and before 43 to 45.
+    /// Tests an instruction after which a run goes on at the next one, and goes on to what is known there. Faults are
+    /// tested in the order of their numbers, but for 48: at an access it comes after 40 to 42 and before 43 to 45.
     pub fn step(&mut self, sizes: Sizes, insn: Insn) -> Result<(), StepFault>
         requires limits { AreWithinLimits sizes }
+        requires straight { goes_straight insn ≡ true }
         ensures ok { OnOk result (Leads self.old sizes insn self.new) }
-        ensures straight { OnOk result (is_jump insn ≡ false) }
     {
         match insn {
             Insn::Alu {
@@ -58,8 +59,8 @@ impl AbstractState {
                 src,
                 offset,
             } => self.store(sizes, size, dst, src, offset),
-            Insn::Exit => self.exit(),
-            _ => Err(StepFault::NotYet),
+            Insn::Jump { .. } | Insn::JumpLong { .. } | Insn::Branch { .. } | Insn::Exit =>
+                unreachable!(),
         }
     }
 

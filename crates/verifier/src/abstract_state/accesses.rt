@@ -49,7 +49,8 @@ impl AbstractState {
         self.write_bytes(region, first, size, value)
     }
 
-    pub(super) fn exit(&self) -> Result<(), StepFault>
+    /// Tests the end of a run.
+    pub fn exit(&self) -> Result<(), StepFault>
         ensures ok { OnOk result (Exits self.now) }
     {
         let number = self.read(0)?.as_number();
