@@ -40,7 +40,7 @@ fn shaped(alloc: Global, instructions: &[Insn]) -> Result<Shaped> {
 }
 
 fn verified(alloc: Global, sample: Sample) -> Result<Verified> {
-    Ok(verify(shape(program(alloc, sample)?)?, SIZES)?)
+    Ok(verify(alloc, shape(program(alloc, sample)?)?, SIZES)?)
 }
 
 /// The empty key, the old value 1 and the argument 2, each number of 8 bytes.
@@ -73,7 +73,7 @@ fn shape_often(alloc: Global, sample: Sample, count: u64) -> Result<()> {
 fn verify_often(alloc: Global, sample: Sample, count: u64) -> Result<()> {
     let program = program(alloc, sample)?;
     for _ in 0..count {
-        verify(shaped(alloc, program.instructions())?, SIZES)?;
+        verify(alloc, shaped(alloc, program.instructions())?, SIZES)?;
     }
     Ok(())
 }

@@ -92,5 +92,5 @@ pub fn admit(alloc: Global, bytes: &[u8], sizes: Sizes) -> Result<Verified, Admi
 {
     let program = decode(alloc, bytes)?;
     let shaped = shape(program)?;
-    Ok(verify(shaped, sizes)?)
+    Ok(verify(alloc, shaped, sizes)?)
 }

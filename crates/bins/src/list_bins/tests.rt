@@ -139,7 +139,7 @@ fn verified<const N: usize>(alloc: Global, instructions: [Insn; N]) -> Result<Ve
         arg: 8,
         result: 8,
     };
-    Ok(verify(shape(program)?, sizes)?)
+    Ok(verify(alloc, shape(program)?, sizes)?)
 }
 
 const ONE: [u8; 8] = [1, 0, 0, 0, 0, 0, 0, 0];

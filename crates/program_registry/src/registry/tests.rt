@@ -22,7 +22,7 @@ fn program_of(alloc: Global, key: u16) -> Option<Verified> {
         arg: 0,
         result: 0,
     };
-    verify(shaped, sizes).ok()
+    verify(alloc, shaped, sizes).ok()
 }
 
 // The declared size of the key, of the program under this number.
