@@ -378,14 +378,12 @@ fn each_size_of_access_is_taken(rt: HostRuntime) -> Result<(), Fail> {
         let text = format!(in rt.alloc(); "{name} r9, [r1+0]\nmov64 r0, -1\nexit\n")?;
         answers(&rt, text.as_str(), "--key 8", "nothing\n")?;
     }
-    for (size, printed) in [
-        ("b", "bytes 07\n"),
-        ("h", "bytes 07 00\n"),
-        ("w", "bytes 07 00 00 00\n"),
-        ("d", "bytes 07 00 00 00 00 00 00 00\n"),
+    for (size, length, printed) in [
+        ("b", 1, "bytes 07\n"),
+        ("h", 2, "bytes 07 00\n"),
+        ("w", 4, "bytes 07 00 00 00\n"),
+        ("d", 8, "bytes 07 00 00 00 00 00 00 00\n"),
     ] {
-        // The answer has as many bytes as were written.
-        let length = (printed.len() - 6) / 3;
         for store in ["st", "stx"] {
             let operand = if store == "st" { "7" } else { "r9" };
             let text = format!(in rt.alloc();
