@@ -1,12 +1,12 @@
 -- A table that is kept as sorted entries: what a read or an edit at a key's place is for the table.
-use Rattle.std.proofs.Common.{◌≡◌, ℕ, ◌<◌, ◌≤◌, Bool, true, false, T, cond, not, List, [], length, get_or, set, Some, None, Result, Ok, Err, OnErr, Ordering, Less, Equal, Greater, is_eq, refl, sym, ap, subst, ◌∙◌}
+use Rattle.std.proofs.Common.{◌≡◌, ℕ, zero, suc, ◌<◌, ◌≤◌, Bool, true, false, T, cond, not, ◌&&◌, is_lt, List, [], ◌∷◌, length, get_or, set, Some, None, Result, Ok, Err, OnErr, Ordering, Less, Equal, Greater, is_eq, refl, sym, ap, subst, ◌∙◌}
 use Rattle.std.specs.List.{insert, remove}
 use Rattle.std.specs.Ordering.{eq_by_cmp}
 use Rattle.std.specs.Cmp.{IsTotalOrder, eq_by_cmp_equiv, alike_right}
 use Rattle.std.specs.Cmp.Lexicographic.{nat_list_cmp_total}
 use Rattle.std.specs.FinMap as map
 use Rattle.std.specs.FinMap.{IsAntisymmetric, nat_cmp-IsAntisymmetric, slice_cmp-IsAntisymmetric, find, put, is_sorted, from_sorted, same_map, same_entries_map, entries-insert, entries-from_sorted, get-remove, get-from_sorted, get_tied, empty_of_len, len-entries}
-use Rattle.std.specs.FinMap.Entries.{where_key, is_sorted-put, is_sorted-where_key, find-where_key}
+use Rattle.std.specs.FinMap.Entries.{below_all, where_key, is_sorted-put, is_sorted-where_key, find-where_key}
 use Rattle.bins.specs.Table.{Entry, Table, by_bytes}
 use Rattle.bins.specs.Places.{IsAt, IsGapFor}
 use Rattle.bins.proofs.SortedEntries.{find_found, put_found, without_found, find_gap, put_gap}
@@ -44,6 +44,20 @@ absent_at m k q Greater none e = refl
 pub remove_absent : (m : Table) (k : List ℕ) → map.get m k ≡ None → map.remove m k ≡ m
 remove_absent m k none = same_map total antisymmetric (map.remove m k) m (λ q. get-remove total m k q ∙ absent_at m k q (by_bytes q k) none refl)
 
+-- to write over a value leaves the keys, so they stay sorted
+below-write : (x : List ℕ) (es : List Entry) (i : ℕ) (v : List ℕ) (d : Entry) → below_all by_bytes x (set es i ((get_or es i d).0, v)) ≡ below_all by_bytes x es
+below-write x [] i v d = refl
+below-write x (e ∷ es) zero v d = refl
+below-write x (e ∷ es) (suc i) v d = ap (λ (b : Bool). is_lt (by_bytes x e.0) && b) (below-write x es i v d)
+
+sorted-write : (es : List Entry) (i : ℕ) (v : List ℕ) (d : Entry) → is_sorted by_bytes (set es i ((get_or es i d).0, v)) ≡ is_sorted by_bytes es
+sorted-write [] i v d = refl
+sorted-write (e ∷ es) zero v d = refl
+sorted-write (e ∷ es) (suc i) v d = ap (λ (b : Bool). b && is_sorted by_bytes (set es i ((get_or es i d).0, v))) (below-write e.0 es i v d) ∙ ap (λ (b : Bool). below_all by_bytes e.0 es && b) (sorted-write es i v d)
+
+pub sorted_write : (es : List Entry) (i : ℕ) (e : Entry) (v : List ℕ) → T (is_sorted by_bytes es) → e ≡ get_or es i e → T (is_sorted by_bytes (set es i (e.0, v)))
+sorted_write es i e v h is = subst T (sym (ap (λ (x : Entry). is_sorted by_bytes (set es i (x.0, v))) is ∙ sorted-write es i v e)) h
+
 module _ (es : List Entry) (h : T (is_sorted by_bytes es)) (k : List ℕ) where
   sorted_put : (v : List ℕ) (new : List Entry) → put by_bytes k v es ≡ new → T (is_sorted by_bytes new)
   sorted_put v new e = subst (λ (xs : List Entry). T (is_sorted by_bytes xs)) e (is_sorted-put by_bytes total k v es h)
@@ -67,14 +81,17 @@ module _ (es : List Entry) (h : T (is_sorted by_bytes es)) (k : List ℕ) where
 
   module _ (i : ℕ) (lt : i < length es) (at : IsAt es k i) where
     -- at the key's place: the value is read, written over, and taken out
+    pub get_at : (d : Entry) → map.get (table_of es) k ≡ Some (get_or es i d).1
+    get_at d = get-from_sorted by_bytes es k h ∙ find_found total es i k d h lt at
+
     pub get_found : (e : Entry) → e ≡ get_or es i e → map.get (table_of es) k ≡ Some e.1
-    get_found e is = get-from_sorted by_bytes es k h ∙ find_found total es i k e h lt at ∙ ap (λ (x : Entry). Some x.1) (sym is)
+    get_found e is = get_at e ∙ ap (λ (x : Entry). Some x.1) (sym is)
 
     put_over : (e : Entry) (v : List ℕ) → e ≡ get_or es i e → put by_bytes k v es ≡ set es i (e.0, v)
     put_over e v is = put_found total es i k v e h lt at ∙ ap (λ (x : Entry). set es i (x.0, v)) (sym is)
 
-    pub sorted_set : (e : Entry) (v : List ℕ) → e ≡ get_or es i e → T (is_sorted by_bytes (set es i (e.0, v)))
-    sorted_set e v is = sorted_put v _ (put_over e v is)
+    pub insert_at : (d : Entry) (v : List ℕ) → table_of (set es i ((get_or es i d).0, v)) ≡ map.insert (table_of es) k v
+    insert_at d v = inserted v _ (put_found total es i k v d h lt at)
 
     pub insert_found : (e : Entry) (v : List ℕ) → e ≡ get_or es i e → table_of (set es i (e.0, v)) ≡ map.insert (table_of es) k v
     insert_found e v is = inserted v _ (put_over e v is)

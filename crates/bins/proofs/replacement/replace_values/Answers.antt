@@ -1,4 +1,5 @@
-use Rattle.std.proofs.Common.{◌≡◌, ℕ, ◌+◌, [], ◌∷◌, ◌++◌, arith, sym, ap, ◌∙◌, Bool, true, false, Ok, length-append}
+use Rattle.std.proofs.Common.{rules, ◌≡◌, ℕ, ◌+◌, [], ◌∷◌, ◌++◌, arith, sym, ap, ◌∙◌, Bool, true, false, Ok, length-append}
+use Rattle.std.proofs.lemmas.Grind.{common_steps}
 use Rattle.bins.specs.Replacements.{is_given, is_unfit}
 use Rattle.bins.proofs.ReplacementLemmas.{outcomes_grow, entries_grow, told_answer, told_window, count_one_more}
 use Rattle.bins.proofs.replacement.replace_values.Goals as goal
@@ -29,4 +30,20 @@ loop-entry-preserved c =
       ];
       few_given = elim c.match-replace_value.branch [ in-Ok-true w ↦ omega arith | in-Ok-false w ↦ omega arith | in-Err w ↦ omega arith ];
       few_unfit = elim c.match-replace_value.branch [ in-Ok-true w ↦ omega arith | in-Ok-false w ↦ omega arith | in-Err w ↦ omega arith ];
+    }
+
+-- what was replaced is all of the list
+pub returns : goal.returns
+returns c =
+    let done = c.loop-entry.invariant in
+    record {
+      each = record {
+        outcomes = done.outcomes;
+        one_each = search rules;
+        are_outcomes = done.are_outcomes;
+        entered = grind (arith, common_steps);
+        scanned = omega (arith, c.args.entries.now.ok.0);
+        given = done.given;
+        unfit = done.unfit;
+      };
     }

@@ -1,21 +1,19 @@
-use Rattle.std.proofs.Common.{sym, ap, ◌∙◌}
+use Rattle.std.proofs.Common.{rules, sym, ap, ◌∙◌}
 use Rattle.std.specs.FinMap as map
 use Rattle.bins.specs.Table.{Table}
-use Rattle.bins.proofs.MapEdits.{on_err_anyway, sorted_set, insert_found, get_gap, sorted_insert, insert_gap}
+use Rattle.bins.proofs.MapEdits.{on_err_anyway, sorted_write, insert_at, get_gap, sorted_insert, insert_gap}
 use Rattle.bins.proofs.list_bins.ListBinsBins.put.Goals as goal
 
 -- the key was there, and its value is written over
 pub invariant_of-self : goal.invariant_of-self
-invariant_of-self c =
-    let bound = rw c.deref.ensures.value at c.in-Ok.ensures.bound in
-    let found = rw c.deref.ensures.value at c.in-Ok.ensures.found in
-    sorted_set _ c.self.invariant _ _ bound found _ _ c.index_mut.ensures.value
+invariant_of-self c = search (rules, sorted_write, c.self.invariant, c.index_mut.ensures.value)
 
 pub returns-in-Ok-clause-ok : goal.returns-in-Ok-clause-ok
 returns-in-Ok-clause-ok c =
     let bound = rw c.deref.ensures.value at c.in-Ok.ensures.bound in
     let found = rw c.deref.ensures.value at c.in-Ok.ensures.found in
-    rw (← c.self.view_is) (insert_found _ c.self.invariant _ _ bound found _ _ c.index_mut.ensures.value)
+    let written = insert_at _ c.self.invariant _ _ bound found c.index_mut.result.now c.args.value in
+    rw (← c.self.view_is) (cc (written, c.index_mut.ensures.value))
 
 -- the entry is added in the gap
 pub invariant_of-self-in-Err : goal.invariant_of-self-in-Err

@@ -1,4 +1,4 @@
-use Rattle.std.proofs.Common.{sym}
+use Rattle.std.proofs.Common.{sym, arith}
 use Rattle.program_registry.proofs.registry.Registry.get.Goals as goal
 
 -- what stands at the number's place was put there by a registration
@@ -7,7 +7,7 @@ returns c = record {
   found = record {
     token = record { place = c.in_ok-place.place };
     mine = c.in_ok-place.ensures.0;
-    number_is = c.in_ok-place.ensures.1;
+    number_is = omega (arith, c.in_ok-place.ensures);
     program_is = sym c.value.ensures;
   };
 }
