@@ -87,10 +87,6 @@ measure() {
 # a program, how often: `verify` is handed what `shape` gives, so what that takes is taken off
 measure_verify() {
     local units
-    if ! $bench verify "$1" 1 > "$work/out" 2>&1; then
-        echo "verify, $1: refused so far"
-        return
-    fi
     units=$(($($bench hex "$1" | tr -d '\n' | wc -c) / 16))
     medians "$1" "$2" shape verify | paste -s | awk -v n=$(($2 * units)) -v what="$1" '{
         printf "verify, %s: %.2f ns a unit (shape before it %.2f ns)\n", what, ($2 - $1) / n, $1 / n }'

@@ -1,7 +1,7 @@
 //! Runs and verifies programs as often as it is told, to be timed from outside.
 //!
 //! `run NAME COUNT`, `verify NAME COUNT` and `shape NAME COUNT` (what `verify` is handed, without `verify`); `hex NAME`
-//! prints a program's bytes. Without words it prints what each program does that `verify` takes so far.
+//! prints a program's bytes. Without words it prints what each program answers.
 #![tactic(auto)]
 
 mod programs;
@@ -100,7 +100,9 @@ fn print_answer(rt: &HostRuntime, name: &str, sample: Sample) -> Result<()> {
 fn print_answers(rt: &HostRuntime) -> Result<()> {
     print_answer(rt, "sum", Sample::Sum)?;
     print_answer(rt, "alu", Sample::Arithmetic)?;
-    print_answer(rt, "straight", Sample::Straight)
+    print_answer(rt, "straight", Sample::Straight)?;
+    print_answer(rt, "jumps", Sample::Jumps)?;
+    print_answer(rt, "ladder", Sample::Ladder)
 }
 
 fn bench(rt: &HostRuntime, word: &str, name: &str, count: &str) -> Result<()> {
