@@ -24,3 +24,6 @@ pub use bpfmap::{
 };
 pub use devices::{Failed, ReadFault, Sink, Source, StreamSink, StreamSource, read_all, write_all};
 pub use striped::{OpenFault, Striped};
+
+#[cfg(test)]
+mod tests;
