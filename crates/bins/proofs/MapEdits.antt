@@ -9,7 +9,7 @@ use Rattle.std.specs.FinMap.{IsAntisymmetric, nat_cmp-IsAntisymmetric, slice_cmp
 use Rattle.std.specs.FinMap.Entries.{below_all, where_key, is_sorted-put, is_sorted-where_key, find-where_key}
 use Rattle.bins.specs.Table.{Entry, Table, by_bytes}
 use Rattle.bins.specs.Places.{IsAt, IsGapFor}
-use Rattle.bins.proofs.SortedEntries.{find_found, put_found, without_found, find_gap, put_gap}
+use Rattle.bins.proofs.SortedEntries.{both_hold, find_found, put_found, without_found, find_gap, put_gap}
 
 -- keys are ordered, and only equal keys tie
 pub total : IsTotalOrder by_bytes
@@ -45,18 +45,35 @@ pub remove_absent : (m : Table) (k : List ℕ) → map.get m k ≡ None → map.
 remove_absent m k none = same_map total antisymmetric (map.remove m k) m (λ q. get-remove total m k q ∙ absent_at m k q (by_bytes q k) none refl)
 
 -- to write over a value leaves the keys, so they stay sorted
-below-write : (x : List ℕ) (es : List Entry) (i : ℕ) (v : List ℕ) (d : Entry) → below_all by_bytes x (set es i ((get_or es i d).0, v)) ≡ below_all by_bytes x es
-below-write x [] i v d = refl
-below-write x (e ∷ es) zero v d = refl
-below-write x (e ∷ es) (suc i) v d = ap (λ (b : Bool). is_lt (by_bytes x e.0) && b) (below-write x es i v d)
+below_all-set : (x : List ℕ) (es : List Entry) (i : ℕ) (v : List ℕ) (d : Entry) → below_all by_bytes x (set es i ((get_or es i d).0, v)) ≡ below_all by_bytes x es
+below_all-set x [] i v d = refl
+below_all-set x (e ∷ es) zero v d = refl
+below_all-set x (e ∷ es) (suc i) v d = ap (λ (b : Bool). is_lt (by_bytes x e.0) && b) (below_all-set x es i v d)
 
-sorted-write : (es : List Entry) (i : ℕ) (v : List ℕ) (d : Entry) → is_sorted by_bytes (set es i ((get_or es i d).0, v)) ≡ is_sorted by_bytes es
-sorted-write [] i v d = refl
-sorted-write (e ∷ es) zero v d = refl
-sorted-write (e ∷ es) (suc i) v d = ap (λ (b : Bool). b && is_sorted by_bytes (set es i ((get_or es i d).0, v))) (below-write e.0 es i v d) ∙ ap (λ (b : Bool). below_all by_bytes e.0 es && b) (sorted-write es i v d)
+is_sorted-set : (es : List Entry) (i : ℕ) (v : List ℕ) (d : Entry) → is_sorted by_bytes (set es i ((get_or es i d).0, v)) ≡ is_sorted by_bytes es
+is_sorted-set [] i v d = refl
+is_sorted-set (e ∷ es) zero v d = refl
+is_sorted-set (e ∷ es) (suc i) v d = ap (λ (b : Bool). b && is_sorted by_bytes (set es i ((get_or es i d).0, v))) (below_all-set e.0 es i v d) ∙ ap (λ (b : Bool). below_all by_bytes e.0 es && b) (is_sorted-set es i v d)
 
 pub sorted_write : (es : List Entry) (i : ℕ) (e : Entry) (v : List ℕ) → T (is_sorted by_bytes es) → e ≡ get_or es i e → T (is_sorted by_bytes (set es i (e.0, v)))
-sorted_write es i e v h is = subst T (sym (ap (λ (x : Entry). is_sorted by_bytes (set es i (x.0, v))) is ∙ sorted-write es i v e)) h
+sorted_write es i e v h is = subst T (sym (ap (λ (x : Entry). is_sorted by_bytes (set es i (x.0, v))) is ∙ is_sorted-set es i v e)) h
+
+-- so do they where an entry is taken out
+together : (a b : Bool) → T a → T b → T (a && b)
+together true b p q = q
+together false b p q = p
+
+below_all-remove : (x : List ℕ) (es : List Entry) (i : ℕ) → T (below_all by_bytes x es) → T (below_all by_bytes x (remove es i))
+below_all-remove x [] zero h = tt
+below_all-remove x [] (suc i) h = tt
+below_all-remove x (e ∷ es) zero h = (both_hold _ _ h).1
+below_all-remove x (e ∷ es) (suc i) h = together _ _ (both_hold _ _ h).0 (below_all-remove x es i (both_hold _ _ h).1)
+
+pub sorted_remove : (es : List Entry) (i : ℕ) → T (is_sorted by_bytes es) → T (is_sorted by_bytes (remove es i))
+sorted_remove [] zero h = tt
+sorted_remove [] (suc i) h = tt
+sorted_remove (e ∷ es) zero h = (both_hold _ _ h).1
+sorted_remove (e ∷ es) (suc i) h = together _ _ (below_all-remove e.0 es i (both_hold _ _ h).0) (sorted_remove es i (both_hold _ _ h).1)
 
 module _ (es : List Entry) (h : T (is_sorted by_bytes es)) (k : List ℕ) where
   sorted_put : (v : List ℕ) (new : List Entry) → put by_bytes k v es ≡ new → T (is_sorted by_bytes new)
@@ -84,9 +101,6 @@ module _ (es : List Entry) (h : T (is_sorted by_bytes es)) (k : List ℕ) where
     pub get_at : (d : Entry) → map.get (table_of es) k ≡ Some (get_or es i d).1
     get_at d = get-from_sorted by_bytes es k h ∙ find_found total es i k d h lt at
 
-    pub get_found : (e : Entry) → e ≡ get_or es i e → map.get (table_of es) k ≡ Some e.1
-    get_found e is = get_at e ∙ ap (λ (x : Entry). Some x.1) (sym is)
-
     put_over : (e : Entry) (v : List ℕ) → e ≡ get_or es i e → put by_bytes k v es ≡ set es i (e.0, v)
     put_over e v is = put_found total es i k v e h lt at ∙ ap (λ (x : Entry). set es i (x.0, v)) (sym is)
 
@@ -95,9 +109,6 @@ module _ (es : List Entry) (h : T (is_sorted by_bytes es)) (k : List ℕ) where
 
     pub insert_found : (e : Entry) (v : List ℕ) → e ≡ get_or es i e → table_of (set es i (e.0, v)) ≡ map.insert (table_of es) k v
     insert_found e v is = inserted v _ (put_over e v is)
-
-    pub sorted_remove : T (is_sorted by_bytes (remove es i))
-    sorted_remove = sorted_without _ (without_found total es i k h lt at)
 
     pub remove_found : table_of (remove es i) ≡ map.remove (table_of es) k
     remove_found = removed _ (without_found total es i k h lt at)

@@ -16,6 +16,7 @@ use Rattle.bins.specs.declared.counts.Counts.{Counts}
 use Rattle.bins.specs.Table.{Entry, by_bytes}
 use Rattle.bins.specs.Replacements.{Outcome, ComesTo, value_after, is_given, is_unfit, ReplacesEach}
 use Rattle.bins.specs.Passes.{told_of, AreOutcomes, entries_after, ReplacesList}
+use Rattle.bins.proofs.SortedEntries.{both_hold}
 use Rattle.bins.proofs.MapEdits.{total, antisymmetric}
 
 pub length-entries_after : (es : List Entry) (os : List Outcome) → length (entries_after es os) ≡ length es
@@ -131,10 +132,6 @@ find-entries_after (e ∷ es) (o ∷ os) k one_each =
       | false ↦ find-entries_after es os k (omega (arith, one_each))
     ]
 
-both : (a b : Bool) → T (a && b) → T a × T b
-both true b h = (tt, h)
-both false b h = absurd h
-
 below_is_other : (x y : List ℕ) → T (is_lt (by_bytes x y)) → eq_by_cmp by_bytes y x ≡ false
 below_is_other x y h = (eq_by_cmp_equiv total).symm y x ∙ is_other (by_bytes x y) h
   where
@@ -156,7 +153,7 @@ count_above : (p : Outcome → Bool) (x : List ℕ) (o : Outcome) (es fs : List 
     → count_by (λ (e : Entry). p (cond (eq_by_cmp by_bytes e.0 x) o (outcome_at es os e.0))) fs ≡ count_by (λ (e : Entry). p (outcome_at es os e.0)) fs
 count_above p x o es [] os h = refl
 count_above p x o es (f ∷ fs) os h =
-    let halves = both _ _ h in
+    let halves = both_hold _ _ h in
     count_cons (λ (e : Entry). p (cond (eq_by_cmp by_bytes e.0 x) o (outcome_at es os e.0))) f fs
     ∙ ap (λ (b : Bool). one (p (cond b o (outcome_at es os f.0))) + count_by (λ (e : Entry). p (cond (eq_by_cmp by_bytes e.0 x) o (outcome_at es os e.0))) fs) (below_is_other x f.0 halves.0)
     ∙ ap (λ (n : ℕ). one (p (outcome_at es os f.0)) + n) (count_above p x o es fs os halves.1)
@@ -170,7 +167,7 @@ count_by-outcome_at p [] [] h one_each = refl
 count_by-outcome_at p [] (o ∷ os) h one_each = absurd (omega (arith, one_each))
 count_by-outcome_at p (e ∷ es) [] h one_each = absurd (omega (arith, one_each))
 count_by-outcome_at p (e ∷ es) (o ∷ os) h one_each =
-    let halves = both _ _ h in
+    let halves = both_hold _ _ h in
     count_cons p o os
     ∙ ap (λ (n : ℕ). one (p o) + n) (count_by-outcome_at p es os halves.1 (omega (arith, one_each)) ∙ sym (count_above p e.0 o es es os halves.0))
     ∙ ap (λ (r : Ordering). one (p (cond (is_eq r) o (outcome_at es os e.0))) + count_by (λ (f : Entry). p (cond (eq_by_cmp by_bytes f.0 e.0) o (outcome_at es os f.0))) es) (sym (tied_itself total e.0))

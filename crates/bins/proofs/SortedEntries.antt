@@ -8,7 +8,8 @@ use Rattle.std.specs.FinMap.{find, put, is_sorted}
 use Rattle.std.specs.FinMap.Entries.{where_key, below_all}
 use Rattle.std.proofs.lemmas.Bool.{cases_lt}
 
-both_hold : (a b : Bool) → T (a && b) → T a × T b
+-- of two tests that both hold, each holds
+pub both_hold : (a b : Bool) → T (a && b) → T a × T b
 both_hold true b h = (tt, h)
 both_hold false b h = absurd h
 
