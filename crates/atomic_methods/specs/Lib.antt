@@ -1,0 +1,3 @@
+pub mod Invocations
+pub mod Methods
+pub mod Plans

@@ -1,0 +1,15 @@
+//! The methods of a map, each one step on one key, over whatever keeps the entries.
+//!
+//! The promise to the layers above: `apply` does to the entries, and replies, what the definition of its method says
+//! (`Answers`), and so does `Striped::apply` to a whole table; `Striped::run` makes a list of calls as the sequential map
+//! would, one after the other (`AnswersInTurn`).
+//! `NoMemory` comes only where a call would have added its key, and the entries are then as before. A call that adds no
+//! key takes no memory, and none waits. What each method does: `specs/Methods.antt`; lists of calls: `specs/Runs.antt`.
+#![tactic(auto)]
+
+mod call;
+mod plan;
+mod reply;
+
+pub use call::Call;
+pub use reply::Reply;
