@@ -1,24 +1,12 @@
 //! Bytes from programs.
 ghost use Rattle.std.specs.Prelude.{◌≡◌, ◌+◌, ◌*◌, ◌≤◌, ◌++◌, length, IfOk};
 ghost use Rattle.std.specs.Vec.{vec_capacity};
-ghost use Rattle.bpf_model.specs.declared.limits.TheConstants.{PROGRAM_UNITS as MOST_UNITS};
-ghost use Rattle.bpf_model.specs.Program.{units_of, unit_count};
+ghost use Rattle.bpf_model.specs.Program.{units_of};
 ghost use Rattle.bpf_model.specs.Spelling.{Spells, spelling, IsInstruction};
 
 use crate::unit::{Fields, UNIT_BYTES};
 use bpf_model::{Insn, NoMemory, Program};
 use std::alloc::Global;
-
-fn units(instructions: &[Insn]) -> usize
-    requires { unit_count instructions.now ≤ MOST_UNITS }
-    ensures { result ≡ unit_count instructions.now }
-{
-    let mut units = 0;
-    for insn in instructions {
-        units += insn.units();
-    }
-    units
-}
 
 fn write(bytes: &mut Vec<u8>, insn: &Insn)
     requires { length bytes.old.items + 8 * units_of insn.now ≤ vec_capacity bytes.old }
@@ -41,7 +29,7 @@ pub fn encode(alloc: Global, program: &Program) -> Result<Vec<u8>, NoMemory>
     ensures spelled { IfOk result (λ v. Spells v.items program.now) }
 {
     let instructions = program.instructions();
-    let mut bytes = Vec::with_capacity(alloc, UNIT_BYTES * units(instructions))?;
+    let mut bytes = Vec::with_capacity(alloc, UNIT_BYTES * Insn::count_units(instructions))?;
     for insn in instructions {
         write(&mut bytes, insn);
     }

@@ -1,6 +1,6 @@
 //! Instructions.
 ghost use Rattle.std.specs.Prelude.{◌≡◌, ◌≤◌, ◌↔◌, IsSome, IfSome};
-ghost use Rattle.bpf_model.specs.Program.{units_of};
+ghost use Rattle.bpf_model.specs.Program.{units_of, unit_count};
 ghost use Rattle.bpf_model.specs.Words.{sign_extended};
 
 use crate::accesses::{AccessSize, LoadKind};
@@ -144,5 +144,16 @@ impl Insn {
             Insn::Wide { .. } => 2,
             _ => 1,
         }
+    }
+
+    /// How many units the instructions take in all.
+    pub fn count_units(instructions: &[Insn]) -> usize
+        ensures value { result ≡ unit_count instructions.now }
+    {
+        let mut units = 0;
+        for insn in instructions {
+            units += insn.units();
+        }
+        units
     }
 }

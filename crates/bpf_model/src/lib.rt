@@ -23,7 +23,7 @@ pub mod region;
 pub use accesses::{AccessSize, LoadKind};
 pub use bytes::{Key, TooLong, Value};
 pub use conditions::{Condition, JumpOp};
-pub use input::{Answer, Input, Sizes, Window, fits};
+pub use input::{Answer, Input, Sizes, Window, fits, fits_parts};
 pub use instruction::{Insn, Operand, Reg, immediate_word};
 pub use memory::NoMemory;
 pub use operations::{AluOp, ByteOrder, SignExtension, SwapWidth, Width};

@@ -1,6 +1,6 @@
 //! Programs.
-ghost use Rattle.std.specs.Prelude.{◌≡◌, ◌≤◌, ◌<◌, ◌↔◌, List, length, IsSome, IfSome, IsTrue};
-ghost use Rattle.bpf_model.specs.Program.{IsProgram, unit_count};
+ghost use Rattle.std.specs.Prelude.{◌≡◌, ◌≤◌, ◌<◌, ◌↔◌, List, length, IsSome, IfSome};
+ghost use Rattle.bpf_model.specs.Program.{IsProgram};
 
 use crate::instruction::Insn;
 use crate::limits::PROGRAM_UNITS;
@@ -30,7 +30,7 @@ impl Program {
         ensures some { IsSome result ↔ IsProgram instructions.items }
         ensures value { IfSome result (λ p. p ≡ instructions.items) }
     {
-        if instructions.is_empty() || !fit_in_a_program(instructions.as_slice()) {
+        if instructions.is_empty() || Insn::count_units(instructions.as_slice()) > PROGRAM_UNITS {
             return None;
         }
         Some(Program { instructions })
@@ -43,18 +43,4 @@ impl Program {
     {
         self.instructions.as_slice()
     }
-}
-
-/// Whether the instructions have at most 512 units in all. Stops where they pass them.
-fn fit_in_a_program(instructions: &[Insn]) -> bool
-    ensures { IsTrue result ↔ (unit_count instructions.now ≤ PROGRAM_UNITS) }
-{
-    let mut units = 0;
-    for insn in instructions {
-        units += insn.units();
-        if units > PROGRAM_UNITS {
-            return false;
-        }
-    }
-    true
 }
