@@ -8,8 +8,11 @@
 #![tactic(auto)]
 
 mod call;
+mod methods;
 mod plan;
+mod program;
 mod reply;
 
 pub use call::Call;
+pub use methods::apply;
 pub use reply::Reply;

@@ -25,8 +25,6 @@ pub enum Change<'c> {
 pub enum Told {
     /// The value that the key had, if any.
     Old,
-    /// The value that the key has then.
-    New,
     /// Whether the value was the expected one.
     Done(bool),
 }
@@ -36,6 +34,8 @@ pub enum Told {
 pub enum Plan<'c> {
     /// The change and what is replied.
     Settled(Change<'c>, Told),
+    /// The key has this value then, which is replied.
+    Give(&'c Value),
     /// The program is run with this argument; what it answers becomes the key's value and is replied.
     Run(&'c Verified, Option<&'c Value>),
 }
@@ -45,8 +45,8 @@ pub fn plan_of<'c>(call: &'c Call, old: Option<&Value>) -> Plan<'c>
     ensures { rule_by result (option_copied old.entry) ≡ rule_of (invocation_of call.now).method (option_copied old.entry) }
 {
     use Change::{Enter, Keep, Remove};
-    use Plan::{Run, Settled};
-    use Told::{Done, New, Old};
+    use Plan::{Give, Run, Settled};
+    use Told::{Done, Old};
     match call {
         Call::Get { .. } => Settled(Keep, Old),
         Call::Put { value, .. } => Settled(Enter(value), Old),
@@ -78,7 +78,7 @@ pub fn plan_of<'c>(call: &'c Call, old: Option<&Value>) -> Plan<'c>
         },
         Call::Merge { value, program, .. } => match old {
             Some(_) => Run(program, Some(value)),
-            None => Settled(Enter(value), New),
+            None => Give(value),
         },
     }
 }
