@@ -13,4 +13,4 @@ mod machine;
 mod places;
 mod windows;
 
-pub use execution::run;
+pub use execution::{run, run_into};

@@ -1,22 +1,9 @@
 //! Places in the list of instructions, by the units that the instructions take.
-ghost use Rattle.std.specs.Prelude.{◌≡◌, ◌≤◌, ◌<◌, length, take, IsSome};
+ghost use Rattle.std.specs.Prelude.{◌≡◌, ◌<◌, length, take, IsSome};
 ghost use Rattle.bpf_model.specs.Program.{IsProgram, unit_count, instruction_at};
 ghost use Rattle.bpf_machine.specs.Places.{HasTarget, IsPlaceAfter};
 
 use bpf_model::Insn;
-use bpf_model::limits::PROGRAM_UNITS;
-
-/// The units of all the instructions.
-fn units_of_all(instructions: &[Insn]) -> usize
-    requires { unit_count instructions.now ≤ PROGRAM_UNITS }
-    ensures { result ≡ unit_count instructions.now }
-{
-    let mut count = 0;
-    for insn in instructions {
-        count += insn.units();
-    }
-    count
-}
 
 /// The place of the instruction that starts at this unit. Costs a step for each instruction before it.
 fn place_of(instructions: &[Insn], unit: usize) -> usize
@@ -51,6 +38,6 @@ pub(crate) fn place_after(program: &[Insn], place: usize, distance: i32) -> usiz
     if distance > 0 {
         next + place_of(&program[next..], far)
     } else {
-        place_of(program, units_of_all(&program[..next]) - far)
+        place_of(program, Insn::count_units(&program[..next]) - far)
     }
 }

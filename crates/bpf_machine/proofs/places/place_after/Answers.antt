@@ -2,7 +2,6 @@ use Rattle.std.proofs.Common.{◌≡◌, ℕ, ◌+◌, take, subst, ◌∙◌, a
 use Rattle.std.specs.Prelude.{IsSome}
 use Rattle.std.proofs.lemmas.Int.{ints}
 use Rattle.bpf_model.specs.Program.{unit_count, instruction_at}
-use Rattle.bpf_model.proofs.ProgramLemmas.{unit_count-take}
 use Rattle.bpf_machine.proofs.PlaceLemmas.{rest_is, instruction_at-drop, unit_count-more}
 use Rattle.bpf_machine.proofs.places.place_after.Goals as goal
 
@@ -14,9 +13,6 @@ place_of-requires c =
     let unit : c.requires.target.unit ≡ unit_count (take next xs) + far = omega (arith, ints, c.requires.target.is, c.unsigned_abs-far.ensures.value, c.if-distance-gt0.true) in
     let starts = subst (λ (u : ℕ). IsSome (instruction_at xs u)) unit c.requires.target.starts in
     rw (rest_is xs next) (rw (instruction_at-drop xs next far) at starts)
-
-pub units_of_all-requires : goal.units_of_all-requires
-units_of_all-requires c = omega (arith, unit_count-take c.args.program.now (c.args.place + 1), c.requires.program.few)
 
 pub returns-then-distance-gt0 : goal.returns-then-distance-gt0
 returns-then-distance-gt0 c = λ unit h.

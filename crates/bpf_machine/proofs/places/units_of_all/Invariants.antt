@@ -1,7 +1,0 @@
-use Rattle.std.proofs.Common.{◌≡◌, take}
-use Rattle.bpf_model.specs.Program.{unit_count}
-use Rattle.bpf_machine.proofs.places.units_of_all.Given as goal
-
--- the units of the instructions so far
-abbrev pub invariant-loop-insn : goal.invariant-loop-insn
-invariant-loop-insn l = l.count ≡ unit_count (take l.insn-index l.instructions)
