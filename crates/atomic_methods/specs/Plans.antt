@@ -48,7 +48,3 @@ reply_by (IsUnfit window) bytes = Unfit window
 abbrev pub where_true : Bool → List ℕ → Option (List ℕ)
 where_true true value = Some value
 where_true false value = None
-
-abbrev pub answer_by : Bool → List ℕ → Answer
-answer_by true bytes = Bytes bytes
-answer_by false bytes = Nothing

@@ -1,13 +1,12 @@
 //! What a program makes of a key.
 ghost use Rattle.std.specs.Prelude.{◌≡◌};
 ghost use Rattle.std.specs.Option.{option_copied};
-ghost use Rattle.bpf_model.specs.Fits.{input_of, Fits};
-ghost use Rattle.bpf_model.specs.Meaning.{Means};
+ghost use Rattle.bpf_model.specs.Fits.{input_of};
 ghost use Rattle.bins.specs.Replacements.{ComesTo};
-ghost use Rattle.atomic_methods.specs.Plans.{outcome_by, answer_by};
+ghost use Rattle.atomic_methods.specs.Plans.{outcome_by};
 
-use bpf_machine::run;
-use bpf_model::{Answer, Input, Key, Value, Window, fits_parts};
+use bpf_machine::run_into;
+use bpf_model::{Key, Value, Window, fits_parts};
 use verifier::Verified;
 
 /// Runs the program on the key, its value and the argument: whether it answers bytes, which are then in `answer`; an
@@ -26,26 +25,4 @@ pub fn answer_into(
 {
     fits_parts(&program.sizes(), key, old, arg)?;
     Ok(run_into(program, key, old, arg, answer))
-}
-
-// As bpf_machine's will be.
-fn run_into(program: &Verified, key: &Key, old: Option<&Value>, arg: Option<&Value>, answer: &mut Value) -> bool
-    requires { Fits (input_of key.now (option_copied old) (option_copied arg)) program.now.sizes }
-    ensures {
-        let input = input_of key.now (option_copied old.entry) (option_copied arg.entry) in
-        Means program.now.program program.now.sizes input (answer_by result answer.new)
-    }
-{
-    let input = Input {
-        key: key.copied(),
-        old: old.map(Value::copied),
-        arg: arg.map(Value::copied),
-    };
-    match run(program, &input) {
-        Answer::Nothing => false,
-        Answer::Bytes(value) => {
-            answer.set_from(value.as_slice());
-            true
-        }
-    }
 }

@@ -15,4 +15,4 @@ pub returns-else-enters-clause-ok : goal.returns-else-enters-clause-ok
 returns-else-enters-clause-ok g c =
     let none = rw c.key.ensures at c.in-None.ensures.value in
     let stays = rw c.if-enters.false at c.new_value-enters.ensures in
-    (None, (rw none at stays, sym (remove_absent _ _ (sym none))))
+    (None, (rw (← none) stays, sym (remove_absent _ _ (sym none))))
