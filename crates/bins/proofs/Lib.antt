@@ -1,2 +1,3 @@
 pub mod SortedEntries
 pub mod MapEdits
+pub mod ReplacementLemmas

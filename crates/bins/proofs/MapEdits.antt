@@ -15,7 +15,7 @@ use Rattle.bins.proofs.SortedEntries.{find_found, put_found, without_found, find
 pub total : IsTotalOrder by_bytes
 total = nat_list_cmp_total
 
-antisymmetric : IsAntisymmetric by_bytes
+pub antisymmetric : IsAntisymmetric by_bytes
 antisymmetric = slice_cmp-IsAntisymmetric nat_cmp-IsAntisymmetric
 
 -- what holds anyway holds where there is an error

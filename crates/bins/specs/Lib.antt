@@ -2,3 +2,4 @@ pub mod Table
 pub mod Places
 pub mod Lending
 pub mod Replacements
+pub mod Passes

@@ -6,7 +6,7 @@ use Rattle.bpf_model.specs.declared.input.Input.{Input}
 use Rattle.bpf_model.specs.declared.input.Answer.{Answer}
 use Rattle.bpf_model.specs.declared.input.Answer.TheVariants.{Nothing, Bytes}
 use Rattle.bpf_model.specs.declared.input.Window.{Window}
-use Rattle.bpf_model.specs.Fits.{first_unfit}
+use Rattle.bpf_model.specs.Fits.{input_of, first_unfit}
 use Rattle.bpf_model.specs.Meaning.{Means}
 use Rattle.verifier.specs.Checked.{Checked}
 use Rattle.bins.specs.declared.counts.Counts.{Counts}
@@ -38,7 +38,7 @@ pub record ReplacesEach (checked : Checked) (arg : Option (List ℕ)) (old new :
   -- what the program came to at each key
   pub outcome : List ℕ → Result Answer Window
   pub comes_to : (key value : List ℕ) → map.get old key ≡ Some value
-      → ComesTo checked (record { key = key; old = Some value; arg = arg }) (outcome key)
+      → ComesTo checked (input_of key (Some value) arg) (outcome key)
   pub values : (key : List ℕ) → map.get new key ≡ option_map (value_after (outcome key)) (map.get old key)
   pub scanned : counts.scanned ≡ map.len old
   pub given : counts.given ≡ count_by (λ entry. is_given (outcome entry.0)) (map.entries old)

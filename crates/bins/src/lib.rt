@@ -3,6 +3,9 @@
 
 mod bins;
 mod counts;
+mod list_bins;
+mod replacement;
 
 pub use bins::Bins;
 pub use counts::Counts;
+pub use list_bins::ListBins;

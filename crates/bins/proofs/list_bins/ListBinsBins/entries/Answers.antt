@@ -1,0 +1,10 @@
+use Rattle.std.proofs.Common.{sym, ap, ◌∙◌}
+use Rattle.std.specs.FinMap as map
+use Rattle.std.specs.FinMap.{entries-from_sorted}
+use Rattle.bins.specs.Table.{Table, by_bytes}
+use Rattle.bins.proofs.list_bins.ListBinsBins.entries.Goals as goal
+
+pub returns : goal.returns
+returns c =
+    let listed = entries-from_sorted by_bytes c.self.inside.entries.items c.self.invariant in
+    record { ok = c.in_ok-copies_of.ensures ∙ c.deref.ensures.value ∙ sym listed ∙ ap (λ (t : Table). map.entries t) c.self.view_is }

@@ -1,0 +1,38 @@
+use Rattle.std.proofs.Common.{sym, ap, ◌∙◌}
+use Rattle.std.specs.FinMap as map
+use Rattle.bins.specs.Table.{Table}
+use Rattle.bins.proofs.MapEdits.{on_err_anyway, sorted_set, insert_found, get_gap, sorted_insert, insert_gap}
+use Rattle.bins.proofs.list_bins.ListBinsBins.put.Goals as goal
+
+-- the key was there, and its value is written over
+pub invariant_of-self : goal.invariant_of-self
+invariant_of-self c =
+    let bound = rw c.deref.ensures.value at c.in-Ok.ensures.bound in
+    let found = rw c.deref.ensures.value at c.in-Ok.ensures.found in
+    sorted_set _ c.self.invariant _ _ bound found _ _ c.index_mut.ensures.value
+
+pub returns-in-Ok-clause-ok : goal.returns-in-Ok-clause-ok
+returns-in-Ok-clause-ok c =
+    let bound = rw c.deref.ensures.value at c.in-Ok.ensures.bound in
+    let found = rw c.deref.ensures.value at c.in-Ok.ensures.found in
+    rw (← c.self.view_is) (insert_found _ c.self.invariant _ _ bound found _ _ c.index_mut.ensures.value)
+
+-- the entry is added in the gap
+pub invariant_of-self-in-Err : goal.invariant_of-self-in-Err
+invariant_of-self-in-Err c =
+    let bound = rw c.deref.ensures.value at c.in-Err.ensures.bound in
+    let absent = rw c.deref.ensures.value at c.in-Err.ensures.absent in
+    rw c.in_ok-insert-in-Err.ensures.items (sorted_insert _ c.self.invariant _ _ bound absent _)
+
+pub returns-in_ok-insert-in-Err-clause-ok : goal.returns-in_ok-insert-in-Err-clause-ok
+returns-in_ok-insert-in-Err-clause-ok c =
+    let bound = rw c.deref.ensures.value at c.in-Err.ensures.bound in
+    let absent = rw c.deref.ensures.value at c.in-Err.ensures.absent in
+    rw (c.in_ok-insert-in-Err.ensures.items, ← c.self.view_is) (insert_gap _ c.self.invariant _ _ bound absent _)
+
+-- memory fails only for a key that was not there
+pub returns-in_err-insert-in-Err-clause-memory : goal.returns-in_err-insert-in-Err-clause-memory
+returns-in_err-insert-in-Err-clause-memory c =
+    let bound = rw c.deref.ensures.value at c.in-Err.ensures.bound in
+    let absent = rw c.deref.ensures.value at c.in-Err.ensures.absent in
+    on_err_anyway _ (sym (ap (λ (table : Table). map.get table c.args.key) c.self.view_is) ∙ get_gap _ c.self.invariant _ _ bound absent)

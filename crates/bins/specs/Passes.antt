@@ -1,0 +1,45 @@
+-- The replacement of one value, and of each value of a list in its order.
+use Rattle.std.specs.Prelude.{◌≡◌, ℕ, ⊤, Bool, true, false, List, [], ◌∷◌, length, Option, Some, Result, Ok, Err, count_by}
+use Rattle.bpf_model.specs.declared.input.Answer.{Answer}
+use Rattle.bpf_model.specs.declared.input.Answer.TheVariants.{Nothing, Bytes}
+use Rattle.bpf_model.specs.declared.input.Window.{Window}
+use Rattle.bpf_model.specs.Fits.{input_of}
+use Rattle.verifier.specs.Checked.{Checked}
+use Rattle.bins.specs.declared.counts.Counts.{Counts}
+use Rattle.bins.specs.Replacements.{ComesTo, value_after, is_given, is_unfit}
+
+-- what is told of a replacement: whether a value was entered, or the window
+abbrev pub told_of : Result Answer Window → Result Bool Window
+told_of (Ok (Bytes new)) = Ok true
+told_of (Ok Nothing) = Ok false
+told_of (Err window) = Err window
+
+-- one key's value was replaced by what the program comes to on it, and this was told
+pub record Replaces (checked : Checked) (key : List ℕ) (arg : Option (List ℕ)) (value new : List ℕ) (told : Result Bool Window) : Type 0 where
+  pub outcome : Result Answer Window
+  pub comes_to : ComesTo checked (input_of key (Some value) arg) outcome
+  pub entered : new ≡ value_after outcome value
+  pub is_told : told ≡ told_of outcome
+
+-- each outcome is the program's at the entry in its place; there may be fewer outcomes
+abbrev pub AreOutcomes : Checked → Option (List ℕ) → List (List ℕ × List ℕ) → List (Result Answer Window) → Type 0
+AreOutcomes checked arg entries [] = ⊤
+AreOutcomes checked arg [] (outcome ∷ outcomes) = ⊥
+AreOutcomes checked arg (entry ∷ entries) (outcome ∷ outcomes) =
+    ComesTo checked (input_of entry.0 (Some entry.1) arg) outcome × AreOutcomes checked arg entries outcomes
+
+-- entries after these outcomes of the first of them
+abbrev pub entries_after : List (List ℕ × List ℕ) → List (Result Answer Window) → List (List ℕ × List ℕ)
+entries_after entries [] = entries
+entries_after [] (outcome ∷ outcomes) = []
+entries_after (entry ∷ entries) (outcome ∷ outcomes) = (entry.0, value_after outcome entry.1) ∷ entries_after entries outcomes
+
+-- each entry's value was replaced once, in the order of the list
+pub record ReplacesList (checked : Checked) (arg : Option (List ℕ)) (old new : List (List ℕ × List ℕ)) (counts : Counts) : Type 0 where
+  pub outcomes : List (Result Answer Window)
+  pub one_each : length outcomes ≡ length old
+  pub are_outcomes : AreOutcomes checked arg old outcomes
+  pub entered : new ≡ entries_after old outcomes
+  pub scanned : counts.scanned ≡ length old
+  pub given : counts.given ≡ count_by is_given outcomes
+  pub unfit : counts.unfit ≡ count_by is_unfit outcomes

@@ -1,0 +1,110 @@
+//! Entries in one list, sorted by key.
+ghost use Rattle.std.specs.Prelude.{◌≡◌, T, length, IfOk, IfErr};
+ghost use Rattle.std.specs.List.Sorted.{IsSearchInRange};
+ghost use Rattle.std.specs.FinMap.{is_sorted};
+ghost use Rattle.bins.specs.Table.{by_bytes};
+ghost use Rattle.bins.specs.Places.{IsAt, IsGapFor};
+
+use crate::bins::Bins;
+use crate::counts::Counts;
+use crate::replacement::replace_values;
+use bpf_model::{Key, NoMemory, Value};
+use std::alloc::{AllocError, Global};
+use std::marker::Model;
+use verifier::Verified;
+
+/// The entries in one list, sorted by key. A search halves the list; a new key moves the entries behind it.
+#[derive(Drop)]
+pub struct ListBins {
+    entries: Vec<(Key, Value)>,
+}
+
+impl Model for ListBins {
+    ghost use Rattle.std.specs.Prelude.{T};
+    ghost use Rattle.std.specs.FinMap as map;
+    ghost use Rattle.bins.specs.Table.{Table, table_code, by_bytes};
+
+    ghost Value = { Table };
+
+    ghost coded = { table_code };
+
+    ghost view = { λ b. map.from_sorted b.entries.items };
+
+    ghost invariant = { λ b. T (map.is_sorted by_bytes b.entries.items) };
+}
+
+// Where the key stands, or where it would go.
+fn place_of(entries: &[(Key, Value)], key: &Key) -> Result<usize, usize>
+    requires { T (is_sorted by_bytes entries.now) }
+    ensures bound { IsSearchInRange result (length entries.now) }
+    ensures found { IfOk result (IsAt entries.now key.now) }
+    ensures absent { IfErr result (IsGapFor entries.now key.now) }
+{
+    entries.binary_search_by(|entry| entry.0.cmp(key))
+}
+
+// The entries once more, in room for just these.
+fn copies_of(alloc: Global, entries: &[(Key, Value)]) -> Result<Vec<(Key, Value)>, AllocError>
+    ensures { IfOk result (λ copies. copies.items ≡ entries.now) }
+{
+    let copies = entries
+        .iter()
+        .map(|(key, value)| (key.copied(), value.copied()));
+    copies.collect(alloc)
+}
+
+impl Bins for ListBins {
+    ghost use Rattle.std.proofs.Common.{refl};
+    ghost use Rattle.std.specs.FinMap as map;
+
+    ghost table = { λ bins. bins };
+
+    ghost entered = { λ bins key value. map.insert bins key value };
+
+    ghost is_entered = { λ bins key value. refl };
+
+    fn open(alloc: Global, _stripes: u64) -> Result<ListBins, NoMemory> {
+        Ok(ListBins {
+            entries: Vec::new(alloc),
+        })
+    }
+
+    fn find(&self, key: &Key) -> Option<&Value> {
+        match place_of(&self.entries, key) {
+            Ok(place) => Some(&self.entries[place].1),
+            Err(_) => None,
+        }
+    }
+
+    fn find_mut(&mut self, key: &Key) -> Option<&mut Value> {
+        match place_of(&self.entries, key) {
+            Ok(place) => Some(&mut self.entries[place].1),
+            Err(_) => None,
+        }
+    }
+
+    fn put(&mut self, key: Key, value: Value) -> Result<(), NoMemory> {
+        match place_of(&self.entries, &key) {
+            Ok(place) => {
+                self.entries[place].1 = value;
+                Ok(())
+            }
+            Err(place) => Ok(self.entries.insert(place, (key, value))?),
+        }
+    }
+
+    fn remove(&mut self, key: &Key) -> Option<Value> {
+        match place_of(&self.entries, key) {
+            Ok(place) => Some(self.entries.remove(place).1),
+            Err(_) => None,
+        }
+    }
+
+    fn entries(&self, alloc: Global) -> Result<Vec<(Key, Value)>, NoMemory> {
+        Ok(copies_of(alloc, &self.entries)?)
+    }
+
+    fn replace_each(&mut self, program: &Verified, arg: &Option<Value>) -> Counts {
+        replace_values(&mut self.entries, program, arg)
+    }
+}
