@@ -1,1 +1,4 @@
 pub mod TableLemmas
+pub mod StripeLemmas
+pub mod EntryLemmas
+pub mod WholeLemmas

@@ -8,11 +8,17 @@
 #![tactic(auto)]
 
 mod call;
+mod fault;
 mod methods;
 mod plan;
 mod program;
 mod reply;
+mod striped;
+mod stripes;
 
 pub use call::Call;
+pub use fault::OpenFault;
 pub use methods::apply;
 pub use reply::Reply;
+pub use striped::{Stopped, Striped};
+pub use stripes::{MAX_STRIPES, hash_of, is_stripe_count, stripe_of};
