@@ -2,3 +2,5 @@ pub mod TableLemmas
 pub mod StripeLemmas
 pub mod EntryLemmas
 pub mod WholeLemmas
+pub mod RunLemmas
+pub mod SortLemmas

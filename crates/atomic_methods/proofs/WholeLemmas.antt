@@ -1,10 +1,12 @@
 -- A table in stripes: where a key is found, and what an edit of one stripe is to the whole.
-use Rattle.std.proofs.Common.{◌≡◌, ◌≢◌, ℕ, zero, suc, ◌<◌, ◌≤◌, Bool, true, false, cond, List, [], ◌∷◌, ◌++◌, length, get_or, set, Option, Some, None, Ordering, Less, Equal, Greater, is_eq, refl, sym, ap, subst, ◌∙◌, arith, inl, inr}
+use Rattle.std.proofs.Common.{◌≡◌, ◌≢◌, ℕ, zero, suc, ◌<◌, ◌≤◌, Bool, true, false, cond, List, [], ◌∷◌, ◌++◌, length, get_or, set, take, ◌+◌, Option, Some, None, Result, Ok, Err, IfOk, OnErr, Ordering, Less, Equal, Greater, is_eq, refl, sym, ap, subst, ◌∙◌, arith, inl, inr}
 use Rattle.std.specs.Ordering.{eq_by_cmp}
 use Rattle.std.specs.FinMap as map
 use Rattle.std.specs.FinMap.{find, get-empty, get-insert, get-remove, get-entries, get-from_entries, same_map, entries_sorted}
 use Rattle.std.proofs.lemmas.Bool.{cases_eq}
-use Rattle.std.proofs.lemmas.List.{length-set, get_or-set_same, get_or-set_other}
+use Rattle.std.proofs.lemmas.List.{length-set, get_or-set_same, get_or-set_other, get_or_read, set-get_or, take_more, append-nil}
+use Rattle.std.proofs.lemmas.Grind.{flat_map-append}
+use Rattle.bpf_model.specs.declared.memory.NoMemory.{NoMemory}
 use Rattle.bins.specs.Table.{Table, by_bytes}
 use Rattle.atomic_methods.specs.declared.reply.Reply.{Reply}
 use Rattle.atomic_methods.specs.Hashes.{stripe_of, IsStripeCount}
@@ -135,3 +137,22 @@ AreStripes-empty ts count none = record { count = count; apart = λ i q away. ap
 pub whole-empty : (ts : List Table) → ((j : ℕ) → stripe_at ts j ≡ map.empty) → whole ts ≡ map.empty
 whole-empty ts none = same_map total antisymmetric (whole ts) map.empty (λ q.
     get-from_entries total (all_entries ts) q ∙ none_anywhere q ts (λ j. ap (λ (t : Table). map.get t q) (none j) ∙ get-empty by_bytes q) ∙ sym (get-empty by_bytes q))
+
+-- what a call on its key's stripe, done or refused, is on the whole
+pub applied : (ts : List Table) (is : AreStripes ts) (i : ℕ) (invocation : Invocation) → i ≡ stripe_of (length ts) invocation.key → i < length ts → (old new : Table) → old ≡ get_or ts i old
+    → (r : Result Reply NoMemory) → IfOk r (Answers old invocation new) → OnErr r (new ≡ old) → OnErr r (WouldAdd old invocation)
+    → record { stripes : AreStripes (set ts i new); answers : IfOk r (Answers (whole ts) invocation (whole (set ts i new))); adds : OnErr r (WouldAdd (whole ts) invocation); }
+applied ts is i invocation at lt old new read (Ok reply) answers stays adds =
+    let here : old ≡ stripe_at ts i = get_or_read ts i old lt read map.empty in
+    let done = answers_whole ts is i invocation at new reply lt (subst (λ (t : Table). Answers t invocation new reply) here answers) in
+    record { stripes = done.stripes; answers = done.answers; adds = tt }
+applied ts is i invocation at lt old new read (Err e) answers stays adds =
+    let here : old ≡ stripe_at ts i = get_or_read ts i old lt read map.empty in
+    let same : set ts i new ≡ ts = ap (set ts i) (stays ∙ here) ∙ set-get_or ts i map.empty in
+    record { stripes = rw same is; answers = tt; adds = adds_whole ts is i invocation at (subst (λ (t : Table). WouldAdd t invocation) here adds) }
+
+-- the entries of one stripe more
+pub all_entries-more : (ts : List Table) (n : ℕ) (t : Table) → n < length ts → t ≡ get_or ts n t → all_entries (take (n + 1) ts) ≡ all_entries (take n ts) ++ map.entries t
+all_entries-more ts n t lt is =
+    ap all_entries (take_more ts n t lt ∙ ap (λ (x : Table). take n ts ++ x ∷ []) (sym is)) ∙ flat_map-append map.entries (take n ts) (t ∷ [])
+    ∙ ap (λ (es : List (List ℕ × List ℕ)). all_entries (take n ts) ++ es) (append-nil (map.entries t))

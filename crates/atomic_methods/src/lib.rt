@@ -18,7 +18,7 @@ mod stripes;
 
 pub use call::Call;
 pub use fault::OpenFault;
-pub use methods::apply;
+pub use methods::{apply, replace_each, scan};
 pub use reply::Reply;
 pub use striped::{Stopped, Striped};
 pub use stripes::{MAX_STRIPES, hash_of, is_stripe_count, stripe_of};

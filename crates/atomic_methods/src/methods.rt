@@ -1,5 +1,7 @@
 //! The methods, over whatever keeps the entries.
 ghost use Rattle.std.specs.Prelude.{◌≡◌, IfOk, OnErr, Some, None};
+ghost use Rattle.std.specs.FinMap as map;
+ghost use Rattle.bins.specs.Replacements.{ReplacesEach};
 ghost use Rattle.atomic_methods.specs.Invocations.{invocation_of};
 ghost use Rattle.atomic_methods.specs.Methods.{rule_of, Follows, Leaves, Answers, WouldAdd};
 ghost use Rattle.atomic_methods.specs.Plans.{reply_by, where_true};
@@ -8,8 +10,10 @@ use crate::call::Call;
 use crate::plan::{Change, Plan, Told, plan_of};
 use crate::program::answer_into;
 use crate::reply::{Reply, Shape};
-use bins::Bins;
-use bpf_model::{NoMemory, Value};
+use bins::{Bins, Counts};
+use bpf_model::{Key, NoMemory, Value};
+use std::alloc::Global;
+use verifier::Verified;
 
 /// Makes one call. `NoMemory` only where it would have added a key and the room for it was refused; the entries are
 /// then as before. A call that adds no key takes no memory. Never waits.
@@ -21,6 +25,21 @@ pub fn apply<B: Bins>(bins: &mut B, call: &Call) -> Result<Reply, NoMemory>
     let mut bytes = Value::new();
     let shape = apply_into(bins, call, &mut bytes)?;
     Ok(shape.with(bytes))
+}
+
+/// Copies of all entries, in key order. `NoMemory` where a request for memory was refused. Never waits.
+pub fn scan<B: Bins>(alloc: Global, bins: &B) -> Result<Vec<(Key, Value)>, NoMemory>
+    ensures ok { IfOk result (λ found. found.items ≡ map.entries (B.table bins.now)) }
+{
+    bins.entries(alloc)
+}
+
+/// Replaces the value of each key once by what the program answers on the key, its value and the argument. An answer of
+/// nothing keeps the entry, and one that is too long for a window stays. Takes no memory. Never waits.
+pub fn replace_each<B: Bins>(bins: &mut B, program: &Verified, arg: &Option<Value>) -> Counts
+    ensures each { ReplacesEach program.now arg.now (B.table bins.old) (B.table bins.new) result }
+{
+    bins.replace_each(program, arg)
 }
 
 // The same, with the bytes of a value that is replied in `bytes`. One search serves a present key; a program runs before

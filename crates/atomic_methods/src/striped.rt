@@ -6,7 +6,7 @@ ghost use Rattle.atomic_methods.specs.Hashes.{IsStripeCount};
 ghost use Rattle.atomic_methods.specs.Invocations.{invocation_of};
 ghost use Rattle.atomic_methods.specs.Methods.{Answers, WouldAdd};
 ghost use Rattle.atomic_methods.specs.Runs.{AnswersInTurn, first_of, IsRefused};
-ghost use Rattle.atomic_methods.specs.Whole.{stripe_at};
+ghost use Rattle.atomic_methods.specs.Whole.{stripe_at, all_entries};
 
 use crate::call::Call;
 use crate::fault::OpenFault;
@@ -94,6 +94,15 @@ impl Striped {
         }
         Ok(replies)
     }
+
+    /// Copies of all entries, in key order. `NoMemory` where a request for memory was refused. Never waits.
+    pub fn scan(&self, alloc: Global) -> Result<Vec<(Key, Value)>, NoMemory>
+        ensures ok { IfOk result (λ found. found.items ≡ finmap.entries self.now) }
+    {
+        let mut found = entries_of(alloc, &self.stripes)?;
+        found.sort_by(|a, b| a.0.cmp(&b.0))?;
+        Ok(found)
+    }
 }
 
 // So many stripes without entries.
@@ -106,4 +115,16 @@ fn empty_stripes(alloc: Global, count: u64) -> Result<Vec<ListBins>, NoMemory>
         stripes.push(ListBins::open(alloc, count)?)?;
     }
     Ok(stripes)
+}
+
+// Copies of the entries of each stripe in turn.
+fn entries_of(alloc: Global, stripes: &[ListBins]) -> Result<Vec<(Key, Value)>, NoMemory>
+    ensures ok { IfOk result (λ found. found.items ≡ all_entries stripes.now) }
+{
+    let mut found = Vec::new(alloc);
+    for stripe in stripes {
+        let mut entries = stripe.entries(alloc)?;
+        found.append(&mut entries)?;
+    }
+    Ok(found)
 }
