@@ -4,3 +4,4 @@ pub mod EntryLemmas
 pub mod WholeLemmas
 pub mod RunLemmas
 pub mod SortLemmas
+pub mod ReplaceLemmas

@@ -16,12 +16,12 @@ use Rattle.atomic_methods.specs.Whole.{all_entries, whole, stripe_at, AreStripes
 use Rattle.atomic_methods.proofs.TableLemmas.{total, antisymmetric}
 use Rattle.atomic_methods.proofs.EntryLemmas.{first_some, find-append, none_of_both, Distinct, Distinct-append, Distinct-sorted}
 
-first_some-None : (x : Option (List ℕ)) → first_some x None ≡ x
+pub first_some-None : (x : Option (List ℕ)) → first_some x None ≡ x
 first_some-None None = refl
 first_some-None (Some v) = refl
 
 -- a key that no stripe has
-none_anywhere : (q : List ℕ) (ts : List Table) → ((j : ℕ) → map.get (stripe_at ts j) q ≡ None) → find by_bytes q (all_entries ts) ≡ None
+pub none_anywhere : (q : List ℕ) (ts : List Table) → ((j : ℕ) → map.get (stripe_at ts j) q ≡ None) → find by_bytes q (all_entries ts) ≡ None
 none_anywhere q [] h = refl
 none_anywhere q (t ∷ ts) h = find-append q (map.entries t) (all_entries ts) ∙ none_of_both _ _ (sym (get-entries t q) ∙ h 0) (none_anywhere q ts (λ j. h (suc j)))
 
@@ -36,20 +36,20 @@ found_at q (t ∷ ts) (suc i) h =
     find-append q (map.entries t) (all_entries ts) ∙ ap (λ (x : Option (List ℕ)). first_some x (find by_bytes q (all_entries ts))) none ∙ found_at q ts i (λ j other. h (suc j) (λ e. other (omega (arith, e))))
 
 -- no key in two stripes
-abbrev Apart : List Table → Type 0
+abbrev pub Apart : List Table → Type 0
 Apart ts = (q v : List ℕ) (i j : ℕ) → i ≢ j → map.get (stripe_at ts i) q ≡ Some v → map.get (stripe_at ts j) q ≡ None
 
-Distinct_all : (ts : List Table) → Apart ts → Distinct (all_entries ts)
+pub Distinct_all : (ts : List Table) → Apart ts → Distinct (all_entries ts)
 Distinct_all [] h = tt
 Distinct_all (t ∷ ts) h =
     Distinct-append (map.entries t) (all_entries ts) (Distinct-sorted _ (entries_sorted t)) (Distinct_all ts (λ q v i j other found. h q v (suc i) (suc j) (λ e. other (omega (arith, e))) found))
       (λ q v found. none_anywhere q ts (λ j. h q v 0 (suc j) (λ e. absurd (omega (arith, e))) (get-entries t q ∙ found)))
 
-some_of_none : (x : Option (List ℕ)) (v : List ℕ) → x ≡ None → x ≡ Some v → ⊥
+pub some_of_none : (x : Option (List ℕ)) (v : List ℕ) → x ≡ None → x ≡ Some v → ⊥
 some_of_none x v e f = cc
 
 -- a test of keys and what it tells
-tied_same : (q k : List ℕ) → eq_by_cmp by_bytes q k ≡ true → q ≡ k
+pub tied_same : (q k : List ℕ) → eq_by_cmp by_bytes q k ≡ true → q ≡ k
 tied_same q k e = antisymmetric q k (equal _ e)
   where
     equal : (r : Ordering) → is_eq r ≡ true → r ≡ Equal
@@ -70,11 +70,14 @@ module _ (ts : List Table) (is : AreStripes ts) where
   pub get-whole : (q : List ℕ) → map.get (whole ts) q ≡ map.get (stripe_at ts (stripe_of (length ts) q)) q
   get-whole q = get-from_entries total (all_entries ts) q ∙ found_at q ts (stripe_of (length ts) q) (λ j other. is.apart j q other)
 
-  pub Distinct-stripes : Distinct (all_entries ts)
-  Distinct-stripes = Distinct_all ts (λ q v i j other found. elim (cases_eq j (stripe_of (length ts) q)) [
+  pub Apart-stripes : Apart ts
+  Apart-stripes = (λ q v i j other found. elim (cases_eq j (stripe_of (length ts) q)) [
     | inl same ↦ absurd (some_of_none _ v (is.apart i q (λ e. other (e ∙ sym same))) found)
     | inr away ↦ is.apart j q away
   ])
+
+  pub Distinct-stripes : Distinct (all_entries ts)
+  Distinct-stripes = Distinct_all ts Apart-stripes
 
   module _ (i : ℕ) (k : List ℕ) (at : i ≡ stripe_of (length ts) k) (lt : i < length ts) (new : Table) (v : Option (List ℕ)) (edit : new ≡ with_value (stripe_at ts i) k v) where
     abbrev later : List Table

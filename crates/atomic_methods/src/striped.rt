@@ -1,18 +1,18 @@
 //! A whole table in stripes, for one caller.
-ghost use Rattle.std.specs.Prelude.{◌≡◌, ◌↔◌, ◌⊎◌, ℕ, [], length, IfOk, IfErr, OnErr, IsErrOf, vec_len, map};
+ghost use Rattle.std.specs.Prelude.{◌≡◌, ◌≤◌, ◌↔◌, ◌⊎◌, ℕ, [], length, IfOk, IfErr, OnErr, IsErrOf, vec_len, map};
 ghost use Rattle.std.specs.FinMap as finmap;
 ghost use Rattle.bins.specs.Replacements.{ReplacesEach};
 ghost use Rattle.atomic_methods.specs.Hashes.{IsStripeCount};
 ghost use Rattle.atomic_methods.specs.Invocations.{invocation_of};
 ghost use Rattle.atomic_methods.specs.Methods.{Answers, WouldAdd};
 ghost use Rattle.atomic_methods.specs.Runs.{AnswersInTurn, first_of, IsRefused};
-ghost use Rattle.atomic_methods.specs.Whole.{stripe_at, all_entries};
+ghost use Rattle.atomic_methods.specs.Whole.{stripe_at, all_entries, ReplacesStripes};
 
 use crate::call::Call;
 use crate::fault::OpenFault;
 use crate::methods;
 use crate::reply::Reply;
-use crate::stripes::{is_stripe_count, stripe_of};
+use crate::stripes::{MAX_STRIPES, is_stripe_count, stripe_of};
 use bins::{Bins, Counts, ListBins};
 use bpf_model::{Key, NoMemory, Value};
 use std::alloc::Global;
@@ -102,6 +102,36 @@ impl Striped {
         let mut found = entries_of(alloc, &self.stripes)?;
         found.sort_by(|a, b| a.0.cmp(&b.0))?;
         Ok(found)
+    }
+
+    /// Replaces the value of each key of the table once by what the program answers on the key, its value and the
+    /// argument. An answer of nothing keeps the entry, and one that is too long for a window stays. Takes no memory. Never
+    /// waits.
+    pub fn replace_each(&mut self, program: &Verified, arg: &Option<Value>) -> Counts
+        ensures each { ReplacesEach program.now arg.now self.old self.new result }
+    {
+        replace_stripes(&mut self.stripes, program, arg)
+    }
+}
+
+// Replaces the values of each stripe, and counts them together.
+fn replace_stripes(stripes: &mut Vec<ListBins>, program: &Verified, arg: &Option<Value>) -> Counts
+    requires few { length stripes.old.items ≤ MAX_STRIPES }
+    ensures each { ReplacesStripes program.now arg.now stripes.old.items stripes.new.items result }
+{
+    let mut scanned = 0;
+    let mut given = 0;
+    let mut unfit = 0;
+    for stripe in stripes.iter_mut() {
+        let counts = stripe.replace_each(program, arg);
+        scanned += counts.scanned;
+        given += counts.given;
+        unfit += counts.unfit;
+    }
+    Counts {
+        scanned,
+        given,
+        unfit,
     }
 }
 
