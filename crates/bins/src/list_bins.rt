@@ -108,3 +108,6 @@ impl Bins for ListBins {
         replace_values(&mut self.entries, program, arg)
     }
 }
+
+#[cfg(test)]
+mod tests;
