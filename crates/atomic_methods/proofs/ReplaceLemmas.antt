@@ -6,6 +6,7 @@ use Rattle.std.specs.Ordering.{eq_by_cmp}
 use Rattle.std.specs.Cmp.{tied_itself}
 use Rattle.std.specs.FinMap as map
 use Rattle.std.specs.FinMap.{find, get-empty, get-entries, get-from_entries, len-entries, len-empty}
+use Rattle.std.proofs.lemmas.List.{take_more, take_more_set, drop_more, drop-set-lt, length-drop}
 use Rattle.std.proofs.lemmas.List.Sums.{sum_by-cons, sum_by-append, count_by-le-length}
 use Rattle.bpf_model.specs.declared.input.Answer.{Answer}
 use Rattle.bpf_model.specs.declared.input.Answer.TheVariants.{Nothing}
@@ -172,3 +173,19 @@ module _ (checked : Checked) (arg : Option (List ℕ)) where
   few_counts old new counts each =
       (omega (arith, each.given, each.scanned, len-entries old, count_by-le-length (λ (e : Entry). is_given (each.outcome e.0)) (map.entries old)),
        omega (arith, each.unfit, each.scanned, len-entries old, count_by-le-length (λ (e : Entry). is_unfit (each.outcome e.0)) (map.entries old)))
+
+  same_tail : (x y : Table) (xs ys : List Table) → x ∷ xs ≡ y ∷ ys → (x ≡ y) × (xs ≡ ys)
+  same_tail x y xs ys e = (cc, cc)
+
+  -- the stripe at place i is replaced, after the ones before it
+  pub replaced_more : (olds news : List Table) (i : ℕ) (sum : Counts) (d new : Table) (here more : Counts) → i < length news → drop i news ≡ drop i olds
+      → ReplacesStripes checked arg (take i olds) (take i news) sum → ReplacesEach checked arg (get_or news i d) new here → IsSum more sum here
+      → record { done : ReplacesStripes checked arg (take (i + 1) olds) (take (i + 1) (set news i new)) more; rest : drop (i + 1) (set news i new) ≡ drop (i + 1) olds; }
+  replaced_more olds news i sum d new here more lt rest done each sums =
+      let in_range : i < length olds = omega (arith, length-drop i news, length-drop i olds, ap length rest, lt) in
+      let both = same_tail (get_or news i d) (get_or olds i d) (drop (i + 1) news) (drop (i + 1) olds) (sym (drop_more news i d lt) ∙ rest ∙ drop_more olds i d in_range) in
+      record {
+        done = rw (take_more olds i d in_range, take_more_set news i new lt)
+            (ReplacesStripes-append (take i olds) (take i news) sum (get_or olds i d) new here more done (subst (λ (t : Table). ReplacesEach checked arg t new here) both.0 each) sums);
+        rest = drop-set-lt (i + 1) news i new (omega arith) ∙ both.1;
+      }

@@ -1,5 +1,5 @@
 //! The methods, over whatever keeps the entries.
-ghost use Rattle.std.specs.Prelude.{◌≡◌, IfOk, OnErr, Some, None};
+ghost use Rattle.std.specs.Prelude.{◌≡◌, ◌<◌, ◌^◌, IfOk, OnErr, Some, None};
 ghost use Rattle.std.specs.FinMap as map;
 ghost use Rattle.bins.specs.Replacements.{ReplacesEach};
 ghost use Rattle.atomic_methods.specs.Invocations.{invocation_of};
@@ -38,6 +38,7 @@ pub fn scan<B: Bins>(alloc: Global, bins: &B) -> Result<Vec<(Key, Value)>, NoMem
 /// nothing keeps the entry, and one that is too long for a window stays. Takes no memory. Never waits.
 pub fn replace_each<B: Bins>(bins: &mut B, program: &Verified, arg: &Option<Value>) -> Counts
     ensures each { ReplacesEach program.now arg.now (B.table bins.old) (B.table bins.new) result }
+    ensures few { result.scanned < 2 ^ 57 }
 {
     bins.replace_each(program, arg)
 }
