@@ -100,10 +100,10 @@ module _ (t : Table) (ts : List Table) (apart : Apart (t ∷ ts)) where
     flagged : count_by (λ (e : Entry). flag (joined e.0)) (map.entries (whole (t ∷ ts))) ≡ count_by (λ (e : Entry). flag (a e.0)) (map.entries t) + count_by (λ (e : Entry). flag (b e.0)) (map.entries (whole ts))
     flagged =
         let here : count_by (λ (e : Entry). flag (joined e.0)) (map.entries t) ≡ count_by (λ (e : Entry). flag (a e.0)) (map.entries t) =
-            count_same (λ q. flag (joined q)) (λ q. flag (a q)) (map.entries t) (λ q v found. ap flag (in_first_of (map.get t q) v (a q) (b q) (get-entries t q ∙ found))) in
+        count_same (λ q. flag (joined q)) (λ q. flag (a q)) (map.entries t) (λ q v found. ap flag (in_first_of (map.get t q) v (a q) (b q) (get-entries t q ∙ found))) in
         let rest : count_by (λ (e : Entry). flag (joined e.0)) (map.entries (whole ts)) ≡ count_by (λ (e : Entry). flag (b e.0)) (map.entries (whole ts)) =
-            count_same (λ q. flag (joined q)) (λ q. flag (b q)) (map.entries (whole ts)) (λ q v found. ap flag (in_rest_of (map.get t q) (a q) (b q) (λ w is.
-              some_of_none _ v (not_later q w is) (sym (get-from_entries total (all_entries ts) q) ∙ get-entries (whole ts) q ∙ found)))) in
+        count_same (λ q. flag (joined q)) (λ q. flag (b q)) (map.entries (whole ts)) (λ q v found. ap flag (in_rest_of (map.get t q) (a q) (b q) (λ w is.
+        some_of_none _ v (not_later q w is) (sym (get-from_entries total (all_entries ts) q) ∙ get-entries (whole ts) q ∙ found)))) in
         counted_apart (λ (e : Entry). flag (joined e.0)) ∙ ap (λ (n : ℕ). n + count_by (λ (e : Entry). flag (joined e.0)) (map.entries (whole ts))) here
         ∙ ap (λ (n : ℕ). count_by (λ (e : Entry). flag (a e.0)) (map.entries t) + n) rest
 
@@ -158,21 +158,42 @@ module _ (checked : Checked) (arg : Option (List ℕ)) where
   -- one stripe more
   pub ReplacesStripes-append : (olds news : List Table) (sum : Counts) (old new : Table) (here more : Counts) → ReplacesStripes checked arg olds news sum → ReplacesEach checked arg old new here → IsSum more sum here
       → ReplacesStripes checked arg (olds ++ old ∷ []) (news ++ new ∷ []) more
-  ReplacesStripes-append [] [] sum old new here more none each sums =
-      (here, (record { scanned = 0; given = 0; unfit = 0 }, (each, (record { scanned = refl; given = refl; unfit = refl },
-        record { scanned = omega (arith, sums.scanned, none.scanned); given = omega (arith, sums.given, none.given); unfit = omega (arith, sums.unfit, none.unfit) }))))
+  ReplacesStripes-append [] [] sum old new here more none each sums = (
+    here,
+    (
+      record { scanned = 0; given = 0; unfit = 0 },
+      (
+        each,
+        (
+          record { scanned = refl; given = refl; unfit = refl },
+          record { scanned = omega (arith, sums.scanned, none.scanned); given = omega (arith, sums.given, none.given); unfit = omega (arith, sums.unfit, none.unfit) },
+        ),
+      ),
+    ),
+  )
   ReplacesStripes-append [] (n ∷ news) sum old new here more h each sums = absurd h
   ReplacesStripes-append (o ∷ olds) [] sum old new here more h each sums = absurd h
   ReplacesStripes-append (o ∷ olds) (n ∷ news) sum old new here more (first, (rest, (done, (others, sum_is)))) each sums =
-      let tail : Counts = record { scanned = rest.scanned + here.scanned; given = rest.given + here.given; unfit = rest.unfit + here.unfit } in
-      (first, (tail, (done, (ReplacesStripes-append olds news rest old new here tail others each (record { scanned = refl; given = refl; unfit = refl }),
-        record { scanned = omega (arith, sums.scanned, sum_is.scanned); given = omega (arith, sums.given, sum_is.given); unfit = omega (arith, sums.unfit, sum_is.unfit) }))))
+      let tail : Counts = record { scanned = rest.scanned + here.scanned; given = rest.given + here.given; unfit = rest.unfit + here.unfit } in (
+        first,
+        (
+          tail,
+          (
+            done,
+            (
+              ReplacesStripes-append olds news rest old new here tail others each (record { scanned = refl; given = refl; unfit = refl }),
+              record { scanned = omega (arith, sums.scanned, sum_is.scanned); given = omega (arith, sums.given, sum_is.given); unfit = omega (arith, sums.unfit, sum_is.unfit) },
+            ),
+          ),
+        ),
+      )
 
   -- what is given or unfit was scanned
   pub few_counts : (old new : Table) (counts : Counts) → ReplacesEach checked arg old new counts → (counts.given ≤ counts.scanned) × (counts.unfit ≤ counts.scanned)
-  few_counts old new counts each =
-      (omega (arith, each.given, each.scanned, len-entries old, count_by-le-length (λ (e : Entry). is_given (each.outcome e.0)) (map.entries old)),
-       omega (arith, each.unfit, each.scanned, len-entries old, count_by-le-length (λ (e : Entry). is_unfit (each.outcome e.0)) (map.entries old)))
+  few_counts old new counts each = (
+    omega (arith, each.given, each.scanned, len-entries old, count_by-le-length (λ (e : Entry). is_given (each.outcome e.0)) (map.entries old)),
+    omega (arith, each.unfit, each.scanned, len-entries old, count_by-le-length (λ (e : Entry). is_unfit (each.outcome e.0)) (map.entries old)),
+  )
 
   same_tail : (x y : Table) (xs ys : List Table) → x ∷ xs ≡ y ∷ ys → (x ≡ y) × (xs ≡ ys)
   same_tail x y xs ys e = (cc, cc)
@@ -180,7 +201,7 @@ module _ (checked : Checked) (arg : Option (List ℕ)) where
   -- the stripe at place i is replaced, after the ones before it
   pub replaced_more : (olds news : List Table) (i : ℕ) (sum : Counts) (d new : Table) (here more : Counts) → i < length news → drop i news ≡ drop i olds
       → ReplacesStripes checked arg (take i olds) (take i news) sum → ReplacesEach checked arg (get_or news i d) new here → IsSum more sum here
-      → record { done : ReplacesStripes checked arg (take (i + 1) olds) (take (i + 1) (set news i new)) more; rest : drop (i + 1) (set news i new) ≡ drop (i + 1) olds; }
+      → record { done : ReplacesStripes checked arg (take (i + 1) olds) (take (i + 1) (set news i new)) more; rest : drop (i + 1) (set news i new) ≡ drop (i + 1) olds }
   replaced_more olds news i sum d new here more lt rest done each sums =
       let in_range : i < length olds = omega (arith, length-drop i news, length-drop i olds, ap length rest, lt) in
       let both = same_tail (get_or news i d) (get_or olds i d) (drop (i + 1) news) (drop (i + 1) olds) (sym (drop_more news i d lt) ∙ rest ∙ drop_more olds i d in_range) in

@@ -110,7 +110,7 @@ below_rest e [] up none = tt
 below_rest e (x ∷ xs) up none =
     let apart = not_chosen (ties smaller e x) x (same_key e xs) none in
     both _ _ (is_below (by_bytes e.0 x.0) (by_bytes x.0 e.0) (total.antisymm x.0 e.0) (up 0 x (omega arith)) (sym (ties_is e x) ∙ apart.0))
-      (below_rest e xs (λ j d lt. up (suc j) d (omega (arith, lt))) apart.1)
+    (below_rest e xs (λ j d lt. up (suc j) d (omega (arith, lt))) apart.1)
 
 itself_ties : (e : Entry) → ties smaller e e ≡ true
 itself_ties e = ties_is e e ∙ (let same = tied_itself total e.0 in rw same refl)
@@ -119,7 +119,7 @@ strictly : (es : List Entry) → Rises es → Single es → T (is_sorted by_byte
 strictly [] up few = tt
 strictly (e ∷ es) up few =
     both _ _ (below_rest e es (λ j d lt. up 0 (suc j) d (omega arith) (omega (arith, lt))) (none_left (ties smaller e e) e (same_key e es) (itself_ties e) (few e)))
-      (strictly es (λ i j d le lt. up (suc i) (suc j) d (omega (arith, le)) (omega (arith, lt))) (λ x. rest_single (ties smaller x e) e (same_key x es) (few x)))
+    (strictly es (λ i j d le lt. up (suc i) (suc j) d (omega (arith, le)) (omega (arith, lt))) (λ x. rest_single (ties smaller x e) e (same_key x es) (few x)))
 
 -- a stable sort by key gives the entries of the table
 pub sorted_entries : (before after : List Entry) → Distinct before → IsSortedBy smaller after → IsStableBy smaller before after → after ≡ map.entries (map.from_entries {R = by_bytes} before)
@@ -127,5 +127,5 @@ sorted_entries before after apart up stable =
     let single : Single after = λ x. subst (λ (es : List Entry). length es ≤ 1) (sym (stable x)) (Single-Distinct before apart x) in
     let sorted : T (is_sorted by_bytes after) = strictly after (λ i j d le lt. sorted_far smaller (ranks_by total (λ (e : Entry). e.0)) after up i j d le lt) single in
     let same : map.from_sorted {R = by_bytes} after ≡ map.from_entries before = same_map total antisymmetric _ _ (λ q.
-        get-from_sorted by_bytes after q sorted ∙ find_first q after ∙ ap first_value (stable (q, [])) ∙ sym (find_first q before) ∙ sym (get-from_entries total before q)) in
+    get-from_sorted by_bytes after q sorted ∙ find_first q after ∙ ap first_value (stable (q, [])) ∙ sym (find_first q before) ∙ sym (get-from_entries total before q)) in
     sym (entries-from_sorted by_bytes after sorted) ∙ ap map.entries same

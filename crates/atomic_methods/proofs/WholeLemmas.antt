@@ -43,7 +43,7 @@ pub Distinct_all : (ts : List Table) → Apart ts → Distinct (all_entries ts)
 Distinct_all [] h = tt
 Distinct_all (t ∷ ts) h =
     Distinct-append (map.entries t) (all_entries ts) (Distinct-sorted _ (entries_sorted t)) (Distinct_all ts (λ q v i j other found. h q v (suc i) (suc j) (λ e. other (omega (arith, e))) found))
-      (λ q v found. none_anywhere q ts (λ j. h q v 0 (suc j) (λ e. absurd (omega (arith, e))) (get-entries t q ∙ found)))
+    (λ q v found. none_anywhere q ts (λ j. h q v 0 (suc j) (λ e. absurd (omega (arith, e))) (get-entries t q ∙ found)))
 
 pub some_of_none : (x : Option (List ℕ)) (v : List ℕ) → x ≡ None → x ≡ Some v → ⊥
 some_of_none x v e f = cc
@@ -124,7 +124,7 @@ module _ (ts : List Table) (is : AreStripes ts) where
 
     -- a call on its key's stripe is a call on the whole
     pub answers_whole : (new : Table) (reply : Reply) → i < length ts → Answers (stripe_at ts i) invocation new reply
-        → record { stripes : AreStripes (set ts i new); answers : Answers (whole ts) invocation (whole (set ts i new)) reply; }
+        → record { stripes : AreStripes (set ts i new); answers : Answers (whole ts) invocation (whole (set ts i new)) reply }
     answers_whole new reply lt (v, (leaves, edit)) = record {
       stripes = AreStripes-set i invocation.key at lt new v edit;
       answers = (v, (leaves_whole v reply leaves, whole-set i invocation.key at lt new v edit));
@@ -144,7 +144,7 @@ whole-empty ts none = same_map total antisymmetric (whole ts) map.empty (λ q.
 -- what a call on its key's stripe, done or refused, is on the whole
 pub applied : (ts : List Table) (is : AreStripes ts) (i : ℕ) (invocation : Invocation) → i ≡ stripe_of (length ts) invocation.key → i < length ts → (old new : Table) → old ≡ get_or ts i old
     → (r : Result Reply NoMemory) → IfOk r (Answers old invocation new) → OnErr r (new ≡ old) → OnErr r (WouldAdd old invocation)
-    → record { stripes : AreStripes (set ts i new); answers : IfOk r (Answers (whole ts) invocation (whole (set ts i new))); adds : OnErr r (WouldAdd (whole ts) invocation); }
+    → record { stripes : AreStripes (set ts i new); answers : IfOk r (Answers (whole ts) invocation (whole (set ts i new))); adds : OnErr r (WouldAdd (whole ts) invocation) }
 applied ts is i invocation at lt old new read (Ok reply) answers stays adds =
     let here : old ≡ stripe_at ts i = get_or_read ts i old lt read map.empty in
     let done = answers_whole ts is i invocation at new reply lt (subst (λ (t : Table). Answers t invocation new reply) here answers) in

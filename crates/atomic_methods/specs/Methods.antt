@@ -29,11 +29,13 @@ rule_of (put new) old = leaves (Some new) (Value old)
 rule_of (put_if_absent new) (Some value) = leaves (Some value) (Value (Some value))
 rule_of (put_if_absent new) None = leaves (Some new) (Value None)
 rule_of remove old = leaves None (Value old)
-rule_of (remove_if expected) (Some value) = where_same value expected (leaves None (Done true)) (leaves (Some value) (Done false))
+rule_of (remove_if expected) (Some value) =
+    where_same value expected (leaves None (Done true)) (leaves (Some value) (Done false))
 rule_of (remove_if expected) None = leaves None (Done false)
 rule_of (replace new) (Some value) = leaves (Some new) (Value (Some value))
 rule_of (replace new) None = leaves None (Value None)
-rule_of (replace_if expected new) (Some value) = where_same value expected (leaves (Some new) (Done true)) (leaves (Some value) (Done false))
+rule_of (replace_if expected new) (Some value) =
+    where_same value expected (leaves (Some new) (Done true)) (leaves (Some value) (Done false))
 rule_of (replace_if expected new) None = leaves None (Done false)
 rule_of (compute program arg) old = runs program arg
 rule_of (compute_if_absent program arg) (Some value) = leaves (Some value) (Value (Some value))

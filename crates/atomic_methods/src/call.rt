@@ -73,7 +73,7 @@ pub enum Call<'a> {
 impl Call<'_> {
     /// The key that the call is about.
     pub fn key(&self) -> &Key
-        ensures { result.now ≡ (invocation_of self.now).key }
+        ensures value { result.now ≡ (invocation_of self.now).key }
     {
         match self {
             Call::Get { key }

@@ -22,3 +22,6 @@ pub use methods::{apply, replace_each, scan};
 pub use reply::Reply;
 pub use striped::{Stopped, Striped};
 pub use stripes::{MAX_STRIPES, hash_of, is_stripe_count, stripe_of};
+
+#[cfg(test)]
+mod tests;

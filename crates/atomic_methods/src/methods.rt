@@ -71,11 +71,9 @@ fn apply_into<B: Bins>(bins: &mut B, call: &Call, bytes: &mut Value) -> Result<S
 
 // The call on a present key, whose value is changed in place: whether the key stays, and the reply.
 fn change_value(call: &Call, value: &mut Value, bytes: &mut Value) -> (bool, Shape)
-    ensures {
-        let invocation = invocation_of call.now in
+    ensures follows { let invocation = invocation_of call.now in
         Follows (rule_of invocation.method (Some value.old)) invocation.key (Some value.old)
-            (where_true result.0 value.new) (reply_by result.1 bytes.new)
-    }
+        (where_true result.0 value.new) (reply_by result.1 bytes.new) }
 {
     match plan_of(call, Some(value)) {
         Plan::Settled(change, told) => {
@@ -111,11 +109,9 @@ fn change_value(call: &Call, value: &mut Value, bytes: &mut Value) -> (bool, Sha
 
 // The call on an absent key: whether a value is to be entered, which is then in `bytes`, and the reply.
 fn new_value(call: &Call, bytes: &mut Value) -> (bool, Shape)
-    ensures {
-        let invocation = invocation_of call.now in
+    ensures follows { let invocation = invocation_of call.now in
         Follows (rule_of invocation.method None) invocation.key None
-            (where_true result.0 bytes.new) (reply_by result.1 bytes.new)
-    }
+        (where_true result.0 bytes.new) (reply_by result.1 bytes.new) }
 {
     match plan_of(call, None) {
         Plan::Settled(Change::Enter(new), told) => {

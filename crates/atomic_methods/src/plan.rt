@@ -42,7 +42,8 @@ pub enum Plan<'c> {
 
 /// The rule of each method: what the call makes of its key, which has this value or none.
 pub fn plan_of<'c>(call: &'c Call, old: Option<&Value>) -> Plan<'c>
-    ensures { rule_by result (option_copied old.entry) ≡ rule_of (invocation_of call.now).method (option_copied old.entry) }
+    ensures rule { let value = option_copied old.entry in
+        rule_by result value ≡ rule_of (invocation_of call.now).method value }
 {
     use Change::{Enter, Keep, Remove};
     use Plan::{Give, Run, Settled};
@@ -63,7 +64,11 @@ pub fn plan_of<'c>(call: &'c Call, old: Option<&Value>) -> Plan<'c>
             Some(_) => Settled(Enter(value), Old),
             None => Settled(Keep, Old),
         },
-        Call::ReplaceIf { expected, value, .. } => match old {
+        Call::ReplaceIf {
+            expected,
+            value,
+            ..
+        } => match old {
             Some(old) if *old == *expected => Settled(Enter(value), Done(true)),
             _ => Settled(Keep, Done(false)),
         },

@@ -18,10 +18,8 @@ pub fn answer_into(
     arg: Option<&Value>,
     answer: &mut Value,
 ) -> Result<bool, Window>
-    ensures {
-        let input = input_of key.now (option_copied old.entry) (option_copied arg.entry) in
-        ComesTo program.now input (outcome_by result answer.new)
-    }
+    ensures outcome { let input = input_of key.now (option_copied old.entry) (option_copied arg.entry) in
+        ComesTo program.now input (outcome_by result answer.new) }
 {
     fits_parts(&program.sizes(), key, old, arg)?;
     Ok(run_into(program, key, old, arg, answer))

@@ -31,7 +31,7 @@ pub(crate) enum Shape {
 impl Shape {
     /// The reply whose value, if it has one, is this.
     pub(crate) fn with(self, value: Value) -> Reply
-        ensures { result ≡ reply_by self value }
+        ensures value { result ≡ reply_by self value }
     {
         match self {
             Shape::None => Reply::Value(None),

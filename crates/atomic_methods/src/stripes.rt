@@ -9,14 +9,14 @@ pub const MAX_STRIPES: u64 = 64;
 
 /// Whether a table may have so many stripes: a power of two, from 1 to `MAX_STRIPES`.
 pub fn is_stripe_count(stripes: u64) -> bool
-    ensures { IsTrue result ↔ IsStripeCount stripes }
+    ensures exact { IsTrue result ↔ IsStripeCount stripes }
 {
     stripes <= MAX_STRIPES && stripes.is_power_of_two()
 }
 
 /// The hash of a key: from 1, each byte in turn, the hash times 31 and the byte, modulo 2^32.
 pub fn hash_of(key: &Key) -> u32
-    ensures { result ≡ hash key.now }
+    ensures value { result ≡ hash key.now }
 {
     let mut hash: u32 = 1;
     for byte in key.as_slice() {

@@ -5,4 +5,4 @@ use Rattle.atomic_methods.proofs.striped.entries_of.Goals as goal
 pub loop-stripe-preserved : goal.loop-stripe-preserved
 loop-stripe-preserved c =
     rw (c.in_ok-append.ensures.items, c.in_ok-entries.ensures.ok, c.loop-stripe.invariant)
-      (sym (all_entries-more _ _ _ c.loop-stripe-test.true c.stripe-item.is))
+    (sym (all_entries-more _ _ _ c.loop-stripe-test.true c.stripe-item.is))

@@ -6,4 +6,4 @@ use Rattle.atomic_methods.proofs.stripes.hash_of.Goals as goal
 
 pub returns : goal.returns
 unfolding hash
-returns c = sym (ap (fold hash_more c.loop-byte.hash) (drop_all _ _ c.loop-byte-test.false)) ∙ c.loop-byte.invariant ∙ ap (fold hash_more 1) c.as_slice-byte-items.ensures.value
+returns c = record { value = sym (ap (fold hash_more c.loop-byte.hash) (drop_all _ _ c.loop-byte-test.false)) ∙ c.loop-byte.invariant ∙ ap (fold hash_more 1) c.as_slice-byte-items.ensures.value }
