@@ -1,5 +1,5 @@
 //! What keeps a table: a finite map from keys to values, however it is kept.
-ghost use Rattle.std.specs.Prelude.{◌≡◌, None, IfOk, OnOk, OnErr, option_copied};
+ghost use Rattle.std.specs.Prelude.{◌≡◌, ◌<◌, ◌^◌, None, IfOk, OnOk, OnErr, option_copied};
 ghost use Rattle.std.specs.Option.{option_copied_mut};
 ghost use Rattle.std.specs.Borrow.{sem};
 ghost use Rattle.std.specs.FinMap as map;
@@ -59,5 +59,7 @@ pub trait Bins {
     /// Replaces the value of each key once, in an order of its own, by what the program answers on the key, its value
     /// and the argument. An answer of nothing keeps the entry, and one that does not fit stays. Takes no memory.
     fn replace_each(&mut self, program: &Verified, arg: &Option<Value>) -> Counts
-        ensures each { ReplacesEach program.now arg.now (table self.old) (table self.new) result };
+        ensures each { ReplacesEach program.now arg.now (table self.old) (table self.new) result }
+        // An entry takes more than 2^6 bytes, of fewer than 2^63; so the counts of many bins add up.
+        ensures few { result.scanned < 2 ^ 57 };
 }

@@ -1,4 +1,5 @@
 //! The replacement of values by what a program answers.
+ghost use Rattle.std.specs.Prelude.{◌≡◌, ◌<◌, ◌^◌, length};
 ghost use Rattle.bins.specs.Passes.{Replaces, ReplacesList};
 
 use crate::counts::Counts;
@@ -32,6 +33,7 @@ pub fn replace_values(
     arg: &Option<Value>,
 ) -> Counts
     ensures each { ReplacesList program.now arg.now entries.old.items entries.new.items result }
+    ensures few { result.scanned < 2 ^ 57 }
 {
     let mut answer = Value::new();
     let mut given = 0;
@@ -43,10 +45,17 @@ pub fn replace_values(
             Err(_) => unfit += 1,
         }
     }
-    let scanned = entries.len() as u64;
     Counts {
-        scanned,
+        scanned: count_of(entries),
         given,
         unfit,
     }
+}
+
+// How many entries there are.
+fn count_of(entries: &[(Key, Value)]) -> u64
+    ensures value { result ≡ length entries.now }
+    ensures few { result < 2 ^ 57 }
+{
+    entries.len() as u64
 }

@@ -7,4 +7,7 @@ invariant_of-self c = (replaces_table _ _ _ _ _ c.self.invariant c.replace_value
 
 -- what was done to the entries was done to their table
 pub returns : goal.returns
-returns c = record { each = rw (← c.self.view_is) (replaces_table _ _ _ _ _ c.self.invariant c.replace_values.ensures.each).1 }
+returns c = record {
+  each = rw (← c.self.view_is) (replaces_table _ _ _ _ _ c.self.invariant c.replace_values.ensures.each).1;
+  few = c.replace_values.ensures.few;
+}

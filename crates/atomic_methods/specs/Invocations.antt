@@ -1,0 +1,41 @@
+-- A call as a value: a method with what it is made with, on one key. The methods are those of Java SE 17's ConcurrentMap.
+use Rattle.std.specs.Prelude.{ℕ, List, Option}
+use Rattle.verifier.specs.Checked.{Checked}
+use Rattle.atomic_methods.specs.declared.call.Call.{Call}
+use Rattle.atomic_methods.specs.declared.call.Call.TheVariants.{Get, Put, PutIfAbsent, Remove, RemoveIf, Replace, ReplaceIf, Compute, ComputeIfAbsent, ComputeIfPresent, Merge}
+
+-- a method with the values, the program and the argument that it is given
+pub data Method : Type 0 where
+  get : Method
+  put : List ℕ → Method
+  put_if_absent : List ℕ → Method
+  remove : Method
+  remove_if : List ℕ → Method
+  replace : List ℕ → Method
+  replace_if : List ℕ → List ℕ → Method
+  compute : Checked → Option (List ℕ) → Method
+  compute_if_absent : Checked → Option (List ℕ) → Method
+  compute_if_present : Checked → Option (List ℕ) → Method
+  merge : List ℕ → Checked → Method
+
+-- a method on a key
+pub record Invocation : Type 0 where
+  pub key : List ℕ
+  pub method : Method
+
+abbrev pub on_key : List ℕ → Method → Invocation
+on_key k m = record { key = k; method = m }
+
+-- the invocation that a call makes; its program is lent
+abbrev pub invocation_of : Call → Invocation
+invocation_of (Get key) = on_key key get
+invocation_of (Put key value) = on_key key (put value)
+invocation_of (PutIfAbsent key value) = on_key key (put_if_absent value)
+invocation_of (Remove key) = on_key key remove
+invocation_of (RemoveIf key expected) = on_key key (remove_if expected)
+invocation_of (Replace key value) = on_key key (replace value)
+invocation_of (ReplaceIf key expected value) = on_key key (replace_if expected value)
+invocation_of (Compute key program arg) = on_key key (compute program.now arg)
+invocation_of (ComputeIfAbsent key program arg) = on_key key (compute_if_absent program.now arg)
+invocation_of (ComputeIfPresent key program arg) = on_key key (compute_if_present program.now arg)
+invocation_of (Merge key value program) = on_key key (merge value program.now)

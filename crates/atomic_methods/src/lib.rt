@@ -1,0 +1,27 @@
+//! The methods of a map, each one step on one key, over whatever keeps the entries.
+//!
+//! The promise to the layers above: `apply` does to the entries, and replies, what the definition of its method says
+//! (`Answers`), and so does `Striped::apply` to a whole table; `Striped::run` makes a list of calls as the sequential map
+//! would, one after the other (`AnswersInTurn`).
+//! `NoMemory` comes only where a call would have added its key, and the entries are then as before. A call that adds no
+//! key takes no memory, and none waits. What each method does: `specs/Methods.antt`; lists of calls: `specs/Runs.antt`.
+#![tactic(auto)]
+
+mod call;
+mod fault;
+mod methods;
+mod plan;
+mod program;
+mod reply;
+mod striped;
+mod stripes;
+
+pub use call::Call;
+pub use fault::OpenFault;
+pub use methods::{apply, replace_each, scan};
+pub use reply::Reply;
+pub use striped::{Stopped, Striped};
+pub use stripes::{MAX_STRIPES, hash_of, is_stripe_count, stripe_of};
+
+#[cfg(test)]
+mod tests;

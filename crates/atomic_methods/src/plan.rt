@@ -1,0 +1,89 @@
+//! What a call makes of its key, before anything changes.
+ghost use Rattle.std.specs.Prelude.{◌≡◌};
+ghost use Rattle.std.specs.Option.{option_copied};
+ghost use Rattle.atomic_methods.specs.Invocations.{invocation_of};
+ghost use Rattle.atomic_methods.specs.Methods.{rule_of};
+ghost use Rattle.atomic_methods.specs.Plans.{rule_by};
+
+use crate::call::Call;
+use bpf_model::Value;
+use verifier::Verified;
+
+/// What becomes of a key's value.
+#[derive(Clone, Copy)]
+pub enum Change<'c> {
+    /// It stays, or the key stays absent.
+    Keep,
+    /// The key has none then.
+    Remove,
+    /// The key has this one then.
+    Enter(&'c Value),
+}
+
+/// What is replied.
+#[derive(Clone, Copy)]
+pub enum Told {
+    /// The value that the key had, if any.
+    Old,
+    /// Whether the value was the expected one.
+    Done(bool),
+}
+
+/// What a call makes of its key.
+#[derive(Clone, Copy)]
+pub enum Plan<'c> {
+    /// The change and what is replied.
+    Settled(Change<'c>, Told),
+    /// The key has this value then, which is replied.
+    Give(&'c Value),
+    /// The program is run with this argument; what it answers becomes the key's value and is replied.
+    Run(&'c Verified, Option<&'c Value>),
+}
+
+/// The rule of each method: what the call makes of its key, which has this value or none.
+pub fn plan_of<'c>(call: &'c Call, old: Option<&Value>) -> Plan<'c>
+    ensures rule { let value = option_copied old.entry in
+        rule_by result value ≡ rule_of (invocation_of call.now).method value }
+{
+    use Change::{Enter, Keep, Remove};
+    use Plan::{Give, Run, Settled};
+    use Told::{Done, Old};
+    match call {
+        Call::Get { .. } => Settled(Keep, Old),
+        Call::Put { value, .. } => Settled(Enter(value), Old),
+        Call::PutIfAbsent { value, .. } => match old {
+            Some(_) => Settled(Keep, Old),
+            None => Settled(Enter(value), Old),
+        },
+        Call::Remove { .. } => Settled(Remove, Old),
+        Call::RemoveIf { expected, .. } => match old {
+            Some(old) if *old == *expected => Settled(Remove, Done(true)),
+            _ => Settled(Keep, Done(false)),
+        },
+        Call::Replace { value, .. } => match old {
+            Some(_) => Settled(Enter(value), Old),
+            None => Settled(Keep, Old),
+        },
+        Call::ReplaceIf {
+            expected,
+            value,
+            ..
+        } => match old {
+            Some(old) if *old == *expected => Settled(Enter(value), Done(true)),
+            _ => Settled(Keep, Done(false)),
+        },
+        Call::Compute { program, arg, .. } => Run(program, arg.as_ref()),
+        Call::ComputeIfAbsent { program, arg, .. } => match old {
+            Some(_) => Settled(Keep, Old),
+            None => Run(program, arg.as_ref()),
+        },
+        Call::ComputeIfPresent { program, arg, .. } => match old {
+            Some(_) => Run(program, arg.as_ref()),
+            None => Settled(Keep, Old),
+        },
+        Call::Merge { value, program, .. } => match old {
+            Some(_) => Run(program, Some(value)),
+            None => Give(value),
+        },
+    }
+}

@@ -1,0 +1,160 @@
+//! A whole table in stripes, for one caller.
+ghost use Rattle.std.specs.Prelude.{◌≡◌, ◌≤◌, ◌↔◌, ◌⊎◌, ℕ, [], length, IfOk, IfErr, OnErr, IsErrOf, vec_len, map};
+ghost use Rattle.std.specs.FinMap as finmap;
+ghost use Rattle.bins.specs.Replacements.{ReplacesEach};
+ghost use Rattle.atomic_methods.specs.Hashes.{IsStripeCount};
+ghost use Rattle.atomic_methods.specs.Invocations.{invocation_of};
+ghost use Rattle.atomic_methods.specs.Methods.{Answers, WouldAdd};
+ghost use Rattle.atomic_methods.specs.Runs.{AnswersInTurn, first_of, IsRefused};
+ghost use Rattle.atomic_methods.specs.Whole.{stripe_at, all_entries, ReplacesStripes};
+
+use crate::call::Call;
+use crate::fault::OpenFault;
+use crate::methods;
+use crate::reply::Reply;
+use crate::stripes::{MAX_STRIPES, is_stripe_count, stripe_of};
+use bins::{Bins, Counts, ListBins};
+use bpf_model::{Key, NoMemory, Value};
+use std::alloc::Global;
+use std::marker::Model;
+use verifier::Verified;
+
+/// Why a list of calls was not made to its end: memory was refused.
+#[derive(Debug, Drop)]
+pub struct Stopped {
+    /// The replies to the calls that were made, which stand. None where the list of replies itself found no room.
+    pub replies: Vec<Reply>,
+}
+
+/// A table of one caller, in stripes by the hashes of the keys.
+#[derive(Drop)]
+pub struct Striped {
+    stripes: Vec<ListBins>,
+}
+
+impl Model for Striped {
+    ghost use Rattle.bins.specs.Table.{Table, table_code};
+    ghost use Rattle.atomic_methods.specs.Whole.{whole, AreStripes};
+
+    ghost Value = { Table };
+
+    ghost coded = { table_code };
+
+    ghost view = { λ striped. whole striped.stripes.items };
+
+    ghost invariant = { λ striped. AreStripes striped.stripes.items };
+}
+
+impl Striped {
+    /// A table without entries. `BadStripes` where it may not have so many stripes, else `NoMemory` where a request for
+    /// memory was refused.
+    pub fn open(alloc: Global, stripes: u64) -> Result<Striped, OpenFault>
+        ensures bad_stripes { IsErrOf result OpenFault.BadStripes ↔ (IsStripeCount stripes → ⊥) }
+        ensures ok { IfOk result (λ striped. striped ≡ finmap.empty) }
+    {
+        if !is_stripe_count(stripes) {
+            return Err(OpenFault::BadStripes);
+        }
+        let stripes = empty_stripes(alloc, stripes)?;
+        Ok(Striped { stripes })
+    }
+
+    /// Makes one call on the whole table. `NoMemory` only where it would have added a key and the room for it was
+    /// refused; the table is then as before. A call that adds no key takes no memory. Never waits.
+    pub fn apply(&mut self, call: &Call) -> Result<Reply, NoMemory>
+        ensures ok { IfOk result (Answers self.old (invocation_of call.now) self.new) }
+        ensures err { OnErr result (self.new ≡ self.old) }
+        ensures memory { OnErr result (WouldAdd self.old (invocation_of call.now)) }
+    {
+        let place = stripe_of(call.key(), self.stripes.len() as u64) as usize;
+        methods::apply(&mut self.stripes[place], call)
+    }
+
+    /// Makes the calls in turn, each on what the ones before it left. Where a call is refused, neither it nor any after
+    /// it is made. Room for the replies is asked for first. Never waits.
+    pub fn run(&mut self, alloc: Global, calls: &[Call]) -> Result<Vec<Reply>, Stopped>
+        ensures ok { IfOk result (λ replies.
+            AnswersInTurn self.old (map invocation_of calls.now) self.new replies.items) }
+        ensures err { IfErr result (λ stopped.
+            let made = first_of calls.now (length stopped.replies.items) in
+            AnswersInTurn self.old made self.new stopped.replies.items) }
+        ensures memory { IfErr result (λ stopped. (stopped.replies.items ≡ [])
+            ⊎ IsRefused self.new calls.now (length stopped.replies.items)) }
+    {
+        let Ok(mut replies) = Vec::with_capacity(alloc, calls.len()) else {
+            return Err(Stopped {
+                replies: Vec::new(alloc),
+            });
+        };
+        for call in calls {
+            match self.apply(call) {
+                Ok(reply) => replies.push_reserved(reply),
+                Err(NoMemory) => return Err(Stopped { replies }),
+            }
+        }
+        Ok(replies)
+    }
+
+    /// Copies of all entries, in key order. `NoMemory` where a request for memory was refused. Never waits.
+    pub fn scan(&self, alloc: Global) -> Result<Vec<(Key, Value)>, NoMemory>
+        ensures ok { IfOk result (λ found. found.items ≡ finmap.entries self.now) }
+    {
+        let mut found = entries_of(alloc, &self.stripes)?;
+        found.sort_by(|a, b| a.0.cmp(&b.0))?;
+        Ok(found)
+    }
+
+    /// Replaces the value of each key of the table once by what the program answers on the key, its value and the
+    /// argument. An answer of nothing keeps the entry, and one that is too long for a window stays. Takes no memory. Never
+    /// waits.
+    pub fn replace_each(&mut self, program: &Verified, arg: &Option<Value>) -> Counts
+        ensures each { ReplacesEach program.now arg.now self.old self.new result }
+    {
+        replace_stripes(&mut self.stripes, program, arg)
+    }
+}
+
+// Replaces the values of each stripe, and counts them together.
+fn replace_stripes(stripes: &mut Vec<ListBins>, program: &Verified, arg: &Option<Value>) -> Counts
+    requires few { length stripes.old.items ≤ MAX_STRIPES }
+    ensures each { ReplacesStripes program.now arg.now stripes.old.items stripes.new.items result }
+{
+    let mut scanned = 0;
+    let mut given = 0;
+    let mut unfit = 0;
+    for stripe in stripes.iter_mut() {
+        let counts = stripe.replace_each(program, arg);
+        scanned += counts.scanned;
+        given += counts.given;
+        unfit += counts.unfit;
+    }
+    Counts {
+        scanned,
+        given,
+        unfit,
+    }
+}
+
+// So many stripes without entries.
+fn empty_stripes(alloc: Global, count: u64) -> Result<Vec<ListBins>, NoMemory>
+    ensures count { IfOk result (λ stripes. length stripes.items ≡ count) }
+    ensures empty { IfOk result (λ stripes. (i : ℕ) → stripe_at stripes.items i ≡ finmap.empty) }
+{
+    let mut stripes = Vec::new(alloc);
+    for _ in 0..count {
+        stripes.push(ListBins::open(alloc, count)?)?;
+    }
+    Ok(stripes)
+}
+
+// Copies of the entries of each stripe in turn.
+fn entries_of(alloc: Global, stripes: &[ListBins]) -> Result<Vec<(Key, Value)>, NoMemory>
+    ensures ok { IfOk result (λ found. found.items ≡ all_entries stripes.now) }
+{
+    let mut found = Vec::new(alloc);
+    for stripe in stripes {
+        let mut entries = stripe.entries(alloc)?;
+        found.append(&mut entries)?;
+    }
+    Ok(found)
+}
