@@ -1,6 +1,3 @@
-pub mod SortedEntries
-pub mod MapEdits
-pub mod CallLemmas
 pub mod ListLemmas
 pub mod HexLemmas
 pub mod UnitLineLemmas

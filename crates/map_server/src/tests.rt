@@ -1,3 +1,4 @@
 //! Whole ways of programs.
 
 mod branches;
+mod flows;
