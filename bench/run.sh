@@ -95,5 +95,5 @@ measure_verify() {
 measure sum 0300000000000000 2000000 "a run of the sum" 1 2000
 measure alu e1218400fffdfbf7 50000 "an instruction of 501" 501 200
 measure_verify straight 2000
-measure_verify jumps 200
-measure_verify ladder 200
+measure_verify jumps 1000
+measure_verify ladder 1000
