@@ -19,7 +19,8 @@ impl AbstractState {
     pub(super) fn operand(&self, src: Operand) -> Result<RegValue, StepFault>
         ensures ok { IfOk result (KnowsOperand self.now src) }
         ensures value { IfOk result (λ x. x ≢ Unwritten) }
-        ensures enough { ((r : ℕ) → src ≡ TheRegister r → known self.now r ≢ Unwritten) → IsOk result }
+        ensures enough { ((r : ℕ) → src ≡ TheRegister r → known self.now r ≢ Unwritten)
+            → IsOk result }
     {
         match src {
             Operand::Register(register) => self.read(register.number()),
@@ -31,7 +32,8 @@ impl AbstractState {
         requires register { register ≤ 10 }
         ensures ok { IfOk result (Knows self.now register) }
         ensures exact { IfOk result (λ x. (x ≡ known self.now register) × (x ≢ Unwritten)) }
-        ensures enough { known self.now register ≢ Unwritten → result ≡ Ok (known self.now register) }
+        ensures enough { known self.now register ≢ Unwritten
+            → result ≡ Ok (known self.now register) }
     {
         match self.registers[register as usize] {
             RegValue::Unwritten => Err(StepFault::UnwrittenRegister),
