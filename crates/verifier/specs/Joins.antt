@@ -21,6 +21,12 @@ JoinsFrames f g h = (r : Region) (i : ℕ) → is_written h r i ≡ (is_written 
 abbrev pub register : AbstractState → ℕ → RegValue
 register a r = slice_index_or a.registers r Unwritten
 
+-- one register is set, and nothing else
+pub record SetsTo (a : AbstractState) (dst : ℕ) (x : RegValue) (b : AbstractState) : Type 0 where
+  pub here : register b dst ≡ x
+  pub others : (r : ℕ) → r ≢ dst → register b r ≡ register a r
+  pub frame : b.frame ≡ a.frame
+
 -- the third state knows what both of the others know
 pub record JoinsStates (a b c : AbstractState) : Type 0 where
   pub registers : (r : ℕ) → JoinsValues (register a r) (register b r) (register c r)

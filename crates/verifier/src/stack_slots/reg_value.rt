@@ -1,5 +1,5 @@
 //! What is known of a register.
-ghost use Rattle.std.specs.Prelude.{◌≡◌, ℕ, Some};
+ghost use Rattle.std.specs.Prelude.{ℕ, Some};
 ghost use Rattle.value_ranges.specs.In.{IsIn};
 ghost use Rattle.verifier.specs.Frames.{StandsFor};
 ghost use Rattle.verifier.specs.declared.stack_slots.reg_value.RegValue.TheVariants.{Pointer as PointerInto};

@@ -1,4 +1,6 @@
 //! Programs that are refused, each fault with its number and unit, and what each fault is printed as.
+ghost use Rattle.std.specs.Prelude.{◌≤◌};
+
 use super::{
     EXIT, Row, SIZES, add, alu, check, copy, load, low_half, mov, negate, reg, sign_extend, store,
     store_byte, wide,
@@ -175,19 +177,29 @@ fn the_least_number_of_a_unit_is_named(rt: HostRuntime) -> Result<(), Fail> {
     check(&rt, rt.alloc(), SIZES, &rows)
 }
 
-#[test]
-fn jumps_have_their_faults(rt: HostRuntime) -> Result<(), Fail> {
-    let past_one = Insn::Jump { distance: 1 };
-    let branch = |dst, src| Insn::Branch {
+/// Past the next instruction.
+fn past_one() -> Insn {
+    Insn::Jump { distance: 1 }
+}
+
+/// To the next instruction, whether or not the condition holds.
+fn compare(dst: u8, src: Operand) -> Insn
+    requires { dst ≤ 10 }
+{
+    Insn::Branch {
         test: JumpOp::Eq,
         width: Width::W64,
-        dst,
+        dst: reg(dst),
         src,
         distance: 0,
-    };
-    let on_r5 = branch(reg(5), Operand::Immediate(0));
-    let with_r5 = branch(reg(6), Operand::Register(reg(5)));
-    let rows: [Row; 6] = [
+    }
+}
+
+#[test]
+fn jumps_have_their_faults(rt: HostRuntime) -> Result<(), Fail> {
+    let on_r5 = compare(5, Operand::Immediate(0));
+    let with_r5 = compare(6, Operand::Register(reg(5)));
+    let rows: [Row; 5] = [
         ("on r5", &[mov(0, -1), on_r5, EXIT], Some((40, 1))),
         ("with r5", &[mov(0, -1), with_r5, EXIT], Some((40, 1))),
         (
@@ -197,17 +209,12 @@ fn jumps_have_their_faults(rt: HostRuntime) -> Result<(), Fail> {
         ),
         (
             "what it passes over is not tested",
-            &[past_one, load(0, 5, 0), mov(0, -1), EXIT],
-            None,
-        ),
-        (
-            "behind an exit nothing is",
-            &[mov(0, -1), EXIT, on_r5, EXIT],
+            &[past_one(), load(0, 5, 0), mov(0, -1), EXIT],
             None,
         ),
         (
             "r0 is written only behind the jump",
-            &[past_one, mov(0, -1), EXIT],
+            &[past_one(), mov(0, -1), EXIT],
             Some((40, 2)),
         ),
     ];

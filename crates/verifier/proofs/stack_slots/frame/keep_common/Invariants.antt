@@ -1,4 +1,4 @@
-use Rattle.std.proofs.Common.{◌≡◌, ℕ, ◌<◌, ◌≤◌, false, get_or, length}
+use Rattle.std.proofs.Common.{◌≡◌, ℕ, ◌<◌, ◌≤◌, false, get_or}
 use Rattle.std.specs.Prelude.{◌&&◌}
 use Rattle.verifier.proofs.stack_slots.frame.keep_common.Given as goal
 
