@@ -1,1 +1,5 @@
 pub mod PointerLemmas
+pub mod ValueLemmas
+pub mod MarkLemmas
+pub mod FrameLemmas
+pub mod MarkingLemmas

@@ -53,11 +53,11 @@ fills_slot a slot =
 
 -- the word that the number read gives, extended with zeros or with the sign
 abbrev pub loaded_word : AccessSize → Bool → ℕ → ℕ
+loaded_word DoubleWord signed n = n
 loaded_word size false n = n
 loaded_word Byte true n = extended From8To64 n
 loaded_word HalfWord true n = extended From16To64 n
 loaded_word Word true n = extended From32To64 n
-loaded_word DoubleWord true n = n
 
 -- each byte of the memory is a byte
 abbrev pub HasBytes : Partial → Type 0

@@ -1,5 +1,6 @@
 -- What is known of a register's word, and of which words it is true. This verifier's own.
-use Rattle.std.specs.Prelude.{◌≡◌, ℕ, min, max, Option, Some, None, ℤ, ◌≤ℤ◌}
+use Rattle.std.specs.Prelude.{◌≡◌, ℕ, min, max, Bool, nat_eq, Option, Some, None, ℤ, ◌≤ℤ◌}
+use Rattle.std.specs.Bool.{MatchBool}
 use Rattle.std.specs.Int.{int_min, int_max}
 use Rattle.bpf_model.specs.declared.region.Region.{Region}
 use Rattle.bpf_model.specs.Words.{IsWord}
@@ -54,10 +55,9 @@ pub record IsPointerOver (p q : Pointer) (x : RegValue) : Type 0 where
   pub is : x ≡ PointerInto pointer
   pub offsets : IsPointer p.region (int_min p.least q.least) (int_max p.greatest q.greatest) pointer
 
--- what two pointers have in common: a pointer, where they point into one window
-pub record ArePointersOver (p q : Pointer) (x : RegValue) : Type 0 where
-  pub same : p.region ≡ q.region → IsPointerOver p q x
-  pub other : (p.region ≡ q.region → ⊥) → IsAnyNumber x
+-- whether two pointers point into one window
+abbrev pub have_one_window : Pointer → Pointer → Bool
+have_one_window p q = nat_eq (first_address p.region) (first_address q.region)
 
 -- what is known of a word of which the first or the second was known
 abbrev pub IsJoin : RegValue → RegValue → RegValue → Type 0
@@ -67,7 +67,7 @@ IsJoin (Number r) (Number s) x = IsNumberOver r s x
 IsJoin (Number r) (PointerInto q) x = IsAnyNumber x
 IsJoin (PointerInto p) Unwritten x = x ≡ Unwritten
 IsJoin (PointerInto p) (Number s) x = IsAnyNumber x
-IsJoin (PointerInto p) (PointerInto q) x = ArePointersOver p q x
+IsJoin (PointerInto p) (PointerInto q) x = MatchBool (have_one_window p q) (IsPointerOver p q x) (IsAnyNumber x)
 
 -- a pointer into the window, at a distance from lo to hi
 pub record IsPointerIn (w : Region) (lo hi : ℤ) (x : RegValue) : Type 0 where

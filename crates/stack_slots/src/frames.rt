@@ -65,7 +65,11 @@ impl Frame {
             return;
         }
         let end = access.greatest + access.size.bytes();
-        forget(&mut self.slots, access.least / SLOT_BYTES, end.div_ceil(SLOT_BYTES));
+        forget(
+            &mut self.slots,
+            access.least / SLOT_BYTES,
+            end.div_ceil(SLOT_BYTES),
+        );
         if let Some(slot) = access.filled_slot() {
             self.slots[slot] = Some(*value);
         }

@@ -18,7 +18,7 @@ returns-clause-value c =
     let n = c.args.number in
     let low = reads p.least n.smin c.in_ok-least.least (search rules) (search rules) c.in_ok-least.ensures in
     let high = reads p.greatest n.smax c.in_ok-greatest.greatest (search rules) (search rules) c.in_ok-greatest.ensures in
-    IfSome_then c.new.result c.new.ensures.value (λ q is. (is.0, (is.1.0 ∙ low, is.1.1 ∙ high)))
+    IfSome_then c.new.result c.new.ensures.value (λ q is. record { region_is = is.region_is; least_is = is.least_is ∙ low; greatest_is = is.greatest_is ∙ high })
 
 pub returns-clause-some : goal.returns-clause-some
 returns-clause-some c =
@@ -28,7 +28,7 @@ returns-clause-some c =
     let high = reads p.greatest n.smax c.in_ok-greatest.greatest (search rules) (search rules) c.in_ok-greatest.ensures in
     let some = rw (low, high) at c.new.ensures.some in
     let order : (p.least +ℤ n.smin) ≤ℤ (p.greatest +ℤ n.smax) = omega (arith, ints, p.order, n.signed_order) in
-    (λ yes. let h = some.0 yes in (h.0, h.1.0), λ near. some.1 (near.0, (near.1, order)))
+    (λ yes. (some.0 yes).0, λ near. some.1 (near, order))
 
 pub returns-clause-holds : goal.returns-clause-holds
 returns-clause-holds c =
@@ -37,4 +37,4 @@ returns-clause-holds c =
     let low = reads p.least n.smin c.in_ok-least.least (search rules) (search rules) c.in_ok-least.ensures in
     let high = reads p.greatest n.smax c.in_ok-greatest.greatest (search rules) (search rules) c.in_ok-greatest.ensures in
     IfSome_then c.new.result c.new.ensures.value (λ q is x y at lies.
-    points_plus p q n x y is.0 (is.1.0 ∙ low) (is.1.1 ∙ high) at lies)
+    points_plus p q n x y is.region_is (is.least_is ∙ low) (is.greatest_is ∙ high) at lies)
