@@ -1,13 +1,11 @@
 -- Frames and the memories that they describe.
-use Rattle.std.proofs.Common.{◌≡◌, ◌≢◌, ℕ, zero, suc, ◌+◌, ◌-◌, ◌*◌, ◌/◌, ◌%◌, ◌^◌, ◌<◌, ◌≤◌, ◌⊎◌, Bool, true, false, cond, List, [], ◌∷◌, length, Option, Some, None, get_or, replicate, refl, sym, ap, subst, ◌∙◌, arith, rules, inl, inr}
-use Rattle.std.specs.Prelude.{IsSome, nat_eq, nat_le, nat_lt, ◌&&◌, ◌||◌}
-use Rattle.std.specs.Int.{div_ceil}
+use Rattle.std.proofs.Common.{◌≡◌, ◌≢◌, ℕ, zero, suc, ◌+◌, ◌-◌, ◌*◌, ◌/◌, ◌^◌, ◌<◌, ◌≤◌, ◌⊎◌, Bool, true, false, cond, List, [], ◌∷◌, length, Option, Some, None, get_or, refl, sym, ap, subst, ◌∙◌, arith, rules, inl, inr}
+use Rattle.std.specs.Prelude.{IsSome, nat_eq, nat_le, nat_lt, ◌&&◌}
 use Rattle.std.specs.Option.{option_map}
-use Rattle.std.proofs.lemmas.Bool.{cases_Bool, and_parts, and_cases, or_cases, eq-eqb, eqb-true, ltb-true, ltb-false, lt-ltb, le-leb}
+use Rattle.std.proofs.lemmas.Bool.{cases_Bool, and_parts, and_cases, or_cases, eqb-true, ltb-false}
 use Rattle.std.proofs.lemmas.Bool.Decides.{nat_tests}
 use Rattle.std.proofs.Math.ListN.{get_or-eq_default}
 use Rattle.std.proofs.Math.Nat.{pow-succ'}
-use Rattle.bpf_model.specs.declared.limits.TheConstants.{VALUE_BYTES, STACK_BYTES}
 use Rattle.bpf_model.specs.declared.region.Region.{Region}
 use Rattle.bpf_model.specs.declared.region.Region.TheVariants.{Key, Old, Arg, Result, Stack}
 use Rattle.bpf_model.specs.declared.accesses.AccessSize.{AccessSize}
@@ -21,16 +19,13 @@ use Rattle.bpf_model.proofs.WordLemmas.{word_of-bound, length-bytes_of}
 use Rattle.value_ranges.specs.declared.range.Range.{Range}
 use Rattle.value_ranges.specs.In.{IsIn}
 use Rattle.stack_slots.specs.declared.access.Access.{Access}
-use Rattle.stack_slots.specs.declared.access.TheConstants.{SLOT_BYTES}
 use Rattle.stack_slots.specs.declared.frame.Frame.{Frame}
 use Rattle.stack_slots.specs.declared.reg_value.RegValue.{RegValue}
 use Rattle.stack_slots.specs.declared.reg_value.RegValue.TheVariants.{Unwritten, Number}
 use Rattle.stack_slots.specs.Kept.{kept_bytes}
-use Rattle.stack_slots.specs.Marks.{is_marked}
 use Rattle.stack_slots.specs.Values.{StandsFor, IsJoin}
 use Rattle.stack_slots.specs.Accesses.{MayBeAt, touches, is_stack, touches_slot, fills_slot, loaded_word, HasBytes, ReadsAs}
-use Rattle.stack_slots.specs.Frames.{is_written, spilled_in, slot_word, DescribesMemory, NoneUnwritten, AreWritten, Marks, Spills, spilled_after, DescribesStore, MeetsMarks, IsSlotJoin, JoinsSlots, DescribesMore}
-use Rattle.stack_slots.proofs.MarkLemmas.{none_in_zeros}
+use Rattle.stack_slots.specs.Frames.{is_written, spilled_in, slot_word, DescribesMemory, NoneUnwritten, AreWritten, Marks, Spills, DescribesStore, MeetsMarks, IsSlotJoin, JoinsSlots, DescribesMore}
 use Rattle.stack_slots.proofs.PointerLemmas.{stands_word}
 use Rattle.stack_slots.proofs.ValueLemmas.{join_first, join_second, join_value}
 

@@ -3,3 +3,4 @@ pub mod ValueLemmas
 pub mod MarkLemmas
 pub mod FrameLemmas
 pub mod MarkingLemmas
+pub mod LoadLemmas

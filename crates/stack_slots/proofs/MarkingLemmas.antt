@@ -1,5 +1,5 @@
 -- Frames by their parts.
-use Rattle.std.proofs.Common.{◌≡◌, ◌≢◌, ℕ, zero, suc, ◌+◌, ◌*◌, ◌/◌, ◌<◌, ◌≤◌, Bool, true, false, cond, List, length, Option, Some, None, get_or, set, replicate, refl, sym, ap, subst, ◌∙◌, arith, rules, inl, inr}
+use Rattle.std.proofs.Common.{◌≡◌, ℕ, zero, suc, ◌+◌, ◌*◌, ◌/◌, ◌<◌, Bool, true, false, List, length, Option, Some, None, get_or, set, replicate, refl, sym, ap, ◌∙◌, arith, rules, inl, inr}
 use Rattle.std.specs.Prelude.{nat_eq, nat_le, nat_lt, ◌&&◌, ◌||◌, slice_index_or, if◌then◌else◌, IfSome, IfNone}
 use Rattle.std.specs.Int.{div_ceil}
 use Rattle.std.proofs.lemmas.Bool.{cases_eq, eq-eqb, eqb-true, ne_eqb}
@@ -9,7 +9,7 @@ use Rattle.std.proofs.lemmas.Grind.{get_or-set_at}
 use Rattle.bpf_model.specs.declared.region.Region.{Region}
 use Rattle.bpf_model.specs.declared.region.Region.TheVariants.{Key, Old, Arg, Result, Stack}
 use Rattle.bpf_model.specs.Accesses.{byte_count}
-use Rattle.bpf_model.specs.Memory.{Partial, first_address}
+use Rattle.bpf_model.specs.Memory.{Partial}
 use Rattle.stack_slots.specs.declared.access.Access.{Access}
 use Rattle.stack_slots.specs.declared.access.TheConstants.{SLOTS}
 use Rattle.stack_slots.specs.declared.frame.Frame.{Frame}

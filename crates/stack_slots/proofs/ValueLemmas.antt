@@ -1,14 +1,12 @@
 -- What two values have in common.
-use Rattle.std.proofs.Common.{◌≡◌, ◌≢◌, ℕ, ◌≤◌, ◌∙◌, min, max, Bool, true, false, Option, Some, None, refl, sym, ap, subst, arith, inl, inr, ℤ}
-use Rattle.std.specs.Prelude.{◌≤ℤ◌, nat_eq}
-use Rattle.std.specs.Bool.{MatchBool}
+use Rattle.std.proofs.Common.{◌≡◌, ◌≢◌, ℕ, ◌∙◌, min, max, true, Option, Some, None, refl, sym, ap, subst, arith, inl, inr, ℤ}
+use Rattle.std.specs.Prelude.{◌≤ℤ◌}
 use Rattle.std.specs.Int.{int_min, int_max}
 use Rattle.std.proofs.lemmas.Int.{ints}
 use Rattle.std.proofs.lemmas.Bool.{cases_Bool, eqb-true, eq-eqb}
-use Rattle.std.proofs.lemmas.Bool.Decides.{nat_tests, when_true, when_false}
+use Rattle.std.proofs.lemmas.Bool.Decides.{when_true, when_false}
 use Rattle.bpf_model.specs.declared.region.Region.{Region}
 use Rattle.bpf_model.specs.declared.region.Region.TheVariants.{Key, Old, Arg, Result, Stack}
-use Rattle.bpf_model.specs.Words.{IsWord, signed}
 use Rattle.bpf_model.specs.Memory.{first_address}
 use Rattle.bpf_model.specs.Step.{address_of}
 use Rattle.value_ranges.specs.declared.range.Range.{Range}

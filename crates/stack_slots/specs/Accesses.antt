@@ -1,14 +1,16 @@
 -- Loads and stores of stack and result. Our profile of RFC 9669; what a load gives: RFC 9669, section 5.
-use Rattle.std.specs.Prelude.{◌≡◌, ℕ, ◌+◌, ◌*◌, ◌<◌, ◌≤◌, Bool, true, false, ◌&&◌, List, Option, Some, nat_eq, nat_le, nat_lt}
+use Rattle.std.specs.Prelude.{◌≡◌, ℕ, ◌+◌, ◌*◌, ◌<◌, ◌≤◌, Bool, true, false, ◌&&◌, List, Some, nat_eq, nat_le, nat_lt, pos, neg_ℤ}
 use Rattle.bpf_model.specs.declared.region.Region.{Region}
 use Rattle.bpf_model.specs.declared.region.Region.TheVariants.{Key, Old, Arg, Result, Stack}
 use Rattle.bpf_model.specs.declared.operations.SignExtension.TheVariants.{From8To64, From16To64, From32To64}
 use Rattle.bpf_model.specs.declared.accesses.AccessSize.{AccessSize}
 use Rattle.bpf_model.specs.declared.accesses.AccessSize.TheVariants.{Byte, HalfWord, Word, DoubleWord}
-use Rattle.bpf_model.specs.Words.{word_of}
+use Rattle.bpf_model.specs.Words.{IsWord, word_of}
 use Rattle.bpf_model.specs.Arithmetic.{extended}
 use Rattle.bpf_model.specs.Accesses.{byte_count}
 use Rattle.bpf_model.specs.Memory.{Partial, first_address, bytes_at}
+use Rattle.value_ranges.specs.declared.range.Range.{Range}
+use Rattle.value_ranges.specs.In.{IsIn}
 use Rattle.stack_slots.specs.declared.access.Access.{Access}
 use Rattle.stack_slots.specs.declared.access.TheConstants.{SLOT_BYTES}
 use Rattle.stack_slots.specs.declared.reg_value.RegValue.{RegValue}
@@ -58,6 +60,16 @@ loaded_word size false n = n
 loaded_word Byte true n = extended From8To64 n
 loaded_word HalfWord true n = extended From16To64 n
 loaded_word Word true n = extended From32To64 n
+
+-- the bounds of the words that a load may give, by the reading that it extends; a load of eight bytes may give any word
+abbrev pub IsLoadRange : AccessSize → Bool → Range → Type 0
+IsLoadRange DoubleWord signed r = (w : ℕ) → IsWord w → IsIn w r
+IsLoadRange Byte false r = (r.umin ≡ 0) × (r.umax ≡ 0xff)
+IsLoadRange HalfWord false r = (r.umin ≡ 0) × (r.umax ≡ 0xffff)
+IsLoadRange Word false r = (r.umin ≡ 0) × (r.umax ≡ 0xffff_ffff)
+IsLoadRange Byte true r = (r.smin ≡ neg_ℤ (pos 0x80)) × (r.smax ≡ pos 0x7f)
+IsLoadRange HalfWord true r = (r.smin ≡ neg_ℤ (pos 0x8000)) × (r.smax ≡ pos 0x7fff)
+IsLoadRange Word true r = (r.smin ≡ neg_ℤ (pos 0x8000_0000)) × (r.smax ≡ pos 0x7fff_ffff)
 
 -- each byte of the memory is a byte
 abbrev pub HasBytes : Partial → Type 0

@@ -6,14 +6,15 @@ use Rattle.bpf_model.specs.declared.region.Region.TheVariants.{Key, Old, Arg, Re
 use Rattle.bpf_model.specs.Words.{bytes_of, word_of}
 use Rattle.bpf_model.specs.Accesses.{byte_count}
 use Rattle.bpf_model.specs.Memory.{Partial, first_address, bytes_at, with_bytes}
+use Rattle.value_ranges.specs.declared.range.Range.{Range}
 use Rattle.stack_slots.specs.declared.access.Access.{Access}
 use Rattle.stack_slots.specs.declared.access.TheConstants.{SLOT_BYTES}
 use Rattle.stack_slots.specs.declared.frame.Frame.{Frame}
 use Rattle.stack_slots.specs.declared.reg_value.RegValue.{RegValue}
-use Rattle.stack_slots.specs.declared.reg_value.RegValue.TheVariants.{Unwritten}
+use Rattle.stack_slots.specs.declared.reg_value.RegValue.TheVariants.{Unwritten, Number}
 use Rattle.stack_slots.specs.Marks.{is_marked}
 use Rattle.stack_slots.specs.Values.{StandsFor, IsJoin}
-use Rattle.stack_slots.specs.Accesses.{MayBeAt, touches, touches_slot, fills_slot, HasBytes, ReadsAs}
+use Rattle.stack_slots.specs.Accesses.{MayBeAt, touches, touches_slot, fills_slot, IsLoadRange, HasBytes, ReadsAs}
 
 -- whether the frame has the window's byte at this distance as written
 unfoldable pub is_written : Frame → Region → ℕ → Bool
@@ -76,6 +77,16 @@ FindsLoaded f a x =
 -- the value of a slot that the access fills, where one was spilled there
 abbrev pub Reloads : Frame → Access → RegValue → Type 0
 Reloads f a x = (slot : ℕ) (y : RegValue) → fills_slot a slot ≡ true → spilled_in f slot ≡ Some y → x ≡ y
+
+-- a number of the range of all words that the access may load
+pub record IsLoadedNumber (a : Access) (x : RegValue) : Type 0 where
+  pub range : Range
+  pub is : x ≡ Number range
+  pub bounds : IsLoadRange a.size a.signed range
+
+-- such a number, where no value was spilled to a slot that the access fills
+abbrev pub LoadsNumber : Frame → Access → RegValue → Type 0
+LoadsNumber f a x = ((slot : ℕ) → fills_slot a slot ≡ true → spilled_in f slot ≡ None) → IsLoadedNumber a x
 
 -- the third frame has as written what both have
 abbrev pub MeetsMarks : Frame → Frame → Frame → Type 0

@@ -1,5 +1,5 @@
 -- What is known of a register's word, and of which words it is true. This verifier's own.
-use Rattle.std.specs.Prelude.{◌≡◌, ℕ, min, max, Bool, nat_eq, Option, Some, None, ℤ, ◌≤ℤ◌}
+use Rattle.std.specs.Prelude.{◌≡◌, ℕ, min, max, Bool, nat_eq, Option, Some, None, ℤ, pos, ◌+ℤ◌, ◌≤ℤ◌}
 use Rattle.std.specs.Bool.{MatchBool}
 use Rattle.std.specs.Int.{int_min, int_max}
 use Rattle.bpf_model.specs.declared.region.Region.{Region}
@@ -27,6 +27,11 @@ StandsFor (Number r) None = ⊥
 StandsFor (Number r) (Some w) = IsIn w r
 StandsFor (PointerInto p) None = ⊥
 StandsFor (PointerInto p) (Some w) = PointsTo p w
+
+-- a range whose signed bounds are the least and the greatest address of a pointer
+pub record IsAddressRange (p : Pointer) (r : Range) : Type 0 where
+  pub smin : r.smin ≡ pos (first_address p.region) +ℤ p.least
+  pub smax : r.smax ≡ pos (first_address p.region) +ℤ p.greatest
 
 -- a pointer with these offsets
 pub record IsPointer (region : Region) (least greatest : ℤ) (p : Pointer) : Type 0 where

@@ -18,3 +18,6 @@ pub struct Frame {
     pub(crate) stack: [u64; STACK_WORDS],
     pub(crate) slots: [Option<RegValue>; SLOTS],
 }
+
+// A frame with a value for each of the eleven registers fits in four pages of 1,024 bytes.
+const _: () = prove!(size_of::<Frame>() + 11 * size_of::<RegValue>() <= 4 * 1024);

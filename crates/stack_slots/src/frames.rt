@@ -5,7 +5,7 @@ ghost use Rattle.bpf_model.specs.declared.region.Region.{Region as Window};
 ghost use Rattle.bpf_model.specs.declared.region.Region.TheVariants.{Result as ResultWindow};
 ghost use Rattle.bpf_model.specs.Memory.{Partial};
 ghost use Rattle.stack_slots.specs.Accesses.{fills_slot};
-ghost use Rattle.stack_slots.specs.Frames.{is_written, spilled_in, DescribesMemory, NoneUnwritten, AreWritten, KeepsMarks, Marks, Spills, DescribesStore, FindsLoaded, Reloads, MeetsMarks, JoinsSlots, DescribesMore};
+ghost use Rattle.stack_slots.specs.Frames.{is_written, spilled_in, DescribesMemory, NoneUnwritten, AreWritten, KeepsMarks, Marks, Spills, DescribesStore, FindsLoaded, Reloads, LoadsNumber, MeetsMarks, JoinsSlots, DescribesMore};
 
 use crate::access::{Access, SLOT_BYTES, SLOTS};
 use crate::frame::{Frame, RESULT_WORDS, STACK_WORDS};
@@ -64,12 +64,9 @@ impl Frame {
         if !matches!(access.region, Region::Stack) {
             return;
         }
-        let end = access.greatest + access.size.bytes();
-        forget(
-            &mut self.slots,
-            access.least / SLOT_BYTES,
-            end.div_ceil(SLOT_BYTES),
-        );
+        let first = access.least / SLOT_BYTES;
+        let past = (access.greatest + access.size.bytes()).div_ceil(SLOT_BYTES);
+        forget(&mut self.slots, first, past);
         if let Some(slot) = access.filled_slot() {
             self.slots[slot] = Some(*value);
         }
@@ -94,6 +91,7 @@ impl Frame {
         ensures some { IsSome result ↔ AreWritten self.now access.now }
         ensures found { IfSome result (FindsLoaded self.now access.now) }
         ensures spilled { IfSome result (Reloads self.now access.now) }
+        ensures number { IfSome result (LoadsNumber self.now access.now) }
         ensures value { NoneUnwritten self.now → IfSome result (λ x. x ≢ RegValue.Unwritten) }
     {
         if !self.are_written(access) {

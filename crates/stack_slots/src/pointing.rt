@@ -1,10 +1,9 @@
 //! Where pointers point, and pointers that move by numbers.
 ghost use Rattle.std.specs.Prelude.{◌≡◌, ◌+◌, ◌-◌, ◌%◌, ◌^◌, ℕ, pos, ◌≤ℤ◌, ◌+ℤ◌, ◌-ℤ◌, ◌↔◌, IsSome, IfSome};
 ghost use Rattle.std.specs.Int.{int_min, int_max};
-ghost use Rattle.bpf_model.specs.Memory.{first_address};
 ghost use Rattle.value_ranges.specs.In.{IsIn};
 ghost use Rattle.stack_slots.specs.Offsets.{AreInReach};
-ghost use Rattle.stack_slots.specs.Values.{PointsTo, IsPointer};
+ghost use Rattle.stack_slots.specs.Values.{PointsTo, IsPointer, IsAddressRange};
 
 use crate::pointer::Pointer;
 use bpf_model::Region;
@@ -73,8 +72,7 @@ impl Pointer {
     /// The range of the addresses.
     pub fn addresses(self) -> Range
         ensures holds { (w : ℕ) → PointsTo self w → IsIn w result }
-        ensures least { result.smin ≡ pos (first_address self.region) +ℤ self.least }
-        ensures greatest { result.smax ≡ pos (first_address self.region) +ℤ self.greatest }
+        ensures bounds { IsAddressRange self result }
     {
         let first = self.region.first_address().cast_signed();
         Range::signed(first + self.least, first + self.greatest)

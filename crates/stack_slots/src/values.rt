@@ -1,10 +1,10 @@
 //! Values of registers as numbers, and what two of them have in common.
 ghost use Rattle.std.specs.Prelude.{◌≡◌, ◌≢◌, ℕ, ℤ, Option, Some};
 ghost use Rattle.bpf_model.specs.declared.region.Region.{Region as Window};
-ghost use Rattle.bpf_model.specs.Memory.{first_address};
 ghost use Rattle.value_ranges.specs.In.{IsIn};
-ghost use Rattle.stack_slots.specs.Values.{StandsFor, IsJoin, IsPointerIn, IsNumberIn};
+ghost use Rattle.stack_slots.specs.Values.{StandsFor, IsAddressRange, IsJoin, IsPointerIn, IsNumberIn};
 
+use crate::pointer::Pointer;
 use crate::reg_value::RegValue;
 use value_ranges::Range;
 
@@ -13,6 +13,7 @@ impl RegValue {
     pub fn as_number(&self) -> Range
         ensures holds { (w : ℕ) → StandsFor self.now (Some w) → IsIn w result }
         ensures number { (r : Range) → self.now ≡ RegValue.Number r → result ≡ r }
+        ensures pointer { (p : Pointer) → self.now ≡ RegValue.Pointer p → IsAddressRange p result }
     {
         match self {
             RegValue::Unwritten => Range::full(),

@@ -1,4 +1,4 @@
-use Rattle.std.proofs.Common.{◌≡◌, ◌/◌, ◌+◌, ◌<◌, get_or, ◌^◌, ◌∙◌, sym, inl, inr, arith, rules}
+use Rattle.std.proofs.Common.{◌/◌, ◌<◌, get_or, ◌^◌, inl, inr, arith, rules}
 use Rattle.std.proofs.lemmas.Bool.{both_ways, cases_lt}
 use Rattle.stack_slots.proofs.MarkLemmas.{gap_somewhere, no_gap}
 use Rattle.stack_slots.proofs.marks.are_marked.Goals as goal

@@ -1,4 +1,4 @@
-use Rattle.std.proofs.Common.{◌≡◌, ◌/◌, ◌*◌, ◌+◌, ◌<◌, ◌≤◌, ◌&&◌, ◌∙◌, sym, ap, Bool, false, ◌≢◌, length, inl, inr, arith, rules}
+use Rattle.std.proofs.Common.{◌≡◌, ◌/◌, ◌&&◌, ◌∙◌, sym, ap, Bool, false, ◌≢◌, inl, inr, arith}
 use Rattle.std.proofs.lemmas.Bool.{cases_lt, cases_eq}
 use Rattle.stack_slots.specs.Marks.{is_marked}
 use Rattle.stack_slots.proofs.MarkLemmas.{marked-common, marked-set_other, none_past}

@@ -1,6 +1,5 @@
-use Rattle.std.proofs.Common.{◌≡◌, ◌≢◌, ◌/◌, ◌*◌, ◌+◌, ◌-◌, ◌<◌, ◌≤◌, ◌^◌, ◌∙◌, sym, ap, subst, true, ℕ, get_or, inl, inr, arith, rules}
+use Rattle.std.proofs.Common.{◌≡◌, ◌*◌, ◌+◌, ◌-◌, ◌<◌, ◌^◌, ◌∙◌, sym, ap, ℕ, get_or, inl, inr, arith}
 use Rattle.std.proofs.lemmas.Bool.{cases_lt}
-use Rattle.std.specs.Int.{w64, trailing_ones}
 use Rattle.stack_slots.specs.Marks.{is_marked}
 use Rattle.stack_slots.proofs.MarkLemmas.{all_marked, marked_up_to, gap_after, none_past}
 use Rattle.stack_slots.proofs.marks.prefix.Goals as goal

@@ -1,7 +1,5 @@
-use Rattle.std.proofs.Common.{◌≡◌, ◌≢◌, ◌<◌, ◌∙◌, None, Option, get_or, length, subst, sym, arith, rules}
-use Rattle.std.specs.Prelude.{slice_index_or}
+use Rattle.std.proofs.Common.{◌≡◌, ◌≢◌, ◌<◌, ◌∙◌, None, get_or, length, arith}
 use Rattle.std.proofs.lemmas.List.{get_or_default, get_or-set_other}
-use Rattle.stack_slots.specs.Frames.{IsSlotJoin}
 use Rattle.stack_slots.proofs.MarkingLemmas.{slot_step}
 use Rattle.stack_slots.proofs.slots.join_each.Goals as goal
 

@@ -1,6 +1,5 @@
-use Rattle.std.proofs.Common.{◌≡◌, ◌∙◌, refl, true, arith}
-use Rattle.std.specs.Prelude.{nat_eq}
-use Rattle.stack_slots.specs.Frames.{is_written, spilled_in}
+use Rattle.std.proofs.Common.{refl, arith}
+use Rattle.stack_slots.specs.Frames.{spilled_in}
 use Rattle.stack_slots.proofs.MarkingLemmas.{marks_result, marks_stack}
 use Rattle.stack_slots.proofs.frame.Frame.mark.Goals as goal
 

@@ -1,4 +1,4 @@
-use Rattle.std.proofs.Common.{◌≡◌, ◌<◌, length, arith, rules}
+use Rattle.std.proofs.Common.{◌<◌, length, arith}
 use Rattle.stack_slots.proofs.MarkingLemmas.{value_found, value_missing, spilled_at}
 use Rattle.stack_slots.proofs.frame.Frame.spilled.Goals as goal
 

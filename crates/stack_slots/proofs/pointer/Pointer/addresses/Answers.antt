@@ -24,19 +24,16 @@ signed-requires c =
     let high = sum_reads first (first_address p.region) p.greatest is small (offset_near p p.greatest p.order (same_below p.greatest)) in
     omega (arith, ints, low, high, p.order)
 
-pub returns-clause-least : goal.returns-clause-least
-returns-clause-least c =
+pub returns-clause-bounds : goal.returns-clause-bounds
+returns-clause-bounds c =
     let p = c.args.self in
     let first = c.cast_signed-first.result in
+    let small = first_small p.region in
     let is = first_reads p c.first_address.result first c.first_address.ensures c.cast_signed-first.ensures in
-    c.signed.ensures.smin ∙ sum_reads first (first_address p.region) p.least is (first_small p.region) (offset_near p p.least (same_below p.least) p.order)
-
-pub returns-clause-greatest : goal.returns-clause-greatest
-returns-clause-greatest c =
-    let p = c.args.self in
-    let first = c.cast_signed-first.result in
-    let is = first_reads p c.first_address.result first c.first_address.ensures c.cast_signed-first.ensures in
-    c.signed.ensures.smax ∙ sum_reads first (first_address p.region) p.greatest is (first_small p.region) (offset_near p p.greatest p.order (same_below p.greatest))
+    record {
+      smin = c.signed.ensures.smin ∙ sum_reads first (first_address p.region) p.least is small (offset_near p p.least (same_below p.least) p.order);
+      smax = c.signed.ensures.smax ∙ sum_reads first (first_address p.region) p.greatest is small (offset_near p p.greatest p.order (same_below p.greatest));
+    }
 
 pub returns-clause-holds : goal.returns-clause-holds
 returns-clause-holds c =

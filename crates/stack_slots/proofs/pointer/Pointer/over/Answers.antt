@@ -1,5 +1,5 @@
-use Rattle.std.proofs.Common.{SFits, to_z, of_z, rules, arith, ◌≡◌, ◌∙◌, ◌^◌, ℤ, pos}
-use Rattle.std.specs.Prelude.{◌≤ℤ◌, neg_ℤ}
+use Rattle.std.proofs.Common.{SFits, to_z, of_z, rules, arith, ◌≡◌, ◌∙◌, ℤ}
+use Rattle.std.specs.Prelude.{◌≤ℤ◌}
 use Rattle.std.specs.Int.{w64, int_min, int_max}
 use Rattle.std.proofs.lemmas.Int.{ints, to_z-of_z}
 use Rattle.stack_slots.proofs.ValueLemmas.{min_above, max_below, min_first, max_first}

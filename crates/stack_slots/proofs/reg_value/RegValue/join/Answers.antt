@@ -1,10 +1,10 @@
-use Rattle.std.proofs.Common.{◌≡◌, ◌∙◌, Bool, true, false, refl, sym, subst, ap, rules, inl, inr}
+use Rattle.std.proofs.Common.{◌≡◌, ◌∙◌, true, false, refl, sym, ap, rules}
 use Rattle.std.proofs.lemmas.Bool.{eq-eqb, ne_eqb}
 use Rattle.bpf_model.specs.Memory.{first_address}
 use Rattle.bpf_model.specs.contracts.region.Region.{the_type}
 use denote.Enum.Bare.{same_true, same_false}
 use Rattle.stack_slots.specs.Values.{have_one_window}
-use Rattle.stack_slots.proofs.ValueLemmas.{join_first, join_second, join_value, join_pointer, join_number, same_window}
+use Rattle.stack_slots.proofs.ValueLemmas.{join_first, join_second, join_pointer, join_number, same_window}
 use Rattle.stack_slots.proofs.reg_value.RegValue.join.Goals as goal
 use Rattle.stack_slots.proofs.reg_value.RegValue.join.Goals.{in_default-via-in-Number+in_default, in_default-via-in-Pointer-Pointer+else-eq, in_default-via-in-Pointer+in_default}
 
