@@ -7,9 +7,6 @@ use Rattle.std.proofs.Math.Facts.{Fits-of_z}
 use Rattle.bpf_model.specs.Words.{IsWord, signed, sign_extended}
 use Rattle.bpf_model.specs.declared.region.Region.{Region}
 use Rattle.bpf_model.specs.declared.region.Region.TheVariants.{Key, Old, Arg, Result, Stack}
-use Rattle.bpf_model.specs.declared.operations.AluOp.TheVariants.{Add, Sub}
-use Rattle.bpf_model.specs.declared.operations.Width.TheVariants.{W64}
-use Rattle.bpf_model.specs.Arithmetic.{alu_value}
 use Rattle.bpf_model.specs.Memory.{first_address}
 use Rattle.bpf_model.specs.Step.{address_of}
 use Rattle.value_ranges.specs.declared.range.Range.{Range}
@@ -131,16 +128,6 @@ points_within p w low high l h at =
       smin = omega (arith, ints, reads, l, at.least);
       smax = omega (arith, ints, reads, h, at.greatest);
     }
-
--- sums and differences of words, as pointers give them
-pub sum_is : (x y : ℕ) → (x + y) % 2 ^ 64 ≡ alu_value Add W64 x y
-sum_is x y = omega arith
-
-pub sum_is_swapped : (x y : ℕ) → (y + x) % 2 ^ 64 ≡ alu_value Add W64 x y
-sum_is_swapped x y = omega arith
-
-pub difference_is : (x y : ℕ) → IsWord y → (x + (2 ^ 64 - y)) % 2 ^ 64 ≡ alu_value Sub W64 x y
-difference_is x y word = omega arith
 
 -- what a value stands for is a word
 pub stands_word : (v : RegValue) (w : ℕ) → StandsFor v (Some w) → IsWord w

@@ -21,7 +21,8 @@ impl Access {
     ) -> Option<Access>
         requires order { least ≤ greatest }
         requires limits { AreWithinLimits sizes }
-        ensures some { IsSome result ↔ (IsKept region × (greatest + byte_count size ≤ size_of sizes region)) }
+        ensures some { IsSome result
+            ↔ (IsKept region × (greatest + byte_count size ≤ size_of sizes region)) }
         ensures value { IfSome result (IsAccess region least greatest size signed) }
     {
         let declared = match region {

@@ -49,7 +49,8 @@ impl Frame {
         ensures keeps { KeepsMarks self.old self.new }
         ensures marks { access.now.least ≡ access.now.greatest → AreWritten self.new access.now }
         ensures slots { Spills self.old access.now value.now self.new }
-        ensures values { value.now ≢ RegValue.Unwritten → NoneUnwritten self.old → NoneUnwritten self.new }
+        ensures values { value.now ≢ RegValue.Unwritten → NoneUnwritten self.old
+            → NoneUnwritten self.new }
     {
         self.spill(access, value);
         if access.least == access.greatest {

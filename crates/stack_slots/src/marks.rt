@@ -21,7 +21,8 @@ fn lowest(n: usize) -> u64
 fn between(index: usize, first: usize, end: usize) -> u64
     requires small { index < 2 ^ 32 }
     ensures bits { (k : ℕ) → k < 64
-        → nat_eq (bit_at result k) 1 ≡ (nat_le first (64 * index + k) && nat_lt (64 * index + k) end) }
+        → nat_eq (bit_at result k) 1
+        ≡ (nat_le first (64 * index + k) && nat_lt (64 * index + k) end) }
 {
     let base = WORD_BITS * index;
     lowest(end.saturating_sub(base)) & !lowest(first.saturating_sub(base))
@@ -56,7 +57,8 @@ pub(crate) fn are_marked(words: &[u64], first: usize, end: usize) -> bool
 /// Keeps the marks that both have, a word at a time.
 pub(crate) fn keep_common(words: &mut [u64], other: &[u64])
     requires same { length words.old ≡ length other.now }
-    ensures exact { (i : ℕ) → is_marked words.new i ≡ (is_marked words.old i && is_marked other.now i) }
+    ensures exact { (i : ℕ) → is_marked words.new i
+        ≡ (is_marked words.old i && is_marked other.now i) }
 {
     for (index, word) in words.iter_mut().enumerate() {
         *word &= other[index];

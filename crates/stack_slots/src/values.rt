@@ -27,7 +27,8 @@ impl RegValue {
         ensures first { (o : Option ℕ) → StandsFor self.now o → StandsFor result o }
         ensures second { (o : Option ℕ) → StandsFor other.now o → StandsFor result o }
         ensures exact { IsJoin self.now other.now result }
-        ensures value { self.now ≢ RegValue.Unwritten → other.now ≢ RegValue.Unwritten → result ≢ RegValue.Unwritten }
+        ensures value { self.now ≢ RegValue.Unwritten → other.now ≢ RegValue.Unwritten
+            → result ≢ RegValue.Unwritten }
         ensures pointer { (w : Window) (lo hi : ℤ) → IsPointerIn w lo hi self.now
             → IsPointerIn w lo hi other.now → IsPointerIn w lo hi result }
         ensures range { (lo hi : ℤ) → IsNumberIn lo hi self.now
