@@ -14,14 +14,12 @@
 mod access;
 mod accesses;
 mod frame;
-mod frames;
 mod loads;
 mod marks;
 mod pointer;
 mod pointing;
 mod reg_value;
 mod slots;
-mod values;
 
 pub use access::Access;
 pub use frame::Frame;
