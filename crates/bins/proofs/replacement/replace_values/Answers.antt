@@ -33,17 +33,15 @@ loop-entry-preserved c =
     }
 
 -- what was replaced is all of the list
-pub returns : goal.returns
-returns c =
+pub returns-clause-each : goal.returns-clause-each
+returns-clause-each c =
     let done = c.loop-entry.invariant in
     record {
-      each = record {
-        outcomes = done.outcomes;
-        one_each = search rules;
-        are_outcomes = done.are_outcomes;
-        entered = grind (arith, common_steps);
-        scanned = omega (arith, c.args.entries.now.ok.0);
-        given = done.given;
-        unfit = done.unfit;
-      };
+      outcomes = done.outcomes;
+      one_each = search rules;
+      are_outcomes = done.are_outcomes;
+      entered = grind (arith, common_steps);
+      scanned = search rules;
+      given = done.given;
+      unfit = done.unfit;
     }
