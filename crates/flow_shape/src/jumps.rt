@@ -1,6 +1,6 @@
 //! What an instruction means for the flow of a program.
-ghost use Rattle.std.specs.Prelude.{◌≡◌};
-ghost use Rattle.flow_shape.specs.Jumps.{distance_of, falls_through};
+ghost use Rattle.std.specs.Prelude.{◌≡◌, ◌<◌, ◌^◌, ◌<ℤ◌, ◌≤ℤ◌, pos, IfSome, IfNone};
+ghost use Rattle.flow_shape.specs.Jumps.{distance_of, falls_through, target_of};
 
 use bpf_model::Insn;
 
@@ -13,6 +13,19 @@ pub(crate) fn distance(insn: &Insn) -> Option<i32>
         Insn::JumpLong { distance } => Some(*distance),
         _ => None,
     }
+}
+
+/// The unit that a jump forward goes to; none where it goes backward, or to itself.
+pub(crate) fn target(unit: usize, distance: i32) -> Option<usize>
+    requires { unit < 2 ^ 32 }
+    ensures forward { IfSome result (λ target. target_of unit distance ≡ pos target) }
+    ensures not_back { IfSome result (λ target. pos 0 ≤ℤ distance) }
+    ensures back { IfNone result (distance <ℤ pos 0) }
+{
+    if distance < 0 {
+        return None;
+    }
+    Some(unit + 1 + distance.unsigned_abs() as usize)
 }
 
 /// Whether a run may go on at the next instruction.

@@ -4,7 +4,7 @@ ghost use Rattle.bpf_model.specs.Program.{IsProgram, instruction_at};
 ghost use Rattle.flow_shape.specs.Layouts.{DoesLand, HasNoFaultAt, IsFirstFaultAt};
 
 use crate::fault::FlowFault;
-use crate::jumps::{distance, falls_through};
+use crate::jumps::{distance, falls_through, target};
 use bpf_model::Insn;
 use bpf_model::limits::PROGRAM_UNITS;
 use std::marker::Model;
@@ -57,10 +57,9 @@ impl<'a> Layout<'a> {
         let Some(distance) = distance(insn) else {
             return Ok(());
         };
-        if distance < 0 {
+        let Some(target) = target(unit, distance) else {
             return Err(FlowFault::BackwardJump(unit));
-        }
-        let target = unit + 1 + distance.unsigned_abs() as usize;
+        };
         if target >= total {
             return Err(FlowFault::JumpOut(unit));
         }
