@@ -1,4 +1,4 @@
-pub mod FlowLemmas
+pub mod FaultLemmas
 pub mod RangeLemmas
 pub mod PointerLemmas
 pub mod FrameLemmas
@@ -6,4 +6,8 @@ pub mod RegisterLemmas
 pub mod WindowLemmas
 pub mod EntryLemmas
 pub mod LeadsLemmas
+pub mod JoinLemmas
+pub mod FlowLemmas
 pub mod WalkLemmas
+pub mod PassLemmas
+pub mod ArriveLemmas

@@ -1,6 +1,8 @@
 pub mod Checked
 pub mod Kept
 pub mod Frames
+pub mod Joins
 pub mod Faults
 pub mod Describes
+pub mod Walks
 pub mod Messages

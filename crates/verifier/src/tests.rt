@@ -177,7 +177,7 @@ fn refusal(alloc: Global, code: &[Insn], sizes: Sizes) -> Result<Option<(u8, usi
     let program = Program::new(instructions).ok_or("a program has 1 to 512 units")?;
     Ok(match shape(program) {
         Err(fault) => Some((fault.number(), fault.unit())),
-        Ok(shaped) => match verify(shaped, sizes) {
+        Ok(shaped) => match verify(alloc, shaped, sizes) {
             Err(fault) => Some((fault.number(), fault.unit())),
             Ok(_) => None,
         },

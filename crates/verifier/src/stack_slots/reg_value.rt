@@ -2,9 +2,11 @@
 ghost use Rattle.std.specs.Prelude.{◌≡◌, ℕ, Some};
 ghost use Rattle.value_ranges.specs.In.{IsIn};
 ghost use Rattle.verifier.specs.Frames.{StandsFor};
+ghost use Rattle.verifier.specs.declared.stack_slots.reg_value.RegValue.TheVariants.{Pointer as PointerInto};
+ghost use Rattle.verifier.specs.Joins.{JoinsValues};
 
 use super::pointer::Pointer;
-use value_ranges::Range;
+use value_ranges::{Range, join};
 
 /// What is known of a register's word.
 #[derive(Clone, Copy, Debug, PartialEq, Eq)]
@@ -27,5 +29,33 @@ impl RegValue {
             RegValue::Number(range) => range,
             RegValue::Pointer(pointer) => pointer.addresses(),
         }
+    }
+
+    /// The value that stands for what either stands for. Pointers into one window give a pointer; a number and a pointer,
+    /// and pointers into two windows, give any word.
+    pub fn join(self, other: RegValue) -> RegValue
+        ensures joins { JoinsValues self other result }
+    {
+        match (self, other) {
+            (RegValue::Unwritten, _) | (_, RegValue::Unwritten) => RegValue::Unwritten,
+            (RegValue::Number(a), RegValue::Number(b)) => RegValue::Number(join(a, b)),
+            (RegValue::Pointer(a), RegValue::Pointer(b)) => a.join(b),
+            _ => RegValue::Number(Range::full()),
+        }
+    }
+}
+
+impl Pointer {
+    fn join(self, other: Pointer) -> RegValue
+        ensures joins { JoinsValues (PointerInto self) (PointerInto other) result }
+    {
+        if self.region != other.region {
+            return RegValue::Number(Range::full());
+        }
+        RegValue::Pointer(Pointer {
+            region: self.region,
+            least: self.least.min(other.least),
+            greatest: self.greatest.max(other.greatest),
+        })
     }
 }

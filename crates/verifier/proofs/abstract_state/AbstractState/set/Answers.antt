@@ -3,5 +3,7 @@ use Rattle.verifier.proofs.RegisterLemmas.{set_describes}
 use Rattle.verifier.proofs.abstract_state.AbstractState.set.Goals as goal
 
 pub returns : goal.returns
-returns c = λ sizes s units w d stands.
-    rw c.number.ensures.value (set_describes c.args.self.now sizes s units c.args.dst w c.args.value d stands c.requires (omega arith))
+returns c = record {
+  sound = λ sizes s units w d stands.
+      rw c.number.ensures.value (set_describes c.args.self.now sizes s units c.args.dst w c.args.value d stands c.requires.target (omega arith));
+}

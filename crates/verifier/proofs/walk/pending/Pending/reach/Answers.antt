@@ -1,0 +1,1 @@
+use Rattle.verifier.proofs.walk.pending.Pending.reach.Goals as goal

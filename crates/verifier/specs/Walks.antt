@@ -1,0 +1,55 @@
+-- What a walk over a program knows: of the runs that come to a unit, and of those that jump to units ahead. This
+-- verifier's own.
+use Rattle.std.specs.Prelude.{◌≡◌, ℕ, ◌+◌, Bool, true, false, ◌⊎◌, List, Option, Some, None, IsSome, slice_index_or, ℤ, pos, ◌≤ℤ◌, if◌then◌else◌}
+use Rattle.std.specs.Global.{Box}
+use Rattle.bpf_model.specs.declared.input.Sizes.{Sizes}
+use Rattle.bpf_model.specs.declared.instruction.Insn.{Insn}
+use Rattle.bpf_model.specs.Program.{units_of}
+use Rattle.bpf_model.specs.State.{State}
+use Rattle.bpf_model.specs.Step.{act, ends_in}
+use Rattle.flow_shape.specs.Jumps.{distance_of, JumpsBy}
+use Rattle.verifier.specs.declared.abstract_state.AbstractState.{AbstractState}
+use Rattle.verifier.specs.declared.walk.pending.Pending.{Pending}
+use Rattle.verifier.specs.Describes.{Describes}
+
+-- a boxed state
+abbrev pub boxed : Option (Box AbstractState) → Option AbstractState
+boxed None = None
+boxed (Some b) = Some b.value
+
+-- the state that is kept for a unit
+abbrev pub kept_at : Pending → ℕ → Option AbstractState
+kept_at p unit = boxed (slice_index_or p.states.items unit None)
+
+-- there is an abstract state, and it describes the state
+abbrev pub IsDescribed : Option AbstractState → Sizes → State → Type 0
+IsDescribed None sizes s = ⊥
+IsDescribed (Some a) sizes s = Describes a sizes s
+
+-- each state that the first describes the second describes
+abbrev pub IncludesSome : Option AbstractState → Option AbstractState → Type 0
+IncludesSome o p = (sizes : Sizes) (s : State) → IsDescribed o sizes s → IsDescribed p sizes s
+
+-- a state at the unit to which the walk came, or at one ahead, is described by what is known there
+abbrev pub IsKnown : ℕ → Option AbstractState → Pending → Sizes → State → Type 0
+IsKnown unit here pending sizes s = ((s.unit ≡ unit) × IsDescribed here sizes s) ⊎ IsDescribed (kept_at pending s.unit) sizes s
+
+-- a jump goes forward
+abbrev pub GoesForward : Insn → Type 0
+GoesForward i = (distance : ℤ) → distance_of i ≡ Some distance → pos 0 ≤ℤ distance
+
+-- the program has a jump
+abbrev pub HasJump : List Insn → Type 0
+HasJump program = (unit : ℕ) × ((distance : ℤ) × JumpsBy program unit distance)
+
+-- the instruction leads to a state that is known
+pub record LeadsToKnown (sizes : Sizes) (i : Insn) (s : State) (unit : ℕ) (here : Option AbstractState) (pending : Pending) : Type 0 where
+  pub next : State
+  pub acts : act sizes i s ≡ Some next
+  pub known : IsKnown unit here pending sizes next
+
+-- from each described state at the unit the instruction ends the run or leads to a known one, and what was kept is kept
+pub record Passes (sizes : Sizes) (i : Insn) (unit : ℕ) (before : Pending) (a : AbstractState) (after : Pending) (on : Bool) (b : AbstractState) : Type 0 where
+  pub leads : (s : State) → s.unit ≡ unit → Describes a sizes s
+      → IsSome (ends_in sizes i s) ⊎ LeadsToKnown sizes i s (unit + units_of i) (if on then Some b else None) after
+  pub keeps : (other : ℕ) → IncludesSome (kept_at before other) (kept_at after other)

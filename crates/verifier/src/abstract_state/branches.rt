@@ -1,0 +1,68 @@
+//! What is known on one side of a condition, and where two ways meet.
+ghost use Rattle.std.specs.Prelude.{◌≡◌, ℕ, IfOk, length, slice_index_or};
+ghost use Rattle.verifier.specs.declared.stack_slots.reg_value.RegValue.TheVariants.{Unwritten};
+ghost use Rattle.verifier.specs.Describes.{Assumes, Narrows, Includes};
+ghost use Rattle.verifier.specs.Joins.{JoinsValues, JoinsStates};
+
+use super::AbstractState;
+use crate::fault::StepFault;
+use crate::stack_slots::RegValue;
+use bpf_model::{Condition, Operand, Reg, Width};
+use value_ranges::{Range, refine};
+
+impl AbstractState {
+    /// Goes on to what is known where a condition holds of two operands; false where it holds in no state.
+    pub fn assume(
+        &mut self,
+        condition: Condition,
+        width: Width,
+        dst: Reg,
+        src: Operand,
+    ) -> Result<bool, StepFault>
+        ensures ok { IfOk result (λ any. Assumes self.old condition width dst src any self.new) }
+    {
+        let a = self.read(dst.number())?.as_number();
+        let b = self.operand(src)?.as_number();
+        if src == Operand::Register(dst) {
+            return Ok(true);
+        }
+        let Some((a, b)) = refine(condition, width, a, b) else {
+            return Ok(false);
+        };
+        self.narrow(dst, a);
+        if let Operand::Register(src) = src {
+            self.narrow(src, b);
+        }
+        Ok(true)
+    }
+
+    // a pointer stays as it is
+    fn narrow(&mut self, register: Reg, range: Range)
+        ensures narrows { Narrows self.old register range self.new }
+    {
+        let value = &mut self.registers[register.number() as usize];
+        if let RegValue::Number(_) = value {
+            *value = RegValue::Number(range);
+        }
+    }
+
+    /// Goes on to what is known where a run may also come with this other state.
+    pub fn join(&mut self, other: &AbstractState)
+        ensures first { Includes self.old self.new }
+        ensures second { Includes other.now self.new }
+        ensures exact { JoinsStates self.old other.now self.new }
+    {
+        join_registers(&mut self.registers, &other.registers);
+        self.frame = self.frame.join(&other.frame);
+    }
+}
+
+fn join_registers(registers: &mut [RegValue], others: &[RegValue])
+    requires same_length { length registers.old ≡ length others.now }
+    ensures joins { (r : ℕ) → JoinsValues (slice_index_or registers.old r Unwritten)
+        (slice_index_or others.now r Unwritten) (slice_index_or registers.new r Unwritten) }
+{
+    for r in 0..registers.len() {
+        registers[r] = registers[r].join(others[r]);
+    }
+}

@@ -1,0 +1,49 @@
+//! What is known at entry.
+ghost use Rattle.std.specs.Prelude.{◌+◌, Some};
+ghost use Rattle.bpf_model.specs.Memory.{first_address};
+ghost use Rattle.verifier.specs.Frames.{StandsFor};
+ghost use Rattle.verifier.specs.Describes.{DescribesEntry};
+
+use super::AbstractState;
+use crate::stack_slots::{Frame, Pointer, RegValue};
+use bpf_model::limits::STACK_BYTES;
+use bpf_model::{Region, Sizes};
+use value_ranges::Range;
+
+impl AbstractState {
+    /// What is known at entry.
+    pub fn entry(sizes: Sizes) -> AbstractState
+        ensures describes { DescribesEntry sizes result }
+    {
+        let key = Range::unsigned(0, u64::from(sizes.key));
+        let old = Range::signed(-1, i64::from(sizes.old));
+        let arg = Range::signed(-1, i64::from(sizes.arg));
+        AbstractState {
+            registers: [
+                RegValue::Unwritten,
+                address_in(Region::Key, 0),
+                address_in(Region::Old, 0),
+                address_in(Region::Arg, 0),
+                address_in(Region::Result, 0),
+                RegValue::Unwritten,
+                RegValue::Number(key),
+                RegValue::Number(old),
+                RegValue::Number(arg),
+                RegValue::Unwritten,
+                address_in(Region::Stack, STACK_BYTES as u16),
+            ],
+            frame: Frame::empty(),
+        }
+    }
+}
+
+fn address_in(region: Region, offset: u16) -> RegValue
+    ensures describes { StandsFor result (Some (first_address region + offset)) }
+{
+    let offset = i64::from(offset);
+    RegValue::Pointer(Pointer {
+        region,
+        least: offset,
+        greatest: offset,
+    })
+}

@@ -1,0 +1,59 @@
+//! Registers that are read and written.
+ghost use Rattle.std.specs.Prelude.{◌≡◌, ◌≢◌, ◌≤◌, Ok, Err, OnOk, IfOk, nat_eq, if◌then◌else◌};
+ghost use Rattle.verifier.specs.declared.fault.StepFault.TheVariants.{UnwrittenRegister, WriteToR10};
+ghost use Rattle.verifier.specs.Describes.{Knows, KnowsOperand, Sets};
+
+use super::AbstractState;
+use crate::fault::StepFault;
+use crate::stack_slots::RegValue;
+use bpf_model::{Operand, Reg, immediate_word};
+use value_ranges::Range;
+
+/// The number of r10, which points to the stack's end and is never written.
+const FRAME_POINTER: u8 = 10;
+
+impl AbstractState {
+    pub(super) fn operand(&self, src: Operand) -> Result<RegValue, StepFault>
+        ensures ok { IfOk result (KnowsOperand self.now src) }
+    {
+        match src {
+            Operand::Register(register) => self.read(register.number()),
+            Operand::Immediate(imm) => Ok(RegValue::Number(Range::single(immediate_word(imm)))),
+        }
+    }
+
+    pub(super) fn read(&self, register: u8) -> Result<RegValue, StepFault>
+        requires register { register ≤ 10 }
+        ensures ok { IfOk result (Knows self.now register) }
+    {
+        match self.registers[register as usize] {
+            RegValue::Unwritten => Err(StepFault::UnwrittenRegister),
+            value => Ok(value),
+        }
+    }
+
+    pub(super) fn assign(&mut self, dst: Reg, value: RegValue) -> Result<(), StepFault>
+        ensures ok { OnOk result (Sets self.old dst value self.new) }
+    {
+        test_target(dst)?;
+        self.set(dst, value);
+        Ok(())
+    }
+
+    pub(super) fn set(&mut self, dst: Reg, value: RegValue)
+        requires target { dst ≢ 10 }
+        ensures sound { Sets self.old dst value self.new }
+    {
+        self.registers[dst.number() as usize] = value;
+    }
+}
+
+pub(super) fn test_target(dst: Reg) -> Result<(), StepFault>
+    ensures exact { result ≡ (if nat_eq dst 10 then Err WriteToR10 else Ok tt) }
+{
+    if dst.number() == FRAME_POINTER {
+        Err(StepFault::WriteToR10)
+    } else {
+        Ok(())
+    }
+}
