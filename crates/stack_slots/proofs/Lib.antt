@@ -1,0 +1,6 @@
+pub mod PointerLemmas
+pub mod ValueLemmas
+pub mod MarkLemmas
+pub mod FrameLemmas
+pub mod MarkingLemmas
+pub mod LoadLemmas

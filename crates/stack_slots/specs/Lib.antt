@@ -1,0 +1,6 @@
+pub mod Kept
+pub mod Marks
+pub mod Offsets
+pub mod Values
+pub mod Accesses
+pub mod Frames

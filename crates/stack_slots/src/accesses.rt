@@ -1,0 +1,56 @@
+//! Accesses of declared sizes, and the slot that an access fills.
+ghost use Rattle.std.specs.Prelude.{◌≡◌, ◌≤◌, ◌<◌, ◌+◌, ◌*◌, ◌↔◌, ℕ, true, false, IsSome, IfSome, IfNone, nat_eq};
+ghost use Rattle.bpf_model.specs.Accesses.{byte_count};
+ghost use Rattle.bpf_model.specs.Fits.{AreWithinLimits};
+ghost use Rattle.bpf_model.specs.Memory.{size_of};
+ghost use Rattle.stack_slots.specs.Kept.{IsKept};
+ghost use Rattle.stack_slots.specs.Accesses.{IsAccess, fills_slot};
+
+use crate::access::{Access, SLOT_BYTES, SLOTS};
+use bpf_model::{AccessSize, Region, Sizes};
+
+impl Access {
+    /// The access with these fields; none where the window may only be read, or is declared too short.
+    pub fn new(
+        region: Region,
+        least: usize,
+        greatest: usize,
+        size: AccessSize,
+        signed: bool,
+        sizes: Sizes,
+    ) -> Option<Access>
+        requires order { least ≤ greatest }
+        requires limits { AreWithinLimits sizes }
+        ensures some { IsSome result ↔ (IsKept region × (greatest + byte_count size ≤ size_of sizes region)) }
+        ensures value { IfSome result (IsAccess region least greatest size signed) }
+    {
+        let declared = match region {
+            Region::Key | Region::Old | Region::Arg => return None,
+            Region::Result | Region::Stack => region.size(sizes),
+        };
+        if greatest <= declared && size.bytes() <= declared - greatest {
+            Some(Access {
+                region,
+                least,
+                greatest,
+                size,
+                signed,
+            })
+        } else {
+            None
+        }
+    }
+
+    /// The slot of the stack that the access fills: all its bytes and no others, wherever the access may be.
+    pub(crate) fn filled_slot(&self) -> Option<usize>
+        ensures inside { IfSome result (λ slot. slot < SLOTS) }
+        ensures fills { IfSome result (λ slot. (i : ℕ) → fills_slot self.now i ≡ nat_eq i slot) }
+        ensures none { IfNone result ((i : ℕ) → fills_slot self.now i ≡ false) }
+    {
+        let is_alone = self.least == self.greatest && self.least % SLOT_BYTES == 0;
+        match (self.region, self.size) {
+            (Region::Stack, AccessSize::DoubleWord) if is_alone => Some(self.least / SLOT_BYTES),
+            _ => None,
+        }
+    }
+}

@@ -1,0 +1,163 @@
+//! Stores to frames, loads from them, and their joins.
+ghost use Rattle.std.specs.Prelude.{◌≡◌, ◌≢◌, ◌≤◌, ◌<◌, ◌↔◌, ℕ, true, false, Some, None, IsTrue, IsSome, IfSome, IfNone};
+ghost use Rattle.bpf_model.specs.declared.limits.TheConstants.{VALUE_BYTES as GREATEST_RESULT};
+ghost use Rattle.bpf_model.specs.declared.region.Region.{Region as Window};
+ghost use Rattle.bpf_model.specs.declared.region.Region.TheVariants.{Result as ResultWindow};
+ghost use Rattle.bpf_model.specs.Memory.{Partial};
+ghost use Rattle.stack_slots.specs.Accesses.{fills_slot};
+ghost use Rattle.stack_slots.specs.Frames.{is_written, spilled_in, DescribesMemory, NoneUnwritten, AreWritten, KeepsMarks, Marks, Spills, DescribesStore, FindsLoaded, Reloads, LoadsNumber, MeetsMarks, JoinsSlots, DescribesMore};
+
+use crate::access::{Access, SLOT_BYTES, SLOTS};
+use crate::frame::{Frame, RESULT_WORDS, STACK_WORDS};
+use crate::loads::loadable;
+use crate::marks::{are_marked, keep_common, mark, prefix};
+use crate::reg_value::RegValue;
+use crate::slots::{forget, join_each};
+use bpf_model::Region;
+
+impl Frame {
+    /// The frame of a run's beginning: no byte was written, and no value spilled.
+    pub fn empty() -> Frame
+        ensures written { (r : Window) (i : ℕ) → is_written result r i ≡ false }
+        ensures describes { (memory : Partial) → DescribesMemory result memory }
+        ensures values { NoneUnwritten result }
+    {
+        Frame {
+            result: [0; RESULT_WORDS],
+            stack: [0; STACK_WORDS],
+            slots: [None; SLOTS],
+        }
+    }
+
+    /// The same frame once more. Takes no memory.
+    pub fn copied(&self) -> Frame
+        ensures value { result ≡ self.now }
+    {
+        Frame {
+            result: self.result,
+            stack: self.stack,
+            slots: self.slots,
+        }
+    }
+
+    /// The frame after a store of a word for which the value stands. The bytes become written where their place is one
+    /// alone. A slot that the store fills has the value then; every other slot that it may touch has none. Takes no
+    /// memory.
+    pub fn store(&mut self, access: &Access, value: &RegValue)
+        ensures describes { DescribesStore self.old access.now value.now self.new }
+        ensures written { Marks self.old access.now self.new }
+        ensures keeps { KeepsMarks self.old self.new }
+        ensures marks { access.now.least ≡ access.now.greatest → AreWritten self.new access.now }
+        ensures slots { Spills self.old access.now value.now self.new }
+        ensures values { value.now ≢ RegValue.Unwritten → NoneUnwritten self.old → NoneUnwritten self.new }
+    {
+        self.spill(access, value);
+        if access.least == access.greatest {
+            self.mark(access);
+        }
+    }
+
+    fn spill(&mut self, access: &Access, value: &RegValue)
+        ensures written { (r : Window) (i : ℕ) → is_written self.new r i ≡ is_written self.old r i }
+        ensures slots { Spills self.old access.now value.now self.new }
+    {
+        if !matches!(access.region, Region::Stack) {
+            return;
+        }
+        let first = access.least / SLOT_BYTES;
+        let past = (access.greatest + access.size.bytes()).div_ceil(SLOT_BYTES);
+        forget(&mut self.slots, first, past);
+        if let Some(slot) = access.filled_slot() {
+            self.slots[slot] = Some(*value);
+        }
+    }
+
+    fn mark(&mut self, access: &Access)
+        requires alone { access.now.least ≡ access.now.greatest }
+        ensures written { Marks self.old access.now self.new }
+        ensures slots { (slot : ℕ) → spilled_in self.new slot ≡ spilled_in self.old slot }
+    {
+        let end = access.greatest + access.size.bytes();
+        match access.region {
+            Region::Result => mark(&mut self.result, access.least, end),
+            Region::Stack => mark(&mut self.stack, access.least, end),
+            Region::Key | Region::Old | Region::Arg => {}
+        }
+    }
+
+    /// What is known of the word that is loaded: the value of the slot that the access fills, or the range of all words
+    /// that it may give. None where not all bytes that the access may touch were written. Takes no memory.
+    pub fn load(&self, access: &Access) -> Option<RegValue>
+        ensures some { IsSome result ↔ AreWritten self.now access.now }
+        ensures found { IfSome result (FindsLoaded self.now access.now) }
+        ensures spilled { IfSome result (Reloads self.now access.now) }
+        ensures number { IfSome result (LoadsNumber self.now access.now) }
+        ensures value { NoneUnwritten self.now → IfSome result (λ x. x ≢ RegValue.Unwritten) }
+    {
+        if !self.are_written(access) {
+            return None;
+        }
+        match self.spilled(access) {
+            Some(value) => Some(value),
+            None => Some(RegValue::Number(loadable(access.size, access.signed))),
+        }
+    }
+
+    // the value of the slot that the access fills
+    fn spilled(&self, access: &Access) -> Option<RegValue>
+        ensures found { IfSome result (λ x. (slot : ℕ) × ((fills_slot access.now slot ≡ true)
+            × (spilled_in self.now slot ≡ Some x))) }
+        ensures none { IfNone result ((slot : ℕ) → fills_slot access.now slot ≡ true
+            → spilled_in self.now slot ≡ None) }
+    {
+        let slot = access.filled_slot()?;
+        self.slots[slot]
+    }
+
+    fn are_written(&self, access: &Access) -> bool
+        ensures exact { IsTrue result ↔ AreWritten self.now access.now }
+    {
+        let end = access.greatest + access.size.bytes();
+        match access.region {
+            Region::Result => are_marked(&self.result, access.least, end),
+            Region::Stack => are_marked(&self.stack, access.least, end),
+            Region::Key | Region::Old | Region::Arg => false,
+        }
+    }
+
+    /// What either of two frames knows: the bytes that both have as written, and the joins of values that both have.
+    /// Takes no memory.
+    pub fn join(&self, other: &Frame) -> Frame
+        ensures first { DescribesMore self.now result }
+        ensures second { DescribesMore other.now result }
+        ensures marks { MeetsMarks self.now other.now result }
+        ensures slots { JoinsSlots self.now other.now result }
+        ensures values { NoneUnwritten self.now → NoneUnwritten other.now → NoneUnwritten result }
+    {
+        let mut joined = self.copied();
+        joined.join_with(other);
+        joined
+    }
+
+    /// The join with another frame, in place. Takes no memory.
+    pub fn join_with(&mut self, other: &Frame)
+        ensures first { DescribesMore self.old self.new }
+        ensures second { DescribesMore other.now self.new }
+        ensures marks { MeetsMarks self.old other.now self.new }
+        ensures slots { JoinsSlots self.old other.now self.new }
+        ensures values { NoneUnwritten self.old → NoneUnwritten other.now → NoneUnwritten self.new }
+    {
+        keep_common(&mut self.result, &other.result);
+        keep_common(&mut self.stack, &other.stack);
+        join_each(&mut self.slots, &other.slots);
+    }
+
+    /// The greatest n such that the first n bytes of the result were written. Takes no memory.
+    pub fn written_prefix(&self) -> u16
+        ensures written { (i : ℕ) → i < result → is_written self.now ResultWindow i ≡ true }
+        ensures greatest { is_written self.now ResultWindow result ≡ false }
+        ensures bound { result ≤ GREATEST_RESULT }
+    {
+        prefix(&self.result) as u16
+    }
+}

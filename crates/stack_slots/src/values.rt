@@ -1,0 +1,47 @@
+//! Values of registers as numbers, and what two of them have in common.
+ghost use Rattle.std.specs.Prelude.{◌≡◌, ◌≢◌, ℕ, ℤ, Option, Some};
+ghost use Rattle.bpf_model.specs.declared.region.Region.{Region as Window};
+ghost use Rattle.value_ranges.specs.In.{IsIn};
+ghost use Rattle.stack_slots.specs.Values.{StandsFor, IsAddressRange, IsJoin, IsPointerIn, IsNumberIn};
+
+use crate::pointer::Pointer;
+use crate::reg_value::RegValue;
+use value_ranges::Range;
+
+impl RegValue {
+    /// The range of the words that the value stands for.
+    pub fn as_number(&self) -> Range
+        ensures holds { (w : ℕ) → StandsFor self.now (Some w) → IsIn w result }
+        ensures number { (r : Range) → self.now ≡ RegValue.Number r → result ≡ r }
+        ensures pointer { (p : Pointer) → self.now ≡ RegValue.Pointer p → IsAddressRange p result }
+    {
+        match self {
+            RegValue::Unwritten => Range::full(),
+            RegValue::Number(range) => *range,
+            RegValue::Pointer(pointer) => pointer.addresses(),
+        }
+    }
+
+    /// What is known of a word for which the one value stands or the other.
+    pub fn join(&self, other: &RegValue) -> RegValue
+        ensures first { (o : Option ℕ) → StandsFor self.now o → StandsFor result o }
+        ensures second { (o : Option ℕ) → StandsFor other.now o → StandsFor result o }
+        ensures exact { IsJoin self.now other.now result }
+        ensures value { self.now ≢ RegValue.Unwritten → other.now ≢ RegValue.Unwritten → result ≢ RegValue.Unwritten }
+        ensures pointer { (w : Window) (lo hi : ℤ) → IsPointerIn w lo hi self.now
+            → IsPointerIn w lo hi other.now → IsPointerIn w lo hi result }
+        ensures range { (lo hi : ℤ) → IsNumberIn lo hi self.now
+            → IsNumberIn lo hi other.now → IsNumberIn lo hi result }
+    {
+        match (self, other) {
+            (RegValue::Unwritten, _) | (_, RegValue::Unwritten) => RegValue::Unwritten,
+            (RegValue::Number(a), RegValue::Number(b)) => {
+                RegValue::Number(value_ranges::join(*a, *b))
+            }
+            (RegValue::Pointer(a), RegValue::Pointer(b)) if a.region == b.region => {
+                RegValue::Pointer(a.over(*b))
+            }
+            _ => RegValue::Number(Range::full()),
+        }
+    }
+}
