@@ -5,8 +5,8 @@ ghost use Rattle.verifier.specs.Describes.{Knows, KnowsOperand, Sets};
 
 use super::AbstractState;
 use crate::fault::StepFault;
-use crate::stack_slots::RegValue;
 use bpf_model::{Operand, Reg, immediate_word};
+use stack_slots::RegValue;
 use value_ranges::Range;
 
 /// The number of r10, which points to the stack's end and is never written.
