@@ -36,7 +36,7 @@ impl AbstractState {
     }
 
     /// Tests an instruction after which a run goes on at the next one, and goes on to what is known there. Faults are
-    /// tested in the order of their numbers, but for 48: at an access it comes after 40 to 42 and before 43 to 45.
+    /// tested in the order of their numbers.
     pub fn step(&mut self, sizes: Sizes, insn: Insn) -> Result<(), StepFault>
         requires limits { AreWithinLimits sizes }
         requires straight { goes_straight insn ≡ true }

@@ -125,9 +125,6 @@ fn locate(sizes: Sizes, base: RegValue, offset: i16, size: AccessSize) -> Result
     let RegValue::Pointer(pointer) = base else {
         return Err(StepFault::NotAWindow);
     };
-    if pointer.least != pointer.greatest {
-        return Err(StepFault::NotYet);
-    }
     let least = distance(pointer.least, offset).ok_or(StepFault::OutOfWindow)?;
     let greatest = distance(pointer.greatest, offset).ok_or(StepFault::OutOfWindow)?;
     if greatest + size.bytes() > pointer.region.size(sizes) {
