@@ -47,7 +47,7 @@ fn verified(alloc: Global, text: &[u8], sizes: Sizes) -> Result<Verified, Refusa
     ensures err { IfErr result (λ refusal. IsProgramRefused text.now sizes refusal) }
 {
     let shaped = shape(program_of(alloc, text)?)?;
-    Ok(verify(shaped, sizes)?)
+    Ok(verify(alloc, shaped, sizes)?)
 }
 
 fn key_of(alloc: Global, text: &str) -> Result<Key, Refusal>

@@ -30,3 +30,6 @@ pub use report::{LINE_BYTES, Line, Report, unit_lines};
 pub use streams::{StreamSink, StreamSource};
 pub use striped::{OpenFault, Striped};
 pub use words::{Command, RunTexts, parse_words};
+
+#[cfg(test)]
+mod tests;

@@ -1,7 +1,7 @@
 -- Addresses of accesses, and sums and differences of words.
 use Rattle.std.proofs.Common.{◌≡◌, ℕ, ◌+◌, ◌-◌, ◌%◌, ◌^◌, ◌≤◌, SFits, refl, sym, ap, ◌∙◌, ◌<◌, arith, ℤ, pos, negsuc}
 use Rattle.std.specs.Int.{w16}
-use Rattle.std.specs.Prelude.{◌≤ℤ◌, ◌+ℤ◌, neg_ℤ}
+use Rattle.std.specs.Prelude.{◌≤ℤ◌, ◌+ℤ◌}
 use Rattle.std.proofs.lemmas.Int.{ints}
 use Rattle.bpf_model.specs.Words.{IsWord, sign_extended}
 use Rattle.bpf_model.specs.declared.operations.AluOp.TheVariants.{Add, Sub}

@@ -82,7 +82,8 @@ impl AbstractState {
         dst: Reg,
         src: Operand,
     ) -> Result<(), StepFault>
-        ensures ok { OnOk result ((sizes : DeclaredSizes) → Leads self.old sizes (Alu op width dst src) self.new) }
+        ensures ok { OnOk result ((sizes : DeclaredSizes)
+            → Leads self.old sizes (Alu op width dst src) self.new) }
     {
         let a = self.read(dst.number())?;
         let b = self.operand(src)?;
@@ -90,28 +91,32 @@ impl AbstractState {
     }
 
     fn negate(&mut self, width: Width, dst: Reg) -> Result<(), StepFault>
-        ensures ok { OnOk result ((sizes : DeclaredSizes) → Leads self.old sizes (Negate width dst) self.new) }
+        ensures ok { OnOk result ((sizes : DeclaredSizes)
+            → Leads self.old sizes (Negate width dst) self.new) }
     {
         let number = self.read(dst.number())?.as_number();
         self.assign(dst, RegValue::Number(negate(width, number)))
     }
 
     fn mov(&mut self, width: Width, dst: Reg, src: Operand) -> Result<(), StepFault>
-        ensures ok { OnOk result ((sizes : DeclaredSizes) → Leads self.old sizes (Mov width dst src) self.new) }
+        ensures ok { OnOk result ((sizes : DeclaredSizes)
+            → Leads self.old sizes (Mov width dst src) self.new) }
     {
         let value = self.operand(src)?;
         self.assign(dst, moved(width, value))
     }
 
     fn sign_extend(&mut self, extension: SignExtension, dst: Reg, src: Reg) -> Result<(), StepFault>
-        ensures ok { OnOk result ((sizes : DeclaredSizes) → Leads self.old sizes (SignExtend extension dst src) self.new) }
+        ensures ok { OnOk result ((sizes : DeclaredSizes)
+            → Leads self.old sizes (SignExtend extension dst src) self.new) }
     {
         let number = self.read(src.number())?.as_number();
         self.assign(dst, RegValue::Number(sign_extend(extension, number)))
     }
 
     fn reorder(&mut self, order: ByteOrder, size: SwapWidth, dst: Reg) -> Result<(), StepFault>
-        ensures ok { OnOk result ((sizes : DeclaredSizes) → Leads self.old sizes (Reorder order size dst) self.new) }
+        ensures ok { OnOk result ((sizes : DeclaredSizes)
+            → Leads self.old sizes (Reorder order size dst) self.new) }
     {
         let number = self.read(dst.number())?.as_number();
         self.assign(dst, RegValue::Number(reorder(order, size, number)))

@@ -11,7 +11,8 @@ use value_ranges::{Range, alu, mov};
 /// What is known of the operation's result on words for which these values stand. At 64 bits a pointer and a number add
 /// up to a pointer, and a pointer less a number is one; all else is arithmetic on numbers.
 pub fn operate(op: AluOp, width: Width, a: RegValue, b: RegValue) -> RegValue
-    ensures holds { (x y : ℕ) → StandsFor a (Some x) → StandsFor b (Some y) → StandsFor result (Some (alu_value op width x y)) }
+    ensures holds { (x y : ℕ) → StandsFor a (Some x) → StandsFor b (Some y)
+        → StandsFor result (Some (alu_value op width x y)) }
 {
     match (op, width, a, b) {
         (AluOp::Add, Width::W64, RegValue::Pointer(pointer), RegValue::Number(number)) => sum(
@@ -28,7 +29,8 @@ pub fn operate(op: AluOp, width: Width, a: RegValue, b: RegValue) -> RegValue
 
 /// What is known of a moved word: at 64 bits what was known of it.
 pub fn moved(width: Width, value: RegValue) -> RegValue
-    ensures holds { (x : ℕ) → StandsFor value (Some x) → StandsFor result (Some (mov_value width x)) }
+    ensures holds { (x : ℕ) → StandsFor value (Some x)
+        → StandsFor result (Some (mov_value width x)) }
     ensures whole { width ≡ Width.W64 → result ≡ value }
 {
     match width {
@@ -39,7 +41,8 @@ pub fn moved(width: Width, value: RegValue) -> RegValue
 
 // a pointer out of reach may be any word
 fn sum(pointer: Pointer, number: Range) -> RegValue
-    ensures holds { (x y : ℕ) → PointsTo pointer x → IsIn y number → StandsFor result (Some ((x + y) % 2 ^ 64)) }
+    ensures holds { (x y : ℕ) → PointsTo pointer x → IsIn y number
+        → StandsFor result (Some ((x + y) % 2 ^ 64)) }
 {
     match pointer.plus(number) {
         Some(moved) => RegValue::Pointer(moved),
@@ -48,7 +51,8 @@ fn sum(pointer: Pointer, number: Range) -> RegValue
 }
 
 fn difference(pointer: Pointer, number: Range) -> RegValue
-    ensures holds { (x y : ℕ) → PointsTo pointer x → IsIn y number → StandsFor result (Some ((x + (2 ^ 64 - y)) % 2 ^ 64)) }
+    ensures holds { (x y : ℕ) → PointsTo pointer x → IsIn y number
+        → StandsFor result (Some ((x + (2 ^ 64 - y)) % 2 ^ 64)) }
 {
     match pointer.minus(number) {
         Some(moved) => RegValue::Pointer(moved),

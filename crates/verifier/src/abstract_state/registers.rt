@@ -1,6 +1,9 @@
 //! Registers that are read and written.
-ghost use Rattle.std.specs.Prelude.{◌≡◌, ◌≢◌, ◌≤◌, Ok, Err, OnOk, IfOk, nat_eq, if◌then◌else◌};
+ghost use Rattle.std.specs.Prelude.{◌≡◌, ◌≢◌, ◌≤◌, ℕ, Ok, Err, OnOk, IfOk, IsOk, nat_eq, if◌then◌else◌};
 ghost use Rattle.verifier.specs.declared.fault.StepFault.TheVariants.{UnwrittenRegister, WriteToR10};
+ghost use Rattle.bpf_model.specs.declared.instruction.Operand.TheVariants.{Register as TheRegister};
+ghost use Rattle.stack_slots.specs.declared.reg_value.RegValue.TheVariants.{Unwritten};
+ghost use Rattle.verifier.specs.Joins.{register as known, SetsTo};
 ghost use Rattle.verifier.specs.Describes.{Knows, KnowsOperand, Sets};
 
 use super::AbstractState;
@@ -15,6 +18,9 @@ const FRAME_POINTER: u8 = 10;
 impl AbstractState {
     pub(super) fn operand(&self, src: Operand) -> Result<RegValue, StepFault>
         ensures ok { IfOk result (KnowsOperand self.now src) }
+        ensures value { IfOk result (λ x. x ≢ Unwritten) }
+        ensures enough { ((r : ℕ) → src ≡ TheRegister r → known self.now r ≢ Unwritten)
+            → IsOk result }
     {
         match src {
             Operand::Register(register) => self.read(register.number()),
@@ -25,6 +31,9 @@ impl AbstractState {
     pub(super) fn read(&self, register: u8) -> Result<RegValue, StepFault>
         requires register { register ≤ 10 }
         ensures ok { IfOk result (Knows self.now register) }
+        ensures exact { IfOk result (λ x. (x ≡ known self.now register) × (x ≢ Unwritten)) }
+        ensures enough { known self.now register ≢ Unwritten
+            → result ≡ Ok (known self.now register) }
     {
         match self.registers[register as usize] {
             RegValue::Unwritten => Err(StepFault::UnwrittenRegister),
@@ -34,6 +43,8 @@ impl AbstractState {
 
     pub(super) fn assign(&mut self, dst: Reg, value: RegValue) -> Result<(), StepFault>
         ensures ok { OnOk result (Sets self.old dst value self.new) }
+        ensures exact { OnOk result (SetsTo self.old dst value self.new) }
+        ensures enough { dst ≢ 10 → result ≡ Ok tt }
     {
         test_target(dst)?;
         self.set(dst, value);
@@ -43,6 +54,7 @@ impl AbstractState {
     pub(super) fn set(&mut self, dst: Reg, value: RegValue)
         requires target { dst ≢ 10 }
         ensures sound { Sets self.old dst value self.new }
+        ensures exact { SetsTo self.old dst value self.new }
     {
         self.registers[dst.number() as usize] = value;
     }

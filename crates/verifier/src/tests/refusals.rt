@@ -1,11 +1,13 @@
 //! Programs that are refused, each fault with its number and unit, and what each fault is printed as.
+ghost use Rattle.std.specs.Prelude.{◌≤◌};
+
 use super::{
     EXIT, Row, SIZES, add, alu, check, copy, load, low_half, mov, negate, reg, sign_extend, store,
     store_byte, wide,
 };
 use crate::VerifyFault::{
-    BadExitValue, NotAWindow, NotYet, OutOfWindow, ReadOnly, SizesTooLarge, UnwrittenBytes,
-    UnwrittenRegister, WriteToR10,
+    BadExitValue, NoMemory, NotAWindow, NotYet, OutOfWindow, ReadOnly, SizesTooLarge,
+    UnwrittenBytes, UnwrittenRegister, WriteToR10,
 };
 use bpf_model::{AccessSize, AluOp, Insn, JumpOp, Operand, Sizes, Width};
 use std::test::Fail;
@@ -175,28 +177,46 @@ fn the_least_number_of_a_unit_is_named(rt: HostRuntime) -> Result<(), Fail> {
     check(&rt, rt.alloc(), SIZES, &rows)
 }
 
-#[test]
-fn jumps_are_not_taken_yet(rt: HostRuntime) -> Result<(), Fail> {
-    let long_jump = Insn::JumpLong { distance: 0 };
-    let branch = Insn::Branch {
+/// Past the next instruction.
+fn past_one() -> Insn {
+    Insn::Jump { distance: 1 }
+}
+
+/// To the next instruction, whether or not the condition holds.
+fn compare(dst: u8, src: Operand) -> Insn
+    requires { dst ≤ 10 }
+{
+    Insn::Branch {
         test: JumpOp::Eq,
         width: Width::W64,
-        dst: reg(5),
-        src: Operand::Immediate(0),
+        dst: reg(dst),
+        src,
         distance: 0,
-    };
-    let rows: [Row; 7] = [
-        ("a jump", &[jump(), mov(0, -1), EXIT], Some((48, 0))),
-        ("a long jump", &[wide(0, 1), long_jump, EXIT], Some((48, 2))),
-        ("on r5", &[mov(0, -1), branch, EXIT], Some((48, 1))),
+    }
+}
+
+#[test]
+fn jumps_have_their_faults(rt: HostRuntime) -> Result<(), Fail> {
+    let on_r5 = compare(5, Operand::Immediate(0));
+    let with_r5 = compare(6, Operand::Register(reg(5)));
+    let rows: [Row; 5] = [
+        ("on r5", &[mov(0, -1), on_r5, EXIT], Some((40, 1))),
+        ("with r5", &[mov(0, -1), with_r5, EXIT], Some((40, 1))),
         (
-            "40 before it",
-            &[load(0, 5, 0), jump(), EXIT],
-            Some((40, 0)),
+            "at its target",
+            &[jump(), load(0, 5, 0), EXIT],
+            Some((40, 1)),
         ),
-        ("40 after it", &[jump(), load(0, 5, 0), EXIT], Some((48, 0))),
-        ("46 after it", &[mov(0, 9), jump(), EXIT], Some((48, 1))),
-        ("it is not reached", &[mov(0, -1), EXIT, jump(), EXIT], None),
+        (
+            "what it passes over is not tested",
+            &[past_one(), load(0, 5, 0), mov(0, -1), EXIT],
+            None,
+        ),
+        (
+            "r0 is written only behind the jump",
+            &[past_one(), mov(0, -1), EXIT],
+            Some((40, 2)),
+        ),
     ];
     check(&rt, rt.alloc(), SIZES, &rows)
 }
@@ -256,10 +276,8 @@ fn refusals_print_their_reason_and_unit(rt: HostRuntime) -> Result<(), Fail> {
             "r0 may be neither -1 nor a number of written bytes (unit 511)",
         ),
         (SizesTooLarge, "a declared size is above its limit"),
-        (
-            NotYet(8),
-            "the instruction or its access is not taken yet (unit 8)",
-        ),
+        (NoMemory, "no memory"),
+        (NotYet(8), "the access is not taken yet (unit 8)"),
     ];
     for (fault, message) in rows {
         assert_eq!(rt; format!(in alloc; "{fault}")?.as_str(), message);

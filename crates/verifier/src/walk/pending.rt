@@ -28,7 +28,8 @@ impl Pending {
     pub fn take(&mut self, unit: usize) -> Option<Box<AbstractState>>
         ensures value { boxed result ≡ kept_at self.old unit }
         ensures empty { kept_at self.new unit ≡ None }
-        ensures others { (other : ℕ) → other ≢ unit → kept_at self.new other ≡ kept_at self.old other }
+        ensures others { (other : ℕ) → other ≢ unit
+            → kept_at self.new other ≡ kept_at self.old other }
     {
         if unit < self.states.len() {
             self.states[unit].take()
@@ -40,7 +41,8 @@ impl Pending {
     /// Keeps a state for a unit, joined with what is kept for it.
     pub fn send(&mut self, unit: usize, state: &AbstractState) -> Result<(), AllocError>
         ensures sent { OnOk result (IncludesSome (Some state.now) (kept_at self.new unit)) }
-        ensures keeps { OnOk result ((other : ℕ) → IncludesSome (kept_at self.old other) (kept_at self.new other)) }
+        ensures keeps { OnOk result ((other : ℕ)
+            → IncludesSome (kept_at self.old other) (kept_at self.new other)) }
     {
         self.reach(unit)?;
         match &mut self.states[unit] {

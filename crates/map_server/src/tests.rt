@@ -1,0 +1,3 @@
+//! Whole ways of programs.
+
+mod branches;
