@@ -37,7 +37,7 @@ near_fits : (z : ℤ) → IsNear z → SFits w64 z
 near_fits z near = between_fits z (omega (arith, ints, near.least)) (omega (arith, ints, near.most))
 
 -- the bits of a small number, as a linear fact
-near_bits : (z : ℤ) → IsNear z → (sign_extended z < 2 ^ 64) × (z +ℤ pos (2 ^ 63) ≡ pos ((sign_extended z + 2 ^ 63) % 2 ^ 64))
+pub near_bits : (z : ℤ) → IsNear z → (sign_extended z < 2 ^ 64) × (z +ℤ pos (2 ^ 63) ≡ pos ((sign_extended z + 2 ^ 63) % 2 ^ 64))
 near_bits z near =
     let fits = near_fits z near in
     let word : sign_extended z < 2 ^ 64 = (Fits-of_z fits).fits in

@@ -1,6 +1,6 @@
 pub mod FaultLemmas
 pub mod RangeLemmas
-pub mod PointerLemmas
+pub mod AddressLemmas
 pub mod FrameLemmas
 pub mod RegisterLemmas
 pub mod WindowLemmas

@@ -1,6 +1,4 @@
 pub mod Checked
-pub mod Kept
-pub mod Frames
 pub mod Joins
 pub mod Faults
 pub mod Describes

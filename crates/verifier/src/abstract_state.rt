@@ -8,24 +8,35 @@ ghost use Rattle.verifier.specs.Describes.{Leads, goes_straight};
 mod accesses;
 mod branches;
 mod entry;
+mod place;
 mod registers;
 
 use crate::arithmetic::{moved, operate};
 use crate::fault::StepFault;
-use crate::stack_slots::{Frame, RegValue};
 use bpf_model::{AluOp, ByteOrder, Insn, Operand, Reg, SignExtension, Sizes, SwapWidth, Width};
+use stack_slots::{Frame, RegValue};
 use value_ranges::{Range, negate, reorder, sign_extend};
 
-/// What is known of the registers, and which bytes of stack and result were written.
-#[derive(Clone, Copy, Debug)]
+/// What is known of the registers, and of the bytes of stack and result.
+#[derive(Debug, Drop)]
 pub struct AbstractState {
     registers: [RegValue; 11],
     frame: Frame,
 }
 
 impl AbstractState {
+    /// The same state once more. Takes no memory.
+    pub fn copied(&self) -> AbstractState
+        ensures value { result ≡ self.now }
+    {
+        AbstractState {
+            registers: self.registers,
+            frame: self.frame.copied(),
+        }
+    }
+
     /// Tests an instruction after which a run goes on at the next one, and goes on to what is known there. Faults are
-    /// tested in the order of their numbers, but for 48: at an access it comes after 40 to 42 and before 43 to 45.
+    /// tested in the order of their numbers.
     pub fn step(&mut self, sizes: Sizes, insn: Insn) -> Result<(), StepFault>
         requires limits { AreWithinLimits sizes }
         requires straight { goes_straight insn ≡ true }

@@ -2,10 +2,10 @@
 ghost use Rattle.std.specs.Prelude.{◌≡◌, ℕ, ◌+◌, ◌-◌, ◌%◌, ◌^◌, Some};
 ghost use Rattle.bpf_model.specs.Arithmetic.{alu_value, mov_value};
 ghost use Rattle.value_ranges.specs.In.{IsIn};
-ghost use Rattle.verifier.specs.Frames.{StandsFor, PointsTo};
+ghost use Rattle.stack_slots.specs.Values.{StandsFor, PointsTo};
 
-use crate::stack_slots::{Pointer, RegValue};
 use bpf_model::{AluOp, Width};
+use stack_slots::{Pointer, RegValue};
 use value_ranges::{Range, alu, mov};
 
 /// What is known of the operation's result on words for which these values stand. At 64 bits a pointer and a number add

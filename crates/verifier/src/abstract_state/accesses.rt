@@ -1,17 +1,18 @@
 //! Loads, stores and the end of a run.
-ghost use Rattle.std.specs.Prelude.{◌≡◌, ◌+◌, ℕ, Some, OnOk, IfOk};
+ghost use Rattle.std.specs.Prelude.{◌≡◌, ◌+ℤ◌, ℕ, pos, Some, OnOk, IfOk, IfSome};
 ghost use Rattle.bpf_model.specs.declared.instruction.Insn.TheVariants.{Load, Store};
 ghost use Rattle.bpf_model.specs.Fits.{AreWithinLimits};
-ghost use Rattle.bpf_model.specs.Memory.{first_address};
+ghost use Rattle.bpf_model.specs.Accesses.{loaded_size};
 ghost use Rattle.bpf_model.specs.Step.{address_of};
-ghost use Rattle.verifier.specs.Frames.{StandsFor, is_signed};
-ghost use Rattle.verifier.specs.Describes.{Leads, ReadsBytes, WritesBytes, Exits, LiesInside};
+ghost use Rattle.stack_slots.specs.Values.{StandsFor};
+ghost use Rattle.verifier.specs.Describes.{Leads, ReadsBytes, WritesBytes, Exits, IsAt, LiesInside, is_signed};
 
 use super::AbstractState;
+use super::place::Place;
 use super::registers::test_target;
 use crate::fault::StepFault;
-use crate::stack_slots::{Access, RegValue, loadable};
-use bpf_model::{AccessSize, LoadKind, Operand, Reg, Region, Sizes};
+use bpf_model::{AccessSize, LoadKind, Operand, Reg, Sizes};
+use stack_slots::{Access, RegValue, loadable};
 
 impl AbstractState {
     pub(super) fn load(
@@ -27,8 +28,8 @@ impl AbstractState {
     {
         let base = self.read(src.number())?;
         test_target(dst)?;
-        let (region, first) = locate(sizes, base, offset, kind.size())?;
-        let value = self.read_bytes(region, first, kind)?;
+        let place = locate(sizes, base, offset, kind.size())?;
+        let value = self.read_bytes(sizes, place, kind)?;
         self.set(dst, value);
         Ok(())
     }
@@ -41,12 +42,13 @@ impl AbstractState {
         src: Operand,
         offset: i16,
     ) -> Result<(), StepFault>
+        requires limits { AreWithinLimits sizes }
         ensures ok { OnOk result (Leads self.old sizes (Store size dst src offset) self.new) }
     {
         let base = self.read(dst.number())?;
         let value = self.operand(src)?;
-        let (region, first) = locate(sizes, base, offset, size)?;
-        self.write_bytes(region, first, size, value)
+        let place = locate(sizes, base, offset, size)?;
+        self.write_bytes(sizes, place, size, value)
     }
 
     /// Tests the end of a run.
@@ -60,15 +62,19 @@ impl AbstractState {
         Ok(())
     }
 
-    fn read_bytes(
-        &self,
-        region: Region,
-        first: usize,
-        kind: LoadKind,
-    ) -> Result<RegValue, StepFault>
-        ensures ok { IfOk result (ReadsBytes self.now region first kind) }
+    fn read_bytes(&self, sizes: Sizes, place: Place, kind: LoadKind) -> Result<RegValue, StepFault>
+        requires limits { AreWithinLimits sizes }
+        requires inside { LiesInside sizes place (loaded_size kind) }
+        ensures ok { IfOk result (ReadsBytes self.now sizes place kind) }
     {
-        match Access::new(region, first, first, kind.size(), is_signed(kind)) {
+        match Access::new(
+            place.region,
+            place.least,
+            place.greatest,
+            kind.size(),
+            is_signed(kind),
+            sizes,
+        ) {
             Some(access) => self.frame.load(&access).ok_or(StepFault::UnwrittenBytes),
             // The windows that may only be read have all their bytes.
             None => Ok(RegValue::Number(loadable(kind.size(), is_signed(kind)))),
@@ -77,14 +83,22 @@ impl AbstractState {
 
     fn write_bytes(
         &mut self,
-        region: Region,
-        first: usize,
+        sizes: Sizes,
+        place: Place,
         size: AccessSize,
         value: RegValue,
     ) -> Result<(), StepFault>
-        ensures ok { OnOk result (WritesBytes self.old region first size value self.new) }
+        requires limits { AreWithinLimits sizes }
+        ensures ok { OnOk result (WritesBytes self.old sizes place size value self.new) }
     {
-        match Access::new(region, first, first, size, false) {
+        match Access::new(
+            place.region,
+            place.least,
+            place.greatest,
+            size,
+            false,
+            sizes,
+        ) {
             Some(access) => {
                 self.frame.store(&access, &value);
                 Ok(())
@@ -103,28 +117,29 @@ fn is_signed(kind: LoadKind) -> bool
     )
 }
 
-/// The window of an access through this value, and the distance of its first byte from the window's.
-fn locate(
-    sizes: Sizes,
-    base: RegValue,
-    offset: i16,
-    size: AccessSize,
-) -> Result<(Region, usize), StepFault>
-    ensures address { IfOk result (λ at. (w : ℕ) → StandsFor base (Some w)
-        → address_of w offset ≡ first_address at.0 + at.1) }
-    ensures inside { IfOk result (λ at. LiesInside sizes at.0 at.1 size) }
+/// The place of an access through this value, where all its bytes are in the window.
+fn locate(sizes: Sizes, base: RegValue, offset: i16, size: AccessSize) -> Result<Place, StepFault>
+    ensures address { IfOk result (λ place. (w : ℕ) → StandsFor base (Some w) → IsAt place (address_of w offset)) }
+    ensures inside { IfOk result (λ place. LiesInside sizes place size) }
 {
     let RegValue::Pointer(pointer) = base else {
         return Err(StepFault::NotAWindow);
     };
-    let Some(distance) = pointer.offset() else {
-        return Err(StepFault::NotYet);
-    };
-    match usize::try_from(distance + i64::from(offset)) {
-        Ok(first) if first + size.bytes() <= pointer.region.size(sizes) => Ok((
-            pointer.region,
-            first,
-        )),
-        _ => Err(StepFault::OutOfWindow),
+    let least = distance(pointer.least, offset).ok_or(StepFault::OutOfWindow)?;
+    let greatest = distance(pointer.greatest, offset).ok_or(StepFault::OutOfWindow)?;
+    if greatest + size.bytes() > pointer.region.size(sizes) {
+        return Err(StepFault::OutOfWindow);
     }
+    Ok(Place {
+        region: pointer.region,
+        least,
+        greatest,
+    })
+}
+
+/// The distance from the window's first byte; none before it.
+fn distance(from: i64, offset: i16) -> Option<usize>
+    ensures value { IfSome result (λ n. pos n ≡ from +ℤ offset) }
+{
+    usize::try_from(from.checked_add(i64::from(offset))?).ok()
 }

@@ -1,13 +1,14 @@
 //! What is known on one side of a condition, and where two ways meet.
 ghost use Rattle.std.specs.Prelude.{◌≡◌, ℕ, IfOk, length, slice_index_or};
-ghost use Rattle.verifier.specs.declared.stack_slots.reg_value.RegValue.TheVariants.{Unwritten};
+ghost use Rattle.stack_slots.specs.declared.reg_value.RegValue.TheVariants.{Unwritten};
 ghost use Rattle.verifier.specs.Describes.{Assumes, Narrows, Includes};
-ghost use Rattle.verifier.specs.Joins.{JoinsValues, JoinsStates};
+ghost use Rattle.stack_slots.specs.Values.{IsJoin};
+ghost use Rattle.verifier.specs.Joins.{JoinsStates};
 
 use super::AbstractState;
 use crate::fault::StepFault;
-use crate::stack_slots::RegValue;
 use bpf_model::{Condition, Operand, Reg, Width};
+use stack_slots::RegValue;
 use value_ranges::{Range, refine};
 
 impl AbstractState {
@@ -53,16 +54,16 @@ impl AbstractState {
         ensures exact { JoinsStates self.old other.now self.new }
     {
         join_registers(&mut self.registers, &other.registers);
-        self.frame = self.frame.join(&other.frame);
+        self.frame.join_with(&other.frame);
     }
 }
 
 fn join_registers(registers: &mut [RegValue], others: &[RegValue])
     requires same_length { length registers.old ≡ length others.now }
-    ensures joins { (r : ℕ) → JoinsValues (slice_index_or registers.old r Unwritten)
+    ensures joins { (r : ℕ) → IsJoin (slice_index_or registers.old r Unwritten)
         (slice_index_or others.now r Unwritten) (slice_index_or registers.new r Unwritten) }
 {
     for r in 0..registers.len() {
-        registers[r] = registers[r].join(others[r]);
+        registers[r] = registers[r].join(&others[r]);
     }
 }

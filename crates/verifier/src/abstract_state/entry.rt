@@ -1,13 +1,13 @@
 //! What is known at entry.
 ghost use Rattle.std.specs.Prelude.{◌+◌, Some};
 ghost use Rattle.bpf_model.specs.Memory.{first_address};
-ghost use Rattle.verifier.specs.Frames.{StandsFor};
+ghost use Rattle.stack_slots.specs.Values.{StandsFor};
 ghost use Rattle.verifier.specs.Describes.{DescribesEntry};
 
 use super::AbstractState;
-use crate::stack_slots::{Frame, Pointer, RegValue};
 use bpf_model::limits::STACK_BYTES;
 use bpf_model::{Region, Sizes};
+use stack_slots::{Frame, Pointer, RegValue};
 use value_ranges::Range;
 
 impl AbstractState {

@@ -2,14 +2,14 @@
 ghost use Rattle.std.specs.Prelude.{◌≡◌, ◌≢◌, ◌≤◌, ℕ, Ok, Err, OnOk, IfOk, IsOk, nat_eq, if◌then◌else◌};
 ghost use Rattle.verifier.specs.declared.fault.StepFault.TheVariants.{UnwrittenRegister, WriteToR10};
 ghost use Rattle.bpf_model.specs.declared.instruction.Operand.TheVariants.{Register as TheRegister};
-ghost use Rattle.verifier.specs.declared.stack_slots.reg_value.RegValue.TheVariants.{Unwritten};
+ghost use Rattle.stack_slots.specs.declared.reg_value.RegValue.TheVariants.{Unwritten};
 ghost use Rattle.verifier.specs.Joins.{register as known, SetsTo};
 ghost use Rattle.verifier.specs.Describes.{Knows, KnowsOperand, Sets};
 
 use super::AbstractState;
 use crate::fault::StepFault;
-use crate::stack_slots::RegValue;
 use bpf_model::{Operand, Reg, immediate_word};
+use stack_slots::RegValue;
 use value_ranges::Range;
 
 /// The number of r10, which points to the stack's end and is never written.

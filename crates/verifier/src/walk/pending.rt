@@ -47,7 +47,7 @@ impl Pending {
         self.reach(unit)?;
         match &mut self.states[unit] {
             Some(kept) => kept.join(state),
-            place => *place = Some(Box::new(self.alloc, *state)?),
+            place => *place = Some(Box::new(self.alloc, state.copied())?),
         }
         Ok(())
     }

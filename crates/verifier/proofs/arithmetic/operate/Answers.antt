@@ -1,6 +1,6 @@
 use Rattle.std.proofs.Common.{ℕ, Some, subst}
-use Rattle.verifier.specs.Frames.{StandsFor}
-use Rattle.verifier.proofs.PointerLemmas.{sum_is, sum_is_swapped, difference_is}
+use Rattle.stack_slots.specs.Values.{StandsFor}
+use Rattle.verifier.proofs.AddressLemmas.{sum_is, sum_is_swapped, difference_is}
 use Rattle.verifier.proofs.arithmetic.operate.Goals as goal
 
 pub returns-in-Add-W64-Pointer-Number : goal.returns-in-Add-W64-Pointer-Number

@@ -1,4 +1,4 @@
-use Rattle.std.proofs.Common.{rules}
+use Rattle.std.proofs.Common.{◌≡◌, true, false}
 use Rattle.bpf_model.specs.Words.{word_of}
 use Rattle.bpf_model.specs.Accesses.{loaded_size}
 use Rattle.verifier.proofs.WindowLemmas.{load_read_only}
@@ -9,7 +9,7 @@ returns-in-None c =
     let outside = rw c.size.ensures at c.in-None.ensures.some in
     let holds = rw (c.size-in-None.ensures, c.is_signed-in-None.ensures.value) at c.loadable.ensures.holds in
     record {
-      ok = λ sizes s limits inside d.
-          let read = load_read_only c.args.self.now sizes s c.args.region c.args.first (loaded_size c.args.kind) limits inside (search rules) d in
+      ok = λ s address d at.
+          let read = load_read_only c.args.self.now c.args.sizes s c.args.place address (loaded_size c.args.kind) (λ kept. let no : false ≡ true = outside.1 (kept, c.requires.inside) in absurd cc) c.requires.inside at d in
           record { bytes = read.0; present = read.1.0; stands = holds (word_of read.0) read.1.1 };
     }

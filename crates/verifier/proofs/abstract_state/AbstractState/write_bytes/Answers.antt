@@ -1,16 +1,16 @@
-use Rattle.std.proofs.Common.{arith}
-use Rattle.verifier.specs.Frames.{MayBeAt}
+use Rattle.std.proofs.Common.{refl, sym, arith}
+use Rattle.stack_slots.specs.Accesses.{MayBeAt}
 use Rattle.verifier.proofs.WindowLemmas.{stores_describes}
 use Rattle.verifier.proofs.abstract_state.AbstractState.write_bytes.Goals as goal
 
 pub returns-in-Some : goal.returns-in-Some
 returns-in-Some c = record {
-  ok = λ sizes s w inside d stands.
+  ok = λ s address w d p stands.
       let a = c.args.self.now in
       let access = c.in-Some.access in
-      let place = c.in-Some.ensures.place in
-      let kind = c.in-Some.ensures.kind in
-      let at : MayBeAt access c.args.first = record { least = omega (arith, place.1); greatest = omega (arith, place.2) } in
-      let moved = stores_describes a c.store.new.self access sizes s c.args.first w at (rw (place.0, place.2, kind.0) inside) d c.store.ensures.written (c.store.ensures.describes s.memory c.args.first w at stands d.written) in
-      rw (place.0, kind.0) at moved;
+      let is = c.in-Some.ensures.value in
+      let some = c.in-Some.ensures.some.0 refl in
+      let at : MayBeAt access p.distance = record { least = omega (arith, is.least_is, p.least); greatest = omega (arith, is.greatest_is, p.greatest) } in
+      let moved = stores_describes a c.store.new.self access c.args.sizes s p.distance w (rw is.region_is some.0) at (rw (is.region_is, is.greatest_is, is.size_is) some.1) d c.store.ensures.written (c.store.ensures.describes s.memory p.distance w at stands d.frame) in
+      rw (is.region_is, is.size_is, sym p.is) at moved;
 }

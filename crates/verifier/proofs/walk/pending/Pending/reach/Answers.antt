@@ -1,1 +1,0 @@
-use Rattle.verifier.proofs.walk.pending.Pending.reach.Goals as goal
