@@ -1,12 +1,9 @@
 //! Programs with jumps, as texts: what `verify` says of each, and what it answers on a key.
-use bpf_assembler::assemble;
-use bpf_machine::run;
-use bpf_model::{Answer, Input, Key, Sizes, fits};
-use flow_shape::shape;
+use super::Wanted::{self, Bytes, Nothing, Refused};
+use bpf_model::Sizes;
 use std::alloc::Global;
 use std::process::Abort;
 use std::test::Fail;
-use verifier::verify;
 
 const NO_BYTES: Sizes = Sizes {
     key: 64,
@@ -22,16 +19,6 @@ const EIGHT_BYTES: Sizes = Sizes {
     result: 8,
 };
 
-/// What is wanted of a program: number and unit of its refusal, or what it answers.
-#[derive(Clone, Copy, Debug, PartialEq, Eq)]
-enum Wanted<'a> {
-    Refused(u8, usize),
-    Nothing,
-    Bytes(&'a [u8]),
-}
-
-use Wanted::{Bytes, Nothing, Refused};
-
 /// Name, text, key and what is wanted.
 type Row<'a> = (&'a str, &'a str, &'a [u8], Wanted<'a>);
 
@@ -42,23 +29,7 @@ fn meets(
     key: &[u8],
     wanted: Wanted,
 ) -> Result<bool, Fail> {
-    let shaped = shape(assemble(alloc, text)?)?;
-    let verified = match verify(alloc, shaped, sizes) {
-        Ok(verified) => verified,
-        Err(fault) => return Ok(wanted == Refused(fault.number(), fault.unit())),
-    };
-    let input = Input {
-        key: Key::from_slice(key)?,
-        old: None,
-        arg: None,
-    };
-    if fits(&verified.sizes(), &input).is_err() {
-        return Ok(false);
-    }
-    Ok(match run(&verified, &input) {
-        Answer::Nothing => wanted == Nothing,
-        Answer::Bytes(bytes) => wanted == Bytes(bytes.as_slice()),
-    })
+    super::meets(alloc, text, sizes, key, None, wanted)
 }
 
 fn check(rt: &impl Abort, alloc: Global, sizes: Sizes, rows: &[Row]) -> Result<(), Fail> {
