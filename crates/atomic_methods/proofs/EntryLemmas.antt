@@ -1,15 +1,14 @@
 -- Lists of entries in which no key stands twice, and the table that they make.
-use Rattle.std.proofs.Common.{◌≡◌, ℕ, zero, suc, ◌+◌, ◌<◌, ◌≤◌, Bool, true, false, T, cond, ◌&&◌, not, List, [], ◌∷◌, ◌++◌, length, get_or, Option, Some, None, Ordering, Less, Equal, Greater, is_eq, is_lt, refl, sym, ap, subst, ◌∙◌, arith}
-use Rattle.std.specs.Prelude.{count_by, sum_by, filter, ⊤}
+use Rattle.std.proofs.Common.{◌≡◌, ℕ, ◌+◌, Bool, true, false, T, cond, ◌&&◌, List, [], ◌∷◌, ◌++◌, length, Option, Some, None, Ordering, Less, Equal, Greater, is_eq, is_lt, refl, sym, ap, ◌∙◌, arith}
+use Rattle.std.specs.Prelude.{count_by, ⊤}
 use Rattle.std.specs.Ordering.{eq_by_cmp}
-use Rattle.std.specs.Cmp.{IsTotalOrder, tied_itself, tied_back, alike_right}
+use Rattle.std.specs.Cmp.{tied_itself}
 use Rattle.std.specs.FinMap as map
-use Rattle.std.specs.FinMap.{find, put, is_sorted, entries-insert, get-entries, get-from_entries, get-from_sorted, entries-from_sorted, same_map, len-entries, len-empty}
+use Rattle.std.specs.FinMap.{find, put, is_sorted, entries-insert, get-entries, get-from_entries, len-entries, len-empty}
 use Rattle.std.specs.FinMap.Entries.{below_all}
-use Rattle.std.specs.List.Sorted.{IsSortedBy, IsStableBy, ties}
 use Rattle.std.proofs.lemmas.List.Sums.{sum_by-cons}
-use Rattle.bins.specs.Table.{Table, by_bytes}
-use Rattle.atomic_methods.proofs.TableLemmas.{total, antisymmetric}
+use Rattle.bins.specs.Table.{by_bytes}
+use Rattle.atomic_methods.proofs.TableLemmas.{total}
 
 abbrev pub Entry : Type 0
 Entry = List ℕ × List ℕ

@@ -1,5 +1,5 @@
 -- The replacement of each value, stripe by stripe and in the whole table.
-use Rattle.std.proofs.Common.{◌≡◌, ◌≢◌, ℕ, zero, suc, ◌+◌, ◌<◌, ◌≤◌, ◌^◌, Bool, true, false, cond, List, [], ◌∷◌, ◌++◌, length, get_or, set, take, drop, Option, Some, None, Result, Ok, Err, refl, sym, ap, subst, ◌∙◌, arith, inl, inr}
+use Rattle.std.proofs.Common.{◌≡◌, ℕ, zero, suc, ◌+◌, ◌<◌, ◌≤◌, Bool, true, false, cond, List, [], ◌∷◌, ◌++◌, length, get_or, set, take, drop, Option, Some, None, Result, Ok, refl, sym, ap, subst, ◌∙◌, arith}
 use Rattle.std.specs.Prelude.{count_by}
 use Rattle.std.specs.Option.{option_map}
 use Rattle.std.specs.Ordering.{eq_by_cmp}
@@ -16,9 +16,9 @@ use Rattle.verifier.specs.Checked.{Checked}
 use Rattle.bins.specs.declared.counts.Counts.{Counts}
 use Rattle.bins.specs.Table.{Table, by_bytes}
 use Rattle.bins.specs.Replacements.{ComesTo, value_after, is_given, is_unfit, ReplacesEach}
-use Rattle.atomic_methods.specs.Whole.{all_entries, whole, stripe_at, AreStripes, IsSum, IsZero, ReplacesStripes}
+use Rattle.atomic_methods.specs.Whole.{all_entries, whole, stripe_at, AreStripes, IsSum, ReplacesStripes}
 use Rattle.atomic_methods.proofs.TableLemmas.{total}
-use Rattle.atomic_methods.proofs.EntryLemmas.{Entry, first_some, find-append, Distinct, counted_in_table}
+use Rattle.atomic_methods.proofs.EntryLemmas.{Entry, first_some, find-append, counted_in_table}
 use Rattle.atomic_methods.proofs.WholeLemmas.{none_anywhere, Apart, Distinct_all}
 
 abbrev Outcome : Type 0

@@ -1,5 +1,5 @@
 -- Numbers of stripes, and the stripe of a hash.
-use Rattle.std.proofs.Common.{◌≡◌, ℕ, zero, suc, ◌+◌, ◌-◌, ◌*◌, ◌%◌, ◌^◌, ◌<◌, ◌≤◌, Bool, true, false, T, cond, ◌&&◌, refl, sym, subst, arith, inl, inr}
+use Rattle.std.proofs.Common.{◌≡◌, ℕ, zero, suc, ◌-◌, ◌%◌, ◌^◌, ◌<◌, ◌≤◌, Bool, true, false, T, cond, ◌&&◌, refl, sym, subst, arith, inl, inr}
 use Rattle.std.specs.Prelude.{bit_and, nat_lt, nat_eq}
 use Rattle.std.specs.Int.{is_power_of_two}
 use Rattle.std.proofs.lemmas.Bool.{cases_eq, eqb-true}

@@ -1,5 +1,5 @@
 -- Edits of a table, one after another, and those that change nothing.
-use Rattle.std.proofs.Common.{◌≡◌, ℕ, List, Bool, true, false, cond, Option, Some, None, Ordering, Less, Equal, Greater, is_eq, refl, sym, ap, ◌∙◌}
+use Rattle.std.proofs.Common.{◌≡◌, ℕ, List, Bool, true, false, cond, Some, None, Ordering, Less, Equal, Greater, is_eq, refl, sym, ap, ◌∙◌}
 use Rattle.std.specs.Ordering.{eq_by_cmp}
 use Rattle.std.specs.Cmp.{IsTotalOrder}
 use Rattle.std.specs.Cmp.Lexicographic.{nat_list_cmp_total}

@@ -1,6 +1,6 @@
 -- What each method does to its key and what it replies. Java SE 17: Map and ConcurrentMap, whose functions are programs
 -- here; its null is no value. That a program runs on fitting inputs alone is our profile.
-use Rattle.std.specs.Prelude.{◌≡◌, ℕ, Bool, true, false, List, Option, Some, None, Result, Ok, Err, if◌then◌else◌}
+use Rattle.std.specs.Prelude.{◌≡◌, ℕ, true, false, List, Option, Some, None, Result, Ok, Err, if◌then◌else◌}
 use Rattle.std.specs.Str.{bytes_eq}
 use Rattle.std.specs.FinMap as map
 use Rattle.bpf_model.specs.declared.input.Answer.{Answer}

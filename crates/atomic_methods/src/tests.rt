@@ -1,7 +1,7 @@
 //! Rows of calls and what they reply.
 ghost use Rattle.std.specs.Prelude.{◌≤◌};
 
-use crate::{Call, OpenFault, Reply, Striped, hash_of, stripe_of};
+use crate::{Call, OpenFault, Reply, Striped, hash_of, is_stripe_count, stripe_of};
 use bins::Counts;
 use bpf_model::{
     AccessSize, AluOp, Insn, Key, LoadKind, NoMemory, Operand, Program, Reg, Sizes, TooLong, Value,

@@ -6,6 +6,7 @@ fn hashes_are_those_of_the_rows(rt: HostRuntime) -> Result<(), Fail> {
     for (bytes, hash, stripe) in [(b"".as_slice(), 1, 1), (b"ab".as_slice(), 4066, 2)] {
         let key = key(bytes)?;
         assert_eq!(rt; hash_of(&key), hash);
+        assert!(rt; is_stripe_count(4));
         assert_eq!(rt; stripe_of(&key, 4), stripe);
     }
     Ok(())

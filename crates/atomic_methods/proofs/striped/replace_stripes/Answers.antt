@@ -1,5 +1,4 @@
-use Rattle.std.proofs.Common.{arith, refl, ap, subst, ◌≡◌, ◌∙◌, ◌<◌, length}
-use Rattle.bins.specs.Table.{Table}
+use Rattle.std.proofs.Common.{arith, refl, ap, ◌<◌, length}
 use Rattle.atomic_methods.proofs.ReplaceLemmas.{replaced_more, few_counts}
 use Rattle.atomic_methods.proofs.striped.replace_stripes.Goals as goal
 

@@ -1,4 +1,4 @@
-use Rattle.std.proofs.Common.{◌≡◌, ◌≤◌, ◌*◌, ◌^◌, take, drop, length}
+use Rattle.std.proofs.Common.{◌≡◌, ◌≤◌, ◌*◌, ◌^◌, take, drop}
 use Rattle.atomic_methods.specs.Whole.{ReplacesStripes}
 use Rattle.atomic_methods.proofs.striped.replace_stripes.Given as goal
 

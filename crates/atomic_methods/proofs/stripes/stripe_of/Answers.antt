@@ -1,5 +1,3 @@
-use Rattle.std.proofs.Common.{ap, ◌∙◌}
-use Rattle.std.specs.Prelude.{bit_and, ◌-◌}
 use Rattle.atomic_methods.proofs.StripeLemmas.{masked}
 use Rattle.atomic_methods.proofs.stripes.stripe_of.Goals as goal
 

@@ -1,4 +1,4 @@
-use Rattle.std.proofs.Common.{sym, ◌∙◌}
+use Rattle.std.proofs.Common.{◌∙◌}
 use Rattle.atomic_methods.specs.Invocations.{invocation_of}
 use Rattle.atomic_methods.proofs.WholeLemmas.{applied}
 use Rattle.atomic_methods.proofs.striped.Striped.apply.Goals as goal
