@@ -1,6 +1,7 @@
 #!/usr/bin/env bash
-# Runs the built bpfmap as a process: its status and both of its streams, which no contract reaches, and each of its
-# requests for memory refused in turn. Behind the gate, which builds the program; by hand after `rt run` in crates/bpfmap.
+# Runs the built bpfmap as a process: its status and both of its streams, which no contract reaches; the verdicts and
+# answers of a second implementation; and each request for memory refused in turn. Behind the gate, which builds the
+# program; by hand after `rt run` in crates/bpfmap.
 set -euo pipefail
 cd "$(dirname "$0")/.."
 program=crates/bpfmap/out/bpfmap
@@ -80,6 +81,23 @@ printf '7b 0g' > "$work/in"
 expect "hex that is none" 1 "refused 70 at 3" "" check
 printf '\xff\n' > "$work/in"
 expect "a text that is no UTF-8" 3 "" "failed read" asm
+
+# Each verdict and answer of the second implementation.
+while IFS= read -r line; do
+    case $line in "#"*) continue ;; esac
+    wanted=${line#* : }
+    # shellcheck disable=SC2086
+    set -- ${line% : *}
+    words=("$1" --key "$2" --old "$3" --arg "$4" --result "$5")
+    if [ "$1" = run ]; then
+        words+=(--with-key "${7/#./}")
+        [ "$8" = - ] || words+=(--with-old "${8/#./}")
+        [ "$9" = - ] || words+=(--with-arg "${9/#./}")
+    fi
+    printf '%s' "$6" > "$work/in"
+    run "${words[@]}"
+    judge "$line" [ "$(cat "$work/out")" = "$wanted" ]
+done < tests/verdicts.txt
 
 if command -v gcc > /dev/null; then
     gcc -O1 -shared -fPIC -fno-builtin -o "$work/refuse.so" tests/refuse.c

@@ -77,7 +77,16 @@ fn worked_programs_answer_as_written(rt: HostRuntime) -> Result<(), Fail> {
             "--old 16 --arg 16 --result 16 --with-old 07000000000000000a00000000000000 --with-arg 06000000000000000b00000000000000",
             "bytes 07 00 00 00 00 00 00 00 0a 00 00 00 00 00 00 00\n",
         ),
-        (APPEND, "--old 8 --arg 1 --result 8", "refused 48 at 7\n"),
+        (
+            APPEND,
+            "--old 8 --arg 1 --result 8 --with-old 0241420000000000 --with-arg 43",
+            "bytes 03 41 42 43 00 00 00 00\n",
+        ),
+        (
+            APPEND,
+            "--old 8 --arg 1 --result 8 --with-old 0741424344454647 --with-arg 48",
+            "bytes 07 41 42 43 44 45 46 47\n",
+        ),
         (
             TOKEN_BUCKET,
             "--old 24 --arg 16 --result 24 --with-old 020000000000000064000000000000000000000000000000 --with-arg 69000000000000000400000000000000",
