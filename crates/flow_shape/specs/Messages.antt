@@ -14,4 +14,4 @@ reason_of (FallsOffEnd unit) = codes "the last instruction is neither an exit no
 
 -- and where
 abbrev pub message_of : FlowFault → List ℕ
-message_of fault = reason_of fault ++ codes " (unit " ++ decimal (faulty_unit fault) ++ codes ")"
+message_of fault = reason_of fault ++ codes " at unit " ++ decimal (faulty_unit fault)

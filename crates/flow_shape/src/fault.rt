@@ -63,7 +63,7 @@ impl fmt::Display for FlowFault {
     ghost output = { λ fault. Some (message_of fault) };
 
     fn fmt<W: fmt::Write>(&self, f: &mut fmt::Formatter<W>) -> fmt::Result {
-        write!(f, "{} (unit {})", self.reason(), self.unit())
+        write!(f, "{} at unit {}", self.reason(), self.unit())
     }
 }
 

@@ -23,11 +23,11 @@ fn refusals_are_told_in_words(rt: HostRuntime) -> Result<(), Fail> {
         ),
         (
             Refusal::Program(AdmissionFault::Flow(FlowFault::JumpOut(5))),
-            "a jump leaves the program (unit 5)",
+            "a jump leaves the program at unit 5",
         ),
         (
             Refusal::Program(AdmissionFault::Verify(VerifyFault::WriteToR10(1))),
-            "r10 is written (unit 1)",
+            "r10 is written at unit 1",
         ),
     ] {
         assert_eq!(rt; format!(in rt.alloc(); "{refusal}")?.as_str(), text);
