@@ -6,8 +6,8 @@ use super::{
     store_byte, wide,
 };
 use crate::VerifyFault::{
-    BadExitValue, NoMemory, NotAWindow, NotYet, OutOfWindow, ReadOnly, SizesTooLarge,
-    UnwrittenBytes, UnwrittenRegister, WriteToR10,
+    BadExitValue, NoMemory, NotAWindow, OutOfWindow, ReadOnly, SizesTooLarge, UnwrittenBytes,
+    UnwrittenRegister, WriteToR10,
 };
 use bpf_model::{AccessSize, AluOp, Insn, JumpOp, Operand, Sizes, Width};
 use std::test::Fail;
@@ -222,28 +222,32 @@ fn jumps_have_their_faults(rt: HostRuntime) -> Result<(), Fail> {
 }
 
 #[test]
-fn one_of_several_bytes_is_not_taken_yet(rt: HostRuntime) -> Result<(), Fail> {
+fn one_of_several_places(rt: HostRuntime) -> Result<(), Fail> {
     let rows: [Row; 5] = [
-        ("a load", &[add(1, 6), load(0, 1, 0), EXIT], Some((48, 1))),
         (
-            "40 before it: r9 is stored",
+            "past the key at its greatest alone",
+            &[add(1, 6), load(0, 1, 0), EXIT],
+            Some((43, 1)),
+        ),
+        (
+            "40 before 43: r9 is stored",
             &[add(4, 6), store(4, 0, 9), EXIT],
             Some((40, 1)),
         ),
         (
-            "41 before it: into r10",
+            "41 before 43: into r10",
             &[add(1, 6), load(10, 1, 0), EXIT],
             Some((41, 1)),
         ),
         (
-            "43 after it: past the key",
-            &[add(1, 6), load(0, 1, 64), EXIT],
-            Some((48, 1)),
+            "43 before 44: past the key",
+            &[add(1, 6), store(1, 0, 6), EXIT],
+            Some((43, 1)),
         ),
         (
-            "44 after it: into the key",
-            &[add(1, 6), store(1, 0, 6), EXIT],
-            Some((48, 1)),
+            "44: into the key",
+            &[alu(AluOp::And, 6, 7), add(1, 6), store(1, 0, 6), EXIT],
+            Some((44, 2)),
         ),
     ];
     check(&rt, rt.alloc(), SIZES, &rows)
@@ -277,7 +281,6 @@ fn refusals_print_their_reason_and_unit(rt: HostRuntime) -> Result<(), Fail> {
         ),
         (SizesTooLarge, "a declared size is above its limit"),
         (NoMemory, "no memory"),
-        (NotYet(8), "the access is not taken yet (unit 8)"),
     ];
     for (fault, message) in rows {
         assert_eq!(rt; format!(in alloc; "{fault}")?.as_str(), message);
