@@ -11,6 +11,7 @@ use std::alloc::Global;
 use std::process::Abort;
 use std::test::Fail;
 
+mod frames;
 mod numbers;
 mod pointers;
 mod refusals;

@@ -28,9 +28,9 @@ fn differences_of_pointers(rt: HostRuntime) -> Result<(), Fail> {
             Some((42, 2)),
         ),
         (
-            "a length there and back is no one place",
+            "a length there and back may be less than 0",
             &[add(1, 6), combine(AluOp::Sub, 1, 6), load(0, 1, 0), EXIT],
-            Some((48, 2)),
+            Some((43, 2)),
         ),
     ];
     check(&rt, rt.alloc(), SIZES, &rows)

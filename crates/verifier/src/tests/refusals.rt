@@ -6,8 +6,8 @@ use super::{
     store_byte, wide,
 };
 use crate::VerifyFault::{
-    BadExitValue, NoMemory, NotAWindow, NotYet, OutOfWindow, ReadOnly, SizesTooLarge,
-    UnwrittenBytes, UnwrittenRegister, WriteToR10,
+    BadExitValue, NoMemory, NotAWindow, OutOfWindow, ReadOnly, SizesTooLarge, UnwrittenBytes,
+    UnwrittenRegister, WriteToR10,
 };
 use bpf_model::{AccessSize, AluOp, Insn, JumpOp, Operand, Sizes, Width};
 use std::test::Fail;
@@ -222,28 +222,32 @@ fn jumps_have_their_faults(rt: HostRuntime) -> Result<(), Fail> {
 }
 
 #[test]
-fn one_of_several_bytes_is_not_taken_yet(rt: HostRuntime) -> Result<(), Fail> {
+fn one_of_several_places(rt: HostRuntime) -> Result<(), Fail> {
     let rows: [Row; 5] = [
-        ("a load", &[add(1, 6), load(0, 1, 0), EXIT], Some((48, 1))),
         (
-            "40 before it: r9 is stored",
+            "past the key at its greatest alone",
+            &[add(1, 6), load(0, 1, 0), EXIT],
+            Some((43, 1)),
+        ),
+        (
+            "40 before 43: r9 is stored",
             &[add(4, 6), store(4, 0, 9), EXIT],
             Some((40, 1)),
         ),
         (
-            "41 before it: into r10",
+            "41 before 43: into r10",
             &[add(1, 6), load(10, 1, 0), EXIT],
             Some((41, 1)),
         ),
         (
-            "43 after it: past the key",
-            &[add(1, 6), load(0, 1, 64), EXIT],
-            Some((48, 1)),
+            "43 before 44: past the key",
+            &[add(1, 6), store(1, 0, 6), EXIT],
+            Some((43, 1)),
         ),
         (
-            "44 after it: into the key",
-            &[add(1, 6), store(1, 0, 6), EXIT],
-            Some((48, 1)),
+            "44: into the key",
+            &[alu(AluOp::And, 6, 7), add(1, 6), store(1, 0, 6), EXIT],
+            Some((44, 2)),
         ),
     ];
     check(&rt, rt.alloc(), SIZES, &rows)
@@ -255,29 +259,28 @@ fn refusals_print_their_reason_and_unit(rt: HostRuntime) -> Result<(), Fail> {
     let rows = [
         (
             UnwrittenRegister(0),
-            "a register is read that was not written (unit 0)",
+            "a register is read that was not written at unit 0",
         ),
-        (WriteToR10(1), "r10 is written (unit 1)"),
+        (WriteToR10(1), "r10 is written at unit 1"),
         (
             NotAWindow(2),
-            "the address does not point into a window (unit 2)",
+            "the address does not point into a window at unit 2",
         ),
         (
             OutOfWindow(3),
-            "the access does not lie in the window (unit 3)",
+            "the access does not lie in the window at unit 3",
         ),
-        (ReadOnly(10), "the window may only be read (unit 10)"),
+        (ReadOnly(10), "the window may only be read at unit 10"),
         (
             UnwrittenBytes(5),
-            "bytes are read that were not all written (unit 5)",
+            "bytes are read that were not all written at unit 5",
         ),
         (
             BadExitValue(511),
-            "r0 may be neither -1 nor a number of written bytes (unit 511)",
+            "r0 may be neither -1 nor a number of written bytes at unit 511",
         ),
         (SizesTooLarge, "a declared size is above its limit"),
         (NoMemory, "no memory"),
-        (NotYet(8), "the access is not taken yet (unit 8)"),
     ];
     for (fault, message) in rows {
         assert_eq!(rt; format!(in alloc; "{fault}")?.as_str(), message);
