@@ -1,9 +1,10 @@
 //! Runs and verifies programs as often as it is told, to be timed from outside.
 //!
-//! `run NAME COUNT`, `verify NAME COUNT` and `shape NAME COUNT` (what `verify` is handed, without `verify`); `hex NAME`
-//! prints a program's bytes. Without words it prints what each program answers.
+//! `run NAME COUNT`, `verify NAME COUNT` and `shape NAME COUNT` (what `verify` is handed, without `verify`); `call NAME
+//! COUNT` makes a call on a table; `hex NAME` prints a program's bytes. Without words it prints what each program answers.
 #![tactic(auto)]
 
+mod calls;
 mod programs;
 
 use anyhow::{Result, bail, ensure};
@@ -12,6 +13,7 @@ use bpf_decode::encode;
 use bpf_machine::run;
 use bpf_model::limits::{KEY_BYTES, VALUE_BYTES};
 use bpf_model::{Answer, Input, Insn, Key, Program, Sizes, Value, fits};
+use calls::call_often;
 use flow_shape::{Shaped, shape};
 use programs::Sample;
 use std::alloc::Global;
@@ -107,6 +109,10 @@ fn print_answers(rt: &HostRuntime) -> Result<()> {
 
 fn bench(rt: &HostRuntime, word: &str, name: &str, count: &str) -> Result<()> {
     let alloc = rt.alloc();
+    if word == "call" {
+        let program = verified(alloc, Sample::Sum)?;
+        return call_often(alloc, &program, name, count.parse()?);
+    }
     let Some(sample) = Sample::named(name) else {
         bail!("no program is named so");
     };
@@ -118,7 +124,7 @@ fn bench(rt: &HostRuntime, word: &str, name: &str, count: &str) -> Result<()> {
             let bytes = encode(alloc, &program(alloc, sample)?)?;
             Ok(print_bytes(rt, bytes.as_slice())?)
         }
-        _ => bail!("the first word is run, shape, verify or hex"),
+        _ => bail!("the first word is run, shape, verify, call or hex"),
     }
 }
 
