@@ -119,7 +119,8 @@ fn is_signed(kind: LoadKind) -> bool
 
 /// The place of an access through this value, where all its bytes are in the window.
 fn locate(sizes: Sizes, base: RegValue, offset: i16, size: AccessSize) -> Result<Place, StepFault>
-    ensures address { IfOk result (λ place. (w : ℕ) → StandsFor base (Some w) → IsAt place (address_of w offset)) }
+    ensures address { IfOk result (λ place. (w : ℕ) → StandsFor base (Some w)
+        → IsAt place (address_of w offset)) }
     ensures inside { IfOk result (λ place. LiesInside sizes place size) }
 {
     let RegValue::Pointer(pointer) = base else {
