@@ -1,6 +1,6 @@
 #!/usr/bin/env bash
-# Times `run` of bpf_machine beside a plain C loop over decoded instructions, with and without bounds checks, and `verify`
-# of verifier: seven times in turn, and prints the medians. Where valgrind is installed, instructions a run too. By hand,
+# Times `run` of bpf_machine beside a plain C loop over decoded instructions, with and without bounds checks, `verify` of
+# verifier, and calls on a table: seven times in turn, and prints the medians. Where valgrind is installed, instructions a run too. By hand,
 # not by the gate. It takes some seconds; a first time takes minutes, since a program is built only when all below it is
 # proved.
 set -euo pipefail
@@ -22,7 +22,7 @@ for name in sum alu; do $bench hex $name > "$work/$name.hex"; done
 side() {
     case $1 in
         rattle) $bench run "$2" "$3" ;;
-        shape | verify) $bench "$1" "$2" "$3" ;;
+        shape | verify | call) $bench "$1" "$2" "$3" ;;
         *) "$work/$1" "$3" < "$work/$2.hex" ;;
     esac
 }
@@ -57,11 +57,11 @@ instructions() {
     echo $(((all - none) / $3))
 }
 counted() {
-    local input=/dev/null command=("$bench" run "$2" "$3")
-    if [ "$1" != rattle ]; then
-        input=$work/$2.hex
-        command=("$work/$1" "$3")
-    fi
+    local input=/dev/null command=("$bench" "$1" "$2" "$3")
+    case $1 in
+        rattle) command=("$bench" run "$2" "$3") ;;
+        plain | checked) input=$work/$2.hex command=("$work/$1" "$3") ;;
+    esac
     valgrind --tool=callgrind --callgrind-out-file=/dev/null "${command[@]}" 2>&1 > "$work/out" < "$input" |
         sed -n 's/.*Collected : //p'
 }
@@ -97,3 +97,12 @@ measure alu e1218400fffdfbf7 50000 "an instruction of 501" 501 200
 measure_verify straight 2000
 measure_verify jumps 1000
 measure_verify ladder 1000
+
+# a call on a table of one entry: how often, how often for callgrind
+measure_call() {
+    medians "$1" "$2" call | awk -v n="$2" -v what="$1" '{ printf "%s: %.0f ns a call\n", what, $1 / n }'
+    if command -v valgrind > /dev/null; then
+        echo "  instructions a call: $(instructions call "$1" "$3")"
+    fi
+}
+for name in get put replace compute merge; do measure_call $name 200000 2000; done
