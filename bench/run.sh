@@ -97,6 +97,7 @@ measure alu e1218400fffdfbf7 50000 "an instruction of 501" 501 200
 measure_verify straight 2000
 measure_verify jumps 1000
 measure_verify ladder 1000
+measure_verify spills 1000
 
 # a call on a table of one entry: how often, how often for callgrind
 measure_call() {

@@ -128,7 +128,7 @@ fn verified<const N: usize>(
 ) -> Result<Verified, Fail> {
     let instructions = Vec::from_array(alloc, instructions)?;
     let program = Program::new(instructions).ok_or("no program")?;
-    Ok(verify(shape(program)?, sizes)?)
+    Ok(verify(alloc, shape(program)?, sizes)?)
 }
 
 fn sizes(key: u16, old: u16, arg: u16, most: u16) -> Sizes {

@@ -104,7 +104,8 @@ fn print_answers(rt: &HostRuntime) -> Result<()> {
     print_answer(rt, "alu", Sample::Arithmetic)?;
     print_answer(rt, "straight", Sample::Straight)?;
     print_answer(rt, "jumps", Sample::Jumps)?;
-    print_answer(rt, "ladder", Sample::Ladder)
+    print_answer(rt, "ladder", Sample::Ladder)?;
+    print_answer(rt, "spills", Sample::Spills)
 }
 
 fn bench(rt: &HostRuntime, word: &str, name: &str, count: &str) -> Result<()> {

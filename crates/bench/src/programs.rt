@@ -1,7 +1,7 @@
 //! The programs that are measured, as texts of the assembler. They stand here alone: `bench/run.sh` has their bytes from
 //! here for the C loop too.
 
-use bpf_model::limits::PROGRAM_UNITS;
+use bpf_model::limits::{PROGRAM_UNITS, STACK_BYTES};
 use std::alloc::{AllocError, Global};
 
 /// A program that is measured.
@@ -17,6 +17,8 @@ pub enum Sample {
     Jumps,
     /// In all units but two a ladder of jumps over one instruction.
     Ladder,
+    /// A value in each slot of the stack, and then jumps that go on at the next instruction either way.
+    Spills,
 }
 
 const SUM: &str = "\
@@ -61,6 +63,8 @@ const RUNG: &str = "jset64 r6, 1, +1\nmov64 r9, 1\n";
 
 const RUNG_UNITS: usize = 2;
 
+const SLOTS: usize = STACK_BYTES / 8;
+
 impl Sample {
     /// The sample of this name; none where there is no such one.
     pub fn named(name: &str) -> Option<Sample> {
@@ -70,6 +74,7 @@ impl Sample {
             "straight" => Some(Sample::Straight),
             "jumps" => Some(Sample::Jumps),
             "ladder" => Some(Sample::Ladder),
+            "spills" => Some(Sample::Spills),
             _ => None,
         }
     }
@@ -103,8 +108,23 @@ impl Sample {
                 let rungs = (PROGRAM_UNITS - NO_ANSWER_UNITS) / RUNG_UNITS;
                 joined(alloc, &[(RUNG, rungs), (NO_ANSWER, 1)])
             }
+            Sample::Spills => {
+                let jumps = PROGRAM_UNITS - SLOTS - NO_ANSWER_UNITS;
+                let mut text = spills(alloc)?;
+                text.push_str(&joined(alloc, &[(JUMP, jumps), (NO_ANSWER, 1)])?)?;
+                Ok(text)
+            }
         }
     }
+}
+
+/// A store of r6 to each slot of the stack.
+fn spills(alloc: Global) -> Result<String, AllocError> {
+    let mut text = String::new(alloc);
+    for slot in 1..SLOTS + 1 {
+        text.push_str(&format!(in alloc; "stxd [r10-{}], r6\n", 8 * slot)?)?;
+    }
+    Ok(text)
 }
 
 /// Each of these texts as often as the number beside it says.

@@ -137,6 +137,128 @@ fn loads_have_the_bounds_of_their_bytes(rt: HostRuntime) -> Result<(), Fail> {
 }
 
 #[test]
+fn loads_of_each_size_have_their_bounds(rt: HostRuntime) -> Result<(), Fail> {
+    let rows: [Row; 12] = [
+        (
+            "an unsigned half word, at the bound",
+            "ldh r9, [r1+0]\nrsh64 r9, 8\nadd64 r2, r9\nldb r0, [r2+0]\nmov64 r0, -1\nexit\n",
+            b"a",
+            Nothing,
+        ),
+        (
+            "an unsigned half word, one past it",
+            "ldh r9, [r1+0]\nrsh64 r9, 8\nadd64 r2, r9\nldb r0, [r2+1]\nmov64 r0, -1\nexit\n",
+            b"a",
+            Refused(43, 3),
+        ),
+        (
+            "an unsigned word, at the bound",
+            "ldw r9, [r1+0]\nrsh64 r9, 24\nadd64 r2, r9\nldb r0, [r2+0]\nmov64 r0, -1\nexit\n",
+            b"a",
+            Nothing,
+        ),
+        (
+            "an unsigned word, one past it",
+            "ldw r9, [r1+0]\nrsh64 r9, 24\nadd64 r2, r9\nldb r0, [r2+1]\nmov64 r0, -1\nexit\n",
+            b"a",
+            Refused(43, 3),
+        ),
+        (
+            "a double word, at the bound",
+            "ldd r9, [r1+0]\nrsh64 r9, 56\nadd64 r2, r9\nldb r0, [r2+0]\nmov64 r0, -1\nexit\n",
+            b"a",
+            Nothing,
+        ),
+        (
+            "a double word, one past it",
+            "ldd r9, [r1+0]\nrsh64 r9, 56\nadd64 r2, r9\nldb r0, [r2+1]\nmov64 r0, -1\nexit\n",
+            b"a",
+            Refused(43, 3),
+        ),
+        (
+            "a signed half word, at both bounds",
+            "ldsh r9, [r1+0]\narsh64 r9, 8\nadd64 r2, r9\nldb r0, [r2+128]\nmov64 r0, -1\nexit\n",
+            b"a",
+            Nothing,
+        ),
+        (
+            "a signed half word, one below",
+            "ldsh r9, [r1+0]\narsh64 r9, 8\nadd64 r2, r9\nldb r0, [r2+127]\nmov64 r0, -1\nexit\n",
+            b"a",
+            Refused(43, 3),
+        ),
+        (
+            "a signed half word, one past",
+            "ldsh r9, [r1+0]\narsh64 r9, 8\nadd64 r2, r9\nldb r0, [r2+129]\nmov64 r0, -1\nexit\n",
+            b"a",
+            Refused(43, 3),
+        ),
+        (
+            "a signed word, at both bounds",
+            "ldsw r9, [r1+0]\narsh64 r9, 24\nadd64 r2, r9\nldb r0, [r2+128]\nmov64 r0, -1\nexit\n",
+            b"a",
+            Nothing,
+        ),
+        (
+            "a signed word, one below",
+            "ldsw r9, [r1+0]\narsh64 r9, 24\nadd64 r2, r9\nldb r0, [r2+127]\nmov64 r0, -1\nexit\n",
+            b"a",
+            Refused(43, 3),
+        ),
+        (
+            "a signed word, one past",
+            "ldsw r9, [r1+0]\narsh64 r9, 24\nadd64 r2, r9\nldb r0, [r2+129]\nmov64 r0, -1\nexit\n",
+            b"a",
+            Refused(43, 3),
+        ),
+    ];
+    check(&rt, rt.alloc(), sizes(64, 256, 0, 8), &rows)
+}
+
+/// Each store that touches a slot of the stack: its name, and how far its first byte may be from the slot's.
+const STORES: [(&str, i32, i32); 4] = [
+    ("stb", 0, 7),
+    ("sth", -1, 6),
+    ("stw", -3, 4),
+    ("std", -7, 0),
+];
+
+#[test]
+fn each_overwrite_of_a_slot_takes_its_value(rt: HostRuntime) -> Result<(), Fail> {
+    let alloc = rt.alloc();
+    for (name, first, last) in STORES {
+        for distance in first..last + 1 {
+            let offset = distance - 8;
+            let text = format!(in alloc;
+                "stxd [r10-8], r1\n{name} [r10{offset}], 0\nldd r9, [r10-8]\nldb r0, [r9+0]\nexit\n"
+            )?;
+            let touched = meets(alloc, &text, sizes(64, 8, 8, 8), b"a", None, Refused(42, 3))?;
+            assert!(rt; touched, "{name} at {offset}");
+        }
+    }
+    Ok(())
+}
+
+#[test]
+fn answers_end_at_the_written_prefix(rt: HostRuntime) -> Result<(), Fail> {
+    let alloc = rt.alloc();
+    let rows = [
+        (-2, Refused(46, 2)),
+        (-1, Nothing),
+        (0, Bytes(b"")),
+        (1, Bytes(b"\x07")),
+        (2, Bytes(b"\x07\0")),
+        (3, Refused(46, 2)),
+    ];
+    for (length, wanted) in rows {
+        let text = format!(in alloc; "sth [r4+0], 7\nmov64 r0, {length}\nexit\n")?;
+        let is_met = meets(alloc, &text, sizes(64, 8, 8, 8), b"a", None, wanted)?;
+        assert!(rt; is_met, "a length of {length}");
+    }
+    Ok(())
+}
+
+#[test]
 fn windows_end_where_they_end(rt: HostRuntime) -> Result<(), Fail> {
     let rows: [Row; 16] = [
         (
