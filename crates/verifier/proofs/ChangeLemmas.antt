@@ -1,7 +1,8 @@
 -- What instructions change.
-use Rattle.std.proofs.Common.{◌≡◌, ◌≢◌, ℕ, ◌+◌, ◌<◌, ◌≤◌, ◌^◌, true, List, Some, None, sym, subst, ap, ◌∙◌, arith, SFits, ℤ, pos, negsuc}
-use Rattle.std.specs.Prelude.{◌+ℤ◌, slice_index_or}
+use Rattle.std.proofs.Common.{◌≡◌, ◌≢◌, ℕ, ◌+◌, ◌<◌, ◌≤◌, ◌^◌, ◌⊎◌, true, List, length, inl, inr, Some, refl, None, sym, subst, ap, ◌∙◌, arith, SFits, ℤ, pos, negsuc}
+use Rattle.std.specs.Prelude.{◌+ℤ◌, slice_index_or, slice_set}
 use Rattle.std.specs.Int.{w32, w64}
+use Rattle.std.proofs.lemmas.List.{get_or-set_same, get_or-set_other}
 use Rattle.std.proofs.lemmas.Int.{ints, to_z-of_z}
 use Rattle.bpf_model.specs.declared.input.Sizes.{Sizes}
 use Rattle.bpf_model.specs.declared.region.Region.{Region}
@@ -19,7 +20,7 @@ use Rattle.bpf_model.specs.Words.{signed, sign_extended}
 use Rattle.bpf_model.proofs.Options.{some_is}
 use Rattle.stack_slots.specs.declared.pointer.Pointer.{Pointer}
 use Rattle.stack_slots.specs.declared.reg_value.RegValue.{RegValue}
-use Rattle.stack_slots.specs.declared.reg_value.RegValue.TheVariants.{Unwritten, Pointer as PointerInto}
+use Rattle.stack_slots.specs.declared.reg_value.RegValue.TheVariants.{Unwritten, Number, Pointer as PointerInto}
 use Rattle.stack_slots.specs.Kept.{IsKept}
 use Rattle.stack_slots.specs.Offsets.{AreInReach}
 use Rattle.stack_slots.specs.Values.{IsPointerIn, IsNumberIn}
@@ -27,7 +28,7 @@ use Rattle.stack_slots.specs.Frames.{is_written, NoneUnwritten}
 use Rattle.verifier.specs.declared.abstract_state.AbstractState.{AbstractState}
 use Rattle.verifier.specs.declared.abstract_state.place.Place.{Place}
 use Rattle.verifier.specs.Joins.{register, SetsTo}
-use Rattle.verifier.specs.Changes.{written_by, store_of, Touch, TouchesByte, Changes, IsPlace, WritesAt, CanLoad, AreMarked}
+use Rattle.verifier.specs.Changes.{written_by, store_of, Touch, TouchesByte, Changes, IsPlace, WritesAt, CanLoad, AreMarked, IsNarrowed, OnlyNarrows}
 
 fits_more : (z : ℤ) → SFits w32 z → SFits w64 z
 fits_more (pos n) h = record { sfits = omega (arith, h.sfits) }
@@ -155,3 +156,35 @@ pub can_read : (sizes : Sizes) (a : AbstractState) (t : Touch) (place : Place) (
 can_read sizes a t place can at kept = λ j least greatest.
     subst (λ (r : Region). is_written a.frame r j ≡ true) (sym at.region_is)
     (can.written j (subst IsKept at.region_is kept) (omega (arith, ints, at.least_is, least)) (omega (arith, ints, at.greatest_is, greatest)))
+
+pub narrowed_same : (x : RegValue) → IsNarrowed x x
+narrowed_same Unwritten = refl
+narrowed_same (Number r) = (r, refl)
+narrowed_same (PointerInto p) = refl
+
+pub narrows_same : (a : AbstractState) → OnlyNarrows a a
+narrows_same a = record { registers = λ r. narrowed_same (register a r); frame = refl }
+
+-- one register that is narrowed
+pub narrows_at : (a : AbstractState) (n : ℕ) (v : RegValue) → n < length a.registers → IsNarrowed (register a n) v → OnlyNarrows a (record { registers = slice_set a.registers n v; frame = a.frame })
+narrows_at a n v lt narrowed = record {
+  registers = λ r. elim (decide r n) [
+    | inl is ↦ subst (λ (k : ℕ). IsNarrowed (register a k) (slice_index_or (slice_set a.registers n v) k Unwritten)) (sym is) (subst (IsNarrowed (register a n)) (sym (get_or-set_same a.registers n v Unwritten lt)) narrowed)
+    | inr apart ↦ subst (IsNarrowed (register a r)) (sym (get_or-set_other a.registers n r v Unwritten apart)) (narrowed_same (register a r))
+  ];
+  frame = refl;
+}
+  where
+    decide : (r n : ℕ) → (r ≡ n) ⊎ (r ≢ n)
+    decide r n = grind arith
+
+narrowed_then : (x y z : RegValue) → IsNarrowed x y → IsNarrowed y z → IsNarrowed x z
+narrowed_then Unwritten y z first second = rw first at second
+narrowed_then (Number r) y z first second = rw first.1 at second
+narrowed_then (PointerInto p) y z first second = rw first at second
+
+pub narrows_then : (a b d : AbstractState) → OnlyNarrows a b → OnlyNarrows b d → OnlyNarrows a d
+narrows_then a b d first second = record {
+  registers = λ r. narrowed_then (register a r) (register b r) (register d r) (first.registers r) (second.registers r);
+  frame = second.frame ∙ first.frame;
+}

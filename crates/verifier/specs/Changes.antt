@@ -1,8 +1,9 @@
 -- What an instruction makes of what is known, and what is enough for it to be accepted. This verifier's own.
 use Rattle.std.specs.Prelude.{◌≡◌, ◌≢◌, ℕ, ◌+◌, ◌<◌, ◌≤◌, Bool, false, true, ◌||◌, ◌⊎◌, Option, Some, None, nat_eq, ◌^◌, ℤ, pos, negsuc, ◌+ℤ◌, ◌≤ℤ◌}
+use Rattle.bpf_model.specs.declared.limits.TheConstants.{STACK_BYTES}
 use Rattle.bpf_model.specs.declared.input.Sizes.{Sizes}
 use Rattle.bpf_model.specs.declared.region.Region.{Region}
-use Rattle.bpf_model.specs.declared.region.Region.TheVariants.{Result}
+use Rattle.bpf_model.specs.declared.region.Region.TheVariants.{Key, Old, Arg, Result, Stack}
 use Rattle.bpf_model.specs.declared.operations.AluOp.TheVariants.{Add, And}
 use Rattle.bpf_model.specs.declared.operations.Width.TheVariants.{W64}
 use Rattle.bpf_model.specs.declared.accesses.AccessSize.{AccessSize}
@@ -101,6 +102,30 @@ pub record Changes (i : Insn) (a b : AbstractState) : Type 0 where
   pub masks : (d m : ℕ) → i ≡ Alu And W64 d (Immediate (pos m)) → IsNumberIn (pos 0) (pos m) (register b d)
   pub adds : (d x : ℕ) (w : Region) (lo hi from to : ℤ) → i ≡ Alu Add W64 d (Register x) → AreInReach (lo +ℤ from) (hi +ℤ to)
       → IsPointerIn w lo hi (register a d) → IsNumberIn from to (register a x) → IsPointerIn w (lo +ℤ from) (hi +ℤ to) (register b d)
+
+-- what a condition makes of a value: of a number a number, and all else stays as it was
+abbrev pub IsNarrowed : RegValue → RegValue → Type 0
+IsNarrowed Unwritten y = y ≡ Unwritten
+IsNarrowed (Number r) y = (q : Range) × (y ≡ Number q)
+IsNarrowed (PointerInto p) y = y ≡ PointerInto p
+
+pub record OnlyNarrows (a b : AbstractState) : Type 0 where
+  pub registers : (r : ℕ) → IsNarrowed (register a r) (register b r)
+  pub frame : b.frame ≡ a.frame
+
+-- what is known at entry: where the registers point, and what the lengths may be
+pub record IsEntry (sizes : Sizes) (a : AbstractState) : Type 0 where
+  pub key : IsPointerIn Key (pos 0) (pos 0) (register a 1)
+  pub old : IsPointerIn Old (pos 0) (pos 0) (register a 2)
+  pub arg : IsPointerIn Arg (pos 0) (pos 0) (register a 3)
+  pub result : IsPointerIn Result (pos 0) (pos 0) (register a 4)
+  pub stack : IsPointerIn Stack (pos STACK_BYTES) (pos STACK_BYTES) (register a 10)
+  pub key_length : IsNumberIn (pos 0) (pos sizes.key) (register a 6)
+  pub old_length : IsNumberIn (negsuc 0) (pos sizes.old) (register a 7)
+  pub arg_length : IsNumberIn (negsuc 0) (pos sizes.arg) (register a 8)
+  pub unwritten : (r : ℕ) → (r ≡ 0) ⊎ ((r ≡ 5) ⊎ ((r ≡ 9) ⊎ (11 ≤ r))) → register a r ≡ Unwritten
+  pub marks : (w : Region) (i : ℕ) → is_written a.frame w i ≡ false
+  pub spills : NoneUnwritten a.frame
 
 -- at each of its addresses an access of so many bytes through the pointer lies inside the window
 pub record ReachesInside (sizes : Sizes) (p : Pointer) (offset : ℤ) (count : ℕ) : Type 0 where
