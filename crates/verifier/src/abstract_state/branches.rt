@@ -4,7 +4,7 @@ ghost use Rattle.bpf_model.specs.declared.instruction.Operand.TheVariants.{Regis
 ghost use Rattle.stack_slots.specs.declared.reg_value.RegValue.TheVariants.{Unwritten};
 ghost use Rattle.verifier.specs.Describes.{Assumes, Narrows, Includes};
 ghost use Rattle.stack_slots.specs.Values.{IsJoin};
-ghost use Rattle.verifier.specs.Joins.{register as known, JoinsStates};
+ghost use Rattle.verifier.specs.Joins.{register as known, JoinsStates, KeepsCommon};
 ghost use Rattle.verifier.specs.Changes.{OnlyNarrows};
 
 use super::AbstractState;
@@ -58,6 +58,7 @@ impl AbstractState {
         ensures first { Includes self.old self.new }
         ensures second { Includes other.now self.new }
         ensures exact { JoinsStates self.old other.now self.new }
+        ensures keeps { KeepsCommon self.old other.now self.new }
     {
         join_registers(&mut self.registers, &other.registers);
         self.frame.join_with(&other.frame);
