@@ -1,11 +1,13 @@
 pub mod FaultLemmas
 pub mod RangeLemmas
+pub mod ValueLemmas
 pub mod AddressLemmas
 pub mod FrameLemmas
 pub mod RegisterLemmas
 pub mod WindowLemmas
 pub mod EntryLemmas
 pub mod LeadsLemmas
+pub mod ChangeLemmas
 pub mod JoinLemmas
 pub mod FlowLemmas
 pub mod WalkLemmas

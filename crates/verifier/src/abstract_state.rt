@@ -1,9 +1,10 @@
 //! What is known of every state that a run brings to a unit, and what an instruction makes of it.
-ghost use Rattle.std.specs.Prelude.{◌≡◌, true, OnOk};
+ghost use Rattle.std.specs.Prelude.{◌≡◌, true, Ok, OnOk};
 ghost use Rattle.bpf_model.specs.declared.input.Sizes.{Sizes as DeclaredSizes};
 ghost use Rattle.bpf_model.specs.declared.instruction.Insn.TheVariants.{Alu, Negate, Mov, SignExtend, Reorder};
 ghost use Rattle.bpf_model.specs.Fits.{AreWithinLimits};
 ghost use Rattle.verifier.specs.Describes.{Leads, goes_straight};
+ghost use Rattle.verifier.specs.Changes.{Changes, Suffices};
 
 mod accesses;
 mod branches;
@@ -41,6 +42,8 @@ impl AbstractState {
         requires limits { AreWithinLimits sizes }
         requires straight { goes_straight insn ≡ true }
         ensures ok { OnOk result (Leads self.old sizes insn self.new) }
+        ensures changes { OnOk result (Changes insn self.old self.new) }
+        ensures enough { Suffices sizes insn self.old → result ≡ Ok tt }
     {
         match insn {
             Insn::Alu {
@@ -84,6 +87,9 @@ impl AbstractState {
     ) -> Result<(), StepFault>
         ensures ok { OnOk result ((sizes : DeclaredSizes)
             → Leads self.old sizes (Alu op width dst src) self.new) }
+        ensures changes { OnOk result (Changes (Alu op width dst src) self.old self.new) }
+        ensures enough { (sizes : DeclaredSizes) → Suffices sizes (Alu op width dst src) self.old
+            → result ≡ Ok tt }
     {
         let a = self.read(dst.number())?;
         let b = self.operand(src)?;
@@ -93,6 +99,9 @@ impl AbstractState {
     fn negate(&mut self, width: Width, dst: Reg) -> Result<(), StepFault>
         ensures ok { OnOk result ((sizes : DeclaredSizes)
             → Leads self.old sizes (Negate width dst) self.new) }
+        ensures changes { OnOk result (Changes (Negate width dst) self.old self.new) }
+        ensures enough { (sizes : DeclaredSizes) → Suffices sizes (Negate width dst) self.old
+            → result ≡ Ok tt }
     {
         let number = self.read(dst.number())?.as_number();
         self.assign(dst, RegValue::Number(negate(width, number)))
@@ -101,6 +110,9 @@ impl AbstractState {
     fn mov(&mut self, width: Width, dst: Reg, src: Operand) -> Result<(), StepFault>
         ensures ok { OnOk result ((sizes : DeclaredSizes)
             → Leads self.old sizes (Mov width dst src) self.new) }
+        ensures changes { OnOk result (Changes (Mov width dst src) self.old self.new) }
+        ensures enough { (sizes : DeclaredSizes) → Suffices sizes (Mov width dst src) self.old
+            → result ≡ Ok tt }
     {
         let value = self.operand(src)?;
         self.assign(dst, moved(width, value))
@@ -109,6 +121,9 @@ impl AbstractState {
     fn sign_extend(&mut self, extension: SignExtension, dst: Reg, src: Reg) -> Result<(), StepFault>
         ensures ok { OnOk result ((sizes : DeclaredSizes)
             → Leads self.old sizes (SignExtend extension dst src) self.new) }
+        ensures changes { OnOk result (Changes (SignExtend extension dst src) self.old self.new) }
+        ensures enough { (sizes : DeclaredSizes)
+            → Suffices sizes (SignExtend extension dst src) self.old → result ≡ Ok tt }
     {
         let number = self.read(src.number())?.as_number();
         self.assign(dst, RegValue::Number(sign_extend(extension, number)))
@@ -117,6 +132,9 @@ impl AbstractState {
     fn reorder(&mut self, order: ByteOrder, size: SwapWidth, dst: Reg) -> Result<(), StepFault>
         ensures ok { OnOk result ((sizes : DeclaredSizes)
             → Leads self.old sizes (Reorder order size dst) self.new) }
+        ensures changes { OnOk result (Changes (Reorder order size dst) self.old self.new) }
+        ensures enough { (sizes : DeclaredSizes)
+            → Suffices sizes (Reorder order size dst) self.old → result ≡ Ok tt }
     {
         let number = self.read(dst.number())?.as_number();
         self.assign(dst, RegValue::Number(reorder(order, size, number)))

@@ -1,8 +1,11 @@
 //! What arithmetic makes of register values.
-ghost use Rattle.std.specs.Prelude.{◌≡◌, ℕ, ◌+◌, ◌-◌, ◌%◌, ◌^◌, Some};
+ghost use Rattle.std.specs.Prelude.{◌≡◌, ◌≢◌, ◌<◌, ℕ, ◌+◌, ◌-◌, ◌%◌, ◌^◌, Some, ℤ, pos, ◌+ℤ◌};
+ghost use Rattle.bpf_model.specs.declared.region.Region.{Region as Window};
 ghost use Rattle.bpf_model.specs.Arithmetic.{alu_value, mov_value};
-ghost use Rattle.value_ranges.specs.In.{IsIn};
-ghost use Rattle.stack_slots.specs.Values.{StandsFor, PointsTo};
+ghost use Rattle.value_ranges.specs.declared.range.Range.{Range as Bounds};
+ghost use Rattle.value_ranges.specs.In.{IsIn, IsSingle};
+ghost use Rattle.stack_slots.specs.Offsets.{AreInReach};
+ghost use Rattle.stack_slots.specs.Values.{StandsFor, PointsTo, IsPointerIn, IsNumberIn};
 
 use bpf_model::{AluOp, Width};
 use stack_slots::{Pointer, RegValue};
@@ -13,6 +16,12 @@ use value_ranges::{Range, alu, mov};
 pub fn operate(op: AluOp, width: Width, a: RegValue, b: RegValue) -> RegValue
     ensures holds { (x y : ℕ) → StandsFor a (Some x) → StandsFor b (Some y)
         → StandsFor result (Some (alu_value op width x y)) }
+    ensures mask { op ≡ AluOp.And → width ≡ Width.W64 → (m : ℕ) (r : Bounds)
+        → b ≡ RegValue.Number r → IsSingle r m → m < 2 ^ 63 → IsNumberIn (pos 0) (pos m) result }
+    ensures sum { op ≡ AluOp.Add → width ≡ Width.W64 → (w : Window) (lo hi from to : ℤ)
+        → AreInReach (lo +ℤ from) (hi +ℤ to) → IsPointerIn w lo hi a → IsNumberIn from to b
+        → IsPointerIn w (lo +ℤ from) (hi +ℤ to) result }
+    ensures value { result ≢ RegValue.Unwritten }
 {
     match (op, width, a, b) {
         (AluOp::Add, Width::W64, RegValue::Pointer(pointer), RegValue::Number(number)) => sum(
@@ -31,6 +40,7 @@ pub fn operate(op: AluOp, width: Width, a: RegValue, b: RegValue) -> RegValue
 pub fn moved(width: Width, value: RegValue) -> RegValue
     ensures holds { (x : ℕ) → StandsFor value (Some x)
         → StandsFor result (Some (mov_value width x)) }
+    ensures value { value ≢ RegValue.Unwritten → result ≢ RegValue.Unwritten }
     ensures whole { width ≡ Width.W64 → result ≡ value }
 {
     match width {
@@ -43,6 +53,11 @@ pub fn moved(width: Width, value: RegValue) -> RegValue
 fn sum(pointer: Pointer, number: Range) -> RegValue
     ensures holds { (x y : ℕ) → PointsTo pointer x → IsIn y number
         → StandsFor result (Some ((x + y) % 2 ^ 64)) }
+    ensures near { (w : Window) (lo hi from to : ℤ) → AreInReach (lo +ℤ from) (hi +ℤ to)
+        → IsPointerIn w lo hi (RegValue.Pointer pointer)
+        → IsNumberIn from to (RegValue.Number number)
+        → IsPointerIn w (lo +ℤ from) (hi +ℤ to) result }
+    ensures value { result ≢ RegValue.Unwritten }
 {
     match pointer.plus(number) {
         Some(moved) => RegValue::Pointer(moved),
@@ -53,6 +68,7 @@ fn sum(pointer: Pointer, number: Range) -> RegValue
 fn difference(pointer: Pointer, number: Range) -> RegValue
     ensures holds { (x y : ℕ) → PointsTo pointer x → IsIn y number
         → StandsFor result (Some ((x + (2 ^ 64 - y)) % 2 ^ 64)) }
+    ensures value { result ≢ RegValue.Unwritten }
 {
     match pointer.minus(number) {
         Some(moved) => RegValue::Pointer(moved),

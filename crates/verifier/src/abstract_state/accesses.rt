@@ -1,10 +1,15 @@
 //! Loads, stores and the end of a run.
-ghost use Rattle.std.specs.Prelude.{◌≡◌, ◌+ℤ◌, ℕ, pos, Some, OnOk, IfOk, IfSome};
+ghost use Rattle.std.specs.Prelude.{◌≡◌, ◌≢◌, ◌^◌, ◌+ℤ◌, ◌≤ℤ◌, ℕ, pos, Ok, Some, IsOk, IsSome, OnOk, IfOk, IfSome};
 ghost use Rattle.bpf_model.specs.declared.instruction.Insn.TheVariants.{Load, Store};
 ghost use Rattle.bpf_model.specs.Fits.{AreWithinLimits};
-ghost use Rattle.bpf_model.specs.Accesses.{loaded_size};
+ghost use Rattle.bpf_model.specs.Accesses.{byte_count, loaded_size};
 ghost use Rattle.bpf_model.specs.Step.{address_of};
+ghost use Rattle.stack_slots.specs.declared.pointer.Pointer.{Pointer as ThePointer};
+ghost use Rattle.stack_slots.specs.declared.reg_value.RegValue.TheVariants.{Unwritten, Pointer as PointerInto};
+ghost use Rattle.stack_slots.specs.Kept.{IsKept};
+ghost use Rattle.stack_slots.specs.Frames.{NoneUnwritten};
 ghost use Rattle.stack_slots.specs.Values.{StandsFor};
+ghost use Rattle.verifier.specs.Changes.{Changes, Suffices, CanExit, ReachesInside, IsPlace, AreMarked, WritesAt};
 ghost use Rattle.verifier.specs.Describes.{Leads, ReadsBytes, WritesBytes, Exits, IsAt, LiesInside, is_signed};
 
 use super::AbstractState;
@@ -25,6 +30,8 @@ impl AbstractState {
     ) -> Result<(), StepFault>
         requires limits { AreWithinLimits sizes }
         ensures ok { OnOk result (Leads self.old sizes (Load kind dst src offset) self.new) }
+        ensures changes { OnOk result (Changes (Load kind dst src offset) self.old self.new) }
+        ensures enough { Suffices sizes (Load kind dst src offset) self.old → result ≡ Ok tt }
     {
         let base = self.read(src.number())?;
         test_target(dst)?;
@@ -44,6 +51,8 @@ impl AbstractState {
     ) -> Result<(), StepFault>
         requires limits { AreWithinLimits sizes }
         ensures ok { OnOk result (Leads self.old sizes (Store size dst src offset) self.new) }
+        ensures changes { OnOk result (Changes (Store size dst src offset) self.old self.new) }
+        ensures enough { Suffices sizes (Store size dst src offset) self.old → result ≡ Ok tt }
     {
         let base = self.read(dst.number())?;
         let value = self.operand(src)?;
@@ -54,6 +63,7 @@ impl AbstractState {
     /// Tests the end of a run.
     pub fn exit(&self) -> Result<(), StepFault>
         ensures ok { OnOk result (Exits self.now) }
+        ensures enough { CanExit self.now → result ≡ Ok tt }
     {
         let number = self.read(0)?.as_number();
         if number.smin < -1 || number.smax > i64::from(self.frame.written_prefix()) {
@@ -66,6 +76,9 @@ impl AbstractState {
         requires limits { AreWithinLimits sizes }
         requires inside { LiesInside sizes place (loaded_size kind) }
         ensures ok { IfOk result (ReadsBytes self.now sizes place kind) }
+        ensures value { NoneUnwritten self.now.frame → IfOk result (λ x. x ≢ Unwritten) }
+        ensures enough { (IsKept place.region
+            → AreMarked self.now place (byte_count (loaded_size kind))) → IsOk result }
     {
         match Access::new(
             place.region,
@@ -90,6 +103,8 @@ impl AbstractState {
     ) -> Result<(), StepFault>
         requires limits { AreWithinLimits sizes }
         ensures ok { OnOk result (WritesBytes self.old sizes place size value self.new) }
+        ensures changes { OnOk result (WritesAt self.old place size value self.new) }
+        ensures enough { IsKept place.region → LiesInside sizes place size → result ≡ Ok tt }
     {
         match Access::new(
             place.region,
@@ -122,6 +137,9 @@ fn locate(sizes: Sizes, base: RegValue, offset: i16, size: AccessSize) -> Result
     ensures address { IfOk result (λ place. (w : ℕ) → StandsFor base (Some w)
         → IsAt place (address_of w offset)) }
     ensures inside { IfOk result (λ place. LiesInside sizes place size) }
+    ensures exact { (p : ThePointer) → base ≡ PointerInto p → IfOk result (IsPlace p offset) }
+    ensures enough { (p : ThePointer) → base ≡ PointerInto p
+        → ReachesInside sizes p offset (byte_count size) → IsOk result }
 {
     let RegValue::Pointer(pointer) = base else {
         return Err(StepFault::NotAWindow);
@@ -141,6 +159,7 @@ fn locate(sizes: Sizes, base: RegValue, offset: i16, size: AccessSize) -> Result
 /// The distance from the window's first byte; none before it.
 fn distance(from: i64, offset: i16) -> Option<usize>
     ensures value { IfSome result (λ n. pos n ≡ from +ℤ offset) }
+    ensures some { from ≤ℤ pos (2 ^ 62) → pos 0 ≤ℤ (from +ℤ offset) → IsSome result }
 {
     usize::try_from(from.checked_add(i64::from(offset))?).ok()
 }

@@ -1,9 +1,11 @@
 //! What is known on one side of a condition, and where two ways meet.
-ghost use Rattle.std.specs.Prelude.{◌≡◌, ℕ, IfOk, length, slice_index_or};
+ghost use Rattle.std.specs.Prelude.{◌≡◌, ◌≢◌, ℕ, IsOk, IfOk, length, slice_index_or};
+ghost use Rattle.bpf_model.specs.declared.instruction.Operand.TheVariants.{Register as TheRegister};
 ghost use Rattle.stack_slots.specs.declared.reg_value.RegValue.TheVariants.{Unwritten};
 ghost use Rattle.verifier.specs.Describes.{Assumes, Narrows, Includes};
 ghost use Rattle.stack_slots.specs.Values.{IsJoin};
-ghost use Rattle.verifier.specs.Joins.{JoinsStates};
+ghost use Rattle.verifier.specs.Joins.{register as known, JoinsStates, KeepsCommon};
+ghost use Rattle.verifier.specs.Changes.{OnlyNarrows};
 
 use super::AbstractState;
 use crate::fault::StepFault;
@@ -21,6 +23,9 @@ impl AbstractState {
         src: Operand,
     ) -> Result<bool, StepFault>
         ensures ok { IfOk result (λ any. Assumes self.old condition width dst src any self.new) }
+        ensures changes { OnlyNarrows self.old self.new }
+        ensures enough { known self.old dst ≢ Unwritten
+            → ((r : ℕ) → src ≡ TheRegister r → known self.old r ≢ Unwritten) → IsOk result }
     {
         let a = self.read(dst.number())?.as_number();
         let b = self.operand(src)?.as_number();
@@ -40,6 +45,7 @@ impl AbstractState {
     // a pointer stays as it is
     fn narrow(&mut self, register: Reg, range: Range)
         ensures narrows { Narrows self.old register range self.new }
+        ensures changes { OnlyNarrows self.old self.new }
     {
         let value = &mut self.registers[register.number() as usize];
         if let RegValue::Number(_) = value {
@@ -52,6 +58,7 @@ impl AbstractState {
         ensures first { Includes self.old self.new }
         ensures second { Includes other.now self.new }
         ensures exact { JoinsStates self.old other.now self.new }
+        ensures keeps { KeepsCommon self.old other.now self.new }
     {
         join_registers(&mut self.registers, &other.registers);
         self.frame.join_with(&other.frame);

@@ -1,8 +1,9 @@
 //! What is known at entry.
-ghost use Rattle.std.specs.Prelude.{◌+◌, Some};
+ghost use Rattle.std.specs.Prelude.{◌+◌, pos, Some};
 ghost use Rattle.bpf_model.specs.Memory.{first_address};
-ghost use Rattle.stack_slots.specs.Values.{StandsFor};
+ghost use Rattle.stack_slots.specs.Values.{StandsFor, IsPointerIn};
 ghost use Rattle.verifier.specs.Describes.{DescribesEntry};
+ghost use Rattle.verifier.specs.Changes.{IsEntry};
 
 use super::AbstractState;
 use bpf_model::limits::STACK_BYTES;
@@ -14,6 +15,7 @@ impl AbstractState {
     /// What is known at entry.
     pub fn entry(sizes: Sizes) -> AbstractState
         ensures describes { DescribesEntry sizes result }
+        ensures exact { IsEntry sizes result }
     {
         let key = Range::unsigned(0, u64::from(sizes.key));
         let old = Range::signed(-1, i64::from(sizes.old));
@@ -39,6 +41,7 @@ impl AbstractState {
 
 fn address_in(region: Region, offset: u16) -> RegValue
     ensures describes { StandsFor result (Some (first_address region + offset)) }
+    ensures exact { IsPointerIn region (pos offset) (pos offset) result }
 {
     let offset = i64::from(offset);
     RegValue::Pointer(Pointer {

@@ -1,10 +1,12 @@
 //! Registers that are read and written.
-ghost use Rattle.std.specs.Prelude.{◌≡◌, ◌≢◌, ◌≤◌, ℕ, Ok, Err, OnOk, IfOk, IsOk, nat_eq, if◌then◌else◌};
+ghost use Rattle.std.specs.Prelude.{◌≡◌, ◌≢◌, ◌≤◌, ◌<◌, ◌^◌, ℕ, ℤ, pos, Ok, Err, OnOk, IfOk, IsOk, nat_eq, if◌then◌else◌};
 ghost use Rattle.verifier.specs.declared.fault.StepFault.TheVariants.{UnwrittenRegister, WriteToR10};
-ghost use Rattle.bpf_model.specs.declared.instruction.Operand.TheVariants.{Register as TheRegister};
+ghost use Rattle.bpf_model.specs.declared.instruction.Operand.TheVariants.{Register as TheRegister, Immediate as TheImmediate};
 ghost use Rattle.stack_slots.specs.declared.reg_value.RegValue.TheVariants.{Unwritten};
+ghost use Rattle.stack_slots.specs.Values.{IsNumberIn};
 ghost use Rattle.verifier.specs.Joins.{register as known, SetsTo};
 ghost use Rattle.verifier.specs.Describes.{Knows, KnowsOperand, Sets};
+ghost use Rattle.verifier.specs.Changes.{IsSmallWord};
 
 use super::AbstractState;
 use crate::fault::StepFault;
@@ -18,6 +20,9 @@ const FRAME_POINTER: u8 = 10;
 impl AbstractState {
     pub(super) fn operand(&self, src: Operand) -> Result<RegValue, StepFault>
         ensures ok { IfOk result (KnowsOperand self.now src) }
+        ensures register { (r : ℕ) → src ≡ TheRegister r → IfOk result (λ x. x ≡ known self.now r) }
+        ensures constant { (k : ℤ) → src ≡ TheImmediate k → IfOk result (IsNumberIn k k) }
+        ensures mask { (m : ℕ) → src ≡ TheImmediate (pos m) → IfOk result (IsSmallWord m) }
         ensures value { IfOk result (λ x. x ≢ Unwritten) }
         ensures enough { ((r : ℕ) → src ≡ TheRegister r → known self.now r ≢ Unwritten)
             → IsOk result }

@@ -3,23 +3,63 @@ use Rattle.std.specs.Int.{w16}
 use Rattle.std.proofs.lemmas.Int.{to_z-of_z}
 use Rattle.std.proofs.lemmas.Result.{on_ok_weaker}
 use Rattle.bpf_model.specs.declared.instruction.Insn.TheVariants.{Wide}
+use Rattle.verifier.proofs.ValueLemmas.{number_some}
+use Rattle.verifier.proofs.ChangeLemmas.{set_changes}
 use Rattle.verifier.proofs.LeadsLemmas.{leads_set}
 use Rattle.verifier.proofs.abstract_state.AbstractState.step.Goals as goal
 
-pub returns-in-Load : goal.returns-in-Load
-returns-in-Load c =
+pub returns-in-Load-clause-ok : goal.returns-in-Load-clause-ok
+returns-in-Load-clause-ok c =
     let fits : SFits w16 c.in-Load.offset = search rules in
-    record { ok = rw c.in-Load.is (rw (to_z-of_z w16 c.in-Load.offset fits) at c.load.ensures.ok) }
+    rw c.in-Load.is (rw (to_z-of_z w16 c.in-Load.offset fits) at c.load.ensures.ok)
 
-pub returns-in-Store : goal.returns-in-Store
-returns-in-Store c =
+pub returns-in-Load-clause-changes : goal.returns-in-Load-clause-changes
+returns-in-Load-clause-changes c =
+    let fits : SFits w16 c.in-Load.offset = search rules in
+    rw c.in-Load.is (rw (to_z-of_z w16 c.in-Load.offset fits) at c.load.ensures.changes)
+
+pub returns-in-Load-clause-enough : goal.returns-in-Load-clause-enough
+returns-in-Load-clause-enough c =
+    let fits : SFits w16 c.in-Load.offset = search rules in
+    rw c.in-Load.is (rw (to_z-of_z w16 c.in-Load.offset fits) at c.load.ensures.enough)
+
+pub returns-in-Store-clause-ok : goal.returns-in-Store-clause-ok
+returns-in-Store-clause-ok c =
     let fits : SFits w16 c.in-Store.offset = search rules in
-    record { ok = rw c.in-Store.is (rw (to_z-of_z w16 c.in-Store.offset fits) at c.store.ensures.ok) }
+    rw c.in-Store.is (rw (to_z-of_z w16 c.in-Store.offset fits) at c.store.ensures.ok)
 
-pub returns-in-Wide : goal.returns-in-Wide
-returns-in-Wide c =
+pub returns-in-Store-clause-changes : goal.returns-in-Store-clause-changes
+returns-in-Store-clause-changes c =
+    let fits : SFits w16 c.in-Store.offset = search rules in
+    rw c.in-Store.is (rw (to_z-of_z w16 c.in-Store.offset fits) at c.store.ensures.changes)
+
+pub returns-in-Store-clause-enough : goal.returns-in-Store-clause-enough
+returns-in-Store-clause-enough c =
+    let fits : SFits w16 c.in-Store.offset = search rules in
+    rw c.in-Store.is (rw (to_z-of_z w16 c.in-Store.offset fits) at c.store.ensures.enough)
+
+pub returns-in-Wide-clause-ok : goal.returns-in-Wide-clause-ok
+returns-in-Wide-clause-ok c =
     let i = c.in-Wide in
-    record {
-      ok = rw i.is (on_ok_weaker c.assign.result (λ sets s d.
-          inr (leads_set c.assign.new.self c.args.sizes (Wide i.dst i.value) s i.dst i.value refl (sets c.args.sizes s 2 i.value d c.single.ensures.holds))) c.assign.ensures.ok);
-    }
+    rw i.is (on_ok_weaker c.assign.result (λ sets s d.
+    inr (leads_set c.assign.new.self c.args.sizes (Wide i.dst i.value) s i.dst i.value refl (sets c.args.sizes s 2 i.value d c.single.ensures.holds))) c.assign.ensures.ok)
+
+pub returns-in-Wide-clause-changes : goal.returns-in-Wide-clause-changes
+returns-in-Wide-clause-changes c =
+    let i = c.in-Wide in
+    rw i.is (on_ok_weaker c.assign.result (λ sets. set_changes (Wide i.dst i.value) i.dst c.args.self.now c.assign.new.self _ refl refl (λ w d s e. absurd cc) (λ o w d s e. absurd cc) sets (λ none. number_some _)) c.assign.ensures.exact)
+
+pub returns-in-Alu-clause-enough : goal.returns-in-Alu-clause-enough
+returns-in-Alu-clause-enough c = λ suffices. c.arithmetic.ensures.enough c.args.sizes (rw c.in-Alu.is at suffices)
+
+pub returns-in-Negate-clause-enough : goal.returns-in-Negate-clause-enough
+returns-in-Negate-clause-enough c = λ suffices. c.negate.ensures.enough c.args.sizes (rw c.in-Negate.is at suffices)
+
+pub returns-in-Mov-clause-enough : goal.returns-in-Mov-clause-enough
+returns-in-Mov-clause-enough c = λ suffices. c.mov.ensures.enough c.args.sizes (rw c.in-Mov.is at suffices)
+
+pub returns-in-SignExtend-clause-enough : goal.returns-in-SignExtend-clause-enough
+returns-in-SignExtend-clause-enough c = λ suffices. c.sign_extend.ensures.enough c.args.sizes (rw c.in-SignExtend.is at suffices)
+
+pub returns-in-Reorder-clause-enough : goal.returns-in-Reorder-clause-enough
+returns-in-Reorder-clause-enough c = λ suffices. c.reorder.ensures.enough c.args.sizes (rw c.in-Reorder.is at suffices)

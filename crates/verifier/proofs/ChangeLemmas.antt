@@ -1,0 +1,190 @@
+-- What instructions change.
+use Rattle.std.proofs.Common.{◌≡◌, ◌≢◌, ℕ, ◌+◌, ◌<◌, ◌≤◌, ◌^◌, ◌⊎◌, true, List, length, inl, inr, Some, refl, None, sym, subst, ap, ◌∙◌, arith, SFits, ℤ, pos, negsuc}
+use Rattle.std.specs.Prelude.{◌+ℤ◌, slice_index_or, slice_set}
+use Rattle.std.specs.Int.{w32, w64}
+use Rattle.std.proofs.lemmas.List.{get_or-set_same, get_or-set_other}
+use Rattle.std.proofs.lemmas.Int.{ints, to_z-of_z}
+use Rattle.bpf_model.specs.declared.input.Sizes.{Sizes}
+use Rattle.bpf_model.specs.declared.region.Region.{Region}
+use Rattle.bpf_model.specs.declared.operations.AluOp.{AluOp}
+use Rattle.bpf_model.specs.declared.operations.AluOp.TheVariants.{Add, And}
+use Rattle.bpf_model.specs.declared.operations.Width.{Width}
+use Rattle.bpf_model.specs.declared.operations.Width.TheVariants.{W64}
+use Rattle.bpf_model.specs.declared.accesses.AccessSize.{AccessSize}
+use Rattle.bpf_model.specs.declared.instruction.Operand.{Operand}
+use Rattle.bpf_model.specs.declared.instruction.Operand.TheVariants.{Register, Immediate}
+use Rattle.bpf_model.specs.declared.instruction.Insn.{Insn}
+use Rattle.bpf_model.specs.declared.instruction.Insn.TheVariants.{Alu, Mov, Store}
+use Rattle.bpf_model.specs.Accesses.{byte_count}
+use Rattle.bpf_model.specs.Words.{signed, sign_extended}
+use Rattle.bpf_model.proofs.Options.{some_is}
+use Rattle.stack_slots.specs.declared.pointer.Pointer.{Pointer}
+use Rattle.stack_slots.specs.declared.reg_value.RegValue.{RegValue}
+use Rattle.stack_slots.specs.declared.reg_value.RegValue.TheVariants.{Unwritten, Number, Pointer as PointerInto}
+use Rattle.stack_slots.specs.Kept.{IsKept}
+use Rattle.stack_slots.specs.Offsets.{AreInReach}
+use Rattle.stack_slots.specs.Values.{IsPointerIn, IsNumberIn}
+use Rattle.stack_slots.specs.Frames.{is_written, NoneUnwritten}
+use Rattle.verifier.specs.declared.abstract_state.AbstractState.{AbstractState}
+use Rattle.verifier.specs.declared.abstract_state.place.Place.{Place}
+use Rattle.verifier.specs.Joins.{register, SetsTo}
+use Rattle.verifier.specs.Changes.{written_by, store_of, Touch, TouchesByte, Changes, IsPlace, WritesAt, CanLoad, AreMarked, IsNarrowed, OnlyNarrows}
+
+fits_more : (z : ℤ) → SFits w32 z → SFits w64 z
+fits_more (pos n) h = record { sfits = omega (arith, h.sfits) }
+fits_more (negsuc n) h = record { sfits = omega (arith, h.sfits) }
+
+-- an immediate is read back as it is
+pub signed_back : (z : ℤ) → SFits w32 z → signed (sign_extended z) ≡ z
+signed_back z fits = to_z-of_z w64 z (fits_more z fits)
+
+pub immediate_is : (y z : ℤ) → Immediate y ≡ Immediate z → y ≡ z
+immediate_is y z e = cc
+
+pub mask_word : (m : ℕ) → SFits w32 (pos m) → (sign_extended (pos m) ≡ m) × (m < 2 ^ 63)
+mask_word m fits = (omega (arith, ints, fits.sfits), omega (arith, fits.sfits))
+
+target_has : (a b : AbstractState) (dst r : ℕ) (x : RegValue) → SetsTo a dst x b → x ≢ Unwritten → Some dst ≡ Some r → register b r ≢ Unwritten
+target_has a b dst r x sets some is = λ none. some (sym sets.here ∙ ap (register b) (some_is dst r is) ∙ none)
+
+mov_parts : (width v : Width) (dst d : ℕ) (src s : Operand) → Mov width dst src ≡ Mov v d s → (width ≡ v) × ((dst ≡ d) × (src ≡ s))
+mov_parts width v dst d src s e = (cc, (cc, cc))
+
+alu_parts : (op o : AluOp) (width v : Width) (dst d : ℕ) (src s : Operand) → Alu op width dst src ≡ Alu o v d s → (op ≡ o) × ((width ≡ v) × ((dst ≡ d) × (src ≡ s)))
+alu_parts op o width v dst d src s e = (cc, (cc, (cc, cc)))
+
+-- a move, where a moved register has its value and a moved number is it
+pub mov_changes : (width : Width) (dst : ℕ) (src : Operand) (a b : AbstractState) (x : RegValue) → SetsTo a dst x b → x ≢ Unwritten
+    → ((s : ℕ) → width ≡ W64 → src ≡ Register s → x ≡ register a s) → ((k : ℤ) → width ≡ W64 → src ≡ Immediate k → IsNumberIn k k x) → Changes (Mov width dst src) a b
+mov_changes width dst src a b x sets some moved constant = record {
+  others = λ r apart. sets.others r (λ e. apart (ap (λ (k : ℕ). Some k) (sym e)));
+  target = λ r none is. target_has a b dst r x sets some is;
+  marks = λ w j yet. rw sets.frame yet;
+  spills = λ none. rw sets.frame none;
+  stores = λ t w j is at. absurd cc;
+  moves = λ d s e.
+      let p = mov_parts width W64 dst d src (Register s) e in
+      ap (register b) (sym p.1.0) ∙ sets.here ∙ moved s p.0 p.1.1;
+  constant = λ d k e.
+      let p = mov_parts width W64 dst d src (Immediate k) e in
+      subst (IsNumberIn k k) (sym (ap (register b) (sym p.1.0) ∙ sets.here)) (constant k p.0 p.1.1);
+  masks = λ d m e. absurd cc;
+  adds = λ d y w lo hi from to e. absurd cc;
+}
+
+-- arithmetic, where a mask gives a small number and a pointer plus a number a pointer
+pub alu_changes : (op : AluOp) (width : Width) (dst : ℕ) (src : Operand) (a b : AbstractState) (x : RegValue) → SetsTo a dst x b → x ≢ Unwritten
+    → ((m : ℕ) → op ≡ And → width ≡ W64 → src ≡ Immediate (pos m) → IsNumberIn (pos 0) (pos m) x)
+    → ((s : ℕ) (w : Region) (lo hi from to : ℤ) → op ≡ Add → width ≡ W64 → src ≡ Register s → AreInReach (lo +ℤ from) (hi +ℤ to)
+    → IsPointerIn w lo hi (register a dst) → IsNumberIn from to (register a s) → IsPointerIn w (lo +ℤ from) (hi +ℤ to) x)
+    → Changes (Alu op width dst src) a b
+alu_changes op width dst src a b x sets some mask sum = record {
+  others = λ r apart. sets.others r (λ e. apart (ap (λ (k : ℕ). Some k) (sym e)));
+  target = λ r none is. target_has a b dst r x sets some is;
+  marks = λ w j yet. rw sets.frame yet;
+  spills = λ none. rw sets.frame none;
+  stores = λ t w j is at. absurd cc;
+  moves = λ d s e. absurd cc;
+  constant = λ d k e. absurd cc;
+  masks = λ d m e.
+      let p = alu_parts op And width W64 dst d src (Immediate (pos m)) e in
+      subst (IsNumberIn (pos 0) (pos m)) (sym (ap (register b) (sym p.1.1.0) ∙ sets.here)) (mask m p.0 p.1.0 p.1.1.1);
+  adds = λ d y w lo hi from to e near pointer number.
+      let p = alu_parts op Add width W64 dst d src (Register y) e in
+      let at = subst (λ (k : ℕ). IsPointerIn w lo hi (register a k)) (sym p.1.1.0) pointer in
+      subst (IsPointerIn w (lo +ℤ from) (hi +ℤ to)) (sym (ap (register b) (sym p.1.1.0) ∙ sets.here)) (sum y w lo hi from to p.0 p.1.0 p.1.1.1 near at number);
+}
+
+-- any other instruction that sets a register
+pub set_changes : (i : Insn) (dst : ℕ) (a b : AbstractState) (x : RegValue) → written_by i ≡ Some dst → store_of i ≡ None → ((width : Width) (d : ℕ) (src : Operand) → i ≢ Mov width d src)
+    → ((op : AluOp) (width : Width) (d : ℕ) (src : Operand) → i ≢ Alu op width d src) → SetsTo a dst x b → (NoneUnwritten a.frame → x ≢ Unwritten) → Changes i a b
+set_changes i dst a b x sets_dst no_store no_mov no_alu sets some = record {
+  others = λ r apart. sets.others r (λ e. apart (sets_dst ∙ ap (λ (k : ℕ). Some k) (sym e)));
+  target = λ r none is. target_has a b dst r x sets (some none) (sym sets_dst ∙ is);
+  marks = λ w j yet. rw sets.frame yet;
+  spills = λ none. rw sets.frame none;
+  stores = λ t w j is at. absurd (let e = sym no_store ∙ is in cc);
+  moves = λ d s e. absurd (no_mov W64 d (Register s) e);
+  constant = λ d k e. absurd (no_mov W64 d (Immediate k) e);
+  masks = λ d m e. absurd (no_alu And W64 d (Immediate (pos m)) e);
+  adds = λ d y w lo hi from to e. absurd (no_alu Add W64 d (Register y) e);
+}
+
+-- an access to one place alone touches the bytes from it on
+touched_at : (size : AccessSize) (offset : ℤ) (a : AbstractState) (t : Touch) (place : Place) (x : RegValue) (w : Region) (j : ℕ) → x ≡ register a t.base → t.offset ≡ offset → t.count ≡ byte_count size
+    → ((p : Pointer) → x ≡ PointerInto p → IsPlace p offset place) → TouchesByte a t w j → (place.region ≡ w) × ((place.least ≡ place.greatest) × ((place.least ≤ j) × (j < place.greatest + byte_count size)))
+touched_at size offset a t place x w j is at_offset of_size at touches =
+    let p = touches.through.pointer in
+    let here = at p (is ∙ touches.through.is) in
+    let least = here.least_is in
+    let greatest = here.greatest_is in
+    let begins = touches.begins in
+    let alone : place.least ≡ place.greatest = omega (arith, ints, least, greatest, p.order, touches.through.least, touches.through.greatest) in (
+      here.region_is ∙ touches.through.region,
+      (
+        alone,
+        (
+          omega (arith, ints, least, begins, at_offset, p.order, touches.through.least, touches.through.greatest, touches.from),
+          omega (arith, ints, greatest, begins, at_offset, of_size, p.order, touches.through.least, touches.through.greatest, touches.to),
+        ),
+      ),
+    )
+
+-- a store
+pub store_changes : (size : AccessSize) (dst : ℕ) (src : Operand) (offset : ℤ) (a b : AbstractState) (x y : RegValue) (place : Place) → x ≡ register a dst → y ≢ Unwritten
+    → ((p : Pointer) → x ≡ PointerInto p → IsPlace p offset place) → WritesAt a place size y b → Changes (Store size dst src offset) a b
+store_changes size dst src offset a b x y place is some at writes = record {
+  others = λ r apart. ap (λ (xs : List RegValue). slice_index_or xs r Unwritten) writes.registers;
+  target = λ r none e. absurd cc;
+  marks = writes.keeps;
+  spills = writes.spills some;
+  stores = λ t w j e touches.
+      let t_is = some_is _ t e in
+      let base : t.base ≡ dst = ap (λ (u : Touch). u.base) (sym t_is) in
+      let off : t.offset ≡ offset = ap (λ (u : Touch). u.offset) (sym t_is) in
+      let count : t.count ≡ byte_count size = ap (λ (u : Touch). u.count) (sym t_is) in
+      let h = touched_at size offset a t place x w j (is ∙ ap (register a) (sym base)) off count at touches in
+      subst (λ (r : Region). is_written b.frame r j ≡ true) h.0 (writes.marks h.1.0 j h.1.1.0 h.1.1.1);
+  moves = λ d s e. absurd cc;
+  constant = λ d k e. absurd cc;
+  masks = λ d m e. absurd cc;
+  adds = λ d z w lo hi from to e. absurd cc;
+}
+
+-- the bytes that a load may touch, where what is enough for it is known
+pub can_read : (sizes : Sizes) (a : AbstractState) (t : Touch) (place : Place) (can : CanLoad sizes a t) → IsPlace can.touch.pointer t.offset place → IsKept place.region → AreMarked a place t.count
+can_read sizes a t place can at kept = λ j least greatest.
+    subst (λ (r : Region). is_written a.frame r j ≡ true) (sym at.region_is)
+    (can.written j (subst IsKept at.region_is kept) (omega (arith, ints, at.least_is, least)) (omega (arith, ints, at.greatest_is, greatest)))
+
+pub narrowed_same : (x : RegValue) → IsNarrowed x x
+narrowed_same Unwritten = refl
+narrowed_same (Number r) = (r, refl)
+narrowed_same (PointerInto p) = refl
+
+pub narrows_same : (a : AbstractState) → OnlyNarrows a a
+narrows_same a = record { registers = λ r. narrowed_same (register a r); frame = refl }
+
+-- one register that is narrowed
+pub narrows_at : (a : AbstractState) (n : ℕ) (v : RegValue) → n < length a.registers → IsNarrowed (register a n) v → OnlyNarrows a (record { registers = slice_set a.registers n v; frame = a.frame })
+narrows_at a n v lt narrowed = record {
+  registers = λ r. elim (decide r n) [
+    | inl is ↦ subst (λ (k : ℕ). IsNarrowed (register a k) (slice_index_or (slice_set a.registers n v) k Unwritten)) (sym is) (subst (IsNarrowed (register a n)) (sym (get_or-set_same a.registers n v Unwritten lt)) narrowed)
+    | inr apart ↦ subst (IsNarrowed (register a r)) (sym (get_or-set_other a.registers n r v Unwritten apart)) (narrowed_same (register a r))
+  ];
+  frame = refl;
+}
+  where
+    decide : (r n : ℕ) → (r ≡ n) ⊎ (r ≢ n)
+    decide r n = grind arith
+
+narrowed_then : (x y z : RegValue) → IsNarrowed x y → IsNarrowed y z → IsNarrowed x z
+narrowed_then Unwritten y z first second = rw first at second
+narrowed_then (Number r) y z first second = rw first.1 at second
+narrowed_then (PointerInto p) y z first second = rw first at second
+
+pub narrows_then : (a b d : AbstractState) → OnlyNarrows a b → OnlyNarrows b d → OnlyNarrows a d
+narrows_then a b d first second = record {
+  registers = λ r. narrowed_then (register a r) (register b r) (register d r) (first.registers r) (second.registers r);
+  frame = second.frame ∙ first.frame;
+}

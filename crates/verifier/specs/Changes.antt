@@ -1,0 +1,180 @@
+-- What an instruction makes of what is known, and what is enough for it to be accepted. This verifier's own.
+use Rattle.std.specs.Prelude.{◌≡◌, ◌≢◌, ℕ, ◌+◌, ◌<◌, ◌≤◌, Bool, false, true, ◌||◌, ◌⊎◌, Option, Some, None, nat_eq, ◌^◌, ℤ, pos, negsuc, ◌+ℤ◌, ◌≤ℤ◌}
+use Rattle.bpf_model.specs.declared.limits.TheConstants.{STACK_BYTES}
+use Rattle.bpf_model.specs.declared.input.Sizes.{Sizes}
+use Rattle.bpf_model.specs.declared.region.Region.{Region}
+use Rattle.bpf_model.specs.declared.region.Region.TheVariants.{Key, Old, Arg, Result, Stack}
+use Rattle.bpf_model.specs.declared.operations.AluOp.TheVariants.{Add, And}
+use Rattle.bpf_model.specs.declared.operations.Width.TheVariants.{W64}
+use Rattle.bpf_model.specs.declared.accesses.AccessSize.{AccessSize}
+use Rattle.bpf_model.specs.declared.instruction.Operand.{Operand}
+use Rattle.bpf_model.specs.declared.instruction.Operand.TheVariants.{Register, Immediate}
+use Rattle.bpf_model.specs.declared.instruction.Insn.{Insn}
+use Rattle.bpf_model.specs.declared.instruction.Insn.TheVariants.{Alu, Negate, Mov, SignExtend, Reorder, Wide, Load, Store, Jump, JumpLong, Branch, Exit}
+use Rattle.bpf_model.specs.Accesses.{byte_count, loaded_size}
+use Rattle.bpf_model.specs.Memory.{size_of}
+use Rattle.value_ranges.specs.declared.range.Range.{Range}
+use Rattle.value_ranges.specs.In.{IsSingle}
+use Rattle.stack_slots.specs.declared.pointer.Pointer.{Pointer}
+use Rattle.stack_slots.specs.declared.reg_value.RegValue.{RegValue}
+use Rattle.stack_slots.specs.declared.reg_value.RegValue.TheVariants.{Unwritten, Number, Pointer as PointerInto}
+use Rattle.stack_slots.specs.Kept.{IsKept}
+use Rattle.stack_slots.specs.Offsets.{AreInReach}
+use Rattle.stack_slots.specs.Values.{IsPointerIn, IsNumberIn}
+use Rattle.stack_slots.specs.Frames.{is_written, KeepsMarks, NoneUnwritten}
+use Rattle.verifier.specs.declared.abstract_state.AbstractState.{AbstractState}
+use Rattle.verifier.specs.declared.abstract_state.place.Place.{Place}
+use Rattle.verifier.specs.Joins.{register}
+
+-- whether an operand, an instruction, reads a register
+abbrev pub operand_reads : Operand → ℕ → Bool
+operand_reads (Register src) r = nat_eq src r
+operand_reads (Immediate imm) r = false
+
+abbrev pub reads : Insn → ℕ → Bool
+reads (Alu op width dst src) r = nat_eq dst r || operand_reads src r
+reads (Negate width dst) r = nat_eq dst r
+reads (Mov width dst src) r = operand_reads src r
+reads (SignExtend extension dst src) r = nat_eq src r
+reads (Reorder order size dst) r = nat_eq dst r
+reads (Wide dst value) r = false
+reads (Load kind dst src offset) r = nat_eq src r
+reads (Store size dst src offset) r = nat_eq dst r || operand_reads src r
+reads (Jump distance) r = false
+reads (JumpLong distance) r = false
+reads (Branch test width dst src distance) r = nat_eq dst r || operand_reads src r
+reads Exit r = nat_eq 0 r
+
+-- the register that an instruction writes
+abbrev pub written_by : Insn → Option ℕ
+written_by (Alu op width dst src) = Some dst
+written_by (Negate width dst) = Some dst
+written_by (Mov width dst src) = Some dst
+written_by (SignExtend extension dst src) = Some dst
+written_by (Reorder order size dst) = Some dst
+written_by (Wide dst value) = Some dst
+written_by (Load kind dst src offset) = Some dst
+written_by (Store size dst src offset) = None
+written_by (Jump distance) = None
+written_by (JumpLong distance) = None
+written_by (Branch test width dst src distance) = None
+written_by Exit = None
+
+-- this word alone, of those that read the same with a sign
+pub record IsSmallWord (m : ℕ) (x : RegValue) : Type 0 where
+  pub range : Range
+  pub is : x ≡ Number range
+  pub single : IsSingle range m
+  pub small : m < 2 ^ 63
+
+-- an access: of so many bytes, through a register, at an offset
+pub record Touch : Type 0 where
+  pub base : ℕ
+  pub offset : ℤ
+  pub count : ℕ
+
+abbrev pub load_of : Insn → Option Touch
+load_of (Load kind dst src offset) = Some (record { base = src; offset = offset; count = byte_count (loaded_size kind) })
+load_of other = None
+
+abbrev pub store_of : Insn → Option Touch
+store_of (Store size dst src offset) = Some (record { base = dst; offset = offset; count = byte_count size })
+store_of other = None
+
+-- the access touches the byte at this distance from the window's first one, and is at one place alone
+pub record TouchesByte (a : AbstractState) (t : Touch) (w : Region) (j : ℕ) : Type 0 where
+  pub distance : ℤ
+  pub first : ℕ
+  pub through : IsPointerIn w distance distance (register a t.base)
+  pub begins : distance +ℤ t.offset ≡ pos first
+  pub from : first ≤ j
+  pub to : j < first + t.count
+
+-- what an instruction after which a run goes on at the next one makes of what is known
+pub record Changes (i : Insn) (a b : AbstractState) : Type 0 where
+  pub others : (r : ℕ) → written_by i ≢ Some r → register b r ≡ register a r
+  pub target : (r : ℕ) → NoneUnwritten a.frame → written_by i ≡ Some r → register b r ≢ Unwritten
+  pub marks : KeepsMarks a.frame b.frame
+  pub spills : NoneUnwritten a.frame → NoneUnwritten b.frame
+  pub stores : (t : Touch) (w : Region) (j : ℕ) → store_of i ≡ Some t → TouchesByte a t w j → is_written b.frame w j ≡ true
+  pub moves : (d s : ℕ) → i ≡ Mov W64 d (Register s) → register b d ≡ register a s
+  pub constant : (d : ℕ) (k : ℤ) → i ≡ Mov W64 d (Immediate k) → IsNumberIn k k (register b d)
+  pub masks : (d m : ℕ) → i ≡ Alu And W64 d (Immediate (pos m)) → IsNumberIn (pos 0) (pos m) (register b d)
+  pub adds : (d x : ℕ) (w : Region) (lo hi from to : ℤ) → i ≡ Alu Add W64 d (Register x) → AreInReach (lo +ℤ from) (hi +ℤ to)
+      → IsPointerIn w lo hi (register a d) → IsNumberIn from to (register a x) → IsPointerIn w (lo +ℤ from) (hi +ℤ to) (register b d)
+
+-- what a condition makes of a value: of a number a number, and all else stays as it was
+abbrev pub IsNarrowed : RegValue → RegValue → Type 0
+IsNarrowed Unwritten y = y ≡ Unwritten
+IsNarrowed (Number r) y = (q : Range) × (y ≡ Number q)
+IsNarrowed (PointerInto p) y = y ≡ PointerInto p
+
+pub record OnlyNarrows (a b : AbstractState) : Type 0 where
+  pub registers : (r : ℕ) → IsNarrowed (register a r) (register b r)
+  pub frame : b.frame ≡ a.frame
+
+-- what is known at entry: where the registers point, and what the lengths may be
+pub record IsEntry (sizes : Sizes) (a : AbstractState) : Type 0 where
+  pub key : IsPointerIn Key (pos 0) (pos 0) (register a 1)
+  pub old : IsPointerIn Old (pos 0) (pos 0) (register a 2)
+  pub arg : IsPointerIn Arg (pos 0) (pos 0) (register a 3)
+  pub result : IsPointerIn Result (pos 0) (pos 0) (register a 4)
+  pub stack : IsPointerIn Stack (pos STACK_BYTES) (pos STACK_BYTES) (register a 10)
+  pub key_length : IsNumberIn (pos 0) (pos sizes.key) (register a 6)
+  pub old_length : IsNumberIn (negsuc 0) (pos sizes.old) (register a 7)
+  pub arg_length : IsNumberIn (negsuc 0) (pos sizes.arg) (register a 8)
+  pub unwritten : (r : ℕ) → (r ≡ 0) ⊎ ((r ≡ 5) ⊎ ((r ≡ 9) ⊎ (11 ≤ r))) → register a r ≡ Unwritten
+  pub marks : (w : Region) (i : ℕ) → is_written a.frame w i ≡ false
+  pub spills : NoneUnwritten a.frame
+
+-- at each of its addresses an access of so many bytes through the pointer lies inside the window
+pub record ReachesInside (sizes : Sizes) (p : Pointer) (offset : ℤ) (count : ℕ) : Type 0 where
+  pub least : pos 0 ≤ℤ (p.least +ℤ offset)
+  pub greatest : ((p.greatest +ℤ offset) +ℤ pos count) ≤ℤ pos (size_of sizes p.region)
+
+-- the place of an access through the pointer
+pub record IsPlace (p : Pointer) (offset : ℤ) (place : Place) : Type 0 where
+  pub region_is : place.region ≡ p.region
+  pub least_is : pos place.least ≡ p.least +ℤ offset
+  pub greatest_is : pos place.greatest ≡ p.greatest +ℤ offset
+
+-- each byte that an access of so many bytes may touch there was written
+abbrev pub AreMarked : AbstractState → Place → ℕ → Type 0
+AreMarked a p count = (j : ℕ) → p.least ≤ j → j < p.greatest + count → is_written a.frame p.region j ≡ true
+
+-- what a store of a value there makes of what is known
+pub record WritesAt (a : AbstractState) (p : Place) (size : AccessSize) (x : RegValue) (b : AbstractState) : Type 0 where
+  pub registers : b.registers ≡ a.registers
+  pub keeps : KeepsMarks a.frame b.frame
+  pub marks : p.least ≡ p.greatest → AreMarked b p (byte_count size)
+  pub spills : x ≢ Unwritten → NoneUnwritten a.frame → NoneUnwritten b.frame
+
+pub record CanTouch (sizes : Sizes) (a : AbstractState) (t : Touch) : Type 0 where
+  pub pointer : Pointer
+  pub through : register a t.base ≡ PointerInto pointer
+  pub inside : ReachesInside sizes pointer t.offset t.count
+
+-- a load that lies inside its window, and whose bytes were written where a run may write
+pub record CanLoad (sizes : Sizes) (a : AbstractState) (t : Touch) : Type 0 where
+  pub touch : CanTouch sizes a t
+  pub written : (j : ℕ) → IsKept touch.pointer.region → (touch.pointer.least +ℤ t.offset) ≤ℤ pos j
+      → (pos j +ℤ pos 1) ≤ℤ ((touch.pointer.greatest +ℤ t.offset) +ℤ pos t.count) → is_written a.frame touch.pointer.region j ≡ true
+
+-- a store that lies inside a window that may be written
+pub record CanStore (sizes : Sizes) (a : AbstractState) (t : Touch) : Type 0 where
+  pub touch : CanTouch sizes a t
+  pub kept : IsKept touch.pointer.region
+
+-- r0 is -1, or a number of the result's first bytes, all of them written
+pub record CanExit (a : AbstractState) : Type 0 where
+  pub answer : ℤ
+  pub constant : IsNumberIn answer answer (register a 0)
+  pub written : (answer ≡ negsuc 0) ⊎ ((n : ℕ) × ((answer ≡ pos n) × ((j : ℕ) → j < n → is_written a.frame Result j ≡ true)))
+
+-- what is enough for an instruction to be accepted
+pub record Suffices (sizes : Sizes) (i : Insn) (a : AbstractState) : Type 0 where
+  pub read : (r : ℕ) → reads i r ≡ true → register a r ≢ Unwritten
+  pub target : written_by i ≢ Some 10
+  pub loads : (t : Touch) → load_of i ≡ Some t → CanLoad sizes a t
+  pub stores : (t : Touch) → store_of i ≡ Some t → CanStore sizes a t
+  pub exits : i ≡ Exit → CanExit a
