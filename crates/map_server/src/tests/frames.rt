@@ -215,20 +215,19 @@ fn loads_of_each_size_have_their_bounds(rt: HostRuntime) -> Result<(), Fail> {
     check(&rt, rt.alloc(), sizes(64, 256, 0, 8), &rows)
 }
 
-/// Each store that touches a slot of the stack: its name, and how far its first byte may be from the slot's.
-const STORES: [(&str, i32, i32); 4] = [
-    ("stb", 0, 7),
-    ("sth", -1, 6),
-    ("stw", -3, 4),
-    ("std", -7, 0),
+/// Each store that touches the last slot of the stack: its name, and where from r10 it may begin.
+const STORES: [(&str, [i32; 8]); 4] = [
+    ("stb", [-8, -7, -6, -5, -4, -3, -2, -1]),
+    ("sth", [-9, -8, -7, -6, -5, -4, -3, -2]),
+    ("stw", [-11, -10, -9, -8, -7, -6, -5, -4]),
+    ("std", [-15, -14, -13, -12, -11, -10, -9, -8]),
 ];
 
 #[test]
 fn each_overwrite_of_a_slot_takes_its_value(rt: HostRuntime) -> Result<(), Fail> {
     let alloc = rt.alloc();
-    for (name, first, last) in STORES {
-        for distance in first..last + 1 {
-            let offset = distance - 8;
+    for (name, offsets) in STORES {
+        for offset in offsets {
             let text = format!(in alloc;
                 "stxd [r10-8], r1\n{name} [r10{offset}], 0\nldd r9, [r10-8]\nldb r0, [r9+0]\nexit\n"
             )?;
