@@ -83,12 +83,10 @@ pub fn tell_unread_words<W: Sink, E: Sink>(error: &io::Error, writer: &mut W, er
         → Tells Ending.NotUtf8 (outputs (W.state writer.old) (E.state errors.old))
         (outputs (W.state writer.new) (E.state errors.new)) result }
 {
-    let ending = if error.kind() == io::ErrorKind::OutOfMemory {
-        Ending::NoMemory
-    } else {
-        Ending::NotUtf8
-    };
-    ending.tell(writer, errors)
+    if error.kind() == io::ErrorKind::OutOfMemory {
+        return Ending::NoMemory.tell(writer, errors);
+    }
+    Ending::NotUtf8.tell(writer, errors)
 }
 
 /// Does what the words ask for, of which the first is the program's name, and answers the status: 0 where it was done,
