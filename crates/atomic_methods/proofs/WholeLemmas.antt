@@ -142,14 +142,14 @@ whole-empty ts none = same_map total antisymmetric (whole ts) map.empty (λ q.
     get-from_entries total (all_entries ts) q ∙ none_anywhere q ts (λ j. ap (λ (t : Table). map.get t q) (none j) ∙ get-empty by_bytes q) ∙ sym (get-empty by_bytes q))
 
 -- what a call on its key's stripe, done or refused, is on the whole
-pub applied : (ts : List Table) (is : AreStripes ts) (i : ℕ) (invocation : Invocation) → i ≡ stripe_of (length ts) invocation.key → i < length ts → (old new : Table) → old ≡ get_or ts i old
-    → (r : Result Reply NoMemory) → IfOk r (Answers old invocation new) → OnErr r (new ≡ old) → OnErr r (WouldAdd old invocation)
-    → record { stripes : AreStripes (set ts i new); answers : IfOk r (Answers (whole ts) invocation (whole (set ts i new))); adds : OnErr r (WouldAdd (whole ts) invocation) }
-applied ts is i invocation at lt old new read (Ok reply) answers stays adds =
+pub applied : {K : Type 0} (say : K → Reply) (ts : List Table) (is : AreStripes ts) (i : ℕ) (invocation : Invocation) → i ≡ stripe_of (length ts) invocation.key → i < length ts → (old new : Table) → old ≡ get_or ts i old
+    → (r : Result K NoMemory) → IfOk r (λ k. Answers old invocation new (say k)) → OnErr r (new ≡ old) → OnErr r (WouldAdd old invocation)
+    → record { stripes : AreStripes (set ts i new); answers : IfOk r (λ k. Answers (whole ts) invocation (whole (set ts i new)) (say k)); adds : OnErr r (WouldAdd (whole ts) invocation) }
+applied say ts is i invocation at lt old new read (Ok kind) answers stays adds =
     let here : old ≡ stripe_at ts i = get_or_read ts i old lt read map.empty in
-    let done = answers_whole ts is i invocation at new reply lt (subst (λ (t : Table). Answers t invocation new reply) here answers) in
+    let done = answers_whole ts is i invocation at new (say kind) lt (subst (λ (t : Table). Answers t invocation new (say kind)) here answers) in
     record { stripes = done.stripes; answers = done.answers; adds = tt }
-applied ts is i invocation at lt old new read (Err e) answers stays adds =
+applied say ts is i invocation at lt old new read (Err e) answers stays adds =
     let here : old ≡ stripe_at ts i = get_or_read ts i old lt read map.empty in
     let same : set ts i new ≡ ts = ap (set ts i) (stays ∙ here) ∙ set-get_or ts i map.empty in
     record { stripes = rw same is; answers = tt; adds = adds_whole ts is i invocation at (subst (λ (t : Table). WouldAdd t invocation) here adds) }

@@ -1,4 +1,4 @@
--- What plans, shapes of replies and answers in a place of the caller's stand for.
+-- What plans, kinds of replies and answers in a place of the caller's stand for.
 use Rattle.std.specs.Prelude.{ℕ, Bool, true, false, List, Option, Some, None, Result, Ok, Err, option_copied}
 use Rattle.bpf_model.specs.declared.input.Answer.{Answer}
 use Rattle.bpf_model.specs.declared.input.Answer.TheVariants.{Nothing, Bytes}
@@ -11,8 +11,8 @@ use Rattle.atomic_methods.specs.declared.plan.Plan.{Plan}
 use Rattle.atomic_methods.specs.declared.plan.Plan.TheVariants.{Settled, Give, Run}
 use Rattle.atomic_methods.specs.declared.reply.Reply.{Reply}
 use Rattle.atomic_methods.specs.declared.reply.Reply.TheVariants.{Value, Done, Unfit}
-use Rattle.atomic_methods.specs.declared.reply.Shape.{Shape}
-use Rattle.atomic_methods.specs.declared.reply.Shape.TheVariants.{None as NoValue, Some as SomeValue, Done as IsDone, Unfit as IsUnfit}
+use Rattle.atomic_methods.specs.declared.reply.ReplyKind.{ReplyKind}
+use Rattle.atomic_methods.specs.declared.reply.ReplyKind.TheVariants.{None as NoValue, Some as SomeValue, Done as IsDone, Unfit as IsUnfit}
 use Rattle.atomic_methods.specs.Methods.{Rule, leaves, runs}
 
 -- the value after a change of the old one
@@ -38,7 +38,7 @@ outcome_by (Ok false) bytes = Ok Nothing
 outcome_by (Err window) bytes = Err window
 
 -- the reply, where the bytes of its value were left here
-abbrev pub reply_by : Shape → List ℕ → Reply
+abbrev pub reply_by : ReplyKind → List ℕ → Reply
 reply_by NoValue bytes = Value None
 reply_by SomeValue bytes = Value (Some bytes)
 reply_by (IsDone done) bytes = Done done

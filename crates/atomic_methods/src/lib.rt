@@ -18,8 +18,8 @@ mod stripes;
 
 pub use call::Call;
 pub use fault::OpenFault;
-pub use methods::{apply, replace_each, scan};
-pub use reply::Reply;
+pub use methods::{apply, apply_into, replace_each, scan};
+pub use reply::{Reply, ReplyKind};
 pub use striped::{Stopped, Striped};
 pub use stripes::{MAX_STRIPES, hash_of, is_stripe_count, stripe_of};
 

@@ -9,7 +9,7 @@ ghost use Rattle.atomic_methods.specs.Plans.{reply_by, where_true};
 use crate::call::Call;
 use crate::plan::{Change, Plan, Told, plan_of};
 use crate::program::answer_into;
-use crate::reply::{Reply, Shape};
+use crate::reply::{Reply, ReplyKind};
 use bins::{Bins, Counts};
 use bpf_model::{Key, NoMemory, Value};
 use std::alloc::Global;
@@ -23,8 +23,34 @@ pub fn apply<B: Bins>(bins: &mut B, call: &Call) -> Result<Reply, NoMemory>
     ensures memory { OnErr result (WouldAdd (B.table bins.old) (invocation_of call.now)) }
 {
     let mut bytes = Value::new();
-    let shape = apply_into(bins, call, &mut bytes)?;
-    Ok(shape.with(bytes))
+    let kind = apply_into(bins, call, &mut bytes)?;
+    Ok(kind.with(bytes))
+}
+
+/// Makes one call as `apply` does, and leaves the bytes of the replied value in `bytes`, so that no value is moved. What
+/// `bytes` held is lost. One search serves a present key; a program runs before room is asked for.
+pub fn apply_into<B: Bins>(bins: &mut B, call: &Call, bytes: &mut Value) -> Result<ReplyKind, NoMemory>
+    ensures ok { IfOk result (λ kind.
+        Answers (B.table bins.old) (invocation_of call.now) (B.table bins.new) (reply_by kind bytes.new)) }
+    ensures err { OnErr result (B.table bins.new ≡ B.table bins.old) }
+    ensures memory { OnErr result (WouldAdd (B.table bins.old) (invocation_of call.now)) }
+{
+    match bins.find_mut(call.key()) {
+        Some(value) => {
+            let (stays, kind) = change_value(call, value, bytes);
+            if !stays {
+                bins.remove(call.key());
+            }
+            Ok(kind)
+        }
+        None => {
+            let (enters, kind) = new_value(call, bytes);
+            if enters {
+                bins.put(call.key().copied(), bytes.copied())?;
+            }
+            Ok(kind)
+        }
+    }
 }
 
 /// Copies of all entries, in key order. `NoMemory` where a request for memory was refused. Never waits.
@@ -43,72 +69,46 @@ pub fn replace_each<B: Bins>(bins: &mut B, program: &Verified, arg: &Option<Valu
     bins.replace_each(program, arg)
 }
 
-// The same, with the bytes of a value that is replied in `bytes`. One search serves a present key; a program runs before
-// room is asked for.
-fn apply_into<B: Bins>(bins: &mut B, call: &Call, bytes: &mut Value) -> Result<Shape, NoMemory>
-    ensures ok { IfOk result (λ shape.
-        Answers (B.table bins.old) (invocation_of call.now) (B.table bins.new) (reply_by shape bytes.new)) }
-    ensures err { OnErr result (B.table bins.new ≡ B.table bins.old) }
-    ensures memory { OnErr result (WouldAdd (B.table bins.old) (invocation_of call.now)) }
-{
-    match bins.find_mut(call.key()) {
-        Some(value) => {
-            let (stays, shape) = change_value(call, value, bytes);
-            if !stays {
-                bins.remove(call.key());
-            }
-            Ok(shape)
-        }
-        None => {
-            let (enters, shape) = new_value(call, bytes);
-            if enters {
-                bins.put(call.key().copied(), bytes.copied())?;
-            }
-            Ok(shape)
-        }
-    }
-}
-
 // The call on a present key, whose value is changed in place: whether the key stays, and the reply.
-fn change_value(call: &Call, value: &mut Value, bytes: &mut Value) -> (bool, Shape)
+fn change_value(call: &Call, value: &mut Value, bytes: &mut Value) -> (bool, ReplyKind)
     ensures follows { let invocation = invocation_of call.now in
         Follows (rule_of invocation.method (Some value.old)) invocation.key (Some value.old)
         (where_true result.0 value.new) (reply_by result.1 bytes.new) }
 {
     match plan_of(call, Some(value)) {
         Plan::Settled(change, told) => {
-            let shape = match told {
-                Told::Done(done) => Shape::Done(done),
-                Told::Old => Shape::Some,
+            let kind = match told {
+                Told::Done(done) => ReplyKind::Done(done),
+                Told::Old => ReplyKind::Some,
             };
             bytes.set_from(value.as_slice());
             match change {
-                Change::Keep => (true, shape),
-                Change::Remove => (false, shape),
+                Change::Keep => (true, kind),
+                Change::Remove => (false, kind),
                 Change::Enter(new) => {
                     value.set_from(new.as_slice());
-                    (true, shape)
+                    (true, kind)
                 }
             }
         }
         Plan::Give(new) => {
             value.set_from(new.as_slice());
             bytes.set_from(new.as_slice());
-            (true, Shape::Some)
+            (true, ReplyKind::Some)
         }
         Plan::Run(program, arg) => match answer_into(program, call.key(), Some(value), arg, bytes) {
             Ok(true) => {
                 value.set_from(bytes.as_slice());
-                (true, Shape::Some)
+                (true, ReplyKind::Some)
             }
-            Ok(false) => (false, Shape::None),
-            Err(window) => (true, Shape::Unfit(window)),
+            Ok(false) => (false, ReplyKind::None),
+            Err(window) => (true, ReplyKind::Unfit(window)),
         },
     }
 }
 
 // The call on an absent key: whether a value is to be entered, which is then in `bytes`, and the reply.
-fn new_value(call: &Call, bytes: &mut Value) -> (bool, Shape)
+fn new_value(call: &Call, bytes: &mut Value) -> (bool, ReplyKind)
     ensures follows { let invocation = invocation_of call.now in
         Follows (rule_of invocation.method None) invocation.key None
         (where_true result.0 bytes.new) (reply_by result.1 bytes.new) }
@@ -117,20 +117,20 @@ fn new_value(call: &Call, bytes: &mut Value) -> (bool, Shape)
         Plan::Settled(Change::Enter(new), told) => {
             bytes.set_from(new.as_slice());
             match told {
-                Told::Old => (true, Shape::None),
-                Told::Done(done) => (true, Shape::Done(done)),
+                Told::Old => (true, ReplyKind::None),
+                Told::Done(done) => (true, ReplyKind::Done(done)),
             }
         }
-        Plan::Settled(_, Told::Done(done)) => (false, Shape::Done(done)),
-        Plan::Settled(_, Told::Old) => (false, Shape::None),
+        Plan::Settled(_, Told::Done(done)) => (false, ReplyKind::Done(done)),
+        Plan::Settled(_, Told::Old) => (false, ReplyKind::None),
         Plan::Give(new) => {
             bytes.set_from(new.as_slice());
-            (true, Shape::Some)
+            (true, ReplyKind::Some)
         }
         Plan::Run(program, arg) => match answer_into(program, call.key(), None, arg, bytes) {
-            Ok(true) => (true, Shape::Some),
-            Ok(false) => (false, Shape::None),
-            Err(window) => (false, Shape::Unfit(window)),
+            Ok(true) => (true, ReplyKind::Some),
+            Ok(false) => (false, ReplyKind::None),
+            Err(window) => (false, ReplyKind::Unfit(window)),
         },
     }
 }

@@ -15,9 +15,9 @@ pub enum Reply {
     Unfit(Window),
 }
 
-/// A reply, but for the bytes of its value.
-#[derive(Clone, Copy)]
-pub(crate) enum Shape {
+/// A reply without the bytes of its value, which stand in a place of the caller's.
+#[derive(Clone, Copy, Debug, PartialEq, Eq)]
+pub enum ReplyKind {
     /// No value.
     None,
     /// A value.
@@ -28,16 +28,16 @@ pub(crate) enum Shape {
     Unfit(Window),
 }
 
-impl Shape {
+impl ReplyKind {
     /// The reply whose value, if it has one, is this.
-    pub(crate) fn with(self, value: Value) -> Reply
+    pub fn with(self, value: Value) -> Reply
         ensures value { result ≡ reply_by self value }
     {
         match self {
-            Shape::None => Reply::Value(None),
-            Shape::Some => Reply::Value(Some(value)),
-            Shape::Done(done) => Reply::Done(done),
-            Shape::Unfit(window) => Reply::Unfit(window),
+            ReplyKind::None => Reply::Value(None),
+            ReplyKind::Some => Reply::Value(Some(value)),
+            ReplyKind::Done(done) => Reply::Done(done),
+            ReplyKind::Unfit(window) => Reply::Unfit(window),
         }
     }
 }

@@ -5,13 +5,14 @@ ghost use Rattle.bins.specs.Replacements.{ReplacesEach};
 ghost use Rattle.atomic_methods.specs.Hashes.{IsStripeCount};
 ghost use Rattle.atomic_methods.specs.Invocations.{invocation_of};
 ghost use Rattle.atomic_methods.specs.Methods.{Answers, WouldAdd};
+ghost use Rattle.atomic_methods.specs.Plans.{reply_by};
 ghost use Rattle.atomic_methods.specs.Runs.{AnswersInTurn, first_of, IsRefused};
 ghost use Rattle.atomic_methods.specs.Whole.{stripe_at, all_entries, ReplacesStripes};
 
 use crate::call::Call;
 use crate::fault::OpenFault;
 use crate::methods;
-use crate::reply::Reply;
+use crate::reply::{Reply, ReplyKind};
 use crate::stripes::{MAX_STRIPES, is_stripe_count, stripe_of};
 use bins::{Bins, Counts, ListBins};
 use bpf_model::{Key, NoMemory, Value};
@@ -66,8 +67,21 @@ impl Striped {
         ensures err { OnErr result (self.new ≡ self.old) }
         ensures memory { OnErr result (WouldAdd self.old (invocation_of call.now)) }
     {
+        let mut bytes = Value::new();
+        let kind = self.apply_into(call, &mut bytes)?;
+        Ok(kind.with(bytes))
+    }
+
+    /// Makes one call as `apply` does, and leaves the bytes of the replied value in `bytes`, so that no value is moved.
+    /// What `bytes` held is lost.
+    pub fn apply_into(&mut self, call: &Call, bytes: &mut Value) -> Result<ReplyKind, NoMemory>
+        ensures ok { IfOk result (λ kind.
+            Answers self.old (invocation_of call.now) self.new (reply_by kind bytes.new)) }
+        ensures err { OnErr result (self.new ≡ self.old) }
+        ensures memory { OnErr result (WouldAdd self.old (invocation_of call.now)) }
+    {
         let place = stripe_of(call.key(), self.stripes.len() as u64) as usize;
-        methods::apply(&mut self.stripes[place], call)
+        methods::apply_into(&mut self.stripes[place], call, bytes)
     }
 
     /// Makes the calls in turn, each on what the ones before it left. Where a call is refused, neither it nor any after

@@ -45,8 +45,9 @@ pub fn call_often(alloc: Global, program: &Verified, name: &str, count: u64) -> 
         value: value()?,
     })?;
     let call = named(name, key, program)?;
+    let mut bytes = Value::new();
     for _ in 0..count {
-        striped.apply(&call)?;
+        striped.apply_into(&call, &mut bytes)?;
     }
     Ok(())
 }

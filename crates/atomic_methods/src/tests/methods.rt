@@ -129,3 +129,59 @@ fn a_longest_value_is_unfit_where_one_byte_is_missing(rt: HostRuntime) -> Result
     assert_eq!(rt; table.apply(&Call::Get { key })?, Reply::Value(Some(long)));
     Ok(())
 }
+
+// Answers two numbers of 8 bytes: the length of the old value and that of the argument, -1 where there is none.
+fn lengths() -> [Insn; 4] {
+    let tell = |src, offset| Insn::Store {
+        size: AccessSize::DoubleWord,
+        dst: reg(4),
+        src: Operand::Register(src),
+        offset,
+    };
+    [tell(reg(7), 0), tell(reg(8), 8), mov(0, 16), Insn::Exit]
+}
+
+// Eight bytes each: the length -1, 0 and 1.
+const ABSENT: [u8; 8] = [255; 8];
+
+const EMPTY_LENGTH: [u8; 8] = [0; 8];
+
+// The old value, the argument, and the two lengths that a program is told.
+const LENGTHS: [(Option<&[u8]>, Option<&[u8]>, [u8; 8], [u8; 8]); 6] = [
+    (None, None, ABSENT, ABSENT),
+    (None, Some(b""), ABSENT, EMPTY_LENGTH),
+    (Some(b""), None, EMPTY_LENGTH, ABSENT),
+    (Some(b""), Some(b""), EMPTY_LENGTH, EMPTY_LENGTH),
+    (Some(b"x"), None, ONE, ABSENT),
+    (None, Some(b"x"), ABSENT, ONE),
+];
+
+fn is_pair(value: &Value, first: &[u8; 8], second: &[u8; 8]) -> bool {
+    let bytes = value.as_slice();
+    bytes.starts_with(first) && bytes.ends_with(second) && bytes.len() == 16
+}
+
+#[test]
+fn an_absent_argument_is_no_empty_one(rt: HostRuntime) -> Result<(), Fail> {
+    let program = verified(rt.alloc(), lengths(), sizes(64, 8, 8, 16))?;
+    for (number, (old, arg, first, second)) in LENGTHS.iter().enumerate() {
+        let mut table = Striped::open(rt.alloc(), 1)?;
+        if let Some(bytes) = old {
+            let (key, value) = (key(b"a")?, value(bytes)?);
+            table.apply(&Call::Put { key, value })?;
+        }
+        let call = Call::Compute {
+            key: key(b"a")?,
+            program: &program,
+            arg: match arg {
+                Some(bytes) => Some(value(bytes)?),
+                None => None,
+            },
+        };
+        let Reply::Value(Some(told)) = table.apply(&call)? else {
+            return Err("no answer".into());
+        };
+        assert!(rt; is_pair(&told, first, second), "row {number}");
+    }
+    Ok(())
+}

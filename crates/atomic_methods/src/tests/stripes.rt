@@ -93,10 +93,18 @@ fn put(number: u8) -> Result<Call<'static>, TooLong> {
     })
 }
 
+// A table of four stripes, opened once more where memory was refused.
+fn opened(alloc: Global) -> Result<Striped, OpenFault> {
+    match Striped::open(alloc, 4) {
+        Err(OpenFault::NoMemory) => Striped::open(alloc, 4),
+        result => result,
+    }
+}
+
 /// Also where one allocation fails: that call leaves the table, and the same call once more enters.
 #[test]
 fn a_refused_call_leaves_the_table(rt: HostRuntime) -> Result<(), Fail> {
-    let mut table = Striped::open(rt.alloc(), 4)?;
+    let mut table = opened(rt.alloc())?;
     for number in 0..40 {
         if let Err(NoMemory) = table.apply(&put(number)?) {
             assert!(rt; ends_before(&mut table, number)?, "at {number}");
@@ -110,17 +118,46 @@ fn a_refused_call_leaves_the_table(rt: HostRuntime) -> Result<(), Fail> {
 /// Also where one allocation fails: the calls that were replied to were made, and no other.
 #[test]
 fn a_stopped_run_made_the_calls_that_were_replied_to(rt: HostRuntime) -> Result<(), Fail> {
-    let mut table = Striped::open(rt.alloc(), 4)?;
-    let mut calls = Vec::new(rt.alloc());
-    for number in 0..9 {
-        calls.push(put(number)?)?;
-    }
+    let mut table = opened(rt.alloc())?;
+    let calls = [
+        put(0)?,
+        put(1)?,
+        put(2)?,
+        put(3)?,
+        put(4)?,
+        put(5)?,
+        put(6)?,
+        put(7)?,
+        put(8)?,
+    ];
     let made = match table.run(rt.alloc(), &calls) {
         Ok(replies) => replies.len(),
         Err(stopped) => stopped.replies.len(),
     };
     assert!(rt; made <= 9);
     assert!(rt; ends_before(&mut table, made as u8)?, "after {made}");
+    Ok(())
+}
+
+/// Also where one allocation fails: a scan gives all entries, or none and can be made again.
+#[test]
+fn a_refused_scan_leaves_the_table(rt: HostRuntime) -> Result<(), Fail> {
+    let mut table = opened(rt.alloc())?;
+    for number in 0..9 {
+        if let Err(NoMemory) = table.apply(&put(number)?) {
+            table.apply(&put(number)?)?;
+        }
+    }
+    let found = match table.scan(rt.alloc()) {
+        Err(NoMemory) => table.scan(rt.alloc())?,
+        Ok(found) => found,
+    };
+    assert_eq!(rt; found.len(), 9);
+    for (number, (key, value)) in found.iter().enumerate() {
+        assert_eq!(rt; key.as_slice(), [number as u8].as_slice());
+        assert_eq!(rt; value.as_slice(), b"new".as_slice());
+    }
+    assert!(rt; ends_before(&mut table, 9)?);
     Ok(())
 }
 

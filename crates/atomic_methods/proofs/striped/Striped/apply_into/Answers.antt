@@ -1,25 +1,26 @@
 use Rattle.std.proofs.Common.{◌∙◌}
 use Rattle.atomic_methods.specs.Invocations.{invocation_of}
+use Rattle.atomic_methods.specs.Plans.{reply_by}
 use Rattle.atomic_methods.proofs.WholeLemmas.{applied}
-use Rattle.atomic_methods.proofs.striped.Striped.apply.Goals as goal
+use Rattle.atomic_methods.proofs.striped.Striped.apply_into.Goals as goal
 
 pub invariant_of-self : goal.invariant_of-self
 invariant_of-self c =
     let count = c.len.ensures ∙ c.self.inside.stripes.ok.0 in
     let at = rw (count, c.key.ensures.value) at c.stripe_of-place.ensures.value in
     let lt = rw count at c.stripe_of-place.ensures.range in
-    (applied _ c.self.invariant _ (invocation_of c.args.call.now) at lt _ _ c.index_mut.ensures.value _ c.apply.ensures.ok c.apply.ensures.err c.apply.ensures.memory).stripes
+    (applied (λ k. reply_by k c.before.apply_into.new.bytes) _ c.self.invariant _ (invocation_of c.args.call.now) at lt _ _ c.index_mut.ensures.value _ c.apply_into.ensures.ok c.apply_into.ensures.err c.apply_into.ensures.memory).stripes
 
 pub returns-clause-ok : goal.returns-clause-ok
 returns-clause-ok c =
     let count = c.len.ensures ∙ c.self.inside.stripes.ok.0 in
     let at = rw (count, c.key.ensures.value) at c.stripe_of-place.ensures.value in
     let lt = rw count at c.stripe_of-place.ensures.range in
-    rw (← c.self.view_is) (applied _ c.self.invariant _ (invocation_of c.args.call.now) at lt _ _ c.index_mut.ensures.value _ c.apply.ensures.ok c.apply.ensures.err c.apply.ensures.memory).answers
+    rw (← c.self.view_is) (applied (λ k. reply_by k c.before.apply_into.new.bytes) _ c.self.invariant _ (invocation_of c.args.call.now) at lt _ _ c.index_mut.ensures.value _ c.apply_into.ensures.ok c.apply_into.ensures.err c.apply_into.ensures.memory).answers
 
 pub returns-clause-memory : goal.returns-clause-memory
 returns-clause-memory c =
     let count = c.len.ensures ∙ c.self.inside.stripes.ok.0 in
     let at = rw (count, c.key.ensures.value) at c.stripe_of-place.ensures.value in
     let lt = rw count at c.stripe_of-place.ensures.range in
-    rw (← c.self.view_is) (applied _ c.self.invariant _ (invocation_of c.args.call.now) at lt _ _ c.index_mut.ensures.value _ c.apply.ensures.ok c.apply.ensures.err c.apply.ensures.memory).adds
+    rw (← c.self.view_is) (applied (λ k. reply_by k c.before.apply_into.new.bytes) _ c.self.invariant _ (invocation_of c.args.call.now) at lt _ _ c.index_mut.ensures.value _ c.apply_into.ensures.ok c.apply_into.ensures.err c.apply_into.ensures.memory).adds
