@@ -109,6 +109,7 @@ if command -v gcc > /dev/null; then
     printf '%s' "$sum" > "$work/in"
     refuse_each "disasm" disasm
     refuse_each "check" check "${sizes[@]}"
+    refuse_each "check of a program that is refused" check --old 0
     printf '1506020000000000 b7000000ffffffff 9500000000000000 b700000000000000 9500000000000000' > "$work/in"
     refuse_each "check of a program with a jump" check "${sizes[@]}"
     printf '%s' "$sum" > "$work/in"

@@ -14,7 +14,7 @@ PROGRAM
     store64(result, 8, load64(old, 8));
     u64 length = load8(old, 0);
     if (arg_length > 0 && length < 15) {
-        MASK(length, 15);
+        BOUND(length, 14);
         store8(result, 1 + length, load8(arg, 0));
         store8(result, 0, length + 1);
     }

@@ -37,8 +37,10 @@ typedef long long s64;
 
 /* For BPF the lengths are in r6, r7 and r8 at entry, from which the one assembler statement takes them before anything else
  * is done with those registers. */
+#define UNUSED __attribute__((unused))
 #define BODY_PARAMETERS                                                                                                \
-    const u8 *key, const u8 *old, const u8 *arg, u8 *result, s64 key_length, s64 old_length, s64 arg_length
+    const u8 *key UNUSED, const u8 *old UNUSED, const u8 *arg UNUSED, u8 *result UNUSED, s64 key_length UNUSED,        \
+        s64 old_length UNUSED, s64 arg_length UNUSED
 
 #ifdef __bpf__
 #define PROGRAM                                                                                                        \

@@ -21,6 +21,6 @@ PROGRAM
         sum += load32(result, i);
     count++;
     store64(result, 0, count);
-    store32(result, 40, sum / (count < 8 ? count : 8));
+    store32(result, 40, sum / (count - 1 < 8 ? count : 8));
     return 44;
 }

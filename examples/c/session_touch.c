@@ -14,8 +14,6 @@ PROGRAM
         ANSWER(NOTHING);
     u64 ends = load64(old, 8);
     u64 later = load64(arg, 0);
-    OPAQUE(ends);
-    OPAQUE(later);
     store64(result, 0, load64(old, 0));
     store64(result, 8, later > ends ? later : ends);
     return 16;
