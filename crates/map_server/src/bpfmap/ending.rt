@@ -47,12 +47,7 @@ fn print<W: Sink, E: Sink>(text: &[u8], status: u8, writer: &mut W, errors: &mut
 }
 
 /// Prints the refusal's line, writes its meaning to standard error, and answers the status, or that of a failed write.
-fn refuse<W: Sink, E: Sink>(
-    refusal: Refusal,
-    meaning: &[u8],
-    writer: &mut W,
-    errors: &mut E,
-) -> u8
+fn refuse<W: Sink, E: Sink>(refusal: Refusal, meaning: &[u8], writer: &mut W, errors: &mut E) -> u8
     requires writes { (W.state writer.old).failures < 2 ^ 64 - 1 }
     requires warns { (E.state errors.old).failures < 2 ^ 64 - 1 }
     ensures { Refuses refusal meaning.now (outputs (W.state writer.old) (E.state errors.old))
