@@ -21,7 +21,7 @@ get_or-longer [] d (suc i) = refl
 get_or-longer (x ∷ xs) d zero = refl
 get_or-longer (x ∷ xs) d (suc i) = get_or-longer xs d i
 
-same_or_other : (n m : ℕ) → (n ≡ m) ⊎ (n ≢ m)
+pub same_or_other : (n m : ℕ) → (n ≡ m) ⊎ (n ≢ m)
 same_or_other n m = grind arith
 
 -- a state that is known when a walk comes to a unit is known once what was kept for the unit is joined

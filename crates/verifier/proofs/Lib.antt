@@ -13,3 +13,4 @@ pub mod FlowLemmas
 pub mod WalkLemmas
 pub mod PassLemmas
 pub mod ArriveLemmas
+pub mod GrantLemmas

@@ -1,6 +1,10 @@
 pub mod Checked
+pub mod Instructions
+pub mod Paths
+pub mod Plain
 pub mod Joins
 pub mod Changes
+pub mod Grants
 pub mod Faults
 pub mod Describes
 pub mod Walks
