@@ -7,5 +7,7 @@ pub mod Changes
 pub mod Grants
 pub mod Faults
 pub mod Describes
+pub mod Windows
+pub mod Bound
 pub mod Walks
 pub mod Messages

@@ -7,7 +7,9 @@ use Rattle.bpf_model.specs.declared.instruction.Insn.{Insn}
 use Rattle.bpf_model.specs.Program.{units_of}
 use Rattle.bpf_model.specs.State.{State}
 use Rattle.bpf_model.specs.Step.{act, ends_in, unit_of}
-use Rattle.flow_shape.specs.Jumps.{distance_of, falls_through, target_of, JumpsBy}
+use Rattle.flow_shape.specs.Jumps.{distance_of, falls_through, target_of}
+use Rattle.bound_operations.specs.declared.operation.Operation.{Operation}
+use Rattle.bound_operations.specs.Binding.{IsBound}
 use Rattle.verifier.specs.declared.abstract_state.AbstractState.{AbstractState}
 use Rattle.verifier.specs.declared.walk.pending.Pending.{Pending}
 use Rattle.verifier.specs.Describes.{Describes, goes_straight}
@@ -40,10 +42,6 @@ IsKnown unit here pending sizes s = ((s.unit ≡ unit) × IsDescribed here sizes
 abbrev pub GoesForward : Insn → Type 0
 GoesForward i = (distance : ℤ) → distance_of i ≡ Some distance → pos 0 ≤ℤ distance
 
--- the program has a jump
-abbrev pub HasJump : List Insn → Type 0
-HasJump program = (unit : ℕ) × ((distance : ℤ) × JumpsBy program unit distance)
-
 -- the instruction leads to a state that is known
 pub record LeadsToKnown (sizes : Sizes) (i : Insn) (s : State) (unit : ℕ) (here : Option AbstractState) (pending : Pending) : Type 0 where
   pub next : State
@@ -55,6 +53,14 @@ pub record Passes (sizes : Sizes) (i : Insn) (unit : ℕ) (before : Pending) (a 
   pub leads : (s : State) → s.unit ≡ unit → Describes a sizes s
       → IsSome (ends_in sizes i s) ⊎ LeadsToKnown sizes i s (unit + units_of i) (if on then Some b else None) after
   pub keeps : (other : ℕ) → IncludesSome (kept_at before other) (kept_at after other)
+
+-- from each described state at the unit the instruction ends the run or leads to a known one, what was kept is kept, and
+-- in each such state the operation binds the instruction
+pub record Visits (program : List Insn) (sizes : Sizes) (i : Insn) (unit : ℕ) (before : Pending) (here : Option AbstractState) (after : Pending) (later : Option AbstractState) (operation : Operation) : Type 0 where
+  pub leads : (s : State) → s.unit ≡ unit → IsDescribed here sizes s
+      → IsSome (ends_in sizes i s) ⊎ LeadsToKnown sizes i s (unit + units_of i) later after
+  pub keeps : (other : ℕ) → IncludesSome (kept_at before other) (kept_at after other)
+  pub bound : (s : State) → s.unit ≡ unit → IsDescribed here sizes s → IsBound program sizes operation i s
 
 -- what an instruction makes of what is known on each way that goes on; a jump's condition narrows it alone
 pub record LeavesKnown (i : Insn) (a b : AbstractState) : Type 0 where
