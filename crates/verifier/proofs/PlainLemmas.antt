@@ -1,5 +1,5 @@
 -- In a plain program what holds of every path is enough for each instruction.
-use Rattle.std.proofs.Common.{◌≡◌, ℕ, suc, ◌+◌, ◌≤◌, ◌^◌, ◌⊎◌, List, [], ◌∷◌, Some, refl, sym, subst, ap, ◌∙◌, inl, inr, arith, ℤ, pos}
+use Rattle.std.proofs.Common.{◌≡◌, ℕ, suc, ◌+◌, ◌≤◌, ◌^◌, ◌⊎◌, true, List, [], ◌∷◌, Some, refl, sym, subst, ap, ◌∙◌, inl, inr, arith, ℤ, pos}
 use Rattle.std.specs.Prelude.{neg_ℤ, ◌≤ℤ◌, ◌+ℤ◌}
 use Rattle.std.proofs.lemmas.Int.{ints}
 use Rattle.std.proofs.lemmas.Bool.{cases_order}
@@ -12,7 +12,9 @@ use Rattle.bpf_model.specs.Program.{instruction_at}
 use Rattle.bpf_model.specs.Memory.{size_of}
 use Rattle.bpf_model.specs.Fits.{AreWithinLimits}
 use Rattle.bpf_model.proofs.ProgramLemmas.{place_of, none_inside, units_of-some}
+use Rattle.stack_slots.specs.Kept.{IsKept}
 use Rattle.stack_slots.specs.Offsets.{AreInReach}
+use Rattle.stack_slots.specs.Frames.{is_written}
 use Rattle.verifier.specs.declared.abstract_state.AbstractState.{AbstractState}
 use Rattle.verifier.specs.Instructions.{Touch, load_of, store_of}
 use Rattle.verifier.specs.Changes.{CanTouch, Suffices}
@@ -85,6 +87,7 @@ can_touch program sizes unit a t p x = record {
 
 -- a plain program's instruction is accepted where what holds of every path to it is known
 pub plain_suffices : (program : List Insn) (sizes : Sizes) (unit : ℕ) (i : Insn) (a : AbstractState) → IsPlain program sizes → instruction_at program unit ≡ Some i → ((t : Touch) → (load_of i ≡ Some t) ⊎ (store_of i ≡ Some t) → neg_ℤ (pos (2 ^ 15)) ≤ℤ t.offset) → Grants program unit a → Suffices sizes i a
+unfolding can_touch
 plain_suffices program sizes unit i a plain at near g = record {
   read = λ r reading. g.written r (plain.reading unit i r at reading);
   target = plain.bases unit i Stack at;
@@ -94,13 +97,13 @@ plain_suffices program sizes unit i a plain at near g = record {
     record {
       touch = can_touch program sizes unit a t l.place x;
       written = λ j kept from to.
-        let inside = rw x.region at kept in
-        rw x.region (g.stored l.place.window j (l.stored j inside (omega (arith, ints, from, x.least, l.place.begins)) (omega (arith, ints, to, x.greatest, l.place.begins))));
+        let inside : IsKept l.place.window = subst IsKept x.region kept in
+        subst (λ (w : Region). is_written a.frame w j ≡ true) (sym x.region) (g.stored l.place.window j (l.stored j inside (omega (arith, ints, from, x.least, l.place.begins)) (omega (arith, ints, to, x.greatest, l.place.begins))));
     };
   stores = λ t is.
     let s = plain.storing unit i t at is in
     let x = touched program sizes unit a t s.place plain.limits (near t (inr is)) g in
-    record { touch = can_touch program sizes unit a t s.place x; kept = rw x.region s.kept };
+    record { touch = can_touch program sizes unit a t s.place x; kept = subst IsKept (sym x.region) s.kept };
   exits = λ is.
     let e = plain.exiting unit (at ∙ ap Some is) in
     let ends = ends_more program e.before (constant_of e.answer) [] e.moves (subst (λ (u : ℕ). IsTarget program u → ⊥) e.is e.apart) (ends_there program e.before) in
