@@ -1,10 +1,9 @@
 -- What holds of every path to a unit of a plain program goes on from unit to unit.
-use Rattle.std.proofs.Common.{◌≡◌, ◌≢◌, ℕ, suc, ◌+◌, ◌<◌, ◌≤◌, ◌⊎◌, Bool, true, false, List, [], ◌∷◌, Some, None, refl, sym, ap, ◌∙◌, inl, inr, arith, ℤ, pos}
-use Rattle.std.specs.Prelude.{◌+ℤ◌}
+use Rattle.std.proofs.Common.{◌≡◌, ◌≢◌, ℕ, ◌+◌, Bool, true, false, List, ◌∷◌, Some, None, refl, sym, ap, ◌∙◌, inl, inr, arith, ℤ, pos}
 use Rattle.std.proofs.lemmas.Int.{ints}
 use Rattle.bpf_model.specs.declared.region.Region.{Region}
 use Rattle.bpf_model.specs.declared.instruction.Insn.{Insn}
-use Rattle.bpf_model.specs.declared.instruction.Insn.TheVariants.{Alu, Negate, Mov, SignExtend, Reorder, Wide, Load, Store, Jump, JumpLong, Branch, Exit}
+use Rattle.bpf_model.specs.declared.instruction.Insn.TheVariants.{Store, Jump, JumpLong, Branch, Exit}
 use Rattle.bpf_model.specs.Program.{instruction_at}
 use Rattle.bpf_model.proofs.Options.{test_of, some_is}
 use Rattle.stack_slots.specs.declared.reg_value.RegValue.{RegValue}

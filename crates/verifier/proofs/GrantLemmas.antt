@@ -1,5 +1,5 @@
 -- What is known at entry is what holds of the path without an instruction.
-use Rattle.std.proofs.Common.{◌≡◌, ◌≢◌, ℕ, zero, suc, List, [], refl, sym, ◌∙◌, arith, ℤ}
+use Rattle.std.proofs.Common.{◌≢◌, ℕ, zero, suc, List, [], refl, sym, ◌∙◌, arith, ℤ}
 use Rattle.bpf_model.specs.declared.input.Sizes.{Sizes}
 use Rattle.bpf_model.specs.declared.region.Region.{Region}
 use Rattle.bpf_model.specs.declared.region.Region.TheVariants.{Key, Old, Arg, Result, Stack}

@@ -1,13 +1,12 @@
 -- In a plain program what holds of every path is enough for each instruction.
-use Rattle.std.proofs.Common.{◌≡◌, ℕ, suc, ◌+◌, ◌≤◌, ◌^◌, ◌⊎◌, true, List, [], ◌∷◌, Some, refl, sym, subst, ap, ◌∙◌, inl, inr, arith, ℤ, pos}
-use Rattle.std.specs.Prelude.{neg_ℤ, ◌≤ℤ◌, ◌+ℤ◌}
+use Rattle.std.proofs.Common.{◌≡◌, ℕ, suc, ◌+◌, ◌≤◌, ◌^◌, ◌⊎◌, true, List, [], ◌∷◌, Some, sym, subst, ap, ◌∙◌, inl, inr, arith, pos}
+use Rattle.std.specs.Prelude.{neg_ℤ, ◌≤ℤ◌}
 use Rattle.std.proofs.lemmas.Int.{ints}
 use Rattle.std.proofs.lemmas.Bool.{cases_order}
 use Rattle.bpf_model.specs.declared.input.Sizes.{Sizes}
 use Rattle.bpf_model.specs.declared.region.Region.{Region}
 use Rattle.bpf_model.specs.declared.region.Region.TheVariants.{Key, Old, Arg, Result, Stack}
 use Rattle.bpf_model.specs.declared.instruction.Insn.{Insn}
-use Rattle.bpf_model.specs.declared.instruction.Insn.TheVariants.{Exit}
 use Rattle.bpf_model.specs.Program.{instruction_at}
 use Rattle.bpf_model.specs.Memory.{size_of}
 use Rattle.bpf_model.specs.Fits.{AreWithinLimits}
@@ -18,7 +17,7 @@ use Rattle.stack_slots.specs.Frames.{is_written}
 use Rattle.verifier.specs.declared.abstract_state.AbstractState.{AbstractState}
 use Rattle.verifier.specs.Instructions.{Touch, load_of, store_of}
 use Rattle.verifier.specs.Changes.{CanTouch, Suffices}
-use Rattle.verifier.specs.Paths.{base_of, base_offset, Follows, IsTarget, ComesTo, OnEveryPath, EndsIn}
+use Rattle.verifier.specs.Paths.{base_offset, Follows, IsTarget, ComesTo, OnEveryPath, EndsIn}
 use Rattle.verifier.specs.Plain.{copy_of, mask_of, sum_of, constant_of, LiesPlainly, IsPlain}
 use Rattle.verifier.specs.Grants.{PointsPast, Grants}
 

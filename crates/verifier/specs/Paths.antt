@@ -6,7 +6,7 @@ use Rattle.bpf_model.specs.declared.region.Region.TheVariants.{Key, Old, Arg, Re
 use Rattle.bpf_model.specs.declared.instruction.Insn.{Insn}
 use Rattle.bpf_model.specs.Program.{units_of, instruction_at}
 use Rattle.bpf_model.specs.Step.{unit_of}
-use Rattle.flow_shape.specs.Jumps.{distance_of, falls_through, target_of, JumpsBy}
+use Rattle.flow_shape.specs.Jumps.{falls_through, target_of, JumpsBy}
 use Rattle.verifier.specs.Instructions.{written_by, Touch, store_of}
 
 -- the register that points into a window at entry, and how far behind the window's first byte

@@ -1,5 +1,4 @@
 -- The window of an instruction's access. This verifier's own.
-use Rattle.std.specs.Prelude.{ℕ}
 use Rattle.bpf_model.specs.declared.input.Sizes.{Sizes}
 use Rattle.bpf_model.specs.declared.region.Region.{Region}
 use Rattle.bpf_model.specs.declared.region.Region.TheVariants.{Result}
