@@ -11,7 +11,6 @@
 mod access;
 mod execution;
 mod machine;
-mod places;
 mod windows;
 
-pub use execution::{run, run_into};
+pub use execution::run_operations;
