@@ -8,10 +8,14 @@ use Rattle.bpf_model.specs.declared.instruction.Insn.{Insn}
 use Rattle.bpf_model.specs.Program.{IsProgram, units_of, instruction_at}
 use Rattle.bpf_model.specs.State.{State}
 use Rattle.flow_shape.specs.FlowShape.{IsForward}
+use Rattle.bpf_model.specs.declared.region.Region.{Region}
+use Rattle.bound_operations.specs.declared.operation.Operation.{Operation}
+use Rattle.bound_operations.specs.Binding.{Binds, LeadsTo}
 use Rattle.verifier.specs.declared.abstract_state.AbstractState.{AbstractState}
 use Rattle.verifier.specs.declared.walk.pending.Pending.{Pending}
 use Rattle.verifier.specs.Describes.{Describes}
-use Rattle.verifier.specs.Walks.{boxed, kept_at, IsDescribed, IncludesSome, IsKnown, Passes}
+use Rattle.verifier.specs.Windows.{LiesIn}
+use Rattle.verifier.specs.Walks.{boxed, kept_at, IsDescribed, IncludesSome, IsKnown, Passes, Visits}
 use Rattle.verifier.proofs.WalkLemmas.{LeadsOrEnds, Walked, walked_on}
 
 -- a list of defaults past the end reads as before
@@ -21,7 +25,7 @@ get_or-longer [] d (suc i) = refl
 get_or-longer (x ∷ xs) d zero = refl
 get_or-longer (x ∷ xs) d (suc i) = get_or-longer xs d i
 
-same_or_other : (n m : ℕ) → (n ≡ m) ⊎ (n ≢ m)
+pub same_or_other : (n m : ℕ) → (n ≡ m) ⊎ (n ≢ m)
 same_or_other n m = grind arith
 
 -- a state that is known when a walk comes to a unit is known once what was kept for the unit is joined
@@ -35,20 +39,10 @@ arrived sizes unit here kept now before after is others first second s (inr at) 
       | inr apart ↦ inr (subst (λ (o : Option AbstractState). IsDescribed o sizes s) (sym (others s.unit apart)) at)
     ]
 
--- where an instruction is passed a walk may go on
-pub leads_known : (sizes : Sizes) (i : Insn) (unit : ℕ) (before after : Pending) (a b : AbstractState) (on : Bool) → kept_at before unit ≡ None → Passes sizes i unit before a after on b → (s : State) → s.unit ≡ unit → IsKnown unit (Some a) before sizes s → LeadsOrEnds sizes i s (IsKnown (unit + units_of i) (if on then Some b else None) after sizes)
-leads_known sizes i unit before after a b on none passes s same (inl at) =
-    record {
-      leads = elim (passes.leads s same at.1) [ inl ends ↦ inl ends | inr goes ↦ inr (goes.next, (goes.acts, goes.known)) ];
-    }
-leads_known sizes i unit before after a b on none passes s same (inr at) =
-    let there : IsDescribed (kept_at before unit) sizes s = subst (λ (u : ℕ). IsDescribed (kept_at before u) sizes s) same at in
-    absurd (subst (λ (o : Option AbstractState). IsDescribed o sizes s) none there)
-
--- no run comes to a unit of which nothing is known
-pub none_comes : (sizes : Sizes) (i : Insn) (unit : ℕ) (before : Pending) → kept_at before unit ≡ None → (later : State → Type 0) → (s : State) → s.unit ≡ unit → IsKnown unit None before sizes s → LeadsOrEnds sizes i s later
-none_comes sizes i unit before none later s same (inl at) = absurd at.1
-none_comes sizes i unit before none later s same (inr at) =
+-- where a run comes to a unit for which nothing more is kept, what is known there describes its state
+pub known_here : (sizes : Sizes) (unit : ℕ) (here : Option AbstractState) (before : Pending) → kept_at before unit ≡ None → (s : State) → s.unit ≡ unit → IsKnown unit here before sizes s → IsDescribed here sizes s
+known_here sizes unit here before none s same (inl at) = at.1
+known_here sizes unit here before none s same (inr at) =
     let there : IsDescribed (kept_at before unit) sizes s = subst (λ (u : ℕ). IsDescribed (kept_at before u) sizes s) same at in
     absurd (subst (λ (o : Option AbstractState). IsDescribed o sizes s) none there)
 
@@ -68,17 +62,37 @@ set_keeps sizes s items unit other kept new within is more h =
       | inr apart ↦ rw (get_or-set_other items unit other (Some new) None apart) h
     ]
 
--- past an instruction to which runs may come
-pub walk_passes : (program : List Insn) (sizes : Sizes) (unit : ℕ) (i : Insn) (here : Option AbstractState) (before after : Pending) (a b : AbstractState) (on : Bool) → IsProgram program → IsForward program → instruction_at program unit ≡ Some i → here ≡ Some a → kept_at before unit ≡ None → Passes sizes i unit before a after on b → Walked program sizes unit (IsKnown unit here before sizes) → Walked program sizes (unit + units_of i) (IsKnown (unit + units_of i) (if on then Some b else None) after sizes)
-walk_passes program sizes unit i here before after a b on is forward at some none passes walked =
-    let known = subst (λ (o : Option AbstractState). Walked program sizes unit (IsKnown unit o before sizes)) some walked in
-    walked_on program sizes unit i (IsKnown unit (Some a) before sizes) (IsKnown (unit + units_of i) (if on then Some b else None) after sizes) is forward at known (leads_known sizes i unit before after a b on none passes) (stays_known sizes unit (unit + units_of i) (Some a) (if on then Some b else None) before after passes.keeps)
+-- past an instruction
+pub walk_visits : (program : List Insn) (sizes : Sizes) (unit : ℕ) (i : Insn) (here later : Option AbstractState) (before after : Pending) (operation : Operation) → IsProgram program → IsForward program → instruction_at program unit ≡ Some i → kept_at before unit ≡ None → Visits program sizes i unit before here after later operation → Walked program sizes unit (IsKnown unit here before sizes) → Walked program sizes (unit + units_of i) (IsKnown (unit + units_of i) later after sizes)
+walk_visits program sizes unit i here later before after operation is forward at none visits walked =
+    walked_on program sizes unit i (IsKnown unit here before sizes) (IsKnown (unit + units_of i) later after sizes) is forward at walked leads (stays_known sizes unit (unit + units_of i) here later before after visits.keeps)
+  where
+    leads : (s : State) → s.unit ≡ unit → IsKnown unit here before sizes s → LeadsOrEnds sizes i s (IsKnown (unit + units_of i) later after sizes)
+    leads s same known = record {
+      leads = elim (visits.leads s same (known_here sizes unit here before none s same known)) [ inl ends ↦ inl ends | inr goes ↦ inr (goes.next, (goes.acts, goes.known)) ];
+    }
 
--- past one to which none comes
-pub walk_skips : (program : List Insn) (sizes : Sizes) (unit : ℕ) (i : Insn) (here : Option AbstractState) (before : Pending) → IsProgram program → IsForward program → instruction_at program unit ≡ Some i → here ≡ None → kept_at before unit ≡ None → Walked program sizes unit (IsKnown unit here before sizes) → Walked program sizes (unit + units_of i) (IsKnown (unit + units_of i) None before sizes)
-walk_skips program sizes unit i here before is forward at nothing none walked =
-    let known = subst (λ (o : Option AbstractState). Walked program sizes unit (IsKnown unit o before sizes)) nothing walked in
-    walked_on program sizes unit i (IsKnown unit None before sizes) (IsKnown (unit + units_of i) None before sizes) is forward at known (none_comes sizes i unit before none (IsKnown (unit + units_of i) None before sizes)) (stays_known sizes unit (unit + units_of i) None None before before (λ other s t kept. kept))
+-- no run comes to an instruction of which nothing is known
+pub visits_none : (program : List Insn) (sizes : Sizes) (i : Insn) (unit : ℕ) (before : Pending) (operation : Operation) → Visits program sizes i unit before None before None operation
+visits_none program sizes i unit before operation = record {
+  leads = λ s same d. absurd d;
+  keeps = λ other sizes s kept. kept;
+  bound = λ s same d. absurd d;
+}
+
+-- an instruction that is passed, and bound to the window of its access and the place of its target
+pub visits_some : (program : List Insn) (sizes : Sizes) (i : Insn) (unit : ℕ) (before after : Pending) (a b : AbstractState) (on : Bool) (later : Option AbstractState) (window : Region) (target : ℕ) (operation : Operation) → Passes sizes i unit before a after on b → later ≡ (if on then Some b else None) → LiesIn sizes i a window → LeadsTo program i unit target → Binds operation i window target → Visits program sizes i unit before (Some a) after later operation
+visits_some program sizes i unit before after a b on later window target operation passes is lies leads binds = record {
+  leads = rw is passes.leads;
+  keeps = passes.keeps;
+  bound = λ s same d. record {
+    window = window;
+    target = target;
+    binds = binds;
+    inside = lies.inside s d;
+    leads = subst (λ (u : ℕ). LeadsTo program i u target) (sym same) leads;
+  };
+}
 
 -- the state after an instruction, where the run goes on at the next one
 pub state_after : (on : Bool) (o : Option AbstractState) (b : AbstractState) → ((on ≡ false) × (o ≡ None)) ⊎ ((on ≡ true) × (o ≡ Some b)) → o ≡ (if on then Some b else None)

@@ -28,7 +28,8 @@ use Rattle.stack_slots.specs.Frames.{is_written, NoneUnwritten}
 use Rattle.verifier.specs.declared.abstract_state.AbstractState.{AbstractState}
 use Rattle.verifier.specs.declared.abstract_state.place.Place.{Place}
 use Rattle.verifier.specs.Joins.{register, SetsTo}
-use Rattle.verifier.specs.Changes.{written_by, store_of, Touch, TouchesByte, Changes, IsPlace, WritesAt, CanLoad, AreMarked, IsNarrowed, OnlyNarrows}
+use Rattle.verifier.specs.Instructions.{written_by, store_of, Touch}
+use Rattle.verifier.specs.Changes.{TouchesByte, Changes, IsPlace, WritesAt, CanLoad, AreMarked, IsNarrowed, OnlyNarrows}
 
 fits_more : (z : ℤ) → SFits w32 z → SFits w64 z
 fits_more (pos n) h = record { sfits = omega (arith, h.sfits) }

@@ -5,6 +5,7 @@ pub mod AddressLemmas
 pub mod FrameLemmas
 pub mod RegisterLemmas
 pub mod WindowLemmas
+pub mod AccessLemmas
 pub mod EntryLemmas
 pub mod LeadsLemmas
 pub mod ChangeLemmas
@@ -13,3 +14,7 @@ pub mod FlowLemmas
 pub mod WalkLemmas
 pub mod PassLemmas
 pub mod ArriveLemmas
+pub mod GrantLemmas
+pub mod BoundLemmas
+pub mod FloorLemmas
+pub mod PlainLemmas

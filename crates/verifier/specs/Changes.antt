@@ -1,5 +1,5 @@
 -- What an instruction makes of what is known, and what is enough for it to be accepted. This verifier's own.
-use Rattle.std.specs.Prelude.{◌≡◌, ◌≢◌, ℕ, ◌+◌, ◌<◌, ◌≤◌, Bool, false, true, ◌||◌, ◌⊎◌, Option, Some, None, nat_eq, ◌^◌, ℤ, pos, negsuc, ◌+ℤ◌, ◌≤ℤ◌}
+use Rattle.std.specs.Prelude.{◌≡◌, ◌≢◌, ℕ, ◌+◌, ◌<◌, ◌≤◌, true, false, ◌⊎◌, Some, ◌^◌, ℤ, pos, negsuc, ◌+ℤ◌, ◌≤ℤ◌}
 use Rattle.bpf_model.specs.declared.limits.TheConstants.{STACK_BYTES}
 use Rattle.bpf_model.specs.declared.input.Sizes.{Sizes}
 use Rattle.bpf_model.specs.declared.region.Region.{Region}
@@ -7,11 +7,10 @@ use Rattle.bpf_model.specs.declared.region.Region.TheVariants.{Key, Old, Arg, Re
 use Rattle.bpf_model.specs.declared.operations.AluOp.TheVariants.{Add, And}
 use Rattle.bpf_model.specs.declared.operations.Width.TheVariants.{W64}
 use Rattle.bpf_model.specs.declared.accesses.AccessSize.{AccessSize}
-use Rattle.bpf_model.specs.declared.instruction.Operand.{Operand}
 use Rattle.bpf_model.specs.declared.instruction.Operand.TheVariants.{Register, Immediate}
 use Rattle.bpf_model.specs.declared.instruction.Insn.{Insn}
-use Rattle.bpf_model.specs.declared.instruction.Insn.TheVariants.{Alu, Negate, Mov, SignExtend, Reorder, Wide, Load, Store, Jump, JumpLong, Branch, Exit}
-use Rattle.bpf_model.specs.Accesses.{byte_count, loaded_size}
+use Rattle.bpf_model.specs.declared.instruction.Insn.TheVariants.{Alu, Mov, Exit}
+use Rattle.bpf_model.specs.Accesses.{byte_count}
 use Rattle.bpf_model.specs.Memory.{size_of}
 use Rattle.value_ranges.specs.declared.range.Range.{Range}
 use Rattle.value_ranges.specs.In.{IsSingle}
@@ -24,41 +23,8 @@ use Rattle.stack_slots.specs.Values.{IsPointerIn, IsNumberIn}
 use Rattle.stack_slots.specs.Frames.{is_written, KeepsMarks, NoneUnwritten}
 use Rattle.verifier.specs.declared.abstract_state.AbstractState.{AbstractState}
 use Rattle.verifier.specs.declared.abstract_state.place.Place.{Place}
+use Rattle.verifier.specs.Instructions.{reads, written_by, Touch, load_of, store_of}
 use Rattle.verifier.specs.Joins.{register}
-
--- whether an operand, an instruction, reads a register
-abbrev pub operand_reads : Operand → ℕ → Bool
-operand_reads (Register src) r = nat_eq src r
-operand_reads (Immediate imm) r = false
-
-abbrev pub reads : Insn → ℕ → Bool
-reads (Alu op width dst src) r = nat_eq dst r || operand_reads src r
-reads (Negate width dst) r = nat_eq dst r
-reads (Mov width dst src) r = operand_reads src r
-reads (SignExtend extension dst src) r = nat_eq src r
-reads (Reorder order size dst) r = nat_eq dst r
-reads (Wide dst value) r = false
-reads (Load kind dst src offset) r = nat_eq src r
-reads (Store size dst src offset) r = nat_eq dst r || operand_reads src r
-reads (Jump distance) r = false
-reads (JumpLong distance) r = false
-reads (Branch test width dst src distance) r = nat_eq dst r || operand_reads src r
-reads Exit r = nat_eq 0 r
-
--- the register that an instruction writes
-abbrev pub written_by : Insn → Option ℕ
-written_by (Alu op width dst src) = Some dst
-written_by (Negate width dst) = Some dst
-written_by (Mov width dst src) = Some dst
-written_by (SignExtend extension dst src) = Some dst
-written_by (Reorder order size dst) = Some dst
-written_by (Wide dst value) = Some dst
-written_by (Load kind dst src offset) = Some dst
-written_by (Store size dst src offset) = None
-written_by (Jump distance) = None
-written_by (JumpLong distance) = None
-written_by (Branch test width dst src distance) = None
-written_by Exit = None
 
 -- this word alone, of those that read the same with a sign
 pub record IsSmallWord (m : ℕ) (x : RegValue) : Type 0 where
@@ -66,20 +32,6 @@ pub record IsSmallWord (m : ℕ) (x : RegValue) : Type 0 where
   pub is : x ≡ Number range
   pub single : IsSingle range m
   pub small : m < 2 ^ 63
-
--- an access: of so many bytes, through a register, at an offset
-pub record Touch : Type 0 where
-  pub base : ℕ
-  pub offset : ℤ
-  pub count : ℕ
-
-abbrev pub load_of : Insn → Option Touch
-load_of (Load kind dst src offset) = Some (record { base = src; offset = offset; count = byte_count (loaded_size kind) })
-load_of other = None
-
-abbrev pub store_of : Insn → Option Touch
-store_of (Store size dst src offset) = Some (record { base = dst; offset = offset; count = byte_count size })
-store_of other = None
 
 -- the access touches the byte at this distance from the window's first one, and is at one place alone
 pub record TouchesByte (a : AbstractState) (t : Touch) (w : Region) (j : ℕ) : Type 0 where

@@ -1,7 +1,13 @@
 pub mod Checked
+pub mod Instructions
+pub mod Paths
+pub mod Plain
 pub mod Joins
 pub mod Changes
+pub mod Grants
 pub mod Faults
 pub mod Describes
+pub mod Windows
+pub mod Bound
 pub mod Walks
 pub mod Messages

@@ -1,16 +1,20 @@
 -- What a walk over a program knows: of the runs that come to a unit, and of those that jump to units ahead. This
 -- verifier's own.
-use Rattle.std.specs.Prelude.{◌≡◌, ℕ, ◌+◌, Bool, ◌⊎◌, List, Option, Some, None, IsSome, slice_index_or, ℤ, pos, ◌≤ℤ◌, if◌then◌else◌}
+use Rattle.std.specs.Prelude.{◌≡◌, ℕ, ◌+◌, Bool, true, false, ◌⊎◌, List, Option, Some, None, IsSome, slice_index_or, ℤ, pos, ◌≤ℤ◌, if◌then◌else◌}
 use Rattle.std.specs.Global.{Box}
 use Rattle.bpf_model.specs.declared.input.Sizes.{Sizes}
 use Rattle.bpf_model.specs.declared.instruction.Insn.{Insn}
 use Rattle.bpf_model.specs.Program.{units_of}
 use Rattle.bpf_model.specs.State.{State}
-use Rattle.bpf_model.specs.Step.{act, ends_in}
-use Rattle.flow_shape.specs.Jumps.{distance_of, JumpsBy}
+use Rattle.bpf_model.specs.Step.{act, ends_in, unit_of}
+use Rattle.flow_shape.specs.Jumps.{distance_of, falls_through, target_of}
+use Rattle.bound_operations.specs.declared.operation.Operation.{Operation}
+use Rattle.bound_operations.specs.Binding.{IsBound}
 use Rattle.verifier.specs.declared.abstract_state.AbstractState.{AbstractState}
 use Rattle.verifier.specs.declared.walk.pending.Pending.{Pending}
-use Rattle.verifier.specs.Describes.{Describes}
+use Rattle.verifier.specs.Describes.{Describes, goes_straight}
+use Rattle.verifier.specs.Joins.{KeepsCommon}
+use Rattle.verifier.specs.Changes.{Changes, OnlyNarrows}
 
 -- a boxed state
 abbrev pub boxed : Option (Box AbstractState) → Option AbstractState
@@ -38,10 +42,6 @@ IsKnown unit here pending sizes s = ((s.unit ≡ unit) × IsDescribed here sizes
 abbrev pub GoesForward : Insn → Type 0
 GoesForward i = (distance : ℤ) → distance_of i ≡ Some distance → pos 0 ≤ℤ distance
 
--- the program has a jump
-abbrev pub HasJump : List Insn → Type 0
-HasJump program = (unit : ℕ) × ((distance : ℤ) × JumpsBy program unit distance)
-
 -- the instruction leads to a state that is known
 pub record LeadsToKnown (sizes : Sizes) (i : Insn) (s : State) (unit : ℕ) (here : Option AbstractState) (pending : Pending) : Type 0 where
   pub next : State
@@ -53,3 +53,36 @@ pub record Passes (sizes : Sizes) (i : Insn) (unit : ℕ) (before : Pending) (a 
   pub leads : (s : State) → s.unit ≡ unit → Describes a sizes s
       → IsSome (ends_in sizes i s) ⊎ LeadsToKnown sizes i s (unit + units_of i) (if on then Some b else None) after
   pub keeps : (other : ℕ) → IncludesSome (kept_at before other) (kept_at after other)
+
+-- from each described state at the unit the instruction ends the run or leads to a known one, what was kept is kept, and
+-- in each such state the operation binds the instruction
+pub record Visits (program : List Insn) (sizes : Sizes) (i : Insn) (unit : ℕ) (before : Pending) (here : Option AbstractState) (after : Pending) (later : Option AbstractState) (operation : Operation) : Type 0 where
+  pub leads : (s : State) → s.unit ≡ unit → IsDescribed here sizes s
+      → IsSome (ends_in sizes i s) ⊎ LeadsToKnown sizes i s (unit + units_of i) later after
+  pub keeps : (other : ℕ) → IncludesSome (kept_at before other) (kept_at after other)
+  pub bound : (s : State) → s.unit ≡ unit → IsDescribed here sizes s → IsBound program sizes operation i s
+
+-- what an instruction makes of what is known on each way that goes on; a jump's condition narrows it alone
+pub record LeavesKnown (i : Insn) (a b : AbstractState) : Type 0 where
+  pub straight : goes_straight i ≡ true → Changes i a b
+  pub narrowed : goes_straight i ≡ false → OnlyNarrows a b
+
+-- what is known where one of two ways comes, or both: what both know
+abbrev pub MeetsKnown : Option AbstractState → Option AbstractState → Option AbstractState → Type 0
+MeetsKnown None other c = c ≡ other
+MeetsKnown (Some a) None c = c ≡ Some a
+MeetsKnown (Some a) (Some b) c = (known : AbstractState) × ((c ≡ Some known) × KeepsCommon a b known)
+
+-- the instruction jumps to the target, and what it leaves known there meets what was kept for it
+pub record SendsTo (i : Insn) (unit : ℕ) (a : AbstractState) (target : ℕ) (before after : Option AbstractState) : Type 0 where
+  pub distance : ℤ
+  pub jumps : distance_of i ≡ Some distance
+  pub lands : unit_of (target_of unit distance) ≡ Some target
+  pub state : AbstractState
+  pub leaves : LeavesKnown i a state
+  pub meets : MeetsKnown before (Some state) after
+
+-- each state that is sent on, to the next instruction or to a target, is what the instruction leaves known
+pub record Goes (i : Insn) (unit : ℕ) (before : Pending) (a : AbstractState) (after : Pending) (on : Bool) (b : AbstractState) : Type 0 where
+  pub next : on ≡ true → (falls_through i ≡ true) × LeavesKnown i a b
+  pub kept : (target : ℕ) → (kept_at after target ≡ kept_at before target) ⊎ SendsTo i unit a target (kept_at before target) (kept_at after target)

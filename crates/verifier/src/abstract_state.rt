@@ -5,6 +5,7 @@ ghost use Rattle.bpf_model.specs.declared.instruction.Insn.TheVariants.{Alu, Neg
 ghost use Rattle.bpf_model.specs.Fits.{AreWithinLimits};
 ghost use Rattle.verifier.specs.Describes.{Leads, goes_straight};
 ghost use Rattle.verifier.specs.Changes.{Changes, Suffices};
+ghost use Rattle.verifier.specs.Windows.{LiesIn, window_of};
 
 mod accesses;
 mod branches;
@@ -44,6 +45,7 @@ impl AbstractState {
         ensures ok { OnOk result (Leads self.old sizes insn self.new) }
         ensures changes { OnOk result (Changes insn self.old self.new) }
         ensures enough { Suffices sizes insn self.old → result ≡ Ok tt }
+        ensures window { OnOk result (LiesIn sizes insn self.old (window_of insn self.old)) }
     {
         match insn {
             Insn::Alu {

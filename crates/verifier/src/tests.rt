@@ -13,6 +13,7 @@ use std::test::Fail;
 
 mod frames;
 mod numbers;
+mod operations;
 mod pointers;
 mod refusals;
 mod windows;

@@ -11,15 +11,37 @@ ghost use Rattle.stack_slots.specs.Frames.{NoneUnwritten};
 ghost use Rattle.stack_slots.specs.Values.{StandsFor};
 ghost use Rattle.verifier.specs.Changes.{Changes, Suffices, CanExit, ReachesInside, IsPlace, AreMarked, WritesAt};
 ghost use Rattle.verifier.specs.Describes.{Leads, ReadsBytes, WritesBytes, Exits, IsAt, LiesInside, is_signed};
+ghost use Rattle.verifier.specs.Joins.{register as known};
+ghost use Rattle.verifier.specs.Windows.{LiesIn, pointed_window, window_of};
 
 use super::AbstractState;
 use super::place::Place;
 use super::registers::test_target;
 use crate::fault::StepFault;
-use bpf_model::{AccessSize, LoadKind, Operand, Reg, Sizes};
+use bpf_model::{AccessSize, Insn, LoadKind, Operand, Reg, Region, Sizes};
 use stack_slots::{Access, RegValue, loadable};
 
 impl AbstractState {
+    /// The window that the instruction's address register points into; the result's where it has none.
+    pub fn window(&self, insn: Insn) -> Region
+        ensures value { result ≡ window_of insn self.now }
+    {
+        match insn {
+            Insn::Load { src, .. } => self.pointed_window(src),
+            Insn::Store { dst, .. } => self.pointed_window(dst),
+            _ => Region::Result,
+        }
+    }
+
+    fn pointed_window(&self, register: Reg) -> Region
+        ensures value { result ≡ pointed_window (known self.now register) }
+    {
+        match &self.registers[register.number() as usize] {
+            RegValue::Pointer(pointer) => pointer.region,
+            _ => Region::Result,
+        }
+    }
+
     pub(super) fn load(
         &mut self,
         sizes: Sizes,
@@ -32,6 +54,8 @@ impl AbstractState {
         ensures ok { OnOk result (Leads self.old sizes (Load kind dst src offset) self.new) }
         ensures changes { OnOk result (Changes (Load kind dst src offset) self.old self.new) }
         ensures enough { Suffices sizes (Load kind dst src offset) self.old → result ≡ Ok tt }
+        ensures window { OnOk result (LiesIn sizes (Load kind dst src offset) self.old
+            (pointed_window (known self.old src))) }
     {
         let base = self.read(src.number())?;
         test_target(dst)?;
@@ -53,6 +77,8 @@ impl AbstractState {
         ensures ok { OnOk result (Leads self.old sizes (Store size dst src offset) self.new) }
         ensures changes { OnOk result (Changes (Store size dst src offset) self.old self.new) }
         ensures enough { Suffices sizes (Store size dst src offset) self.old → result ≡ Ok tt }
+        ensures window { OnOk result (LiesIn sizes (Store size dst src offset) self.old
+            (pointed_window (known self.old dst))) }
     {
         let base = self.read(dst.number())?;
         let value = self.operand(src)?;
@@ -105,6 +131,7 @@ impl AbstractState {
         ensures ok { OnOk result (WritesBytes self.old sizes place size value self.new) }
         ensures changes { OnOk result (WritesAt self.old place size value self.new) }
         ensures enough { IsKept place.region → LiesInside sizes place size → result ≡ Ok tt }
+        ensures kept { OnOk result (IsKept place.region) }
     {
         match Access::new(
             place.region,
@@ -137,6 +164,7 @@ fn locate(sizes: Sizes, base: RegValue, offset: i16, size: AccessSize) -> Result
     ensures address { IfOk result (λ place. (w : ℕ) → StandsFor base (Some w)
         → IsAt place (address_of w offset)) }
     ensures inside { IfOk result (λ place. LiesInside sizes place size) }
+    ensures window { IfOk result (λ place. place.region ≡ pointed_window base) }
     ensures exact { (p : ThePointer) → base ≡ PointerInto p → IfOk result (IsPlace p offset) }
     ensures enough { (p : ThePointer) → base ≡ PointerInto p
         → ReachesInside sizes p offset (byte_count size) → IsOk result }

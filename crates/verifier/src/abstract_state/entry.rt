@@ -4,6 +4,7 @@ ghost use Rattle.bpf_model.specs.Memory.{first_address};
 ghost use Rattle.stack_slots.specs.Values.{StandsFor, IsPointerIn};
 ghost use Rattle.verifier.specs.Describes.{DescribesEntry};
 ghost use Rattle.verifier.specs.Changes.{IsEntry};
+ghost use Rattle.verifier.specs.Grants.{GrantsEntry};
 
 use super::AbstractState;
 use bpf_model::limits::STACK_BYTES;
@@ -16,6 +17,7 @@ impl AbstractState {
     pub fn entry(sizes: Sizes) -> AbstractState
         ensures describes { DescribesEntry sizes result }
         ensures exact { IsEntry sizes result }
+        ensures grants { GrantsEntry result }
     {
         let key = Range::unsigned(0, u64::from(sizes.key));
         let old = Range::signed(-1, i64::from(sizes.old));

@@ -1,6 +1,6 @@
 //! The states that are kept for units ahead.
 ghost use Rattle.std.specs.Prelude.{◌≡◌, ◌≢◌, ◌<◌, ℕ, Some, None, OnOk, vec_len};
-ghost use Rattle.verifier.specs.Walks.{boxed, kept_at, IncludesSome};
+ghost use Rattle.verifier.specs.Walks.{boxed, kept_at, IncludesSome, MeetsKnown};
 
 use crate::abstract_state::AbstractState;
 use std::alloc::{AllocError, Global};
@@ -43,6 +43,10 @@ impl Pending {
         ensures sent { OnOk result (IncludesSome (Some state.now) (kept_at self.new unit)) }
         ensures keeps { OnOk result ((other : ℕ)
             → IncludesSome (kept_at self.old other) (kept_at self.new other)) }
+        ensures meets { OnOk result (MeetsKnown (kept_at self.old unit) (Some state.now)
+            (kept_at self.new unit)) }
+        ensures others { OnOk result ((other : ℕ) → other ≢ unit
+            → kept_at self.new other ≡ kept_at self.old other) }
     {
         self.reach(unit)?;
         match &mut self.states[unit] {

@@ -1,6 +1,7 @@
 use Rattle.std.proofs.Common.{refl, arith}
 use Rattle.std.proofs.lemmas.Int.{ints}
 use Rattle.verifier.proofs.EntryLemmas.{entry_describes, entry_exact}
+use Rattle.verifier.proofs.GrantLemmas.{entry_grants}
 use Rattle.verifier.proofs.abstract_state.AbstractState.entry.Goals as goal
 
 pub returns-clause-describes : goal.returns-clause-describes
@@ -26,3 +27,6 @@ returns-clause-exact c =
     (record { range = c.signed-old.result; is = refl; least = omega (arith, ints, old.smin); greatest = omega (arith, ints, old.smax, c.from-2.ensures) })
     (record { range = c.signed-arg.result; is = refl; least = omega (arith, ints, arg.smin); greatest = omega (arith, ints, arg.smax, c.from-3.ensures) })
     c.empty.ensures.written c.empty.ensures.values
+
+pub returns-clause-grants : goal.returns-clause-grants
+returns-clause-grants c = entry_grants c.args.sizes _ (returns-clause-exact c)
