@@ -13,4 +13,4 @@ mod execution;
 mod machine;
 mod windows;
 
-pub use execution::run_operations;
+pub use execution::{run, run_into};
