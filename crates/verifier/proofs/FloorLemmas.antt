@@ -31,9 +31,9 @@ join_grants program unit a b c g h j = record {
   stored = λ w k p. j.marks w k (g.stored w k p) (h.stored w k p);
   copied = λ d w p. j.pointer d w _ _ (g.copied d w p) (h.copied d w p);
   masked = λ d x m w other p.
-    let y = g.masked d x m w other p in
-    let z = h.masked d x m w other p in
-    (j.pointer d w _ _ y.0 z.0, j.number x _ _ y.1 z.1);
+      let y = g.masked d x m w other p in
+      let z = h.masked d x m w other p in
+      (j.pointer d w _ _ y.0 z.0, j.number x _ _ y.1 z.1);
   added = λ d x m w other near p. j.pointer d w _ _ (g.added d x m w other near p) (h.added d x m w other near p);
   answer = λ k p. j.number 0 k k (g.answer k p) (h.answer k p);
 }
@@ -66,15 +66,15 @@ step_stored program unit next i a b w j at follows g ch all =
       | inl marked ↦ marked
       | inr unmarked ↦
           let before : OnEveryPath program unit (WasStored program w j) = λ path comes.
-              elim (all (unit ∷ path) (follows, comes)) [
-                | inl now ↦
-                    let is = same_instruction program unit i now.i at now.at in
-                    let base = g.bases w in
-                    let there : IsPointerIn w (pos (base_offset w)) (pos (base_offset w)) (register a now.t.base) = rw now.through (record { pointer = base.pointer; is = base.is; region = base.region; least = base.least; greatest = omega (arith, ints, base.greatest) }) in
-                    let marked = ch.stores now.t w j (ap store_of is ∙ now.is) (record { distance = pos (base_offset w); first = now.first; through = there; begins = now.begins; from = now.from; to = now.to }) in
-                    absurd (clash (is_written b.frame w j) marked unmarked)
-                | inr earlier ↦ earlier
-              ] in
+          elim (all (unit ∷ path) (follows, comes)) [
+            | inl now ↦
+                let is = same_instruction program unit i now.i at now.at in
+                let base = g.bases w in
+                let there : IsPointerIn w (pos (base_offset w)) (pos (base_offset w)) (register a now.t.base) = rw now.through (record { pointer = base.pointer; is = base.is; region = base.region; least = base.least; greatest = omega (arith, ints, base.greatest) }) in
+                let marked = ch.stores now.t w j (ap store_of is ∙ now.is) (record { distance = pos (base_offset w); first = now.first; through = there; begins = now.begins; from = now.from; to = now.to }) in
+                absurd (clash (is_written b.frame w j) marked unmarked)
+            | inr earlier ↦ earlier
+          ] in
           absurd (clash (is_written b.frame w j) (ch.marks w j (g.stored w j before)) unmarked)
     ]
 
@@ -93,16 +93,16 @@ step_grants program unit next i a b apart at follows g ch = record {
   spills = ch.spills g.spills;
   stored = λ w j all. step_stored program unit next i a b w j at follows g ch all;
   copied = λ d w all.
-    let is = same_instruction program unit i (copy_of d w) at (all path comes).0 in
-    rw (ch.moves d (base_of w) is) (g.bases w);
+      let is = same_instruction program unit i (copy_of d w) at (all path comes).0 in
+      rw (ch.moves d (base_of w) is) (g.bases w);
   masked = λ d x m w other all.
-    let is = same_instruction program unit i (mask_of x m) at (all path comes).0 in
-    let first = g.copied d w (λ before c. (all (unit ∷ before) (follows, c)).1) in
-    let untouched : written_by i ≢ Some d = λ e. other (some_is d x (sym e ∙ ap written_by is)) in
-    (rw (ch.others d untouched) first, ch.masks x m is);
+      let is = same_instruction program unit i (mask_of x m) at (all path comes).0 in
+      let first = g.copied d w (λ before c. (all (unit ∷ before) (follows, c)).1) in
+      let untouched : written_by i ≢ Some d = λ e. other (some_is d x (sym e ∙ ap written_by is)) in
+      (rw (ch.others d untouched) first, ch.masks x m is);
   added = λ d x m w other near all.
-    let is = same_instruction program unit i (sum_of d x) at (all path comes).0 in
-    step_added d x m w a b i is near (g.masked d x m w other (λ before c. (all (unit ∷ before) (follows, c)).1)) ch;
+      let is = same_instruction program unit i (sum_of d x) at (all path comes).0 in
+      step_added d x m w a b i is near (g.masked d x m w other (λ before c. (all (unit ∷ before) (follows, c)).1)) ch;
   answer = λ c all. ch.constant 0 c (same_instruction program unit i (constant_of c) at (all path comes).0);
 }
   where

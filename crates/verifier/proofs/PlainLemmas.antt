@@ -92,27 +92,27 @@ plain_suffices program sizes unit i a plain at near g = record {
   read = λ r reading. g.written r (plain.reading unit i r at reading);
   target = plain.bases unit i Stack at;
   loads = λ t is.
-    let l = plain.loading unit i t at is in
-    let x = touched program sizes unit a t l.place plain.limits (near t (inl is)) g in
-    record {
-      touch = can_touch program sizes unit a t l.place x;
-      written = λ j kept from to.
-        let inside : IsKept l.place.window = subst IsKept x.region kept in
-        subst (λ (w : Region). is_written a.frame w j ≡ true) (sym x.region) (g.stored l.place.window j (l.stored j inside (omega (arith, ints, from, x.least, l.place.begins)) (omega (arith, ints, to, x.greatest, l.place.begins))));
-    };
+      let l = plain.loading unit i t at is in
+      let x = touched program sizes unit a t l.place plain.limits (near t (inl is)) g in
+      record {
+        touch = can_touch program sizes unit a t l.place x;
+        written = λ j kept from to.
+            let inside : IsKept l.place.window = subst IsKept x.region kept in
+            subst (λ (w : Region). is_written a.frame w j ≡ true) (sym x.region) (g.stored l.place.window j (l.stored j inside (omega (arith, ints, from, x.least, l.place.begins)) (omega (arith, ints, to, x.greatest, l.place.begins))));
+      };
   stores = λ t is.
-    let s = plain.storing unit i t at is in
-    let x = touched program sizes unit a t s.place plain.limits (near t (inr is)) g in
-    record { touch = can_touch program sizes unit a t s.place x; kept = subst IsKept (sym x.region) s.kept };
+      let s = plain.storing unit i t at is in
+      let x = touched program sizes unit a t s.place plain.limits (near t (inr is)) g in
+      record { touch = can_touch program sizes unit a t s.place x; kept = subst IsKept (sym x.region) s.kept };
   exits = λ is.
-    let e = plain.exiting unit (at ∙ ap Some is) in
-    let ends = ends_more program e.before (constant_of e.answer) [] e.moves (subst (λ (u : ℕ). IsTarget program u → ⊥) e.is e.apart) (ends_there program e.before) in
-    record {
-      answer = e.answer;
-      constant = g.answer e.answer (subst (λ (u : ℕ). OnEveryPath program u (EndsIn program (constant_of e.answer ∷ []))) (sym e.is) ends);
-      written = elim e.plain [
-        | inl nothing ↦ inl nothing
-        | inr some ↦ inr (some.0, (some.1.0, λ j less. g.stored Result j (some.1.1 j less)))
-      ];
-    };
+      let e = plain.exiting unit (at ∙ ap Some is) in
+      let ends = ends_more program e.before (constant_of e.answer) [] e.moves (subst (λ (u : ℕ). IsTarget program u → ⊥) e.is e.apart) (ends_there program e.before) in
+      record {
+        answer = e.answer;
+        constant = g.answer e.answer (subst (λ (u : ℕ). OnEveryPath program u (EndsIn program (constant_of e.answer ∷ []))) (sym e.is) ends);
+        written = elim e.plain [
+          | inl nothing ↦ inl nothing
+          | inr some ↦ inr (some.0, (some.1.0, λ j less. g.stored Result j (some.1.1 j less)))
+        ];
+      };
 }

@@ -36,13 +36,25 @@ fn operations_have_windows_and_targets(rt: HostRuntime) -> Result<(), Fail> {
     let shaped = shape(program).map_err(|_| "its flow has no fault")?;
     let verified = verify(rt.alloc(), shaped, SIZES).map_err(|_| "it is safe")?;
     let operations = verified.operations();
-    let old_word = matches!(operations.first(), Some(Operation::LoadDoubleWordOld { .. }));
+    let old_word = matches!(
+        operations.first(),
+        Some(Operation::LoadDoubleWordOld { .. })
+    );
     assert!(rt; old_word, "where the register pointed before the load");
-    let fourth = matches!(operations.get(2), Some(Operation::JumpEq64Immediate { target: 4, .. }));
+    let fourth = matches!(
+        operations.get(2),
+        Some(Operation::JumpEq64Immediate { target: 4, .. })
+    );
     assert!(rt; fourth, "the place of the target");
-    let stack_word = matches!(operations.get(4), Some(Operation::StoreDoubleWordStackRegister { .. }));
+    let stack_word = matches!(
+        operations.get(4),
+        Some(Operation::StoreDoubleWordStackRegister { .. })
+    );
     assert!(rt; stack_word, "the stack");
-    let nothing = matches!(operations.get(5), Some(Operation::MovImmediate { imm: u64::MAX, .. }));
+    let nothing = matches!(
+        operations.get(5),
+        Some(Operation::MovImmediate { imm: u64::MAX, .. })
+    );
     assert!(rt; nothing, "the sign is extended");
     let never = matches!(operations.get(7), Some(Operation::Exit));
     assert!(rt; never, "an instruction that no run comes to");
