@@ -5,8 +5,8 @@ ghost use Rattle.std.specs.Prelude.{◌<◌};
 use anyhow::{Result, bail, ensure};
 use bpf_machine::run;
 use bpf_model::{
-    AccessSize, AluOp, Answer, ByteOrder, Input, Insn, JumpOp, Key, LoadKind, Operand, Program, Reg,
-    SignExtension, Sizes, SwapWidth, Value, Width, fits,
+    AccessSize, AluOp, Answer, ByteOrder, Input, Insn, JumpOp, Key, LoadKind, Operand, Program,
+    Reg, SignExtension, Sizes, SwapWidth, Value, Width, fits,
 };
 use flow_shape::shape;
 use std::alloc::Global;
@@ -330,8 +330,16 @@ fn input(numbers: &mut Numbers) -> Result<Input> {
     let arg = value(numbers)?;
     Ok(Input {
         key: Key::from_slice(key.as_slice())?,
-        old: if numbers.below(8) == 0 { None } else { Some(old) },
-        arg: if numbers.below(8) == 0 { None } else { Some(arg) },
+        old: if numbers.below(8) == 0 {
+            None
+        } else {
+            Some(old)
+        },
+        arg: if numbers.below(8) == 0 {
+            None
+        } else {
+            Some(arg)
+        },
     })
 }
 

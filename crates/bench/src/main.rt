@@ -14,8 +14,8 @@ use bpf_decode::encode;
 use bpf_machine::{run, run_into};
 use bpf_model::{Answer, Input, Insn, Key, Program, Sizes, Value, fits};
 use calls::call_often;
-use made_up::checksum;
 use flow_shape::{Shaped, shape};
+use made_up::checksum;
 use programs::Sample;
 use std::alloc::Global;
 use std::{env, io};
@@ -90,7 +90,10 @@ fn run_into_often(alloc: Global, sample: Sample, count: u64) -> Result<()> {
         let input = &inputs[(turn % INPUTS) as usize];
         ensure!(fits(&verified.sizes(), input).is_ok(), "unfit");
         let (old, arg) = (input.old.as_ref(), input.arg.as_ref());
-        ensure!(run_into(&verified, &input.key, old, arg, &mut answer), "no bytes");
+        ensure!(
+            run_into(&verified, &input.key, old, arg, &mut answer),
+            "no bytes"
+        );
     }
     Ok(())
 }
