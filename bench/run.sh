@@ -1,8 +1,8 @@
 #!/usr/bin/env bash
-# Times `run` of bpf_machine beside a plain C loop over decoded instructions, with and without bounds checks, `verify` of
-# verifier, and calls on a table: seven times in turn, and prints the medians. Where valgrind is installed, instructions a run too. By hand,
-# not by the gate. It takes some seconds; a first time takes minutes, since a program is built only when all below it is
-# proved.
+# Times `run` and `run_into` of bpf_machine beside plain C loops over decoded instructions (a switch; a switch that checks
+# units and windows; direct threading; each by gcc and by clang), `verify` of verifier, and calls on a table: seven times in
+# turn, and prints the medians. Where valgrind is installed, instructions a run too. By hand, not by the gate. It takes some
+# seconds; a first time takes minutes, since a program is built only when all below it is proved.
 set -euo pipefail
 shopt -s inherit_errexit
 cd "$(dirname "$0")/.."
@@ -14,14 +14,20 @@ if [ ! -e $bench ] || [ -n "$(find crates.txt crates/*/src crates/*/specs crates
     (cd crates/bench && rt run > "$work/build.log" 2>&1) || { cat "$work/build.log"; exit 1; }
     touch $bench
 fi
-gcc -O2 -o "$work/plain" bench/interpreter.c
-gcc -O2 -DCHECKED -o "$work/checked" bench/interpreter.c
-for name in sum alu; do $bench hex $name > "$work/$name.hex"; done
+loops=()
+for compiler in gcc clang; do
+    command -v $compiler > /dev/null || continue
+    $compiler -O2 -o "$work/$compiler-switch" bench/interpreter.c
+    $compiler -O2 -DCHECKED -o "$work/$compiler-checked" bench/interpreter.c
+    $compiler -O2 -DTHREADED -o "$work/$compiler-threaded" bench/interpreter.c
+    loops+=($compiler-switch $compiler-checked $compiler-threaded)
+done
+for name in sum alu eight mix; do $bench hex $name > "$work/$name.hex"; done
 
 # one side, a program, how often
 side() {
     case $1 in
-        rattle) $bench run "$2" "$3" ;;
+        run | into) $bench "$1" "$2" "$3" ;;
         shape | verify | call) $bench "$1" "$2" "$3" ;;
         *) "$work/$1" "$3" < "$work/$2.hex" ;;
     esac
@@ -59,29 +65,30 @@ instructions() {
 counted() {
     local input=/dev/null command=("$bench" "$1" "$2" "$3")
     case $1 in
-        rattle) command=("$bench" run "$2" "$3") ;;
-        plain | checked) input=$work/$2.hex command=("$work/$1" "$3") ;;
+        gcc-* | clang-*) input=$work/$2.hex command=("$work/$1" "$3") ;;
     esac
     valgrind --tool=callgrind --callgrind-out-file=/dev/null "${command[@]}" 2>&1 > "$work/out" < "$input" |
         sed -n 's/.*Collected : //p'
 }
 
-# a program, its answer, how often, what a figure is of, parts of a run, how often for callgrind
+# a program, its answer, how often, how often for callgrind
 measure() {
-    local answer
+    local answer name
     answer=$($bench | sed -n "s/^$1 answers //p")
     [ "$answer" = "$2" ] || { echo "$1: run answers '$answer', not '$2'" >&2; exit 1; }
-    for name in plain checked; do
+    for name in "${loops[@]}"; do
         answer=$(side $name "$1" 0)
-        [ "$answer" = "$2" ] || { echo "$1: $name C answers '$answer', not '$2'" >&2; exit 1; }
+        [ "$answer" = "$2" ] || { echo "$1: $name answers '$answer', not '$2'" >&2; exit 1; }
     done
-    medians "$1" "$3" rattle plain checked | paste -s | awk -v n=$(($3 * $5)) -v what="$4" '{
-        printf "%s: run %.2f ns, plain C %.2f ns (ratio %.2f), C with bounds checks %.2f ns (ratio %.2f)\n",
-            what, $1 / n, $2 / n, $1 / $2, $3 / n, $1 / $3 }'
-    if command -v valgrind > /dev/null; then
-        echo "  instructions a run: $(instructions rattle "$1" "$6"), plain C $(instructions plain "$1" "$6")," \
-            "C with bounds checks $(instructions checked "$1" "$6")"
-    fi
+    medians "$1" "$3" into run "${loops[@]}" > "$work/medians"
+    echo "a run of $1 ($(($(wc -c < "$work/$1.hex") / 16)) units):"
+    for name in into run "${loops[@]}"; do
+        counted=
+        command -v valgrind > /dev/null && counted="$(instructions "$name" "$1" "$4") instructions"
+        echo "$name $counted"
+    done | paste "$work/medians" - | awk -v n="$3" '
+        { printf "  %-16s %9.1f ns  %s %s\n", $2, $1 / n, $3, $4; if ($2 == "into") into = $1; if ($2 == "gcc-switch") gcc = $1 }
+        END { if (gcc) printf "  run_into takes %.2f of the switch by gcc\n", into / gcc }'
 }
 
 # a program, how often: `verify` is handed what `shape` gives, so what that takes is taken off
@@ -92,8 +99,10 @@ measure_verify() {
         printf "verify, %s: %.2f ns a unit (shape before it %.2f ns)\n", what, ($2 - $1) / n, $1 / n }'
 }
 
-measure sum 0300000000000000 2000000 "a run of the sum" 1 2000
-measure alu e1218400fffdfbf7 50000 "an instruction of 501" 501 200
+measure sum 0300000000000000 2000000 2048
+measure alu e1218400fffdfbf7 50000 256
+measure eight 55c0829753f0720a 50000 256
+measure mix 7c00000000000000 50000 256
 measure_verify straight 2000
 measure_verify jumps 1000
 measure_verify ladder 1000

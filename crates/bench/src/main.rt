@@ -1,31 +1,35 @@
 //! Runs and verifies programs as often as it is told, to be timed from outside.
 //!
-//! `run NAME COUNT`, `verify NAME COUNT` and `shape NAME COUNT` (what `verify` is handed, without `verify`); `call NAME
+//! `run NAME COUNT` and `into NAME COUNT` (the same into a kept value), `verify NAME COUNT` and `shape NAME COUNT` (what `verify` is handed, without `verify`); `call NAME
 //! COUNT` makes a call on a table; `hex NAME` prints a program's bytes. Without words it prints what each program answers.
 #![tactic(auto)]
 
 mod calls;
+mod made_up;
 mod programs;
 
 use anyhow::{Result, bail, ensure};
 use bpf_assembler::assemble;
 use bpf_decode::encode;
-use bpf_machine::run;
-use bpf_model::limits::{KEY_BYTES, VALUE_BYTES};
+use bpf_machine::{run, run_into};
 use bpf_model::{Answer, Input, Insn, Key, Program, Sizes, Value, fits};
 use calls::call_often;
 use flow_shape::{Shaped, shape};
+use made_up::checksum;
 use programs::Sample;
 use std::alloc::Global;
 use std::{env, io};
 use verifier::{Verified, verify};
 
 const SIZES: Sizes = Sizes {
-    key: KEY_BYTES as u16,
-    old: VALUE_BYTES as u16,
-    arg: VALUE_BYTES as u16,
-    result: VALUE_BYTES as u16,
+    key: 64,
+    old: 8,
+    arg: 8,
+    result: 8,
 };
+
+/// How many old values runs are made on, in turn.
+const INPUTS: u64 = 256;
 
 fn program(alloc: Global, sample: Sample) -> Result<Program> {
     let text = sample.text(alloc)?;
@@ -45,21 +49,51 @@ fn verified(alloc: Global, sample: Sample) -> Result<Verified> {
     Ok(verify(alloc, shape(program(alloc, sample)?)?, SIZES)?)
 }
 
-/// The empty key, the old value 1 and the argument 2, each number of 8 bytes.
-fn input() -> Result<Input> {
+/// The empty key, an old value and the argument 2, each number of 8 bytes.
+fn input(old: u64) -> Result<Input> {
     Ok(Input {
         key: Key::from_slice(b"")?,
-        old: Some(Value::from_slice(&1u64.to_le_bytes())?),
+        old: Some(Value::from_slice(&old.to_le_bytes())?),
         arg: Some(Value::from_slice(&2u64.to_le_bytes())?),
     })
 }
 
+/// `INPUTS` of them.
+fn inputs(alloc: Global) -> Result<Vec<Input>> {
+    let mut inputs = Vec::new(alloc);
+    for number in 0..INPUTS {
+        inputs.push(input((number + 1).wrapping_mul(0x9e37_79b9_7f4a_7c15))?)?;
+    }
+    Ok(inputs)
+}
+
 fn run_often(alloc: Global, sample: Sample, count: u64) -> Result<()> {
     let verified = verified(alloc, sample)?;
-    let input = input()?;
-    ensure!(fits(&verified.sizes(), &input).is_ok(), "unfit");
-    for _ in 0..count {
-        ensure!(run(&verified, &input) != Answer::Nothing, "no bytes");
+    let inputs = inputs(alloc)?;
+    ensure!(inputs.len() as u64 == INPUTS, "inputs");
+    for turn in 0..count {
+        let input = &inputs[(turn % INPUTS) as usize];
+        ensure!(fits(&verified.sizes(), input).is_ok(), "unfit");
+        if let Answer::Nothing = run(&verified, input) {
+            bail!("no bytes");
+        }
+    }
+    Ok(())
+}
+
+fn run_into_often(alloc: Global, sample: Sample, count: u64) -> Result<()> {
+    let verified = verified(alloc, sample)?;
+    let inputs = inputs(alloc)?;
+    ensure!(inputs.len() as u64 == INPUTS, "inputs");
+    let mut answer = Value::new();
+    for turn in 0..count {
+        let input = &inputs[(turn % INPUTS) as usize];
+        ensure!(fits(&verified.sizes(), input).is_ok(), "unfit");
+        let (old, arg) = (input.old.as_ref(), input.arg.as_ref());
+        ensure!(
+            run_into(&verified, &input.key, old, arg, &mut answer),
+            "no bytes"
+        );
     }
     Ok(())
 }
@@ -89,7 +123,7 @@ fn print_bytes(rt: &impl Print, bytes: &[u8]) -> io::Result<()> {
 
 fn print_answer(rt: &HostRuntime, name: &str, sample: Sample) -> Result<()> {
     let verified = verified(rt.alloc(), sample)?;
-    let input = input()?;
+    let input = input(1)?;
     ensure!(fits(&verified.sizes(), &input).is_ok(), "unfit");
     print!(rt; "{name} answers ")?;
     match run(&verified, &input) {
@@ -99,13 +133,21 @@ fn print_answer(rt: &HostRuntime, name: &str, sample: Sample) -> Result<()> {
     Ok(())
 }
 
+fn print_checksum(rt: &HostRuntime, count: u64) -> Result<()> {
+    let (safe, sum) = checksum(rt.alloc(), count)?;
+    Ok(println!(rt; "{count} made-up programs, {safe} of them safe: {sum:016x}")?)
+}
+
 fn print_answers(rt: &HostRuntime) -> Result<()> {
     print_answer(rt, "sum", Sample::Sum)?;
     print_answer(rt, "alu", Sample::Arithmetic)?;
+    print_answer(rt, "eight", Sample::Registers)?;
+    print_answer(rt, "mix", Sample::Mixed)?;
     print_answer(rt, "straight", Sample::Straight)?;
     print_answer(rt, "jumps", Sample::Jumps)?;
     print_answer(rt, "ladder", Sample::Ladder)?;
-    print_answer(rt, "spills", Sample::Spills)
+    print_answer(rt, "spills", Sample::Spills)?;
+    print_checksum(rt, 2000)
 }
 
 fn bench(rt: &HostRuntime, word: &str, name: &str, count: &str) -> Result<()> {
@@ -119,13 +161,14 @@ fn bench(rt: &HostRuntime, word: &str, name: &str, count: &str) -> Result<()> {
     };
     match word {
         "run" => run_often(alloc, sample, count.parse()?),
+        "into" => run_into_often(alloc, sample, count.parse()?),
         "shape" => shape_often(alloc, sample, count.parse()?),
         "verify" => verify_often(alloc, sample, count.parse()?),
         "hex" => {
             let bytes = encode(alloc, &program(alloc, sample)?)?;
             Ok(print_bytes(rt, bytes.as_slice())?)
         }
-        _ => bail!("the first word is run, shape, verify, call or hex"),
+        _ => bail!("the first word is run, into, shape, verify, call or hex"),
     }
 }
 

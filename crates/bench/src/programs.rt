@@ -11,6 +11,10 @@ pub enum Sample {
     Sum,
     /// 501 instructions, all but a store and EXIT arithmetic.
     Arithmetic,
+    /// Arithmetic on eight registers in turn.
+    Registers,
+    /// Loads, stores and jumps that follow the bits of the old value.
+    Mixed,
     /// Arithmetic in all units of a program.
     Straight,
     /// In all units but two a jump that goes on at the next instruction either way.
@@ -49,6 +53,45 @@ xor64 r0, r9
 
 const TURN_UNITS: usize = 10;
 
+const EIGHT: &str = "\
+mov64 r0, 1
+mov64 r1, 2
+mov64 r2, 3
+mov64 r3, 4
+mov64 r5, 5
+mov64 r9, 6
+";
+
+const TURN_OF_EIGHT: &str = "\
+add64 r0, r1
+xor64 r2, r3
+mul64 r5, 31
+sub64 r6, r7
+or64 r1, r2
+lsh64 r3, 3
+rsh64 r7, 2
+and64 r9, 65535
+add64 r5, r6
+xor64 r9, r0
+";
+
+const BITS: &str = "\
+ldd r5, [r2+0]
+mov64 r0, 7
+mov64 r9, 1
+";
+
+const TURN_OF_BITS: &str = "\
+jset64 r5, 1, +1
+add64 r0, 3
+rsh64 r5, 1
+stxd [r10-8], r0
+ldw r9, [r10-8]
+jgt64 r9, r5, +1
+xor64 r0, r5
+stxw [r4+0], r9
+";
+
 const REST: &str = "add64 r9, r0\n";
 
 const ANSWER_OF_8_BYTES: &str = "stxd [r4+0], r9\nmov64 r0, 8\nexit\n";
@@ -71,6 +114,8 @@ impl Sample {
         match name {
             "sum" => Some(Sample::Sum),
             "alu" => Some(Sample::Arithmetic),
+            "eight" => Some(Sample::Registers),
+            "mix" => Some(Sample::Mixed),
             "straight" => Some(Sample::Straight),
             "jumps" => Some(Sample::Jumps),
             "ladder" => Some(Sample::Ladder),
@@ -91,6 +136,14 @@ impl Sample {
                     (REST, 6),
                     (ANSWER_OF_8_BYTES, 1),
                 ],
+            ),
+            Sample::Registers => joined(
+                alloc,
+                &[(EIGHT, 1), (TURN_OF_EIGHT, 49), (ANSWER_OF_8_BYTES, 1)],
+            ),
+            Sample::Mixed => joined(
+                alloc,
+                &[(BITS, 1), (TURN_OF_BITS, 40), (ANSWER_OF_8_BYTES, 1)],
             ),
             Sample::Straight => {
                 let units = PROGRAM_UNITS - BEGINNING_UNITS - NO_ANSWER_UNITS;

@@ -2,6 +2,7 @@ pub mod AccessLemmas
 pub mod WindowLemmas
 pub mod EntryLemmas
 pub mod PlaceLemmas
-pub mod ActLemmas
+pub mod BindingLemmas
+pub mod EffectLemmas
+pub mod WayLemmas
 pub mod AnswerLemmas
-pub mod ExecutionLemmas
