@@ -110,7 +110,10 @@ impl Field for Value {
         let Some((len, rest)) = u16::read(hello, bytes) else {
             return None;
         };
-        value_of(hello, len, rest)
+        let Some((value, rest)) = value_of(hello, len, rest) else {
+            return None;
+        };
+        Some((value, rest))
     }
 }
 

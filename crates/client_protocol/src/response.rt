@@ -1,5 +1,5 @@
 //! What is answered.
-ghost use Rattle.std.specs.Prelude.{◌≡◌, ◌+◌, ◌≤◌, ◌++◌, length};
+ghost use Rattle.std.specs.Prelude.{◌≡◌, ◌+◌, ◌≤◌, ◌<◌, ◌^◌, ◌++◌, length};
 ghost use Rattle.arrayvec.specs.ArrayVec.{array_vec_len};
 ghost use Rattle.client_protocol.specs.Bodies.{value_bytes};
 ghost use Rattle.client_protocol.specs.Responses.{response_frame, response_body, window_number};
@@ -64,12 +64,12 @@ fn put<const N: usize>(out: &mut ArrayVec<u8, N>, bytes: &[u8])
     }
 }
 
-fn put_value<const N: usize>(out: &mut ArrayVec<u8, N>, value: &Value)
-    requires { array_vec_len out.old + 2 + length value.now ≤ N }
-    ensures items { out.new.items ≡ out.old.items ++ value_bytes value.now }
-    ensures len { array_vec_len out.new ≡ array_vec_len out.old + 2 + length value.now }
+fn put_value<const N: usize>(out: &mut ArrayVec<u8, N>, bytes: &[u8])
+    requires room { array_vec_len out.old + 2 + length bytes.now ≤ N }
+    requires short { length bytes.now < 2 ^ 16 }
+    ensures items { out.new.items ≡ out.old.items ++ value_bytes bytes.now }
+    ensures len { array_vec_len out.new ≡ array_vec_len out.old + 2 + length bytes.now }
 {
-    let bytes = value.as_slice();
     put(out, &(bytes.len() as u16).to_be_bytes());
     put(out, bytes);
 }
@@ -98,7 +98,7 @@ impl Response {
             Response::Value { value: None } => put(&mut body, &[0x82, 0xFF, 0xFF]),
             Response::Value { value: Some(value) } => {
                 put(&mut body, &[0x82]);
-                put_value(&mut body, value);
+                put_value(&mut body, value.as_slice());
             }
             Response::Done { done } => put(&mut body, &[0x83, u8::from(*done)]),
             Response::Unfit { window } => put(&mut body, &[0x84, window_number(*window)]),
@@ -110,7 +110,7 @@ impl Response {
                 let bytes = key.as_slice();
                 put(&mut body, &[0x86, bytes.len() as u8]);
                 put(&mut body, bytes);
-                put_value(&mut body, value);
+                put_value(&mut body, value.as_slice());
             }
             Response::End {
                 scanned,
