@@ -1,15 +1,16 @@
 -- Fields' faults are a body's.
 use Rattle.std.proofs.Common.{◌≡◌, ◌≢◌, ℕ, ◌≤◌, ◌<◌, ◌⊎◌, arith, Bool, true, false, List, [], ◌∷◌, ◌++◌, length, Option, Some, None, refl, sym, ap, subst, ◌∙◌, inl, inr}
 use Rattle.std.specs.Prelude.{nat_eq}
+use Rattle.bpf_model.specs.declared.input.Sizes.{Sizes}
 use Rattle.client_protocol.specs.declared.limits.Version.{Version}
 use Rattle.client_protocol.specs.declared.limits.Limits.{Limits}
 use Rattle.client_protocol.specs.declared.request.Request.{Request}
-use Rattle.client_protocol.specs.declared.request.Request.TheVariants.{Hello}
+use Rattle.client_protocol.specs.declared.request.Request.TheVariants.{Hello, Register}
 use Rattle.client_protocol.specs.declared.fault.ProtocolFault.TheVariants.{UnknownRequest, BadField, TrailingBytes, WrongVersion}
-use Rattle.client_protocol.specs.Bodies.{limits_after, Kind, Field, kinds_of, takes_tail, Body, body_of, body_bytes, whole, IsBody, TakesAll, BodyHas, IsMisplaced, MayCome, is_hello, is_none, version_number}
-use Rattle.client_protocol.specs.Bodies.Kind.{a_byte}
+use Rattle.client_protocol.specs.Bodies.{limits_after, Kind, Field, kinds_of, takes_tail, Body, body_of, body_bytes, whole, IsBody, sizes_fields, fields_bytes, TakesAll, BodyHas, IsMisplaced, MayCome, is_hello, is_none, version_number}
+use Rattle.client_protocol.specs.Bodies.Kind.{a_short}
 use Rattle.client_protocol.specs.Bodies.Field.{byte}
-use Rattle.client_protocol.specs.Reading.{NoFields, Spells}
+use Rattle.client_protocol.specs.Reading.{NoFields, Spells, TakesSizes}
 
 -- the bytes behind a tag do not begin with its fields
 pub bad_fields : (hello : Option Version) (tag : ℕ) (kinds : List Kind) (bytes : List ℕ) → kinds_of tag ≡ Some kinds → NoFields (limits_after hello) kinds bytes → BodyHas hello (tag ∷ bytes) BadField
@@ -52,3 +53,9 @@ other_version n not r e = let t : (body_of r).tag ≡ 0 = ap (λ (w : Body). w.t
 pub version_misplaced : (hello : Option Version) (rest : List ℕ) (n : ℕ) → ((v : Version) → version_number v ≢ n) → Spells (limits_after hello) (0 ∷ rest) (whole 0 (byte n ∷ [])) → IsMisplaced hello (0 ∷ rest)
 version_misplaced hello rest n not spells =
     record { body = whole 0 (byte n ∷ []); is = spells.0; spelled = spells.1; misplaced = λ other comes same. other_version n not other same }
+
+-- four sizes and a program are a Register
+pub register_found : (limits : Limits) (rest : List ℕ) (sizes : Sizes) (program tail : List ℕ) → TakesSizes limits rest sizes tail → program ≡ tail → Spells limits (1 ∷ rest) (body_of (Register sizes program))
+register_found limits rest sizes program tail takes is =
+    (record { kinds = a_short ∷ a_short ∷ a_short ∷ a_short ∷ []; known = refl; fields = takes.0; tail = inl refl },
+     ap (λ (t : List ℕ). 1 ∷ t) (takes.1 ∙ ap (λ (t : List ℕ). fields_bytes (sizes_fields sizes) ++ t) (sym is)))

@@ -95,6 +95,11 @@ abbrev pub held_of : Option Version → List ℕ → Option ProtocolFault → He
 held_of hello rest None = open_at hello rest
 held_of hello rest (Some fault) = failed fault
 
+-- no more is held than the beginning of one frame
+abbrev pub IsSound : Held → Type 0
+IsSound (open_at hello rest) = IsBeginning hello rest
+IsSound (failed fault) = Unit {0}
+
 -- inside a frame
 abbrev pub is_inside : Held → Bool
 is_inside (open_at hello []) = false

@@ -1,5 +1,5 @@
 -- What readers of fields and of bodies find.
-use Rattle.std.specs.Prelude.{◌≡◌, ℕ, List, [], ◌∷◌, ◌++◌, Option, Result, Ok, Err}
+use Rattle.std.specs.Prelude.{◌≡◌, ℕ, ◌≤◌, ◌<◌, length, List, [], ◌∷◌, ◌++◌, Option, Result, Ok, Err}
 use Rattle.bpf_model.specs.declared.input.Sizes.{Sizes}
 use Rattle.client_protocol.specs.declared.limits.Version.{Version}
 use Rattle.client_protocol.specs.declared.limits.Limits.{Limits}
@@ -9,6 +9,7 @@ use Rattle.client_protocol.specs.declared.reading.ReadFault.{ReadFault}
 use Rattle.client_protocol.specs.declared.reading.ReadFault.TheVariants.{NoMemory, Fault}
 use Rattle.client_protocol.specs.Bodies.{Kind, Field, field_bytes, IsField, TakesAll, Body, IsBody, body_bytes, sizes_fields, IsBodyOf, BodyHas}
 use Rattle.client_protocol.specs.Bodies.Kind.{a_short}
+use Rattle.client_protocol.specs.Frames.{frame_of, IsRequest, IsBeginning}
 
 -- bytes that begin with a field of this kind
 abbrev pub Takes : Limits → Kind → List ℕ → Field → List ℕ → Type 0
@@ -40,3 +41,11 @@ IfFault (Fault fault) P = P fault
 abbrev pub ReadsBody : Option Version → List ℕ → Result Request ReadFault → Type 0
 ReadsBody hello bytes (Ok request) = IsBodyOf hello bytes request
 ReadsBody hello bytes (Err fault) = IfFault fault (BodyHas hello bytes)
+
+-- the frame that begins here lacks n bytes, of its length or else of its body: with fewer it stays a beginning, and
+-- with so many no byte is behind it
+pub record Lacks (hello : Option Version) (bytes : List ℕ) (n : ℕ) : Type 0 where
+  pub some : 1 ≤ n
+  pub fewer : (more : List ℕ) → length more < n → IsBeginning hello (bytes ++ more)
+  pub no_more : (more : List ℕ) (request : Request) (behind : List ℕ) → length more ≤ n → IsRequest hello request
+    → bytes ++ more ≡ frame_of request ++ behind → behind ≡ []

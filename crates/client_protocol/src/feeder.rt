@@ -1,11 +1,14 @@
 //! Requests from a stream that comes in pieces.
-ghost use Rattle.std.specs.Prelude.{◌≡◌, ◌++◌, [], length, IfOk, IsOk, IsSome, OnErr, None};
-ghost use Rattle.client_protocol.specs.Frames.{Frames, Feeds, held_of, fault_of, is_inside};
+ghost use Rattle.std.specs.Prelude.{◌≡◌, ◌≤◌, ◌<◌, ◌++◌, ℕ, List, [], length, IfOk, IfErr, IfSome, IfNone, IsOk, IsSome, OnErr, None};
+ghost use Rattle.client_protocol.specs.declared.request.Request.{Request as TheRequest};
+ghost use Rattle.client_protocol.specs.Reading.{IfFault};
+ghost use Rattle.client_protocol.specs.Frames.{Frames, Feeds, IsRequest, IsBeginning, IsFaulty, frame_of, held_of, fault_of, is_inside};
 ghost use Rattle.client_protocol.specs.Frames.Held.{open_at};
 
 use crate::fault::ProtocolFault;
-use crate::frames::take_frames;
+use crate::frames::{hello_after, lacking, next, take_frames};
 use crate::limits::Version;
+use crate::reading::ReadFault;
 use crate::request::Request;
 use bpf_model::NoMemory;
 use bytes::BytesMut;
@@ -26,14 +29,33 @@ struct Taken {
     fault: Option<ProtocolFault>,
 }
 
-fn read_first(alloc: Global, hello: Option<Version>, rest: &mut BytesMut, piece: &[u8]) -> Result<Taken, NoMemory>
-    requires { rest.old.items ≡ [] }
-    ensures ok { IfOk result (λ t. Frames hello (rest.old.items ++ piece.now) t.requests.items (held_of t.hello rest.new.items t.fault)) }
+// The bytes become these. Asks for memory where there is no room for them.
+fn replace(bytes: &mut BytesMut, by: &[u8]) -> Result<(), NoMemory>
+    ensures ok { IfOk result (λ _. bytes.new.items ≡ by.now) }
+    ensures err { OnErr result (bytes.new.items ≡ bytes.old.items) }
+{
+    bytes.reserve(by.len())?;
+    bytes.clear();
+    bytes.extend_reserved(by);
+    Ok(())
+}
+
+// Reads the frames of the bytes, where they lie; keeps in `rest` the beginning of one that isn't whole.
+fn take_whole(
+    alloc: Global,
+    hello: Option<Version>,
+    mut requests: Vec<Request>,
+    rest: &mut BytesMut,
+    bytes: &[u8],
+) -> Result<Taken, NoMemory>
+    ensures ok { IfOk result (λ t. (new : List TheRequest) × (t.requests.items ≡ requests.items ++ new)
+        × Frames hello bytes.now new (held_of t.hello rest.new.items t.fault)) }
     ensures err { OnErr result (rest.new.items ≡ rest.old.items) }
 {
-    let mut requests = Vec::new(alloc);
-    let left = take_frames(alloc, hello, &mut requests, piece)?;
-    rest.extend_from_slice(left.rest)?;
+    let left = take_frames(alloc, hello, &mut requests, bytes)?;
+    if left.fault.is_none() {
+        replace(rest, left.rest)?;
+    }
     Ok(Taken {
         requests,
         hello: left.hello,
@@ -41,30 +63,92 @@ fn read_first(alloc: Global, hello: Option<Version>, rest: &mut BytesMut, piece:
     })
 }
 
-fn read_on(alloc: Global, hello: Option<Version>, rest: &mut BytesMut, piece: &[u8]) -> Result<Taken, NoMemory>
-    ensures ok { IfOk result (λ t. Frames hello (rest.old.items ++ piece.now) t.requests.items (held_of t.hello rest.new.items t.fault)) }
-    ensures err { OnErr result (rest.new.items ≡ rest.old.items) }
+// The first frame of the bytes held and the piece behind them: its request, and what is behind it in the piece. None
+// where it isn't whole; then all of the piece is held. No byte behind the frame is copied.
+fn complete<'a>(
+    alloc: Global,
+    hello: Option<Version>,
+    rest: &mut BytesMut,
+    piece: &'a [u8],
+) -> Result<Option<(Request, &'a [u8])>, ReadFault>
+    requires begun { IsBeginning hello rest.old.items }
+    ensures grown { (more : List ℕ) × (rest.new.items ≡ rest.old.items ++ more) }
+    ensures frame { IfOk result (λ next. IfSome next (λ r. IsRequest hello r.0
+        × (rest.old.items ++ piece.now ≡ frame_of r.0 ++ r.1.now))) }
+    ensures begun { IfOk result (λ next. IfNone next ((rest.new.items ≡ rest.old.items ++ piece.now)
+        × IsBeginning hello rest.new.items)) }
+    ensures fault { IfErr result (λ e. IfFault e (IsFaulty hello (rest.old.items ++ piece.now))) }
 {
-    let mut requests = Vec::new(alloc);
-    let kept = rest.len();
-    rest.extend_from_slice(piece)?;
-    match take_frames(alloc, hello, &mut requests, rest.as_slice()) {
-        Ok(left) => {
-            let hello = left.hello;
-            let fault = left.fault;
-            let read = rest.len() - left.rest.len();
-            rest.advance(read);
-            Ok(Taken {
-                requests,
-                hello,
-                fault,
-            })
+    let mut piece = piece;
+    loop {
+        let lacks = lacking(hello, rest.as_slice());
+        if piece.len() < lacks {
+            rest.extend_from_slice(piece)?;
+            return Ok(None);
         }
-        Err(NoMemory) => {
-            rest.truncate(kept);
-            Err(NoMemory)
+        let (front, back) = piece.split_at(lacks);
+        rest.extend_from_slice(front)?;
+        piece = back;
+        if let Some((request, _)) = next(alloc, hello, rest.as_slice())? {
+            return Ok(Some((request, piece)));
         }
     }
+}
+
+// Reads on where the beginning of a frame is held.
+fn read_held(
+    alloc: Global,
+    hello: Option<Version>,
+    rest: &mut BytesMut,
+    piece: &[u8],
+) -> Result<Taken, NoMemory>
+    requires begun { IsBeginning hello rest.old.items }
+    ensures ok { IfOk result (λ t. Frames hello (rest.old.items ++ piece.now) t.requests.items
+        (held_of t.hello rest.new.items t.fault)) }
+    ensures err { OnErr result ((more : List ℕ) × (rest.new.items ≡ rest.old.items ++ more)) }
+{
+    let mut requests = Vec::new(alloc);
+    match complete(alloc, hello, rest, piece) {
+        Ok(Some((request, behind))) => {
+            let hello = hello_after(hello, &request);
+            requests.push(request)?;
+            take_whole(alloc, hello, requests, rest, behind)
+        }
+        Ok(None) => Ok(Taken {
+            requests,
+            hello,
+            fault: None,
+        }),
+        Err(ReadFault::Fault(fault)) => Ok(Taken {
+            requests,
+            hello,
+            fault: Some(fault),
+        }),
+        Err(ReadFault::NoMemory) => Err(NoMemory),
+    }
+}
+
+// Reads on, or leaves the bytes held as they were.
+fn read_on(
+    alloc: Global,
+    hello: Option<Version>,
+    rest: &mut BytesMut,
+    piece: &[u8],
+) -> Result<Taken, NoMemory>
+    requires begun { IsBeginning hello rest.old.items }
+    ensures ok { IfOk result (λ t. Frames hello (rest.old.items ++ piece.now) t.requests.items
+        (held_of t.hello rest.new.items t.fault)) }
+    ensures err { OnErr result (rest.new.items ≡ rest.old.items) }
+{
+    if rest.is_empty() {
+        return take_whole(alloc, hello, Vec::new(alloc), rest, piece);
+    }
+    let kept = rest.len();
+    let taken = read_held(alloc, hello, rest, piece);
+    if taken.is_err() {
+        rest.truncate(kept);
+    }
+    taken
 }
 
 /// A stream's bytes so far, as requests and what is left of them.
@@ -76,11 +160,13 @@ pub struct Feeder {
 }
 
 impl Model for Feeder {
-    ghost use Rattle.client_protocol.specs.Frames.{Held, held_of};
+    ghost use Rattle.client_protocol.specs.Frames.{Held, held_of, IsSound};
 
     ghost Value = { Held };
 
     ghost view = { λ f. held_of f.hello f.rest.items f.fault };
+
+    ghost invariant = { λ f. IsSound (held_of f.hello f.rest.items f.fault) };
 }
 
 impl Feeder {
@@ -107,11 +193,7 @@ impl Feeder {
                 fault: Some(fault),
             });
         }
-        let taken = if self.rest.is_empty() {
-            read_first(alloc, self.hello, &mut self.rest, piece)?
-        } else {
-            read_on(alloc, self.hello, &mut self.rest, piece)?
-        };
+        let taken = read_on(alloc, self.hello, &mut self.rest, piece)?;
         self.hello = taken.hello;
         self.fault = taken.fault;
         Ok(Fed {

@@ -3,7 +3,7 @@ ghost use Rattle.std.specs.Prelude.{◌≡◌, ◌++◌, ◌<◌, ◌≤◌, Lis
 ghost use Rattle.client_protocol.specs.declared.request.Request.{Request as TheRequest};
 ghost use Rattle.client_protocol.specs.Bodies.{limits_after, hello_after};
 ghost use Rattle.client_protocol.specs.Frames.{length_bytes, frame_of, IsRequest, IsBeginning, IsFaulty, Frames, held_of};
-ghost use Rattle.client_protocol.specs.Reading.{IfFault};
+ghost use Rattle.client_protocol.specs.Reading.{IfFault, Lacks};
 
 use crate::fault::ProtocolFault;
 use crate::limits::{Limits, Version};
@@ -11,6 +11,8 @@ use crate::reading::{ReadFault, request_in};
 use crate::request::Request;
 use bpf_model::NoMemory;
 use std::alloc::Global;
+
+const LENGTH_BYTES: usize = 4;
 
 fn length_at(bytes: &[u8]) -> Option<(u32, &[u8])>
     ensures some { IfSome result (λ r. bytes.now ≡ length_bytes r.0 ++ r.1.now) }
@@ -22,7 +24,18 @@ fn length_at(bytes: &[u8]) -> Option<(u32, &[u8])>
     }
 }
 
-fn hello_after(hello: Option<Version>, request: &Request) -> Option<Version>
+/// How many bytes the frame lacks that begins here: those of its length, or else those of its body.
+pub fn lacking(hello: Option<Version>, bytes: &[u8]) -> usize
+    requires begun { IsBeginning hello bytes.now }
+    ensures { Lacks hello bytes.now result }
+{
+    match length_at(bytes) {
+        None => LENGTH_BYTES - bytes.len(),
+        Some((len, part)) => len as usize - part.len(),
+    }
+}
+
+pub fn hello_after(hello: Option<Version>, request: &Request) -> Option<Version>
     ensures { result ≡ hello_after hello request.now }
 {
     match request {
@@ -32,7 +45,7 @@ fn hello_after(hello: Option<Version>, request: &Request) -> Option<Version>
 }
 
 /// The request of the frame that begins the bytes, and what is behind it; none where the frame has only begun.
-fn next(alloc: Global, hello: Option<Version>, bytes: &[u8]) -> Result<Option<(Request, &[u8])>, ReadFault>
+pub fn next(alloc: Global, hello: Option<Version>, bytes: &[u8]) -> Result<Option<(Request, &[u8])>, ReadFault>
     ensures frame { IfOk result (λ next. IfSome next (λ r. IsRequest hello r.0 × (bytes.now ≡ frame_of r.0 ++ r.1.now))) }
     ensures begun { IfOk result (λ next. IfNone next (IsBeginning hello bytes.now)) }
     ensures fault { IfErr result (λ e. IfFault e (IsFaulty hello bytes.now)) }

@@ -27,5 +27,5 @@ pub use limits::{Limits, Version};
 pub use request::Request;
 pub use response::{FRAME_BYTES, Response};
 
-
-
+#[cfg(test)]
+mod tests;

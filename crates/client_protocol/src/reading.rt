@@ -215,11 +215,16 @@ fn register_request(alloc: Global, hello: Option<Version>, rest: &[u8]) -> Resul
     Ok(Request::Register { sizes, program })
 }
 
-// The request with this tag, if it were its turn.
-fn request_of(alloc: Global, hello: Option<Version>, tag: u8, rest: &[u8]) -> Result<Request, ReadFault>
-    ensures ok { IfOk result (λ request. Spells (limits_after hello) (tag ∷ rest.now) (body_of request)) }
-    ensures err { IfErr result (λ e. IfFault e (BodyHas hello (tag ∷ rest.now))) }
+// The request of a body, if it were its turn.
+fn request_of(alloc: Global, hello: Option<Version>, body: &[u8]) -> Result<Request, ReadFault>
+    requires { 1 ≤ length body.now }
+    ensures ok { IfOk result (λ request. Spells (limits_after hello) body.now (body_of request)) }
+    ensures err { IfErr result (λ e. IfFault e (BodyHas hello body.now)) }
 {
+    let [tag, rest @ ..] = body else {
+        unreachable!();
+    };
+    let tag = *tag;
     if tag == 0x01 {
         return register_request(alloc, hello, rest);
     }
@@ -243,12 +248,12 @@ fn is_hello(request: &Request) -> bool
 }
 
 /// The request of a body, or the body's fault. A body has at least one byte.
+#[tactic(auto, using(crate::proofs::BodyLaws::misplaced))]
 pub fn request_in(alloc: Global, hello: Option<Version>, body: &[u8]) -> Result<Request, ReadFault>
     requires { 1 ≤ length body.now }
     ensures { ReadsBody hello body.now result }
 {
-    let (tag, rest) = body.split_first().unwrap();
-    let request = request_of(alloc, hello, *tag, rest)?;
+    let request = request_of(alloc, hello, body)?;
     if is_hello(&request) != hello.is_none() {
         return Err(ReadFault::Fault(ProtocolFault::WrongVersion));
     }

@@ -5,7 +5,7 @@ use bytes::Bytes;
 
 /// A request of a client. A program is named by the number under which it was registered; an `arg` is an argument, or
 /// absent.
-#[derive(Drop)]
+#[derive(Debug, PartialEq, Eq, Drop)]
 pub enum Request {
     /// Comes first, and once: tag 00.
     Hello {

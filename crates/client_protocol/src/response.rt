@@ -13,7 +13,7 @@ pub const FRAME_BYTES: usize = 328;
 const BODY_BYTES: usize = 324;
 
 /// A response, one frame. A walk has several: its items in order, and then one `End`.
-#[derive(Drop)]
+#[derive(Debug, PartialEq, Eq, Drop)]
 pub enum Response {
     /// The Hello was taken: tag 80.
     Hello {
