@@ -68,10 +68,10 @@ request_with tag fields tail =
     else (if nat_eq tag 0x22 then ReplaceAll (long_in fields) (opt_in (later fields))
     else Count)))))))))))))))
 
-abbrev request_of : Body → Request
+abbrev pub request_of : Body → Request
 request_of b = request_with b.tag b.fields b.tail
 
-request_again : (r : Request) → request_of (body_of r) ≡ r
+pub request_again : (r : Request) → request_of (body_of r) ≡ r
 request_again (Hello One) = refl
 request_again r = refl
 
@@ -174,7 +174,7 @@ same_length m n x y lm ln e =
     let both = same_split (length_bytes m) (length_bytes n) x y refl e in
     (sym (from_be_bytes-to_be_bytes_4 m lm) ∙ ap (from_be_bytes w32) both.0 ∙ from_be_bytes-to_be_bytes_4 n ln, both.1)
 
-allowed_small : (hello : Option Version) (n : ℕ) → IsLength hello n → n < 2 ^ 32
+pub allowed_small : (hello : Option Version) (n : ℕ) → IsLength hello n → n < 2 ^ 32
 allowed_small None n h = omega (arith, h.1)
 allowed_small (Some One) n h = omega (arith, h.1)
 

@@ -95,6 +95,11 @@ abbrev pub held_of : Option Version → List ℕ → Option ProtocolFault → He
 held_of hello rest None = open_at hello rest
 held_of hello rest (Some fault) = failed fault
 
+-- each number is a byte
+abbrev pub AreBytes : List ℕ → Type 0
+AreBytes [] = Unit {0}
+AreBytes (b ∷ bytes) = (b < 2 ^ 8) × AreBytes bytes
+
 -- no more is held than the beginning of one frame
 abbrev pub IsSound : Held → Type 0
 IsSound (open_at hello rest) = IsBeginning hello rest

@@ -1,5 +1,5 @@
 //! Requests from a stream that comes in pieces.
-ghost use Rattle.std.specs.Prelude.{◌≡◌, ◌≤◌, ◌<◌, ◌++◌, ℕ, List, [], length, IfOk, IfErr, IfSome, IfNone, IsOk, IsSome, OnErr, None};
+ghost use Rattle.std.specs.Prelude.{◌≡◌, ◌≤◌, ◌<◌, ◌++◌, ℕ, List, [], length, take, IfOk, IfErr, IfSome, IfNone, IsOk, IsSome, OnErr, None};
 ghost use Rattle.client_protocol.specs.declared.request.Request.{Request as TheRequest};
 ghost use Rattle.client_protocol.specs.Reading.{IfFault};
 ghost use Rattle.client_protocol.specs.Frames.{Frames, Feeds, IsRequest, IsBeginning, IsFaulty, frame_of, held_of, fault_of, is_inside};
@@ -53,18 +53,26 @@ fn take_whole(
     ensures err { OnErr result (rest.new.items ≡ rest.old.items) }
 {
     let left = take_frames(alloc, hello, &mut requests, bytes)?;
-    if left.fault.is_none() {
-        replace(rest, left.rest)?;
+    match left.fault {
+        None => {
+            replace(rest, left.rest)?;
+            Ok(Taken {
+                requests,
+                hello: left.hello,
+                fault: None,
+            })
+        }
+        Some(fault) => Ok(Taken {
+            requests,
+            hello: left.hello,
+            fault: Some(fault),
+        }),
     }
-    Ok(Taken {
-        requests,
-        hello: left.hello,
-        fault: left.fault,
-    })
 }
 
 // The first frame of the bytes held and the piece behind them: its request, and what is behind it in the piece. None
 // where it isn't whole; then all of the piece is held. No byte behind the frame is copied.
+#[tactic(auto, using(crate::proofs::HeldLaws::all_front, crate::proofs::HeldLaws::still_front, crate::proofs::HeldLaws::moved, crate::proofs::HeldLaws::completed, crate::proofs::HeldLaws::refused))]
 fn complete<'a>(
     alloc: Global,
     hello: Option<Version>,
@@ -72,7 +80,7 @@ fn complete<'a>(
     piece: &'a [u8],
 ) -> Result<Option<(Request, &'a [u8])>, ReadFault>
     requires begun { IsBeginning hello rest.old.items }
-    ensures grown { (more : List ℕ) × (rest.new.items ≡ rest.old.items ++ more) }
+    ensures grown { take (length rest.old.items) rest.new.items ≡ rest.old.items }
     ensures frame { IfOk result (λ next. IfSome next (λ r. IsRequest hello r.0
         × (rest.old.items ++ piece.now ≡ frame_of r.0 ++ r.1.now))) }
     ensures begun { IfOk result (λ next. IfNone next ((rest.new.items ≡ rest.old.items ++ piece.now)
@@ -96,6 +104,7 @@ fn complete<'a>(
 }
 
 // Reads on where the beginning of a frame is held.
+#[tactic(auto, using(crate::proofs::HeldLaws::frames_first, crate::proofs::HeldLaws::frames_begun, crate::proofs::HeldLaws::frames_failed))]
 fn read_held(
     alloc: Global,
     hello: Option<Version>,
@@ -105,7 +114,7 @@ fn read_held(
     requires begun { IsBeginning hello rest.old.items }
     ensures ok { IfOk result (λ t. Frames hello (rest.old.items ++ piece.now) t.requests.items
         (held_of t.hello rest.new.items t.fault)) }
-    ensures err { OnErr result ((more : List ℕ) × (rest.new.items ≡ rest.old.items ++ more)) }
+    ensures err { OnErr result (take (length rest.old.items) rest.new.items ≡ rest.old.items) }
 {
     let mut requests = Vec::new(alloc);
     match complete(alloc, hello, rest, piece) {
@@ -144,11 +153,13 @@ fn read_on(
         return take_whole(alloc, hello, Vec::new(alloc), rest, piece);
     }
     let kept = rest.len();
-    let taken = read_held(alloc, hello, rest, piece);
-    if taken.is_err() {
-        rest.truncate(kept);
+    match read_held(alloc, hello, rest, piece) {
+        Ok(taken) => Ok(taken),
+        Err(NoMemory) => {
+            rest.truncate(kept);
+            Err(NoMemory)
+        }
     }
-    taken
 }
 
 /// A stream's bytes so far, as requests and what is left of them.
@@ -181,6 +192,7 @@ impl Feeder {
     }
 
     /// The requests that are whole with this piece, up to a fault, if any. A piece that is refused was not taken.
+    #[tactic(auto, using(crate::proofs::HeldLaws::sound_after))]
     pub fn feed(&mut self, alloc: Global, piece: &[u8]) -> Result<Fed, NoMemory>
         ensures requests { IfOk result (λ fed. Feeds self.old piece.now fed.requests.items self.new) }
         ensures fault { IfOk result (λ fed. fed.fault ≡ fault_of self.new) }

@@ -1,5 +1,5 @@
 //! Whole frames at the front of bytes.
-ghost use Rattle.std.specs.Prelude.{◌≡◌, ◌++◌, ◌<◌, ◌≤◌, List, length, IfOk, IfErr, IfSome, IfNone};
+ghost use Rattle.std.specs.Prelude.{◌≡◌, ◌++◌, ◌<◌, ◌≤◌, ◌^◌, List, length, IfOk, IfErr, IfSome, IfNone};
 ghost use Rattle.client_protocol.specs.declared.request.Request.{Request as TheRequest};
 ghost use Rattle.client_protocol.specs.Bodies.{limits_after, hello_after};
 ghost use Rattle.client_protocol.specs.Frames.{length_bytes, frame_of, IsRequest, IsBeginning, IsFaulty, Frames, held_of};
@@ -16,6 +16,7 @@ const LENGTH_BYTES: usize = 4;
 
 fn length_at(bytes: &[u8]) -> Option<(u32, &[u8])>
     ensures some { IfSome result (λ r. bytes.now ≡ length_bytes r.0 ++ r.1.now) }
+    ensures fits { IfSome result (λ r. r.0 < 2 ^ 32) }
     ensures none { IfNone result (length bytes.now < 4) }
 {
     match bytes {
@@ -25,6 +26,7 @@ fn length_at(bytes: &[u8]) -> Option<(u32, &[u8])>
 }
 
 /// How many bytes the frame lacks that begins here: those of its length, or else those of its body.
+#[tactic(auto, using(crate::proofs::HeldLaws::begun_short))]
 pub fn lacking(hello: Option<Version>, bytes: &[u8]) -> usize
     requires begun { IsBeginning hello bytes.now }
     ensures { Lacks hello bytes.now result }

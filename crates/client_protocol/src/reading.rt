@@ -1,7 +1,7 @@
 //! A request from the body of a frame.
-ghost use Rattle.std.specs.Prelude.{◌≡◌, ◌≢◌, ◌≤◌, ◌<◌, [], ◌∷◌, length, IfOk, IfErr, IfSome, IfNone};
+ghost use Rattle.std.specs.Prelude.{◌≡◌, ◌≢◌, ◌≤◌, ◌<◌, [], ◌∷◌, length, IfOk, IfErr, IfSome, IfNone, IsTrue, IsFalse};
 ghost use Rattle.client_protocol.specs.declared.reading.ReadFault.{ReadFault as TheReadFault};
-ghost use Rattle.client_protocol.specs.Bodies.{is_hello, body_of, sizes_fields, BodyHas, limits_after};
+ghost use Rattle.client_protocol.specs.Bodies.{is_hello, is_none, MayCome, body_of, sizes_fields, BodyHas, limits_after};
 ghost use Rattle.client_protocol.specs.Reading.{Spells, TakesSizes, NoSizes, ReadsBody, IfFault};
 
 use crate::fault::ProtocolFault;
@@ -247,6 +247,17 @@ fn is_hello(request: &Request) -> bool
     matches!(request, Request::Hello { .. })
 }
 
+// Whether it is the request's turn.
+fn may_come(hello: Option<Version>, request: &Request) -> bool
+    ensures yes { IsTrue result → MayCome hello request.now }
+    ensures no { IsFalse result → is_hello request.now ≢ is_none hello }
+{
+    match hello {
+        None => is_hello(request),
+        Some(_) => !is_hello(request),
+    }
+}
+
 /// The request of a body, or the body's fault. A body has at least one byte.
 #[tactic(auto, using(crate::proofs::BodyLaws::misplaced))]
 pub fn request_in(alloc: Global, hello: Option<Version>, body: &[u8]) -> Result<Request, ReadFault>
@@ -254,7 +265,7 @@ pub fn request_in(alloc: Global, hello: Option<Version>, body: &[u8]) -> Result<
     ensures { ReadsBody hello body.now result }
 {
     let request = request_of(alloc, hello, body)?;
-    if is_hello(&request) != hello.is_none() {
+    if !may_come(hello, &request) {
         return Err(ReadFault::Fault(ProtocolFault::WrongVersion));
     }
     Ok(request)
