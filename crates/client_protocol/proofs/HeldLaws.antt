@@ -7,7 +7,9 @@ use Rattle.client_protocol.specs.declared.fault.ProtocolFault.{ProtocolFault}
 use Rattle.client_protocol.specs.Bodies.{body_of, body_bytes, hello_after}
 use Rattle.client_protocol.specs.Frames.{length_bytes, framed, frame_of, frames_of, IsLength, IsRequest, IsBeginning, IsFaulty, Held, Frames, IsSound}
 use Rattle.client_protocol.specs.Frames.Held.{open_at, failed}
-use Rattle.client_protocol.specs.Reading.{Lacks}
+use Rattle.client_protocol.specs.declared.reading.ReadFault.{ReadFault}
+use Rattle.client_protocol.specs.declared.reading.ReadFault.TheVariants.{NoMemory, Fault}
+use Rattle.client_protocol.specs.Reading.{Lacks, IfFault}
 use Rattle.client_protocol.proofs.FrameLaws.{faulty_more}
 use Rattle.client_protocol.proofs.Unique.{same_length, allowed_small}
 
@@ -80,9 +82,13 @@ completed hello all rest piece n r behind lacks e is spelled =
     moved all rest piece n e ∙ ap (λ (t : List ℕ). t ++ drop n piece) (spelled ∙ ap (λ (t : List ℕ). frame_of r ++ t) none ∙ append-nil (frame_of r))
 
 -- it is refused with what it lacked
-pub refused : (hello : Option Version) (all rest piece : List ℕ) (n : ℕ) (fault : ProtocolFault) → all ≡ rest ++ piece → IsFaulty hello (rest ++ take n piece) fault → IsFaulty hello all fault
+refused : (hello : Option Version) (all rest piece : List ℕ) (n : ℕ) (fault : ProtocolFault) → all ≡ rest ++ piece → IsFaulty hello (rest ++ take n piece) fault → IsFaulty hello all fault
 refused hello all rest piece n fault e bad =
     subst (λ (t : List ℕ). IsFaulty hello t fault) (sym (moved all rest piece n e)) (faulty_more hello (rest ++ take n piece) (drop n piece) fault bad)
+
+pub refused_if : (hello : Option Version) (all rest piece : List ℕ) (n : ℕ) (fault : ReadFault) → all ≡ rest ++ piece → IfFault fault (IsFaulty hello (rest ++ take n piece)) → IfFault fault (IsFaulty hello all)
+refused_if hello all rest piece n NoMemory e bad = tt
+refused_if hello all rest piece n (Fault fault) e bad = refused hello all rest piece n fault e bad
 
 -- one request, and then the others
 pub frames_first : (hello : Option Version) (bytes behind : List ℕ) (r : Request) (rs : List Request) (held : Held) → IsRequest hello r → bytes ≡ frame_of r ++ behind → Frames (hello_after hello r) behind rs held → Frames hello bytes (r ∷ rs) held

@@ -72,7 +72,7 @@ fn take_whole(
 
 // The first frame of the bytes held and the piece behind them: its request, and what is behind it in the piece. None
 // where it isn't whole; then all of the piece is held. No byte behind the frame is copied.
-#[tactic(auto, using(crate::proofs::HeldLaws::all_front, crate::proofs::HeldLaws::still_front, crate::proofs::HeldLaws::moved, crate::proofs::HeldLaws::completed, crate::proofs::HeldLaws::refused))]
+#[tactic(auto, using(crate::proofs::HeldLaws::all_front, crate::proofs::HeldLaws::still_front, crate::proofs::HeldLaws::moved, crate::proofs::HeldLaws::completed, crate::proofs::HeldLaws::refused_if))]
 fn complete<'a>(
     alloc: Global,
     hello: Option<Version>,
@@ -97,8 +97,10 @@ fn complete<'a>(
         let (front, back) = piece.split_at(lacks);
         rest.extend_from_slice(front)?;
         piece = back;
-        if let Some((request, _)) = next(alloc, hello, rest.as_slice())? {
-            return Ok(Some((request, piece)));
+        match next(alloc, hello, rest.as_slice()) {
+            Ok(Some((request, _))) => return Ok(Some((request, piece))),
+            Ok(None) => {}
+            Err(fault) => return Err(fault),
         }
     }
 }
