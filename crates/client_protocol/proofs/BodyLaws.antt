@@ -56,6 +56,7 @@ version_misplaced hello rest n not spells =
 
 -- four sizes and a program are a Register
 pub register_found : (limits : Limits) (rest : List ℕ) (sizes : Sizes) (program tail : List ℕ) → TakesSizes limits rest sizes tail → program ≡ tail → Spells limits (1 ∷ rest) (body_of (Register sizes program))
-register_found limits rest sizes program tail takes is =
-    (record { kinds = a_short ∷ a_short ∷ a_short ∷ a_short ∷ []; known = refl; fields = takes.0; tail = inl refl },
-     ap (λ (t : List ℕ). 1 ∷ t) (takes.1 ∙ ap (λ (t : List ℕ). fields_bytes (sizes_fields sizes) ++ t) (sym is)))
+register_found limits rest sizes program tail takes is = (
+  record { kinds = a_short ∷ a_short ∷ a_short ∷ a_short ∷ []; known = refl; fields = takes.0; tail = inl refl },
+  ap (λ (t : List ℕ). 1 ∷ t) (takes.1 ∙ ap (λ (t : List ℕ). fields_bytes (sizes_fields sizes) ++ t) (sym is)),
+)

@@ -28,9 +28,9 @@ le_or (suc m) (suc n) = elim (le_or m n) [ inl h ↦ inl (omega (arith, h)) | in
 
 eq_or : (m n : ℕ) → (m ≡ n) ⊎ (m ≢ n)
 eq_or m n = elim (le_or m n) [
-      | inr more ↦ inr (λ e. absurd (omega (arith, more, e)))
-      | inl at_most ↦ elim (le_or n m) [ inl at_least ↦ inl (omega (arith, at_most, at_least)) | inr less ↦ inr (λ e. absurd (omega (arith, less, e))) ]
-    ]
+  | inr more ↦ inr (λ e. absurd (omega (arith, more, e)))
+  | inl at_most ↦ elim (le_or n m) [ inl at_least ↦ inl (omega (arith, at_most, at_least)) | inr less ↦ inr (λ e. absurd (omega (arith, less, e))) ]
+]
 
 bool_or : (a b : Bool) → (a ≡ b) ⊎ (a ≢ b)
 bool_or true true = inl refl
@@ -52,9 +52,9 @@ list_or or [] [] = inl refl
 list_or or [] (y ∷ ys) = inr (λ e. absurd cc)
 list_or or (x ∷ xs) [] = inr (λ e. absurd cc)
 list_or or (x ∷ xs) (y ∷ ys) = elim (or x y) [
-      | inr not ↦ inr (λ e. not (same_first x y xs ys e))
-      | inl head ↦ elim (list_or or xs ys) [ inr not ↦ inr (λ e. not (same_later x y xs ys e)) | inl rest ↦ inl (both_same x y xs ys head rest) ]
-    ]
+  | inr not ↦ inr (λ e. not (same_first x y xs ys e))
+  | inl head ↦ elim (list_or or xs ys) [ inr not ↦ inr (λ e. not (same_later x y xs ys e)) | inl rest ↦ inl (both_same x y xs ys head rest) ]
+]
 
 -- fields as lists of numbers
 abbrev first_of : List ℕ → ℕ
@@ -97,9 +97,9 @@ field_again (opt None) = refl
 
 field_or : (f g : Field) → (f ≡ g) ⊎ (f ≢ g)
 field_or f g = elim (list_or eq_or (code f) (code g)) [
-      | inl e ↦ inl (sym (field_again f) ∙ ap field_from e ∙ field_again g)
-      | inr not ↦ inr (λ e. not (ap code e))
-    ]
+  | inl e ↦ inl (sym (field_again f) ∙ ap field_from e ∙ field_again g)
+  | inr not ↦ inr (λ e. not (ap code e))
+]
 
 made : ℕ → List Field → List ℕ → Body
 made tag fields tail = record { tag = tag; fields = fields; tail = tail }
@@ -107,15 +107,15 @@ made tag fields tail = record { tag = tag; fields = fields; tail = tail }
 body_or : (v w : Body) → (v ≡ w) ⊎ (v ≢ w)
 unfolding made
 body_or v w = elim (eq_or v.tag w.tag) [
-      | inr not ↦ inr (λ e. not (ap (λ (b : Body). b.tag) e))
-      | inl t ↦ elim (list_or field_or v.fields w.fields) [
-        | inr not ↦ inr (λ e. not (ap (λ (b : Body). b.fields) e))
-        | inl f ↦ elim (list_or eq_or v.tail w.tail) [
-          | inr not ↦ inr (λ e. not (ap (λ (b : Body). b.tail) e))
-          | inl r ↦ inl (ap (λ (n : ℕ). made n v.fields v.tail) t ∙ ap (λ (x : List Field). made w.tag x v.tail) f ∙ ap (λ (x : List ℕ). made w.tag w.fields x) r)
-        ]
-      ]
+  | inr not ↦ inr (λ e. not (ap (λ (b : Body). b.tag) e))
+  | inl t ↦ elim (list_or field_or v.fields w.fields) [
+    | inr not ↦ inr (λ e. not (ap (λ (b : Body). b.fields) e))
+    | inl f ↦ elim (list_or eq_or v.tail w.tail) [
+      | inr not ↦ inr (λ e. not (ap (λ (b : Body). b.tail) e))
+      | inl r ↦ inl (ap (λ (n : ℕ). made n v.fields v.tail) t ∙ ap (λ (x : List Field). made w.tag x v.tail) f ∙ ap (λ (x : List ℕ). made w.tag w.fields x) r)
     ]
+  ]
+]
 
 -- ---- bytes
 
@@ -190,43 +190,52 @@ Reads limits kind bytes = Found limits kind bytes ⊎ NoField limits kind bytes
 read_key : (limits : Limits) (bytes : List ℕ) → AreBytes bytes → Reads limits a_key bytes
 read_key limits [] p = inr (no_key-empty limits [] refl)
 read_key limits (n ∷ bytes) p = elim (le_or n (length bytes)) [
-      | inr few ↦ inr (no_key limits (n ∷ bytes) n bytes refl (λ fits. few))
-      | inl enough ↦ elim (le_or n 64) [
-        | inr big ↦ inr (no_key limits (n ∷ bytes) n bytes refl (λ fits. absurd (omega (arith, big, fits))))
-        | inl small ↦
-          let len : length (take n bytes) ≡ n = length-take-le n bytes enough in
-          inl (key (take n bytes), drop n bytes,
-            (omega (arith, len, small), ap (λ (k : ℕ). k ∷ bytes) (sym len) ∙ ap (λ (t : List ℕ). length (take n bytes) ∷ t) (sym (take-append-drop n bytes))),
-            bytes_drop n bytes p.1)
-      ]
-    ]
+  | inr few ↦ inr (no_key limits (n ∷ bytes) n bytes refl (λ fits. few))
+  | inl enough ↦ elim (le_or n 64) [
+    | inr big ↦ inr (no_key limits (n ∷ bytes) n bytes refl (λ fits. absurd (omega (arith, big, fits))))
+    | inl small ↦
+        let len : length (take n bytes) ≡ n = length-take-le n bytes enough in
+        inl (
+          key (take n bytes),
+          drop n bytes,
+          (omega (arith, len, small), ap (λ (k : ℕ). k ∷ bytes) (sym len) ∙ ap (λ (t : List ℕ). length (take n bytes) ∷ t) (sym (take-append-drop n bytes))),
+          bytes_drop n bytes p.1,
+        )
+  ]
+]
 
 read_value : (hello : Option Version) (bytes : List ℕ) → Short bytes ⊎ (length bytes < 2) → Reads (limits_after hello) a_value bytes
 read_value hello bytes (inr few) = inr (no_value-short (limits_after hello) bytes (no_short (limits_after hello) bytes few))
 read_value hello bytes (inl (n, rest, fits, spelled, q)) = elim (le_or n (length rest)) [
-      | inr few ↦ inr (no_value (limits_after hello) bytes n rest (fits, spelled) (λ _. few))
-      | inl enough ↦ elim (le_or n (limits_after hello).value) [
-        | inr big ↦ inr (no_value (limits_after hello) bytes n rest (fits, spelled) (λ small. absurd (omega (arith, big, small))))
-        | inl small ↦ inl (value (take n rest), drop n rest,
-            value_found hello bytes n rest (take n rest) (drop n rest) (fits, spelled) (sym (take-append-drop n rest), length-take-le n rest enough, small),
-            bytes_drop n rest q)
-      ]
-    ]
+  | inr few ↦ inr (no_value (limits_after hello) bytes n rest (fits, spelled) (λ _. few))
+  | inl enough ↦ elim (le_or n (limits_after hello).value) [
+    | inr big ↦ inr (no_value (limits_after hello) bytes n rest (fits, spelled) (λ small. absurd (omega (arith, big, small))))
+    | inl small ↦ inl (
+      value (take n rest),
+      drop n rest,
+      value_found hello bytes n rest (take n rest) (drop n rest) (fits, spelled) (sym (take-append-drop n rest), length-take-le n rest enough, small),
+      bytes_drop n rest q,
+    )
+  ]
+]
 
 read_opt : (hello : Option Version) (bytes : List ℕ) → Short bytes ⊎ (length bytes < 2) → Reads (limits_after hello) an_opt bytes
 read_opt hello bytes (inr few) = inr (no_opt-short (limits_after hello) bytes (no_short (limits_after hello) bytes few))
 read_opt hello bytes (inl (n, rest, fits, spelled, q)) = elim (eq_or n 65535) [
-      | inl absent ↦ inl (opt None, rest, (tt, spelled ∙ ap (λ (k : ℕ). to_be_bytes w16 k ++ rest) absent), q)
-      | inr present ↦ elim (le_or n (length rest)) [
-        | inr few ↦ inr (no_opt (limits_after hello) bytes n rest (fits, spelled) present (λ _. few))
-        | inl enough ↦ elim (le_or n (limits_after hello).value) [
-          | inr big ↦ inr (no_opt (limits_after hello) bytes n rest (fits, spelled) present (λ small. absurd (omega (arith, big, small))))
-          | inl small ↦ inl (opt (Some (take n rest)), drop n rest,
-              value_found hello bytes n rest (take n rest) (drop n rest) (fits, spelled) (sym (take-append-drop n rest), length-take-le n rest enough, small),
-              bytes_drop n rest q)
-        ]
-      ]
+  | inl absent ↦ inl (opt None, rest, (tt, spelled ∙ ap (λ (k : ℕ). to_be_bytes w16 k ++ rest) absent), q)
+  | inr present ↦ elim (le_or n (length rest)) [
+    | inr few ↦ inr (no_opt (limits_after hello) bytes n rest (fits, spelled) present (λ _. few))
+    | inl enough ↦ elim (le_or n (limits_after hello).value) [
+      | inr big ↦ inr (no_opt (limits_after hello) bytes n rest (fits, spelled) present (λ small. absurd (omega (arith, big, small))))
+      | inl small ↦ inl (
+        opt (Some (take n rest)),
+        drop n rest,
+        value_found hello bytes n rest (take n rest) (drop n rest) (fits, spelled) (sym (take-append-drop n rest), length-take-le n rest enough, small),
+        bytes_drop n rest q,
+      )
     ]
+  ]
+]
 
 of_short : (limits : Limits) (bytes : List ℕ) → Short bytes ⊎ (length bytes < 2) → Reads limits a_short bytes
 of_short limits bytes (inr few) = inr (no_short limits bytes few)
@@ -254,9 +263,9 @@ ReadsAll limits kinds bytes = ((fields : List Field) × (tail : List ℕ) × Tak
 first_read : (hello : Option Version) (kind : Kind) (kinds : List Kind) (bytes : List ℕ) → ((rest : List ℕ) → AreBytes rest → ReadsAll (limits_after hello) kinds rest) → Reads (limits_after hello) kind bytes → ReadsAll (limits_after hello) (kind ∷ kinds) bytes
 first_read hello kind kinds bytes others (inr none) = inr (none_first (limits_after hello) kind kinds bytes none)
 first_read hello kind kinds bytes others (inl (field, rest, takes, q)) = elim (others rest q) [
-      | inr none ↦ inr (none_later (limits_after hello) kind kinds bytes field rest takes none)
-      | inl found ↦ inl (field ∷ found.0, found.1, takes_more (limits_after hello) kind kinds bytes field rest found.0 found.1 takes found.2)
-    ]
+  | inr none ↦ inr (none_later (limits_after hello) kind kinds bytes field rest takes none)
+  | inl found ↦ inl (field ∷ found.0, found.1, takes_more (limits_after hello) kind kinds bytes field rest found.0 found.1 takes found.2)
+]
 
 read_fields : (hello : Option Version) (kinds : List Kind) (bytes : List ℕ) → AreBytes bytes → ReadsAll (limits_after hello) kinds bytes
 read_fields hello [] bytes p = inl ([], bytes, (tt, refl))
@@ -269,18 +278,23 @@ ReadsBody hello bytes = ((request : Request) × IsBodyOf hello bytes request) �
 
 of_body : (hello : Option Version) (bytes : List ℕ) (b : Body) → IsBody (limits_after hello) b → bytes ≡ body_bytes b → ReadsBody hello bytes
 of_body hello bytes b is spelled = elim (body_or (body_of (request_of b)) b) [
-      | inr not ↦ inr (WrongVersion, record {
-          body = b; is = is; spelled = spelled;
-          misplaced = λ q comes same. not (ap (λ (x : Body). body_of (request_of x)) (sym same) ∙ ap body_of (request_again q) ∙ same);
-        })
-      | inl e ↦
-        let again = subst (λ (x : Body). IsBody (limits_after hello) x) (sym e) is in
-        let spells = spelled ∙ ap body_bytes (sym e) in
-        elim (bool_or (is_hello (request_of b)) (is_none hello)) [
-          | inl comes ↦ inl (request_of b, record { body = again; comes = comes; spelled = spells })
-          | inr not ↦ inr (WrongVersion, misplaced hello bytes (request_of b) (again, spells) not)
-        ]
-    ]
+  | inr not ↦ inr (
+    WrongVersion,
+    record {
+      body = b;
+      is = is;
+      spelled = spelled;
+      misplaced = λ q comes same. not (ap (λ (x : Body). body_of (request_of x)) (sym same) ∙ ap body_of (request_again q) ∙ same);
+    },
+  )
+  | inl e ↦
+      let again = subst (λ (x : Body). IsBody (limits_after hello) x) (sym e) is in
+      let spells = spelled ∙ ap body_bytes (sym e) in
+      elim (bool_or (is_hello (request_of b)) (is_none hello)) [
+        | inl comes ↦ inl (request_of b, record { body = again; comes = comes; spelled = spells })
+        | inr not ↦ inr (WrongVersion, misplaced hello bytes (request_of b) (again, spells) not)
+      ]
+]
 
 behind_fields : (hello : Option Version) (tag : ℕ) (kinds : List Kind) (bytes : List ℕ) (fields : List Field) (tail : List ℕ) (takes : Bool) → takes_tail tag ≡ takes → kinds_of tag ≡ Some kinds → TakesAll (limits_after hello) kinds bytes fields tail → ReadsBody hello (tag ∷ bytes)
 behind_fields hello tag kinds bytes fields tail true may known all =
@@ -293,9 +307,9 @@ behind_fields hello tag kinds bytes fields (b ∷ tail) false may known all =
 of_kinds : (hello : Option Version) (tag : ℕ) (bytes : List ℕ) → AreBytes bytes → (o : Option (List Kind)) → kinds_of tag ≡ o → ReadsBody hello (tag ∷ bytes)
 of_kinds hello tag bytes p None e = inr (UnknownRequest, record { tag = tag; rest = bytes; spelled = refl; unknown = e })
 of_kinds hello tag bytes p (Some kinds) e = elim (read_fields hello kinds bytes p) [
-      | inr none ↦ inr (BadField, bad_fields hello tag kinds bytes e none)
-      | inl found ↦ behind_fields hello tag kinds bytes found.0 found.1 (takes_tail tag) refl e found.2
-    ]
+  | inr none ↦ inr (BadField, bad_fields hello tag kinds bytes e none)
+  | inl found ↦ behind_fields hello tag kinds bytes found.0 found.1 (takes_tail tag) refl e found.2
+]
 
 read_body : (hello : Option Version) (bytes : List ℕ) → 1 ≤ length bytes → AreBytes bytes → ReadsBody hello bytes
 read_body hello [] some p = absurd (omega (arith, some))
@@ -321,22 +335,22 @@ of_frame hello bytes body behind allowed spelled others (inl (request, is)) =
 of_length : (hello : Option Version) (bytes : List ℕ) → ((behind : List ℕ) → length behind < length bytes → AreBytes behind → (h : Option Version) → Stream h behind) → Word bytes ⊎ (length bytes < 4) → Stream hello bytes
 of_length hello bytes others (inr few) = ([], open_at hello bytes, frames_begun hello bytes bytes refl (inl few))
 of_length hello bytes others (inl (n, rest, fits, spelled, q)) = elim (le_or 1 n) [
-      | inr less ↦ faulty hello bytes BadLength (inl (refl, record { n = n; more = rest; number = fits; bad = λ is. absurd (omega (arith, less, is.0)); spelled = spelled }))
-      | inl some ↦ elim (le_or n (limits_after hello).body) [
-        | inr big ↦ faulty hello bytes BadLength (inl (refl, record { n = n; more = rest; number = fits; bad = λ is. absurd (omega (arith, big, is.1)); spelled = spelled }))
-        | inl small ↦ elim (le_or n (length rest)) [
-          | inr few ↦ ([], open_at hello bytes, frames_begun hello bytes bytes refl (inr (record { n = n; part = rest; allowed = (some, small); spelled = spelled; short = few })))
-          | inl enough ↦
-            let len : length (take n rest) ≡ n = length-take-le n rest enough in
-            let whole = spelled ∙ ap (λ (t : List ℕ). length_bytes n ++ t) (sym (take-append-drop n rest)) ∙ sym (append_assoc (length_bytes n) (take n rest) (drop n rest)) in
-            let frame = whole ∙ ap (λ (k : ℕ). (length_bytes k ++ take n rest) ++ drop n rest) (sym len) in
-            let longer : length bytes ≡ 4 + length rest = ap length spelled ∙ omega arith in
-            of_frame hello bytes (take n rest) (drop n rest) (omega (arith, len, some), omega (arith, len, small)) frame
-            (others (drop n rest) (omega (arith, longer, length-drop n rest)) (bytes_drop n rest q))
-            (read_body hello (take n rest) (omega (arith, len, some)) (bytes_take n rest q))
-        ]
-      ]
+  | inr less ↦ faulty hello bytes BadLength (inl (refl, record { n = n; more = rest; number = fits; bad = λ is. absurd (omega (arith, less, is.0)); spelled = spelled }))
+  | inl some ↦ elim (le_or n (limits_after hello).body) [
+    | inr big ↦ faulty hello bytes BadLength (inl (refl, record { n = n; more = rest; number = fits; bad = λ is. absurd (omega (arith, big, is.1)); spelled = spelled }))
+    | inl small ↦ elim (le_or n (length rest)) [
+      | inr few ↦ ([], open_at hello bytes, frames_begun hello bytes bytes refl (inr (record { n = n; part = rest; allowed = (some, small); spelled = spelled; short = few })))
+      | inl enough ↦
+          let len : length (take n rest) ≡ n = length-take-le n rest enough in
+          let whole = spelled ∙ ap (λ (t : List ℕ). length_bytes n ++ t) (sym (take-append-drop n rest)) ∙ sym (append_assoc (length_bytes n) (take n rest) (drop n rest)) in
+          let frame = whole ∙ ap (λ (k : ℕ). (length_bytes k ++ take n rest) ++ drop n rest) (sym len) in
+          let longer : length bytes ≡ 4 + length rest = ap length spelled ∙ omega arith in
+          of_frame hello bytes (take n rest) (drop n rest) (omega (arith, len, some), omega (arith, len, small)) frame
+          (others (drop n rest) (omega (arith, longer, length-drop n rest)) (bytes_drop n rest q))
+          (read_body hello (take n rest) (omega (arith, len, some)) (bytes_take n rest q))
     ]
+  ]
+]
 
 stream : (k : ℕ) (hello : Option Version) (bytes : List ℕ) → length bytes < k → AreBytes bytes → Stream hello bytes
 stream zero hello bytes fits p = absurd (omega (arith, fits))

@@ -13,9 +13,10 @@ use Rattle.client_protocol.specs.Reading.{Takes, NoField, NoFields}
 
 -- fronts of one length
 pub same_split : (a b x y : List ℕ) → length a ≡ length b → a ++ x ≡ b ++ y → (a ≡ b) × (x ≡ y)
-same_split a b x y len e =
-    (sym (take_at a x (length a) refl) ∙ ap (take (length a)) e ∙ take_at b y (length a) (sym len),
-     sym (drop_at a x (length a) refl) ∙ ap (drop (length a)) e ∙ drop_at b y (length a) (sym len))
+same_split a b x y len e = (
+  sym (take_at a x (length a) refl) ∙ ap (take (length a)) e ∙ take_at b y (length a) (sym len),
+  sym (drop_at a x (length a) refl) ∙ ap (drop (length a)) e ∙ drop_at b y (length a) (sym len),
+)
 
 -- two numbers of 16 bits
 pub same_short : (m n : ℕ) (x y : List ℕ) → m < 65536 → n < 65536 → to_be_bytes w16 m ++ x ≡ to_be_bytes w16 n ++ y → (m ≡ n) × (x ≡ y)
@@ -177,6 +178,7 @@ no_opt limits bytes n rest takes present bad f tail (p, e) = p
 
 -- a value, found behind its length
 pub value_found : (hello : Option Version) (bytes : List ℕ) (n : ℕ) (rest v x : List ℕ) → Takes (limits_after hello) a_short bytes (short n) rest → (rest ≡ v ++ x) × (length v ≡ n) × (n ≤ (limits_after hello).value) → IsValue (limits_after hello) v × (bytes ≡ value_bytes v ++ x)
-value_found hello bytes n rest v x takes (is, len, limit) =
-    ((omega (arith, len, limit), omega (arith, len, limit, small_value hello)),
-     takes.1 ∙ rw (is, len) refl)
+value_found hello bytes n rest v x takes (is, len, limit) = (
+  (omega (arith, len, limit), omega (arith, len, limit, small_value hello)),
+  takes.1 ∙ rw (is, len) refl,
+)

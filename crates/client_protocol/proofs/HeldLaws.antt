@@ -24,8 +24,8 @@ lacks_length hello bytes less =
       some = omega (arith, less);
       fewer = λ more few. inl (omega (arith, less, few, length-append bytes more));
       no_more = λ more r behind few is e.
-        let len : length (bytes ++ more) ≡ length (frame_of r ++ behind) = ap length e in
-        absurd (omega (arith, less, few, len, length-append bytes more, length-append (frame_of r) behind));
+          let len : length (bytes ++ more) ≡ length (frame_of r ++ behind) = ap length e in
+          absurd (omega (arith, less, few, len, length-append bytes more, length-append (frame_of r) behind));
     }
 
 -- the bytes that a body lacks
@@ -41,10 +41,10 @@ lacks_body hello bytes n part allowed spelled short =
         short = omega (arith, short, few, length-append part more);
       });
       no_more = λ more r behind few is e.
-        let whole = sym (append_assoc (length_bytes n) part more) ∙ ap (λ (t : List ℕ). t ++ more) (sym spelled) ∙ e ∙ append_assoc (length_bytes (length (body_bytes (body_of r)))) (body_bytes (body_of r)) behind in
-        let (len, bytes-is) = same_length n (length (body_bytes (body_of r))) (part ++ more) ((body_bytes (body_of r)) ++ behind) (allowed_small hello n allowed) (allowed_small hello (length (body_bytes (body_of r))) is.allowed) whole in
-        let lengths : length (part ++ more) ≡ length ((body_bytes (body_of r)) ++ behind) = ap length bytes-is in
-        nil_of behind (omega (arith, short, few, len, lengths, length-append part more, length-append (body_bytes (body_of r)) behind));
+          let whole = sym (append_assoc (length_bytes n) part more) ∙ ap (λ (t : List ℕ). t ++ more) (sym spelled) ∙ e ∙ append_assoc (length_bytes (length (body_bytes (body_of r)))) (body_bytes (body_of r)) behind in
+          let (len, bytes-is) = same_length n (length (body_bytes (body_of r))) (part ++ more) ((body_bytes (body_of r)) ++ behind) (allowed_small hello n allowed) (allowed_small hello (length (body_bytes (body_of r))) is.allowed) whole in
+          let lengths : length (part ++ more) ≡ length ((body_bytes (body_of r)) ++ behind) = ap length bytes-is in
+          nil_of behind (omega (arith, short, few, len, lengths, length-append part more, length-append (body_bytes (body_of r)) behind));
     }
 
 -- what a frame lacks that has begun with this length

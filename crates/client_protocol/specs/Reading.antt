@@ -48,4 +48,4 @@ pub record Lacks (hello : Option Version) (bytes : List ℕ) (n : ℕ) : Type 0 
   pub some : 1 ≤ n
   pub fewer : (more : List ℕ) → length more < n → IsBeginning hello (bytes ++ more)
   pub no_more : (more : List ℕ) (request : Request) (behind : List ℕ) → length more ≤ n → IsRequest hello request
-    → bytes ++ more ≡ frame_of request ++ behind → behind ≡ []
+      → bytes ++ more ≡ frame_of request ++ behind → behind ≡ []

@@ -20,7 +20,8 @@ pub trait Field: Sized {
     /// The field that begins the bytes, and what is behind it; none where the bytes are too few, or the field is above
     /// its limit.
     fn read(hello: Option<Version>, bytes: &[u8]) -> Option<(Self, &[u8])>
-        ensures some { IfSome result (λ r. Takes (limits_after hello) kind bytes.now (field r.0) r.1.now) }
+        ensures some { IfSome result (λ r.
+            Takes (limits_after hello) kind bytes.now (field r.0) r.1.now) }
         ensures none { IfNone result (NoField (limits_after hello) kind bytes.now) };
 }
 
@@ -87,7 +88,8 @@ impl Field for Key {
 
 // The value of the first `len` bytes, and what is behind it.
 fn value_of(hello: Option<Version>, len: u16, bytes: &[u8]) -> Option<(Value, &[u8])>
-    ensures some { IfSome result (λ r. (bytes.now ≡ r.0 ++ r.1.now) × (length r.0 ≡ len) × (len ≤ (limits_after hello).value)) }
+    ensures some { IfSome result (λ r. (bytes.now ≡ r.0 ++ r.1.now) × (length r.0 ≡ len)
+        × (len ≤ (limits_after hello).value)) }
     ensures none { IfNone result (len ≤ (limits_after hello).value → length bytes.now < len) }
 {
     let len = usize::from(len);

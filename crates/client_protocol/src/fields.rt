@@ -21,10 +21,15 @@ pub fn no_field(hello: Option<Version>, tag: u8, bytes: &[u8]) -> Result<(), Pro
 }
 
 /// One field.
-pub fn one_field<A: Field + Drop>(hello: Option<Version>, tag: u8, bytes: &[u8]) -> Result<A, ProtocolFault>
+pub fn one_field<A: Field + Drop>(
+    hello: Option<Version>,
+    tag: u8,
+    bytes: &[u8],
+) -> Result<A, ProtocolFault>
     requires known { kinds_of tag ≡ Some (A.kind ∷ []) }
     requires no_tail { takes_tail tag ≡ false }
-    ensures ok { IfOk result (λ a. Spells (limits_after hello) (tag ∷ bytes.now) (whole tag (A.field a ∷ []))) }
+    ensures ok { IfOk result (λ a. Spells (limits_after hello) (tag ∷ bytes.now)
+        (whole tag (A.field a ∷ []))) }
     ensures err { IfErr result (BodyHas hello (tag ∷ bytes.now)) }
 {
     let Some((first, tail)) = A::read(hello, bytes) else {

@@ -47,8 +47,13 @@ pub fn hello_after(hello: Option<Version>, request: &Request) -> Option<Version>
 }
 
 /// The request of the frame that begins the bytes, and what is behind it; none where the frame has only begun.
-pub fn next(alloc: Global, hello: Option<Version>, bytes: &[u8]) -> Result<Option<(Request, &[u8])>, ReadFault>
-    ensures frame { IfOk result (λ next. IfSome next (λ r. IsRequest hello r.0 × (bytes.now ≡ frame_of r.0 ++ r.1.now))) }
+pub fn next(
+    alloc: Global,
+    hello: Option<Version>,
+    bytes: &[u8],
+) -> Result<Option<(Request, &[u8])>, ReadFault>
+    ensures frame { IfOk result (λ next. IfSome next (λ r. IsRequest hello r.0
+        × (bytes.now ≡ frame_of r.0 ++ r.1.now))) }
     ensures begun { IfOk result (λ next. IfNone next (IsBeginning hello bytes.now)) }
     ensures fault { IfErr result (λ e. IfFault e (IsFaulty hello bytes.now)) }
 {
@@ -83,7 +88,8 @@ pub fn take_frames<'a>(
     bytes: &'a [u8],
 ) -> Result<Left<'a>, NoMemory>
     ensures within { IfOk result (λ left. length left.rest.now ≤ length bytes.now) }
-    ensures ok { IfOk result (λ left. (new : List TheRequest) × ((requests.new.items ≡ requests.old.items ++ new)
+    ensures ok { IfOk result (λ left. (new : List TheRequest)
+        × ((requests.new.items ≡ requests.old.items ++ new)
         × Frames hello bytes.now new (held_of left.hello left.rest.now left.fault))) }
 {
     let mut hello = hello;

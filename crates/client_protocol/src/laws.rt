@@ -8,19 +8,16 @@ ghost use Rattle.client_protocol.specs.Frames.{AreBytes, Held, Frames, Feeds};
 pub fn some_reading()
     ensures { (hello : Option TheVersion) (bytes : List ℕ) → AreBytes bytes
         → (rs : List TheRequest) × (held : Held) × Frames hello bytes rs held }
-{
-}
+{}
 
 /// One list of requests and one rest, or one fault, belong to bytes.
 pub fn one_reading()
     ensures { (hello : Option TheVersion) (bytes : List ℕ) (rs ss : List TheRequest) (a b : Held)
         → Frames hello bytes rs a → Frames hello bytes ss b → (rs ≡ ss) × (a ≡ b) }
-{
-}
+{}
 
 /// Two pieces, fed one behind the other, are fed as one.
 pub fn pieces_go_on()
     ensures { (old mid new : Held) (first later : List ℕ) (rs ss : List TheRequest)
         → Feeds old first rs mid → Feeds mid later ss new → Feeds old (first ++ later) (rs ++ ss) new }
-{
-}
+{}

@@ -56,7 +56,8 @@ impl<T: Drop> From<AllocFailed<T>> for ReadFault {
 // A Hello, if it were its turn.
 fn hello_request(hello: Option<Version>, tag: u8, rest: &[u8]) -> Result<Request, ProtocolFault>
     requires { tag ≡ 0x00 }
-    ensures ok { IfOk result (λ request. Spells (limits_after hello) (tag ∷ rest.now) (body_of request)) }
+    ensures ok { IfOk result (λ request.
+        Spells (limits_after hello) (tag ∷ rest.now) (body_of request)) }
     ensures err { IfErr result (BodyHas hello (tag ∷ rest.now)) }
 {
     let number = one_field(hello, tag, rest)?;
@@ -66,11 +67,31 @@ fn hello_request(hello: Option<Version>, tag: u8, rest: &[u8]) -> Result<Request
     }
 }
 
+// A ReplaceIf.
+fn replace_if_request(
+    hello: Option<Version>,
+    tag: u8,
+    rest: &[u8],
+) -> Result<Request, ProtocolFault>
+    requires { tag ≡ 0x16 }
+    ensures ok { IfOk result (λ request.
+        Spells (limits_after hello) (tag ∷ rest.now) (body_of request)) }
+    ensures err { IfErr result (BodyHas hello (tag ∷ rest.now)) }
+{
+    let (key, expected, value) = three_fields(hello, tag, rest)?;
+    Ok(Request::ReplaceIf {
+        key,
+        expected,
+        value,
+    })
+}
+
 // The request with a tag below 0x17, if it were its turn: a Hello, or a call without a program.
 fn early_request(hello: Option<Version>, tag: u8, rest: &[u8]) -> Result<Request, ProtocolFault>
     requires below { tag < 0x17 }
     requires no_program { tag ≢ 0x01 }
-    ensures ok { IfOk result (λ request. Spells (limits_after hello) (tag ∷ rest.now) (body_of request)) }
+    ensures ok { IfOk result (λ request.
+        Spells (limits_after hello) (tag ∷ rest.now) (body_of request)) }
     ensures err { IfErr result (BodyHas hello (tag ∷ rest.now)) }
 {
     Ok(match tag {
@@ -99,14 +120,7 @@ fn early_request(hello: Option<Version>, tag: u8, rest: &[u8]) -> Result<Request
             let (key, value) = two_fields(hello, tag, rest)?;
             Request::Replace { key, value }
         }
-        0x16 => {
-            let (key, expected, value) = three_fields(hello, tag, rest)?;
-            Request::ReplaceIf {
-                key,
-                expected,
-                value,
-            }
-        }
+        0x16 => replace_if_request(hello, tag, rest)?,
         _ => return Err(ProtocolFault::UnknownRequest),
     })
 }
@@ -114,7 +128,8 @@ fn early_request(hello: Option<Version>, tag: u8, rest: &[u8]) -> Result<Request
 // The request with a tag from 0x17 to 0x1F: a call with a program.
 fn program_request(hello: Option<Version>, tag: u8, rest: &[u8]) -> Result<Request, ProtocolFault>
     requires range { (0x17 ≤ tag) × (tag < 0x20) }
-    ensures ok { IfOk result (λ request. Spells (limits_after hello) (tag ∷ rest.now) (body_of request)) }
+    ensures ok { IfOk result (λ request.
+        Spells (limits_after hello) (tag ∷ rest.now) (body_of request)) }
     ensures err { IfErr result (BodyHas hello (tag ∷ rest.now)) }
 {
     Ok(match tag {
@@ -145,7 +160,8 @@ fn program_request(hello: Option<Version>, tag: u8, rest: &[u8]) -> Result<Reque
 // The request with a tag from 0x20 on: a walk.
 fn walk_request(hello: Option<Version>, tag: u8, rest: &[u8]) -> Result<Request, ProtocolFault>
     requires above { 0x20 ≤ tag }
-    ensures ok { IfOk result (λ request. Spells (limits_after hello) (tag ∷ rest.now) (body_of request)) }
+    ensures ok { IfOk result (λ request.
+        Spells (limits_after hello) (tag ∷ rest.now) (body_of request)) }
     ensures err { IfErr result (BodyHas hello (tag ∷ rest.now)) }
 {
     Ok(match tag {
@@ -204,8 +220,13 @@ fn sizes_at(hello: Option<Version>, bytes: &[u8]) -> Option<(Sizes, &[u8])>
 }
 
 // A Register. Asks for memory for a copy of the program.
-fn register_request(alloc: Global, hello: Option<Version>, rest: &[u8]) -> Result<Request, ReadFault>
-    ensures ok { IfOk result (λ request. Spells (limits_after hello) (0x01 ∷ rest.now) (body_of request)) }
+fn register_request(
+    alloc: Global,
+    hello: Option<Version>,
+    rest: &[u8],
+) -> Result<Request, ReadFault>
+    ensures ok { IfOk result (λ request.
+        Spells (limits_after hello) (0x01 ∷ rest.now) (body_of request)) }
     ensures err { IfErr result (λ e. IfFault e (BodyHas hello (0x01 ∷ rest.now))) }
 {
     let Some((sizes, program)) = sizes_at(hello, rest) else {

@@ -10,6 +10,7 @@ use bpf_model::{Key, Value, Window};
 
 /// The bytes of the longest frame of a response, an `Item`.
 pub const FRAME_BYTES: usize = 328;
+
 const BODY_BYTES: usize = 324;
 
 /// A response, one frame. A walk has several: its items in order, and then one `End`.

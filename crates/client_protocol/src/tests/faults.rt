@@ -1,11 +1,14 @@
 //! Each fault of a frame and of each field of each request, and which of two is told.
 use super::{HELLO, joined, read};
-use crate::ProtocolFault::{self, BadField, BadLength, TrailingBytes, UnknownRequest, WrongVersion};
+use crate::ProtocolFault::{
+    self, BadField, BadLength, TrailingBytes, UnknownRequest, WrongVersion,
+};
 use std::alloc::Global;
 use std::process::Abort;
 use std::test::*;
 
 const KEY: &[u8] = &[0x6B; 65];
+
 const VALUE: &[u8] = &[0x76; 257];
 
 /// Name, the frame in parts, and its fault.
@@ -105,8 +108,16 @@ fn keys_that_are_refused(rt: HostRuntime) -> Result<(), Fail> {
     let rows: [Row; 8] = [
         ("Get without a key", &[b"\0\0\0\x01\x10"], BadField),
         ("Get with a key cut", &[b"\0\0\0\x03\x10\x02k"], BadField),
-        ("Get with a key of 65", &[b"\0\0\0\x43\x10\x41", KEY], BadField),
-        ("Get with a byte more", &[b"\0\0\0\x04\x10\x01kk"], TrailingBytes),
+        (
+            "Get with a key of 65",
+            &[b"\0\0\0\x43\x10\x41", KEY],
+            BadField,
+        ),
+        (
+            "Get with a byte more",
+            &[b"\0\0\0\x04\x10\x01kk"],
+            TrailingBytes,
+        ),
         ("Remove with a key cut", &[b"\0\0\0\x03\x13\x02k"], BadField),
         (
             "Remove with a byte more",
@@ -131,9 +142,21 @@ fn keys_that_are_refused(rt: HostRuntime) -> Result<(), Fail> {
 fn values_that_are_refused(rt: HostRuntime) -> Result<(), Fail> {
     let rows: [Row; 12] = [
         ("Put without a value", &[b"\0\0\0\x03\x11\x01k"], BadField),
-        ("Put with half a length", &[b"\0\0\0\x04\x11\x01k\0"], BadField),
-        ("Put with a value cut", &[b"\0\0\0\x06\x11\x01k\0\x02v"], BadField),
-        ("Put with no value", &[b"\0\0\0\x05\x11\x01k\xFF\xFF"], BadField),
+        (
+            "Put with half a length",
+            &[b"\0\0\0\x04\x11\x01k\0"],
+            BadField,
+        ),
+        (
+            "Put with a value cut",
+            &[b"\0\0\0\x06\x11\x01k\0\x02v"],
+            BadField,
+        ),
+        (
+            "Put with no value",
+            &[b"\0\0\0\x05\x11\x01k\xFF\xFF"],
+            BadField,
+        ),
         (
             "Put of 257 bytes",
             &[b"\0\0\x01\x06\x11\x01k\x01\x01", VALUE],

@@ -8,8 +8,11 @@ use std::process::Abort;
 use std::test::*;
 
 const KEY: &[u8] = &[0x6B; 64];
+
 const VALUE: &[u8] = &[0x76; 256];
+
 const OTHER: &[u8] = &[0x77; 256];
+
 const EIGHT: &[u8] = &[0xFF; 8];
 
 /// Name, the frame in parts, and what it asks.
@@ -81,10 +84,7 @@ fn a_register_has_sizes_and_a_program(rt: HostRuntime) -> Result<(), Fail> {
         ),
         (
             "Register of 8,192 bytes",
-            &[
-                b"\0\0\x20\0\x01\xFF\xFF\x01\x02\x03\x04\x05\x06",
-                units,
-            ],
+            &[b"\0\0\x20\0\x01\xFF\xFF\x01\x02\x03\x04\x05\x06", units],
             Request::Register {
                 sizes: most,
                 program: program(alloc, units)?,
@@ -100,30 +100,22 @@ fn calls_on_a_key_alone(rt: HostRuntime) -> Result<(), Fail> {
         (
             "shortest Get",
             &[b"\0\0\0\x02\x10\0"],
-            Request::Get {
-                key: key(&rt, b""),
-            },
+            Request::Get { key: key(&rt, b"") },
         ),
         (
             "longest Get",
             &[b"\0\0\0\x42\x10\x40", KEY],
-            Request::Get {
-                key: key(&rt, KEY),
-            },
+            Request::Get { key: key(&rt, KEY) },
         ),
         (
             "shortest Remove",
             &[b"\0\0\0\x02\x13\0"],
-            Request::Remove {
-                key: key(&rt, b""),
-            },
+            Request::Remove { key: key(&rt, b"") },
         ),
         (
             "longest Remove",
             &[b"\0\0\0\x42\x13\x40", KEY],
-            Request::Remove {
-                key: key(&rt, KEY),
-            },
+            Request::Remove { key: key(&rt, KEY) },
         ),
     ];
     check(&rt, rt.alloc(), &rows)

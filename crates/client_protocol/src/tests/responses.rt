@@ -7,7 +7,9 @@ use std::process::Abort;
 use std::test::*;
 
 const KEY: &[u8] = &[0x6B; 64];
+
 const VALUE: &[u8] = &[0x76; 256];
+
 const ALL_ONES: &[u8] = &[0xFF; 24];
 
 /// Name, response, and its frame in parts.
@@ -50,8 +52,16 @@ fn answers_to_calls(rt: HostRuntime) -> Result<(), Fail> {
             },
             &[b"\0\0\x01\x03\x82\x01\0", VALUE],
         ),
-        ("not done", Response::Done { done: false }, &[b"\0\0\0\x02\x83\0"]),
-        ("done", Response::Done { done: true }, &[b"\0\0\0\x02\x83\x01"]),
+        (
+            "not done",
+            Response::Done { done: false },
+            &[b"\0\0\0\x02\x83\0"],
+        ),
+        (
+            "done",
+            Response::Done { done: true },
+            &[b"\0\0\0\x02\x83\x01"],
+        ),
         (
             "key too long",
             Response::Unfit {

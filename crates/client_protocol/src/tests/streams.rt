@@ -5,7 +5,9 @@ use std::alloc::Global;
 use std::test::*;
 
 const PUT: &[u8] = b"\0\0\0\x07\x11\x01a\0\x02xy";
+
 const GET: &[u8] = b"\0\0\0\x03\x10\x01a";
+
 const UNKNOWN: &[u8] = b"\0\0\0\x01\x7F";
 
 // Hello, Put and Get, in pieces of this size
@@ -33,7 +35,10 @@ fn cuts_make_no_difference(rt: HostRuntime) -> Result<(), Fail> {
             }
             _ => false,
         };
-        assert!(rt; is_wanted && reading.fault.is_none() && !reading.is_inside, "at {size}");
+        assert!(rt;
+            is_wanted && reading.fault.is_none() && !reading.is_inside,
+            "at {size}"
+        );
     }
     Ok(())
 }
@@ -64,7 +69,10 @@ fn nothing_is_read_behind_a_fault(rt: HostRuntime) -> Result<(), Fail> {
     for size in [bytes.len().max(1), 9, 1] {
         let reading = read(rt.alloc(), bytes.as_slice(), size)?;
         assert!(rt; reading.requests.len() == 2, "at {size}");
-        assert!(rt; reading.fault == Some(ProtocolFault::UnknownRequest), "at {size}");
+        assert!(rt;
+            reading.fault == Some(ProtocolFault::UnknownRequest),
+            "at {size}"
+        );
         assert!(rt; !reading.is_inside, "at {size}");
     }
     Ok(())

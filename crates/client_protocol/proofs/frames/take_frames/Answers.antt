@@ -11,8 +11,9 @@ pub loop-request-preserved : goal.loop-request-preserved
 loop-request-preserved c =
     let (new, items, follow, spelled) = c.loop-request.invariant in
     let r = c.in-Ok-Some.request in
-    let e = rw c.in-Ok-Some.field-0-is at c.in-Ok-Some.ensures in
-    (new ++ r ∷ [],
-     c.in_ok-push-in-Ok-Some.ensures.items ∙ ap (λ (t : List Request). t ++ r ∷ []) items ∙ append_assoc c.args.requests.now.items new (r ∷ []),
-     subst (λ (h : Option Version). Follow c.args.hello (new ++ r ∷ []) h) (sym c.hello_after-hello.ensures) (follow_more c.args.hello c.loop-request.hello new r follow e.frame.0),
-     spelled_more new r c.args.bytes.now c.loop-request.rest.now c.in-Ok-Some.behind.now spelled e.frame.1)
+    let e = rw c.in-Ok-Some.field-0-is at c.in-Ok-Some.ensures in (
+      new ++ r ∷ [],
+      c.in_ok-push-in-Ok-Some.ensures.items ∙ ap (λ (t : List Request). t ++ r ∷ []) items ∙ append_assoc c.args.requests.now.items new (r ∷ []),
+      subst (λ (h : Option Version). Follow c.args.hello (new ++ r ∷ []) h) (sym c.hello_after-hello.ensures) (follow_more c.args.hello c.loop-request.hello new r follow e.frame.0),
+      spelled_more new r c.args.bytes.now c.loop-request.rest.now c.in-Ok-Some.behind.now spelled e.frame.1,
+    )
