@@ -1,13 +1,13 @@
 -- Fields' faults are a body's.
-use Rattle.std.proofs.Common.{◌≡◌, ◌≢◌, ℕ, ◌≤◌, ◌<◌, ◌⊎◌, arith, Bool, true, false, List, [], ◌∷◌, ◌++◌, length, Option, Some, None, refl, sym, ap, subst, ◌∙◌, inl, inr}
+use Rattle.std.proofs.Common.{◌≡◌, ◌≢◌, ℕ, ◌≤◌, arith, false, List, [], ◌∷◌, ◌++◌, length, Option, Some, refl, sym, ap, ◌∙◌, inl}
 use Rattle.std.specs.Prelude.{nat_eq}
 use Rattle.bpf_model.specs.declared.input.Sizes.{Sizes}
 use Rattle.client_protocol.specs.declared.limits.Version.{Version}
 use Rattle.client_protocol.specs.declared.limits.Limits.{Limits}
 use Rattle.client_protocol.specs.declared.request.Request.{Request}
 use Rattle.client_protocol.specs.declared.request.Request.TheVariants.{Hello, Register}
-use Rattle.client_protocol.specs.declared.fault.ProtocolFault.TheVariants.{UnknownRequest, BadField, TrailingBytes, WrongVersion}
-use Rattle.client_protocol.specs.Bodies.{limits_after, Kind, Field, kinds_of, takes_tail, Body, body_of, body_bytes, whole, IsBody, sizes_fields, fields_bytes, TakesAll, BodyHas, IsMisplaced, MayCome, is_hello, is_none, version_number}
+use Rattle.client_protocol.specs.declared.fault.ProtocolFault.TheVariants.{BadField, TrailingBytes}
+use Rattle.client_protocol.specs.Bodies.{limits_after, Kind, Field, kinds_of, takes_tail, Body, body_of, whole, sizes_fields, fields_bytes, TakesAll, BodyHas, IsMisplaced, is_hello, is_none, version_number}
 use Rattle.client_protocol.specs.Bodies.Kind.{a_short}
 use Rattle.client_protocol.specs.Bodies.Field.{byte}
 use Rattle.client_protocol.specs.Reading.{NoFields, Spells, TakesSizes}

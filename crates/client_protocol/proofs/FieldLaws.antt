@@ -1,6 +1,6 @@
 -- Fields begin bytes in one way.
-use Rattle.std.proofs.Common.{◌≡◌, ◌≢◌, ℕ, ◌+◌, ◌*◌, ◌/◌, ◌%◌, ◌^◌, ◌<◌, ◌≤◌, List, [], ◌∷◌, ◌++◌, length, take, drop, Option, Some, None, refl, sym, ap, subst, ◌∙◌, append_assoc, arith}
-use Rattle.std.proofs.lemmas.List.{take_at, drop_at, length-append, length-take, take-append-drop}
+use Rattle.std.proofs.Common.{◌≡◌, ◌≢◌, ℕ, ◌+◌, ◌/◌, ◌%◌, ◌^◌, ◌<◌, ◌≤◌, List, [], ◌∷◌, ◌++◌, length, take, drop, Option, Some, None, refl, sym, ap, ◌∙◌, append_assoc, arith}
+use Rattle.std.proofs.lemmas.List.{take_at, drop_at, length-append}
 use Rattle.std.proofs.lemmas.Nat.{from_be_bytes-to_be_bytes_8}
 use Rattle.std.specs.Int.{w16, w64, to_be_bytes, from_be_bytes}
 use Rattle.client_protocol.specs.declared.limits.Version.{Version}
@@ -8,7 +8,7 @@ use Rattle.client_protocol.specs.declared.limits.Version.TheVariants.{One}
 use Rattle.client_protocol.specs.declared.limits.Limits.{Limits}
 use Rattle.client_protocol.specs.Bodies.{limits_after, Kind, Field, field_bytes, fields_bytes, value_bytes, IsValue, IsField, AreFields, TakesAll}
 use Rattle.client_protocol.specs.Bodies.Kind.{a_byte, a_short, a_long, a_key, a_value, an_opt}
-use Rattle.client_protocol.specs.Bodies.Field.{byte, short, word, long, key, value, opt}
+use Rattle.client_protocol.specs.Bodies.Field.{byte, short, long, key, value, opt}
 use Rattle.client_protocol.specs.Reading.{Takes, NoField, NoFields}
 
 -- fronts of one length

@@ -1,12 +1,12 @@
 -- Reading goes on where it stopped.
-use Rattle.std.proofs.Common.{◌≡◌, ℕ, suc, ◌+◌, ◌-◌, ◌<◌, ◌≤◌, arith, Bool, true, false, List, [], ◌∷◌, ◌++◌, length, drop, Option, Some, None, refl, sym, ap, subst, ◌∙◌, inl, inr, append_assoc, append-nil}
+use Rattle.std.proofs.Common.{◌≡◌, ℕ, ◌+◌, ◌-◌, ◌<◌, arith, List, [], ◌∷◌, ◌++◌, length, drop, Option, Some, None, refl, sym, ap, subst, ◌∙◌, inl, inr, append_assoc, append-nil}
 use Rattle.std.proofs.lemmas.List.{length-append, drop_at}
 use Rattle.std.proofs.lemmas.List.Concat.{flat_map-append}
 use Rattle.client_protocol.specs.declared.limits.Version.{Version}
 use Rattle.client_protocol.specs.declared.request.Request.{Request}
 use Rattle.client_protocol.specs.declared.fault.ProtocolFault.{ProtocolFault}
 use Rattle.client_protocol.specs.Bodies.{hello_after}
-use Rattle.client_protocol.specs.Frames.{frame_of, frames_of, length_bytes, framed, IsRequest, Follow, IsBeginning, IsFaulty, Held, Ends, Frames, Feeds, held_of}
+use Rattle.client_protocol.specs.Frames.{frame_of, frames_of, length_bytes, framed, IsRequest, Follow, IsFaulty, Held, Frames, Feeds, held_of}
 use Rattle.client_protocol.specs.Frames.Held.{open_at, failed}
 
 pub follow_then : (hello mid after : Option Version) (rs ss : List Request) → Follow hello rs mid → Follow mid ss after → Follow hello (rs ++ ss) after

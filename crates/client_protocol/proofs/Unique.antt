@@ -1,7 +1,7 @@
 -- One list and one rest belong to bytes.
-use Rattle.std.proofs.Common.{◌≡◌, ◌≢◌, ℕ, ◌+◌, ◌^◌, ◌<◌, ◌≤◌, ◌⊎◌, inl, inr, arith, Bool, true, false, List, [], ◌∷◌, ◌++◌, length, Option, Some, None, refl, sym, ap, subst, ◌∙◌, append_assoc, append-nil}
+use Rattle.std.proofs.Common.{◌≡◌, ℕ, ◌+◌, ◌^◌, ◌<◌, ◌≤◌, inl, inr, arith, Bool, true, false, List, [], ◌∷◌, ◌++◌, length, Option, Some, None, refl, sym, ap, subst, ◌∙◌, append_assoc}
 use Rattle.std.specs.Prelude.{nat_eq, if◌then◌else◌}
-use Rattle.std.specs.Int.{w32, to_be_bytes, from_be_bytes}
+use Rattle.std.specs.Int.{w32, from_be_bytes}
 use Rattle.std.proofs.lemmas.List.{length-append}
 use Rattle.std.proofs.lemmas.Nat.{from_be_bytes-to_be_bytes_4}
 use Rattle.bpf_model.specs.declared.input.Sizes.{Sizes}
@@ -12,9 +12,9 @@ use Rattle.client_protocol.specs.declared.request.Request.{Request}
 use Rattle.client_protocol.specs.declared.request.Request.TheVariants.{Hello, Register, Get, Put, PutIfAbsent, Remove, RemoveIf, Replace, ReplaceIf, Compute, ComputeIfAbsent, ComputeIfPresent, Merge, Search, ForEach, ReplaceAll, Count}
 use Rattle.client_protocol.specs.declared.fault.ProtocolFault.{ProtocolFault}
 use Rattle.client_protocol.specs.declared.fault.ProtocolFault.TheVariants.{BadLength, UnknownRequest, BadField, TrailingBytes, WrongVersion}
-use Rattle.client_protocol.specs.Bodies.{limits_after, Kind, Field, kinds_of, takes_tail, fields_bytes, AreFields, Body, body_of, body_bytes, IsBody, BodyHas, IsBodyOf, IsUnknown, HasBadField, HasTrailing, IsMisplaced, hello_after}
-use Rattle.client_protocol.specs.Bodies.Field.{byte, short, long, key, value, opt}
-use Rattle.client_protocol.specs.Frames.{framed, length_bytes, frame_of, frames_of, IsLength, IsRequest, Follow, IsBegun, IsBeginning, HasBadLength, HasBadBody, IsFaulty, Held, Ends, Frames}
+use Rattle.client_protocol.specs.Bodies.{limits_after, Kind, Field, kinds_of, takes_tail, fields_bytes, AreFields, Body, body_of, body_bytes, IsBody, BodyHas, IsBodyOf, IsUnknown, HasBadField, HasTrailing, hello_after}
+use Rattle.client_protocol.specs.Bodies.Field.{short, long, key, value, opt}
+use Rattle.client_protocol.specs.Frames.{framed, length_bytes, frame_of, frames_of, IsLength, IsRequest, Follow, IsBeginning, HasBadLength, IsFaulty, Held, Ends, Frames}
 use Rattle.client_protocol.specs.Frames.Held.{open_at, failed}
 use Rattle.client_protocol.proofs.FieldLaws.{same_split, fields_unique}
 

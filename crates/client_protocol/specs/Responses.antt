@@ -1,11 +1,10 @@
 -- The bytes of a response's frame.
-use Rattle.std.specs.Prelude.{ℕ, List, [], ◌∷◌, ◌++◌, length, flat_map, Bool, true, false, Option, Some, None}
-use Rattle.std.specs.Int.{w16, w32, w64, to_be_bytes}
+use Rattle.std.specs.Prelude.{ℕ, List, [], ◌∷◌, flat_map, Bool, true, false}
 use Rattle.bpf_model.specs.declared.input.Window.{Window}
 use Rattle.bpf_model.specs.declared.input.Window.TheVariants as window
 use Rattle.client_protocol.specs.declared.response.Response.{Response}
 use Rattle.client_protocol.specs.declared.response.Response.TheVariants.{Hello, Registered, Value, Done, Unfit, Refused, Item, End}
-use Rattle.client_protocol.specs.Bodies.{Field, field_bytes, fields_bytes, version_number}
+use Rattle.client_protocol.specs.Bodies.{Field, fields_bytes, version_number}
 use Rattle.client_protocol.specs.Bodies.Field.{byte, word, long, key, value, opt}
 use Rattle.client_protocol.specs.Frames.{framed}
 

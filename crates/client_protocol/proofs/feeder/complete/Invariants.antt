@@ -1,5 +1,5 @@
 -- what is held has begun a frame, and what was taken of the piece stands behind what was held
-use Rattle.std.proofs.Common.{◌≡◌, ℕ, List, ◌++◌, length, take}
+use Rattle.std.proofs.Common.{◌≡◌, ◌++◌, length, take}
 use Rattle.client_protocol.specs.Frames.{IsBeginning}
 use Rattle.client_protocol.proofs.feeder.complete.Given as goal
 

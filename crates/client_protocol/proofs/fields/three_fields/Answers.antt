@@ -1,4 +1,4 @@
-use Rattle.std.proofs.Common.{[], ◌∷◌, ◌≤◌, ◌<◌, length, arith}
+use Rattle.std.proofs.Common.{[], ◌∷◌, arith}
 use Rattle.std.proofs.lemmas.Grind.{common_steps}
 use Rattle.client_protocol.specs.Bodies.{limits_after}
 use Rattle.client_protocol.proofs.FieldLaws.{none_first, none_later, takes_three}

@@ -1,9 +1,8 @@
-use Rattle.std.proofs.Common.{◌≡◌, ℕ, List, [], ◌∷◌, ◌++◌, length, ap, sym, subst, ◌∙◌, append_assoc}
+use Rattle.std.proofs.Common.{List, [], ◌∷◌, ◌++◌, ap, sym, subst, ◌∙◌, append_assoc}
 use Rattle.client_protocol.specs.declared.request.Request.{Request}
 use Rattle.client_protocol.specs.declared.limits.Version.{Version}
 use Rattle.std.specs.Prelude.{Option}
 use Rattle.client_protocol.specs.Frames.{Follow}
-use Rattle.client_protocol.specs.Bodies.{hello_after}
 use Rattle.client_protocol.proofs.FrameLaws.{follow_more, spelled_more}
 use Rattle.client_protocol.proofs.frames.take_frames.Goals as goal
 
