@@ -5,6 +5,8 @@ mod requests;
 mod responses;
 mod streams;
 
+ghost use Rattle.std.specs.Prelude.{◌≤◌};
+
 use crate::{Feeder, ProtocolFault, Request};
 use bpf_model::{Key, Value};
 use std::alloc::Global;

@@ -1,4 +1,6 @@
 //! Streams of several frames: what is held between pieces, and what comes of a fault.
+ghost use Rattle.std.specs.Prelude.{◌≤◌};
+
 use super::{HELLO, Reading, joined, key, read, value};
 use crate::{Feeder, ProtocolFault, Request};
 use std::alloc::Global;
