@@ -11,7 +11,7 @@ use crate::bpfmap::commands::report_of;
 use crate::bpfmap::ending::Ending;
 use crate::bpfmap::refusal::Refusal;
 use crate::bpfmap::report::Report;
-use crate::bpfmap::words::{Command, parse_words};
+use crate::bpfmap::words::{Command, Task, parse_words};
 use crate::devices::{Failed, ReadFault, Sink, Source, read_all};
 use clap::error::ErrorKind;
 use std::alloc::Global;
@@ -53,7 +53,8 @@ fn ending_of<R: Source>(alloc: Global, words: &[&str], reader: &mut R) -> Ending
     ensures { EndsCall (texts words.now) (R.state reader.old) (R.state reader.new) result }
 {
     match parse_words(alloc, words) {
-        Ok(command) => ending_of_command(alloc, &command, reader),
+        Ok(Task::Report(command)) => ending_of_command(alloc, &command, reader),
+        Ok(Task::Exec(_)) => Ending::Unread,
         Err(error) => ending_of_words(alloc, &error),
     }
 }
