@@ -61,13 +61,14 @@ refuse_each() {
     for number in $(seq "$requests"); do
         LD_PRELOAD=$work/refuse.so REFUSED_REQUEST=$number run "$@"
         judge "$name, request $number of $requests refused" \
-            eval "ended $status \"\$output\" '*' || ended 1 'refused 9 at 0' ''"
+            eval "ended $status \"\$output\" '*' || ended 1 'refused 9 at 0' 'no memory'"
     done
 }
 
 printf '%s' "$sum" > "$work/in"
 expect "an answer" 0 "bytes 03 00 00 00 00 00 00 00" "" run "${sizes[@]}" "${values[@]}"
-expect "a refused program" 1 "refused 43 at 0" "" run --old 0 --arg 8 --result 8
+expect "a refused program" 1 "refused 43 at 0" "unit 0: ldd r0, \[r2+0\]: the access does not lie in the window" \
+    run --old 0 --arg 8 --result 8
 expect "a value that does not fit" 1 "unfit old" "" run "${sizes[@]}" --with-old 010000000000000000
 expect "a check" 0 "accepted" "" check "${sizes[@]}"
 expect "the version" 0 "bpfmap 0.1.0" "" --version
@@ -77,8 +78,9 @@ expect "no command" 2 "" "?*"
 expect "words that are no UTF-8" 2 "" "error: the command line is not UTF-8" run --with-key $'\xff'
 input=/ expect "an input that can't be read" 3 "" "failed read" check
 sink=/dev/full expect "an output that can't be written" 3 "" "failed write" check
+sink=/dev/full expect "a refusal that can't be written" 3 "" "failed write" check --old 0
 printf '7b 0g' > "$work/in"
-expect "hex that is none" 1 "refused 70 at 3" "" check
+expect "hex that is none" 1 "refused 70 at 3" "no hex text at place 3" check
 printf '\xff\n' > "$work/in"
 expect "a text that is no UTF-8" 3 "" "failed read" asm
 

@@ -64,6 +64,10 @@ operands_of (insn.JumpLong distance) = codes " " ++ offset distance
 operands_of (insn.Branch test width dst src distance) = codes " " ++ register dst ++ codes ", " ++ operand src ++ codes ", " ++ offset distance
 operands_of insn.Exit = []
 
+-- an instruction's text: its line without the newline
+abbrev pub instruction_text : Insn → List ℕ
+instruction_text i = name_of (mnemonic_of i) ++ operands_of i
+
 -- an instruction's line, with its newline
 unfoldable pub line_of : Insn → List ℕ
 line_of i = name_of (mnemonic_of i) ++ operands_of i ++ codes "\n"

@@ -3,7 +3,7 @@
 //! The promise to the layers above: `assemble` answers a program exactly where the text is its canonical text (clauses
 //! `found` and `only`), and exactly where a line is faulty names the first one (`first_fault` and `refused`), want of
 //! memory aside, which comes only behind a line that was read (`memory`). `disassemble` gives the canonical text
-//! (`text`). So each undoes the other. The grammar, by its forms, is `specs/Text.antt` over the names of
+//! (`text`), `instruction_text` that of one instruction (`text`). So each undoes the other. The grammar, by its forms, is `specs/Text.antt` over the names of
 //! `specs/Names.antt`; it knows nothing of reading. Which of the faults a line has is the one met first from left to
 //! right (`specs/Reading.antt` over `specs/Operands.antt`). Neither call waits; both ask for memory for their results
 //! alone.
@@ -21,7 +21,7 @@ mod tables;
 
 pub use assembler::assemble;
 pub use fault::AsmFault;
-pub use printer::disassemble;
+pub use printer::{disassemble, instruction_text};
 
 #[cfg(test)]
 mod tests;

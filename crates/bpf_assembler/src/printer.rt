@@ -2,7 +2,7 @@
 ghost use Rattle.std.specs.Prelude.{◌≡◌, ◌≤◌, ◌++◌, codes, IfOk, OnOk, string_bytes};
 ghost use Rattle.bpf_model.specs.Spelling.{IsRegister, IsOperand, IsInstruction};
 ghost use Rattle.bpf_assembler.specs.Names.{name_of};
-ghost use Rattle.bpf_assembler.specs.Text.{register, operand, offset, place, mnemonic_of, operands_of, line_of, text_of, IsTextOf};
+ghost use Rattle.bpf_assembler.specs.Text.{register, operand, offset, place, mnemonic_of, operands_of, instruction_text, line_of, text_of, IsTextOf};
 
 use crate::mnemonic::Mnemonic;
 use crate::tables::Named;
@@ -126,6 +126,16 @@ fn write_line(text: &mut String, insn: &Insn) -> Result<(), AllocError>
     write_name(text, Mnemonic::of(*insn))?;
     write_operands(text, *insn)?;
     text.push_str("\n")
+}
+
+/// The canonical text of one instruction: its line without the newline. Asks for memory for the text alone.
+pub fn instruction_text(alloc: Global, insn: &Insn) -> Result<String, NoMemory>
+    ensures text { IfOk result (λ text. string_bytes text ≡ instruction_text insn.now) }
+{
+    let mut text = String::new(alloc);
+    write_name(&mut text, Mnemonic::of(*insn))?;
+    write_operands(&mut text, *insn)?;
+    Ok(text)
 }
 
 /// The canonical text of a program, which `assemble` reads back. Asks for memory for the text alone.

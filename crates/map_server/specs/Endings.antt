@@ -4,15 +4,17 @@ use Rattle.clap.specs.Words.{IsAmong, fault_of}
 use Rattle.clap.specs.declared.error.ErrorKind.{ErrorKind}
 use Rattle.clap.specs.declared.error.ErrorKind.TheVariants.{DisplayHelp, DisplayVersion}
 use Rattle.map_server.specs.declared.bpfmap.words.Command.{Command}
-use Rattle.map_server.specs.declared.bpfmap.refusal.Refusal.TheVariants.{NoMemory}
+use Rattle.map_server.specs.declared.bpfmap.refusal.Refusal.{Refusal}
+use Rattle.map_server.specs.declared.bpfmap.refusal.Refusal.TheVariants.{NoMemory as OutOfMemory}
 use Rattle.map_server.specs.declared.bpfmap.report.Report.{Report}
-use Rattle.map_server.specs.declared.bpfmap.report.Report.TheVariants.{Refused}
+use Rattle.map_server.specs.declared.bpfmap.report.Report.TheVariants as report
 use Rattle.map_server.specs.declared.bpfmap.ending.Ending.{Ending}
-use Rattle.map_server.specs.declared.bpfmap.ending.Ending.TheVariants.{Reported, Shown, Faulty, Unread, NotUtf8}
+use Rattle.map_server.specs.declared.bpfmap.ending.Ending.TheVariants.{Reported, Refused, NoMemory, Shown, Faulty, Unread, NotUtf8}
 use Rattle.map_server.specs.CommandLine.{Asks, bpfmap}
 use Rattle.map_server.specs.Commands.{IsReport, IsUnreadable}
 use Rattle.map_server.specs.Devices.{SourceState, SinkState, Takes, TakesPart, TakesIfItCan}
-use Rattle.map_server.specs.Reports.{text_of, status_of}
+use Rattle.map_server.specs.Meanings.{IsMeaning}
+use Rattle.map_server.specs.Reports.{IsNoRefusal, text_of, status_of}
 
 -- ---- what comes of the words and the input
 
@@ -26,9 +28,26 @@ FailsToRead command input input' =
     (input'.failures ≡ input.failures + 1)
     ⊎ (IfSome input.left (λ text. IsUnreadable command text) × (input'.failures ≡ input.failures))
 
--- what the command comes to on this input
+-- this refusal of the text, with its meaning, for which memory may be refused
+abbrev pub IsRefusalOf : List ℕ → Refusal → Ending → Type 0
+IsRefusalOf text refusal (Reported report) = ⊥
+IsRefusalOf text refusal (Refused told meaning) = (told ≡ refusal) × IsMeaning text refusal (string_bytes meaning)
+IsRefusalOf text refusal NoMemory = Unit {0}
+IsRefusalOf text refusal (Shown shown) = ⊥
+IsRefusalOf text refusal (Faulty fault) = ⊥
+IsRefusalOf text refusal Unread = ⊥
+IsRefusalOf text refusal NotUtf8 = ⊥
+
+-- the report is this refusal, and the line is its meaning
+abbrev pub IsRefused : Command → SourceState → SourceState → Refusal → List ℕ → Type 0
+IsRefused command input input' refusal line =
+    IsReported command input input' (report.Refused refusal) × IfSome input.left (λ text. IsMeaning text refusal line)
+
+-- what the command comes to on this input; memory may be refused to the meaning of another refusal
 abbrev pub EndsCommand : Command → SourceState → SourceState → Ending → Type 0
-EndsCommand command input input' (Reported report) = IsReported command input input' report
+EndsCommand command input input' (Reported report) = IsReported command input input' report × IsNoRefusal report
+EndsCommand command input input' (Refused refusal meaning) = IsRefused command input input' refusal (string_bytes meaning)
+EndsCommand command input input' NoMemory = IsReported command input input' (report.Refused OutOfMemory)
 EndsCommand command input input' (Shown text) = ⊥
 EndsCommand command input input' (Faulty text) = ⊥
 EndsCommand command input input' Unread = FailsToRead command input input'
@@ -40,7 +59,9 @@ IsRequest kind = (kind ≡ DisplayHelp) ⊎ (kind ≡ DisplayVersion)
 
 -- what words come to that ask for no command, by clap's kind of error; memory may be refused to its text
 abbrev pub EndsWords : List (List ℕ) → Ending → Type 0
-EndsWords words (Reported report) = report ≡ Refused NoMemory
+EndsWords words (Reported report) = ⊥
+EndsWords words (Refused refusal meaning) = ⊥
+EndsWords words NoMemory = Unit {0}
 EndsWords words (Shown text) = (kind : ErrorKind) × IsAmong kind (fault_of bpfmap words) × IsRequest kind
 EndsWords words (Faulty text) = (kind : ErrorKind) × IsAmong kind (fault_of bpfmap words) × (IsRequest kind → ⊥)
 EndsWords words Unread = ⊥
@@ -67,12 +88,21 @@ Prints text status old new result =
     ((result ≡ status) × Takes old.output new.output text × (new.errors ≡ old.errors))
     ⊎ ((result ≡ 3) × TakesPart old.output new.output text × TakesIfItCan old.errors new.errors (codes "failed write\n"))
 
+-- the refusal's line is on standard output, with status 1, and its meaning on standard error, as far as that can be; or
+-- the write failed, of which alone standard error is told
+abbrev pub Refuses : Refusal → List ℕ → Outputs → Outputs → ℕ → Type 0
+Refuses refusal meaning old new result =
+    ((result ≡ 1) × Takes old.output new.output (text_of (report.Refused refusal)) × TakesIfItCan old.errors new.errors meaning)
+    ⊎ ((result ≡ 3) × TakesPart old.output new.output (text_of (report.Refused refusal)) × TakesIfItCan old.errors new.errors (codes "failed write\n"))
+
 -- the text is on standard error, as far as that can be, and nothing more on standard output
 abbrev pub Warns : List ℕ → ℕ → Outputs → Outputs → ℕ → Type 0
 Warns text status old new result = (result ≡ status) × (new.output ≡ old.output) × TakesIfItCan old.errors new.errors text
 
 abbrev pub Tells : Ending → Outputs → Outputs → ℕ → Type 0
 Tells (Reported report) old new result = Prints (text_of report) (status_of report) old new result
+Tells (Refused refusal meaning) old new result = Refuses refusal (string_bytes meaning) old new result
+Tells NoMemory old new result = Refuses OutOfMemory (codes "no memory\n") old new result
 Tells (Shown text) old new result = Prints (string_bytes text) 0 old new result
 Tells (Faulty text) old new result = Warns (string_bytes text) 2 old new result
 Tells Unread old new result = Warns (codes "failed read\n") 3 old new result

@@ -41,6 +41,13 @@ IsLine (Answered answer) = Unit {0}
 IsLine (Unfit window) = Unit {0}
 IsLine (Refused refusal) = Unit {0}
 
+abbrev pub IsNoRefusal : Report → Type 0
+IsNoRefusal (Text text) = Unit {0}
+IsNoRefusal Accepted = Unit {0}
+IsNoRefusal (Answered answer) = Unit {0}
+IsNoRefusal (Unfit window) = Unit {0}
+IsNoRefusal (Refused refusal) = ⊥
+
 -- what is printed, each line with its newline
 abbrev pub text_of : Report → List ℕ
 text_of (Text text) = text.items

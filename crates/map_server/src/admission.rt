@@ -10,20 +10,18 @@ use bpf_decode::{DecodeFault, decode};
 use bpf_model::Sizes;
 use flow_shape::{FlowFault, shape};
 use std::alloc::Global;
-use thiserror::Error;
+use std::error::Error;
+use std::fmt;
 use verifier::{Verified, VerifyFault, verify};
 
 /// Why no program is admitted.
-#[derive(Clone, Copy, Debug, PartialEq, Eq, Error)]
+#[derive(Clone, Copy, Debug, PartialEq, Eq)]
 pub enum AdmissionFault {
     /// The bytes are no program: numbers 9 to 17.
-    #[error("{0}")]
     Decode(DecodeFault),
     /// A jump goes where none may, or the program may go past its end: numbers 30 to 33.
-    #[error("{0}")]
     Flow(FlowFault),
     /// The program was not found safe: numbers 40 to 48.
-    #[error("{0}")]
     Verify(VerifyFault),
 }
 
@@ -50,6 +48,23 @@ impl AdmissionFault {
         }
     }
 }
+
+impl fmt::Display for AdmissionFault {
+    ghost use Rattle.std.specs.Prelude.{Some};
+    ghost use Rattle.map_server.specs.Meanings.{fault_message};
+
+    ghost output = { λ fault. Some (fault_message fault) };
+
+    fn fmt<W: fmt::Write>(&self, f: &mut fmt::Formatter<W>) -> fmt::Result {
+        match self {
+            AdmissionFault::Decode(fault) => write!(f, "{fault}"),
+            AdmissionFault::Flow(fault) => write!(f, "{fault}"),
+            AdmissionFault::Verify(fault) => write!(f, "{fault}"),
+        }
+    }
+}
+
+impl Error for AdmissionFault {}
 
 impl From<DecodeFault> for AdmissionFault {
     ghost use Rattle.std.specs.Prelude.{◌≡◌};

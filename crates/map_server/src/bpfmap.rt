@@ -2,6 +2,7 @@
 mod commands;
 mod ending;
 mod hex;
+mod meaning;
 mod program;
 mod refusal;
 mod report;

@@ -16,7 +16,8 @@ use bpf_model::{Input, Key, Program, Sizes, Value, fits};
 use std::alloc::Global;
 use verifier::Verified;
 
-fn program_of(alloc: Global, text: &[u8]) -> Result<Program, Refusal>
+/// The program that hex text spells.
+pub(crate) fn program_of(alloc: Global, text: &[u8]) -> Result<Program, Refusal>
     ensures ok { IfOk result (λ program. SpellsProgram text.now program) }
     ensures err { IfErr result (λ refusal. IsBytesRefused text.now refusal) }
 {

@@ -1,16 +1,21 @@
 //! What a call of `bpfmap` comes to, and how that is told.
 ghost use Rattle.std.specs.Prelude.{◌≡◌, ◌<◌, ◌-◌, ◌^◌};
 ghost use Rattle.map_server.specs.Devices.{TakesIfItCan};
-ghost use Rattle.map_server.specs.Endings.{outputs, Prints, Tells};
+ghost use Rattle.map_server.specs.Endings.{outputs, Prints, Refuses, Tells};
 
+use crate::bpfmap::refusal::Refusal;
 use crate::bpfmap::report::Report;
 use crate::devices::{Failed, Sink, write_all};
 
 /// What a call of `bpfmap` comes to.
 #[derive(Debug, Drop)]
 pub enum Ending {
-    /// A command's report: its text goes to standard output, and its status is the call's.
+    /// A command's report that is no refusal: its text goes to standard output, and its status is the call's.
     Reported(Report),
+    /// A refusal: status 1, with its line on standard output, and the line of its meaning on standard error.
+    Refused(Refusal, String),
+    /// A request for memory was refused, which is told in the same way.
+    NoMemory,
     /// The help or the version, which were asked for: status 0, with clap's text on standard output.
     Shown(String),
     /// A fault of the words: status 2, with clap's text on standard error.
@@ -41,6 +46,25 @@ fn print<W: Sink, E: Sink>(text: &[u8], status: u8, writer: &mut W, errors: &mut
     }
 }
 
+/// Prints the refusal's line, writes its meaning to standard error, and answers the status, or that of a failed write.
+fn refuse<W: Sink, E: Sink>(
+    refusal: Refusal,
+    meaning: &[u8],
+    writer: &mut W,
+    errors: &mut E,
+) -> u8
+    requires writes { (W.state writer.old).failures < 2 ^ 64 - 1 }
+    requires warns { (E.state errors.old).failures < 2 ^ 64 - 1 }
+    ensures { Refuses refusal meaning.now (outputs (W.state writer.old) (E.state errors.old))
+        (outputs (W.state writer.new) (E.state errors.new)) result }
+{
+    let report = Report::Refused(refusal);
+    match write_all(writer, report.line().as_slice()) {
+        Ok(()) => warn(meaning, report.status(), errors),
+        Err(Failed) => warn(b"failed write\n", FAILED_DEVICE, errors),
+    }
+}
+
 /// Writes the text to standard error, and answers this status. Where standard error fails too, nobody is told.
 fn warn<E: Sink>(text: &[u8], status: u8, errors: &mut E) -> u8
     requires { (E.state errors.old).failures < 2 ^ 64 - 1 }
@@ -64,6 +88,10 @@ impl Ending {
             Ending::Reported(report) => {
                 print(report.line().as_slice(), report.status(), writer, errors)
             }
+            Ending::Refused(refusal, meaning) => {
+                refuse(*refusal, meaning.as_bytes(), writer, errors)
+            }
+            Ending::NoMemory => refuse(Refusal::NoMemory, b"no memory\n", writer, errors),
             Ending::Shown(text) => print(text.as_bytes(), 0, writer, errors),
             Ending::Faulty(text) => warn(text.as_bytes(), FAULT_OF_WORDS, errors),
             Ending::Unread => warn(b"failed read\n", FAILED_DEVICE, errors),

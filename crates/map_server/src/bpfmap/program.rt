@@ -5,17 +5,29 @@ ghost use Rattle.std.specs.declared.io.ErrorKind.TheVariants.{OutOfMemory};
 ghost use Rattle.clap.specs.Walk.{texts};
 ghost use Rattle.clap.specs.Words.{fault_of, HasKind};
 ghost use Rattle.map_server.specs.CommandLine.{bpfmap};
-ghost use Rattle.map_server.specs.Endings.{outputs, EndsCommand, EndsWords, EndsCall, Tells};
+ghost use Rattle.map_server.specs.Endings.{outputs, IsRefusalOf, EndsCommand, EndsWords, EndsCall, Tells};
 
 use crate::bpfmap::commands::report_of;
 use crate::bpfmap::ending::Ending;
+use crate::bpfmap::meaning::meaning_of;
 use crate::bpfmap::refusal::Refusal;
 use crate::bpfmap::report::Report;
 use crate::bpfmap::words::{Command, Task, parse_words};
 use crate::devices::{Failed, ReadFault, Sink, Source, read_all};
+use bpf_model::NoMemory;
 use clap::error::ErrorKind;
 use std::alloc::Global;
 use std::io;
+
+/// A refusal of this text, with its meaning. Where there is no memory for that, memory is what is refused.
+fn ending_of_refusal(alloc: Global, text: &[u8], refusal: Refusal) -> Ending
+    ensures { IsRefusalOf text.now refusal result }
+{
+    match meaning_of(alloc, text, refusal) {
+        Ok(meaning) => Ending::Refused(refusal, meaning),
+        Err(NoMemory) => Ending::NoMemory,
+    }
+}
 
 /// What comes of a command on all that the reader has left.
 fn ending_of_command<R: Source>(alloc: Global, command: &Command<'_>, reader: &mut R) -> Ending
@@ -24,10 +36,11 @@ fn ending_of_command<R: Source>(alloc: Global, command: &Command<'_>, reader: &m
 {
     match read_all(alloc, reader) {
         Ok(text) => match report_of(alloc, command, &text) {
+            Ok(Report::Refused(refusal)) => ending_of_refusal(alloc, &text, refusal),
             Ok(report) => Ending::Reported(report),
             Err(Failed) => Ending::Unread,
         },
-        Err(ReadFault::NoMemory) => Ending::Reported(Report::Refused(Refusal::NoMemory)),
+        Err(ReadFault::NoMemory) => Ending::NoMemory,
         Err(ReadFault::Failed) => Ending::Unread,
     }
 }
@@ -38,10 +51,10 @@ fn ending_of_words(alloc: Global, error: &clap::Error) -> Ending
         → EndsWords words result }
 {
     if error.kind() == ErrorKind::OutOfMemory {
-        return Ending::Reported(Report::Refused(Refusal::NoMemory));
+        return Ending::NoMemory;
     }
     match error.to_string(alloc) {
-        Err(_) => Ending::Reported(Report::Refused(Refusal::NoMemory)),
+        Err(_) => Ending::NoMemory,
         Ok(text) if error.use_stderr() => Ending::Faulty(text),
         Ok(text) => Ending::Shown(text),
     }
@@ -65,19 +78,16 @@ pub fn tell_unread_words<W: Sink, E: Sink>(error: &io::Error, writer: &mut W, er
     requires writes { (W.state writer.old).failures < 2 ^ 64 - 1 }
     requires warns { (E.state errors.old).failures < 2 ^ 64 - 1 }
     ensures memory { error_kind error.now ≡ OutOfMemory
-        → Tells (Ending.Reported (Report.Refused Refusal.NoMemory))
-        (outputs (W.state writer.old) (E.state errors.old))
+        → Tells Ending.NoMemory (outputs (W.state writer.old) (E.state errors.old))
         (outputs (W.state writer.new) (E.state errors.new)) result }
     ensures words { (error_kind error.now ≢ OutOfMemory)
         → Tells Ending.NotUtf8 (outputs (W.state writer.old) (E.state errors.old))
         (outputs (W.state writer.new) (E.state errors.new)) result }
 {
-    let ending = if error.kind() == io::ErrorKind::OutOfMemory {
-        Ending::Reported(Report::Refused(Refusal::NoMemory))
-    } else {
-        Ending::NotUtf8
-    };
-    ending.tell(writer, errors)
+    if error.kind() == io::ErrorKind::OutOfMemory {
+        return Ending::NoMemory.tell(writer, errors);
+    }
+    Ending::NotUtf8.tell(writer, errors)
 }
 
 /// Does what the words ask for, of which the first is the program's name, and answers the status: 0 where it was done,

@@ -10,25 +10,21 @@ use crate::bpfmap::hex::HexFault;
 use bpf_assembler::AsmFault;
 use bpf_decode::DecodeFault;
 use bpf_model::{NoMemory, TooLong};
-use thiserror::Error;
+use std::error::Error;
+use std::fmt;
 
 /// Why there is no answer. Each refusal has a number and a place, which are printed.
-#[derive(Clone, Copy, Debug, PartialEq, Eq, Error)]
+#[derive(Clone, Copy, Debug, PartialEq, Eq)]
 pub enum Refusal {
     /// A key, old value or argument has more bytes than any may have: number 1, at place 0.
-    #[error("too many bytes")]
     TooLong,
     /// A request for memory was refused: number 9, at place 0.
-    #[error("no memory")]
     NoMemory,
     /// A text is no hex text: number 70, at the place of its first byte that begins neither blank space nor a pair.
-    #[error("no hex text at place {place}")]
     NotHex { place: usize },
     /// The text is no program's: numbers 9 and 20 to 24, at the faulty line.
-    #[error("{0}")]
     Assemble(AsmFault),
     /// The bytes are no program that is found safe: the fault's number, at the faulty unit.
-    #[error("{0}")]
     Program(AdmissionFault),
 }
 
@@ -58,6 +54,25 @@ impl Refusal {
         }
     }
 }
+
+impl fmt::Display for Refusal {
+    ghost use Rattle.std.specs.Prelude.{Some};
+    ghost use Rattle.map_server.specs.Meanings.{message_of};
+
+    ghost output = { λ refusal. Some (message_of refusal) };
+
+    fn fmt<W: fmt::Write>(&self, f: &mut fmt::Formatter<W>) -> fmt::Result {
+        match self {
+            Refusal::TooLong => write!(f, "too many bytes"),
+            Refusal::NoMemory => write!(f, "no memory"),
+            Refusal::NotHex { place } => write!(f, "no hex text at place {place}"),
+            Refusal::Assemble(fault) => write!(f, "{fault}"),
+            Refusal::Program(fault) => write!(f, "{fault}"),
+        }
+    }
+}
+
+impl Error for Refusal {}
 
 impl From<TooLong> for Refusal {
     ghost use Rattle.std.specs.Prelude.{◌≡◌};

@@ -2,6 +2,7 @@
 mod answers;
 mod arithmetic;
 mod faults;
+mod meanings;
 mod memory;
 mod programs;
 mod texts;

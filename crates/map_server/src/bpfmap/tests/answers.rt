@@ -10,7 +10,7 @@ const SUM: &str = "79 20 00 00 00 00 00 00\n79 39 00 00 00 00 00 00\n0f 90 00 00
 // Nothing.
 const NOTHING: &str = "b7000000ffffffff 9500000000000000";
 
-/// What the words print on this input, and the status. Standard error stays empty.
+/// What the words print on this input, and the status. Standard error is told a line of a refusal, and else nothing.
 fn holds<R: AllocGlobal + Abort>(
     rt: &R,
     words: &str,
@@ -22,7 +22,9 @@ fn holds<R: AllocGlobal + Abort>(
     let is_printed = found.output.as_slice() == printed.as_bytes();
     assert!(rt; is_printed, "{words} on {input}");
     assert!(rt; found.status == status, "{words} on {input}");
-    assert!(rt; found.errors.is_empty(), "{words} on {input}");
+    let is_refused = printed.starts_with("refused ");
+    assert!(rt; found.errors.ends_with(b"\n") == is_refused, "{words} on {input}");
+    assert!(rt; found.errors.is_empty() != is_refused, "{words} on {input}");
     Ok(())
 }
 

@@ -148,7 +148,7 @@ fn failed_writes_end_with_status_3(rt: HostRuntime) -> Result<(), Fail> {
 #[test]
 fn unread_words_are_told(rt: HostRuntime) {
     for (kind, expected, output, line) in [
-        (ErrorKind::OutOfMemory, 1, "refused 9 at 0\n", ""),
+        (ErrorKind::OutOfMemory, 1, "refused 9 at 0\n", "no memory\n"),
         (
             ErrorKind::InvalidData,
             2,

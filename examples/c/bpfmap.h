@@ -1,0 +1,130 @@
+/* Programs for bpfmap in C. docs/C.md says how to use this; examples/c/build makes hex of a program.
+ *
+ *     #include "bpfmap.h"
+ *
+ *     PROGRAM
+ *     {
+ *         store64(result, 0, load64(old, 0) + load64(arg, 0));
+ *         return 8;
+ *     }
+ *
+ * The body finds these parameters:
+ *
+ *     key, old, arg                          windows that may be read: zeros behind the value's own bytes
+ *     result                                 the window that may be written, and read where it was written
+ *     key_length, old_length, arg_length     bytes of each; -1 for an old value or argument that is absent
+ *
+ * It returns NOTHING, or how many of the result's first bytes are the answer. Each of them must have been written.
+ *
+ * The same file compiles for the host, where the windows are arrays: so an answer can be compared. */
+#ifndef BPFMAP_H
+#define BPFMAP_H
+
+typedef unsigned char u8;
+typedef unsigned short u16;
+typedef unsigned int u32;
+typedef unsigned long long u64;
+typedef signed char s8;
+typedef short s16;
+typedef int s32;
+typedef long long s64;
+
+#define NOTHING (-1)
+
+#define ALWAYS_INLINE static inline __attribute__((always_inline))
+
+/* ---- the program */
+
+/* For BPF the lengths are in r6, r7 and r8 at entry, from which the one assembler statement takes them before anything else
+ * is done with those registers. */
+#define BODY_PARAMETERS                                                                                                \
+    const u8 *key, const u8 *old, const u8 *arg, u8 *result, s64 key_length, s64 old_length, s64 arg_length
+
+#ifdef __bpf__
+#define PROGRAM                                                                                                        \
+    ALWAYS_INLINE s64 program_body(BODY_PARAMETERS);                                                                   \
+    s64 program(const u8 *key, const u8 *old, const u8 *arg, u8 *result)                                               \
+    {                                                                                                                  \
+        register s64 key_length asm("r6");                                                                             \
+        register s64 old_length asm("r7");                                                                             \
+        register s64 arg_length asm("r8");                                                                             \
+        asm volatile("" : "=r"(key_length), "=r"(old_length), "=r"(arg_length));                                       \
+        return program_body(key, old, arg, result, key_length, old_length, arg_length);                               \
+    }                                                                                                                  \
+    ALWAYS_INLINE s64 program_body(BODY_PARAMETERS)
+#else
+#define PROGRAM s64 program_body(BODY_PARAMETERS)
+#endif
+
+/* Each turn of the loop behind it is written out: no jump may lead back. */
+#ifdef __clang__
+#define UNROLL _Pragma("clang loop unroll(full)")
+#else
+#define UNROLL
+#endif
+
+/* ---- loads and stores of numbers, little-endian, at an offset in bytes from the window's first */
+
+/* BPF loads from any address; the types for the host say that too. */
+#ifdef __bpf__
+#define AT_ANY_ADDRESS __attribute__((may_alias))
+#else
+#define AT_ANY_ADDRESS __attribute__((may_alias, aligned(1)))
+#endif
+
+typedef u8 AT_ANY_ADDRESS stored8;
+typedef u16 AT_ANY_ADDRESS stored16;
+typedef u32 AT_ANY_ADDRESS stored32;
+typedef u64 AT_ANY_ADDRESS stored64;
+
+#define DEFINE_ACCESS(bits)                                                                                            \
+    ALWAYS_INLINE u##bits load##bits(const void *window, u64 offset)                                                   \
+    {                                                                                                                  \
+        return *(const stored##bits *)((const u8 *)window + offset);                                                   \
+    }                                                                                                                  \
+    ALWAYS_INLINE void store##bits(void *window, u64 offset, u##bits value)                                            \
+    {                                                                                                                  \
+        *(stored##bits *)((u8 *)window + offset) = value;                                                              \
+    }
+
+DEFINE_ACCESS(8)
+DEFINE_ACCESS(16)
+DEFINE_ACCESS(32)
+DEFINE_ACCESS(64)
+
+/* ---- what keeps the compiler from taking away what the verifier has to see */
+
+/* The value is used here, and may be any from here on: what the compiler knew of it is forgotten. */
+#define OPAQUE(value) asm volatile("" : "+r"(value))
+
+/* Makes an unsigned variable of 64 bits at most this constant. The test and what it bounds are one register. */
+#ifdef __bpf__
+#define BOUND(value, most) asm volatile("if %0 <= %1 goto +1\n\t%0 = %1" : "+r"(value) : "i"(most))
+#else
+#define BOUND(value, most)                                                                                             \
+    do {                                                                                                               \
+        if ((value) > (most))                                                                                          \
+            (value) = (most);                                                                                          \
+    } while (0)
+#endif
+
+/* Keeps the low bits of a variable of 64 bits that this constant has, even where the compiler knows that there are no
+ * others. */
+#ifdef __bpf__
+#define MASK(value, bits) asm volatile("%0 &= %1" : "+r"(value) : "i"(bits))
+#else
+#define MASK(value, bits) ((value) &= (bits))
+#endif
+
+/* Returns this number from an EXIT of its own, so that what was written on this way counts for this answer alone. */
+#ifdef __bpf__
+#define ANSWER(length)                                                                                                 \
+    do {                                                                                                               \
+        asm volatile("r0 = %0\n\texit" : : "ri"((s64)(length)) : "r0", "memory");                                      \
+        __builtin_unreachable();                                                                                       \
+    } while (0)
+#else
+#define ANSWER(length) return (length)
+#endif
+
+#endif
