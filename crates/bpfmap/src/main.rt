@@ -13,6 +13,7 @@ fn status(rt: &HostRuntime) -> io::Result<u8> {
     let mut writer = StreamSink::new(rt.stdout());
     let mut errors = StreamSink::new(rt.stderr());
     Ok(bpfmap_on(
+        rt,
         alloc,
         words.as_slice(),
         &mut reader,

@@ -1,6 +1,7 @@
 //! The program `bpfmap`: its words, what its commands do, and what it prints.
 mod commands;
 mod ending;
+mod exec;
 mod hex;
 mod meaning;
 mod program;

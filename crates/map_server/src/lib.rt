@@ -1,9 +1,10 @@
 //! What the programs do, over readers and writers that are handed in.
 //!
 //! The promise to the layers above: `bpfmap_on` does what its words ask for, prints and tells that and nothing else (by
-//! `specs/CommandLine.antt`, `specs/Commands.antt` and `specs/Endings.antt`); `admit` takes bytes to a verified program,
-//! and knows no text. Nothing waits. What a program reads it keeps in memory; a refused request for memory is told as a
-//! refusal.
+//! `specs/CommandLine.antt`, `specs/Commands.antt`, `specs/Endings.antt` and `specs/Executions.antt`); `session_alone`
+//! writes the answers to the requests that it reads, and no more (by `specs/Requests.antt` and `specs/Sessions.antt`);
+//! `admit` takes bytes to a verified program, and knows no text. A session waits for its reader, and nothing else waits. A
+//! refused request for memory is told as a refusal.
 #![tactic(auto)]
 
 mod admission;
