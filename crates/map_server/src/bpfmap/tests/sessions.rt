@@ -1,6 +1,6 @@
 //! Sessions: what `bpfmap exec` answers to request frames.
-use super::memory::{Outcome, Pieces, ROOM, call};
-use crate::hex_bytes;
+use super::memory::{Outcome, Pieces, ROOM, Room, call};
+use crate::{Alone, SessionEnd, StreamSink, StreamSource, hex_bytes, session_alone};
 use std::process::Abort;
 use std::sync::Wait;
 use std::test::Fail;
@@ -332,6 +332,41 @@ fn an_output_that_fails_is_told(rt: HostRuntime) {
             assert!(&rt; found.errors.as_slice() == b"failed write\n".as_slice());
         }
     }
+}
+
+/// One session over a table that stays, with this room for what is written.
+fn session<R: AllocGlobal + Wait>(
+    rt: &R,
+    alone: &mut Alone,
+    bytes: &[u8],
+    room: usize,
+) -> (SessionEnd, Vec<u8>) {
+    let mut reader = StreamSource::new(Pieces {
+        rest: bytes,
+        size: 7,
+        fails: false,
+    });
+    let mut writer = StreamSink::new(Room::new(rt.alloc(), room));
+    let end = session_alone(rt, rt.alloc(), &mut reader, &mut writer, alone);
+    (end, writer.into_inner().bytes)
+}
+
+#[test]
+fn a_call_stands_whose_answer_was_not_written(rt: HostRuntime) -> Result<(), Fail> {
+    let mut get = Vec::new(rt.alloc());
+    get.extend_from_slice(&HELLO)?;
+    get.extend_from_slice(&PUT_AND_GET[17..])?;
+    for room in 6..13usize {
+        let mut alone = Alone::open(rt.alloc(), 4)?;
+        let (end, written) = session(&rt, &mut alone, &PUT_AND_GET, room);
+        assert!(&rt; end == SessionEnd::WriteFailed);
+        assert!(&rt; written.as_slice() == &PUT_AND_GET_ANSWERED[..room]);
+        let (end, written) = session(&rt, &mut alone, &get, ROOM);
+        assert!(&rt; end == SessionEnd::Closed);
+        assert!(&rt; written.len() == 15);
+        assert!(&rt; &written[6..] == &PUT_AND_GET_ANSWERED[13..]);
+    }
+    Ok(())
 }
 
 #[test]
