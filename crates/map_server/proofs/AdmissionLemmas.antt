@@ -1,6 +1,7 @@
 -- A refused program's faulty unit is one of few.
-use Rattle.std.proofs.Common.{◌≡◌, ℕ, ◌+◌, ◌*◌, ◌<◌, ◌≤◌, ◌^◌, ◌/◌, ◌%◌, ◌⊎◌, inl, inr, Bool, true, false, List, ◌++◌, length, Option, Some, None, refl, sym, ap, subst, ◌∙◌, arith, nat_tests, ℤ}
+use Rattle.std.proofs.Common.{◌≡◌, ℕ, ◌+◌, ◌*◌, ◌<◌, ◌≤◌, ◌^◌, ◌/◌, ◌%◌, ◌⊎◌, inl, inr, Bool, true, false, List, ◌++◌, length, Option, Some, None, refl, sym, ap, subst, ◌∙◌, arith, ℤ}
 use Rattle.std.specs.Prelude.{IsSome, nat_eq, nat_lt, not, cond}
+use Rattle.std.proofs.lemmas.Bool.Decides.{nat_tests}
 use Rattle.std.proofs.lemmas.List.{length-append}
 use Rattle.bpf_model.specs.declared.limits.TheConstants.{PROGRAM_UNITS}
 use Rattle.bpf_model.specs.declared.input.Sizes.{Sizes}
@@ -12,8 +13,7 @@ use Rattle.bpf_model.proofs.SpellingLaws.{length-spelling_of_all}
 use Rattle.bpf_decode.specs.Faults as decode
 use Rattle.bpf_decode.specs.declared.fault.DecodeFault.{DecodeFault}
 use Rattle.bpf_decode.specs.declared.fault.DecodeFault.TheVariants.{Empty, NotWholeUnits, TooManyUnits}
-use Rattle.bpf_decode.specs.declared.fault.UnitFault.{UnitFault}
-use Rattle.bpf_decode.specs.declared.fault.UnitFault.TheVariants.{UnknownOpcode, BadRegister, UnusedNotZero, BadWidth, CutWide}
+use Rattle.bpf_decode.proofs.UnitOfFault.{unit_of-at_unit}
 use Rattle.flow_shape.specs.FlowShape as flow
 use Rattle.flow_shape.specs.Jumps.{distance_of, JumpsBy}
 use Rattle.flow_shape.specs.declared.fault.FlowFault.{FlowFault}
@@ -45,20 +45,13 @@ few_units false false n e =
     is_some : {x : DecodeFault} → Some x ≡ None → ⊥
     is_some e = cc
 
-unit_named : (unit : ℕ) (fault : UnitFault) → decode.unit_of (decode.at_unit unit fault) ≡ unit
-unit_named unit UnknownOpcode = refl
-unit_named unit BadRegister = refl
-unit_named unit UnusedNotZero = refl
-unit_named unit BadWidth = refl
-unit_named unit CutWide = refl
-
 decode_unit : (bytes : List ℕ) (fault : DecodeFault) → decode.IsFirstFault bytes fault → decode.unit_of fault < 2 ^ 32
 decode_unit bytes fault (inl e) = let zero = length_unit _ _ _ fault e in omega (arith, zero)
 decode_unit bytes fault (inr (e, has)) =
     let few = few_units _ _ _ e in
     let after = unit_bytes has.fields ++ has.rest in
     let len : length bytes ≡ 8 * unit_count has.front + length after = ap length has.spelled ∙ length-append (spelling_of_all has.front) after ∙ omega (arith, length-spelling_of_all has.front) in
-    let named : decode.unit_of fault ≡ unit_count has.front = ap decode.unit_of has.named ∙ unit_named (unit_count has.front) has.of_unit in
+    let named : decode.unit_of fault ≡ unit_count has.front = ap decode.unit_of has.named ∙ unit_of-at_unit (unit_count has.front) has.of_unit in
     omega (arith, few, len, named)
 
 -- ---- faults of flow

@@ -91,10 +91,12 @@ impl Ending {
                 let line = Report::Refused(*refusal).line();
                 refuse(line.as_slice(), meaning.as_bytes(), writer, errors)
             }
-            Ending::NoMemory => refuse(b"refused 9 at 0\n", b"no memory\n", writer, errors),
+            Ending::NoMemory => {
+                let line = Report::Refused(Refusal::NoMemory).line();
+                refuse(line.as_slice(), b"no memory\n", writer, errors)
+            }
             Ending::BadStripes => {
-                let meaning = b"not a number of stripes\n";
-                refuse(b"refused 50 at 0\n", meaning, writer, errors)
+                refuse(b"refused 50 at 0\n", b"not a number of stripes\n", writer, errors)
             }
             Ending::Shown(text) => print(text.as_bytes(), 0, writer, errors),
             Ending::Faulty(text) => warn(text.as_bytes(), FAULT_OF_WORDS, errors),
