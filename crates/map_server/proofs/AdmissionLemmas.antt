@@ -46,9 +46,9 @@ few_units false false n e =
     is_some e = cc
 
 decode_unit : (bytes : List ℕ) (fault : DecodeFault) → decode.IsFirstFault bytes fault → decode.unit_of fault < 2 ^ 32
-decode_unit bytes fault (inl e) = let zero = length_unit _ _ _ fault e in omega (arith, zero)
+decode_unit bytes fault (inl e) = let zero : decode.unit_of fault ≡ 0 = length_unit (nat_eq (length bytes) 0) (not (nat_eq (length bytes % 8) 0)) (nat_lt PROGRAM_UNITS (length bytes / 8)) fault e in omega (arith, zero)
 decode_unit bytes fault (inr (e, has)) =
-    let few = few_units _ _ _ e in
+    let few : length bytes / 8 ≤ PROGRAM_UNITS = few_units (nat_eq (length bytes) 0) (not (nat_eq (length bytes % 8) 0)) (length bytes / 8) e in
     let after = unit_bytes has.fields ++ has.rest in
     let len : length bytes ≡ 8 * unit_count has.front + length after = ap length has.spelled ∙ length-append (spelling_of_all has.front) after ∙ omega (arith, length-spelling_of_all has.front) in
     let named : decode.unit_of fault ≡ unit_count has.front = ap decode.unit_of has.named ∙ unit_of-at_unit (unit_count has.front) has.of_unit in

@@ -6,3 +6,4 @@ pub mod AnsweringLemmas
 pub mod SessionLemmas
 pub mod AdmissionLemmas
 pub mod RequestLemmas
+pub mod ExecutionLemmas
