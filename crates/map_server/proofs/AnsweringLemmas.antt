@@ -21,9 +21,10 @@ part_more a b bytes more ((front, (rest, taken, parts, some)), count) =
 
 -- the front is there, and a part of what follows
 pub part_after : (a b c : SinkState) (first bytes : List ℕ) → Takes a b first → TakesPart b c bytes → TakesPart a c (first ++ bytes)
-part_after a b c first bytes whole ((front, (rest, taken, parts, some)), count) =
-    ((first ++ front, (rest, Appends-trans a.held b.held c.held first front whole.0 taken, ap (λ (t : List ℕ). first ++ t) parts ∙ sym (append_assoc first front rest), some)),
-     count ∙ ap (λ (n : ℕ). n + 1) whole.1)
+part_after a b c first bytes whole ((front, (rest, taken, parts, some)), count) = (
+  (first ++ front, (rest, Appends-trans a.held b.held c.held first front whole.0 taken, ap (λ (t : List ℕ). first ++ t) parts ∙ sym (append_assoc first front rest), some)),
+  count ∙ ap (λ (n : ℕ). n + 1) whole.1,
+)
 
 -- a front of a list, and one more element
 pub front_at : {A : Type 0} (xs : List A) (i : ℕ) (x : A) → i < length xs → x ≡ get_or xs i x → take (i + 1) xs ≡ take i xs ++ x ∷ []
@@ -90,7 +91,13 @@ module _ {S : Type 0} (Answers : S → Request → List Response → S → Type 
   pub breaks_then : (old mid new : S) (rs ss : List Request) (v w : List ℕ) → Answered Answers old rs v mid → BreaksOff Answers mid ss w new → BreaksOff Answers old (rs ++ ss) (v ++ w) new
   breaks_then old mid new rs ss v w first b =
       record {
-        done = rs ++ b.done; request = b.request; left = b.left; before = v ++ b.before; mid = b.mid; responses = b.responses; part = b.part;
+        done = rs ++ b.done;
+        request = b.request;
+        left = b.left;
+        before = v ++ b.before;
+        mid = b.mid;
+        responses = b.responses;
+        part = b.part;
         order = ap (λ (t : List Request). rs ++ t) b.order ∙ sym (append_assoc rs b.done (b.request ∷ b.left));
         answered = answered_then old mid b.mid rs b.done v b.before first b.answered;
         made = b.made;
@@ -107,17 +114,19 @@ module _ {S : Type 0} (Answers : S → Request → List Response → S → Type 
   pub answered_more : (a b c : SinkState) (old mid new : S) (xs : List Request) (i : ℕ) (r : Request) (out : List Response) (v : List ℕ) → i < length xs → r ≡ get_or xs i r
       → Takes a b v → Answered Answers old (take i xs) v mid → Answers mid r out new → Takes b c (response_frames out)
       → (w : List ℕ) × Takes a c w × Answered Answers old (take (i + 1) xs) w new
-  answered_more a b c old mid new xs i r out v lt is taken before answers more =
-      (v ++ response_frames out,
-       takes_then a b c v (response_frames out) taken more,
-       subst (λ (t : List Request). Answered Answers old t (v ++ response_frames out) new) (sym (front_at xs i r lt is)) (answered_then old mid new (take i xs) (r ∷ []) v (response_frames out) before (answered_one mid new r out answers)))
+  answered_more a b c old mid new xs i r out v lt is taken before answers more = (
+    v ++ response_frames out,
+    takes_then a b c v (response_frames out) taken more,
+    subst (λ (t : List Request). Answered Answers old t (v ++ response_frames out) new) (sym (front_at xs i r lt is)) (answered_then old mid new (take i xs) (r ∷ []) v (response_frames out) before (answered_one mid new r out answers)),
+  )
 
   -- the answer to the next is written in part
   pub cut_at : (a b c : SinkState) (old mid new : S) (xs : List Request) (i : ℕ) (r : Request) (out : List Response) (v : List ℕ) → i < length xs → r ≡ get_or xs i r
       → Takes a b v → Answered Answers old (take i xs) v mid → Answers mid r out new → TakesPart b c (response_frames out)
       → (w : List ℕ) × TakesThenFails a c w × BreaksOff Answers old xs w new
-  cut_at a b c old mid new xs i r out v lt taken-is taken before answers ((front, (rest, more, parts, some)), count) =
-      (v ++ front,
-       (Appends-trans a.held b.held c.held v front taken.0 more, count ∙ ap (λ (n : ℕ). n + 1) taken.1),
-       subst (λ (t : List Request). BreaksOff Answers old t (v ++ front) new) (parted_at xs i r lt taken-is)
-       (breaks_then old mid new (take i xs) (r ∷ drop (i + 1) xs) v front before (breaks_one mid new r (drop (i + 1) xs) out front answers (rest, parts, some))))
+  cut_at a b c old mid new xs i r out v lt taken-is taken before answers ((front, (rest, more, parts, some)), count) = (
+    v ++ front,
+    (Appends-trans a.held b.held c.held v front taken.0 more, count ∙ ap (λ (n : ℕ). n + 1) taken.1),
+    subst (λ (t : List Request). BreaksOff Answers old t (v ++ front) new) (parted_at xs i r lt taken-is)
+        (breaks_then old mid new (take i xs) (r ∷ drop (i + 1) xs) v front before (breaks_one mid new r (drop (i + 1) xs) out front answers (rest, parts, some))),
+  )

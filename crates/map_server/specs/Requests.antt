@@ -108,8 +108,8 @@ RunsOut old responses new = Tells old (tell.Refused 9 0) responses new
 abbrev pub Registers : Alone → Sizes → List ℕ → List Response → Alone → Type 0
 Registers old sizes bytes responses new =
     ((program : Checked) × IsAdmitted bytes sizes program.program × (program.sizes ≡ sizes) × (ExceedLimits sizes → ⊥)
-      × (responses ≡ tell.Registered (length old.programs) ∷ [])
-      × (new.programs ≡ old.programs ++ program ∷ []) × (new.table ≡ old.table))
+    × (responses ≡ tell.Registered (length old.programs) ∷ [])
+    × (new.programs ≡ old.programs ++ program ∷ []) × (new.table ≡ old.table))
     ⊎ (((fault : AdmissionFault) × IsRefused bytes sizes fault × Tells old (tell.Refused (number_of fault) (unit_of fault)) responses new)
     ⊎ RunsOut old responses new)
 
@@ -123,7 +123,7 @@ response_to (replied.Unfit window) = tell.Unfit window
 abbrev pub Calls : Alone → Invocation → List Response → Alone → Type 0
 Calls old invocation responses new =
     ((reply : Reply) × Answers old.table invocation new.table reply × (new.programs ≡ old.programs)
-      × (responses ≡ response_to reply ∷ []))
+    × (responses ≡ response_to reply ∷ []))
     ⊎ (WouldAdd old.table invocation × RunsOut old responses new)
 
 -- the walk is made over all entries, in key order; it changes nothing

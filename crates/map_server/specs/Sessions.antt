@@ -55,7 +55,7 @@ module _ {S : Type 0} (Answers : S → Request → List Response → S → Type 
   Owes old read number written new =
       ((fault : ProtocolFault) × (number ≡ fault_number fault) × AllAnswered old read (failed fault) written new)
       ⊎ ((number ≡ 9) × (taken : List ℕ) × (piece : List ℕ) × (hello : Option Version) × (rest : List ℕ)
-        × (read ≡ taken ++ piece) × AllAnswered old taken (open_at hello rest) written new)
+      × (read ≡ taken ++ piece) × AllAnswered old taken (open_at hello rest) written new)
 
   -- a session that ended so had read and written these bytes, and what the last is is served then
   abbrev pub Ended : S → SessionEnd → List ℕ → List ℕ → S → Type 0
@@ -69,7 +69,7 @@ module _ {S : Type 0} (Answers : S → Request → List Response → S → Type 
   Ended old WriteFailed read written new =
       ((requests : List Request) × (held : Held) × Frames None read requests held × BreaksOff Answers old requests written new)
       ⊎ ((number : ℕ) × (before : List ℕ) × (part : List ℕ)
-        × Owes old read number before new × IsPart part (refusal number) × (written ≡ before ++ part))
+      × Owes old read number before new × IsPart part (refusal number) × (written ≡ before ++ part))
   Ended old NoMemory read written new =
       (taken : List ℕ) × (piece : List ℕ) × (hello : Option Version) × (rest : List ℕ) × (before : List ℕ)
       × (read ≡ taken ++ piece) × AllAnswered old taken (open_at hello rest) before new × (written ≡ before ++ refusal 9)

@@ -16,8 +16,8 @@ mod session;
 pub use admission::{AdmissionFault, admit};
 pub use alone::{Alone, session_alone};
 pub use bpfmap::{
-    Command, Ending, HexFault, LINE_BYTES, Line, Refusal, Report, RunTexts, Task, bpfmap_on, hex_bytes,
-    parse_words, report_of, tell_unread_words, unit_lines,
+    Command, Ending, HexFault, LINE_BYTES, Line, Refusal, Report, RunTexts, Task, bpfmap_on,
+    hex_bytes, parse_words, report_of, tell_unread_words, unit_lines,
 };
 pub use devices::{Failed, ReadFault, Sink, Source, StreamSink, StreamSource, read_all, write_all};
 pub use session::{Answer, Service, SessionEnd, run_session};

@@ -10,13 +10,12 @@ ghost use Rattle.map_server.specs.Sessions.{Ended, IsTold, failed_reads, failed_
 mod send;
 mod service;
 
-pub use send::end_of;
-pub use service::{Answer, Service};
-
 use crate::devices::{Failed, Sink, Source};
 use crate::session::send::{refuse, send};
 use bpf_model::NoMemory;
 use client_protocol::{Feeder, ProtocolFault, Request};
+pub use send::end_of;
+pub use service::{Answer, Service};
 use std::alloc::Global;
 use std::sync::Wait;
 

@@ -96,7 +96,12 @@ impl Ending {
                 refuse(line.as_slice(), b"no memory\n", writer, errors)
             }
             Ending::BadStripes => {
-                refuse(b"refused 50 at 0\n", b"not a number of stripes\n", writer, errors)
+                refuse(
+                    b"refused 50 at 0\n",
+                    b"not a number of stripes\n",
+                    writer,
+                    errors,
+                )
             }
             Ending::Shown(text) => print(text.as_bytes(), 0, writer, errors),
             Ending::Faulty(text) => warn(text.as_bytes(), FAULT_OF_WORDS, errors),

@@ -23,9 +23,19 @@ pub returns-in_default-answer_all-clause-ended : goal.returns-in_default-answer_
 returns-in_default-answer_all-clause-ended g c =
     let (read, before, consumed, appended, all) = c.loop.invariant.so_far in
     let piece = take c.in-Ok.n c.read.new.buffer in
-    let (part, more, breaks) = c.in_default-answer_all.ensures.err in
-    (read ++ piece, (before ++ part, (Consumes-trans _ _ _ read piece consumed c.in-Ok.ensures.bytes.0, (Appends-trans _ _ _ before part appended more.0,
-    write_failed_end g.S.Service.answers c.args.service.now c.loop.service c.answer_all.new.service c.loop.feeder c.feed.new.self read piece before part _ all c.in-Ok-feed.ensures.requests (rw c.deref.ensures.value at breaks)))))
+    let (part, more, breaks) = c.in_default-answer_all.ensures.err in (
+      read ++ piece,
+      (
+        before ++ part,
+        (
+          Consumes-trans _ _ _ read piece consumed c.in-Ok.ensures.bytes.0,
+          (
+            Appends-trans _ _ _ before part appended more.0,
+            write_failed_end g.S.Service.answers c.args.service.now c.loop.service c.answer_all.new.service c.loop.feeder c.feed.new.self read piece before part _ all c.in-Ok-feed.ensures.requests (rw c.deref.ensures.value at breaks),
+          ),
+        ),
+      ),
+    )
 
 pub returns-in-Some-fault-clause-ended : goal.returns-in-Some-fault-clause-ended
 returns-in-Some-fault-clause-ended g c =
@@ -34,7 +44,7 @@ returns-in-Some-fault-clause-ended g c =
     let (written, more, answered) = c.in-Ok-answer_all.ensures.ok in
     let all2 = goes_on g.S.Service.answers c.args.service.now c.loop.service c.answer_all.new.service read piece before written c.loop.feeder c.feed.new.self _ all c.in-Ok-feed.ensures.requests (rw c.deref.ensures.value at answered) in
     let (w, rest) = fault_ends g.S.Service.answers c.args.service.now c.answer_all.new.service c.refuse-in-Some-fault.result c.in-Some-fault.fault c.number.result (g.W.Sink.state c.args.writer.now) (g.W.Sink.state c.answer_all.new.writer) (g.W.Sink.state c.refuse-in-Some-fault.new.writer) c.feed.new.self (read ++ piece) (before ++ written) c.number.ensures
-        c.refuse-in-Some-fault.ensures.either c.refuse-in-Some-fault.ensures.sent c.refuse-in-Some-fault.ensures.part (Appends-trans _ _ _ before written appended more.0) (sym c.in-Ok-feed.ensures.fault ∙ c.in-Some-fault.is) all2 in
+    c.refuse-in-Some-fault.ensures.either c.refuse-in-Some-fault.ensures.sent c.refuse-in-Some-fault.ensures.part (Appends-trans _ _ _ before written appended more.0) (sym c.in-Ok-feed.ensures.fault ∙ c.in-Some-fault.is) all2 in
     (read ++ piece, (w, (Consumes-trans _ _ _ read piece consumed c.in-Ok.ensures.bytes.0, rest)))
 
 pub loop-preserved : goal.loop-preserved
@@ -46,6 +56,11 @@ loop-preserved g c =
       reads = c.in-Ok.ensures.ok ∙ c.loop.invariant.reads;
       writes = more.1 ∙ c.loop.invariant.writes;
       faultless = sym c.in-Ok-feed.ensures.fault ∙ c.in_default-fault.is;
-      so_far = (read ++ piece, before ++ written, Consumes-trans _ _ _ read piece consumed c.in-Ok.ensures.bytes.0, Appends-trans _ _ _ before written appended more.0,
-        goes_on g.S.Service.answers c.args.service.now c.loop.service c.answer_all.new.service read piece before written c.loop.feeder c.feed.new.self _ all c.in-Ok-feed.ensures.requests (rw c.deref.ensures.value at answered));
+      so_far = (
+        read ++ piece,
+        before ++ written,
+        Consumes-trans _ _ _ read piece consumed c.in-Ok.ensures.bytes.0,
+        Appends-trans _ _ _ before written appended more.0,
+        goes_on g.S.Service.answers c.args.service.now c.loop.service c.answer_all.new.service read piece before written c.loop.feeder c.feed.new.self _ all c.in-Ok-feed.ensures.requests (rw c.deref.ensures.value at answered),
+      );
     }

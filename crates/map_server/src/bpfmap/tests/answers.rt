@@ -24,7 +24,10 @@ fn holds<R: AllocGlobal + Wait + Abort>(
     assert!(rt; is_printed, "{words} on {input}");
     assert!(rt; found.status == status, "{words} on {input}");
     let is_refused = printed.starts_with("refused ");
-    assert!(rt; found.errors.ends_with(b"\n") == is_refused, "{words} on {input}");
+    assert!(rt;
+        found.errors.ends_with(b"\n") == is_refused,
+        "{words} on {input}"
+    );
     assert!(rt; found.errors.is_empty() != is_refused, "{words} on {input}");
     Ok(())
 }

@@ -126,21 +126,9 @@ fn failed_writes_end_with_status_3(rt: HostRuntime) -> Result<(), Fail> {
             );
         }
     }
-    let all = call(
-        &rt,
-        &["bpfmap", "run"],
-        pieces(NOTHING, 5, false),
-        8,
-        0,
-    );
+    let all = call(&rt, &["bpfmap", "run"], pieces(NOTHING, 5, false), 8, 0);
     assert!(rt; all.status == 0 && all.output.as_slice() == b"nothing\n".as_slice());
-    let words = call(
-        &rt,
-        &["bpfmap", "walk"],
-        pieces(NOTHING, 5, false),
-        8,
-        0,
-    );
+    let words = call(&rt, &["bpfmap", "walk"], pieces(NOTHING, 5, false), 8, 0);
     assert!(rt; words.status == 2 && words.output.is_empty());
     Ok(())
 }
@@ -178,7 +166,14 @@ fn interrupted_reads_and_writes_are_tried_again(rt: HostRuntime) {
         let mut writer = StreamSink::new(output);
         let mut errors = StreamSink::new(Room::new(rt.alloc(), ROOM));
         let words = ["bpfmap", "run"];
-        let status = bpfmap_on(&rt, rt.alloc(), &words, &mut reader, &mut writer, &mut errors);
+        let status = bpfmap_on(
+            &rt,
+            rt.alloc(),
+            &words,
+            &mut reader,
+            &mut writer,
+            &mut errors,
+        );
         let printed = writer.into_inner().inner.bytes;
         assert!(rt; status == 0, "interrupted {times} times");
         assert!(rt;

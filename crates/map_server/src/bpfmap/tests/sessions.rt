@@ -269,7 +269,11 @@ fn is_answered<R: AllocGlobal + Wait + Abort>(
     answered.extend_from_slice(&hex_bytes(rt.alloc(), row.answered.as_bytes())?)?;
     for size in [ROOM, 1] {
         let found = exec(rt, &sent, size);
-        assert!(rt; found.output.as_slice() == answered.as_slice(), "{}", row.name);
+        assert!(rt;
+            found.output.as_slice() == answered.as_slice(),
+            "{}",
+            row.name
+        );
         assert!(rt; found.status == row.status, "{}", row.name);
         assert!(rt; found.errors.is_empty(), "{}", row.name);
     }

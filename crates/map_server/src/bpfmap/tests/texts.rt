@@ -16,7 +16,10 @@ fn prints<R: AllocGlobal + Wait + Abort>(
     let is_printed = found.output.as_slice() == printed.as_bytes();
     assert!(rt; is_printed, "{command} of {input}");
     assert!(rt; found.status == status, "{command} of {input}");
-    assert!(rt; found.errors.is_empty() == (status == 0), "{command} of {input}");
+    assert!(rt;
+        found.errors.is_empty() == (status == 0),
+        "{command} of {input}"
+    );
     Ok(())
 }
 

@@ -9,24 +9,27 @@ returns-in-Err-NoMemory g c =
 pub returns : goal.returns
 returns g c =
     let (read, (written, (consumed, (appended, ended)))) = c.session_alone-end.ensures.ended in
-    inr (inr (opened_is_no_bad_count c.args.stripes c.from.result c.from.ensures c.in-Ok.ensures.bad_stripes, record {
-      end = c.session_alone-end.result;
-      sent = g.W.Sink.state c.session_alone-end.new.writer;
-      session = record {
-        before = c.in-Ok.alone;
-        is_new = c.in-Ok.ensures.ok;
-        after = c.session_alone-end.new.alone;
-        read = read;
-        written = written;
-        consumed = consumed;
-        appended = appended;
-        ended = ended;
-        told = c.session_alone-end.ensures.told;
-        whole = c.session_alone-end.ensures.whole;
-        reads = c.session_alone-end.ensures.reads;
-        writes = c.session_alone-end.ensures.writes;
-      };
-      told = c.flushed-told.result;
-      flushed = c.flushed-told.ensures;
-      ending = c.tell_end.ensures;
-    }))
+    inr (inr (
+      opened_is_no_bad_count c.args.stripes c.from.result c.from.ensures c.in-Ok.ensures.bad_stripes,
+      record {
+        end = c.session_alone-end.result;
+        sent = g.W.Sink.state c.session_alone-end.new.writer;
+        session = record {
+          before = c.in-Ok.alone;
+          is_new = c.in-Ok.ensures.ok;
+          after = c.session_alone-end.new.alone;
+          read = read;
+          written = written;
+          consumed = consumed;
+          appended = appended;
+          ended = ended;
+          told = c.session_alone-end.ensures.told;
+          whole = c.session_alone-end.ensures.whole;
+          reads = c.session_alone-end.ensures.reads;
+          writes = c.session_alone-end.ensures.writes;
+        };
+        told = c.flushed-told.result;
+        flushed = c.flushed-told.ensures;
+        ending = c.tell_end.ensures;
+      },
+    ))
