@@ -51,6 +51,12 @@ module _ {S : Type 0} (Answers : S → Request → List Response → S → Type 
   read_failed_end old new (open_at hello rest) read written e all = (hello, rest, all)
   read_failed_end old new (failed fault) read written e all = absurd cc
 
+  -- the end was told, and no byte came with it
+  pub nothing_came : (a b c : Option (List ℕ)) (read buffer : List ℕ) (n : ℕ) → Consumes a b read → Consumes b c (take n buffer) → n ≡ 0 → Consumes a c read
+  nothing_came a b c read buffer n first later none =
+      let empty : take n buffer ≡ [] = ap (λ (k : ℕ). take k buffer) none in
+      subst (λ (t : List ℕ). Consumes a c t) (append-nil read) (Consumes-trans a b c read [] first (subst (λ (t : List ℕ). Consumes b c t) empty later))
+
   -- the answers to a piece break off
   pub write_failed_end : (old mid new : S) (held next : Held) (read piece before part : List ℕ) (ss : List Request) → AllAnswered Answers old read held before mid → Feeds held piece ss next → BreaksOff Answers mid ss part new → Ended Answers old WriteFailed (read ++ piece) (before ++ part) new
   write_failed_end old mid new held next read piece before part ss (rs, frames, answered) feeds breaks =

@@ -1,7 +1,7 @@
-use Rattle.std.proofs.Common.{◌≡◌, [], ◌++◌, ℕ, List, take, refl, sym, ap, ◌∙◌}
+use Rattle.std.proofs.Common.{◌≡◌, true, false, arith, [], ◌++◌, ℕ, List, take, refl, sym, ap, ◌∙◌}
 use Rattle.std.proofs.KnownBytes.{Appends-trans, Appends-nil, Consumes-trans, Consumes-nil}
-use Rattle.client_protocol.specs.Frames.{fault_of}
-use Rattle.map_server.proofs.SessionLemmas.{begins, goes_on, write_failed_end, memory_ends, fault_ends}
+use Rattle.client_protocol.specs.Frames.{fault_of, is_inside}
+use Rattle.map_server.proofs.SessionLemmas.{nothing_came, cut_end, closed_end, begins, goes_on, write_failed_end, memory_ends, fault_ends}
 use Rattle.map_server.proofs.session.run_session.Goals as goal
 
 pub loop-init : goal.loop-init
@@ -11,6 +11,22 @@ loop-init g c = record {
   faultless = ap fault_of c.new-feeder.ensures;
   so_far = ([], [], Consumes-nil _, Appends-nil _, rw c.new-feeder.ensures (begins g.S.Service.answers c.args.service.now));
 }
+
+pub returns-then-is_inside-clause-ended : goal.returns-then-is_inside-clause-ended
+returns-then-is_inside-clause-ended g c =
+    let (read, written, consumed, appended, all) = c.loop.invariant.so_far in
+    let none : c.in-Ok.n ≡ 0 = omega (arith, c.if-n-eq0.true) in
+    let inside : is_inside c.loop.feeder ≡ true = sym c.is_inside.ensures ∙ c.if-is_inside.true in
+    (read, (written, (nothing_came g.S.Service.answers _ _ _ read c.read.new.buffer c.in-Ok.n consumed c.in-Ok.ensures.bytes.0 none, (appended,
+    cut_end g.S.Service.answers c.args.service.now c.loop.service c.loop.feeder read written inside all))))
+
+pub returns-then-n-eq0-clause-ended : goal.returns-then-n-eq0-clause-ended
+returns-then-n-eq0-clause-ended g c =
+    let (read, written, consumed, appended, all) = c.loop.invariant.so_far in
+    let none : c.in-Ok.n ≡ 0 = omega (arith, c.if-n-eq0.true) in
+    let between : is_inside c.loop.feeder ≡ false = sym c.is_inside.ensures ∙ c.if-is_inside.false in
+    (read, (written, (nothing_came g.S.Service.answers _ _ _ read c.read.new.buffer c.in-Ok.n consumed c.in-Ok.ensures.bytes.0 none, (appended,
+    closed_end g.S.Service.answers c.args.service.now c.loop.service c.loop.feeder read written c.loop.invariant.faultless between all))))
 
 pub returns-in_default-feed-clause-ended : goal.returns-in_default-feed-clause-ended
 returns-in_default-feed-clause-ended g c =

@@ -1,16 +1,16 @@
-use Rattle.std.proofs.Common.{inl, inr, refl}
-use Rattle.map_server.proofs.ExecutionLemmas.{opened_is_no_bad_count, memory_is_no_bad_count}
+use Rattle.std.proofs.Common.{inl, inr, refl, Ok, Err}
+use Rattle.map_server.proofs.ExecutionLemmas.{is_no_bad_count, is_opened, is_want_of_memory}
 use Rattle.map_server.proofs.bpfmap.exec.exec.Goals as goal
 
 pub returns-in-Err-NoMemory : goal.returns-in-Err-NoMemory
 returns-in-Err-NoMemory g c =
-    inr (inl (memory_is_no_bad_count c.args.stripes c.from.result c.in-Err-NoMemory.field-0 c.from.ensures c.in-Err-NoMemory.field-0-is c.in-Err-NoMemory.ensures.bad_stripes, c.tell-in-Err-NoMemory.ensures, refl))
+    inr (inl (is_no_bad_count c.args.stripes c.from.result (Err c.in-Err-NoMemory.field-0) c.from.ensures (is_want_of_memory c.in-Err-NoMemory.field-0 c.in-Err-NoMemory.field-0-is) c.in-Err-NoMemory.ensures.bad_stripes, c.tell-in-Err-NoMemory.ensures, refl))
 
 pub returns : goal.returns
 returns g c =
     let (read, (written, (consumed, (appended, ended)))) = c.session_alone-end.ensures.ended in
     inr (inr (
-      opened_is_no_bad_count c.args.stripes c.from.result c.from.ensures c.in-Ok.ensures.bad_stripes,
+      is_no_bad_count c.args.stripes c.from.result (Ok c.in-Ok.alone) c.from.ensures (is_opened c.in-Ok.alone) c.in-Ok.ensures.bad_stripes,
       record {
         end = c.session_alone-end.result;
         sent = g.W.Sink.state c.session_alone-end.new.writer;
