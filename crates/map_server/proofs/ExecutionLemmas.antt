@@ -11,8 +11,8 @@ pub is_no_bad_count : (stripes count : ℕ) (result : Result Alone OpenFault) �
     → (IsErrOf result BadStripes ↔ (IsStripeCount count → ⊥)) → IsBadCount stripes → ⊥
 is_no_bad_count stripes count result is other exact bad = other (exact.1 (subst (λ (n : ℕ). IsStripeCount n → ⊥) (sym is) bad))
 
-pub is_opened : (alone : Alone) → IsErrOf (Ok {E = OpenFault} alone) BadStripes → ⊥
+pub is_opened : (alone : Alone) → IsErrOf {T = Alone} {E = OpenFault} (Ok alone) BadStripes → ⊥
 is_opened alone e = absurd cc
 
-pub is_want_of_memory : (fault : OpenFault) → fault ≡ NoMemory → IsErrOf (Err {T = Alone} fault) BadStripes → ⊥
+pub is_want_of_memory : (fault : OpenFault) → fault ≡ NoMemory → IsErrOf {T = Alone} {E = OpenFault} (Err fault) BadStripes → ⊥
 is_want_of_memory fault is e = absurd cc
