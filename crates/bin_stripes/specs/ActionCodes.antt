@@ -1,4 +1,4 @@
--- What happens on a stripe: an event is a pass's number and what was done with what came of it. Our profile.
+-- Actions as ghost data: how they are told apart.
 use Rattle.std.specs.Prelude.{◌≡◌, ◌⊎◌, ℕ, List, Option, Result}
 use Rattle.std.specs.Coded.{Coded, code_by, coded_ℕ, coded_list, coded_option, coded_result, coded×, coded⊎}
 use base.Stored.{coded_unit}
@@ -13,27 +13,19 @@ use Rattle.bins.specs.Replacements.{Outcome}
 use Rattle.atomic_methods.specs.declared.reply.Reply.{Reply}
 use Rattle.atomic_methods.specs.contracts.reply.Reply.{the_row as reply_row}
 use Rattle.atomic_methods.specs.Invocations.{Method, get, put, put_if_absent, remove, remove_if, replace, replace_if, compute, compute_if_absent, compute_if_present, merge, Invocation}
+use Rattle.bin_stripes.specs.Actions.{Action, called, scanned, replaced}
 
--- what was done on a stripe, and what came of it
-pub data Action : Type 0 where
-  -- an invocation got a reply
-  called : Invocation → Reply → Action
-  -- a scan found these entries
-  scanned : List Entry → Action
-  -- the value of the key was replaced by the program, with the argument, which came to this
-  replaced : List ℕ → Checked → Option (List ℕ) → Outcome → Action
-
-abbrev Value : Type 0
+abbrev pub Value : Type 0
 Value = List ℕ
 
-abbrev Program : Type 0
+abbrev pub Program : Type 0
 Program = Checked × Option Value
 
 -- a method as a sum: those with no value, one, two, and those with a program
-abbrev Sum : Type 0
+abbrev pub Sum : Type 0
 Sum = (Unit {0} ⊎ Unit {0}) ⊎ ((Value ⊎ Value ⊎ Value ⊎ Value) ⊎ ((Value × Value) ⊎ ((Program ⊎ Program ⊎ Program) ⊎ (Value × Checked))))
 
-abbrev to_sum : Method → Sum
+abbrev pub to_sum : Method → Sum
 to_sum get = inl (inl tt)
 to_sum remove = inl (inr tt)
 to_sum (put v) = inr (inl (inl v))
@@ -46,7 +38,7 @@ to_sum (compute_if_absent p a) = inr (inr (inr (inl (inr (inl (p, a))))))
 to_sum (compute_if_present p a) = inr (inr (inr (inl (inr (inr (p, a))))))
 to_sum (merge v p) = inr (inr (inr (inr (v, p))))
 
-abbrev from_sum : Sum → Method
+abbrev pub from_sum : Sum → Method
 from_sum (inl (inl t)) = get
 from_sum (inl (inr t)) = remove
 from_sum (inr (inl (inl v))) = put v
@@ -59,7 +51,7 @@ from_sum (inr (inr (inr (inl (inr (inl x)))))) = compute_if_absent x.0 x.1
 from_sum (inr (inr (inr (inl (inr (inr x)))))) = compute_if_present x.0 x.1
 from_sum (inr (inr (inr (inr x)))) = merge x.0 x.1
 
-back : (m : Method) → from_sum (to_sum m) ≡ m
+pub back : (m : Method) → from_sum (to_sum m) ≡ m
 back get = refl
 back remove = refl
 back (put v) = refl
@@ -72,16 +64,16 @@ back (compute_if_absent p a) = refl
 back (compute_if_present p a) = refl
 back (merge v p) = refl
 
-abbrev bytes_code : Coded Value
+abbrev pub bytes_code : Coded Value
 bytes_code = coded_list coded_ℕ
 
-abbrev checked_code : Coded Checked
+abbrev pub checked_code : Coded Checked
 checked_code = verified_row.coded
 
-abbrev program_code : Coded Program
+abbrev pub program_code : Coded Program
 program_code = coded× checked_code (coded_option bytes_code)
 
-abbrev method_code : Coded Method
+abbrev pub method_code : Coded Method
 method_code = code_by Sum
     (coded⊎ (coded⊎ coded_unit coded_unit)
     (coded⊎ (coded⊎ bytes_code (coded⊎ bytes_code (coded⊎ bytes_code bytes_code)))
@@ -89,24 +81,24 @@ method_code = code_by Sum
     (coded⊎ (coded⊎ program_code (coded⊎ program_code program_code)) (coded× bytes_code checked_code)))))
     to_sum from_sum back
 
-abbrev invocation_code : Coded Invocation
+abbrev pub invocation_code : Coded Invocation
 invocation_code = code_by (Value × Method) (coded× bytes_code method_code) (λ i. (i.key, i.method))
     (λ x. record { key = x.0; method = x.1 }) (λ _. refl)
 
-abbrev Actions : Type 0
+abbrev pub Actions : Type 0
 Actions = (Invocation × Reply) ⊎ (List Entry ⊎ ((Value × Program) × Outcome))
 
-abbrev to_actions : Action → Actions
+abbrev pub to_actions : Action → Actions
 to_actions (called i r) = inl (i, r)
 to_actions (scanned es) = inr (inl es)
 to_actions (replaced k p a o) = inr (inr ((k, (p, a)), o))
 
-abbrev from_actions : Actions → Action
+abbrev pub from_actions : Actions → Action
 from_actions (inl x) = called x.0 x.1
 from_actions (inr (inl es)) = scanned es
 from_actions (inr (inr x)) = replaced x.0.0 x.0.1.0 x.0.1.1 x.1
 
-again : (a : Action) → from_actions (to_actions a) ≡ a
+pub again : (a : Action) → from_actions (to_actions a) ≡ a
 again (called i r) = refl
 again (scanned es) = refl
 again (replaced k p a o) = refl
