@@ -1,0 +1,5 @@
+pub mod HistoryLemmas
+pub mod ViewLemmas
+pub mod StripeLemmas
+pub mod TakeLemmas
+pub mod ReleaseLemmas

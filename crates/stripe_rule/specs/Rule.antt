@@ -87,6 +87,5 @@ module _ {D T B : Type 0} (does : ℕ → T → D → T → Type 0) (empty : T) 
     pub words : length s.words ≡ stripes
     pub apart : AreApart s.views
     pub counted : (id : ℕ) (v : View D) → At s.views id v → IsCounted stripes passes v
-    pub home : ℕ → Home B
-    pub homes : (k : ℕ) → k < stripes → get_elem? s.homes k ≡ maybe.some (home k)
-    pub stripe : (k : ℕ) → k < stripes → Stripe passes k (slice_index s.words k) (home k) s.views
+    pub stripe : (k : ℕ) → k < stripes → (home : Home B)
+        × ((get_elem? s.homes k ≡ maybe.some home) × Stripe passes k (slice_index s.words k) home s.views)
