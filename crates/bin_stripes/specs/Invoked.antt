@@ -1,10 +1,10 @@
 -- What a pass comes to know by a call of its own.
-use Rattle.std.specs.Prelude.{◌≡◌, ℕ, List, [], ◌∷◌, ◌++◌, Option, map, length, count_by}
+use Rattle.std.specs.Prelude.{◌≡◌, ℕ, List, [], ◌∷◌, ◌++◌, Option, map, length, count_by, All, T}
 use Rattle.std.specs.FinMap as finmap
 use Rattle.stripe_rule.specs.Gains.{Adds, seen_of}
 use Rattle.verifier.specs.Checked.{Checked}
 use Rattle.bins.specs.declared.counts.Counts.{Counts}
-use Rattle.bins.specs.Table.{Entry, Table}
+use Rattle.bins.specs.Table.{Entry, Table, by_bytes}
 use Rattle.bins.specs.Replacements.{Outcome, is_given, is_unfit}
 use Rattle.atomic_methods.specs.declared.reply.Reply.{Reply}
 use Rattle.atomic_methods.specs.Hashes.{stripe_of}
@@ -37,6 +37,11 @@ pub record IsRefused (old : PassState) (invocation : Invocation) (new : PassStat
 -- the pass made one scan of the stripe k, which found these entries
 abbrev pub Scans : PassState → ℕ → List Entry → PassState → Type 0
 Scans old k entries new = Makes old k (scanned entries ∷ []) new
+
+-- entries in key order, each once, and each of the stripe k of so many
+pub record AreOf (stripes k : ℕ) (entries : List Entry) : Type 0 where
+  pub order : T (finmap.is_sorted by_bytes entries)
+  pub stripe : All (λ entry. stripe_of stripes entry.0 ≡ k) entries
 
 -- one replacement for each entry, in their order, by what the program came to at its key; so many of each kind
 pub record AreReplacements (program : Checked) (arg : Option (List ℕ)) (entries : List Entry) (actions : List Action)

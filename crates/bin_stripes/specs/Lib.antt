@@ -5,4 +5,6 @@ pub mod Passes
 pub mod Invoked
 pub mod Releasing
 pub mod Faults
+pub mod Opened
 pub mod Holding
+pub mod Closed

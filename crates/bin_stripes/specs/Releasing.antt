@@ -3,7 +3,7 @@ use Rattle.std.specs.Prelude.{ℕ, List, Option}
 use Rattle.atomic_table.specs.Table.{Me, Step}
 use Rattle.stripe_rule.specs.declared.view.Event.{Event}
 use Rattle.stripe_rule.specs.declared.view.View.{View}
-use Rattle.stripe_rule.specs.Steps.{Looks, Takes, Releases}
+use Rattle.stripe_rule.specs.Steps.{Looks, Releases, took as takes_or_looks}
 use Rattle.bins.specs.Table.{Table}
 use Rattle.bin_stripes.specs.declared.deed.Deed.{Deed}
 use Rattle.bin_stripes.specs.Actions.{Action}
@@ -29,4 +29,4 @@ module _ {S : Type 0} where
 
 -- the compare-exchange of the word from 0 to 1, as a table with so many slots tells it
 abbrev pub took : {B : Type 0} → (B → Table) → Step (Option B) → Me (Option B) (View Deed) → ℕ → Me (Option B) (View Deed) → Type 0
-took content st me found me' = Rattle.stripe_rule.specs.Steps.took (does st.slots) empty content st me found me'
+took content st me found me' = takes_or_looks (does st.slots) empty content st me found me'

@@ -29,6 +29,7 @@ impl Shows<()> for Nothing {
 }
 
 // A call and its reply.
+#[derive(Drop)]
 struct Answered<'a> {
     call: &'a Call<'a>,
     reply: &'a Reply,
@@ -49,6 +50,7 @@ impl Shows<Vec<(Key, Value)>> for Scanning {
 }
 
 // What was replaced, by what, and how many.
+#[derive(Drop)]
 struct Replacement<'a, B> {
     program: &'a Verified,
     arg: &'a Option<Value>,
@@ -65,7 +67,7 @@ impl<'a, B: Bins> Shows<Replacement<'a, B>> for Replacing {
 }
 
 /// Makes the call on the stripe of its key. `NoMemory` as `apply` has it; then nothing was done.
-pub(crate) fn make_call<B: Bins>(
+pub(crate) fn make_call<B: Bins + Drop>(
     table: &Stripes<B>,
     seat: &mut Stand<B>,
     stripe: usize,
@@ -101,7 +103,7 @@ pub(crate) fn make_call<B: Bins>(
 }
 
 /// Copies of the stripe's entries, in key order. `NoMemory` where a request for memory was refused; then nothing was done.
-pub(crate) fn make_scan<B: Bins>(
+pub(crate) fn make_scan<B: Bins + Drop>(
     alloc: Global,
     table: &Stripes<B>,
     seat: &mut Stand<B>,
@@ -133,7 +135,7 @@ pub(crate) fn make_scan<B: Bins>(
 }
 
 /// Replaces the value of each of the stripe's keys once. The gate is passed before, with the stripe held. Takes no memory.
-pub(crate) fn make_replacements<B: Bins, G: Gate>(
+pub(crate) fn make_replacements<B: Bins + Drop, G: Gate>(
     table: &Stripes<B>,
     seat: &mut Stand<B>,
     stripe: usize,

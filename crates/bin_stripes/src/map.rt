@@ -1,14 +1,13 @@
 //! The map that passes share.
-ghost use Rattle.std.specs.Prelude.{◌≡◌, ◌<◌, ◌^◌, [], length, IfOk, OnErr, IsErrOf};
+ghost use Rattle.std.specs.Prelude.{◌≡◌, ◌<◌, ◌^◌, [], length, IfOk, IfErr, OnErr, IsErrOf};
 ghost use Rattle.atomic_methods.specs.Hashes.{stripe_of, IsStripeCount};
 ghost use Rattle.atomic_methods.specs.Invocations.{invocation_of};
-ghost use Rattle.stripe_rule.specs.Gains.{Hears, IsJoined};
-ghost use Rattle.bin_stripes.specs.Invoked.{Makes, Calls, IsRefused, Scans, AreOf, ReplacesEach};
+ghost use Rattle.bin_stripes.specs.Invoked.{Makes, Calls, IsRefused, Scans, AreOf, ReplacesEach, stripe_for};
 ghost use Rattle.bin_stripes.specs.Passes.{Serves, stripes_of};
 
 use crate::deed::Deed;
 use crate::fault::CallFault;
-use crate::gate::{Gate, OpenGate};
+use crate::gate::Gate;
 use crate::pass::Pass;
 use crate::rule::{Shape, Striping};
 use crate::held::{make_call, make_replacements, make_scan};

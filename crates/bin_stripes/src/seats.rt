@@ -17,7 +17,7 @@ use std::alloc::Global;
 use verifier::Verified;
 
 /// Makes the call on the stripe of its key, where that is free.
-pub(crate) fn try_call<B: Bins>(
+pub(crate) fn try_call<B: Bins + Drop>(
     table: &Stripes<B>,
     seat: &mut Stand<B>,
     stripe: usize,
@@ -41,7 +41,7 @@ pub(crate) fn try_call<B: Bins>(
 }
 
 /// Copies of the stripe's entries, in key order, where it is free.
-pub(crate) fn try_scan<B: Bins>(
+pub(crate) fn try_scan<B: Bins + Drop>(
     alloc: Global,
     table: &Stripes<B>,
     seat: &mut Stand<B>,
@@ -62,7 +62,7 @@ pub(crate) fn try_scan<B: Bins>(
 }
 
 /// Replaces the value of each of the stripe's keys once, where it is free.
-pub(crate) fn try_replace<B: Bins>(
+pub(crate) fn try_replace<B: Bins + Drop>(
     table: &Stripes<B>,
     seat: &mut Stand<B>,
     stripe: usize,

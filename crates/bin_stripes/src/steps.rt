@@ -24,7 +24,7 @@ pub(crate) type Stripes<B> = Shared<Option<B>, View<Deed>, Shape, Striping<B>>;
 pub(crate) type Stand<B> = Seat<Option<B>, View<Deed>>;
 
 /// Tries once to take the stripe: whether it was free. Never waits.
-pub(crate) fn try_take<B: Bins>(table: &Stripes<B>, seat: &mut Stand<B>, stripe: usize) -> bool
+pub(crate) fn try_take<B: Bins + Drop>(table: &Stripes<B>, seat: &mut Stand<B>, stripe: usize) -> bool
     requires table { IsLaid table.now.table_id table.now.key × (seat.old.table_id ≡ table.now.table_id) }
     requires stripe { stripe < table.now.table_id.slots }
     requires pass { Carries seat.old.me.0 (least seat.old.me.0.numbers) × (held_at seat.old.me.0 stripe ≡ false) }
@@ -37,7 +37,7 @@ pub(crate) fn try_take<B: Bins>(table: &Stripes<B>, seat: &mut Stand<B>, stripe:
 }
 
 /// Takes the stripe. Waits until it is free.
-pub(crate) fn take<B: Bins, R: Wait>(rt: &R, table: &Stripes<B>, seat: &mut Stand<B>, stripe: usize)
+pub(crate) fn take<B: Bins + Drop, R: Wait>(rt: &R, table: &Stripes<B>, seat: &mut Stand<B>, stripe: usize)
     requires table { IsLaid table.now.table_id table.now.key × (seat.old.table_id ≡ table.now.table_id) }
     requires stripe { stripe < table.now.table_id.slots }
     requires pass { Carries seat.old.me.0 (least seat.old.me.0.numbers) × (held_at seat.old.me.0 stripe ≡ false) }
@@ -54,7 +54,7 @@ pub(crate) fn take<B: Bins, R: Wait>(rt: &R, table: &Stripes<B>, seat: &mut Stan
 }
 
 /// The first exchange of the slot: the bins of a stripe that the seat holds.
-pub(crate) fn bins_out<B: Bins>(table: &Stripes<B>, seat: &mut Stand<B>, stripe: usize) -> B
+pub(crate) fn bins_out<B: Bins + Drop>(table: &Stripes<B>, seat: &mut Stand<B>, stripe: usize) -> B
     requires table { seat.old.table_id ≡ table.now.table_id }
     requires held { Holds B.table table.now.table_id.slots stripe seat.old.me }
     ensures same { (seat.new.table_id ≡ seat.old.table_id) × (seat.new.id ≡ seat.old.id)
@@ -75,7 +75,7 @@ pub(crate) trait Shows<T> {
 }
 
 /// The second exchange of the slot, and the release: the bins go home after these actions.
-pub(crate) fn bins_home<B: Bins, T, M: Shows<T>>(
+pub(crate) fn bins_home<B: Bins + Drop, T, M: Shows<T>>(
     table: &Stripes<B>,
     seat: &mut Stand<B>,
     stripe: usize,
@@ -99,7 +99,7 @@ pub(crate) fn bins_home<B: Bins, T, M: Shows<T>>(
 }
 
 // The swap of the word to 0. The actions that it adds are those of which `J` says something, and `what` tells it.
-fn release<B: Bins, T, J: May>(
+fn release<B: Bins + Drop, T, J: May>(
     table: &Stripes<B>,
     seat: &mut Stand<B>,
     stripe: usize,

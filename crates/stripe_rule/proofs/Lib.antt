@@ -3,3 +3,4 @@ pub mod ViewLemmas
 pub mod StripeLemmas
 pub mod TakeLemmas
 pub mod ReleaseLemmas
+pub mod CallLemmas
