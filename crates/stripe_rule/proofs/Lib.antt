@@ -3,3 +3,8 @@ pub mod ViewLemmas
 pub mod StripeLemmas
 pub mod TakeLemmas
 pub mod ReleaseLemmas
+pub mod CallLemmas
+pub mod OpenLemmas
+pub mod TellLemmas
+pub mod JoinLemmas
+pub mod LastLemmas
