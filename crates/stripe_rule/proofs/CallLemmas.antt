@@ -41,7 +41,11 @@ module _ {D : Type 0} where
 
   -- one who still carries its numbers makes events under the same number
   pub own_same : (v w : View D) (deeds : List D) → w.numbers ≡ v.numbers → map (own_event w) deeds ≡ map (own_event v) deeds
-  own_same v w deeds e = ap (λ (ns : List ℕ). map (λ (d : D). record { by = least ns; deed = d } : D → Event D) deeds) e
+  own_same v w [] e = refl
+  own_same v w (d ∷ ds) e = λ i. event (e i) d ∷ own_same v w ds e i
+    where
+      event : List ℕ → D → Event D
+      event ns deed = record { by = least ns; deed = deed }
 
   pub carries_same : (v w : View D) (q : ℕ) → w.numbers ≡ v.numbers → Carries v q → Carries w q
   carries_same v w q e c = ap (has q) e ∙ c

@@ -4,3 +4,7 @@ pub mod StripeLemmas
 pub mod TakeLemmas
 pub mod ReleaseLemmas
 pub mod CallLemmas
+pub mod OpenLemmas
+pub mod TellLemmas
+pub mod JoinLemmas
+pub mod LastLemmas
