@@ -128,7 +128,7 @@ module _ {D T B : Type 0} (does : ℕ → T → D → T → Type 0) (empty : T) 
     -- one that carries a number now is the united one, or carried it before
     carrier : (j : ℕ) (x : View D) (q : ℕ) → At left j x → Carries x q → ((j ≡ id) × Carries u q) ⊎ ((j ≢ id) × ((j ≢ other) × At views j x))
     carrier j x q e c = ⊎_elim
-        (λ t. let none : Carries spent q = subst (λ (z : View D). Carries z q) (sym t.1) c in absurd (true≢false (sym none)))
+        (λ t. let none : Carries {D = D} spent q = subst (λ (z : View D). Carries z q) (sym t.1) c in absurd (true≢false (sym none)))
         (λ t. ⊎_elim (λ s. inl (s.0, subst (λ (z : View D). Carries z q) (sym s.1) c)) (λ s. inr s) t)
         (kind j x e)
 
