@@ -82,7 +82,7 @@ module _ {D T B : Type 0} (does : ℕ → T → D → T → Type 0) (empty : T) 
       )
 
 module _ {D : Type 0} where
-  gains_none : (v w : View D) (k : ℕ) → seen_of w k ≡ seen_of v k → mine_of w k ≡ mine_of v k → Gains v w k []
+  pub gains_none : (v w : View D) (k : ℕ) → seen_of w k ≡ seen_of v k → mine_of w k ≡ mine_of v k → Gains v w k []
   gains_none v w k seen mine = record {
     between = [];
     others = All-nil (IsOther v.numbers);
