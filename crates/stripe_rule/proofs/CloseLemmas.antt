@@ -12,23 +12,7 @@ use Rattle.stripe_rule.specs.Gains.{part_of, seen_of, mine_of, held_at, Carries,
 use Rattle.stripe_rule.specs.Steps.{Sets, Extends, HasTaken}
 use Rattle.stripe_rule.proofs.HistoryLemmas.{IsOther, IsBelow, All-back}
 use Rattle.stripe_rule.proofs.LastLemmas.{nothing_between}
-use Rattle.stripe_rule.proofs.TellLemmas.{gains_none}
-
-module _ {D : Type 0} where
-  -- a look after others: what was gained at each stripe
-  pub gains_more : (v w u : View D) (n : ℕ) (held : Bool) → w.numbers ≡ v.numbers → ((k : ℕ) → Gains v w k []) → Extends w n held u → (k : ℕ) → Gains v u k []
-  gains_more v w u n held numbers gains e k = dite (ℕ_discrete k n) (λ is. subst (λ i. Gains v u i []) (sym is) here) (λ other. elsewhere (e.sets.elsewhere k other))
-    where
-      here : Gains v u n []
-      here = let g = gains n in record {
-        between = g.between ++ e.between;
-        others = All-append (IsOther v.numbers) g.between e.between g.others (subst (λ ns. AreOthers ns e.between) numbers e.others);
-        seen = ap (λ (p : Part D). p.seen) e.sets.here ∙ (ap (λ l. l ++ e.between) (g.seen ∙ append-nil (seen_of v n ++ g.between)) ∙ (append_assoc (seen_of v n) g.between e.between ∙ sym (append-nil (seen_of v n ++ (g.between ++ e.between)))));
-        mine = ap (λ (p : Part D). p.mine) e.sets.here ∙ g.mine;
-      }
-
-      elsewhere : part_of u k ≡ part_of w k → Gains v u k []
-      elsewhere same = let g = gains k in record { between = g.between; others = g.others; seen = ap (λ (p : Part D). p.seen) same ∙ g.seen; mine = ap (λ (p : Part D). p.mine) same ∙ g.mine }
+use Rattle.stripe_rule.proofs.CallLemmas.{gains_none, gains_more}
 
 module _ {D T : Type 0} (does : ℕ → T → D → T → Type 0) (empty : T) where
   pub taken_none : (v : View D) → HasTaken does empty v 0 [] v
