@@ -1,12 +1,12 @@
 -- Steps one after another: what a call, and a wait, add to what is known.
-use Rattle.std.proofs.Common.{◌≡◌, ◌≢◌, ◌⊎◌, ℕ, zero, suc, ◌+◌, ◌<◌, Bool, true, false, true≢false, eqb, ◌||◌, min, List, [], ◌∷◌, ◌++◌, map, length, refl, sym, ap, ◌∙◌, subst, inl, inr, ⊎_elim, arith, append-nil, append_assoc, eq-eqb, All}
+use Rattle.std.proofs.Common.{◌≡◌, ◌⊎◌, ℕ, Bool, true, false, true≢false, eqb, ◌||◌, min, List, [], ◌∷◌, ◌++◌, map, refl, sym, ap, ◌∙◌, subst, ⊎_elim, arith, append-nil, append_assoc, eq-eqb}
 use Rattle.std.proofs.lemmas.List.Elements.{All-nil, All-cons, All-append}
 use mathlib.Core.Logic.{dite}
 use native.Mathlib.Decide.{ℕ_discrete}
 use Rattle.stripe_rule.specs.declared.view.Event.{Event}
 use Rattle.stripe_rule.specs.declared.view.Part.{Part}
 use Rattle.stripe_rule.specs.declared.view.View.{View}
-use Rattle.stripe_rule.specs.History.{has, made_by, AreUnder, AreOthers, AreBelow}
+use Rattle.stripe_rule.specs.History.{has, AreUnder, AreOthers}
 use Rattle.stripe_rule.specs.Gains.{least, least_of, part_of, seen_of, mine_of, held_at, IsIdle, Carries, own_event, Gains, Keeps, Adds}
 use Rattle.stripe_rule.specs.Steps.{Sets, Extends, lengthened, grown}
 use Rattle.stripe_rule.proofs.HistoryLemmas.{IsUnder, IsOther, bool_cases}

@@ -1,16 +1,15 @@
 -- A pass takes every stripe, and so learns what is left of each.
-use Rattle.std.proofs.Common.{◌≡◌, ◌≢◌, ℕ, suc, ◌+◌, ◌<◌, ◌≤◌, Bool, true, List, [], ◌∷◌, ◌++◌, length, get_or, refl, sym, ap, ◌∙◌, subst, arith, append-nil, append_assoc}
-use Rattle.std.proofs.lemmas.List.Elements.{All-append}
+use Rattle.std.proofs.Common.{◌≡◌, ℕ, ◌+◌, ◌<◌, true, List, [], ◌∷◌, ◌++◌, get_or, refl, sym, ap, ◌∙◌, subst, arith, append-nil}
 use Rattle.std.proofs.lemmas.List.{get_or_push, get_or_append_left, length_push}
 use mathlib.Core.Logic.{dite}
 use native.Mathlib.Decide.{ℕ_discrete}
 use Rattle.stripe_rule.specs.declared.view.Event.{Event}
 use Rattle.stripe_rule.specs.declared.view.Part.{Part}
 use Rattle.stripe_rule.specs.declared.view.View.{View}
-use Rattle.stripe_rule.specs.History.{AreOthers, AreBelow, Replays}
-use Rattle.stripe_rule.specs.Gains.{part_of, seen_of, mine_of, held_at, Carries, Gains, IsSound}
-use Rattle.stripe_rule.specs.Steps.{Sets, Extends, HasTaken}
-use Rattle.stripe_rule.proofs.HistoryLemmas.{IsOther, IsBelow, All-back}
+use Rattle.stripe_rule.specs.History.{AreBelow, Replays}
+use Rattle.stripe_rule.specs.Gains.{seen_of, Carries, IsSound}
+use Rattle.stripe_rule.specs.Steps.{Extends, HasTaken}
+use Rattle.stripe_rule.proofs.HistoryLemmas.{IsBelow, All-back}
 use Rattle.stripe_rule.proofs.LastLemmas.{nothing_between}
 use Rattle.stripe_rule.proofs.CallLemmas.{gains_none, gains_more}
 
@@ -29,7 +28,7 @@ module _ {D T : Type 0} (does : ℕ → T → D → T → Type 0) (empty : T) wh
     left = λ k d less. dite (ℕ_discrete k n)
         (λ is. subst (λ i. Replays (does i) empty (seen_of u i) (get_or (tables ++ table ∷ []) i d)) (sym is) (subst (Replays (does n) empty (seen_of u n)) (sym (get_or_push tables table d n h.count)) here))
         (λ other. let before : k < n = omega arith in subst (λ (z : List (Event D) × T). Replays (does k) empty z.0 z.1)
-            (λ i. (ap (λ (p : Part D). p.seen) (sym (e.sets.elsewhere k other)) i, sym (get_or_append_left tables (table ∷ []) d k (let c = h.count in omega arith)) i)) (h.left k d before));
+        (λ i. (ap (λ (p : Part D). p.seen) (sym (e.sets.elsewhere k other)) i, sym (get_or_append_left tables (table ∷ []) d k (let c = h.count in omega arith)) i)) (h.left k d before));
   }
 
   module _ (v w : View D) (n : ℕ) (tables : List T) (h : HasTaken does empty v n tables w) where

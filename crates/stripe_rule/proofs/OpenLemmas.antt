@@ -1,19 +1,19 @@
 -- A new table keeps the rule, and so does one whose first numbers are dealt to another view.
-use Rattle.std.proofs.Common.{◌≡◌, ◌≢◌, ◌⊎◌, ℕ, zero, suc, ◌+◌, ◌<◌, ◌≤◌, Bool, true, false, true≢false, eqb, ◌||◌, List, [], ◌∷◌, ◌++◌, map, replicate, length, get_or, set, Option, Some, refl, sym, ap, ◌∙◌, subst, inl, inr, ⊎_elim, arith, length-set, eq-eqb, All}
+use Rattle.std.proofs.Common.{◌≡◌, ◌≢◌, ◌⊎◌, ℕ, zero, suc, ◌+◌, ◌<◌, ◌≤◌, Bool, true, false, true≢false, eqb, ◌||◌, List, [], ◌∷◌, ◌++◌, replicate, length, get_or, set, Option, Some, refl, sym, ap, ◌∙◌, subst, inl, inr, ⊎_elim, arith, eq-eqb, All}
 use Rattle.std.proofs.lemmas.List.Elements.{All-nil, All-head, All-tail}
 use Rattle.std.proofs.lemmas.List.{length-replicate, get_or-replicate}
 use mathlib.Core.Logic.{dite}
 use mathlib.Core.Option as maybe
-use native.Mathlib.Decide.{ℕ_discrete, dec_le}
+use native.Mathlib.Decide.{dec_le}
 use lib.ListN.{get_elem?}
 use Rattle.atomic_table.specs.Table.{State, opening, Splits}
-use Rattle.atomic_table.proofs.Lists.{at_set, set_else, at_longer, at_map, at_index}
+use Rattle.atomic_table.proofs.Lists.{at_set, set_else, at_longer, at_map}
 use Rattle.stripe_rule.specs.declared.view.Event.{Event}
 use Rattle.stripe_rule.specs.declared.view.Part.{Part}
 use Rattle.stripe_rule.specs.declared.view.View.{View}
 use Rattle.stripe_rule.specs.History.{has, made_by, AreUnder, AreOthers}
-use Rattle.stripe_rule.specs.Gains.{blank, part_of, seen_of, held_at, Carries}
-use Rattle.stripe_rule.specs.Rule.{from_on, Home, newcomer, opener, At, AreApart, IsCounted, Fits, IsFree, IsHeld, Stripe, Kept}
+use Rattle.stripe_rule.specs.Gains.{blank, part_of, held_at, Carries}
+use Rattle.stripe_rule.specs.Rule.{from_on, Home, newcomer, opener, At, AreApart, IsCounted, Fits, IsFree, IsHeld, Kept}
 use Rattle.stripe_rule.specs.Steps.{with_numbers, head_of, tail_of}
 use Rattle.stripe_rule.proofs.HistoryLemmas.{IsUnder, IsOther, IsBelow, bool_cases, eq_of, others_fewer}
 use Rattle.stripe_rule.proofs.ViewLemmas.{at_end, get_or-beyond, same_view}

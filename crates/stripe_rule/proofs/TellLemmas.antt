@@ -1,17 +1,15 @@
 -- A pass is told what another has seen; its looks then show it.
-use Rattle.std.proofs.Common.{◌≡◌, ◌≢◌, ◌⊎◌, ℕ, zero, suc, ◌+◌, ◌<◌, ◌≤◌, Bool, List, [], ◌∷◌, ◌++◌, length, get_or, set, Option, refl, sym, ap, ◌∙◌, subst, inl, inr, ⊎_elim, arith, append-nil, append_assoc}
-use Rattle.std.proofs.lemmas.List.Elements.{All-nil, All-append}
+use Rattle.std.proofs.Common.{◌≡◌, ℕ, zero, suc, ◌+◌, List, [], ◌∷◌, ◌++◌, length, get_or, set, Option, refl, sym, ap, ◌∙◌, subst, arith}
 use mathlib.Core.Logic.{dite}
-use native.Mathlib.Decide.{ℕ_discrete, dec_le}
-use Rattle.atomic_table.specs.Table.{State, Me}
+use native.Mathlib.Decide.{ℕ_discrete}
+use Rattle.atomic_table.specs.Table.{State}
 use Rattle.stripe_rule.specs.declared.view.Event.{Event}
 use Rattle.stripe_rule.specs.declared.view.Part.{Part}
 use Rattle.stripe_rule.specs.declared.view.View.{View}
 use Rattle.stripe_rule.specs.History.{has, made_by, AreUnder, AreOthers, StartsWith}
-use Rattle.stripe_rule.specs.Gains.{blank, part_of, seen_of, mine_of, told_of, held_at, Carries, Gains, Hears}
-use Rattle.stripe_rule.specs.Rule.{Home, At, IsCounted, Fits, Stripe, Kept}
-use Rattle.stripe_rule.specs.Steps.{Sets, Extends, lengthened, told_part, IsTold, HasHeard, Looks}
-use Rattle.stripe_rule.proofs.HistoryLemmas.{IsOther}
+use Rattle.stripe_rule.specs.Gains.{blank, part_of, seen_of, told_of, held_at, Carries, Hears}
+use Rattle.stripe_rule.specs.Rule.{At, IsCounted, Fits, Kept}
+use Rattle.stripe_rule.specs.Steps.{Extends, told_part, IsTold, HasHeard}
 use Rattle.stripe_rule.proofs.ViewLemmas.{every_set, apart_set, counted_same}
 use Rattle.stripe_rule.proofs.StripeLemmas.{stripe_set}
 use Rattle.stripe_rule.proofs.CallLemmas.{gains_none, gains_more}
