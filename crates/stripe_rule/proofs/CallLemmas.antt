@@ -1,12 +1,12 @@
 -- Steps one after another: what a call, and a wait, add to what is known.
-use Rattle.std.proofs.Common.{◌≡◌, ◌≢◌, ◌⊎◌, ℕ, zero, suc, ◌+◌, ◌<◌, Bool, true, false, true≢false, eqb, ◌||◌, min, List, [], ◌∷◌, ◌++◌, map, length, refl, sym, ap, ◌∙◌, subst, inl, inr, ⊎_elim, arith, append-nil, append_assoc, eq-eqb, All}
+use Rattle.std.proofs.Common.{◌≡◌, ◌⊎◌, ℕ, Bool, true, false, true≢false, eqb, ◌||◌, min, List, [], ◌∷◌, ◌++◌, map, refl, sym, ap, ◌∙◌, subst, ⊎_elim, arith, append-nil, append_assoc, eq-eqb}
 use Rattle.std.proofs.lemmas.List.Elements.{All-nil, All-cons, All-append}
 use mathlib.Core.Logic.{dite}
 use native.Mathlib.Decide.{ℕ_discrete}
 use Rattle.stripe_rule.specs.declared.view.Event.{Event}
 use Rattle.stripe_rule.specs.declared.view.Part.{Part}
 use Rattle.stripe_rule.specs.declared.view.View.{View}
-use Rattle.stripe_rule.specs.History.{has, made_by, AreUnder, AreOthers, AreBelow}
+use Rattle.stripe_rule.specs.History.{has, AreUnder, AreOthers}
 use Rattle.stripe_rule.specs.Gains.{least, least_of, part_of, seen_of, mine_of, held_at, IsIdle, Carries, own_event, Gains, Keeps, Adds}
 use Rattle.stripe_rule.specs.Steps.{Sets, Extends, lengthened, grown}
 use Rattle.stripe_rule.proofs.HistoryLemmas.{IsUnder, IsOther, bool_cases}
@@ -118,3 +118,27 @@ module _ {D : Type 0} where
   idle_released v w u k h more idle e s j = dite (ℕ_discrete j k)
       (λ is. subst (λ i. held_at u i ≡ false) (sym is) (ap (λ (p : Part D). p.held) s.here))
       (λ other. ap (λ (p : Part D). p.held) (s.elsewhere j other ∙ e.sets.elsewhere j other) ∙ idle j)
+
+  -- nothing was gained at a stripe
+  pub gains_none : (v w : View D) (k : ℕ) → seen_of w k ≡ seen_of v k → mine_of w k ≡ mine_of v k → Gains v w k []
+  gains_none v w k seen mine = record {
+    between = [];
+    others = All-nil (IsOther v.numbers);
+    seen = seen ∙ (sym (append-nil (seen_of v k)) ∙ sym (append-nil (seen_of v k ++ [])));
+    mine = mine ∙ sym (append-nil (mine_of v k));
+  }
+
+  -- a look after others: what was gained at each stripe
+  pub gains_more : (v w u : View D) (n : ℕ) (held : Bool) → w.numbers ≡ v.numbers → ((k : ℕ) → Gains v w k []) → Extends w n held u → (k : ℕ) → Gains v u k []
+  gains_more v w u n held numbers gains e k = dite (ℕ_discrete k n) (λ is. subst (λ i. Gains v u i []) (sym is) here) (λ other. elsewhere (e.sets.elsewhere k other))
+    where
+      here : Gains v u n []
+      here = let g = gains n in record {
+        between = g.between ++ e.between;
+        others = All-append (IsOther v.numbers) g.between e.between g.others (subst (λ ns. AreOthers ns e.between) numbers e.others);
+        seen = ap (λ (p : Part D). p.seen) e.sets.here ∙ (ap (λ l. l ++ e.between) (g.seen ∙ append-nil (seen_of v n ++ g.between)) ∙ (append_assoc (seen_of v n) g.between e.between ∙ sym (append-nil (seen_of v n ++ (g.between ++ e.between)))));
+        mine = ap (λ (p : Part D). p.mine) e.sets.here ∙ g.mine;
+      }
+
+      elsewhere : part_of u k ≡ part_of w k → Gains v u k []
+      elsewhere same = let g = gains k in record { between = g.between; others = g.others; seen = ap (λ (p : Part D). p.seen) same ∙ g.seen; mine = ap (λ (p : Part D). p.mine) same ∙ g.mine }

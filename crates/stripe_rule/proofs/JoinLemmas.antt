@@ -1,20 +1,19 @@
 -- Two passes become one.
-use Rattle.std.proofs.Common.{◌≡◌, ◌≢◌, ◌⊎◌, ℕ, zero, suc, ◌+◌, ◌<◌, ◌≤◌, Bool, true, false, true≢false, List, [], ◌∷◌, ◌++◌, length, get_or, set, Option, refl, sym, ap, ◌∙◌, subst, inl, inr, ⊎_elim, arith, append-nil, append_assoc}
+use Rattle.std.proofs.Common.{◌≡◌, ◌≢◌, ◌⊎◌, ℕ, zero, suc, ◌<◌, Bool, true, false, true≢false, List, [], ◌∷◌, ◌++◌, length, get_or, set, Option, refl, sym, ap, ◌∙◌, subst, inl, inr, ⊎_elim, arith, append-nil, append_assoc}
 use Rattle.std.proofs.lemmas.List.Elements.{All-nil, All-append}
 use mathlib.Core.Logic.{dite}
 use native.Mathlib.Decide.{ℕ_discrete}
-use mathlib.Core.Option as maybe
-use Rattle.atomic_table.specs.Table.{State, Me, Joins}
+use Rattle.atomic_table.specs.Table.{State, Joins}
 use Rattle.atomic_table.proofs.Lists.{at_set, set_else}
 use Rattle.stripe_rule.specs.declared.view.Event.{Event}
 use Rattle.stripe_rule.specs.declared.view.Part.{Part}
 use Rattle.stripe_rule.specs.declared.view.View.{View}
 use Rattle.stripe_rule.specs.History.{has, made_by, AreUnder, AreOthers, StartsWith}
-use Rattle.stripe_rule.specs.Gains.{blank, part_of, seen_of, mine_of, told_of, held_at, IsIdle, Carries, Gains, Hears, IsJoined}
-use Rattle.stripe_rule.specs.Rule.{Home, At, AreApart, IsCounted, Fits, IsFree, IsHeld, Stripe, Kept}
+use Rattle.stripe_rule.specs.Gains.{blank, part_of, seen_of, mine_of, held_at, IsIdle, Carries, Hears, IsJoined}
+use Rattle.stripe_rule.specs.Rule.{Home, At, AreApart, IsCounted, Fits, IsFree, IsHeld, Kept}
 use Rattle.stripe_rule.specs.Steps.{Extends, longer, united_part, united_parts, united, spent}
 use Rattle.stripe_rule.proofs.HistoryLemmas.{IsUnder, IsOther, not_true, has-append, has-left, has-right, All-front, All-back, made_by-append, made_by-others, under_none, under_more}
-use Rattle.stripe_rule.proofs.ViewLemmas.{set_at, same_view}
+use Rattle.stripe_rule.proofs.ViewLemmas.{same_view}
 
 module _ {D : Type 0} where
   abbrev hd : Event D → List (Event D) → Event D
@@ -128,7 +127,7 @@ module _ {D T B : Type 0} (does : ℕ → T → D → T → Type 0) (empty : T) 
     -- one that carries a number now is the united one, or carried it before
     carrier : (j : ℕ) (x : View D) (q : ℕ) → At left j x → Carries x q → ((j ≡ id) × Carries u q) ⊎ ((j ≢ id) × ((j ≢ other) × At views j x))
     carrier j x q e c = ⊎_elim
-        (λ t. let none : Carries spent q = subst (λ (z : View D). Carries z q) (sym t.1) c in absurd (true≢false (sym none)))
+        (λ t. let none : Carries {D = D} spent q = subst (λ (z : View D). Carries z q) (sym t.1) c in absurd (true≢false (sym none)))
         (λ t. ⊎_elim (λ s. inl (s.0, subst (λ (z : View D). Carries z q) (sym s.1) c)) (λ s. inr s) t)
         (kind j x e)
 

@@ -1,5 +1,5 @@
 -- One who carries all numbers has seen all events.
-use Rattle.std.proofs.Common.{◌≡◌, ℕ, ◌<◌, true, false, true≢false, List, [], ◌∷◌, ◌++◌, sym, ap, ◌∙◌, refl, subst, Bool, append-nil}
+use Rattle.std.proofs.Common.{◌≡◌, ℕ, ◌<◌, true, true≢false, List, [], ◌∷◌, ◌++◌, sym, ap, ◌∙◌, refl, subst, Bool, append-nil}
 use Rattle.std.proofs.lemmas.List.Elements.{All-head}
 use Rattle.stripe_rule.specs.declared.view.Event.{Event}
 use Rattle.stripe_rule.specs.declared.view.Part.{Part}

@@ -8,3 +8,4 @@ pub mod OpenLemmas
 pub mod TellLemmas
 pub mod JoinLemmas
 pub mod LastLemmas
+pub mod CloseLemmas

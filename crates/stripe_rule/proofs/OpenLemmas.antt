@@ -1,18 +1,19 @@
 -- A new table keeps the rule, and so does one whose first numbers are dealt to another view.
-use Rattle.std.proofs.Common.{◌≡◌, ◌≢◌, ◌⊎◌, ℕ, zero, suc, ◌+◌, ◌<◌, ◌≤◌, Bool, true, false, true≢false, eqb, ◌||◌, List, [], ◌∷◌, ◌++◌, map, replicate, length, get_or, set, Option, Some, refl, sym, ap, ◌∙◌, subst, inl, inr, ⊎_elim, arith, length-replicate, get_or-replicate, length-set, eq-eqb, All}
+use Rattle.std.proofs.Common.{◌≡◌, ◌≢◌, ◌⊎◌, ℕ, zero, suc, ◌+◌, ◌<◌, ◌≤◌, Bool, true, false, true≢false, eqb, ◌||◌, List, [], ◌∷◌, ◌++◌, replicate, length, get_or, set, Option, Some, refl, sym, ap, ◌∙◌, subst, inl, inr, ⊎_elim, arith, eq-eqb, All}
 use Rattle.std.proofs.lemmas.List.Elements.{All-nil, All-head, All-tail}
+use Rattle.std.proofs.lemmas.List.{length-replicate, get_or-replicate}
 use mathlib.Core.Logic.{dite}
 use mathlib.Core.Option as maybe
-use native.Mathlib.Decide.{ℕ_discrete, dec_le}
+use native.Mathlib.Decide.{dec_le}
 use lib.ListN.{get_elem?}
 use Rattle.atomic_table.specs.Table.{State, opening, Splits}
-use Rattle.atomic_table.proofs.Lists.{at_set, set_else, at_longer, at_map, at_index}
+use Rattle.atomic_table.proofs.Lists.{at_set, set_else, at_longer, at_map}
 use Rattle.stripe_rule.specs.declared.view.Event.{Event}
 use Rattle.stripe_rule.specs.declared.view.Part.{Part}
 use Rattle.stripe_rule.specs.declared.view.View.{View}
 use Rattle.stripe_rule.specs.History.{has, made_by, AreUnder, AreOthers}
-use Rattle.stripe_rule.specs.Gains.{blank, part_of, seen_of, held_at, Carries}
-use Rattle.stripe_rule.specs.Rule.{from_on, Home, newcomer, opener, At, AreApart, IsCounted, Fits, IsFree, IsHeld, Stripe, Kept}
+use Rattle.stripe_rule.specs.Gains.{blank, part_of, held_at, Carries}
+use Rattle.stripe_rule.specs.Rule.{from_on, Home, newcomer, opener, At, AreApart, IsCounted, Fits, IsFree, IsHeld, Kept}
 use Rattle.stripe_rule.specs.Steps.{with_numbers, head_of, tail_of}
 use Rattle.stripe_rule.proofs.HistoryLemmas.{IsUnder, IsOther, IsBelow, bool_cases, eq_of, others_fewer}
 use Rattle.stripe_rule.proofs.ViewLemmas.{at_end, get_or-beyond, same_view}
@@ -38,16 +39,16 @@ or_true : (b : Bool) → (b || true) ≡ true
 or_true true = refl
 or_true false = refl
 
-module _ {D : Type 0} where
+module _ (D : Type 0) where
   -- a newcomer knows nothing of any stripe
-  pub part_new : (stripes passes : ℕ) (ns : List ℕ) (k : ℕ) → part_of (newcomer stripes passes ns) k ≡ blank
+  pub part_new : (stripes passes : ℕ) (ns : List ℕ) (k : ℕ) → part_of {D = D} (newcomer stripes passes ns) k ≡ blank
   part_new stripes passes ns k = dite (dec_le (suc k) stripes)
       (λ inside. get_or-replicate stripes k blank blank inside)
       (λ beyond. let none : Part D = blank in get_or-beyond (replicate stripes none) k none (let l = length-replicate stripes none in omega arith))
 
   -- a newcomer fits a list of others' events
   pub new_fits : (stripes passes k : ℕ) (ns : List ℕ) (log : List (Event D)) → AreOthers ns log → Fits k log (newcomer stripes passes ns)
-  new_fits stripes passes k ns log others = let is : part_of (newcomer stripes passes ns) k ≡ blank = part_new stripes passes ns k in record {
+  new_fits stripes passes k ns log others = let is : part_of {D = D} (newcomer stripes passes ns) k ≡ blank = part_new stripes passes ns k in record {
     rest = log;
     begins = ap (λ (p : Part D). p.seen ++ log) (sym is);
     others = others;
@@ -56,10 +57,10 @@ module _ {D : Type 0} where
     heard = (log, ap (λ (p : Part D). p.told ++ log) (sym is));
   }
 
-  new_idle : (stripes passes k : ℕ) (ns : List ℕ) → (let v : View D = newcomer stripes passes ns in held_at v k ≡ false)
+  new_idle : (stripes passes k : ℕ) (ns : List ℕ) → held_at {D = D} (newcomer stripes passes ns) k ≡ false
   new_idle stripes passes k ns = ap (λ (p : Part D). p.held) (part_new stripes passes ns k)
 
-  new_counted : (stripes passes : ℕ) (ns : List ℕ) → ((q : ℕ) → has q ns ≡ true → q < passes) → (let v : View D = newcomer stripes passes ns in IsCounted stripes passes v)
+  new_counted : (stripes passes : ℕ) (ns : List ℕ) → ((q : ℕ) → has q ns ≡ true → q < passes) → IsCounted {D = D} stripes passes (newcomer stripes passes ns)
   new_counted stripes passes ns small = record { wide = λ q c. (let none : Part D = blank in length-replicate stripes none); count = λ q c. refl; small = small }
 
 at_all : {X : Type 0} (P : X → Type 0) (xs : List X) (i : ℕ) → i < length xs → All P xs → (x : X) × ((get_elem? xs i ≡ maybe.some x) × P x)
@@ -87,7 +88,7 @@ module _ {D T B : Type 0} (does : ℕ → T → D → T → Type 0) (empty : T) 
   opens words homes long wide zeros bins = let first : View D = opener stripes passes in record {
     words = long;
     apart = λ i j x y q ex ey cx cy. (one first i x ex).0 ∙ sym (one first j y ey).0;
-    counted = every_one (IsCounted stripes passes) first (new_counted stripes passes (from_on 0 passes) (λ q c. let l = below 0 passes q c in omega arith));
+    counted = every_one (IsCounted stripes passes) first (new_counted D stripes passes (from_on 0 passes) (λ q c. let l = below 0 passes q c in omega arith));
     stripe = λ k inside. let b = at_all HasEmptyBins homes k (omega arith) bins in (
       maybe.some b.0,
       (
@@ -96,13 +97,13 @@ module _ {D T B : Type 0} (does : ℕ → T → D → T → Type 0) (empty : T) 
           log = [];
           legal = (empty, refl);
           below = All-nil (IsBelow passes);
-          fits = every_one (Fits k []) first (new_fits stripes passes k (from_on 0 passes) [] (All-nil (IsOther (from_on 0 passes))));
+          fits = every_one (Fits k []) first (new_fits D stripes passes k (from_on 0 passes) [] (All-nil (IsOther (from_on 0 passes))));
           place = inl record {
             word_is = zeros k inside;
             bins = b.1.1.0;
             home_is = ap maybe.some b.1.1.1.0;
             content_is = b.1.1.1.1;
-            nobody = every_one (λ u. held_at u k ≡ false) first (new_idle stripes passes k (from_on 0 passes));
+            nobody = every_one (λ u. held_at u k ≡ false) first (new_idle D stripes passes k (from_on 0 passes));
           };
         },
       ),
@@ -174,9 +175,9 @@ module _ {D T B : Type 0} (does : ℕ → T → D → T → Type 0) (empty : T) 
       let small = (r.counted id v at).small in record {
         words = r.words;
         apart = fork_apart s id v l w at sub_l sub_w (λ q c d. let is = only_head q i c in let a = above (i + 1) count q d in absurd (omega arith)) r.apart;
-        counted = every_both s id v l w at (IsCounted stripes passes) (new_counted stripes passes (i ∷ []) (λ q c. small q (sub_l q c))) (new_counted stripes passes (from_on (i + 1) count) (λ q c. small q (sub_w q c))) r.counted;
+        counted = every_both s id v l w at (IsCounted stripes passes) (new_counted D stripes passes (i ∷ []) (λ q c. small q (sub_l q c))) (new_counted D stripes passes (from_on (i + 1) count) (λ q c. small q (sub_w q c))) r.counted;
         stripe = λ k inside. let old = r.stripe k inside in let t = old.1.1 in let f = t.fits id v at in
-            let others : AreOthers v.numbers t.log = subst (AreOthers v.numbers) (sym (f.begins ∙ ap (λ (p : Part D). p.seen ++ f.rest) (part_new stripes passes v.numbers k))) f.others in (
+            let others : AreOthers v.numbers t.log = subst (AreOthers v.numbers) (sym (f.begins ∙ ap (λ (p : Part D). p.seen ++ f.rest) (part_new D stripes passes v.numbers k))) f.others in (
               old.0,
               (
                 old.1.0,
@@ -184,9 +185,9 @@ module _ {D T B : Type 0} (does : ℕ → T → D → T → Type 0) (empty : T) 
                   log = t.log;
                   legal = t.legal;
                   below = t.below;
-                  fits = every_both s id v l w at (Fits k t.log) (new_fits stripes passes k (i ∷ []) t.log (others_fewer v.numbers (i ∷ []) t.log sub_l others))
-                      (new_fits stripes passes k (from_on (i + 1) count) t.log (others_fewer v.numbers (from_on (i + 1) count) t.log sub_w others)) t.fits;
-                  place = fork_place s id v l w at k t.log (get_or s.words k 0) old.0 (new_idle stripes passes k v.numbers) (new_idle stripes passes k l.numbers) (new_idle stripes passes k w.numbers) t.place;
+                  fits = every_both s id v l w at (Fits k t.log) (new_fits D stripes passes k (i ∷ []) t.log (others_fewer v.numbers (i ∷ []) t.log sub_l others))
+                      (new_fits D stripes passes k (from_on (i + 1) count) t.log (others_fewer v.numbers (from_on (i + 1) count) t.log sub_w others)) t.fits;
+                  place = fork_place s id v l w at k t.log (get_or s.words k 0) old.0 (new_idle D stripes passes k v.numbers) (new_idle D stripes passes k l.numbers) (new_idle D stripes passes k w.numbers) t.place;
                 },
               ),
             );

@@ -1,17 +1,16 @@
 -- A release keeps the rule.
-use Rattle.std.proofs.Common.{◌≡◌, ◌≢◌, ◌⊎◌, ℕ, ◌<◌, Bool, true, false, true≢false, List, [], ◌∷◌, ◌++◌, length, get_or, set, Option, Some, refl, sym, ap, ◌∙◌, subst, inl, inr, ⊎_elim, arith, append-nil, append_assoc, All}
+use Rattle.std.proofs.Common.{◌≡◌, ◌≢◌, ℕ, ◌<◌, true, false, true≢false, List, [], ◌∷◌, ◌++◌, get_or, set, Option, Some, refl, sym, ap, ◌∙◌, subst, inl, ⊎_elim, arith, append-nil, append_assoc}
 use Rattle.std.proofs.lemmas.List.Elements.{All-nil, All-append}
 use mathlib.Core.Option as maybe
-use lib.ListN.{get_elem?}
 use Rattle.atomic_table.specs.Table.{State, Me, step, gives, Allows}
 use Rattle.atomic_table.proofs.Lists.{at_set, set_else}
 use Rattle.stripe_rule.specs.declared.view.Event.{Event}
 use Rattle.stripe_rule.specs.declared.view.Part.{Part}
 use Rattle.stripe_rule.specs.declared.view.View.{View}
-use Rattle.stripe_rule.specs.History.{has, made_by, AreUnder, AreOthers, AreBelow, Replays}
+use Rattle.stripe_rule.specs.History.{has, made_by, AreUnder, AreOthers, Replays}
 use Rattle.stripe_rule.specs.Gains.{part_of, seen_of, mine_of, held_at, Carries}
-use Rattle.stripe_rule.specs.Rule.{Home, At, Fits, IsFree, IsHeld, Stripe, Kept}
-use Rattle.stripe_rule.specs.Steps.{Sets, grown, Releases, released}
+use Rattle.stripe_rule.specs.Rule.{At, Fits, IsFree, IsHeld, Stripe, Kept}
+use Rattle.stripe_rule.specs.Steps.{Sets, grown, released}
 use Rattle.stripe_rule.proofs.HistoryLemmas.{IsUnder, IsOther, IsBelow, not_true, made_by-append, under_others, under_below}
 use Rattle.stripe_rule.proofs.ViewLemmas.{set_at, same_view, put_part, sets_put}
 use Rattle.stripe_rule.proofs.StripeLemmas.{kept_set, sound_of}

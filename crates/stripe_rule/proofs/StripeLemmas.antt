@@ -1,5 +1,5 @@
 -- One view changes: what that asks for at the stripe where it changes, and that the other stripes stay.
-use Rattle.std.proofs.Common.{◌≡◌, ◌≢◌, ◌⊎◌, ℕ, zero, suc, ◌<◌, ◌≤◌, Bool, true, false, true≢false, List, [], ◌∷◌, ◌++◌, length, get_or, set, Option, Some, refl, sym, ap, ◌∙◌, subst, inl, inr, ⊎_elim, arith, append-nil, length-set, get_or-set_same, get_or-set_other, All}
+use Rattle.std.proofs.Common.{◌≡◌, ◌≢◌, ◌⊎◌, ℕ, suc, ◌<◌, Bool, true, false, List, [], ◌++◌, get_or, set, Option, refl, sym, ap, ◌∙◌, subst, inl, inr, ⊎_elim, arith, append-nil, length-set, get_or-set_same, get_or-set_other}
 use Rattle.std.proofs.lemmas.List.Elements.{All-nil}
 use mathlib.Core.Logic.{dite}
 use mathlib.Core.Option as maybe
@@ -10,8 +10,8 @@ use Rattle.atomic_table.proofs.Lists.{at_set, set_else}
 use Rattle.stripe_rule.specs.declared.view.Event.{Event}
 use Rattle.stripe_rule.specs.declared.view.Part.{Part}
 use Rattle.stripe_rule.specs.declared.view.View.{View}
-use Rattle.stripe_rule.specs.History.{has, made_by, AreUnder, AreOthers, AreBelow, StartsWith, IsLegal}
-use Rattle.stripe_rule.specs.Gains.{blank, part_of, seen_of, mine_of, told_of, held_at, Carries, IsSound}
+use Rattle.stripe_rule.specs.History.{has, made_by, AreUnder, AreOthers, AreBelow, IsLegal}
+use Rattle.stripe_rule.specs.Gains.{blank, part_of, seen_of, mine_of, held_at, Carries, IsSound}
 use Rattle.stripe_rule.specs.Rule.{Home, At, IsCounted, Fits, IsFree, IsHeld, Stripe, Kept}
 use Rattle.stripe_rule.specs.Steps.{Sets, lengthened}
 use Rattle.stripe_rule.proofs.HistoryLemmas.{IsBelow, All-front, legal_front, made_by-others}
@@ -112,9 +112,14 @@ module _ {D T B : Type 0} (does : ℕ → T → D → T → Type 0) (empty : T) 
     stripe = λ j l. dite (ℕ_discrete j k)
         (λ is. subst (λ (m : ℕ). (h : Home B) × ((get_elem? homes m ≡ maybe.some h) × Stripe does empty content passes m (get_or (set s.words k word) m 0) h (set s.views id w))) (sym is)
         (home, (here, subst (λ n. Stripe does empty content passes k n home (set s.views id w)) (sym (get_or-set_same s.words k word 0 (let n = r.words in omega arith))) stripe)))
-        (λ other. let old = r.stripe j l in
-        (old.0, (else j other ∙ old.1.0, subst (λ n. Stripe does empty content passes j n old.0 (set s.views id w)) (sym (get_or-set_other s.words k j word 0 (λ e. other e)))
-            (stripe_else passes j (get_or s.words j 0) old.0 s.views id v w old.1.1 at sets.numbers (sets.elsewhere j other)))));
+        (λ other. let old = r.stripe j l in (
+          old.0,
+          (
+            else j other ∙ old.1.0,
+            subst (λ n. Stripe does empty content passes j n old.0 (set s.views id w)) (sym (get_or-set_other s.words k j word 0 (λ e. other e)))
+                (stripe_else passes j (get_or s.words j 0) old.0 s.views id v w old.1.1 at sets.numbers (sets.elsewhere j other)),
+          ),
+        ));
   }
 
   abbrev SoundAt : View D → ℕ → Type 0

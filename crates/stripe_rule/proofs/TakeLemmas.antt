@@ -1,19 +1,18 @@
 -- A look, and a take, won or lost, keep the rule.
-use Rattle.std.proofs.Common.{◌≡◌, ◌≢◌, ◌⊎◌, ℕ, zero, suc, ◌<◌, Bool, true, false, true≢false, eqb, List, [], ◌∷◌, ◌++◌, length, get_or, set, Option, Some, refl, sym, ap, ◌∙◌, subst, inl, inr, ⊎_elim, arith, eq-eqb, ne_eqb}
+use Rattle.std.proofs.Common.{◌≡◌, ◌≢◌, ℕ, ◌<◌, Bool, true, false, true≢false, eqb, List, ◌∷◌, get_or, set, Option, Some, refl, sym, ap, ◌∙◌, subst, inr, ⊎_elim, arith, eq-eqb, ne_eqb}
 use mathlib.Core.Logic.{dite}
 use mathlib.Core.Option as maybe
 use native.Mathlib.Decide.{ℕ_discrete}
-use lib.ListN.{get_elem?}
 use prog.Atomic.{either}
 use Rattle.atomic_table.specs.Table.{State, Me, step, keeps, takes, stepped, Allows}
 use Rattle.atomic_table.proofs.Lists.{at_set, set_else}
 use Rattle.stripe_rule.specs.declared.view.Event.{Event}
 use Rattle.stripe_rule.specs.declared.view.Part.{Part}
 use Rattle.stripe_rule.specs.declared.view.View.{View}
-use Rattle.stripe_rule.specs.History.{has, StartsWith, Replays}
-use Rattle.stripe_rule.specs.Gains.{part_of, seen_of, told_of, held_at, Carries}
-use Rattle.stripe_rule.specs.Rule.{Home, At, Fits, IsFree, IsHeld, Stripe, Kept}
-use Rattle.stripe_rule.specs.Steps.{lengthened, Looks, looked, IsOut, Takes, took}
+use Rattle.stripe_rule.specs.History.{Replays}
+use Rattle.stripe_rule.specs.Gains.{part_of, seen_of, held_at, Carries}
+use Rattle.stripe_rule.specs.Rule.{At, Fits, IsFree, IsHeld, Stripe, Kept}
+use Rattle.stripe_rule.specs.Steps.{lengthened, Looks, looked, Takes, took}
 use Rattle.stripe_rule.proofs.ViewLemmas.{set_at, every_set, put_part, sets_put}
 use Rattle.stripe_rule.proofs.StripeLemmas.{fits_seen, stripe_set, kept_set, sound_of}
 

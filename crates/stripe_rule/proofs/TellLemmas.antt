@@ -1,19 +1,18 @@
 -- A pass is told what another has seen; its looks then show it.
-use Rattle.std.proofs.Common.{◌≡◌, ◌≢◌, ◌⊎◌, ℕ, zero, suc, ◌+◌, ◌<◌, ◌≤◌, Bool, List, [], ◌∷◌, ◌++◌, length, get_or, set, Option, refl, sym, ap, ◌∙◌, subst, inl, inr, ⊎_elim, arith, append-nil, append_assoc}
-use Rattle.std.proofs.lemmas.List.Elements.{All-nil, All-append}
+use Rattle.std.proofs.Common.{◌≡◌, ℕ, zero, suc, ◌+◌, List, [], ◌∷◌, ◌++◌, length, get_or, set, Option, refl, sym, ap, ◌∙◌, subst, arith}
 use mathlib.Core.Logic.{dite}
-use native.Mathlib.Decide.{ℕ_discrete, dec_le}
-use Rattle.atomic_table.specs.Table.{State, Me}
+use native.Mathlib.Decide.{ℕ_discrete}
+use Rattle.atomic_table.specs.Table.{State}
 use Rattle.stripe_rule.specs.declared.view.Event.{Event}
 use Rattle.stripe_rule.specs.declared.view.Part.{Part}
 use Rattle.stripe_rule.specs.declared.view.View.{View}
 use Rattle.stripe_rule.specs.History.{has, made_by, AreUnder, AreOthers, StartsWith}
-use Rattle.stripe_rule.specs.Gains.{blank, part_of, seen_of, mine_of, told_of, held_at, Carries, Gains, Hears}
-use Rattle.stripe_rule.specs.Rule.{Home, At, IsCounted, Fits, Stripe, Kept}
-use Rattle.stripe_rule.specs.Steps.{Sets, Extends, lengthened, told_part, IsTold, HasHeard, Looks}
-use Rattle.stripe_rule.proofs.HistoryLemmas.{IsOther}
+use Rattle.stripe_rule.specs.Gains.{blank, part_of, seen_of, told_of, held_at, Carries, Hears}
+use Rattle.stripe_rule.specs.Rule.{At, IsCounted, Fits, Kept}
+use Rattle.stripe_rule.specs.Steps.{Extends, told_part, IsTold, HasHeard}
 use Rattle.stripe_rule.proofs.ViewLemmas.{every_set, apart_set, counted_same}
 use Rattle.stripe_rule.proofs.StripeLemmas.{stripe_set}
+use Rattle.stripe_rule.proofs.CallLemmas.{gains_none, gains_more}
 
 module _ {D : Type 0} where
   -- each part is told of what is seen in the other's
@@ -82,14 +81,6 @@ module _ {D T B : Type 0} (does : ℕ → T → D → T → Type 0) (empty : T) 
       )
 
 module _ {D : Type 0} where
-  gains_none : (v w : View D) (k : ℕ) → seen_of w k ≡ seen_of v k → mine_of w k ≡ mine_of v k → Gains v w k []
-  gains_none v w k seen mine = record {
-    between = [];
-    others = All-nil (IsOther v.numbers);
-    seen = seen ∙ (sym (append-nil (seen_of v k)) ∙ sym (append-nil (seen_of v k ++ [])));
-    mine = mine ∙ sym (append-nil (mine_of v k));
-  }
-
   -- told, it has looked at no stripe yet
   pub heard_none : (from v u : View D) → IsTold from v u → HasHeard from v 0 u
   heard_none from v u t = record {
@@ -110,7 +101,7 @@ module _ {D : Type 0} where
     wide = e.sets.wide ∙ h.wide;
     held = λ k. at_each k (λ (z : View D) (i : ℕ). held_at z i ≡ held_at v i) (λ z i a b. ap (λ (p : Part D). p.held) a ∙ b) (h.held k) (ap (λ (p : Part D). p.held) e.sets.here ∙ h.held n);
     told = λ k. at_each k (λ (z : View D) (i : ℕ). told_of z i ≡ seen_of from i) (λ z i a b. ap (λ (p : Part D). p.told) a ∙ b) (h.told k) (ap (λ (p : Part D). p.told) e.sets.here ∙ h.told n);
-    gains = λ k. at_each k (λ (z : View D) (i : ℕ). Gains v z i []) (λ z i a b. record { between = b.between; others = b.others; seen = ap (λ (p : Part D). p.seen) a ∙ b.seen; mine = ap (λ (p : Part D). p.mine) a ∙ b.mine }) (h.gains k) new_gains;
+    gains = gains_more v w u n (held_at w n) h.numbers h.gains e;
     begins = λ k less. dite (ℕ_discrete k n)
         (λ is. subst (λ i. StartsWith (seen_of u i) (seen_of from i)) (sym is) (begins.0, begins.1 ∙ ap (λ l. l ++ begins.0) (h.told n)))
         (λ other. let b = h.begins k (omega arith) in (b.0, ap (λ (p : Part D). p.seen) (e.sets.elsewhere k other) ∙ b.1));
@@ -119,14 +110,6 @@ module _ {D : Type 0} where
       -- what holds of the stripe looked at, and held of the others
       at_each : (k : ℕ) (F : View D → ℕ → Type 0) → ((z : View D) (i : ℕ) → part_of u i ≡ part_of w i → F w i → F u i) → F w k → F u n → F u k
       at_each k F same old new = dite (ℕ_discrete k n) (λ is. subst (F u) (sym is) new) (λ other. same u k (e.sets.elsewhere k other) old)
-
-      new_gains : Gains v u n []
-      new_gains = let g = h.gains n in record {
-        between = g.between ++ e.between;
-        others = All-append (IsOther v.numbers) g.between e.between g.others (subst (λ ns. AreOthers ns e.between) h.numbers e.others);
-        seen = ap (λ (p : Part D). p.seen) e.sets.here ∙ (ap (λ l. l ++ e.between) (g.seen ∙ append-nil (seen_of v n ++ g.between)) ∙ (append_assoc (seen_of v n) g.between e.between ∙ sym (append-nil (seen_of v n ++ (g.between ++ e.between)))));
-        mine = ap (λ (p : Part D). p.mine) e.sets.here ∙ g.mine;
-      }
 
   -- it has looked at all stripes
   pub hears : (from v w : View D) (stripes : ℕ) → HasHeard from v stripes w → Hears stripes from v w

@@ -6,7 +6,7 @@ use Rattle.atomic_table.proofs.Lists.{at_set}
 use Rattle.stripe_rule.specs.declared.view.Part.{Part}
 use Rattle.stripe_rule.specs.declared.view.View.{View}
 use Rattle.stripe_rule.specs.History.{has}
-use Rattle.stripe_rule.specs.Gains.{blank, part_of, Carries}
+use Rattle.stripe_rule.specs.Gains.{blank}
 use Rattle.stripe_rule.specs.Rule.{At, AreApart, IsCounted}
 use Rattle.stripe_rule.specs.Steps.{Sets}
 

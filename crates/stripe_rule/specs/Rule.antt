@@ -1,13 +1,12 @@
 -- The rule of the table: its words, the values at home and what all passes know. A word is 1 while its stripe is held.
-use Rattle.std.specs.Prelude.{◌≡◌, ℕ, zero, suc, ◌+◌, ◌<◌, ◌⊎◌, Bool, true, false, List, [], ◌∷◌, ◌++◌, length, replicate, slice_index, slice_index_or, Option, Some}
+use Rattle.std.specs.Prelude.{◌≡◌, ℕ, zero, suc, ◌+◌, ◌<◌, ◌⊎◌, true, false, List, [], ◌∷◌, ◌++◌, length, replicate, slice_index, Option, Some}
 use mathlib.Core.Option as maybe
 use lib.ListN.{get_elem?}
 use Rattle.atomic_table.specs.Table.{State}
 use Rattle.stripe_rule.specs.declared.view.Event.{Event}
-use Rattle.stripe_rule.specs.declared.view.Part.{Part}
 use Rattle.stripe_rule.specs.declared.view.View.{View}
-use Rattle.stripe_rule.specs.History.{has, made_by, AreUnder, AreOthers, AreBelow, StartsWith, Replays, IsLegal}
-use Rattle.stripe_rule.specs.Gains.{blank, part_of, seen_of, mine_of, told_of, held_at, Carries}
+use Rattle.stripe_rule.specs.History.{made_by, AreUnder, AreOthers, AreBelow, StartsWith, Replays, IsLegal}
+use Rattle.stripe_rule.specs.Gains.{blank, seen_of, mine_of, told_of, held_at, Carries}
 
 -- so many numbers from n on
 abbrev pub from_on : ℕ → ℕ → List ℕ

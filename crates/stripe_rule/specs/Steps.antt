@@ -1,5 +1,5 @@
 -- What each step tells of the view before it and the view after it.
-use Rattle.std.specs.Prelude.{◌≡◌, ◌≢◌, ℕ, ◌<◌, Bool, true, false, List, [], ◌∷◌, ◌++◌, length, Option, Some}
+use Rattle.std.specs.Prelude.{◌≡◌, ◌≢◌, ℕ, ◌<◌, ◌≤◌, Bool, true, false, List, [], ◌∷◌, ◌++◌, length, slice_index_or, Option, Some}
 use Rattle.atomic_table.specs.Table.{Me, Step, rest}
 use Rattle.stripe_rule.specs.declared.view.Event.{Event}
 use Rattle.stripe_rule.specs.declared.view.Part.{Part}
@@ -65,6 +65,15 @@ module _ {D T : Type 0} (does : ℕ → T → D → T → Type 0) (empty : T) wh
     pub sets : Sets me.0 k (grown (part_of me.0 k) more) me'.0
     pub sound : IsSound does empty me'.0
     pub out : me'.1 ≡ rest me.1
+
+  -- it has taken the first n stripes, one after another, whose bins keep these tables
+  pub record HasTaken (v : View D) (n : ℕ) (tables : List T) (w : View D) : Type 0 where
+    pub numbers : w.numbers ≡ v.numbers
+    pub passes : w.passes ≡ v.passes
+    pub count : length tables ≡ n
+    pub held : (k : ℕ) → n ≤ k → held_at w k ≡ held_at v k
+    pub gains : (k : ℕ) → Gains v w k []
+    pub left : (k : ℕ) (d : T) → k < n → Replays (does k) empty (seen_of w k) (slice_index_or tables k d)
 
   -- a load of the word, as a table tells it
   abbrev pub looked : {S : Type 0} → Step S → Me S (View D) → ℕ → Me S (View D) → Type 0
