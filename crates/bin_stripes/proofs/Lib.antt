@@ -1,3 +1,5 @@
 pub mod StepLemmas
 pub mod StripeTables
 pub mod Making
+pub mod OpenedLemmas
+pub mod TellingLemmas

@@ -1,5 +1,5 @@
 -- The steps of a map's table on one stripe, by the lemmas of the rule.
-use Rattle.std.proofs.Common.{◌≡◌, ◌≢◌, ℕ, ◌<◌, true, false, eqb, List, [], ◌∷◌, ◌++◌, Option, Some, refl, sym, ap, ◌∙◌, subst, map}
+use Rattle.std.proofs.Common.{◌≡◌, ◌≢◌, ℕ, ◌<◌, true, false, eqb, List, [], ◌∷◌, ◌++◌, Option, Some, None, refl, sym, ap, ◌∙◌, subst, map}
 use mathlib.Core.Option as maybe
 use prog.Atomic.{either}
 use Rattle.atomic_table.specs.Table.{State, Me, step, rest, Allows}
@@ -94,6 +94,7 @@ module _ {B : Type 0} (content : B → Table) (stripes k : ℕ) where
   settles_lost me me' r l = let e : Extends me.0 k false me'.0 = subst (λ b. Extends me.0 k b me'.0) (r.idle k) l.extends in record {
     adds = adds_none me.0 me'.0 k false e;
     passes = e.sets.passes;
+    wide = e.sets.wide;
     sound = l.sound;
     rests = record {
       idle = idle_after me.0 me'.0 k r.idle e;
@@ -131,6 +132,7 @@ module _ {B : Type 0} (content : B → Table) (stripes k : ℕ) where
   settles_after me held me' actions r t l = record {
     adds = adds_own me held me' actions t l;
     passes = l.sets.passes ∙ t.extends.sets.passes;
+    wide = l.sets.wide ∙ t.extends.sets.wide;
     sound = l.sound;
     rests = rests_after me held me' actions r t l;
   }
@@ -162,3 +164,34 @@ module _ {B : Type 0} (content : B → Table) (stripes k : ℕ) where
     found = subst (λ es. Leaves stripes k es table) (ap (λ p. p.seen) t.extends.sets.here) found;
     are = l.may_be;
   }
+
+  first_bins : B → List (ℕ × Option B) → B
+  first_bins d [] = d
+  first_bins d ((j, None) ∷ xs) = d
+  first_bins d ((j, Some b) ∷ xs) = b
+
+  -- what the bins that are out contain
+  pub found_is : (me : Me (Option B) (View Deed)) (b : B) (others : List (ℕ × Option B)) → Holds content stripes k me → me.1 ≡ (k, Some b) ∷ others → Leaves stripes k (seen_of me.0 k) (content b)
+  found_is me b others h out = subst (λ (x : B). Leaves stripes k (seen_of me.0 k) (content x)) (ap (first_bins b) (sym h.out ∙ out)) h.content_is
+
+  -- a seat that holds the stripe still holds it while the bins are out
+  pub held_still : (me : Me (Option B) (View Deed)) (v : View Deed) (xs others : List (ℕ × Option B)) → Holds content stripes k me → v ≡ me.0 → xs ≡ (k, None) ∷ others
+      → (held_at v k ≡ true) × Carries v (least v.numbers) × ((others : List (ℕ × Option B)) × (xs ≡ (k, None) ∷ others))
+  held_still me v xs others h is out = (ap (λ (x : View Deed). held_at x k) is ∙ h.held, subst (λ (x : View Deed). Carries x (least x.numbers)) (sym is) h.some, (others, out))
+
+module _ {B : Type 0} (stripes k : ℕ) where
+  -- what a release lets, from the seat as it was while the bins were out, or before
+  pub lets_from : (may : List Action → Type 0) (me mid me' : Me (Option B) (View Deed)) (others : List (ℕ × Option B)) (x y : Option B) → mid.0 ≡ me.0 → me.1 ≡ (k, x) ∷ others → mid.1 ≡ (k, y) ∷ others
+      → Lets may stripes k mid me' → Lets may stripes k me me'
+  lets_from may me mid me' others x y is before after l = record {
+    actions = l.actions;
+    may_be = l.may_be;
+    releases = record {
+      sets = subst (λ (v : View Deed). Sets v k (grown (part_of v k) (own_events v l.actions)) me'.0) is l.releases.sets;
+      sound = l.releases.sound;
+      out = l.releases.out ∙ (ap rest after ∙ sym (ap rest before));
+    };
+  }
+
+  pub lets_as : (may may' : List Action → Type 0) (me me' : Me (Option B) (View Deed)) → ((actions : List Action) → may actions → may' actions) → Lets may stripes k me me' → Lets may' stripes k me me'
+  lets_as may may' me me' f l = record { actions = l.actions; may_be = f l.actions l.may_be; releases = l.releases }

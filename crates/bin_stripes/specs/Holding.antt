@@ -1,5 +1,5 @@
 -- A seat of the table beside one stripe: at rest, holding the stripe, and after a call.
-use Rattle.std.specs.Prelude.{◌≡◌, ℕ, true, List, [], ◌∷◌, ◌++◌, Option, Some}
+use Rattle.std.specs.Prelude.{◌≡◌, ℕ, true, List, [], ◌∷◌, ◌++◌, length, Option, Some}
 use Rattle.std.specs.FinMap as finmap
 use Rattle.atomic_table.specs.Seated.{TableId}
 use Rattle.atomic_table.specs.Table.{Me}
@@ -39,6 +39,7 @@ module _ {B : Type 0} where
       (me' : Me (Option B) (View Deed)) : Type 0 where
     pub adds : Adds me.0 k (own_events me.0 actions) me'.0
     pub passes : me'.0.passes ≡ me.0.passes
+    pub wide : length me'.0.parts ≡ length me.0.parts
     pub sound : Sound stripes me'.0
     pub rests : Rests me'
 

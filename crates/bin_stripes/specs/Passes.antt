@@ -1,5 +1,5 @@
 -- What contracts see of a pass: the map that it serves, and what it carries and knows.
-use Rattle.std.specs.Prelude.{◌≡◌, ℕ, [], ◌∷◌, List}
+use Rattle.std.specs.Prelude.{◌≡◌, ℕ, [], ◌∷◌, List, length}
 use Rattle.std.specs.Coded.{Coded, code_by, coded×}
 use mathlib.Core.Path.{refl}
 use Rattle.atomic_table.specs.Seated.{TableId, table_id_coded}
@@ -24,12 +24,13 @@ abbrev pub stripes_of : TableId → ℕ
 stripes_of map = map.slots
 
 -- what a pass that serves this map, with these views at rest, always has: one view, which holds no stripe, carries its
--- least number, and knows legal histories alone
+-- least number, and knows of each stripe a legal history
 pub record IsPass (map : TableId) (views : List (View Deed)) : Type 0 where
   pub one : views ≡ view_of views ∷ []
   pub idle : IsIdle (view_of views)
   pub some : Carries (view_of views) (least (view_of views).numbers)
   pub sound : Sound (stripes_of map) (view_of views)
+  pub wide : length (view_of views).parts ≡ stripes_of map
 
 -- the pass serves the same map, which was opened with as many passes
 pub record Serves (old new : PassState) : Type 0 where

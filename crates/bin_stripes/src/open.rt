@@ -1,5 +1,5 @@
 //! A new map and its passes.
-ghost use Rattle.std.specs.Prelude.{◌≡◌, ℕ, ◌↔◌, [], ◌∷◌, All, IfOk, IsErrOf, length, map, replicate};
+ghost use Rattle.std.specs.Prelude.{◌≡◌, ℕ, ◌<◌, ◌↔◌, [], ◌∷◌, All, IfOk, IsErrOf, length, map, replicate};
 ghost use Rattle.atomic_methods.specs.Hashes.{IsStripeCount};
 ghost use Rattle.stripe_rule.specs.Rule.{from_on, newcomer, opener};
 ghost use Rattle.bin_stripes.specs.Holding.{IsLaid, IsEmptyBins};
@@ -87,11 +87,13 @@ fn dealt<B: Bins>(
 ) -> Result<Vec<Pass>, NoMemory>
     requires table { IsLaid table.now.table_id table.now.key × (rest.table_id ≡ table.now.table_id) }
     requires passes { (table.now.key.passes ≡ passes) × IsPassCount passes }
+    requires some { 0 < table.now.table_id.slots }
     requires first { rest.me ≡ (opener table.now.table_id.slots passes, []) }
     ensures dealt { IfOk result (λ all. all.items ≡ map (pass_of table.now.table_id passes) (from_on 0 passes)) }
 {
     let mut all = Vec::new(alloc);
-    for _ in 1..passes {
+    for number in 0..passes - 1 {
+        let _ = number;
         let next = table.split_seat::<Deal>(&mut rest);
         all.push(dealt_pass(rest))?;
         rest = next;

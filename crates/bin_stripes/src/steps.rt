@@ -61,7 +61,6 @@ pub(crate) fn bins_out<B: Bins + Drop>(table: &Stripes<B>, seat: &mut Stand<B>, 
         × (seat.new.me.0 ≡ seat.old.me.0) }
     ensures out { (others : List (ℕ × Option B))
         × ((seat.old.me.1 ≡ (stripe, Some result) ∷ others) × (seat.new.me.1 ≡ (stripe, None) ∷ others)) }
-    ensures found { Leaves table.now.table_id.slots stripe (seen_of seat.old.me.0 stripe) (B.table result) }
 {
     match table.exchange(seat, stripe, None) {
         Some(bins) => bins,

@@ -1,4 +1,4 @@
-use Rattle.std.proofs.Common.{◌≡◌, false, refl, sym, ap, ◌∙◌, subst}
+use Rattle.std.proofs.Common.{rules, ◌≡◌, false, refl, sym, ap, ◌∙◌, subst}
 use Rattle.stripe_rule.specs.Gains.{least, held_at}
 use Rattle.stripe_rule.specs.Steps.{Extends}
 use Rattle.stripe_rule.proofs.CallLemmas.{least_has, carries_same, extends_self, extends_again}
@@ -18,7 +18,7 @@ try_take-requires-clause-pass g c = let v = c.args.seat.now.me.0 in let w = c.lo
 
 pub returns-then-try_take-clause-took : goal.returns-then-try_take-clause-took
 returns-then-try_take-clause-took g c = let inv = c.loop.invariant in
-    takes_since g.B.Bins.table c.args.table.now.table_id.slots c.args.stripe c.args.seat.now.me.0 c.loop.seat.me c.try_take.new.seat.me c.args.seat.now.me.1 inv.2 inv.3 (search)
+    takes_since g.B.Bins.table c.args.table.now.table_id.slots c.args.stripe c.args.seat.now.me.0 c.loop.seat.me c.try_take.new.seat.me c.args.seat.now.me.1 inv.2 inv.3 (search rules)
 
 pub loop-preserved : goal.loop-preserved
-loop-preserved g c = search
+loop-preserved g c = search rules
