@@ -3,3 +3,4 @@ pub mod StripeTables
 pub mod Making
 pub mod OpenedLemmas
 pub mod TellingLemmas
+pub mod PassLemmas

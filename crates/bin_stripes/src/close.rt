@@ -1,5 +1,10 @@
 //! The last entries of a map.
-ghost use Rattle.std.specs.Prelude.{◌≡◌, IfOk};
+ghost use Rattle.std.specs.Prelude.{◌≡◌, List, IfOk};
+ghost use Rattle.bins.specs.Table.{Table};
+ghost use Rattle.atomic_methods.specs.Whole.{all_entries};
+ghost use Rattle.stripe_rule.specs.Steps.{HasTaken};
+ghost use Rattle.bin_stripes.specs.Histories.{empty, does, Sound};
+ghost use Rattle.bin_stripes.specs.Holding.{IsLaid, Rests};
 ghost use Rattle.bin_stripes.specs.Closed.{Closes};
 
 use crate::map::StripedMap;
@@ -39,6 +44,11 @@ fn entries_out<B: Bins + Drop, R: Wait>(
     seat: &mut Stand<B>,
     stripes: usize,
 ) -> Result<Vec<(Key, Value)>, NoMemory>
+    requires table { IsLaid table.now.table_id table.now.key × (seat.old.table_id ≡ table.now.table_id) }
+    requires stripes { stripes ≡ table.now.table_id.slots }
+    requires rests { Rests seat.old.me × Sound stripes seat.old.me.0 }
+    ensures ok { IfOk result (λ found. (tables : List Table) × ((found.items ≡ all_entries tables)
+        × (HasTaken (does stripes) empty seat.old.me.0 stripes tables seat.new.me.0 × Sound stripes seat.new.me.0))) }
 {
     let mut found = Vec::new(alloc);
     for stripe in 0..stripes {

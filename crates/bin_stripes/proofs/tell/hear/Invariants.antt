@@ -6,4 +6,4 @@ use Rattle.bin_stripes.proofs.tell.hear.Given as goal
 
 abbrev pub invariant-loop-stripe : goal.invariant-loop-stripe
 invariant-loop-stripe g l = (l.seat.table_id ≡ l.initial.seat.table_id) × (l.seat.id ≡ l.initial.seat.id)
-    × HasHeard (view_of l.from.views) l.entry.seat.me.0 l.stripe l.seat.me.0 × Rests l.seat.me × Sound l.stripes l.seat.me.0
+    × HasHeard (view_of l.from.views) l.initial.seat.me.0 l.stripe l.seat.me.0 × Rests l.seat.me × Sound l.stripes l.seat.me.0
