@@ -88,7 +88,7 @@ if_ok_so P Q (Err e) f p = tt
 
 -- it holds of the error that there is
 pub of_error : {X E P : Type 0} (r : Result X E) (e : E) → r ≡ Err e → OnErr r P → P
-of_error {P = P} r e is p = subst (λ x. OnErr x P) is p
+of_error {X} {E} {P} r e is p = subst (λ (x : Result X E). OnErr x P) is p
 
 -- two at rest, joined
 pub joined_rests : {B : Type 0} (me other me' : Me (Option B) (View Deed)) → Rests me → Rests other → length me.0.parts ≡ length other.0.parts → me' ≡ (united me.0 other.0, me.1) → Rests me'
