@@ -1,5 +1,5 @@
 //! Rows of calls by several passes, in one thread and in many.
-ghost use Rattle.std.specs.Prelude.{◌≡◌, ◌≤◌};
+ghost use Rattle.std.specs.Prelude.{◌≡◌, ◌≤◌, All, IfOk};
 
 use crate::{CallFault, Gate, OpenFault, OpenGate, Pass, Place, StripedMap};
 use atomic_methods::{Call, Reply};
@@ -104,5 +104,25 @@ fn refusal(alloc: Global, stripes: u64, passes: u64) -> u8 {
     match StripedMap::open(alloc, stripes, passes) {
         Ok(_) => 0,
         Err(fault) => fault.number(),
+    }
+}
+
+// A map, whose passes all serve it.
+fn opened(alloc: Global, stripes: u64, passes: u64) -> Result<(StripedMap, Vec<Pass>), OpenFault>
+    ensures all { IfOk result (λ made. All (λ pass. pass.map ≡ made.0) made.1.items) }
+{
+    StripedMap::open(alloc, stripes, passes)
+}
+
+// The next of the map's passes.
+fn next_pass(map: &StripedMap, passes: &mut Vec<Pass>) -> Result<Pass, Fail>
+    requires all { All (λ pass. pass.map ≡ map.now) passes.old.items }
+    ensures pass { IfOk result (λ pass. pass.map ≡ map.now) }
+    ensures all { All (λ pass. pass.map ≡ map.now) passes.new.items }
+{
+    let _ = map;
+    match passes.pop() {
+        Some(pass) => Ok(pass),
+        None => Err("no pass".into()),
     }
 }

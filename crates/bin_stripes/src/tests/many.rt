@@ -63,9 +63,9 @@ fn beside(map: &StripedMap, gate: &Shut, pass: &mut Pass, calls: &[Call; 2]) -> 
 #[test]
 fn stripes_apart(rt: HostRuntime) -> Result<(), Fail> {
     let program = summing(rt.alloc())?;
-    let (map, mut passes) = StripedMap::open(rt.alloc(), 2, 2)?;
-    let mut holder = passes.pop().ok_or("no pass")?;
-    let mut other = passes.pop().ok_or("no pass")?;
+    let (map, mut passes) = opened(rt.alloc(), 2, 2)?;
+    let mut holder = next_pass(&map, &mut passes)?;
+    let mut other = next_pass(&map, &mut passes)?;
     // The key 61 lies in stripe 0, and 62 in stripe 1.
     let calls = [get(b"b")?, get(b"a")?];
     let gate = Shut::new();
@@ -123,9 +123,9 @@ fn tried(map: &StripedMap, pass: &mut Pass, call: &Call, most: u64) -> Option<u6
 #[test]
 fn two_threads_merge_on_one_key(rt: HostRuntime) -> Result<(), Fail> {
     let program = summing(rt.alloc())?;
-    let (map, mut passes) = StripedMap::open(rt.alloc(), 16, 2)?;
-    let mut second = passes.pop().ok_or("no pass")?;
-    let mut first = passes.pop().ok_or("no pass")?;
+    let (map, mut passes) = opened(rt.alloc(), 16, 2)?;
+    let mut second = next_pass(&map, &mut passes)?;
+    let mut first = next_pass(&map, &mut passes)?;
     let made = thread::join(
         &rt,
         || merges(&rt, &map, &mut first, &program, 500),
@@ -135,5 +135,25 @@ fn two_threads_merge_on_one_key(rt: HostRuntime) -> Result<(), Fail> {
     let mut both = map.join(first, second);
     let found = map.call(&rt, &mut both, &get(b"a")?)?;
     assert!(rt; is_value(&found, &[0xe8, 0x03, 0, 0, 0, 0, 0, 0]));
+    Ok(())
+}
+
+#[test]
+fn eight_threads_merge_on_one_key(rt: HostRuntime) -> Result<(), Fail> {
+    let program = summing(rt.alloc())?;
+    let (map, mut passes) = opened(rt.alloc(), 16, 8)?;
+    let merge = |_: usize, pass: &mut Pass|
+        requires { pass.old.map ≡ map.now }
+        ensures { pass.new.map ≡ map.entry.now }
+    {
+        merges(&rt, &map, pass, &program, 250);
+    };
+    thread::for_each_mut(&rt, &mut passes, 8, &merge);
+    let mut all = next_pass(&map, &mut passes)?;
+    for _ in 1..8 {
+        all = map.join(all, next_pass(&map, &mut passes)?);
+    }
+    let found = map.call(&rt, &mut all, &get(b"a")?)?;
+    assert!(rt; is_value(&found, &[0xd0, 0x07, 0, 0, 0, 0, 0, 0]));
     Ok(())
 }

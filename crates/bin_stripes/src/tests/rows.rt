@@ -21,9 +21,9 @@ fn open_refuses_by_the_first_test_that_fails(rt: HostRuntime) -> Result<(), Fail
 
 #[test]
 fn a_told_pass_sees_what_was_put(rt: HostRuntime) -> Result<(), Fail> {
-    let (map, mut passes) = StripedMap::open(rt.alloc(), 4, 2)?;
-    let mut second = passes.pop().ok_or("no pass")?;
-    let mut first = passes.pop().ok_or("no pass")?;
+    let (map, mut passes) = opened(rt.alloc(), 4, 2)?;
+    let mut second = next_pass(&map, &mut passes)?;
+    let mut first = next_pass(&map, &mut passes)?;
     map.call(&rt, &mut first, &put(b"a", &ONE)?)?;
     map.tell(&first, &mut second);
     let found = map.call(&rt, &mut second, &get(b"a")?)?;
@@ -33,9 +33,9 @@ fn a_told_pass_sees_what_was_put(rt: HostRuntime) -> Result<(), Fail> {
 
 #[test]
 fn last_entries_are_in_key_order(rt: HostRuntime) -> Result<(), Fail> {
-    let (map, mut passes) = StripedMap::open(rt.alloc(), 4, 2)?;
-    let mut second = passes.pop().ok_or("no pass")?;
-    let mut first = passes.pop().ok_or("no pass")?;
+    let (map, mut passes) = opened(rt.alloc(), 4, 2)?;
+    let mut second = next_pass(&map, &mut passes)?;
+    let mut first = next_pass(&map, &mut passes)?;
     map.call(&rt, &mut second, &put(b"b", &[2])?)?;
     map.call(&rt, &mut first, &put(b"a", &[1])?)?;
     let both = map.join(first, second);
@@ -50,8 +50,8 @@ fn last_entries_are_in_key_order(rt: HostRuntime) -> Result<(), Fail> {
 #[test]
 fn a_single_thread_is_never_busy(rt: HostRuntime) -> Result<(), Fail> {
     let program = summing(rt.alloc())?;
-    let (map, mut passes) = StripedMap::open(rt.alloc(), 2, 1)?;
-    let mut pass = passes.pop().ok_or("no pass")?;
+    let (map, mut passes) = opened(rt.alloc(), 2, 1)?;
+    let mut pass = next_pass(&map, &mut passes)?;
     for _ in 0..1_000 {
         map.try_call(&mut pass, &put(b"a", &ONE)?)?;
         let found = map.try_scan_stripe(rt.alloc(), &mut pass, 0)?;
@@ -65,8 +65,8 @@ fn a_single_thread_is_never_busy(rt: HostRuntime) -> Result<(), Fail> {
 #[test]
 fn a_stripe_has_its_own_keys(rt: HostRuntime) -> Result<(), Fail> {
     let program = summing(rt.alloc())?;
-    let (map, mut passes) = StripedMap::open(rt.alloc(), 4, 1)?;
-    let mut pass = passes.pop().ok_or("no pass")?;
+    let (map, mut passes) = opened(rt.alloc(), 4, 1)?;
+    let mut pass = next_pass(&map, &mut passes)?;
     assert_eq!(rt; map.stripes(), 4);
     assert_eq!(rt; (map.stripe_of(&key(b"")?), map.stripe_of(&key(b"ab")?)), (1, 2));
     map.call(&rt, &mut pass, &put(b"", &ONE)?)?;
