@@ -33,16 +33,21 @@ map-more f (m ∷ ns) n = ap (λ xs. f m ∷ xs) (map-more f ns n)
 -- one pass more is dealt
 pub dealt_more : (id : TableId) (passes number : ℕ) (all : List PassState) (p : PassState) → all ≡ map (pass_of id passes) (from_on 0 number) → p ≡ pass_of id passes number
     → all ++ p ∷ [] ≡ map (pass_of id passes) (from_on 0 (number + 1))
-dealt_more id passes number all p is new = (λ i. is i ++ new i ∷ [])
+dealt_more id passes number all p is new = let same : number ≡ 0 + number = omega arith in let next : suc number ≡ number + 1 = omega arith in
+    (λ i. is i ++ new i ∷ [])
     ∙ (sym (map-more (pass_of id passes) (from_on 0 number) number)
-    ∙ ap (map (pass_of id passes)) (sym (from_on-more 0 number) ∙ ap (from_on 0) (omega arith)))
+    ∙ ap (map (pass_of id passes)) (ap (λ (m : ℕ). from_on 0 number ++ m ∷ []) same ∙ (sym (from_on-more 0 number) ∙ ap (from_on 0) next)))
+
+-- a pass, by the map that it serves and what it knows
+pub pass_is : (id : TableId) (passes number : ℕ) (z : TableId) (v : View Deed) → z ≡ id → v ≡ newcomer (stripes_of id) passes (number ∷ []) → record { map = z; view = v } ≡ pass_of id passes number
+pass_is id passes number z v same is i = record { map = same i; view = is i }
 
 module _ (stripes passes number : ℕ) where
   abbrev Newcomer : View Deed
   Newcomer = newcomer stripes passes (number ∷ [])
 
   abbrev new_part : (k : ℕ) → part_of Newcomer k ≡ blank
-  new_part k = part_new stripes passes (number ∷ []) k
+  new_part k = part_new Deed stripes passes (number ∷ []) k
 
   pub newcomer_sound : (n : ℕ) → Sound n Newcomer
   newcomer_sound n = record {
@@ -62,9 +67,13 @@ module _ (stripes passes number : ℕ) where
     wide = (let none : Part Deed = blank in length-replicate stripes none) ∙ sym is;
   }
 
-pub replicate_more : (n : ℕ) → replicate n 0 ++ 0 ∷ [] ≡ replicate (n + 1) 0
-replicate_more n = more n ∙ ap (λ m. replicate m 0) (omega arith)
+abbrev pub zeros : ℕ → List ℕ
+zeros n = replicate n 0
+
+-- one zero more
+pub zeros_more : (n : ℕ) → zeros n ++ 0 ∷ [] ≡ zeros (n + 1)
+zeros_more n = let next : suc n ≡ n + 1 = omega arith in more n ∙ ap zeros next
   where
-    more : (n : ℕ) → replicate n 0 ++ 0 ∷ [] ≡ replicate (suc n) 0
+    more : (n : ℕ) → zeros n ++ 0 ∷ [] ≡ zeros (suc n)
     more zero = refl
-    more (suc n) = ap (λ xs. 0 ∷ xs) (more n)
+    more (suc n) = ap (λ (xs : List ℕ). 0 ∷ xs) (more n)

@@ -53,7 +53,7 @@ fn opened(alloc: Global, stripes: u64, passes: u64) -> Result<(StripedMap, Vec<P
         stripes,
         passes,
     };
-    let Ok((table, seat)) = Table::new(alloc, words.as_slice(), slots, &shape) else {
+    let Ok((table, seat)) = Table::new(alloc, &words, slots, &shape) else {
         return Err(NoMemory);
     };
     let all = dealt(alloc, &table.shared, seat, passes)?;
