@@ -61,3 +61,10 @@ module _ (stripes passes number : ℕ) where
     sound = newcomer_sound (stripes_of id);
     wide = length-replicate stripes (blank : Part Deed) ∙ sym is;
   }
+
+pub replicate_more : (n : ℕ) → replicate n 0 ++ 0 ∷ [] ≡ replicate (n + 1) 0
+replicate_more n = more n ∙ ap (λ m. replicate m 0) (omega arith)
+  where
+    more : (n : ℕ) → replicate n 0 ++ 0 ∷ [] ≡ replicate (suc n) 0
+    more zero = refl
+    more (suc n) = ap (λ xs. 0 ∷ xs) (more n)

@@ -1,11 +1,15 @@
 -- A pass and its seat: what the seat does is what the pass does.
-use Rattle.std.proofs.Common.{◌≡◌, ℕ, List, [], ◌∷◌, ◌++◌, Option, length, refl, sym, ap, ◌∙◌, subst}
-use Rattle.std.specs.FinMap as finmap
+use Rattle.std.proofs.Common.{◌≡◌, ℕ, suc, List, [], ◌∷◌, ◌++◌, Option, Result, Ok, Err, length, refl, sym, ap, ◌∙◌, subst}
+use Rattle.std.specs.Prelude.{OnErr, IfOk}
 use Rattle.atomic_table.specs.Table.{Me}
 use Rattle.atomic_table.specs.Seated.{TableId}
 use Rattle.stripe_rule.specs.declared.view.View.{View}
-use Rattle.stripe_rule.specs.Gains.{least, Carries, IsIdle, Adds, seen_of}
-use Rattle.stripe_rule.specs.Steps.{view_of}
+use Rattle.stripe_rule.specs.declared.view.Part.{Part}
+use Rattle.stripe_rule.specs.Gains.{least, Carries, IsIdle, Adds, seen_of, held_at}
+use Rattle.stripe_rule.specs.Steps.{view_of, united, united_parts}
+use Rattle.stripe_rule.proofs.HistoryLemmas.{has-left}
+use Rattle.stripe_rule.proofs.CallLemmas.{least_has}
+use Rattle.stripe_rule.proofs.JoinLemmas.{part_united}
 use Rattle.verifier.specs.Checked.{Checked}
 use Rattle.bins.specs.declared.counts.Counts.{Counts}
 use Rattle.atomic_methods.specs.Invocations.{Invocation}
@@ -72,3 +76,33 @@ module _ {B : Type 0} (id : TableId) (views : List (View Deed)) (me : Me (Option
   replaced_after me' k program arg counts r id' views' same is' old view_is = subst (λ o. ReplacesEach o k program arg counts (state id' views')) view_is
       (subst (λ (z : View Deed × View Deed). ReplacesEach (record { map = id; view = z.0 }) k program arg counts (record { map = id'; view = z.1 })) (λ i. (sym (ap view_of is) i, sym (ap view_of is') i))
       (record { actions = r.actions; makes = r.settles.adds; table = r.table; found = r.found; are = r.are }))
+
+-- what holds of the error, or of the value, may be led on
+pub on_err_so : {X E P Q : Type 0} (r : Result X E) → (P → Q) → OnErr r P → OnErr r Q
+on_err_so (Ok x) f p = tt
+on_err_so (Err e) f p = f p
+
+pub if_ok_so : {X E : Type 0} (P Q : X → Type 0) (r : Result X E) → ((x : X) → P x → Q x) → IfOk r P → IfOk r Q
+if_ok_so P Q (Ok x) f p = f x p
+if_ok_so P Q (Err e) f p = tt
+
+-- it holds of the error that there is
+pub of_error : {X E P : Type 0} (r : Result X E) (e : E) → r ≡ Err e → OnErr r P → P
+of_error {X} {E} {P} r e is p = subst (λ (x : Result X E). OnErr x P) is p
+
+-- two at rest, joined
+pub joined_rests : {B : Type 0} (me other me' : Me (Option B) (View Deed)) → Rests me → Rests other → length me.0.parts ≡ length other.0.parts → me' ≡ (united me.0 other.0, me.1) → Rests me'
+joined_rests me other me' r s wide is = record {
+  idle = λ k. ap (λ m. held_at m.0 k) is ∙ (ap (λ (p : Part Deed). p.held) (part_united me.0 other.0 k wide) ∙ r.idle k);
+  some = subst (λ (v : View Deed). Carries v (least v.numbers)) (sym (ap (λ m. m.0) is))
+      (least_has (least me.0.numbers) (me.0.numbers ++ other.0.numbers) (has-left (least me.0.numbers) me.0.numbers other.0.numbers r.some));
+  none_out = ap (λ m. m.1) is ∙ r.none_out;
+}
+
+length_united : (ps qs : List (Part Deed)) → length (united_parts ps qs) ≡ length ps
+length_united [] qs = refl
+length_united (p ∷ ps) [] = refl
+length_united (p ∷ ps) (q ∷ qs) = ap suc (length_united ps qs)
+
+pub wide_united : (v w u : View Deed) → u ≡ united v w → length u.parts ≡ length v.parts
+wide_united v w u is = ap (λ (x : View Deed). length x.parts) is ∙ length_united v.parts w.parts

@@ -78,6 +78,14 @@ module _ {B : Type 0} (content : B → Table) (stripes k : ℕ) where
     out = record { bins = t.out.bins; out = t.out.out ∙ ap (λ l. (k, Some t.out.bins) ∷ l) is; content_is = t.out.content_is };
   }
 
+  -- a lost take after looks
+  pub looks_since : (v : View Deed) (me me' : Me (Option B) (View Deed)) (out : List (ℕ × Option B)) → me.1 ≡ out → Extends v k false me.0
+      → Looks (does stripes) empty k me me' → (me'.1 ≡ out) × Extends v k false me'.0
+  looks_since v me me' out is e l = (
+    l.out ∙ is,
+    extends_again v me.0 me'.0 k false false e (subst (λ b. Extends me.0 k b me'.0) (ap (λ p. p.held) e.sets.here) l.extends),
+  )
+
   -- after a take the seat holds the stripe
   pub holds_after : (me me' : Me (Option B) (View Deed)) → Carries me.0 (least me.0.numbers) → Takes (does stripes) empty content k me me' → Holds content stripes k me'
   holds_after me me' c t = record {

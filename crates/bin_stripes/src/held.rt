@@ -148,7 +148,7 @@ pub(crate) fn make_replacements<B: Bins + Drop, G: Gate>(
     requires held { Holds B.table table.now.table_id.slots stripe seat.old.me }
     ensures same { (seat.new.table_id ≡ seat.old.table_id) × (seat.new.id ≡ seat.old.id) }
     ensures made { (there : Table) × (Leaves table.now.table_id.slots stripe (seen_of seat.old.me.0 stripe) there
-        × Lets (λ actions. AreReplacements by.0.now by.1.now (map.entries there) actions result)
+        × Lets (λ actions. AreReplacements by.entry.0.now by.entry.1.now (map.entries there) actions result)
             table.now.table_id.slots stripe seat.old.me seat.new.me) }
     ensures few { result.scanned < 2 ^ 57 }
 {

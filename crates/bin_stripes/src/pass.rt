@@ -26,7 +26,8 @@ impl Model for Pass {
 }
 
 impl Pass {
-    ghost use Rattle.bin_stripes.specs.Passes.{Sound, stripes_of};
+    ghost use Rattle.bin_stripes.specs.Histories.{Sound};
+    ghost use Rattle.bin_stripes.specs.Passes.{stripes_of};
 
     /// What always holds of a pass: what it has seen of each stripe is a legal history, whose events are under numbers of
     /// passes that were opened, and of those under its numbers it has just the ones that it made. Does nothing.

@@ -73,7 +73,7 @@ pub(crate) fn try_replace<B: Bins + Drop>(
     requires rests { Rests seat.old.me }
     ensures same { (seat.new.table_id ≡ seat.old.table_id) × (seat.new.id ≡ seat.old.id) }
     ensures ok { IfOk result (λ counts.
-        Replaces table.now.table_id.slots stripe seat.old.me by.0.now by.1.now counts seat.new.me) }
+        Replaces table.now.table_id.slots stripe seat.old.me by.entry.0.now by.entry.1.now counts seat.new.me) }
     ensures err { OnErr result (Settles table.now.table_id.slots stripe seat.old.me [] seat.new.me) }
     ensures busy { IfErr result (λ fault. fault ≡ CallFault.Busy) }
     ensures few { IfOk result (λ counts. counts.scanned < 2 ^ 57) }

@@ -1,6 +1,6 @@
 //! The steps on one stripe: take, bins out, bins home, release. A word is 1 while its stripe is held, else 0; the bins of
 //! a stripe lie in the slot of its number, and are out with the seat that holds it.
-ghost use Rattle.std.specs.Prelude.{◌≡◌, ℕ, ◌<◌, true, false, List, [], ◌∷◌, ◌++◌, Some, None, MatchBool};
+ghost use Rattle.std.specs.Prelude.{◌≡◌, ℕ, ◌<◌, true, false, Option, List, [], ◌∷◌, ◌++◌, Some, None, MatchBool};
 ghost use Rattle.stripe_rule.specs.Gains.{held_at, seen_of, Carries, least};
 ghost use Rattle.stripe_rule.specs.Steps.{Takes, Looks};
 ghost use Rattle.bin_stripes.specs.Actions.{Action};

@@ -2,11 +2,11 @@ use Rattle.std.proofs.Common.{rules, ◌≡◌, false, refl, sym, ap, ◌∙◌,
 use Rattle.stripe_rule.specs.Gains.{least, held_at}
 use Rattle.stripe_rule.specs.Steps.{Extends}
 use Rattle.stripe_rule.proofs.CallLemmas.{least_has, carries_same, extends_self, extends_again}
-use Rattle.bin_stripes.proofs.StepLemmas.{takes_since}
+use Rattle.bin_stripes.proofs.StepLemmas.{takes_since, looks_since}
 use Rattle.bin_stripes.proofs.steps.take.Goals as goal
 
-pub loop-reached : goal.loop-reached
-loop-reached g c = let v = c.args.seat.now.me.0 in
+pub loop-init : goal.loop-init
+loop-init g c = let v = c.args.seat.now.me.0 in
     (refl, refl, refl, subst (λ b. Extends v c.args.stripe b v) c.requires.pass.1 (extends_self v c.args.stripe))
 
 pub try_take-requires-clause-table : goal.try_take-requires-clause-table
@@ -21,4 +21,6 @@ returns-then-try_take-clause-took g c = let inv = c.loop.invariant in
     takes_since g.B.Bins.table c.args.table.now.table_id.slots c.args.stripe c.args.seat.now.me.0 c.loop.seat.me c.try_take.new.seat.me c.args.seat.now.me.1 inv.2 inv.3 (search rules)
 
 pub loop-preserved : goal.loop-preserved
-loop-preserved g c = search rules
+loop-preserved g c = let inv = c.loop.invariant in let same = c.try_take.ensures.same in
+    let l = looks_since g.B.Bins.table c.args.table.now.table_id.slots c.args.stripe c.args.seat.now.me.0 c.loop.seat.me c.try_take.new.seat.me c.args.seat.now.me.1 inv.2 inv.3 (search rules) in
+    (same.0 ∙ inv.0, same.1 ∙ inv.1, l.0, l.1)
