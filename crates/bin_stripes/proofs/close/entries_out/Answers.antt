@@ -8,10 +8,6 @@ use Rattle.bin_stripes.proofs.StepLemmas.{holds_after}
 use Rattle.bin_stripes.proofs.ClosingLemmas.{all_entries-push, carries_next, taken_next}
 use Rattle.bin_stripes.proofs.close.entries_out.Goals as goal
 
-pub loop-stripe-reached : goal.loop-stripe-reached
-loop-stripe-reached g c = let v = c.args.seat.now.me.0 in
-    (refl, c.requires.rests.0.some, subst (λ n. Sound n v) c.requires.stripes c.requires.rests.1, ([], (c.new-found.ensures.items, taken_none (does c.args.table.now.table_id.slots) empty v)))
-
 pub take-requires-clause-table : goal.take-requires-clause-table
 take-requires-clause-table g c = (c.requires.table.0, c.loop-stripe.invariant.0 ∙ c.requires.table.1)
 

@@ -9,34 +9,22 @@ use Rattle.atomic_methods.proofs.TableLemmas.{total}
 use Rattle.atomic_methods.proofs.EntryLemmas.{Entry}
 use Rattle.atomic_methods.proofs.WholeLemmas.{Distinct-stripes}
 use Rattle.atomic_methods.proofs.SortLemmas.{smaller, sorted_entries}
+use Rattle.atomic_methods.specs.Hashes.{IsStripeCount}
 use Rattle.bin_stripes.specs.declared.deed.Deed.{Deed}
 use Rattle.bin_stripes.specs.Histories.{empty, does, Sound}
 use Rattle.bin_stripes.specs.Passes.{PassState, stripes_of}
-use Rattle.bin_stripes.proofs.PassLemmas.{state, rests_of}
+use Rattle.bin_stripes.proofs.PassLemmas.{state}
 use Rattle.bin_stripes.proofs.ClosingLemmas.{are_stripes, closes_with}
-use Rattle.bin_stripes.proofs.close.StripedMap.close.Goals as goal
-
-pub entries_out-found-requires-clause-table : goal.entries_out-found-requires-clause-table
-entries_out-found-requires-clause-table c = (c.self.invariant.laid, c.take-seat.ensures.0 ∙ (ap (λ (s : PassState). s.map) c.pass.view_is ∙ (c.requires.map ∙ sym c.self.view_is)))
-
-pub entries_out-found-requires-clause-stripes : goal.entries_out-found-requires-clause-stripes
-entries_out-found-requires-clause-stripes c = c.slot_count-stripes.ensures
-
-pub entries_out-found-requires-clause-rests : goal.entries_out-found-requires-clause-rests
-entries_out-found-requires-clause-rests c = let known = c.pass.inside.known in let me = c.take-seat.result.me in
-    let same : known.table_id ≡ c.self.inside.table.shared.table_id = ap (λ (s : PassState). s.map) c.pass.view_is ∙ (c.requires.map ∙ sym c.self.view_is) in (
-      rests_of known.table_id known.views me c.pass.invariant c.take-seat.ensures.2 c.take-seat.ensures.3,
-      subst (λ (z : ℕ × View Deed). Sound z.0 z.1) (λ i. ((ap (λ (t : TableId). t.slots) same ∙ sym c.slot_count-stripes.ensures) i, ap view_of c.take-seat.ensures.2 i)) c.pass.invariant.sound,
-    )
+use Rattle.bin_stripes.proofs.map.StripedMap.close.Goals as goal
 
 -- the entries of all stripes, sorted by key, are those of the map
 pub returns : goal.returns
-returns c = let known = c.pass.inside.known in let me = c.take-seat.result.me in let out = c.in_ok-found.ensures.ok in let w = c.entries_out-found.new.seat.me.0 in
+returns g c = let known = c.pass.inside.known in let me = c.take-seat.result.me in let out = c.in_ok-found.ensures.ok in let w = c.entries_out.new.seat.me.0 in
     let same : known.table_id ≡ c.self.inside.table.shared.table_id = ap (λ (s : PassState). s.map) c.pass.view_is ∙ (c.requires.map ∙ sym c.self.view_is) in
     let n : c.slot_count-stripes.result ≡ stripes_of known.table_id = c.slot_count-stripes.ensures ∙ ap (λ (t : TableId). t.slots) (sym same) in
     let here : HasTaken (does (stripes_of known.table_id)) empty (view_of known.views) (stripes_of known.table_id) out.0 w =
         subst (λ (z : ℕ × View Deed). HasTaken (does z.0) empty z.1 z.0 out.0 w) (λ i. (n i, ap view_of (sym c.take-seat.ensures.2) i)) out.1.1.0 in
-    let stripes = are_stripes (stripes_of known.table_id) (view_of known.views) w out.0 (subst (λ (t : TableId). Rattle.atomic_methods.specs.Hashes.IsStripeCount t.slots) (sym same) c.self.invariant.count) here in
+    let stripes = are_stripes (stripes_of known.table_id) (view_of known.views) w out.0 (subst (λ (t : TableId). IsStripeCount t.slots) (sym same) c.self.invariant.count) here in
     let order = ranks_by total (λ (e : Entry). e.0) in
     let up = c.in_ok-sort_by.ensures.sorted smaller order (answers_always _ _ _ (λ f a r q k. search rules)) in
     let stable = c.in_ok-sort_by.ensures.stable smaller order (answers_always _ _ _ (λ f a r q k. search rules)) in
