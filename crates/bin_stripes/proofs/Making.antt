@@ -1,5 +1,5 @@
 -- What is done on the bins of a stripe, as events behind those that were seen.
-use Rattle.std.proofs.Common.{◌≡◌, ◌≢◌, ℕ, Bool, true, false, cond, List, [], ◌∷◌, ◌++◌, Option, Some, None, refl, sym, ap, ◌∙◌, subst, map, append-nil}
+use Rattle.std.proofs.Common.{◌≡◌, ◌≢◌, ℕ, Bool, true, false, cond, is_eq, List, [], ◌∷◌, ◌++◌, Option, Some, None, refl, sym, ap, ◌∙◌, subst, map, append-nil}
 use Rattle.std.specs.Option.{option_map}
 use Rattle.std.specs.Ordering.{eq_by_cmp}
 use Rattle.std.specs.Cmp.{tied_itself}
@@ -87,7 +87,7 @@ module _ (n k : ℕ) where
       replays_rest : (todo : List Entry) (t : Table) → Distinct todo → ((q z : List ℕ) → find by_bytes q todo ≡ Some z → finmap.get old q ≡ Some z) → Between old new todo t
           → Replays (does n k) t (own_events v (map action_at todo)) new
       replays_rest [] t d from b = same_map total antisymmetric new t (λ q. sym ((b q).0 refl))
-      replays_rest (e ∷ rest) t d from b = let first : find by_bytes e.0 (e ∷ rest) ≡ Some e.1 = ap (λ x. cond x (Some e.1) (find by_bytes e.0 rest)) (tied_itself total e.0) in
+      replays_rest (e ∷ rest) t d from b = let first : find by_bytes e.0 (e ∷ rest) ≡ Some e.1 = ap (λ r. cond (is_eq r) (Some e.1) (find by_bytes e.0 rest)) (tied_itself total e.0) in
           let was = from e.0 e.1 first in let u = finmap.insert t e.0 (value_after (outcome e.0) e.1) in (
             u,
             (

@@ -59,7 +59,7 @@ module _ (stripes passes number : ℕ) where
     idle = λ k. ap (λ (p : Part Deed). p.held) (new_part k);
     some = ap (λ b. b || false) (eq-eqb number number refl);
     sound = newcomer_sound (stripes_of id);
-    wide = length-replicate stripes (blank : Part Deed) ∙ sym is;
+    wide = (let none : Part Deed = blank in length-replicate stripes none) ∙ sym is;
   }
 
 pub replicate_more : (n : ℕ) → replicate n 0 ++ 0 ∷ [] ≡ replicate (n + 1) 0

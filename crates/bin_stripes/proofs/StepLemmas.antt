@@ -173,7 +173,7 @@ module _ {B : Type 0} (content : B → Table) (stripes k : ℕ) where
     are = l.may_be;
   }
 
-  first_bins : B → List (ℕ × Option B) → B
+  abbrev pub first_bins : B → List (ℕ × Option B) → B
   first_bins d [] = d
   first_bins d ((j, None) ∷ xs) = d
   first_bins d ((j, Some b) ∷ xs) = b

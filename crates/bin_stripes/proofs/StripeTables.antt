@@ -1,5 +1,5 @@
 -- The tables that the events of a stripe leave: their keys lie in the stripe.
-use Rattle.std.proofs.Common.{◌≡◌, ◌≢◌, ℕ, ◌<◌, Bool, true, false, T, cond, List, [], ◌∷◌, ◌++◌, Option, Some, None, refl, sym, ap, ◌∙◌, subst, All}
+use Rattle.std.proofs.Common.{◌≡◌, ◌≢◌, ℕ, ◌<◌, Bool, true, false, T, cond, is_eq, List, [], ◌∷◌, ◌++◌, Option, Some, None, refl, sym, ap, ◌∙◌, subst, All}
 use Rattle.std.proofs.lemmas.List.Elements.{All-nil, All-cons}
 use Rattle.std.specs.Ordering.{eq_by_cmp}
 use Rattle.std.specs.Cmp.{tied_itself}
@@ -54,12 +54,12 @@ module _ (n k : ℕ) where
 
   -- the keys that a list of events leaves lie in the stripe
   pub leaves_within : (t : Table) (es : List (Event Deed)) → Leaves n k es t → Within t
-  leaves_within t es l = replays_within empty t es l (λ q v found. absurd (some_of_none (map.get empty q) v (get-empty q) found))
+  leaves_within t es l = replays_within empty t es l (λ q v found. absurd (some_of_none (map.get empty q) v (get-empty by_bytes q) found))
 
   all_within : (es : List Entry) → Distinct es → ((key value : List ℕ) → find by_bytes key es ≡ Some value → stripe_of n key ≡ k) → All (λ e. stripe_of n e.0 ≡ k) es
   all_within [] d all = All-nil (λ (e : Entry). stripe_of n e.0 ≡ k)
   all_within (e ∷ es) d all = All-cons (λ (x : Entry). stripe_of n x.0 ≡ k) e es
-      (all e.0 e.1 (ap (λ b. cond b (Some e.1) (find by_bytes e.0 es)) (tied_itself total e.0)))
+      (all e.0 e.1 (ap (λ r. cond (is_eq r) (Some e.1) (find by_bytes e.0 es)) (tied_itself total e.0)))
       (all_within es d.1 (λ q v found. all q v (behind q v found)))
     where
       behind : (q v : List ℕ) → find by_bytes q es ≡ Some v → find by_bytes q (e ∷ es) ≡ Some v

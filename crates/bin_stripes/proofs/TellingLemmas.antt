@@ -80,5 +80,5 @@ pub told_rests : {B : Type 0} (from : View Deed) (me me' : Me (Option B) (View D
 told_rests from me me' r t out = rests_heard from 0 me me' r (heard_none from me.0 me'.0 t) out
 
 -- one that looked rests as before
-pub told_looks : {B : Type 0} {n : ℕ} (content : B → Table) (k : ℕ) (me me' : Me (Option B) (View Deed)) → Rests me → Looks (does n) empty k me me' → Rests me'
-told_looks {B} {n} content k me me' r l = (settles_lost content n k me me' r l).rests
+pub told_looks : {B : Type 0} (n : ℕ) (content : B → Table) (k : ℕ) (me me' : Me (Option B) (View Deed)) → Rests me → Looks (does n) empty k me me' → Rests me'
+told_looks n content k me me' r l = (settles_lost content n k me me' r l).rests

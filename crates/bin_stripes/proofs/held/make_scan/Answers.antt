@@ -28,4 +28,4 @@ bins_home-requires-in-Err-clause-made g c = let out = c.bins_out-bins.ensures in
 
 pub returns-in-Err-clause-err : goal.returns-in-Err-clause-err
 returns-in-Err-clause-err g c = let out = c.bins_out-bins.ensures in
-    lets_from c.args.table.now.table_id.slots c.args.stripe _ c.args.seat.now.me c.bins_out-bins.new.seat.me c.bins_home.new.seat.me out.out.0 (Some c.bins_out-bins.result) None out.same.2 out.out.1.0 out.out.1.1 c.bins_home.ensures.made
+    lets_from c.args.table.now.table_id.slots c.args.stripe _ c.args.seat.now.me c.bins_out-bins.new.seat.me c.bins_home-in-Err.new.seat.me out.out.0 (Some c.bins_out-bins.result) None out.same.2 out.out.1.0 out.out.1.1 c.bins_home-in-Err.ensures.made

@@ -27,7 +27,7 @@ load-requires g c = let inv = c.loop-stripe.invariant in let table = c.args.tabl
 pub loop-stripe-preserved : goal.loop-stripe-preserved
 loop-stripe-preserved g c = let inv = c.loop-stripe.invariant in let l = c.load.ensures in let from = view_of c.args.from.now.views in let u = c.learn.new.seat.me.0 in let w = c.loop-stripe.seat.me in let x = c.load.new.seat.me in
     let h = heard_more from u w.0 x.0 c.loop-stripe.stripe inv.2 l.2.extends l.2.heard in
-    (l.0 ∙ inv.0, l.1 ∙ inv.1, h, told_looks g.B.Bins.table c.loop-stripe.stripe w x inv.3 l.2, subst (λ n. Sound n x.0) (sym c.requires.table.1) l.2.sound)
+    (l.0 ∙ inv.0, l.1 ∙ inv.1, h, told_looks c.args.table.now.table_id.slots g.B.Bins.table c.loop-stripe.stripe w x inv.3 l.2, subst (λ n. Sound n x.0) (sym c.requires.table.1) l.2.sound)
 
 pub returns-clause-heard : goal.returns-clause-heard
 returns-clause-heard g c = let from = view_of c.args.from.now.views in let v = c.args.seat.now.me.0 in let u = c.learn.new.seat.me.0 in let w = c.loop-stripe.seat.me.0 in
