@@ -4,9 +4,13 @@ use Rattle.stripe_rule.specs.Steps.{HasTaken}
 use Rattle.stripe_rule.proofs.CloseLemmas.{taken_none}
 use Rattle.bin_stripes.specs.declared.deed.Deed.{Deed}
 use Rattle.bin_stripes.specs.Histories.{empty, does, Sound}
-use Rattle.bin_stripes.proofs.StepLemmas.{holds_after}
+use Rattle.bin_stripes.proofs.StepLemmas.{holds_after, found_is}
 use Rattle.bin_stripes.proofs.ClosingLemmas.{all_entries-push, carries_next, taken_next}
 use Rattle.bin_stripes.proofs.close.entries_out.Goals as goal
+
+pub loop-stripe-init : goal.loop-stripe-init
+loop-stripe-init g c = let v = c.args.seat.now.me.0 in
+    (refl, c.requires.rests.0.some, subst (λ n. Sound n v) c.requires.stripes c.requires.rests.1, ([], (c.new-found.ensures.items, taken_none (does c.args.table.now.table_id.slots) empty v)))
 
 pub take-requires-clause-table : goal.take-requires-clause-table
 take-requires-clause-table g c = (c.requires.table.0, c.loop-stripe.invariant.0 ∙ c.requires.table.1)
@@ -25,7 +29,8 @@ bins_out-bins-requires-clause-held g c = holds_after g.B.Bins.table c.args.table
 
 pub loop-stripe-preserved : goal.loop-stripe-preserved
 loop-stripe-preserved g c = let inv = c.loop-stripe.invariant in let out = c.bins_out-bins.ensures in let n = c.args.table.now.table_id.slots in let k = c.loop-stripe.stripe in
-    let w = c.loop-stripe.seat.me in let u = c.take.new.seat.me in let x = c.bins_out-bins.new.seat.me.0 in let bins = c.bins_out-bins.result in let took = c.take.ensures.took in (
+    let w = c.loop-stripe.seat.me in let u = c.take.new.seat.me in let x = c.bins_out-bins.new.seat.me.0 in let bins = c.bins_out-bins.result in let took = c.take.ensures.took in
+    let found = found_is g.B.Bins.table n k u bins out.out.0 (holds_after g.B.Bins.table n k w u inv.1 took) out.out.1.0 in (
       out.same.0 ∙ (c.take.ensures.same.0 ∙ inv.0),
       carries_next w.0 u.0 x k out.same.2 took.extends inv.1,
       subst (λ (z : View Deed). Sound n z) (sym out.same.2) took.sound,
@@ -33,7 +38,7 @@ loop-stripe-preserved g c = let inv = c.loop-stripe.invariant in let out = c.bin
         inv.3.0 ++ g.B.Bins.table bins ∷ [],
         (
           c.in_ok-append.ensures.items ∙ ((λ i. inv.3.1.0 i ++ c.in_ok-entries.ensures.ok i) ∙ sym (all_entries-push inv.3.0 (g.B.Bins.table bins))),
-          taken_next g.B.Bins.table n k c.args.seat.now.me.0 w u x inv.3.0 bins inv.3.1.1 took out.same.2 out.found,
+          taken_next g.B.Bins.table n k c.args.seat.now.me.0 w u x inv.3.0 bins inv.3.1.1 took out.same.2 found,
         ),
       ),
     )
