@@ -4,3 +4,4 @@ pub mod Making
 pub mod OpenedLemmas
 pub mod TellingLemmas
 pub mod PassLemmas
+pub mod ClosingLemmas
