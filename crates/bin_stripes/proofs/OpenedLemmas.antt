@@ -39,8 +39,11 @@ dealt_more id passes number all p is new = let same : number ≡ 0 + number = om
     ∙ ap (map (pass_of id passes)) (ap (λ (m : ℕ). from_on 0 number ++ m ∷ []) same ∙ (sym (from_on-more 0 number) ∙ ap (from_on 0) next)))
 
 -- a pass, by the map that it serves and what it knows
-pub pass_is : (id : TableId) (passes number : ℕ) (z : TableId) (v : View Deed) → z ≡ id → v ≡ newcomer (stripes_of id) passes (number ∷ []) → record { map = z; view = v } ≡ pass_of id passes number
-pass_is id passes number z v same is i = record { map = same i; view = is i }
+abbrev pub passing : TableId → View Deed → PassState
+passing z v = record { map = z; view = v }
+
+pub pass_is : (id : TableId) (passes number : ℕ) (z : TableId) (v : View Deed) → z ≡ id → v ≡ newcomer (stripes_of id) passes (number ∷ []) → passing z v ≡ pass_of id passes number
+pass_is id passes number z v same is = λ i. passing (same i) (is i)
 
 module _ (stripes passes number : ℕ) where
   abbrev Newcomer : View Deed
