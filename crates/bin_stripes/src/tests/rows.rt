@@ -86,3 +86,29 @@ fn a_stripe_has_its_own_keys(rt: HostRuntime) -> Result<(), Fail> {
     pass.vouch();
     Ok(())
 }
+
+/// Also where one request for memory is refused: each call is then as if it was not made, and succeeds the next time.
+#[test]
+fn a_refused_call_changes_nothing(rt: HostRuntime) -> Result<(), Fail> {
+    let (map, mut passes) = match opened(rt.alloc(), 2, 1) {
+        Ok(made) => made,
+        Err(_) => opened(rt.alloc(), 2, 1)?,
+    };
+    let mut pass = next_pass(&map, &mut passes)?;
+    let call = put(b"a", &ONE)?;
+    if map.call(&rt, &mut pass, &call).is_err() {
+        let none = map.call(&rt, &mut pass, &get(b"a")?)?;
+        assert!(rt; matches!(none, Reply::Value(None)));
+        map.call(&rt, &mut pass, &call)?;
+    }
+    let found = match map.scan_stripe(&rt, rt.alloc(), &mut pass, 0) {
+        Ok(found) => found,
+        Err(_) => map.scan_stripe(&rt, rt.alloc(), &mut pass, 0)?,
+    };
+    assert_eq!(rt; found.len(), 1);
+    let Ok(entries) = map.close(&rt, rt.alloc(), pass) else {
+        return Ok(());
+    };
+    assert_eq!(rt; entries.len(), 1);
+    Ok(())
+}
