@@ -145,11 +145,11 @@ impl Numbers {
         }
     }
 
-    /// A register that holds a window's address, and an offset from it. Result and stack are the last two.
-    fn address(&mut self, windows: u64) -> Result<(Reg, i16)> {
+    /// A register that holds a window's address, and an offset from it: of result or stack where it is written.
+    fn address(&mut self, is_written: bool) -> Result<(Reg, i16)> {
         let place = self.below(PLACES) as i16;
-        match self.below(5) % 5 {
-            window if window + windows < 5 => Ok((reg(4)?, place)),
+        match self.below(5) {
+            0 | 1 | 2 if is_written => Ok((reg(4)?, place)),
             0 => Ok((reg(1)?, place)),
             1 => Ok((reg(2)?, place)),
             2 => Ok((reg(3)?, place)),
@@ -168,7 +168,7 @@ impl Numbers {
     }
 
     fn load(&mut self) -> Result<Insn> {
-        let (src, offset) = self.address(5)?;
+        let (src, offset) = self.address(false)?;
         Ok(Insn::Load {
             kind: KINDS[self.below(7) as usize],
             dst: self.register()?,
@@ -178,7 +178,7 @@ impl Numbers {
     }
 
     fn store(&mut self) -> Result<Insn> {
-        let (dst, offset) = self.address(2)?;
+        let (dst, offset) = self.address(true)?;
         Ok(Insn::Store {
             size: ACCESSES[self.below(4) as usize],
             dst,
@@ -239,15 +239,16 @@ impl Numbers {
     fn push_more(&mut self, program: &mut Vec<Insn>) -> Result<()> {
         if self.below(4) == 0 {
             let value = self.word();
-            program.push(Insn::Wide {
-                dst: self.register()?,
-                value,
-            })?;
+            let dst = self.register()?;
+            program.push(Insn::Wide { dst, value })?;
             return Ok(());
         }
-        program.push(self.jump()?)?;
-        program.push(self.straight()?)?;
-        program.push(self.straight()?)?;
+        let insn = self.jump()?;
+        program.push(insn)?;
+        let insn = self.straight()?;
+        program.push(insn)?;
+        let insn = self.straight()?;
+        program.push(insn)?;
         Ok(())
     }
 }
@@ -272,24 +273,33 @@ fn store_number(dst: u8, src: u8, offset: i16) -> Result<Insn> {
 
 /// Numbers into r0, r5 and r9, into the result and into the 64 upper bytes of the stack.
 fn begin(program: &mut Vec<Insn>) -> Result<()> {
-    program.push(load_number(0, 2)?)?;
-    program.push(load_number(5, 3)?)?;
-    program.push(load_number(9, 1)?)?;
+    let insn = load_number(0, 2)?;
+    program.push(insn)?;
+    let insn = load_number(5, 3)?;
+    program.push(insn)?;
+    let insn = load_number(9, 1)?;
+    program.push(insn)?;
     for slot in 0..8i16 {
-        program.push(store_number(4, 5, slot * 8)?)?;
-        program.push(store_number(10, 9, slot * 8 - 64)?)?;
+        let insn = store_number(4, 5, slot * 8)?;
+        program.push(insn)?;
+        let insn = store_number(10, 9, slot * 8 - 64)?;
+        program.push(insn)?;
     }
     Ok(())
 }
 
 /// The registers into the result, all of which is answered.
 fn end(program: &mut Vec<Insn>) -> Result<()> {
-    program.push(store_number(4, 0, 0)?)?;
-    program.push(store_number(4, 5, 8)?)?;
-    program.push(store_number(4, 9, 16)?)?;
+    let insn = store_number(4, 0, 0)?;
+    program.push(insn)?;
+    let insn = store_number(4, 5, 8)?;
+    program.push(insn)?;
+    let insn = store_number(4, 9, 16)?;
+    program.push(insn)?;
+    let dst = reg(0)?;
     program.push(Insn::Mov {
         width: Width::W64,
-        dst: reg(0)?,
+        dst,
         src: Operand::Immediate(64),
     })?;
     program.push(Insn::Exit)?;
@@ -300,7 +310,8 @@ fn made_up(alloc: Global, numbers: &mut Numbers) -> Result<Program> {
     let mut instructions = Vec::new(alloc);
     begin(&mut instructions)?;
     for _ in 0..numbers.below(40) {
-        instructions.push(numbers.straight()?)?;
+        let insn = numbers.straight()?;
+        instructions.push(insn)?;
         if numbers.below(4) == 0 {
             numbers.push_more(&mut instructions)?;
         }
