@@ -86,14 +86,26 @@ fn put(name: &[u8], bytes: &[u8]) -> Result<Call<'static>, TooLong> {
     })
 }
 
-// A map of so many stripes, a pass, and a team of so many more.
-fn opened(alloc: Global, stripes: u64, workers: u64) -> Result<(StripedMap, Pass, Team), Fail>
-    requires { workers ≤ 63 }
-    ensures { IfOk result (λ r. (r.1.map ≡ r.0) × All (λ pass. pass.map ≡ r.0) r.2.passes.items) }
+// The last of a map's passes, and a team of the others.
+fn dealt(map: &StripedMap, mut passes: Vec<Pass>) -> Result<(Pass, Team), Fail>
+    requires { All (λ pass. pass.map ≡ map.now) passes.items }
+    ensures pass { IfOk result (λ r. r.0.map ≡ map.now) }
+    ensures team { IfOk result (λ r. All (λ pass. pass.map ≡ map.now) r.1.passes.items) }
 {
-    let (map, mut passes) = StripedMap::open(alloc, stripes, workers + 1)?;
     let pass = passes.pop().ok_or("no pass")?;
     let team = Team::new(passes).ok().ok_or("no team")?;
+    Ok((pass, team))
+}
+
+// A map of so many stripes, a pass, and a team of so many more.
+#[tactic(auto, using(crate::proofs::PassLemmas::serve_all))]
+fn opened(alloc: Global, stripes: u64, workers: u64) -> Result<(StripedMap, Pass, Team), Fail>
+    requires { workers ≤ 63 }
+    ensures pass { IfOk result (λ r. r.1.map ≡ r.0) }
+    ensures team { IfOk result (λ r. All (λ pass. pass.map ≡ r.0) r.2.passes.items) }
+{
+    let (map, passes) = StripedMap::open(alloc, stripes, workers + 1)?;
+    let (pass, team) = dealt(&map, passes)?;
     Ok((map, pass, team))
 }
 

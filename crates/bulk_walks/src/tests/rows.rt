@@ -27,11 +27,10 @@ fn all_answers_are_given_in_key_order(rt: HostRuntime) -> Result<(), Fail> {
     let arg = Some(Value::from_slice(&ONE)?);
     let items: [(&[u8], &[u8]); 2] = [(b"a", &TWO), (b"b", &THREE)];
     for (stripes, workers) in TEAMS {
-        let (map, mut pass, mut team) = opened(rt.alloc(), stripes, workers)?;
-        fill(&rt, &map, &mut pass)?;
         for threshold in [0, 3, 4] {
-            let (back, reply) = for_each(&rt, rt.alloc(), &map, team, &program, &arg, threshold, &OpenGate);
-            team = back;
+            let (map, mut pass, team) = opened(rt.alloc(), stripes, workers)?;
+            fill(&rt, &map, &mut pass)?;
+            let (_, reply) = for_each(&rt, rt.alloc(), &map, team, &program, &arg, threshold, &OpenGate);
             assert!(rt; is_reply(&reply?, &items, (3, 2, 1)), "{stripes} stripes, {workers} workers");
         }
     }
@@ -44,11 +43,10 @@ fn search_gives_the_least_key(rt: HostRuntime) -> Result<(), Fail> {
     let arg = Some(Value::from_slice(&ONE)?);
     let items: [(&[u8], &[u8]); 1] = [(b"a", &TWO)];
     for (stripes, workers) in TEAMS {
-        let (map, mut pass, mut team) = opened(rt.alloc(), stripes, workers)?;
-        fill(&rt, &map, &mut pass)?;
         for threshold in [0, 3, 4] {
-            let (back, reply) = search(&rt, rt.alloc(), &map, team, &program, &arg, threshold, &OpenGate);
-            team = back;
+            let (map, mut pass, team) = opened(rt.alloc(), stripes, workers)?;
+            fill(&rt, &map, &mut pass)?;
+            let (_, reply) = search(&rt, rt.alloc(), &map, team, &program, &arg, threshold, &OpenGate);
             assert!(rt; is_reply(&reply?, &items, (3, 1, 1)), "{stripes} stripes, {workers} workers");
         }
     }

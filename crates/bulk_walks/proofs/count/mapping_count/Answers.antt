@@ -18,7 +18,7 @@ each_of : (g : _) (c : After-deref g) (i : ℕ) (d : PassState) (e : Result ℕ 
     → Does c.args.map.now c.len-workers.result i (slice_index_or c.args.team.passes.items i d) (slice_index_or c.in-Ok.answers.items i e) (slice_index_or c.work-passes.result.0.items i d)
 each_of g c i d e low =
     let one = (rw c.in-Ok.is at c.work-passes.ensures).each i d e low in
-    let D : PassState → Pass → Type 0 = λ x y. Does c.args.map.now c.len-workers.result i x (slice_index_or c.in-Ok.answers.items i e) y in
+    let D : PassState → PassState → Type 0 = λ x y. Does c.args.map.now c.len-workers.result i x (slice_index_or c.in-Ok.answers.items i e) y in
     subst (λ (y : PassState). D (slice_index_or c.args.team.passes.items i d) y) one.left (subst (λ (x : PassState). D x one.after_call.now) one.argument_is one.call)
 
 len_is : (g : _) (c : After-deref g) → c.len-workers.result ≡ length c.args.team.passes.items
