@@ -5,7 +5,6 @@
 #![tactic(auto)]
 
 mod calls;
-mod made_up;
 mod programs;
 
 use anyhow::{Result, bail, ensure};
@@ -15,7 +14,6 @@ use bpf_machine::{run, run_into};
 use bpf_model::{Answer, Input, Insn, Key, Program, Sizes, Value, fits};
 use calls::call_often;
 use flow_shape::{Shaped, shape};
-use made_up::checksum;
 use programs::Sample;
 use std::alloc::Global;
 use std::{env, io};
@@ -133,11 +131,6 @@ fn print_answer(rt: &HostRuntime, name: &str, sample: Sample) -> Result<()> {
     Ok(())
 }
 
-fn print_checksum(rt: &HostRuntime, count: u64) -> Result<()> {
-    let (safe, sum) = checksum(rt.alloc(), count)?;
-    Ok(println!(rt; "{count} made-up programs, {safe} of them safe: {sum:016x}")?)
-}
-
 fn print_answers(rt: &HostRuntime) -> Result<()> {
     print_answer(rt, "sum", Sample::Sum)?;
     print_answer(rt, "alu", Sample::Arithmetic)?;
@@ -146,8 +139,7 @@ fn print_answers(rt: &HostRuntime) -> Result<()> {
     print_answer(rt, "straight", Sample::Straight)?;
     print_answer(rt, "jumps", Sample::Jumps)?;
     print_answer(rt, "ladder", Sample::Ladder)?;
-    print_answer(rt, "spills", Sample::Spills)?;
-    print_checksum(rt, 2000)
+    print_answer(rt, "spills", Sample::Spills)
 }
 
 fn bench(rt: &HostRuntime, word: &str, name: &str, count: &str) -> Result<()> {
