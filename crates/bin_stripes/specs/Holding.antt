@@ -1,0 +1,78 @@
+-- A seat of the table beside one stripe: at rest, holding the stripe, and after a call.
+use Rattle.std.specs.Prelude.{◌≡◌, ℕ, true, List, [], ◌∷◌, ◌++◌, length, Option, Some}
+use Rattle.std.specs.FinMap as finmap
+use Rattle.atomic_table.specs.Seated.{TableId}
+use Rattle.atomic_table.specs.Table.{Me}
+use Rattle.stripe_rule.specs.declared.view.View.{View}
+use Rattle.stripe_rule.specs.Gains.{least, Carries, IsIdle, held_at, seen_of, Adds}
+use Rattle.verifier.specs.Checked.{Checked}
+use Rattle.bins.specs.declared.counts.Counts.{Counts}
+use Rattle.bins.specs.Table.{Entry, Table}
+use Rattle.atomic_methods.specs.Hashes.{IsStripeCount}
+use Rattle.bin_stripes.specs.declared.deed.Deed.{Deed}
+use Rattle.bin_stripes.specs.declared.rule.Shape.{Shape}
+use Rattle.atomic_methods.specs.Invocations.{Invocation}
+use Rattle.atomic_methods.specs.Methods.{WouldAdd}
+use Rattle.bin_stripes.specs.Actions.{Action, scanned}
+use Rattle.bin_stripes.specs.Histories.{empty, own_events, Leaves, Sound}
+use Rattle.bin_stripes.specs.Invoked.{AreOf, AreReplacements}
+
+-- the table has a word and a slot for each stripe
+pub record IsLaid (id : TableId) (shape : Shape) : Type 0 where
+  pub words : id.words ≡ id.slots
+  pub stripes : shape.stripes ≡ id.slots
+
+-- what always holds of a map's table
+pub record IsMap (id : TableId) (shape : Shape) : Type 0 where
+  pub laid : IsLaid id shape
+  pub count : IsStripeCount id.slots
+
+module _ {B : Type 0} where
+  -- the seat holds nothing, and carries its least number
+  pub record Rests (me : Me (Option B) (View Deed)) : Type 0 where
+    pub idle : IsIdle me.0
+    pub some : Carries me.0 (least me.0.numbers)
+    pub none_out : me.1 ≡ []
+
+  -- behind all that it had seen of the stripe k, the seat saw others' events and made these actions, and rests
+  pub record Settles (stripes k : ℕ) (me : Me (Option B) (View Deed)) (actions : List Action)
+      (me' : Me (Option B) (View Deed)) : Type 0 where
+    pub adds : Adds me.0 k (own_events me.0 actions) me'.0
+    pub passes : me'.0.passes ≡ me.0.passes
+    pub wide : length me'.0.parts ≡ length me.0.parts
+    pub sound : Sound stripes me'.0
+    pub rests : Rests me'
+
+  -- a scan of the stripe k found these entries
+  pub record Finds (stripes k : ℕ) (me : Me (Option B) (View Deed)) (entries : List Entry)
+      (me' : Me (Option B) (View Deed)) : Type 0 where
+    pub settles : Settles stripes k me (scanned entries ∷ []) me'
+    pub are : AreOf stripes k entries
+
+  -- the value of each key of the stripe k was replaced once, in key order
+  pub record Replaces (stripes k : ℕ) (me : Me (Option B) (View Deed)) (program : Checked) (arg : Option (List ℕ))
+      (counts : Counts) (me' : Me (Option B) (View Deed)) : Type 0 where
+    pub actions : List Action
+    pub settles : Settles stripes k me actions me'
+    pub table : Table
+    pub found : Leaves stripes k (seen_of me.0 k ++ settles.adds.here.between) table
+    pub are : AreReplacements program arg (finmap.entries table) actions counts
+
+  -- the seat holds the stripe k, whose bins are out with it and contain what was done there, all of which it has seen
+  pub record Holds (content : B → Table) (stripes k : ℕ) (me : Me (Option B) (View Deed)) : Type 0 where
+    pub held : held_at me.0 k ≡ true
+    pub some : Carries me.0 (least me.0.numbers)
+    pub bins : B
+    pub others : List (ℕ × Option B)
+    pub out : me.1 ≡ (k, Some bins) ∷ others
+    pub content_is : Leaves stripes k (seen_of me.0 k) (content bins)
+
+  -- what the seat has seen of the stripe k leaves a table to which the invocation would add its key
+  pub record Refuses (stripes k : ℕ) (me : Me (Option B) (View Deed)) (invocation : Invocation) : Type 0 where
+    pub table : Table
+    pub left : Leaves stripes k (seen_of me.0 k) table
+    pub adds : WouldAdd table invocation
+
+-- bins without entries
+abbrev pub IsEmptyBins : {B : Type 0} → (B → Table) → Option B → Type 0
+IsEmptyBins {B} content slot = (bins : B) × ((slot ≡ Some bins) × (content bins ≡ empty))

@@ -1,0 +1,63 @@
+-- What a pass comes to know by a call of its own.
+use Rattle.std.specs.Prelude.{◌≡◌, ℕ, List, [], ◌∷◌, ◌++◌, Option, map, length, count_by, All, T}
+use Rattle.std.specs.FinMap as finmap
+use Rattle.stripe_rule.specs.Gains.{Adds, seen_of}
+use Rattle.verifier.specs.Checked.{Checked}
+use Rattle.bins.specs.declared.counts.Counts.{Counts}
+use Rattle.bins.specs.Table.{Entry, Table, by_bytes}
+use Rattle.bins.specs.Replacements.{Outcome, is_given, is_unfit}
+use Rattle.atomic_methods.specs.declared.reply.Reply.{Reply}
+use Rattle.atomic_methods.specs.Hashes.{stripe_of}
+use Rattle.atomic_methods.specs.Invocations.{Invocation}
+use Rattle.atomic_methods.specs.Methods.{WouldAdd}
+use Rattle.bin_stripes.specs.Actions.{Action, called, scanned, replaced}
+use Rattle.bin_stripes.specs.Histories.{own_events, Leaves}
+use Rattle.bin_stripes.specs.Passes.{PassState, stripes_of}
+
+-- behind all that it had seen of the stripe k, the pass saw others' events and then made these actions; it knows nothing
+-- new of the other stripes
+abbrev pub Makes : PassState → ℕ → List Action → PassState → Type 0
+Makes old k actions new = Adds old.view k (own_events old.view actions) new.view
+
+-- the stripe of the invocation's key
+abbrev pub stripe_for : PassState → Invocation → ℕ
+stripe_for pass invocation = stripe_of (stripes_of pass.map) invocation.key
+
+-- the pass made the invocation, which got the reply
+abbrev pub Calls : PassState → Invocation → Reply → PassState → Type 0
+Calls old invocation reply new = Makes old (stripe_for old invocation) (called invocation reply ∷ []) new
+
+-- the pass made nothing; what it has seen then leaves a table to which the invocation would add its key
+pub record IsRefused (old : PassState) (invocation : Invocation) (new : PassState) : Type 0 where
+  pub nothing : Makes old (stripe_for old invocation) [] new
+  pub table : Table
+  pub left : Leaves (stripes_of old.map) (stripe_for old invocation) (seen_of new.view (stripe_for old invocation)) table
+  pub adds : WouldAdd table invocation
+
+-- the pass made one scan of the stripe k, which found these entries
+abbrev pub Scans : PassState → ℕ → List Entry → PassState → Type 0
+Scans old k entries new = Makes old k (scanned entries ∷ []) new
+
+-- entries in key order, each once, and each of the stripe k of so many
+pub record AreOf (stripes k : ℕ) (entries : List Entry) : Type 0 where
+  pub order : T (finmap.is_sorted by_bytes entries)
+  pub stripe : All (λ entry. stripe_of stripes entry.0 ≡ k) entries
+
+-- one replacement for each entry, in their order, by what the program came to at its key; so many of each kind
+pub record AreReplacements (program : Checked) (arg : Option (List ℕ)) (entries : List Entry) (actions : List Action)
+    (counts : Counts) : Type 0 where
+  pub outcome : List ℕ → Outcome
+  pub actions_are : actions ≡ map (λ entry. replaced entry.0 program arg (outcome entry.0)) entries
+  pub scanned_are : counts.scanned ≡ length entries
+  pub given_are : counts.given ≡ count_by (λ entry. is_given (outcome entry.0)) entries
+  pub unfit_are : counts.unfit ≡ count_by (λ entry. is_unfit (outcome entry.0)) entries
+
+-- the pass replaced the value of each key of the stripe k once, in key order, by the program with the argument; nothing
+-- stands between these events
+pub record ReplacesEach (old : PassState) (k : ℕ) (program : Checked) (arg : Option (List ℕ)) (counts : Counts)
+    (new : PassState) : Type 0 where
+  pub actions : List Action
+  pub makes : Makes old k actions new
+  pub table : Table
+  pub found : Leaves (stripes_of old.map) k (seen_of old.view k ++ makes.here.between) table
+  pub are : AreReplacements program arg (finmap.entries table) actions counts

@@ -1,0 +1,38 @@
+-- What contracts see of a pass: the map that it serves, and what it carries and knows.
+use Rattle.std.specs.Prelude.{◌≡◌, ℕ, [], ◌∷◌, List, length}
+use Rattle.std.specs.Coded.{Coded, code_by, coded×}
+use mathlib.Core.Path.{refl}
+use Rattle.atomic_table.specs.Seated.{TableId, table_id_coded}
+use Rattle.stripe_rule.specs.declared.view.View.{View}
+use Rattle.stripe_rule.specs.contracts.view.View.{the_row as view_row}
+use Rattle.stripe_rule.specs.Gains.{least, Carries, IsIdle}
+use Rattle.stripe_rule.specs.Steps.{view_of}
+use Rattle.bin_stripes.specs.declared.deed.Deed.{Deed}
+use Rattle.bin_stripes.specs.contracts.deed.Deed.{the_row as deed_row}
+use Rattle.bin_stripes.specs.Histories.{Sound}
+
+pub record PassState : Type 0 where
+  pub map : TableId
+  pub view : View Deed
+
+abbrev pub pass_code : Coded PassState
+pass_code = code_by (TableId × View Deed) (coded× table_id_coded (view_row deed_row).coded)
+    (λ p. (p.map, p.view)) (λ x. record { map = x.0; view = x.1 }) (λ _. refl)
+
+-- how many stripes a map has
+abbrev pub stripes_of : TableId → ℕ
+stripes_of map = map.slots
+
+-- what a pass that serves this map, with these views at rest, always has: one view, which holds no stripe, carries its
+-- least number, and knows of each stripe a legal history
+pub record IsPass (map : TableId) (views : List (View Deed)) : Type 0 where
+  pub one : views ≡ view_of views ∷ []
+  pub idle : IsIdle (view_of views)
+  pub some : Carries (view_of views) (least (view_of views).numbers)
+  pub sound : Sound (stripes_of map) (view_of views)
+  pub wide : length (view_of views).parts ≡ stripes_of map
+
+-- the pass serves the same map, which was opened with as many passes
+pub record Serves (old new : PassState) : Type 0 where
+  pub map : new.map ≡ old.map
+  pub passes : new.view.passes ≡ old.view.passes

@@ -1,0 +1,32 @@
+-- A release of a stripe that adds some events, of which a fact is known.
+use Rattle.std.specs.Prelude.{ℕ, List, Option}
+use Rattle.atomic_table.specs.Table.{Me, Step}
+use Rattle.stripe_rule.specs.declared.view.Event.{Event}
+use Rattle.stripe_rule.specs.declared.view.View.{View}
+use Rattle.stripe_rule.specs.Steps.{Looks, Releases, took as takes_or_looks}
+use Rattle.bins.specs.Table.{Table}
+use Rattle.bin_stripes.specs.declared.deed.Deed.{Deed}
+use Rattle.bin_stripes.specs.Actions.{Action}
+use Rattle.bin_stripes.specs.Histories.{empty, does, own_events}
+
+abbrev pub Events : Type 0
+Events = List (Event Deed)
+
+module _ {S : Type 0} where
+  -- a load of the word, as a table with so many slots tells it
+  abbrev pub looked : Step S → Me S (View Deed) → ℕ → Me S (View Deed) → Type 0
+  looked st me found me' = Looks (does st.slots) empty st.word me me'
+
+  -- the actions that the release adds, of which `may` holds
+  pub record Lets (may : List Action → Type 0) (stripes k : ℕ) (me me' : Me S (View Deed)) : Type 0 where
+    pub actions : List Action
+    pub may_be : may actions
+    pub releases : Releases (does stripes) empty (own_events me.0 actions) k me me'
+
+  -- the swap of the word to 0, as a table with so many slots tells it
+  abbrev pub released : (List Action → Type 0) → Step S → Me S (View Deed) → ℕ → Me S (View Deed) → Type 0
+  released may st me found me' = Lets may st.slots st.word me me'
+
+-- the compare-exchange of the word from 0 to 1, as a table with so many slots tells it
+abbrev pub took : {B : Type 0} → (B → Table) → Step (Option B) → Me (Option B) (View Deed) → ℕ → Me (Option B) (View Deed) → Type 0
+took content st me found me' = takes_or_looks (does st.slots) empty content st me found me'

@@ -1,0 +1,25 @@
+//! Places at which a test may hold a worker.
+
+/// Where a worker is.
+#[derive(Clone, Copy, Debug, PartialEq, Eq)]
+pub enum Place {
+    /// Before the first stripe of a walk.
+    WalkStart,
+    /// While it holds a stripe.
+    Held,
+    /// Before it answers a request.
+    Request,
+}
+
+/// What a worker passes at each place. It may hold the worker there.
+pub trait Gate {
+    /// The worker of this number is at the place.
+    fn pass(&self, place: Place, worker: u32);
+}
+
+/// A gate that holds nobody.
+pub struct OpenGate;
+
+impl Gate for OpenGate {
+    fn pass(&self, _place: Place, _worker: u32) {}
+}

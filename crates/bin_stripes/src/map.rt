@@ -1,0 +1,195 @@
+//! The map that passes share.
+ghost use Rattle.std.specs.Prelude.{◌≡◌, ◌<◌, ◌^◌, [], length, IfOk, IfErr, OnErr, IsErrOf};
+ghost use Rattle.atomic_methods.specs.Hashes.{stripe_of, IsStripeCount};
+ghost use Rattle.atomic_methods.specs.Invocations.{invocation_of};
+ghost use Rattle.bin_stripes.specs.Invoked.{Makes, Calls, IsRefused, Scans, AreOf, ReplacesEach, stripe_for};
+ghost use Rattle.bin_stripes.specs.Passes.{Serves, stripes_of};
+
+use crate::deed::Deed;
+use crate::fault::CallFault;
+use crate::gate::Gate;
+use crate::pass::Pass;
+use crate::rule::{Shape, Striping};
+use crate::held::{make_call, make_replacements, make_scan};
+use crate::seats::{try_call, try_replace, try_scan};
+use crate::steps::take;
+use atomic_methods::{Call, Reply};
+use atomic_table::Table;
+use bins::{Counts, ListBins};
+use bpf_model::{Key, NoMemory, Value};
+use std::alloc::Global;
+use std::marker::Model;
+use std::sync::Wait;
+use stripe_rule::View;
+use verifier::Verified;
+
+/// What keeps the entries of a stripe. The map's contracts and proofs know it by the trait `Bins` alone.
+pub(crate) type StripeBins = ListBins;
+
+/// A table in stripes by the hashes of the keys, which passes share: each stripe has a word, which is 1 while it is held,
+/// and a slot for its bins.
+#[derive(Drop)]
+pub struct StripedMap {
+    pub(crate) table: Table<Option<StripeBins>, View<Deed>, Shape, Striping<StripeBins>, Global>,
+}
+
+impl Model for StripedMap {
+    ghost use Rattle.atomic_table.specs.Seated.{TableId, table_id_coded};
+    ghost use Rattle.bin_stripes.specs.Holding.{IsMap};
+
+    ghost Value = { TableId };
+
+    ghost coded = { table_id_coded };
+
+    ghost view = { λ m. m.table.shared.table_id };
+
+    ghost invariant = { λ m. IsMap m.table.shared.table_id m.table.shared.key };
+}
+
+impl StripedMap {
+    /// The number of stripes. Takes no memory. Never waits.
+    pub fn stripes(&self) -> u64
+        ensures value { result ≡ stripes_of self.now }
+        ensures count { IsStripeCount (stripes_of self.now) }
+    {
+        self.table.slot_count() as u64
+    }
+
+    /// The stripe of a key, counted from 0. Takes no memory. Never waits.
+    pub fn stripe_of(&self, key: &Key) -> u64
+        ensures value { result ≡ stripe_of (stripes_of self.now) key.now }
+        ensures range { result < stripes_of self.now }
+    {
+        atomic_methods::stripe_of(key, self.stripes())
+    }
+
+    /// Makes the call. `NoMemory` only where it would have added its key and a request for memory was refused; nothing was
+    /// made then. Waits until the stripe of the key is free.
+    pub fn call<R: Wait>(&self, rt: &R, pass: &mut Pass, call: &Call) -> Result<Reply, NoMemory>
+        requires map { pass.old.map ≡ self.now }
+        ensures same { Serves pass.old pass.new }
+        ensures ok { IfOk result (λ reply. Calls pass.old (invocation_of call.now) reply pass.new) }
+        ensures err { OnErr result (IsRefused pass.old (invocation_of call.now) pass.new) }
+    {
+        let stripe = self.stripe_of(call.key()) as usize;
+        let table = &self.table.shared;
+        let mut seat = pass.known.take();
+        take(rt, table, &mut seat, stripe);
+        let answer = make_call(table, &mut seat, stripe, call);
+        pass.known.put(seat);
+        answer
+    }
+
+    /// Makes the call, where the stripe of the key is free; else `Busy`. `NoMemory` as `call`. After either nothing was
+    /// made. Never waits.
+    pub fn try_call(&self, pass: &mut Pass, call: &Call) -> Result<Reply, CallFault>
+        requires map { pass.old.map ≡ self.now }
+        ensures same { Serves pass.old pass.new }
+        ensures ok { IfOk result (λ reply. Calls pass.old (invocation_of call.now) reply pass.new) }
+        ensures err { OnErr result (Makes pass.old (stripe_for pass.old (invocation_of call.now)) [] pass.new) }
+        ensures memory { IsErrOf result CallFault.NoMemory → IsRefused pass.old (invocation_of call.now) pass.new }
+    {
+        let stripe = self.stripe_of(call.key()) as usize;
+        let mut seat = pass.known.take();
+        let answer = try_call(&self.table.shared, &mut seat, stripe, call);
+        pass.known.put(seat);
+        answer
+    }
+
+    /// Copies of the entries of one stripe, which is below `stripes()`, in key order. `NoMemory` where a request for memory
+    /// was refused; nothing was made then. Waits until the stripe is free.
+    pub fn scan_stripe<R: Wait>(
+        &self,
+        rt: &R,
+        alloc: Global,
+        pass: &mut Pass,
+        stripe: u64,
+    ) -> Result<Vec<(Key, Value)>, NoMemory>
+        requires map { pass.old.map ≡ self.now }
+        requires stripe { stripe < stripes_of self.now }
+        ensures same { Serves pass.old pass.new }
+        ensures ok { IfOk result (λ found. Scans pass.old stripe found.items pass.new) }
+        ensures err { OnErr result (Makes pass.old stripe [] pass.new) }
+        ensures entries { IfOk result (λ found. AreOf (stripes_of self.now) stripe found.items) }
+        ensures few { IfOk result (λ found. length found.items < 2 ^ 55) }
+    {
+        let place = stripe as usize;
+        let table = &self.table.shared;
+        let mut seat = pass.known.take();
+        take(rt, table, &mut seat, place);
+        let answer = make_scan(alloc, table, &mut seat, place);
+        pass.known.put(seat);
+        answer
+    }
+
+    /// As `scan_stripe`, where the stripe is free; else `Busy`. Never waits.
+    pub fn try_scan_stripe(
+        &self,
+        alloc: Global,
+        pass: &mut Pass,
+        stripe: u64,
+    ) -> Result<Vec<(Key, Value)>, CallFault>
+        requires map { pass.old.map ≡ self.now }
+        requires stripe { stripe < stripes_of self.now }
+        ensures same { Serves pass.old pass.new }
+        ensures ok { IfOk result (λ found. Scans pass.old stripe found.items pass.new) }
+        ensures err { OnErr result (Makes pass.old stripe [] pass.new) }
+        ensures entries { IfOk result (λ found. AreOf (stripes_of self.now) stripe found.items) }
+        ensures few { IfOk result (λ found. length found.items < 2 ^ 55) }
+    {
+        let mut seat = pass.known.take();
+        let answer = try_scan(alloc, &self.table.shared, &mut seat, stripe as usize);
+        pass.known.put(seat);
+        answer
+    }
+
+    /// Replaces the value of each key of one stripe, which is below `stripes()`, once by what the program answers on the key,
+    /// its value and the argument. An answer of nothing keeps the entry, and one that does not fit stays. The gate is passed
+    /// once at `Held`, by this worker, while the stripe is held. Takes no memory. Waits until the stripe is free.
+    pub fn replace_stripe<R: Wait, G: Gate>(
+        &self,
+        rt: &R,
+        pass: &mut Pass,
+        stripe: u64,
+        program: &Verified,
+        arg: &Option<Value>,
+        gate: &G,
+        worker: u32,
+    ) -> Counts
+        requires map { pass.old.map ≡ self.now }
+        requires stripe { stripe < stripes_of self.now }
+        ensures same { Serves pass.old pass.new }
+        ensures each { ReplacesEach pass.old stripe program.now arg.now result pass.new }
+        ensures few { result.scanned < 2 ^ 57 }
+    {
+        let place = stripe as usize;
+        let table = &self.table.shared;
+        let mut seat = pass.known.take();
+        take(rt, table, &mut seat, place);
+        let counts = make_replacements(table, &mut seat, place, (program, arg), gate, worker);
+        pass.known.put(seat);
+        counts
+    }
+
+    /// As `replace_stripe`, where the stripe is free, and without a gate; else `Busy`. Takes no memory. Never waits.
+    pub fn try_replace_stripe(
+        &self,
+        pass: &mut Pass,
+        stripe: u64,
+        program: &Verified,
+        arg: &Option<Value>,
+    ) -> Result<Counts, CallFault>
+        requires map { pass.old.map ≡ self.now }
+        requires stripe { stripe < stripes_of self.now }
+        ensures same { Serves pass.old pass.new }
+        ensures ok { IfOk result (λ counts. ReplacesEach pass.old stripe program.now arg.now counts pass.new) }
+        ensures err { OnErr result (Makes pass.old stripe [] pass.new) }
+        ensures busy { IfErr result (λ fault. fault ≡ CallFault.Busy) }
+        ensures few { IfOk result (λ counts. counts.scanned < 2 ^ 57) }
+    {
+        let mut seat = pass.known.take();
+        let answer = try_replace(&self.table.shared, &mut seat, stripe as usize, (program, arg));
+        pass.known.put(seat);
+        answer
+    }
+}

@@ -1,0 +1,113 @@
+//! A new map and its passes.
+ghost use Rattle.std.specs.Prelude.{◌≡◌, ℕ, ◌<◌, ◌↔◌, [], ◌∷◌, All, IfOk, IsErrOf, length, map, replicate};
+ghost use Rattle.atomic_methods.specs.Hashes.{IsStripeCount};
+ghost use Rattle.stripe_rule.specs.Rule.{from_on, newcomer, opener};
+ghost use Rattle.bin_stripes.specs.Holding.{IsLaid, IsEmptyBins};
+ghost use Rattle.bin_stripes.specs.Opened.{IsPassCount, IsOpened, pass_of};
+
+use crate::fault::OpenFault;
+use crate::map::{StripeBins, StripedMap};
+use crate::pass::Pass;
+use crate::rule::{Deal, Shape};
+use crate::steps::{Stand, Stripes};
+use atomic_methods::is_stripe_count;
+use atomic_table::Table;
+use bins::Bins;
+use bpf_model::NoMemory;
+use known_seat::Known;
+use std::alloc::Global;
+
+/// The most passes that a map may be opened with.
+pub const MAX_PASSES: u64 = 64;
+
+impl StripedMap {
+    /// An empty map of so many stripes, and so many passes of it. `BadStripes` where it may not have so many stripes, else
+    /// `BadPasses` where there are not from 1 to `MAX_PASSES`, else `NoMemory` where a request for memory was refused.
+    pub fn open(
+        alloc: Global,
+        stripes: u64,
+        passes: u64,
+    ) -> Result<(StripedMap, Vec<Pass>), OpenFault>
+        ensures bad_stripes { IsErrOf result OpenFault.BadStripes ↔ (IsStripeCount stripes → ⊥) }
+        ensures bad_passes { IsErrOf result OpenFault.BadPasses ↔ IsStripeCount stripes × (IsPassCount passes → ⊥) }
+        ensures ok { IfOk result (λ opened. IsOpened stripes passes opened.0 opened.1.items) }
+    {
+        if !is_stripe_count(stripes) {
+            return Err(OpenFault::BadStripes);
+        }
+        if passes == 0 || passes > MAX_PASSES {
+            return Err(OpenFault::BadPasses);
+        }
+        Ok(opened(alloc, stripes, passes)?)
+    }
+}
+
+// The map and its passes.
+fn opened(alloc: Global, stripes: u64, passes: u64) -> Result<(StripedMap, Vec<Pass>), NoMemory>
+    requires stripes { IsStripeCount stripes }
+    requires passes { IsPassCount passes }
+    ensures ok { IfOk result (λ opened. IsOpened stripes passes opened.0 opened.1.items) }
+{
+    let (words, slots) = free_stripes::<StripeBins>(alloc, stripes)?;
+    let shape = Shape {
+        stripes,
+        passes,
+    };
+    let Ok((table, seat)) = Table::new(alloc, &words, slots, &shape) else {
+        return Err(NoMemory);
+    };
+    let all = dealt(alloc, &table.shared, seat, passes)?;
+    Ok((StripedMap { table }, all))
+}
+
+// The word and the bins of each stripe of a new map.
+fn free_stripes<B: Bins + Drop>(
+    alloc: Global,
+    stripes: u64,
+) -> Result<(Vec<u64>, Vec<Option<B>>), NoMemory>
+    ensures words { IfOk result (λ made. made.0.items ≡ replicate stripes 0) }
+    ensures count { IfOk result (λ made. length made.1.items ≡ stripes) }
+    ensures empty { IfOk result (λ made. All (IsEmptyBins B.table) made.1.items) }
+{
+    let mut words = Vec::new(alloc);
+    let mut slots = Vec::new(alloc);
+    for _ in 0..stripes {
+        words.push(0)?;
+        slots.push(Some(B::open(alloc, stripes)?))?;
+    }
+    Ok((words, slots))
+}
+
+// A pass for each number that the seat carries.
+fn dealt<B: Bins>(
+    alloc: Global,
+    table: &Stripes<B>,
+    mut rest: Stand<B>,
+    passes: u64,
+) -> Result<Vec<Pass>, NoMemory>
+    requires table { IsLaid table.now.table_id table.now.key × (rest.table_id ≡ table.now.table_id) }
+    requires passes { (table.now.key.passes ≡ passes) × IsPassCount passes }
+    requires some { 0 < table.now.table_id.slots }
+    requires first { rest.me ≡ (opener table.now.table_id.slots passes, []) }
+    ensures dealt { IfOk result (λ all. all.items ≡ map (pass_of table.now.table_id passes) (from_on 0 passes)) }
+{
+    let mut all = Vec::new(alloc);
+    for number in 0..passes - 1 {
+        let _ = number;
+        let next = table.split_seat::<Deal>(&mut rest);
+        all.push(dealt_pass(rest))?;
+        rest = next;
+    }
+    all.push(dealt_pass(rest))?;
+    Ok(all)
+}
+
+// The pass of a seat that carries one number and knows nothing.
+fn dealt_pass<B: Bins>(seat: Stand<B>) -> Pass
+    requires new { (passes : ℕ) × ((number : ℕ) × (seat.me ≡ (newcomer seat.table_id.slots passes (number ∷ []), []))) }
+    ensures pass { result ≡ record { map = seat.table_id; view = seat.me.0 } }
+{
+    Pass {
+        known: Known::of(seat),
+    }
+}

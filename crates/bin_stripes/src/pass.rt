@@ -1,0 +1,39 @@
+//! What a thread makes its calls with.
+
+use crate::deed::Deed;
+use known_seat::Known;
+use std::marker::Model;
+use stripe_rule::View;
+
+/// The right to make calls on the map that it was opened with. It has no bytes. Contracts see what it carries and knows:
+/// of each stripe the events that it has seen, and those of them that it made.
+#[derive(Drop)]
+pub struct Pass {
+    pub(crate) known: Known<View<Deed>>,
+}
+
+impl Model for Pass {
+    ghost use Rattle.stripe_rule.specs.Steps.{view_of};
+    ghost use Rattle.bin_stripes.specs.Passes.{PassState, pass_code, IsPass};
+
+    ghost Value = { PassState };
+
+    ghost coded = { pass_code };
+
+    ghost view = { λ p. record { map = p.known.table_id; view = view_of p.known.views } };
+
+    ghost invariant = { λ p. IsPass p.known.table_id p.known.views };
+}
+
+impl Pass {
+    ghost use Rattle.bin_stripes.specs.Histories.{Sound};
+    ghost use Rattle.bin_stripes.specs.Passes.{stripes_of};
+
+    /// What always holds of a pass: what it has seen of each stripe is a legal history, whose events are under numbers of
+    /// passes that were opened, and of those under its numbers it has just the ones that it made. Does nothing.
+    pub fn vouch(&self)
+        ensures sound { Sound (stripes_of self.now.map) self.now.view }
+    {
+        let _ = &self.known;
+    }
+}

@@ -1,0 +1,102 @@
+//! The rule of the stripes as the table asks for it, and what each step tells.
+ghost use Rattle.std.specs.Prelude.{◌≡◌, List, []};
+ghost use Rattle.bin_stripes.specs.Actions.{Action};
+
+use crate::deed::Deed;
+use atomic_table::{Join, Play, Split, TableRule};
+use bins::Bins;
+use known_seat::Lesson;
+use std::marker::{Brand, PhantomData};
+use stripe_rule::View;
+
+/// How many stripes and passes a map has.
+#[derive(Drop)]
+pub struct Shape {
+    pub stripes: u64,
+    pub passes: u64,
+}
+
+/// The rule.
+pub struct Striping<B> {
+    bins: PhantomData<B>,
+}
+
+impl<B: Bins> TableRule<Option<B>, View<Deed>, Shape> for Striping<B> {
+    ghost use Rattle.stripe_rule.specs.Rule.{Kept, opener};
+    ghost use Rattle.bin_stripes.specs.Histories.{empty, does};
+
+    ghost holds = { λ shape. Kept (does shape.stripes) empty B.table shape.stripes shape.passes };
+
+    ghost first = { λ shape. opener shape.stripes shape.passes };
+}
+
+/// A load of a stripe's word.
+pub struct Look;
+
+impl<B> Play<Option<B>, View<Deed>> for Look {
+    ghost use Rattle.bin_stripes.specs.Releasing.{looked};
+
+    ghost then = { looked };
+}
+
+/// The compare-exchange of a stripe's word from 0 to 1.
+pub struct Take<B> {
+    bins: PhantomData<B>,
+}
+
+impl<B: Bins> Play<Option<B>, View<Deed>> for Take<B> {
+    ghost use Rattle.bin_stripes.specs.Releasing.{took};
+
+    ghost then = { took B.table };
+}
+
+/// What is known of the actions that a release adds. It is picked where the release is made.
+pub trait May {
+    ghost may: { List Action → Type 0 };
+}
+
+impl May for Brand {
+    ghost may = { λ actions. actions ≡ [] };
+}
+
+/// The swap of a stripe's word to 0.
+pub struct Release<J> {
+    may: PhantomData<J>,
+}
+
+impl<B, J: May> Play<Option<B>, View<Deed>> for Release<J> {
+    ghost use Rattle.bin_stripes.specs.Releasing.{released};
+
+    ghost then = { released J.may };
+}
+
+/// Each pass is dealt the first number that is left.
+pub struct Deal;
+
+impl Split<View<Deed>> for Deal {
+    ghost use Rattle.stripe_rule.specs.Steps.{with_numbers, head_of, tail_of};
+
+    ghost left = { λ v. with_numbers v (head_of v.numbers) };
+
+    ghost right = { λ v. with_numbers v (tail_of v.numbers) };
+}
+
+/// A pass is told what another has seen.
+pub struct Heed;
+
+impl Lesson<View<Deed>> for Heed {
+    ghost use Rattle.stripe_rule.specs.Steps.{IsTold};
+
+    ghost then = { λ v from u. IsTold from v u };
+}
+
+/// Two passes become one.
+pub struct Unite;
+
+impl Join<View<Deed>> for Unite {
+    ghost use Rattle.stripe_rule.specs.Steps.{united, spent};
+
+    ghost both = { united };
+
+    ghost spent = { spent };
+}

@@ -1,0 +1,85 @@
+//! Calls, scans and replacements by a seat at rest that tries the take once.
+ghost use Rattle.std.specs.Prelude.{◌≡◌, ◌<◌, ◌^◌, [], ◌∷◌, IfOk, IfErr, OnErr, IsErrOf};
+ghost use Rattle.std.specs.FinMap as map;
+ghost use Rattle.atomic_methods.specs.Hashes.{stripe_of};
+ghost use Rattle.atomic_methods.specs.Invocations.{invocation_of};
+ghost use Rattle.bin_stripes.specs.Actions.{called, scanned};
+ghost use Rattle.bin_stripes.specs.Holding.{IsLaid, Rests, Settles, Refuses, Finds, Replaces};
+
+use crate::fault::CallFault;
+use crate::gate::OpenGate;
+use crate::held::{make_call, make_replacements, make_scan};
+use crate::steps::{Stand, Stripes, try_take};
+use atomic_methods::{Call, Reply};
+use bins::{Bins, Counts};
+use bpf_model::{Key, Value};
+use std::alloc::Global;
+use verifier::Verified;
+
+/// Makes the call on the stripe of its key, where that is free.
+pub(crate) fn try_call<B: Bins + Drop>(
+    table: &Stripes<B>,
+    seat: &mut Stand<B>,
+    stripe: usize,
+    call: &Call,
+) -> Result<Reply, CallFault>
+    requires table { IsLaid table.now.table_id table.now.key × (seat.old.table_id ≡ table.now.table_id) }
+    requires stripe { stripe < table.now.table_id.slots }
+    requires rests { Rests seat.old.me }
+    requires key { stripe_of table.now.table_id.slots (invocation_of call.now).key ≡ stripe }
+    ensures same { (seat.new.table_id ≡ seat.old.table_id) × (seat.new.id ≡ seat.old.id) }
+    ensures ok { IfOk result (λ reply. Settles table.now.table_id.slots stripe seat.old.me
+        (called (invocation_of call.now) reply ∷ []) seat.new.me) }
+    ensures err { OnErr result (Settles table.now.table_id.slots stripe seat.old.me [] seat.new.me) }
+    ensures memory { IsErrOf result CallFault.NoMemory →
+        Refuses table.now.table_id.slots stripe seat.new.me (invocation_of call.now) }
+{
+    if !try_take(table, seat, stripe) {
+        return Err(CallFault::Busy);
+    }
+    Ok(make_call(table, seat, stripe, call)?)
+}
+
+/// Copies of the stripe's entries, in key order, where it is free.
+pub(crate) fn try_scan<B: Bins + Drop>(
+    alloc: Global,
+    table: &Stripes<B>,
+    seat: &mut Stand<B>,
+    stripe: usize,
+) -> Result<Vec<(Key, Value)>, CallFault>
+    requires table { IsLaid table.now.table_id table.now.key × (seat.old.table_id ≡ table.now.table_id) }
+    requires stripe { stripe < table.now.table_id.slots }
+    requires rests { Rests seat.old.me }
+    ensures same { (seat.new.table_id ≡ seat.old.table_id) × (seat.new.id ≡ seat.old.id) }
+    ensures ok { IfOk result (λ found.
+        Finds table.now.table_id.slots stripe seat.old.me found.items seat.new.me) }
+    ensures err { OnErr result (Settles table.now.table_id.slots stripe seat.old.me [] seat.new.me) }
+{
+    if !try_take(table, seat, stripe) {
+        return Err(CallFault::Busy);
+    }
+    Ok(make_scan(alloc, table, seat, stripe)?)
+}
+
+/// Replaces the value of each of the stripe's keys once, where it is free.
+pub(crate) fn try_replace<B: Bins + Drop>(
+    table: &Stripes<B>,
+    seat: &mut Stand<B>,
+    stripe: usize,
+    by: (&Verified, &Option<Value>),
+) -> Result<Counts, CallFault>
+    requires table { IsLaid table.now.table_id table.now.key × (seat.old.table_id ≡ table.now.table_id) }
+    requires stripe { stripe < table.now.table_id.slots }
+    requires rests { Rests seat.old.me }
+    ensures same { (seat.new.table_id ≡ seat.old.table_id) × (seat.new.id ≡ seat.old.id) }
+    ensures ok { IfOk result (λ counts.
+        Replaces table.now.table_id.slots stripe seat.old.me by.entry.0.now by.entry.1.now counts seat.new.me) }
+    ensures err { OnErr result (Settles table.now.table_id.slots stripe seat.old.me [] seat.new.me) }
+    ensures busy { IfErr result (λ fault. fault ≡ CallFault.Busy) }
+    ensures few { IfOk result (λ counts. counts.scanned < 2 ^ 57) }
+{
+    if !try_take(table, seat, stripe) {
+        return Err(CallFault::Busy);
+    }
+    Ok(make_replacements(table, seat, stripe, by, &OpenGate, 0))
+}

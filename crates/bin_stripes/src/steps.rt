@@ -1,0 +1,119 @@
+//! The steps on one stripe: take, bins out, bins home, release. A word is 1 while its stripe is held, else 0; the bins of
+//! a stripe lie in the slot of its number, and are out with the seat that holds it.
+ghost use Rattle.std.specs.Prelude.{◌≡◌, ℕ, ◌<◌, true, false, Option, List, [], ◌∷◌, ◌++◌, Some, None, MatchBool};
+ghost use Rattle.stripe_rule.specs.Gains.{held_at, seen_of, Carries, least};
+ghost use Rattle.stripe_rule.specs.Steps.{Takes, Looks};
+ghost use Rattle.bin_stripes.specs.Actions.{Action};
+ghost use Rattle.bin_stripes.specs.Histories.{empty, does, own_events, Leaves};
+ghost use Rattle.bin_stripes.specs.Releasing.{Lets};
+ghost use Rattle.bin_stripes.specs.Holding.{IsLaid, Rests, Settles, Holds};
+
+use crate::deed::Deed;
+use crate::rule::{May, Release, Shape, Striping, Take};
+use atomic_table::{Seat, Shared};
+use bins::Bins;
+use std::marker::Brand;
+use std::sync::Wait;
+use std::thread;
+use stripe_rule::View;
+
+/// The words and slots of all stripes.
+pub(crate) type Stripes<B> = Shared<Option<B>, View<Deed>, Shape, Striping<B>>;
+
+/// What a pass steps with.
+pub(crate) type Stand<B> = Seat<Option<B>, View<Deed>>;
+
+/// Tries once to take the stripe: whether it was free. Never waits.
+pub(crate) fn try_take<B: Bins + Drop>(table: &Stripes<B>, seat: &mut Stand<B>, stripe: usize) -> bool
+    requires table { IsLaid table.now.table_id table.now.key × (seat.old.table_id ≡ table.now.table_id) }
+    requires stripe { stripe < table.now.table_id.slots }
+    requires pass { Carries seat.old.me.0 (least seat.old.me.0.numbers) × (held_at seat.old.me.0 stripe ≡ false) }
+    ensures same { (seat.new.table_id ≡ seat.old.table_id) × (seat.new.id ≡ seat.old.id) }
+    ensures took { MatchBool result
+        (Takes (does table.now.table_id.slots) empty B.table stripe seat.old.me seat.new.me)
+        (Looks (does table.now.table_id.slots) empty stripe seat.old.me seat.new.me) }
+{
+    table.compare_exchange::<Take<B>>(seat, stripe, 0, 1) == 0
+}
+
+/// Takes the stripe. Waits until it is free.
+pub(crate) fn take<B: Bins + Drop, R: Wait>(rt: &R, table: &Stripes<B>, seat: &mut Stand<B>, stripe: usize)
+    requires table { IsLaid table.now.table_id table.now.key × (seat.old.table_id ≡ table.now.table_id) }
+    requires stripe { stripe < table.now.table_id.slots }
+    requires pass { Carries seat.old.me.0 (least seat.old.me.0.numbers) × (held_at seat.old.me.0 stripe ≡ false) }
+    ensures same { (seat.new.table_id ≡ seat.old.table_id) × (seat.new.id ≡ seat.old.id) }
+    ensures took { Takes (does table.now.table_id.slots) empty B.table stripe seat.old.me seat.new.me }
+{
+    for _ in rt.forever() {
+        if try_take(table, seat, stripe) {
+            return;
+        }
+        thread::yield_now();
+    }
+    unreachable!()
+}
+
+/// The first exchange of the slot: the bins of a stripe that the seat holds.
+pub(crate) fn bins_out<B: Bins + Drop>(table: &Stripes<B>, seat: &mut Stand<B>, stripe: usize) -> B
+    requires table { seat.old.table_id ≡ table.now.table_id }
+    requires held { Holds B.table table.now.table_id.slots stripe seat.old.me }
+    ensures same { (seat.new.table_id ≡ seat.old.table_id) × (seat.new.id ≡ seat.old.id)
+        × (seat.new.me.0 ≡ seat.old.me.0) }
+    ensures out { (others : List (ℕ × Option B))
+        × ((seat.old.me.1 ≡ (stripe, Some result) ∷ others) × (seat.new.me.1 ≡ (stripe, None) ∷ others)) }
+{
+    match table.exchange(seat, stripe, None) {
+        Some(bins) => bins,
+        None => unreachable!(),
+    }
+}
+
+/// What a value shows of the actions that were made on a stripe.
+pub(crate) trait Shows<T> {
+    ghost shows: { T → List Action → Type 0 };
+}
+
+/// The second exchange of the slot, and the release: the bins go home after these actions.
+pub(crate) fn bins_home<B: Bins + Drop, T, M: Shows<T>>(
+    table: &Stripes<B>,
+    seat: &mut Stand<B>,
+    stripe: usize,
+    bins: B,
+    what: &T,
+)
+    requires table { IsLaid table.now.table_id table.now.key × (seat.old.table_id ≡ table.now.table_id) }
+    requires stripe { stripe < table.now.table_id.slots }
+    requires held { (held_at seat.old.me.0 stripe ≡ true) × Carries seat.old.me.0 (least seat.old.me.0.numbers)
+        × ((others : List (ℕ × Option B)) × (seat.old.me.1 ≡ (stripe, None) ∷ others)) }
+    requires made { (actions : List Action) × (M.shows what.now actions
+        × Leaves table.now.table_id.slots stripe
+            (seen_of seat.old.me.0 stripe ++ own_events seat.old.me.0 actions) (B.table bins)) }
+    ensures same { (seat.new.table_id ≡ seat.old.table_id) × (seat.new.id ≡ seat.old.id) }
+    ensures made { Lets (M.shows what.now) table.now.table_id.slots stripe seat.old.me seat.new.me }
+{
+    let None = table.exchange(seat, stripe, Some(bins)) else {
+        unreachable!()
+    };
+    release::<B, T, Brand>(table, seat, stripe, what);
+}
+
+// The swap of the word to 0. The actions that it adds are those of which `J` says something, and `what` tells it.
+fn release<B: Bins + Drop, T, J: May>(
+    table: &Stripes<B>,
+    seat: &mut Stand<B>,
+    stripe: usize,
+    what: &T,
+)
+    requires table { IsLaid table.now.table_id table.now.key × (seat.old.table_id ≡ table.now.table_id) }
+    requires stripe { stripe < table.now.table_id.slots }
+    requires held { (held_at seat.old.me.0 stripe ≡ true) × Carries seat.old.me.0 (least seat.old.me.0.numbers) }
+    requires made { (bins : B) × ((others : List (ℕ × Option B)) × ((seat.old.me.1 ≡ (stripe, Some bins) ∷ others)
+        × ((actions : List Action) × (J.may actions
+        × Leaves table.now.table_id.slots stripe
+            (seen_of seat.old.me.0 stripe ++ own_events seat.old.me.0 actions) (B.table bins))))) }
+    ensures same { (seat.new.table_id ≡ seat.old.table_id) × (seat.new.id ≡ seat.old.id) }
+    ensures made { Lets J.may table.now.table_id.slots stripe seat.old.me seat.new.me }
+{
+    let _ = what;
+    table.swap::<Release<J>>(seat, stripe, 0);
+}

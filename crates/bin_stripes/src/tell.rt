@@ -1,0 +1,73 @@
+//! What one pass knows is told to another, and two passes become one.
+ghost use Rattle.std.specs.Prelude.{◌≡◌, []};
+ghost use Rattle.stripe_rule.specs.Gains.{Hears, IsJoined, Carries, least};
+ghost use Rattle.stripe_rule.specs.Steps.{HasHeard, view_of};
+ghost use Rattle.bin_stripes.specs.Histories.{Sound};
+ghost use Rattle.bin_stripes.specs.Holding.{IsLaid, Rests};
+ghost use Rattle.bin_stripes.specs.Passes.{IsPass, Serves, stripes_of};
+
+use crate::deed::Deed;
+use crate::map::StripedMap;
+use crate::pass::Pass;
+use crate::rule::{Heed, Look, Unite};
+use crate::steps::{Stand, Stripes};
+use bins::Bins;
+use known_seat::{Known, learn};
+use stripe_rule::View;
+
+impl StripedMap {
+    /// `to` then knows, of each stripe, what `from` knew, and looks at each stripe once. Takes no memory. Never waits.
+    pub fn tell(&self, from: &Pass, to: &mut Pass)
+        requires from { from.now.map ≡ self.now }
+        requires to { to.old.map ≡ self.now }
+        ensures same { Serves to.old to.new }
+        ensures told { Hears (stripes_of self.now) from.now.view to.old.view to.new.view }
+    {
+        let stripes = self.table.slot_count();
+        let mut seat = to.known.take();
+        hear(&self.table.shared, &from.known, &mut seat, stripes);
+        to.known.put(seat);
+    }
+
+    /// The pass that carries the numbers of both, and knows what both knew. Looks at each stripe. Takes no memory. Never
+    /// waits.
+    pub fn join(&self, one: Pass, other: Pass) -> Pass
+        requires one { one.map ≡ self.now }
+        requires other { other.map ≡ self.now }
+        ensures same { Serves one result }
+        ensures joined { IsJoined (stripes_of self.now) one.view other.view result.view }
+    {
+        let stripes = self.table.slot_count();
+        let table = &self.table.shared;
+        let Pass { known: mut one } = one;
+        let Pass { known: mut other } = other;
+        let mut seat = one.take();
+        hear(table, &other, &mut seat, stripes);
+        table.join_seat::<Unite>(&mut seat, other.take());
+        table.load::<Look>(&mut seat, 0);
+        Pass {
+            known: Known::of(seat),
+        }
+    }
+}
+
+// The seat hears of all that the one at rest has seen: it learns of it, and a look at each word shows it.
+fn hear<B: Bins + Drop>(
+    table: &Stripes<B>,
+    from: &Known<View<Deed>>,
+    seat: &mut Stand<B>,
+    stripes: usize,
+)
+    requires table { IsLaid table.now.table_id table.now.key × (stripes ≡ table.now.table_id.slots) }
+    requires seats { (seat.old.table_id ≡ table.now.table_id) × (from.now.table_id ≡ table.now.table_id) }
+    requires from { IsPass from.now.table_id from.now.views }
+    requires rests { Rests seat.old.me × Sound stripes seat.old.me.0 }
+    ensures same { (seat.new.table_id ≡ seat.old.table_id) × (seat.new.id ≡ seat.old.id) }
+    ensures heard { HasHeard (view_of from.now.views) seat.old.me.0 stripes seat.new.me.0 }
+    ensures rests { Rests seat.new.me × Sound stripes seat.new.me.0 }
+{
+    learn::<_, _, _, _, Heed>(table, seat, from);
+    for stripe in 0..stripes {
+        table.load::<Look>(seat, stripe);
+    }
+}

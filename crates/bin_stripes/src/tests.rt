@@ -1,0 +1,128 @@
+//! Rows of calls by several passes, in one thread and in many.
+ghost use Rattle.std.specs.Prelude.{◌≡◌, ◌≤◌, All, IfOk};
+
+use crate::{CallFault, Gate, OpenFault, OpenGate, Pass, Place, StripedMap};
+use atomic_methods::{Call, Reply};
+use bpf_model::{
+    AccessSize, AluOp, Insn, Key, LoadKind, Operand, Program, Reg, Sizes, TooLong, Value, Width,
+};
+use flow_shape::shape;
+use std::alloc::Global;
+use std::sync::Wait;
+use std::sync::atomic::{AtomicU64, Ordering};
+use std::test::Fail;
+use std::thread;
+use verifier::{Verified, verify};
+
+mod many;
+mod rows;
+
+// Eight bytes, little-endian.
+const ONE: [u8; 8] = [1, 0, 0, 0, 0, 0, 0, 0];
+
+fn key(bytes: &[u8]) -> Result<Key, TooLong> {
+    Key::from_slice(bytes)
+}
+
+fn value(bytes: &[u8]) -> Result<Value, TooLong> {
+    Value::from_slice(bytes)
+}
+
+fn put(name: &[u8], bytes: &[u8]) -> Result<Call<'static>, TooLong> {
+    Ok(Call::Put {
+        key: key(name)?,
+        value: value(bytes)?,
+    })
+}
+
+fn get(name: &[u8]) -> Result<Call<'static>, TooLong> {
+    Ok(Call::Get { key: key(name)? })
+}
+
+fn reg(number: u8) -> Reg
+    requires { number ≤ 10 }
+{
+    Reg::new(number).unwrap()
+}
+
+fn load(dst: u8, src: u8) -> Insn
+    requires dst { dst ≤ 10 }
+    requires src { src ≤ 10 }
+{
+    Insn::Load {
+        kind: LoadKind::DoubleWord,
+        dst: reg(dst),
+        src: reg(src),
+        offset: 0,
+    }
+}
+
+// Answers the sum of the first eight bytes of the old value and of the argument.
+fn sum() -> [Insn; 6] {
+    let add = Insn::Alu {
+        op: AluOp::Add,
+        width: Width::W64,
+        dst: reg(0),
+        src: Operand::Register(reg(9)),
+    };
+    let store = Insn::Store {
+        size: AccessSize::DoubleWord,
+        dst: reg(4),
+        src: Operand::Register(reg(0)),
+        offset: 0,
+    };
+    let length = Insn::Mov {
+        width: Width::W64,
+        dst: reg(0),
+        src: Operand::Immediate(8),
+    };
+    [load(0, 2), load(9, 3), add, store, length, Insn::Exit]
+}
+
+fn summing(alloc: Global) -> Result<Verified, Fail> {
+    let instructions = Vec::from_array(alloc, sum())?;
+    let program = Program::new(instructions).ok_or("no program")?;
+    let sizes = Sizes {
+        key: 64,
+        old: 8,
+        arg: 8,
+        result: 8,
+    };
+    Ok(verify(alloc, shape(program)?, sizes)?)
+}
+
+// Whether the reply is this value.
+fn is_value(reply: &Reply, bytes: &[u8]) -> bool {
+    match reply {
+        Reply::Value(Some(value)) => value.as_slice() == bytes,
+        _ => false,
+    }
+}
+
+// The number under which a map is refused, or 0.
+fn refusal(alloc: Global, stripes: u64, passes: u64) -> u8 {
+    match StripedMap::open(alloc, stripes, passes) {
+        Ok(_) => 0,
+        Err(fault) => fault.number(),
+    }
+}
+
+// A map, whose passes all serve it.
+fn opened(alloc: Global, stripes: u64, passes: u64) -> Result<(StripedMap, Vec<Pass>), OpenFault>
+    ensures all { IfOk result (λ made. All (λ pass. pass.map ≡ made.0) made.1.items) }
+{
+    StripedMap::open(alloc, stripes, passes)
+}
+
+// The next of the map's passes.
+fn next_pass(map: &StripedMap, passes: &mut Vec<Pass>) -> Result<Pass, Fail>
+    requires all { All (λ pass. pass.map ≡ map.now) passes.old.items }
+    ensures pass { IfOk result (λ pass. pass.map ≡ map.now) }
+    ensures all { All (λ pass. pass.map ≡ map.now) passes.new.items }
+{
+    let _ = map;
+    match passes.pop() {
+        Some(pass) => Ok(pass),
+        None => Err("no pass".into()),
+    }
+}

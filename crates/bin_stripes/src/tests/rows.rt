@@ -1,0 +1,114 @@
+//! Rows of one thread.
+use super::*;
+
+#[test]
+fn open_refuses_by_the_first_test_that_fails(rt: HostRuntime) -> Result<(), Fail> {
+    let rows = [
+        (3, 1, 50),
+        (0, 1, 50),
+        (128, 1, 50),
+        (3, 65, 50),
+        (4, 65, 51),
+        (4, 0, 51),
+        (1, 1, 0),
+        (64, 64, 0),
+    ];
+    for (stripes, passes, wanted) in rows {
+        assert_eq!(rt; refusal(rt.alloc(), stripes, passes), wanted, "{stripes}, {passes}");
+    }
+    Ok(())
+}
+
+#[test]
+fn a_told_pass_sees_what_was_put(rt: HostRuntime) -> Result<(), Fail> {
+    let (map, mut passes) = opened(rt.alloc(), 4, 2)?;
+    let mut second = next_pass(&map, &mut passes)?;
+    let mut first = next_pass(&map, &mut passes)?;
+    map.call(&rt, &mut first, &put(b"a", &ONE)?)?;
+    map.tell(&first, &mut second);
+    let found = map.call(&rt, &mut second, &get(b"a")?)?;
+    assert!(rt; is_value(&found, &ONE));
+    Ok(())
+}
+
+#[test]
+fn last_entries_are_in_key_order(rt: HostRuntime) -> Result<(), Fail> {
+    let (map, mut passes) = opened(rt.alloc(), 4, 2)?;
+    let mut second = next_pass(&map, &mut passes)?;
+    let mut first = next_pass(&map, &mut passes)?;
+    map.call(&rt, &mut second, &put(b"b", &[2])?)?;
+    map.call(&rt, &mut first, &put(b"a", &[1])?)?;
+    let both = map.join(first, second);
+    let entries = map.close(&rt, rt.alloc(), both)?;
+    assert_eq!(rt; entries.len(), 2);
+    for (entry, (name, bytes)) in entries.iter().zip(&[(b"a", [1]), (b"b", [2])]) {
+        assert!(rt; entry.0.as_slice() == name.as_slice() && entry.1.as_slice() == bytes.as_slice());
+    }
+    Ok(())
+}
+
+#[test]
+fn a_single_thread_is_never_busy(rt: HostRuntime) -> Result<(), Fail> {
+    let program = summing(rt.alloc())?;
+    let (map, mut passes) = opened(rt.alloc(), 2, 1)?;
+    let mut pass = next_pass(&map, &mut passes)?;
+    for _ in 0..1_000 {
+        map.try_call(&mut pass, &put(b"a", &ONE)?)?;
+        let found = map.try_scan_stripe(rt.alloc(), &mut pass, 0)?;
+        assert_eq!(rt; found.len(), 1);
+        let counts = map.try_replace_stripe(&mut pass, 0, &program, &Some(value(&ONE)?))?;
+        assert_eq!(rt; (counts.scanned, counts.given, counts.unfit), (1, 1, 0));
+    }
+    Ok(())
+}
+
+#[test]
+fn a_stripe_has_its_own_keys(rt: HostRuntime) -> Result<(), Fail> {
+    let program = summing(rt.alloc())?;
+    let (map, mut passes) = opened(rt.alloc(), 4, 1)?;
+    let mut pass = next_pass(&map, &mut passes)?;
+    assert_eq!(rt; map.stripes(), 4);
+    assert_eq!(rt; (map.stripe_of(&key(b"")?), map.stripe_of(&key(b"ab")?)), (1, 2));
+    map.call(&rt, &mut pass, &put(b"", &ONE)?)?;
+    map.call(&rt, &mut pass, &put(b"ab", &ONE)?)?;
+    let lengths = [0, 1, 1, 0];
+    for stripe in 0..4u64 {
+        let found = map.scan_stripe(&rt, rt.alloc(), &mut pass, stripe)?;
+        assert_eq!(rt; found.len(), lengths[stripe as usize]);
+    }
+    let arg = Some(value(&ONE)?);
+    let counts = map.replace_stripe(&rt, &mut pass, 1, &program, &arg, &OpenGate, 0);
+    assert_eq!(rt; (counts.scanned, counts.given, counts.unfit), (1, 1, 0));
+    let sum = map.call(&rt, &mut pass, &get(b"")?)?;
+    assert!(rt; is_value(&sum, &[2, 0, 0, 0, 0, 0, 0, 0]));
+    let same = map.call(&rt, &mut pass, &get(b"ab")?)?;
+    assert!(rt; is_value(&same, &ONE));
+    pass.vouch();
+    Ok(())
+}
+
+/// Also where one request for memory is refused: each call is then as if it was not made, and succeeds the next time.
+#[test]
+fn a_refused_call_changes_nothing(rt: HostRuntime) -> Result<(), Fail> {
+    let (map, mut passes) = match opened(rt.alloc(), 2, 1) {
+        Ok(made) => made,
+        Err(_) => opened(rt.alloc(), 2, 1)?,
+    };
+    let mut pass = next_pass(&map, &mut passes)?;
+    let call = put(b"a", &ONE)?;
+    if map.call(&rt, &mut pass, &call).is_err() {
+        let none = map.call(&rt, &mut pass, &get(b"a")?)?;
+        assert!(rt; matches!(none, Reply::Value(None)));
+        map.call(&rt, &mut pass, &call)?;
+    }
+    let found = match map.scan_stripe(&rt, rt.alloc(), &mut pass, 0) {
+        Ok(found) => found,
+        Err(_) => map.scan_stripe(&rt, rt.alloc(), &mut pass, 0)?,
+    };
+    assert_eq!(rt; found.len(), 1);
+    let Ok(entries) = map.close(&rt, rt.alloc(), pass) else {
+        return Ok(());
+    };
+    assert_eq!(rt; entries.len(), 1);
+    Ok(())
+}

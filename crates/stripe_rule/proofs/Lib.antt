@@ -1,0 +1,11 @@
+pub mod HistoryLemmas
+pub mod ViewLemmas
+pub mod StripeLemmas
+pub mod TakeLemmas
+pub mod ReleaseLemmas
+pub mod CallLemmas
+pub mod OpenLemmas
+pub mod TellLemmas
+pub mod JoinLemmas
+pub mod LastLemmas
+pub mod CloseLemmas

@@ -1,0 +1,4 @@
+pub mod History
+pub mod Gains
+pub mod Rule
+pub mod Steps
