@@ -65,6 +65,56 @@ refuse_each() {
     done
 }
 
+# Writes bytes from hex to the input; the output in hex.
+frames() {
+    printf '%b' "$(sed 's/ //g; s/../\\x&/g' <<< "$1")" > "$work/in"
+}
+printed() {
+    od -An -v -tx1 "$work/out" | tr -d ' \n'
+}
+
+# Whether the last run had this status, these frames and errors of this pattern.
+answered() {
+    # shellcheck disable=SC2053
+    [ "$got" = "$1" ] && [ "$(printed)" = "${2// /}" ] && [[ $(cat "$work/err") == $3 ]]
+}
+
+# Name, frames, wanted status, frames that are answered and pattern of errors.
+serve() {
+    frames "$2"
+    run exec
+    judge "$1" answered "$3" "$4" "$5"
+}
+
+# Whether each answer is one of its two; or a refusal of memory ends them, or comes in place of all.
+answers_each() {
+    local output wanted
+    output=$(printed)
+    [ "$got $output" != "1 $(printf 'refused 9 at 0\n' | od -An -v -tx1 | tr -d ' \n')" ] || return 0
+    for wanted in "$@"; do
+        wanted=${wanted// /}
+        case $output in
+            "${wanted%%|*}"*) output=${output#"${wanted%%|*}"} ;;
+            "${wanted##*|}"*) output=${output#"${wanted##*|}"} ;;
+            00000006850900000000) [ "$got" = 1 ]; return ;;
+            *) return 1 ;;
+        esac
+    done
+    [ -z "$output" ] && [ "$got" = 0 ]
+}
+
+# Refuses each request for memory in turn to a session: each answer is that of ample memory or a refusal of memory.
+refuse_each_answer() {
+    local name=$1 requests number
+    shift
+    LD_PRELOAD=$work/refuse.so REQUESTS_FILE=$work/requests run exec
+    requests=$(cat "$work/requests")
+    for number in $(seq "$requests"); do
+        LD_PRELOAD=$work/refuse.so REFUSED_REQUEST=$number run exec
+        judge "$name, request $number of $requests refused" answers_each "$@"
+    done
+}
+
 printf '%s' "$sum" > "$work/in"
 expect "an answer" 0 "bytes 03 00 00 00 00 00 00 00" "" run "${sizes[@]}" "${values[@]}"
 expect "a refused program" 1 "refused 43 at 0" "unit 0: ldd r0, \[r2+0\]: the access does not lie in the window" \
@@ -79,6 +129,21 @@ expect "words that are no UTF-8" 2 "" "error: the command line is not UTF-8" run
 input=/ expect "an input that can't be read" 3 "" "failed read" check
 sink=/dev/full expect "an output that can't be written" 3 "" "failed write" check
 sink=/dev/full expect "a refusal that can't be written" 3 "" "failed write" check --old 0
+
+hello='00000002 0001'
+welcome='00000002 8001'
+put_and_get='00000007 11016100027879 00000003 100161'
+program='00000019 01004001000100 0100 b7000000ffffffff9500000000000000'
+compute='0000000d 170161 0000000000000000 ffff'
+serve "a session" "$hello $put_and_get" 0 "$welcome 00000003 82ffff 00000005 8200027879" ""
+serve "a session with a program" "$hello $program $compute" 0 "$welcome 00000009 810000000000000000 00000003 82ffff" ""
+serve "a session that is refused" "$hello $hello" 1 "$welcome 00000006 854000000000" ""
+serve "a session that is cut" "$hello 00000003 10" 1 "$welcome" ""
+expect "stripes that there are not" 1 "refused 50 at 0" "not a number of stripes" exec --stripes 3
+input=/ expect "a session that can't be read" 3 "" "failed read" exec
+frames "$hello"
+sink=/dev/full expect "a session that can't be answered" 3 "" "failed write" exec
+
 printf '7b 0g' > "$work/in"
 expect "hex that is none" 1 "refused 70 at 3" "no hex text at place 3" check
 printf '\xff\n' > "$work/in"
@@ -115,6 +180,12 @@ if command -v gcc > /dev/null; then
     printf '%s' "$sum" > "$work/in"
     refuse_each "run" run "${sizes[@]}" "${values[@]}"
     refuse_each "a fault of the words" run --nothing
+    frames "$hello $put_and_get"
+    refuse_each_answer "a session" "$welcome" \
+        "00000003 82ffff|00000006 850900000000" "00000005 8200027879|00000003 82ffff"
+    frames "$hello $program $compute"
+    refuse_each_answer "a session with a program" "$welcome" \
+        "00000009 810000000000000000|00000006 850900000000" "00000003 82ffff|00000006 854200000000"
 else
     echo "process: no gcc here, so no request for memory was refused"
 fi

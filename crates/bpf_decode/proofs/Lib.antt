@@ -5,3 +5,4 @@ pub mod FieldLemmas
 pub mod WideLemmas
 pub mod SpellingLemmas
 pub mod FaultLemmas
+pub mod UnitOfFault

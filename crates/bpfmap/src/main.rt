@@ -3,9 +3,10 @@
 
 use map_server::{StreamSink, StreamSource, bpfmap_on, tell_unread_words};
 use std::process::ExitCode;
+use std::sync::Wait;
 use std::{env, io};
 
-fn status(rt: &HostRuntime) -> io::Result<u8> {
+fn status<H: Wait>(rt: &HostRuntime, waiting: &H) -> io::Result<u8> {
     let alloc = rt.alloc();
     let words: Vec<String> = env::args(rt)?.collect(alloc)?;
     let words: Vec<&str> = words.iter().map(|word| word.as_str()).collect(alloc)?;
@@ -13,6 +14,7 @@ fn status(rt: &HostRuntime) -> io::Result<u8> {
     let mut writer = StreamSink::new(rt.stdout());
     let mut errors = StreamSink::new(rt.stderr());
     Ok(bpfmap_on(
+        waiting,
         alloc,
         words.as_slice(),
         &mut reader,
@@ -22,7 +24,7 @@ fn status(rt: &HostRuntime) -> io::Result<u8> {
 }
 
 fn main(rt: HostRuntime) -> ExitCode {
-    let status = match status(&rt) {
+    let status = match status(&rt, &rt) {
         Ok(status) => status,
         Err(error) => {
             let mut writer = StreamSink::new(rt.stdout());

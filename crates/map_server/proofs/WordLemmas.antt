@@ -78,7 +78,7 @@ pub none_is_named : {X : Type 0} (o : Option X) (f : X → List ℕ × List Row)
 none_is_named None f e named = named
 none_is_named (Some x) f e named = true≢false (sym e)
 
--- the name of the subcommand that is there is one of the four
+-- the name of the subcommand that is there is one of the five
 pub name_is_one : {X : Type 0} (o : Option X) (f : X → List ℕ × List Row) (name : List ℕ) → Some name ≡ option_map (λ x. (f x).0) o → NamesOne (option_map f o) → IsName name
 name_is_one None f name e named = absurd named
 name_is_one (Some x) f name e named = subst IsName (ap (λ o. unwrap_or o name) (sym e)) named
@@ -104,9 +104,9 @@ abbrev subs : List Shape
 subs = (built bpfmap).subs
 
 are_named : AllByRecursion (λ s. IsName s.name) subs
-are_named = (inl refl, (inr (inl refl), (inr (inr (inl refl)), (inr (inr (inr refl)), tt))))
+are_named = (inl refl, (inr (inl refl), (inr (inr (inl refl)), (inr (inr (inr (inl refl))), (inr (inr (inr (inr refl))), tt)))))
 
--- the first of such commands that passes a test is one of the four
+-- the first of such commands that passes a test is one of the five
 found_is_one : (test : Shape → Bool) (words : List (List ℕ)) (shapes : List Shape) → AllByRecursion (λ s. IsName s.name) shapes
     → is_some (option_map (λ s. rows_at s words) (find test shapes)) ≡ true → NamesOne (option_map (λ s. rows_at s words) (find test shapes))
 found_is_one test words [] named there = absurd (true≢false (sym there))
@@ -122,7 +122,7 @@ entered_is_one : (stop : Option (List ℕ × List (List ℕ))) → is_some (ente
 entered_is_one None there = absurd (true≢false (sym there))
 entered_is_one (Some (name, rest)) there = found_is_one (λ s. answers_to name (label_of s)) rest subs are_named there
 
--- one of the four commands is named
+-- one of the five commands is named
 pub faultless_names_one : (words : List (List ℕ)) → fault_of bpfmap words ≡ [] → NamesOne (subcommand_of bpfmap words)
 faultless_names_one words sound =
     let top = (built bpfmap).top in

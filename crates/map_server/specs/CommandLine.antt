@@ -9,6 +9,8 @@ use Rattle.clap.specs.declared.builder.ValueParser.TheVariants.{Signed}
 use Rattle.map_server.specs.declared.bpfmap.words.RunTexts.{RunTexts}
 use Rattle.map_server.specs.declared.bpfmap.words.Command.{Command}
 use Rattle.map_server.specs.declared.bpfmap.words.Command.TheVariants.{Asm, Disasm, Check, Run}
+use Rattle.map_server.specs.declared.bpfmap.words.Task.{Task}
+use Rattle.map_server.specs.declared.bpfmap.words.Task.TheVariants.{Report, Exec}
 
 -- an option that takes a number from 0 to 65535
 abbrev pub size_option : List ℕ → Rule
@@ -24,10 +26,13 @@ size_options = size_option (codes "key") ∷ size_option (codes "old") ∷ size_
 abbrev pub text_options : List Rule
 text_options = text_option (codes "with-key") ∷ text_option (codes "with-old") ∷ text_option (codes "with-arg") ∷ []
 
+abbrev pub stripe_options : List Rule
+stripe_options = size_option (codes "stripes") ∷ []
+
 abbrev pub command_with : List ℕ → List Rule → Shape
 command_with name options = record (new_shape name) { rules = options }
 
--- one of four commands is wanted
+-- one of five commands is wanted
 abbrev pub bpfmap : App
 bpfmap = record {
   top = record (new_shape (codes "bpfmap")) {
@@ -38,7 +43,7 @@ bpfmap = record {
     subcommand_required = true;
   };
   subs = command_with (codes "asm") [] ∷ command_with (codes "disasm") [] ∷ command_with (codes "check") size_options
-      ∷ command_with (codes "run") (size_options ++ text_options) ∷ [];
+      ∷ command_with (codes "run") (size_options ++ text_options) ∷ command_with (codes "exec") stripe_options ∷ [];
 }
 
 -- the size that a text spells; clap refuses the other texts
@@ -72,13 +77,19 @@ IsNamed found Disasm = (rows : List Row) × (found ≡ Some (codes "disasm", row
 IsNamed found (Check sizes) = (rows : List Row) × (found ≡ Some (codes "check", rows)) × (sizes ≡ sizes_of rows)
 IsNamed found (Run sizes texts) = (rows : List Row) × (found ≡ Some (codes "run", rows)) × (sizes ≡ sizes_of rows) × GivesTexts rows texts
 
--- what the words ask for, of which the first is the program's name: clap finds no fault in them, and they name this command
-abbrev pub Asks : List (List ℕ) → Command → Type 0
-Asks words command = (fault_of bpfmap words ≡ []) × IsNamed (subcommand_of bpfmap words) command
+-- the command reports on all of the input; or a session is asked for, over a table of so many stripes
+abbrev pub IsAsked : Option (List ℕ × List Row) → Task → Type 0
+IsAsked found (Report command) = IsNamed found command
+IsAsked found (Exec stripes) = (rows : List Row) × (found ≡ Some (codes "exec", rows)) × (stripes ≡ size_of rows (codes "stripes") 16)
 
--- one of the four names
+-- what the words ask for, of which the first is the program's name: clap finds no fault in them, and they name this
+abbrev pub Asks : List (List ℕ) → Task → Type 0
+Asks words task = (fault_of bpfmap words ≡ []) × IsAsked (subcommand_of bpfmap words) task
+
+-- one of the five names
 abbrev pub IsName : List ℕ → Type 0
-IsName name = (name ≡ codes "asm") ⊎ ((name ≡ codes "disasm") ⊎ ((name ≡ codes "check") ⊎ (name ≡ codes "run")))
+IsName name =
+    (name ≡ codes "asm") ⊎ ((name ≡ codes "disasm") ⊎ ((name ≡ codes "check") ⊎ ((name ≡ codes "run") ⊎ (name ≡ codes "exec"))))
 
 abbrev pub NamesOne : Option (List ℕ × List Row) → Type 0
 NamesOne found = IsSomeAnd found (λ f. IsName f.0)

@@ -4,12 +4,13 @@ use Rattle.clap.specs.Words.{IsAmong, fault_of}
 use Rattle.clap.specs.declared.error.ErrorKind.{ErrorKind}
 use Rattle.clap.specs.declared.error.ErrorKind.TheVariants.{DisplayHelp, DisplayVersion}
 use Rattle.map_server.specs.declared.bpfmap.words.Command.{Command}
+use Rattle.map_server.specs.declared.bpfmap.words.Task.TheVariants.{Report as Reporting}
 use Rattle.map_server.specs.declared.bpfmap.refusal.Refusal.{Refusal}
 use Rattle.map_server.specs.declared.bpfmap.refusal.Refusal.TheVariants.{NoMemory as OutOfMemory}
 use Rattle.map_server.specs.declared.bpfmap.report.Report.{Report}
 use Rattle.map_server.specs.declared.bpfmap.report.Report.TheVariants as report
 use Rattle.map_server.specs.declared.bpfmap.ending.Ending.{Ending}
-use Rattle.map_server.specs.declared.bpfmap.ending.Ending.TheVariants.{Reported, Refused, NoMemory, Shown, Faulty, Unread, NotUtf8}
+use Rattle.map_server.specs.declared.bpfmap.ending.Ending.TheVariants.{Reported, Refused, NoMemory, BadStripes, Shown, Faulty, Unread, NotUtf8}
 use Rattle.map_server.specs.CommandLine.{Asks, bpfmap}
 use Rattle.map_server.specs.Commands.{IsReport, IsUnreadable}
 use Rattle.map_server.specs.Devices.{SourceState, SinkState, Takes, TakesPart, TakesIfItCan}
@@ -33,6 +34,7 @@ abbrev pub IsRefusalOf : List ℕ → Refusal → Ending → Type 0
 IsRefusalOf text refusal (Reported report) = ⊥
 IsRefusalOf text refusal (Refused told meaning) = (told ≡ refusal) × IsMeaning text refusal (string_bytes meaning)
 IsRefusalOf text refusal NoMemory = Unit {0}
+IsRefusalOf text refusal BadStripes = ⊥
 IsRefusalOf text refusal (Shown shown) = ⊥
 IsRefusalOf text refusal (Faulty fault) = ⊥
 IsRefusalOf text refusal Unread = ⊥
@@ -48,6 +50,7 @@ abbrev pub EndsCommand : Command → SourceState → SourceState → Ending → 
 EndsCommand command input input' (Reported report) = IsReported command input input' report × IsNoRefusal report
 EndsCommand command input input' (Refused refusal meaning) = IsRefused command input input' refusal (string_bytes meaning)
 EndsCommand command input input' NoMemory = IsReported command input input' (report.Refused OutOfMemory)
+EndsCommand command input input' BadStripes = ⊥
 EndsCommand command input input' (Shown text) = ⊥
 EndsCommand command input input' (Faulty text) = ⊥
 EndsCommand command input input' Unread = FailsToRead command input input'
@@ -62,15 +65,16 @@ abbrev pub EndsWords : List (List ℕ) → Ending → Type 0
 EndsWords words (Reported report) = ⊥
 EndsWords words (Refused refusal meaning) = ⊥
 EndsWords words NoMemory = Unit {0}
+EndsWords words BadStripes = ⊥
 EndsWords words (Shown text) = (kind : ErrorKind) × IsAmong kind (fault_of bpfmap words) × IsRequest kind
 EndsWords words (Faulty text) = (kind : ErrorKind) × IsAmong kind (fault_of bpfmap words) × (IsRequest kind → ⊥)
 EndsWords words Unread = ⊥
 EndsWords words NotUtf8 = ⊥
 
--- what a call comes to: the words ask for a command, or the input stays as it is
+-- what a call comes to that asks for no session: the words ask for a command, or the input stays as it is
 abbrev pub EndsCall : List (List ℕ) → SourceState → SourceState → Ending → Type 0
 EndsCall words input input' ending =
-    ((command : Command) × Asks words command × EndsCommand command input input' ending) ⊎ (EndsWords words ending × (input' ≡ input))
+    ((command : Command) × Asks words (Reporting command) × EndsCommand command input input' ending) ⊎ (EndsWords words ending × (input' ≡ input))
 
 -- ---- what is told of it
 
@@ -88,12 +92,12 @@ Prints text status old new result =
     ((result ≡ status) × Takes old.output new.output text × (new.errors ≡ old.errors))
     ⊎ ((result ≡ 3) × TakesPart old.output new.output text × TakesIfItCan old.errors new.errors (codes "failed write\n"))
 
--- the refusal's line is on standard output, with status 1, and its meaning on standard error, as far as that can be; or
+-- a refusal's line is on standard output, with status 1, and its meaning on standard error, as far as that can be; or
 -- the write failed, of which alone standard error is told
-abbrev pub Refuses : Refusal → List ℕ → Outputs → Outputs → ℕ → Type 0
-Refuses refusal meaning old new result =
-    ((result ≡ 1) × Takes old.output new.output (text_of (report.Refused refusal)) × TakesIfItCan old.errors new.errors meaning)
-    ⊎ ((result ≡ 3) × TakesPart old.output new.output (text_of (report.Refused refusal)) × TakesIfItCan old.errors new.errors (codes "failed write\n"))
+abbrev pub Refuses : List ℕ → List ℕ → Outputs → Outputs → ℕ → Type 0
+Refuses line meaning old new result =
+    ((result ≡ 1) × Takes old.output new.output line × TakesIfItCan old.errors new.errors meaning)
+    ⊎ ((result ≡ 3) × TakesPart old.output new.output line × TakesIfItCan old.errors new.errors (codes "failed write\n"))
 
 -- the text is on standard error, as far as that can be, and nothing more on standard output
 abbrev pub Warns : List ℕ → ℕ → Outputs → Outputs → ℕ → Type 0
@@ -101,8 +105,9 @@ Warns text status old new result = (result ≡ status) × (new.output ≡ old.ou
 
 abbrev pub Tells : Ending → Outputs → Outputs → ℕ → Type 0
 Tells (Reported report) old new result = Prints (text_of report) (status_of report) old new result
-Tells (Refused refusal meaning) old new result = Refuses refusal (string_bytes meaning) old new result
-Tells NoMemory old new result = Refuses OutOfMemory (codes "no memory\n") old new result
+Tells (Refused refusal meaning) old new result = Refuses (text_of (report.Refused refusal)) (string_bytes meaning) old new result
+Tells NoMemory old new result = Refuses (text_of (report.Refused OutOfMemory)) (codes "no memory\n") old new result
+Tells BadStripes old new result = Refuses (codes "refused 50 at 0\n") (codes "not a number of stripes\n") old new result
 Tells (Shown text) old new result = Prints (string_bytes text) 0 old new result
 Tells (Faulty text) old new result = Warns (string_bytes text) 2 old new result
 Tells Unread old new result = Warns (codes "failed read\n") 3 old new result

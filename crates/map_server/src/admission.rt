@@ -2,7 +2,8 @@
 //!
 //! It knows no text and prints nothing, so that whatever takes programs can stand on it. A program is decoded, its flow
 //! is tested, and it is verified with its sizes, in this order; the first refusal is answered.
-ghost use Rattle.std.specs.Prelude.{◌≡◌, IfOk, IfErr};
+ghost use Rattle.std.specs.Prelude.{◌≡◌, IfOk, OnOk, IfErr};
+ghost use Rattle.verifier.specs.Faults.{ExceedLimits};
 ghost use Rattle.map_server.specs.Admissions.{number_of, unit_of, IsAdmitted, IsRefused};
 
 use bpf_decode::{DecodeFault, decode};
@@ -103,6 +104,7 @@ impl From<VerifyFault> for AdmissionFault {
 pub fn admit(alloc: Global, bytes: &[u8], sizes: Sizes) -> Result<Verified, AdmissionFault>
     ensures ok { IfOk result (λ v. IsAdmitted bytes.now sizes v.program) }
     ensures sizes { IfOk result (λ v. v.sizes ≡ sizes) }
+    ensures limits { OnOk result (ExceedLimits sizes → ⊥) }
     ensures err { IfErr result (λ fault. IsRefused bytes.now sizes fault) }
 {
     let program = decode(alloc, bytes)?;

@@ -1,6 +1,7 @@
 //! The program `bpfmap`: its words, what its commands do, and what it prints.
 mod commands;
 mod ending;
+mod exec;
 mod hex;
 mod meaning;
 mod program;
@@ -16,4 +17,4 @@ pub use hex::{HexFault, hex_bytes};
 pub use program::{bpfmap_on, tell_unread_words};
 pub use refusal::Refusal;
 pub use report::{LINE_BYTES, Line, Report, unit_lines};
-pub use words::{Command, RunTexts, parse_words};
+pub use words::{Command, RunTexts, Task, parse_words};

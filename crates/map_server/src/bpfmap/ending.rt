@@ -16,6 +16,8 @@ pub enum Ending {
     Refused(Refusal, String),
     /// A request for memory was refused, which is told in the same way.
     NoMemory,
+    /// A table may not have so many stripes: number 50, told in the same way.
+    BadStripes,
     /// The help or the version, which were asked for: status 0, with clap's text on standard output.
     Shown(String),
     /// A fault of the words: status 2, with clap's text on standard error.
@@ -26,9 +28,12 @@ pub enum Ending {
     NotUtf8,
 }
 
+const REFUSED: u8 = 1;
+
 const FAULT_OF_WORDS: u8 = 2;
 
-const FAILED_DEVICE: u8 = 3;
+/// The status of a failed read or write.
+pub(crate) const FAILED_DEVICE: u8 = 3;
 
 /// Prints the text, and answers this status, or that of a failed write.
 fn print<W: Sink, E: Sink>(text: &[u8], status: u8, writer: &mut W, errors: &mut E) -> u8
@@ -46,22 +51,21 @@ fn print<W: Sink, E: Sink>(text: &[u8], status: u8, writer: &mut W, errors: &mut
     }
 }
 
-/// Prints the refusal's line, writes its meaning to standard error, and answers the status, or that of a failed write.
-fn refuse<W: Sink, E: Sink>(refusal: Refusal, meaning: &[u8], writer: &mut W, errors: &mut E) -> u8
+/// Prints a refusal's line, writes its meaning to standard error, and answers the status, or that of a failed write.
+fn refuse<W: Sink, E: Sink>(line: &[u8], meaning: &[u8], writer: &mut W, errors: &mut E) -> u8
     requires writes { (W.state writer.old).failures < 2 ^ 64 - 1 }
     requires warns { (E.state errors.old).failures < 2 ^ 64 - 1 }
-    ensures { Refuses refusal meaning.now (outputs (W.state writer.old) (E.state errors.old))
+    ensures { Refuses line.now meaning.now (outputs (W.state writer.old) (E.state errors.old))
         (outputs (W.state writer.new) (E.state errors.new)) result }
 {
-    let report = Report::Refused(refusal);
-    match write_all(writer, report.line().as_slice()) {
-        Ok(()) => warn(meaning, report.status(), errors),
+    match write_all(writer, line) {
+        Ok(()) => warn(meaning, REFUSED, errors),
         Err(Failed) => warn(b"failed write\n", FAILED_DEVICE, errors),
     }
 }
 
 /// Writes the text to standard error, and answers this status. Where standard error fails too, nobody is told.
-fn warn<E: Sink>(text: &[u8], status: u8, errors: &mut E) -> u8
+pub(crate) fn warn<E: Sink>(text: &[u8], status: u8, errors: &mut E) -> u8
     requires { (E.state errors.old).failures < 2 ^ 64 - 1 }
     ensures status { result ≡ status }
     ensures errors { TakesIfItCan (E.state errors.old) (E.state errors.new) text.now }
@@ -84,9 +88,21 @@ impl Ending {
                 print(report.line().as_slice(), report.status(), writer, errors)
             }
             Ending::Refused(refusal, meaning) => {
-                refuse(*refusal, meaning.as_bytes(), writer, errors)
+                let line = Report::Refused(*refusal).line();
+                refuse(line.as_slice(), meaning.as_bytes(), writer, errors)
             }
-            Ending::NoMemory => refuse(Refusal::NoMemory, b"no memory\n", writer, errors),
+            Ending::NoMemory => {
+                let line = Report::Refused(Refusal::NoMemory).line();
+                refuse(line.as_slice(), b"no memory\n", writer, errors)
+            }
+            Ending::BadStripes => {
+                refuse(
+                    b"refused 50 at 0\n",
+                    b"not a number of stripes\n",
+                    writer,
+                    errors,
+                )
+            }
             Ending::Shown(text) => print(text.as_bytes(), 0, writer, errors),
             Ending::Faulty(text) => warn(text.as_bytes(), FAULT_OF_WORDS, errors),
             Ending::Unread => warn(b"failed read\n", FAILED_DEVICE, errors),

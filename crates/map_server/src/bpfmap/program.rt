@@ -5,19 +5,22 @@ ghost use Rattle.std.specs.declared.io.ErrorKind.TheVariants.{OutOfMemory};
 ghost use Rattle.clap.specs.Walk.{texts};
 ghost use Rattle.clap.specs.Words.{fault_of, HasKind};
 ghost use Rattle.map_server.specs.CommandLine.{bpfmap};
-ghost use Rattle.map_server.specs.Endings.{outputs, IsRefusalOf, EndsCommand, EndsWords, EndsCall, Tells};
+ghost use Rattle.map_server.specs.Endings.{outputs, IsRefusalOf, EndsCommand, EndsWords, Tells};
+ghost use Rattle.map_server.specs.Executions.{Does};
 
 use crate::bpfmap::commands::report_of;
 use crate::bpfmap::ending::Ending;
+use crate::bpfmap::exec::exec;
 use crate::bpfmap::meaning::meaning_of;
 use crate::bpfmap::refusal::Refusal;
 use crate::bpfmap::report::Report;
-use crate::bpfmap::words::{Command, parse_words};
+use crate::bpfmap::words::{Command, Task, parse_words};
 use crate::devices::{Failed, ReadFault, Sink, Source, read_all};
 use bpf_model::NoMemory;
 use clap::error::ErrorKind;
 use std::alloc::Global;
 use std::io;
+use std::sync::Wait;
 
 /// A refusal of this text, with its meaning. Where there is no memory for that, memory is what is refused.
 fn ending_of_refusal(alloc: Global, text: &[u8], refusal: Refusal) -> Ending
@@ -60,17 +63,6 @@ fn ending_of_words(alloc: Global, error: &clap::Error) -> Ending
     }
 }
 
-/// What comes of the words, and of the input where they ask for a command.
-fn ending_of<R: Source>(alloc: Global, words: &[&str], reader: &mut R) -> Ending
-    requires { (R.state reader.old).failures < 2 ^ 64 - 1 }
-    ensures { EndsCall (texts words.now) (R.state reader.old) (R.state reader.new) result }
-{
-    match parse_words(alloc, words) {
-        Ok(command) => ending_of_command(alloc, &command, reader),
-        Err(error) => ending_of_words(alloc, &error),
-    }
-}
-
 /// Tells that the words of the command line could not be read, and answers the status. A refused request for memory is
 /// printed as a refusal.
 pub fn tell_unread_words<W: Sink, E: Sink>(error: &io::Error, writer: &mut W, errors: &mut E) -> u8
@@ -91,8 +83,10 @@ pub fn tell_unread_words<W: Sink, E: Sink>(error: &io::Error, writer: &mut W, er
 
 /// Does what the words ask for, of which the first is the program's name, and answers the status: 0 where it was done,
 /// 1 for a refusal or a value that doesn't fit, 2 for a fault of the words, of which standard error is told in clap's
-/// text, and 3 for a failed read or write, of which it is told in one line.
-pub fn bpfmap_on<R: Source, W: Sink, E: Sink>(
+/// text, and 3 for a failed read or write, of which it is told in one line. A session waits for the reader, and no other
+/// command does.
+pub fn bpfmap_on<H: Wait, R: Source, W: Sink, E: Sink>(
+    rt: &H,
     alloc: Global,
     words: &[&str],
     reader: &mut R,
@@ -102,11 +96,14 @@ pub fn bpfmap_on<R: Source, W: Sink, E: Sink>(
     requires reads { (R.state reader.old).failures < 2 ^ 64 - 1 }
     requires writes { (W.state writer.old).failures < 2 ^ 64 - 1 }
     requires warns { (E.state errors.old).failures < 2 ^ 64 - 1 }
-    ensures ends { (ending : Ending)
-        × EndsCall (texts words.now) (R.state reader.old) (R.state reader.new) ending
-        × Tells ending (outputs (W.state writer.old) (E.state errors.old))
+    ensures ends { Does (texts words.now) (R.state reader.old) (R.state reader.new)
+        (outputs (W.state writer.old) (E.state errors.old))
         (outputs (W.state writer.new) (E.state errors.new)) result }
 {
-    let ending = ending_of(alloc, words, reader);
+    let ending = match parse_words(alloc, words) {
+        Ok(Task::Exec(stripes)) => return exec(rt, alloc, stripes, reader, writer, errors),
+        Ok(Task::Report(command)) => ending_of_command(alloc, &command, reader),
+        Err(error) => ending_of_words(alloc, &error),
+    };
     ending.tell(writer, errors)
 }

@@ -5,4 +5,5 @@ mod faults;
 mod meanings;
 mod memory;
 mod programs;
+mod sessions;
 mod texts;

@@ -3,13 +3,22 @@ ghost use Rattle.std.specs.Prelude.{◌≡◌, false, IfOk, codes};
 ghost use Rattle.clap.specs.Words.{app_of, fault_of, found_of, new_app, rows_of, rule_of, subcommand_rows_of, FailsBy};
 ghost use Rattle.clap.specs.Walk.{texts};
 ghost use Rattle.clap.specs.declared.builder.Command.TheViews.{out-Command as fields_of};
-ghost use Rattle.map_server.specs.CommandLine.{size_option, text_option, size_options, text_options, bpfmap, size_of, sizes_of, with_options, GivesTexts, NamesOne, IsNamed, Asks};
+ghost use Rattle.map_server.specs.CommandLine.{size_option, text_option, size_options, text_options, stripe_options, bpfmap, size_of, sizes_of, with_options, GivesTexts, NamesOne, IsAsked, Asks};
 
 use bpf_model::Sizes;
 use clap::{Arg, ArgMatches, value_parser};
 use std::alloc::{AllocError, Global};
 
 /// What `bpfmap` is asked to do.
+#[derive(Clone, Copy, Debug, PartialEq, Eq)]
+pub enum Task<'a> {
+    /// Report on all of standard input.
+    Report(Command<'a>),
+    /// Answer the requests on standard input, over a table of so many stripes.
+    Exec(u16),
+}
+
+/// What `bpfmap` reports on all of its input.
 #[derive(Clone, Copy, Debug, PartialEq, Eq)]
 pub enum Command<'a> {
     /// Make bytes of a program's text.
@@ -34,13 +43,16 @@ const KEY_DEFAULT: u16 = 64;
 
 const VALUE_DEFAULT: u16 = 256;
 
-fn size_option<'a>(alloc: Global, name: &'a str, help: &'a str) -> Arg<'a>
+const STRIPES_DEFAULT: u16 = 16;
+
+/// An option that takes a number from 0 to 65,535 of what is named.
+fn size_option<'a>(alloc: Global, name: &'a str, unit: &'a str, help: &'a str) -> Arg<'a>
     ensures rule { rule_of result ≡ size_option name.entry.now }
     ensures local { result.global ≡ false }
 {
     Arg::new(alloc, name)
         .long(name)
-        .value_name("BYTES")
+        .value_name(unit)
         .help(help)
         .value_parser(value_parser!(u16))
 }
@@ -67,21 +79,25 @@ fn with_size_options(
         .arg(size_option(
             alloc,
             "key",
+            "BYTES",
             "Declared size of the key, 0 to 65535 [default: 64]",
         ))?
         .arg(size_option(
             alloc,
             "old",
+            "BYTES",
             "Declared size of the old value, 0 to 65535 [default: 256]",
         ))?
         .arg(size_option(
             alloc,
             "arg",
+            "BYTES",
             "Declared size of the argument, 0 to 65535 [default: 256]",
         ))?
         .arg(size_option(
             alloc,
             "result",
+            "BYTES",
             "Declared size of the result, 0 to 65535 [default: 256]",
         ))
 }
@@ -134,6 +150,24 @@ fn run_command<'a>(alloc: Global) -> Result<clap::Command<'a>, AllocError>
     with_text_options(with_size_options(run, alloc)?, alloc)
 }
 
+fn exec_command<'a>(alloc: Global) -> Result<clap::Command<'a>, AllocError>
+    ensures app { IfOk result (λ c. app_of c
+        ≡ with_options (new_app (codes "exec")) stripe_options) }
+    ensures local { IfOk result (λ c. (fields_of c).has_globals ≡ false) }
+{
+    let exec = plain_command(
+        alloc,
+        "exec",
+        "Answers the request frames on standard input, over a table of its own",
+    );
+    exec.arg(size_option(
+        alloc,
+        "stripes",
+        "NUMBER",
+        "Stripes of the table, a power of two from 1 to 64 [default: 16]",
+    ))
+}
+
 fn bpfmap_command<'a>(alloc: Global) -> Result<clap::Command<'a>, AllocError>
     ensures { IfOk result (λ c. app_of c ≡ bpfmap) }
 {
@@ -156,7 +190,8 @@ fn bpfmap_command<'a>(alloc: Global) -> Result<clap::Command<'a>, AllocError>
         .subcommand(asm)?
         .subcommand(disasm)?
         .subcommand(check_command(alloc)?)?
-        .subcommand(run_command(alloc)?)
+        .subcommand(run_command(alloc)?)?
+        .subcommand(exec_command(alloc)?)
 }
 
 fn size_of(matches: &ArgMatches<'_>, name: &str, default: u16) -> u16
@@ -186,28 +221,29 @@ fn texts_of<'a>(matches: &ArgMatches<'a>) -> RunTexts<'a>
     }
 }
 
-fn command_of<'a>(matches: &ArgMatches<'a>) -> Command<'a>
+fn task_of<'a>(matches: &ArgMatches<'a>) -> Task<'a>
     requires { NamesOne (subcommand_rows_of matches.now) }
-    ensures { IsNamed (subcommand_rows_of matches.now) result }
+    ensures { IsAsked (subcommand_rows_of matches.now) result }
 {
     let Some((name, options)) = matches.subcommand() else {
         unreachable!()
     };
     match name {
-        "asm" => Command::Asm,
-        "disasm" => Command::Disasm,
-        "check" => Command::Check(sizes_of(options)),
-        "run" => Command::Run(sizes_of(options), texts_of(options)),
+        "asm" => Task::Report(Command::Asm),
+        "disasm" => Task::Report(Command::Disasm),
+        "check" => Task::Report(Command::Check(sizes_of(options))),
+        "run" => Task::Report(Command::Run(sizes_of(options), texts_of(options))),
+        "exec" => Task::Exec(size_of(options, "stripes", STRIPES_DEFAULT)),
         _ => unreachable!(),
     }
 }
 
 /// What the words ask for; the first is the program's name. An error is a fault of the words, the help or the version
 /// that they ask for, or want of memory; it has the text for the user.
-pub fn parse_words<'a>(alloc: Global, words: &'a [&'a str]) -> Result<Command<'a>, clap::Error>
-    ensures ok { IfOk result (λ command. Asks (texts words.entry.now) command) }
+pub fn parse_words<'a>(alloc: Global, words: &'a [&'a str]) -> Result<Task<'a>, clap::Error>
+    ensures ok { IfOk result (λ task. Asks (texts words.entry.now) task) }
     ensures kinds { FailsBy (fault_of bpfmap (texts words.entry.now)) result }
 {
     let matches = bpfmap_command(alloc)?.try_get_matches_from(words)?;
-    Ok(command_of(&matches))
+    Ok(task_of(&matches))
 }

@@ -1,7 +1,7 @@
 //! Where bytes go.
 ghost use Rattle.std.specs.Prelude.{◌≡◌, ◌<◌, ◌≤◌, ◌+◌, ◌-◌, ◌^◌, length, OnOk, OnErr, IfOk};
 ghost use Rattle.std.specs.Io.{WritesAtMost};
-ghost use Rattle.std.specs.Io.KnownBytes.{WriteAppends};
+ghost use Rattle.std.specs.Io.KnownBytes.{Keeps, WriteAppends};
 ghost use Rattle.map_server.specs.Devices.{Takes, TakesPart};
 
 use crate::devices::Failed;
@@ -20,6 +20,13 @@ pub trait Sink {
         ensures within { WritesAtMost result bytes.now }
         ensures some { IfOk result (λ n. 1 ≤ n) }
         ensures bytes { WriteAppends (state self.old).held (state self.new).held result bytes.now }
+        ensures ok { OnOk result ((state self.new).failures ≡ (state self.old).failures) }
+        ensures err { OnErr result ((state self.new).failures ≡ (state self.old).failures + 1) };
+
+    /// Passes on what the device keeps back of the bytes that it took. Where that fails, a write has failed.
+    fn flush(&mut self) -> Result<(), Failed>
+        requires count { (state self.old).failures < 2 ^ 64 - 1 }
+        ensures bytes { Keeps (state self.old).held (state self.new).held }
         ensures ok { OnOk result ((state self.new).failures ≡ (state self.old).failures) }
         ensures err { OnErr result ((state self.new).failures ≡ (state self.old).failures + 1) };
 }

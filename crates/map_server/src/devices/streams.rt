@@ -1,7 +1,7 @@
 //! Readers and writers of `std::io` as devices.
 ghost use Rattle.std.specs.Prelude.{◌≡◌, false};
 ghost use Rattle.std.specs.Io.{ReadsAtMost, WritesAtMost};
-ghost use Rattle.std.specs.Io.KnownBytes.{ReadConsumes, WriteAppends};
+ghost use Rattle.std.specs.Io.KnownBytes.{Keeps, ReadConsumes, WriteAppends};
 
 use crate::devices::{Failed, Sink, Source};
 use std::io::{self, ErrorKind, Read, Write};
@@ -33,6 +33,23 @@ fn write_again<W: Write>(writer: &mut W, bytes: &[u8]) -> io::Result<usize>
     for _ in 0..u64::MAX {
         match writer.write(bytes) {
             Ok(n) => return Ok(n),
+            Err(e) => {
+                if e.kind() != ErrorKind::Interrupted {
+                    return Err(e);
+                }
+            }
+        }
+    }
+    Err(io::Error::from(ErrorKind::Interrupted))
+}
+
+/// One flush; where a signal interrupts it, one more.
+fn flush_again<W: Write>(writer: &mut W) -> io::Result<()>
+    ensures bytes { Keeps (W.contents writer.old) (W.contents writer.new) }
+{
+    for _ in 0..u64::MAX {
+        match writer.flush() {
+            Ok(()) => return Ok(()),
             Err(e) => {
                 if e.kind() != ErrorKind::Interrupted {
                     return Err(e);
@@ -120,6 +137,16 @@ impl<W: Write> Sink for StreamSink<W> {
         match write_again(&mut self.writer, bytes) {
             Ok(n) if n > 0 => Ok(n),
             _ => {
+                self.failures += 1;
+                Err(Failed)
+            }
+        }
+    }
+
+    fn flush(&mut self) -> Result<(), Failed> {
+        match flush_again(&mut self.writer) {
+            Ok(()) => Ok(()),
+            Err(_) => {
                 self.failures += 1;
                 Err(Failed)
             }

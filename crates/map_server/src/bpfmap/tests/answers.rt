@@ -1,6 +1,7 @@
 //! What `bpfmap` prints, and with which status.
 use super::memory::run_words;
 use std::process::Abort;
+use std::sync::Wait;
 use std::test::Fail;
 
 // The sum of the old value and the argument.
@@ -11,14 +12,14 @@ const SUM: &str = "79 20 00 00 00 00 00 00\n79 39 00 00 00 00 00 00\n0f 90 00 00
 const NOTHING: &str = "b7000000ffffffff 9500000000000000";
 
 /// What the words print on this input, and the status. Standard error is told a line of a refusal, and else nothing.
-fn holds<R: AllocGlobal + Abort>(
+fn holds<R: AllocGlobal + Wait + Abort>(
     rt: &R,
     words: &str,
     input: &str,
     printed: &str,
     status: u8,
 ) -> Result<(), Fail> {
-    let found = run_words(rt.alloc(), words, input)?;
+    let found = run_words(rt, words, input)?;
     let is_printed = found.output.as_slice() == printed.as_bytes();
     assert!(rt; is_printed, "{words} on {input}");
     assert!(rt; found.status == status, "{words} on {input}");
@@ -32,7 +33,7 @@ fn holds<R: AllocGlobal + Abort>(
 }
 
 /// The words are refused on this input with this number at this place.
-fn refuses<R: AllocGlobal + Abort>(
+fn refuses<R: AllocGlobal + Wait + Abort>(
     rt: &R,
     words: &str,
     input: &str,

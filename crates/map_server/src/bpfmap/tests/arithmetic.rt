@@ -1,17 +1,18 @@
 //! Programs that compute: what `run` prints.
 use super::memory::run_words;
 use std::process::Abort;
+use std::sync::Wait;
 use std::test::Fail;
 
 /// `run` with these options prints this on this program.
-fn answers<R: AllocGlobal + Abort>(
+fn answers<R: AllocGlobal + Wait + Abort>(
     rt: &R,
     options: &str,
     program: &str,
     printed: &str,
 ) -> Result<(), Fail> {
     let words = format!(in rt.alloc(); "run --result 16{options}")?;
-    let found = run_words(rt.alloc(), words.as_str(), program)?;
+    let found = run_words(rt, words.as_str(), program)?;
     let is_printed = found.output.as_slice() == printed.as_bytes();
     assert!(rt; is_printed, "{program}");
     assert!(rt; found.status == 0 && found.errors.is_empty(), "{program}");

@@ -51,7 +51,7 @@ fn faults_of_the_words_are_told(rt: HostRuntime) -> Result<(), Fail> {
         "run --with-key -1",
         "run --with-old -00",
     ] {
-        let found = run_words(rt.alloc(), words, "")?;
+        let found = run_words(&rt, words, "")?;
         assert!(rt; found.status == 2, "{words}");
         assert!(rt; found.output.is_empty(), "{words}");
         assert!(rt; found.errors.starts_with(b"error: "), "{words}");
@@ -62,10 +62,10 @@ fn faults_of_the_words_are_told(rt: HostRuntime) -> Result<(), Fail> {
 
 #[test]
 fn no_command_shows_the_help(rt: HostRuntime) -> Result<(), Fail> {
-    let alone = call(rt.alloc(), &["bpfmap"], pieces(b"", 1, false), ROOM, ROOM);
+    let alone = call(&rt, &["bpfmap"], pieces(b"", 1, false), ROOM, ROOM);
     assert!(rt; alone.status == 2 && alone.output.is_empty());
     assert!(rt; alone.errors.starts_with(b"Assembles BPF programs"));
-    let none = call(rt.alloc(), &[], pieces(b"", 1, false), ROOM, ROOM);
+    let none = call(&rt, &[], pieces(b"", 1, false), ROOM, ROOM);
     assert!(rt; none.status == 2 && none.output.is_empty() && !none.errors.is_empty());
     Ok(())
 }
@@ -80,7 +80,7 @@ fn help_and_version_are_no_faults(rt: HostRuntime) -> Result<(), Fail> {
         ("asm --help", "Prints in hex"),
         ("check --help", "Verifies the program"),
     ] {
-        let found = run_words(rt.alloc(), words, "")?;
+        let found = run_words(&rt, words, "")?;
         assert!(rt; found.status == 0, "{words}");
         assert!(rt; found.output.starts_with(start.as_bytes()), "{words}");
         assert!(rt; found.errors.is_empty(), "{words}");
@@ -99,7 +99,7 @@ fn failed_reads_end_with_status_3(rt: HostRuntime) -> Result<(), Fail> {
         (20, 4),
     ] {
         let input = pieces(&NOTHING[..good], 5, true);
-        let found = call(rt.alloc(), &["bpfmap", "run"], input, ROOM, errors_room);
+        let found = call(&rt, &["bpfmap", "run"], input, ROOM, errors_room);
         assert!(rt; found.status == 3, "after {good}");
         assert!(rt; found.output.is_empty(), "after {good}");
         let told = &b"failed read\n"[..errors_room.min(12)];
@@ -113,7 +113,7 @@ fn failed_writes_end_with_status_3(rt: HostRuntime) -> Result<(), Fail> {
     for (room, errors_room) in [(0, ROOM), (1, ROOM), (7, ROOM), (0, 0), (3, 5)] {
         for words in [["bpfmap", "run"], ["bpfmap", "--help"]] {
             let input = pieces(NOTHING, 5, false);
-            let found = call(rt.alloc(), &words, input, room, errors_room);
+            let found = call(&rt, &words, input, room, errors_room);
             assert!(rt; found.status == 3, "{words:?} with room for {room}");
             assert!(rt;
                 found.output.len() == room,
@@ -126,21 +126,9 @@ fn failed_writes_end_with_status_3(rt: HostRuntime) -> Result<(), Fail> {
             );
         }
     }
-    let all = call(
-        rt.alloc(),
-        &["bpfmap", "run"],
-        pieces(NOTHING, 5, false),
-        8,
-        0,
-    );
+    let all = call(&rt, &["bpfmap", "run"], pieces(NOTHING, 5, false), 8, 0);
     assert!(rt; all.status == 0 && all.output.as_slice() == b"nothing\n".as_slice());
-    let words = call(
-        rt.alloc(),
-        &["bpfmap", "walk"],
-        pieces(NOTHING, 5, false),
-        8,
-        0,
-    );
+    let words = call(&rt, &["bpfmap", "walk"], pieces(NOTHING, 5, false), 8, 0);
     assert!(rt; words.status == 2 && words.output.is_empty());
     Ok(())
 }
@@ -178,7 +166,14 @@ fn interrupted_reads_and_writes_are_tried_again(rt: HostRuntime) {
         let mut writer = StreamSink::new(output);
         let mut errors = StreamSink::new(Room::new(rt.alloc(), ROOM));
         let words = ["bpfmap", "run"];
-        let status = bpfmap_on(rt.alloc(), &words, &mut reader, &mut writer, &mut errors);
+        let status = bpfmap_on(
+            &rt,
+            rt.alloc(),
+            &words,
+            &mut reader,
+            &mut writer,
+            &mut errors,
+        );
         let printed = writer.into_inner().inner.bytes;
         assert!(rt; status == 0, "interrupted {times} times");
         assert!(rt;
@@ -198,7 +193,7 @@ fn input_of_more_than_64_kib_is_read(rt: HostRuntime) -> Result<(), Fail> {
     let text = format!(in rt.alloc(); "{blank}b7000000ffffffff{blank}9500000000000000{blank}")?;
     for size in [1000, 4096, 100_000] {
         let input = pieces(text.as_bytes(), size, false);
-        let found = call(rt.alloc(), &["bpfmap", "run"], input, ROOM, ROOM);
+        let found = call(&rt, &["bpfmap", "run"], input, ROOM, ROOM);
         assert!(rt; found.status == 0, "in pieces of {size}");
         assert!(rt;
             found.output.as_slice() == b"nothing\n".as_slice(),

@@ -1,17 +1,18 @@
 //! What standard error is told of a refusal.
 use super::memory::{Pieces, ROOM, call, run_words};
 use std::process::Abort;
+use std::sync::Wait;
 use std::test::Fail;
 
 /// The words are refused on this input with this line on standard output, and this one on standard error.
-fn tells<R: AllocGlobal + Abort>(
+fn tells<R: AllocGlobal + Wait + Abort>(
     rt: &R,
     words: &str,
     input: &str,
     printed: &str,
     told: &str,
 ) -> Result<(), Fail> {
-    let found = run_words(rt.alloc(), words, input)?;
+    let found = run_words(rt, words, input)?;
     let line = format!(in rt.alloc(); "{told}\n")?;
     assert!(rt; found.status == 1, "{words} on {input}");
     assert!(rt;
@@ -225,7 +226,7 @@ fn what_is_told_of_a_failed_write_is_that_alone(rt: HostRuntime) {
             size: 1,
             fails: false,
         };
-        let found = call(rt.alloc(), &["bpfmap", "check"], input, room, errors_room);
+        let found = call(&rt, &["bpfmap", "check"], input, room, errors_room);
         assert!(rt; found.status == status, "room for {room} and {errors_room}");
         assert!(rt;
             found.output.len() == room,

@@ -2,6 +2,7 @@
 use crate::{StreamSink, StreamSource, bpfmap_on};
 use std::alloc::{AllocError, Global};
 use std::io::{self, ErrorKind, Read, Write};
+use std::sync::Wait;
 
 /// Gives its bytes in pieces of at most this size, and then its end or a failure.
 #[derive(Drop)]
@@ -112,17 +113,18 @@ pub struct Outcome {
 pub const ROOM: usize = 1 << 20;
 
 /// One call, with this room in standard output and standard error.
-pub fn call(
-    alloc: Global,
+pub fn call<R: AllocGlobal + Wait>(
+    rt: &R,
     words: &[&str],
     input: Pieces<'_>,
     output_room: usize,
     errors_room: usize,
 ) -> Outcome {
+    let alloc = rt.alloc();
     let mut reader = StreamSource::new(input);
     let mut writer = StreamSink::new(Room::new(alloc, output_room));
     let mut errors = StreamSink::new(Room::new(alloc, errors_room));
-    let status = bpfmap_on(alloc, words, &mut reader, &mut writer, &mut errors);
+    let status = bpfmap_on(rt, alloc, words, &mut reader, &mut writer, &mut errors);
     Outcome {
         status,
         output: writer.into_inner().bytes,
@@ -131,8 +133,12 @@ pub fn call(
 }
 
 /// One call of `bpfmap` with these words, which single blanks separate: a blank at the end is followed by an empty word.
-pub fn run_words(alloc: Global, words: &str, input: &str) -> Result<Outcome, AllocError> {
-    let mut all = vec![in alloc; "bpfmap"]?;
+pub fn run_words<R: AllocGlobal + Wait>(
+    rt: &R,
+    words: &str,
+    input: &str,
+) -> Result<Outcome, AllocError> {
+    let mut all = vec![in rt.alloc(); "bpfmap"]?;
     for word in words.split(' ') {
         all.push(word)?;
     }
@@ -141,5 +147,5 @@ pub fn run_words(alloc: Global, words: &str, input: &str) -> Result<Outcome, All
         size: 7,
         fails: false,
     };
-    Ok(call(alloc, all.as_slice(), input, ROOM, ROOM))
+    Ok(call(rt, all.as_slice(), input, ROOM, ROOM))
 }

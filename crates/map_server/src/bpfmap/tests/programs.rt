@@ -3,6 +3,7 @@ use super::memory::run_words;
 use std::alloc::{AllocError, Global};
 use std::fmt::Write;
 use std::process::Abort;
+use std::sync::Wait;
 use std::test::Fail;
 
 const ADD: &str =
@@ -32,18 +33,18 @@ const TOUCH: &str =
     mul64 r7, 17\nmov64 r0, 16\nsub64 r0, r7\nexit\n";
 
 /// What `asm` makes of the text, and then `run` with these options of that.
-fn answers<R: AllocGlobal + Abort>(
+fn answers<R: AllocGlobal + Wait + Abort>(
     rt: &R,
     text: &str,
     options: &str,
     printed: &str,
 ) -> Result<(), Fail> {
-    let assembled = run_words(rt.alloc(), "asm", text)?;
+    let assembled = run_words(rt, "asm", text)?;
     let Ok(hex) = str::from_utf8(&assembled.output) else {
         return Err(Fail::from("no hex"));
     };
     let words = format!(in rt.alloc(); "run {options}")?;
-    let found = run_words(rt.alloc(), words.as_str(), hex)?;
+    let found = run_words(rt, words.as_str(), hex)?;
     let is_printed = found.output.as_slice() == printed.as_bytes();
     assert!(rt; is_printed, "{text} with {options}");
     Ok(())
@@ -325,22 +326,22 @@ fn made_up(alloc: Global, seed: u64) -> Result<MadeUp, AllocError> {
 }
 
 /// What the command prints on this input.
-fn printed(alloc: Global, command: &str, input: &[u8]) -> Result<Vec<u8>, Fail> {
+fn printed<R: AllocGlobal + Wait>(rt: &R, command: &str, input: &[u8]) -> Result<Vec<u8>, Fail> {
     let Ok(input) = str::from_utf8(input) else {
         return Err(Fail::from("no text"));
     };
-    Ok(run_words(alloc, command, input)?.output)
+    Ok(run_words(rt, command, input)?.output)
 }
 
 #[test]
 fn programs_that_are_made_up_are_read_back(rt: HostRuntime) -> Result<(), Fail> {
     for seed in 1..5 {
         let made = made_up(rt.alloc(), seed)?;
-        let text = printed(rt.alloc(), "disasm", made.hex.as_bytes())?;
-        let hex = printed(rt.alloc(), "asm", text.as_slice())?;
+        let text = printed(&rt, "disasm", made.hex.as_bytes())?;
+        let hex = printed(&rt, "asm", text.as_slice())?;
         assert!(rt; hex.as_slice() == made.hex.as_bytes(), "hex of seed {seed}");
-        let hex = printed(rt.alloc(), "asm", made.text.as_bytes())?;
-        let text = printed(rt.alloc(), "disasm", hex.as_slice())?;
+        let hex = printed(&rt, "asm", made.text.as_bytes())?;
+        let text = printed(&rt, "disasm", hex.as_slice())?;
         assert!(rt;
             text.as_slice() == made.text.as_bytes(),
             "text of seed {seed}"

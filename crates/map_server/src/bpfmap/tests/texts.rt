@@ -1,17 +1,18 @@
 //! Programs as text and as hex: `asm` and `disasm`.
 use super::memory::{Pieces, ROOM, call, run_words};
 use std::process::Abort;
+use std::sync::Wait;
 use std::test::Fail;
 
 /// The command prints this on this input, with this status. Standard error is told of a refusal alone.
-fn prints<R: AllocGlobal + Abort>(
+fn prints<R: AllocGlobal + Wait + Abort>(
     rt: &R,
     command: &str,
     input: &str,
     printed: &str,
     status: u8,
 ) -> Result<(), Fail> {
-    let found = run_words(rt.alloc(), command, input)?;
+    let found = run_words(rt, command, input)?;
     let is_printed = found.output.as_slice() == printed.as_bytes();
     assert!(rt; is_printed, "{command} of {input}");
     assert!(rt; found.status == status, "{command} of {input}");
@@ -97,7 +98,7 @@ fn text_that_is_no_utf_8_fails_to_be_read(rt: HostRuntime) -> Result<(), Fail> {
             size: 1,
             fails: false,
         };
-        let found = call(rt.alloc(), &["bpfmap", "asm"], input, ROOM, ROOM);
+        let found = call(&rt, &["bpfmap", "asm"], input, ROOM, ROOM);
         assert!(rt; found.status == 3 && found.output.is_empty());
         assert!(rt; found.errors.as_slice() == b"failed read\n".as_slice());
     }

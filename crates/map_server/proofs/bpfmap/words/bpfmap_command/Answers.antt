@@ -13,6 +13,7 @@ returns c =
     let asm = c.in_ok-subcommand.ensures.shape c.plain_command-asm.ensures.local ∙ ap₂ with_subcommand bare (ap (λ (a : App). a.top) c.plain_command-asm.ensures.app) in
     let disasm = c.in_ok-subcommand-2.ensures.shape c.plain_command-disasm.ensures.local ∙ ap₂ with_subcommand asm (ap (λ (a : App). a.top) c.plain_command-disasm.ensures.app) in
     let check = c.in_ok-subcommand-3.ensures.shape c.in_ok-check_command.ensures.local ∙ ap₂ with_subcommand disasm (ap (λ (a : App). a.top) c.in_ok-check_command.ensures.app) in
-    IfOk-weaker c.subcommand-4.result _ _
-    (λ r h. h.shape c.in_ok-run_command.ensures.local ∙ ap₂ with_subcommand check (ap (λ (a : App). a.top) c.in_ok-run_command.ensures.app))
-    c.subcommand-4.ensures
+    let run = c.in_ok-subcommand-4.ensures.shape c.in_ok-run_command.ensures.local ∙ ap₂ with_subcommand check (ap (λ (a : App). a.top) c.in_ok-run_command.ensures.app) in
+    IfOk-weaker c.subcommand-5.result _ _
+    (λ r h. h.shape c.in_ok-exec_command.ensures.local ∙ ap₂ with_subcommand run (ap (λ (a : App). a.top) c.in_ok-exec_command.ensures.app))
+    c.subcommand-5.ensures

@@ -1,7 +1,7 @@
 use Rattle.std.proofs.Common.{subst, sym}
 use Rattle.clap.specs.Walk.{texts}
 use Rattle.clap.proofs.KindLemmas.{fails_by_from}
-use Rattle.map_server.specs.CommandLine.{IsNamed, NamesOne}
+use Rattle.map_server.specs.CommandLine.{IsAsked, NamesOne}
 use Rattle.map_server.proofs.WordLemmas.{faultless_names_one, parse_fails, parse_names, parse_succeeds}
 use Rattle.map_server.proofs.bpfmap.words.parse_words.Goals as goal
 
@@ -11,8 +11,8 @@ returns-in_err-matches-clause-kinds c =
     let result = c.from_residual-in_err-matches.ensures in
     fails_by_from _ _ error (parse_fails _ c.in_ok-bpfmap_command.ensures (texts c.args.words.now) error c.in_err-matches.ensures.kinds) result.0 result.1
 
-pub command_of-requires : goal.command_of-requires
-command_of-requires c =
+pub task_of-requires : goal.task_of-requires
+task_of-requires c =
     let built = c.in_ok-bpfmap_command.ensures in
     let words = texts c.args.words.now in
     let named = parse_names _ built words c.in_ok-matches.matches c.in_ok-matches.ensures.matches in
@@ -23,7 +23,7 @@ returns-clause-ok c =
     let built = c.in_ok-bpfmap_command.ensures in
     let words = texts c.args.words.now in
     let named = parse_names _ built words c.in_ok-matches.matches c.in_ok-matches.ensures.matches in
-    (parse_succeeds _ built words c.in_ok-matches.ensures.kinds, subst (λ found. IsNamed found c.command_of.result) named c.command_of.ensures)
+    (parse_succeeds _ built words c.in_ok-matches.ensures.kinds, subst (λ found. IsAsked found c.task_of.result) named c.task_of.ensures)
 
 pub returns-clause-kinds : goal.returns-clause-kinds
 returns-clause-kinds c = parse_succeeds _ c.in_ok-bpfmap_command.ensures (texts c.args.words.now) c.in_ok-matches.ensures.kinds

@@ -1,6 +1,6 @@
 use Rattle.std.proofs.Common.{inl, inr}
 use Rattle.map_server.proofs.WordLemmas.{none_is_named, name_is_one}
-use Rattle.map_server.proofs.bpfmap.words.command_of.Goals as goal
+use Rattle.map_server.proofs.bpfmap.words.task_of.Goals as goal
 
 pub unreachable-requires : goal.unreachable-requires
 unreachable-requires c = none_is_named _ _ c.in_default.ensures.variant c.requires
@@ -12,5 +12,6 @@ unreachable-requires-in_default-name c =
       | inl asm ↦ not.not-asm asm
       | inr (inl disasm) ↦ not.not-disasm disasm
       | inr (inr (inl check)) ↦ not.not-check check
-      | inr (inr (inr run)) ↦ not.not-run run
+      | inr (inr (inr (inl run))) ↦ not.not-run run
+      | inr (inr (inr (inr exec))) ↦ not.not-exec exec
     ]

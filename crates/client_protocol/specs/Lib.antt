@@ -1,0 +1,5 @@
+pub mod Faults
+pub mod Bodies
+pub mod Frames
+pub mod Reading
+pub mod Responses

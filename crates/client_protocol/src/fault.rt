@@ -1,0 +1,56 @@
+//! Why a stream of requests is refused.
+ghost use Rattle.std.specs.Prelude.{◌≡◌};
+ghost use Rattle.client_protocol.specs.Faults.{fault_number};
+
+use std::error::Error;
+use std::fmt;
+
+/// What is wrong with a frame. Of several faults of one frame the one with the least number is told. After one of them
+/// nothing more is read from the stream.
+#[derive(Clone, Copy, Debug, PartialEq, Eq)]
+pub enum ProtocolFault {
+    /// A length of 0 or above the limit, told as soon as its four bytes are there: number 60.
+    BadLength,
+    /// A tag that no request has: number 61.
+    UnknownRequest,
+    /// Fields that are cut short, a key or a value above its limit, or 0xFFFF where a value must be: number 62.
+    BadField,
+    /// Bytes behind the last field: number 63.
+    TrailingBytes,
+    /// A Hello of another version, a first request that is no Hello, or a second Hello: number 64.
+    WrongVersion,
+}
+
+impl ProtocolFault {
+    /// The number under which the fault is sent, 60 to 64.
+    pub fn number(self) -> u8
+        ensures { result ≡ fault_number self }
+    {
+        match self {
+            ProtocolFault::BadLength => 60,
+            ProtocolFault::UnknownRequest => 61,
+            ProtocolFault::BadField => 62,
+            ProtocolFault::TrailingBytes => 63,
+            ProtocolFault::WrongVersion => 64,
+        }
+    }
+}
+
+impl fmt::Display for ProtocolFault {
+    ghost use Rattle.std.specs.Prelude.{Some};
+    ghost use Rattle.client_protocol.specs.Faults.{message_of};
+
+    ghost output = { λ fault. Some (message_of fault) };
+
+    fn fmt<W: fmt::Write>(&self, f: &mut fmt::Formatter<W>) -> fmt::Result {
+        match self {
+            ProtocolFault::BadLength => write!(f, "bad length of a frame"),
+            ProtocolFault::UnknownRequest => write!(f, "unknown request"),
+            ProtocolFault::BadField => write!(f, "bad field"),
+            ProtocolFault::TrailingBytes => write!(f, "bytes behind the last field"),
+            ProtocolFault::WrongVersion => write!(f, "wrong version, or a Hello out of place"),
+        }
+    }
+}
+
+impl Error for ProtocolFault {}

@@ -1,0 +1,121 @@
+//! Whole frames at the front of bytes.
+ghost use Rattle.std.specs.Prelude.{◌≡◌, ◌++◌, ◌<◌, ◌≤◌, ◌^◌, List, length, IfOk, IfErr, IfSome, IfNone};
+ghost use Rattle.client_protocol.specs.declared.request.Request.{Request as TheRequest};
+ghost use Rattle.client_protocol.specs.Bodies.{limits_after, hello_after};
+ghost use Rattle.client_protocol.specs.Frames.{length_bytes, frame_of, IsRequest, IsBeginning, IsFaulty, Frames, held_of};
+ghost use Rattle.client_protocol.specs.Reading.{IfFault, Lacks};
+
+use crate::fault::ProtocolFault;
+use crate::limits::{Limits, Version};
+use crate::reading::{ReadFault, request_in};
+use crate::request::Request;
+use bpf_model::NoMemory;
+use std::alloc::Global;
+
+const LENGTH_BYTES: usize = 4;
+
+fn length_at(bytes: &[u8]) -> Option<(u32, &[u8])>
+    ensures some { IfSome result (λ r. bytes.now ≡ length_bytes r.0 ++ r.1.now) }
+    ensures fits { IfSome result (λ r. r.0 < 2 ^ 32) }
+    ensures none { IfNone result (length bytes.now < 4) }
+{
+    match bytes {
+        [a, b, c, d, rest @ ..] => Some((u32::from_be_bytes([*a, *b, *c, *d]), rest)),
+        _ => None,
+    }
+}
+
+/// How many bytes the frame lacks that begins here: those of its length, or else those of its body.
+#[tactic(auto, using(crate::proofs::HeldLaws::begun_short))]
+pub fn lacking(hello: Option<Version>, bytes: &[u8]) -> usize
+    requires begun { IsBeginning hello bytes.now }
+    ensures { Lacks hello bytes.now result }
+{
+    match length_at(bytes) {
+        None => LENGTH_BYTES - bytes.len(),
+        Some((len, part)) => len as usize - part.len(),
+    }
+}
+
+pub fn hello_after(hello: Option<Version>, request: &Request) -> Option<Version>
+    ensures { result ≡ hello_after hello request.now }
+{
+    match request {
+        Request::Hello { version } => Some(*version),
+        _ => hello,
+    }
+}
+
+/// The request of the frame that begins the bytes, and what is behind it; none where the frame has only begun.
+pub fn next(
+    alloc: Global,
+    hello: Option<Version>,
+    bytes: &[u8],
+) -> Result<Option<(Request, &[u8])>, ReadFault>
+    ensures frame { IfOk result (λ next. IfSome next (λ r. IsRequest hello r.0
+        × (bytes.now ≡ frame_of r.0 ++ r.1.now))) }
+    ensures begun { IfOk result (λ next. IfNone next (IsBeginning hello bytes.now)) }
+    ensures fault { IfErr result (λ e. IfFault e (IsFaulty hello bytes.now)) }
+{
+    let Some((len, rest)) = length_at(bytes) else {
+        return Ok(None);
+    };
+    if len == 0 || len > Limits::after(hello).body {
+        return Err(ReadFault::Fault(ProtocolFault::BadLength));
+    }
+    let len = len as usize;
+    if rest.len() < len {
+        return Ok(None);
+    }
+    let (body, behind) = rest.split_at(len);
+    let request = request_in(alloc, hello, body)?;
+    Ok(Some((request, behind)))
+}
+
+/// What is left behind whole frames.
+#[derive(Clone, Copy)]
+pub struct Left<'a> {
+    pub hello: Option<Version>,
+    pub rest: &'a [u8],
+    pub fault: Option<ProtocolFault>,
+}
+
+/// Adds the requests of all whole frames up to a fault, if any.
+pub fn take_frames<'a>(
+    alloc: Global,
+    hello: Option<Version>,
+    requests: &mut Vec<Request>,
+    bytes: &'a [u8],
+) -> Result<Left<'a>, NoMemory>
+    ensures within { IfOk result (λ left. length left.rest.now ≤ length bytes.now) }
+    ensures ok { IfOk result (λ left. (new : List TheRequest)
+        × ((requests.new.items ≡ requests.old.items ++ new)
+        × Frames hello bytes.now new (held_of left.hello left.rest.now left.fault))) }
+{
+    let mut hello = hello;
+    let mut rest = bytes;
+    loop {
+        match next(alloc, hello, rest) {
+            Ok(Some((request, behind))) => {
+                hello = hello_after(hello, &request);
+                requests.push(request)?;
+                rest = behind;
+            }
+            Ok(None) => {
+                return Ok(Left {
+                    hello,
+                    rest,
+                    fault: None,
+                });
+            }
+            Err(ReadFault::Fault(fault)) => {
+                return Ok(Left {
+                    hello,
+                    rest,
+                    fault: Some(fault),
+                });
+            }
+            Err(ReadFault::NoMemory) => return Err(NoMemory),
+        }
+    }
+}

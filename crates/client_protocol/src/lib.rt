@@ -1,0 +1,31 @@
+//! The protocol between a client and the map: frames of requests, and frames of responses.
+//!
+//! A frame is a length of 32 bits and a body; a body is a tag, the fields that the tag's request has, and behind a
+//! `Register` a program. Numbers are big-endian. `Feeder` makes requests of a stream of bytes that comes in pieces;
+//! `Response::frame` spells a response.
+//!
+//! The promise to the layer above: `feed` gives the requests, the rest and the fault that the grammar gives to the
+//! bytes taken so far, however they were cut (clause `requests`); a refused piece was not taken (`err`); a response's
+//! frame is its spelling. The grammar says nothing of pieces or of reading: `specs/Bodies.antt` has the table of tags
+//! and fields, `specs/Frames.antt` what a stream is. Nothing here waits.
+#![tactic(auto)]
+
+mod fault;
+mod feeder;
+mod field;
+mod fields;
+mod frames;
+pub mod laws;
+mod limits;
+mod reading;
+mod request;
+mod response;
+
+pub use fault::ProtocolFault;
+pub use feeder::{Fed, Feeder};
+pub use limits::{Limits, Version};
+pub use request::Request;
+pub use response::{FRAME_BYTES, Response};
+
+#[cfg(test)]
+mod tests;

@@ -1,0 +1,53 @@
+//! Versions of the protocol, and what may be sent in each.
+ghost use Rattle.std.specs.Prelude.{◌≡◌, ◌≢◌, ◌≤◌, IfSome, IfNone};
+ghost use Rattle.client_protocol.specs.declared.limits.Version.{Version as TheVersion};
+ghost use Rattle.client_protocol.specs.Bodies.{version_number, limits_after};
+
+/// A version of the protocol, which a client names in its Hello.
+#[derive(Clone, Copy, Debug, PartialEq, Eq)]
+pub enum Version {
+    One,
+}
+
+impl Version {
+    /// The version with this number; none where there is none.
+    pub fn from_number(number: u8) -> Option<Version>
+        ensures some { IfSome result (λ version. version_number version ≡ number) }
+        ensures none { IfNone result ((version : TheVersion) → version_number version ≢ number) }
+    {
+        match number {
+            1 => Some(Version::One),
+            _ => None,
+        }
+    }
+
+    /// The number under which the version is sent.
+    pub fn number(self) -> u8
+        ensures { result ≡ version_number self }
+    {
+        match self {
+            Version::One => 1,
+        }
+    }
+}
+
+/// What may be sent: the most bytes of a frame's body, and of a value or an argument.
+#[derive(Clone, Copy, Debug, PartialEq, Eq)]
+pub struct Limits {
+    pub body: u32,
+    pub value: usize,
+}
+
+impl Limits {
+    /// The limits after this Hello was taken, or before any.
+    pub fn after(hello: Option<Version>) -> Limits
+        ensures { result ≡ limits_after hello }
+    {
+        match hello {
+            None | Some(Version::One) => Limits {
+                body: 8192,
+                value: 256,
+            },
+        }
+    }
+}

@@ -1,0 +1,140 @@
+//! What is answered.
+ghost use Rattle.std.specs.Prelude.{◌≡◌, ◌+◌, ◌≤◌, ◌<◌, ◌^◌, ◌++◌, length};
+ghost use Rattle.arrayvec.specs.ArrayVec.{array_vec_len};
+ghost use Rattle.client_protocol.specs.Bodies.{value_bytes};
+ghost use Rattle.client_protocol.specs.Responses.{response_frame, response_body, window_number};
+
+use crate::limits::Version;
+use arrayvec::ArrayVec;
+use bpf_model::{Key, Value, Window};
+
+/// The bytes of the longest frame of a response, an `Item`.
+pub const FRAME_BYTES: usize = 328;
+
+const BODY_BYTES: usize = 324;
+
+/// A response, one frame. A walk has several: its items in order, and then one `End`.
+#[derive(Debug, PartialEq, Eq, Drop)]
+pub enum Response {
+    /// The Hello was taken: tag 80.
+    Hello {
+        version: Version,
+    },
+    /// The program is registered under this number: tag 81.
+    Registered {
+        program: u64,
+    },
+    /// A value, or nothing: tag 82.
+    Value {
+        value: Option<Value>,
+    },
+    /// Whether the call changed the entry: tag 83.
+    Done {
+        done: bool,
+    },
+    /// The program's first window that is too small for its bytes: tag 84.
+    Unfit {
+        window: Window,
+    },
+    /// A refusal by its number, at a unit of a program, else at 0: tag 85.
+    Refused {
+        number: u8,
+        place: u32,
+    },
+    /// An item of a walk: tag 86.
+    Item {
+        key: Key,
+        value: Value,
+    },
+    /// The end of a walk, and its counts: tag 87.
+    End {
+        scanned: u64,
+        given: u64,
+        unfit: u64,
+    },
+}
+
+fn put<const N: usize>(out: &mut ArrayVec<u8, N>, bytes: &[u8])
+    requires { array_vec_len out.old + length bytes.now ≤ N }
+    ensures items { out.new.items ≡ out.old.items ++ bytes.now }
+    ensures len { array_vec_len out.new ≡ array_vec_len out.old + length bytes.now }
+{
+    match out.try_extend_from_slice(bytes) {
+        Ok(()) => {}
+        Err(_) => unreachable!(),
+    }
+}
+
+fn put_value<const N: usize>(out: &mut ArrayVec<u8, N>, bytes: &[u8])
+    requires room { array_vec_len out.old + 2 + length bytes.now ≤ N }
+    requires short { length bytes.now < 2 ^ 16 }
+    ensures items { out.new.items ≡ out.old.items ++ value_bytes bytes.now }
+    ensures len { array_vec_len out.new ≡ array_vec_len out.old + 2 + length bytes.now }
+{
+    put(out, &(bytes.len() as u16).to_be_bytes());
+    put(out, bytes);
+}
+
+fn window_number(window: Window) -> u8
+    ensures { result ≡ window_number window }
+{
+    match window {
+        Window::Key => 1,
+        Window::Old => 2,
+        Window::Arg => 3,
+    }
+}
+
+impl Response {
+    fn body(&self) -> ArrayVec<u8, BODY_BYTES>
+        ensures { result.items ≡ response_body self.now }
+    {
+        let mut body = ArrayVec::new();
+        match self {
+            Response::Hello { version } => put(&mut body, &[0x80, version.number()]),
+            Response::Registered { program } => {
+                put(&mut body, &[0x81]);
+                put(&mut body, &program.to_be_bytes());
+            }
+            Response::Value { value: None } => put(&mut body, &[0x82, 0xFF, 0xFF]),
+            Response::Value { value: Some(value) } => {
+                put(&mut body, &[0x82]);
+                put_value(&mut body, value.as_slice());
+            }
+            Response::Done { done } => put(&mut body, &[0x83, u8::from(*done)]),
+            Response::Unfit { window } => put(&mut body, &[0x84, window_number(*window)]),
+            Response::Refused { number, place } => {
+                put(&mut body, &[0x85, *number]);
+                put(&mut body, &place.to_be_bytes());
+            }
+            Response::Item { key, value } => {
+                let bytes = key.as_slice();
+                put(&mut body, &[0x86, bytes.len() as u8]);
+                put(&mut body, bytes);
+                put_value(&mut body, value.as_slice());
+            }
+            Response::End {
+                scanned,
+                given,
+                unfit,
+            } => {
+                put(&mut body, &[0x87]);
+                put(&mut body, &scanned.to_be_bytes());
+                put(&mut body, &given.to_be_bytes());
+                put(&mut body, &unfit.to_be_bytes());
+            }
+        }
+        body
+    }
+
+    /// The response's frame. Takes no memory.
+    pub fn frame(&self) -> ArrayVec<u8, FRAME_BYTES>
+        ensures { result.items ≡ response_frame self.now }
+    {
+        let body = self.body();
+        let mut frame = ArrayVec::new();
+        put(&mut frame, &(body.len() as u32).to_be_bytes());
+        put(&mut frame, body.as_slice());
+        frame
+    }
+}

@@ -1,0 +1,350 @@
+//! Each fault of a frame and of each field of each request, and which of two is told.
+use super::{HELLO, joined, read};
+use crate::ProtocolFault::{
+    self, BadField, BadLength, TrailingBytes, UnknownRequest, WrongVersion,
+};
+use std::alloc::Global;
+use std::process::Abort;
+use std::test::*;
+
+const KEY: &[u8] = &[0x6B; 65];
+
+const VALUE: &[u8] = &[0x76; 257];
+
+/// Name, the frame in parts, and its fault.
+type Row<'a> = (&'a str, &'a [&'a [u8]], ProtocolFault);
+
+// behind this beginning, which asks so much, the frame has this fault, however it is cut
+fn fails(
+    alloc: Global,
+    beginning: &[u8],
+    asked: usize,
+    frame: &[&[u8]],
+    fault: ProtocolFault,
+) -> Result<bool, Fail> {
+    let frame = joined(alloc, frame)?;
+    let bytes = joined(alloc, &[beginning, frame.as_slice()])?;
+    for size in [bytes.len().max(1), 5, 1] {
+        let reading = read(alloc, bytes.as_slice(), size)?;
+        if reading.requests.len() != asked || reading.fault != Some(fault) || reading.is_inside {
+            return Ok(false);
+        }
+    }
+    Ok(true)
+}
+
+fn check(rt: &impl Abort, alloc: Global, rows: &[Row]) -> Result<(), Fail> {
+    for (name, frame, fault) in rows {
+        assert!(rt; fails(alloc, HELLO, 1, frame, *fault)?, "{name}");
+    }
+    Ok(())
+}
+
+fn check_first(rt: &impl Abort, alloc: Global, rows: &[Row]) -> Result<(), Fail> {
+    for (name, frame, fault) in rows {
+        assert!(rt; fails(alloc, b"", 0, frame, *fault)?, "{name}");
+    }
+    Ok(())
+}
+
+#[test]
+fn numbers_are_60_to_64(rt: HostRuntime) {
+    for (fault, number) in [
+        (BadLength, 60),
+        (UnknownRequest, 61),
+        (BadField, 62),
+        (TrailingBytes, 63),
+        (WrongVersion, 64),
+    ] {
+        assert_eq!(rt; fault.number(), number);
+    }
+}
+
+#[test]
+fn frames_that_are_refused(rt: HostRuntime) -> Result<(), Fail> {
+    let rows: [Row; 12] = [
+        ("a length of 0", &[b"\0\0\0\0"], BadLength),
+        ("a length of 8,193", &[b"\0\0\x20\x01"], BadLength),
+        ("the greatest length", &[b"\xFF\xFF\xFF\xFF"], BadLength),
+        ("tag 02", &[b"\0\0\0\x01\x02"], UnknownRequest),
+        ("tag 0f", &[b"\0\0\0\x01\x0F"], UnknownRequest),
+        ("tag 1b", &[b"\0\0\0\x01\x1B"], UnknownRequest),
+        ("tag 1f", &[b"\0\0\0\x01\x1F"], UnknownRequest),
+        ("tag 24", &[b"\0\0\0\x01\x24"], UnknownRequest),
+        ("tag 7f", &[b"\0\0\0\x01\x7F"], UnknownRequest),
+        ("tag ff", &[b"\0\0\0\x01\xFF"], UnknownRequest),
+        ("a second Hello", &[HELLO], WrongVersion),
+        ("a Hello of version 2", &[b"\0\0\0\x02\0\x02"], WrongVersion),
+    ];
+    check(&rt, rt.alloc(), &rows)
+}
+
+#[test]
+fn first_frames_that_are_refused(rt: HostRuntime) -> Result<(), Fail> {
+    let rows: [Row; 9] = [
+        ("a length of 8,193", &[b"\0\0\x20\x01"], BadLength),
+        ("tag 7f", &[b"\0\0\0\x01\x7F"], UnknownRequest),
+        ("a Hello without a version", &[b"\0\0\0\x01\0"], BadField),
+        ("a Get whose key is cut", &[b"\0\0\0\x02\x10\x41"], BadField),
+        (
+            "a Put of 257 bytes",
+            &[b"\0\0\x01\x05\x11\0\x01\x01", VALUE],
+            BadField,
+        ),
+        (
+            "a Hello with two versions",
+            &[b"\0\0\0\x03\0\x02\x01"],
+            TrailingBytes,
+        ),
+        ("a Count with a byte", &[b"\0\0\0\x02\x23\0"], TrailingBytes),
+        ("a Hello of version 0", &[b"\0\0\0\x02\0\0"], WrongVersion),
+        ("a Count", &[b"\0\0\0\x01\x23"], WrongVersion),
+    ];
+    check_first(&rt, rt.alloc(), &rows)
+}
+
+#[test]
+fn keys_that_are_refused(rt: HostRuntime) -> Result<(), Fail> {
+    let rows: [Row; 8] = [
+        ("Get without a key", &[b"\0\0\0\x01\x10"], BadField),
+        ("Get with a key cut", &[b"\0\0\0\x03\x10\x02k"], BadField),
+        (
+            "Get with a key of 65",
+            &[b"\0\0\0\x43\x10\x41", KEY],
+            BadField,
+        ),
+        (
+            "Get with a byte more",
+            &[b"\0\0\0\x04\x10\x01kk"],
+            TrailingBytes,
+        ),
+        ("Remove with a key cut", &[b"\0\0\0\x03\x13\x02k"], BadField),
+        (
+            "Remove with a byte more",
+            &[b"\0\0\0\x04\x13\x01kk"],
+            TrailingBytes,
+        ),
+        (
+            "Put with a key of 65",
+            &[b"\0\0\0\x45\x11\x41", KEY, b"\0\0"],
+            BadField,
+        ),
+        (
+            "Compute with a key of 65",
+            &[b"\0\0\0\x4D\x17\x41", KEY, b"\0\0\0\0\0\0\0\0\xFF\xFF"],
+            BadField,
+        ),
+    ];
+    check(&rt, rt.alloc(), &rows)
+}
+
+#[test]
+fn values_that_are_refused(rt: HostRuntime) -> Result<(), Fail> {
+    let rows: [Row; 12] = [
+        ("Put without a value", &[b"\0\0\0\x03\x11\x01k"], BadField),
+        (
+            "Put with half a length",
+            &[b"\0\0\0\x04\x11\x01k\0"],
+            BadField,
+        ),
+        (
+            "Put with a value cut",
+            &[b"\0\0\0\x06\x11\x01k\0\x02v"],
+            BadField,
+        ),
+        (
+            "Put with no value",
+            &[b"\0\0\0\x05\x11\x01k\xFF\xFF"],
+            BadField,
+        ),
+        (
+            "Put of 257 bytes",
+            &[b"\0\0\x01\x06\x11\x01k\x01\x01", VALUE],
+            BadField,
+        ),
+        (
+            "Put with a byte more",
+            &[b"\0\0\0\x07\x11\x01k\0\x01vv"],
+            TrailingBytes,
+        ),
+        (
+            "PutIfAbsent with no value",
+            &[b"\0\0\0\x05\x12\x01k\xFF\xFF"],
+            BadField,
+        ),
+        (
+            "RemoveIf with no value",
+            &[b"\0\0\0\x05\x14\x01k\xFF\xFF"],
+            BadField,
+        ),
+        (
+            "Replace with no value",
+            &[b"\0\0\0\x05\x15\x01k\xFF\xFF"],
+            BadField,
+        ),
+        (
+            "ReplaceIf with one value",
+            &[b"\0\0\0\x05\x16\x01k\0\0"],
+            BadField,
+        ),
+        (
+            "ReplaceIf with no second value",
+            &[b"\0\0\0\x07\x16\x01k\0\0\xFF\xFF"],
+            BadField,
+        ),
+        (
+            "ReplaceIf with a byte more",
+            &[b"\0\0\0\x08\x16\x01k\0\0\0\0\0"],
+            TrailingBytes,
+        ),
+    ];
+    check(&rt, rt.alloc(), &rows)
+}
+
+#[test]
+fn programs_and_arguments_that_are_refused(rt: HostRuntime) -> Result<(), Fail> {
+    let rows: [Row; 11] = [
+        (
+            "Compute with 7 bytes of a program",
+            &[b"\0\0\0\x0A\x17\x01k\0\0\0\0\0\0\0"],
+            BadField,
+        ),
+        (
+            "Compute without an argument",
+            &[b"\0\0\0\x0B\x17\x01k\0\0\0\0\0\0\0\0"],
+            BadField,
+        ),
+        (
+            "Compute with half a length",
+            &[b"\0\0\0\x0C\x17\x01k\0\0\0\0\0\0\0\0\xFF"],
+            BadField,
+        ),
+        (
+            "Compute with an argument of 257 bytes",
+            &[b"\0\0\x01\x0E\x17\x01k\0\0\0\0\0\0\0\0\x01\x01", VALUE],
+            BadField,
+        ),
+        (
+            "Compute with a length of 65,534",
+            &[b"\0\0\x01\x0E\x17\x01k\0\0\0\0\0\0\0\0\xFF\xFE", VALUE],
+            BadField,
+        ),
+        (
+            "Compute with a byte more",
+            &[b"\0\0\0\x0E\x17\x01k\0\0\0\0\0\0\0\0\xFF\xFF\0"],
+            TrailingBytes,
+        ),
+        (
+            "ComputeIfAbsent with a byte more",
+            &[b"\0\0\0\x0E\x18\x01k\0\0\0\0\0\0\0\0\xFF\xFF\0"],
+            TrailingBytes,
+        ),
+        (
+            "ComputeIfPresent without an argument",
+            &[b"\0\0\0\x0B\x19\x01k\0\0\0\0\0\0\0\0"],
+            BadField,
+        ),
+        (
+            "Merge with no value",
+            &[b"\0\0\0\x0D\x1A\x01k\xFF\xFF\0\0\0\0\0\0\0\0"],
+            BadField,
+        ),
+        (
+            "Merge with 7 bytes of a program",
+            &[b"\0\0\0\x0C\x1A\x01k\0\0\0\0\0\0\0\0\0"],
+            BadField,
+        ),
+        (
+            "Merge with a byte more",
+            &[b"\0\0\0\x0E\x1A\x01k\0\0\0\0\0\0\0\0\0\0\0"],
+            TrailingBytes,
+        ),
+    ];
+    check(&rt, rt.alloc(), &rows)
+}
+
+#[test]
+fn walks_and_registers_that_are_refused(rt: HostRuntime) -> Result<(), Fail> {
+    let rows: [Row; 11] = [
+        (
+            "Search with 7 bytes of a program",
+            &[b"\0\0\0\x08\x20\0\0\0\0\0\0\0"],
+            BadField,
+        ),
+        (
+            "Search with an argument cut",
+            &[b"\0\0\0\x0C\x20\0\0\0\0\0\0\0\0\0\x02v"],
+            BadField,
+        ),
+        (
+            "Search with 7 bytes of a threshold",
+            &[b"\0\0\0\x12\x20\0\0\0\0\0\0\0\0\xFF\xFF\0\0\0\0\0\0\0"],
+            BadField,
+        ),
+        (
+            "Search with a byte more",
+            &[b"\0\0\0\x14\x20\0\0\0\0\0\0\0\0\xFF\xFF\0\0\0\0\0\0\0\0\0"],
+            TrailingBytes,
+        ),
+        (
+            "ForEach without a threshold",
+            &[b"\0\0\0\x0B\x21\0\0\0\0\0\0\0\0\xFF\xFF"],
+            BadField,
+        ),
+        (
+            "ForEach with a byte more",
+            &[b"\0\0\0\x14\x21\0\0\0\0\0\0\0\0\xFF\xFF\0\0\0\0\0\0\0\0\0"],
+            TrailingBytes,
+        ),
+        (
+            "ReplaceAll without an argument",
+            &[b"\0\0\0\x09\x22\0\0\0\0\0\0\0\0"],
+            BadField,
+        ),
+        (
+            "ReplaceAll with a byte more",
+            &[b"\0\0\0\x0C\x22\0\0\0\0\0\0\0\0\xFF\xFF\0"],
+            TrailingBytes,
+        ),
+        ("Count with a byte", &[b"\0\0\0\x02\x23\0"], TrailingBytes),
+        ("Register without sizes", &[b"\0\0\0\x01\x01"], BadField),
+        (
+            "Register with 7 bytes of sizes",
+            &[b"\0\0\0\x08\x01\0\0\0\0\0\0\0"],
+            BadField,
+        ),
+    ];
+    check(&rt, rt.alloc(), &rows)
+}
+
+#[test]
+fn of_two_faults_the_least_is_told(rt: HostRuntime) -> Result<(), Fail> {
+    let rows: [Row; 5] = [
+        (
+            "an unknown tag with bytes behind it",
+            &[b"\0\0\0\x03\x7F\x41\x41"],
+            UnknownRequest,
+        ),
+        (
+            "a value cut, with a key of 65",
+            &[b"\0\0\0\x45\x11\x41", KEY, b"\0\x02"],
+            BadField,
+        ),
+        (
+            "a second Hello without its version",
+            &[b"\0\0\0\x01\0"],
+            BadField,
+        ),
+        (
+            "a second Hello with a byte more",
+            &[b"\0\0\0\x03\0\x01\x01"],
+            TrailingBytes,
+        ),
+        (
+            "a second Hello, of version 2",
+            &[b"\0\0\0\x02\0\x02"],
+            WrongVersion,
+        ),
+    ];
+    check(&rt, rt.alloc(), &rows)
+}

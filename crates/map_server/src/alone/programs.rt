@@ -1,0 +1,51 @@
+//! The programs that one client registered.
+ghost use Rattle.std.specs.Prelude.{◌≡◌, ◌++◌, [], ◌∷◌, length, slice_get, option_copied, IfOk, OnOk, OnErr};
+
+use bpf_model::NoMemory;
+use std::alloc::Global;
+use std::marker::Model;
+use verifier::Verified;
+
+/// Programs under numbers: the first has 0, the next 1.
+#[derive(Drop)]
+pub struct Programs {
+    list: Vec<Verified>,
+}
+
+impl Model for Programs {
+    ghost use Rattle.std.specs.Prelude.{List};
+    ghost use Rattle.verifier.specs.Checked.{Checked};
+
+    ghost Value = { List Checked };
+
+    ghost view = { λ programs. programs.list.items };
+}
+
+impl Programs {
+    /// No programs. Takes no memory.
+    pub fn new(alloc: Global) -> Programs
+        ensures value { result ≡ [] }
+    {
+        Programs {
+            list: Vec::new(alloc),
+        }
+    }
+
+    /// Keeps the program under the next number, which is answered. `NoMemory` where the room for it was refused.
+    pub fn add(&mut self, program: Verified) -> Result<u64, NoMemory>
+        ensures number { IfOk result (λ number. number ≡ length self.old) }
+        ensures ok { OnOk result (self.new ≡ self.old ++ program ∷ []) }
+        ensures err { OnErr result (self.new ≡ self.old) }
+    {
+        let number = self.list.len() as u64;
+        self.list.push(program)?;
+        Ok(number)
+    }
+
+    /// The program under this number, if there is one. Takes no memory.
+    pub fn get(&self, number: u64) -> Option<&Verified>
+        ensures value { option_copied result ≡ slice_get self.now number }
+    {
+        self.list.get(number as usize)
+    }
+}
