@@ -1,0 +1,9 @@
+pub mod Working
+pub mod TurnLemmas
+pub mod Sums
+pub mod TeamLemmas
+pub mod FindingLemmas
+pub mod Order
+pub mod FoundLemmas
+pub mod RunLemmas
+pub mod ReplaceLemmas

@@ -1,0 +1,105 @@
+-- What each worker of a walk answers.
+use Rattle.std.specs.Prelude.{◌≡◌, ◌<◌, ◌≤◌, ◌^◌, ◌+◌, ◌%◌, ◌==◌, if◌then◌else◌, ℕ, zero, suc, Bool, List, Option, Result, Ok, Err, IfOk, length, map, sum_by, slice_index_or}
+use Rattle.std.specs.Ordering.{is_lt}
+use Rattle.std.proofs.Common.{Vec, Global}
+use Rattle.stripe_rule.specs.declared.view.View.{View}
+use Rattle.verifier.specs.Checked.{Checked}
+use Rattle.bpf_model.specs.declared.memory.NoMemory.{NoMemory}
+use Rattle.bins.specs.declared.counts.Counts.{Counts}
+use Rattle.bins.specs.Table.{Entry, by_bytes}
+use Rattle.bin_stripes.specs.declared.deed.Deed.{Deed}
+use Rattle.bin_stripes.specs.Invoked.{AreOf}
+use Rattle.bin_stripes.specs.Passes.{PassState}
+use Rattle.walk_replies.specs.declared.row.Row.{Row}
+use Rattle.walk_replies.specs.Rows.{entry_of}
+use Rattle.bulk_walks.specs.Walks.{IsTurn, Walked, AllWalked, Each, IsScan, MayScan, IsReplaced, IsInOrder}
+
+-- f of each stripe below n whose turn is this worker's, added up
+abbrev pub turn_sum : ℕ → ℕ → (ℕ → ℕ) → ℕ → ℕ
+turn_sum workers worker f zero = 0
+turn_sum workers worker f (suc n) = turn_sum workers worker f n + (if n % workers == worker then f n else 0)
+
+-- what a worker's answer counts
+abbrev pub counted : Result ℕ NoMemory → ℕ
+counted (Ok n) = n
+counted (Err e) = 0
+
+-- what a worker answers that counted the entries of its stripes
+pub record CountsTurns (n workers worker : ℕ) (v w : View Deed) (r : Result ℕ NoMemory) : Type 0 where
+  pub done : IfOk r (λ count. (scans : ℕ → List Entry) × (Walked n workers worker (Each IsScan scans) v w × (count ≡ turn_sum workers worker (λ k. length (scans k)) n)))
+  pub part : Walked n workers worker MayScan v w
+  pub few : IfOk r (λ count. count ≤ turn_sum workers worker (λ _. 2 ^ 55) n)
+
+-- and what each worker answers
+pub record EachCounts (n : ℕ) (before : List PassState) (rs : List (Result ℕ NoMemory)) (after : List PassState) : Type 0 where
+  pub answers : length rs ≡ length before
+  pub left : length after ≡ length before
+  pub each : (i : ℕ) (d : PassState) (e : Result ℕ NoMemory) → i < length before → CountsTurns n (length before) i (slice_index_or before i d).view (slice_index_or after i d).view (slice_index_or rs i e)
+
+-- what a worker found on the first n of all stripes
+pub record Finds (all n workers worker : ℕ) (v w : View Deed) (found : List Entry) : Type 0 where
+  pub scans : ℕ → List Entry
+  pub walked : Walked n workers worker (Each IsScan scans) v w
+  pub stripes : (k : ℕ) → IsTurn n workers worker k → AreOf all k (scans k)
+  pub sum : (weight : Entry → ℕ) → sum_by weight found ≡ turn_sum workers worker (λ k. sum_by weight (scans k)) n
+
+-- what a worker's answer weighs
+abbrev pub found_sum : (Entry → ℕ) → Result (Vec Entry Global) NoMemory → ℕ
+found_sum weight (Ok found) = sum_by weight found.items
+found_sum weight (Err e) = 0
+
+-- what each worker found
+pub record EachFinds (n : ℕ) (before : List PassState) (rs : List (Result (Vec Entry Global) NoMemory)) (after : List PassState) : Type 0 where
+  pub answers : length rs ≡ length before
+  pub left : length after ≡ length before
+  pub done : (i : ℕ) (d : PassState) (e : Result (Vec Entry Global) NoMemory) → i < length before → IfOk (slice_index_or rs i e) (λ found. Finds n n (length before) i (slice_index_or before i d).view (slice_index_or after i d).view found.items)
+  pub part : (i : ℕ) (d : PassState) → i < length before → Walked n (length before) i MayScan (slice_index_or before i d).view (slice_index_or after i d).view
+
+-- all stripes were scanned, and these are the entries of all scans in key order
+pub record FindsAll (n : ℕ) (before after : List PassState) (entries : List Entry) : Type 0 where
+  pub scans : ℕ → List Entry
+  pub walked : AllWalked n (Each IsScan scans) before after
+  pub in_order : IsInOrder n scans entries
+
+abbrev pub entries_of : List Row → List Entry
+entries_of rows = map entry_of rows
+
+-- by their keys
+abbrev pub comes_before : Row → Row → Bool
+comes_before x y = is_lt (by_bytes x.key y.key)
+
+-- what a worker did that replaced the values of the first n of all stripes, and counted
+pub record ReplacesTurns (all : ℕ) (checked : Checked) (arg : Option (List ℕ)) (n workers worker : ℕ) (v w : View Deed)
+    (total : Counts) : Type 0 where
+  pub counts : ℕ → Counts
+  pub walked : Walked n workers worker (Each (IsReplaced all checked arg) counts) v w
+  pub scanned : total.scanned ≡ turn_sum workers worker (λ k. (counts k).scanned) n
+  pub given : total.given ≡ turn_sum workers worker (λ k. (counts k).given) n
+  pub unfit : total.unfit ≡ turn_sum workers worker (λ k. (counts k).unfit) n
+  pub few_scanned : total.scanned ≤ turn_sum workers worker (λ _. 2 ^ 57) n
+  pub few_given : total.given ≤ turn_sum workers worker (λ _. 2 ^ 57) n
+  pub few_unfit : total.unfit ≤ turn_sum workers worker (λ _. 2 ^ 57) n
+
+-- and what each worker did
+pub record EachReplaces (n : ℕ) (checked : Checked) (arg : Option (List ℕ)) (before : List PassState) (rs : List Counts) (after : List PassState) : Type 0 where
+  pub answers : length rs ≡ length before
+  pub left : length after ≡ length before
+  pub each : (i : ℕ) (d : PassState) (e : Counts) → i < length before → ReplacesTurns n checked arg n (length before) i (slice_index_or before i d).view (slice_index_or after i d).view (slice_index_or rs i e)
+
+-- the sums fit their type
+pub record HasRoom (x y : Counts) : Type 0 where
+  pub scanned : x.scanned + y.scanned < 2 ^ 64
+  pub given : x.given + y.given < 2 ^ 64
+  pub unfit : x.unfit + y.unfit < 2 ^ 64
+
+-- one number of each kind is the sum of two
+pub record IsSum (total x y : Counts) : Type 0 where
+  pub scanned : total.scanned ≡ x.scanned + y.scanned
+  pub given : total.given ≡ x.given + y.given
+  pub unfit : total.unfit ≡ x.unfit + y.unfit
+
+-- one number of each kind is the sum of all
+pub record AreSums (all : List Counts) (total : Counts) : Type 0 where
+  pub scanned : total.scanned ≡ sum_by (λ c. c.scanned) all
+  pub given : total.given ≡ sum_by (λ c. c.given) all
+  pub unfit : total.unfit ≡ sum_by (λ c. c.unfit) all

@@ -1,0 +1,24 @@
+//! Walks over a striped map by a team of workers.
+//!
+//! The promise to the layer above: a walk is a function of one scan of each stripe, which the worker whose turn the stripe is
+//! made; the same scans give the same reply however many workers there are (`IsWalk`, `CountsAll`, `ReplacesAll` of
+//! `specs/Walks.antt`). After `NoMemory` each stripe has all its events of the walk or none. The team comes back with its
+//! passes in their order. Each walk waits until each stripe is free in its turn, and takes memory for what it gives.
+#![tactic(auto)]
+
+mod count;
+mod finding;
+mod replace;
+mod rows;
+mod team;
+mod walks;
+mod workers;
+
+pub use count::mapping_count;
+pub use replace::replace_all;
+pub use team::{EmptyTeam, Team};
+pub use walk_replies::WalkReply;
+pub use walks::{for_each, search};
+
+#[cfg(test)]
+mod tests;
