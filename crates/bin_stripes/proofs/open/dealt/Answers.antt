@@ -1,4 +1,4 @@
-use Rattle.std.proofs.Common.{◌≡◌, ℕ, suc, ◌+◌, ◌-◌, ◌<◌, List, [], ◌∷◌, ◌++◌, refl, sym, ap, ◌∙◌, subst, arith, map}
+use Rattle.std.proofs.Common.{rules, ◌≡◌, ℕ, suc, ◌+◌, ◌-◌, ◌<◌, List, [], ◌∷◌, ◌++◌, refl, sym, ap, ◌∙◌, subst, arith, map}
 use Rattle.atomic_table.specs.Table.{Splits}
 use Rattle.stripe_rule.specs.declared.view.View.{View}
 use Rattle.stripe_rule.specs.Rule.{Kept, newcomer, from_on}
@@ -12,7 +12,8 @@ use Rattle.bin_stripes.proofs.OpenedLemmas.{dealt_more, pass_is}
 use Rattle.bin_stripes.proofs.open.dealt.Goals as goal
 
 pub loop-number-init : goal.loop-number-init
-loop-number-init g c = (c.requires.table.1, c.requires.first, refl)
+loop-number-init g c = let p = c.args.passes in let all : p ≡ p - 0 = omega arith in
+    (c.requires.table.1, c.requires.first ∙ ap (λ k. (newcomer c.args.table.now.table_id.slots p (from_on 0 k), [])) all, search rules)
 
 pub split_seat-next-requires : goal.split_seat-next-requires
 split_seat-next-requires g c = let table = c.args.table.now in let i = c.loop-number.number in let p = c.args.passes in let inv = c.loop-number.invariant in let v = c.loop-number.rest.me.0 in
@@ -40,11 +41,6 @@ loop-number-preserved g c = let table = c.args.table.now in let i = c.loop-numbe
       c.in_ok-push.ensures.items ∙ dealt_more table.table_id p i c.loop-number.all.items c.dealt_pass.result inv.2
           (c.dealt_pass.ensures.pass ∙ pass_is table.table_id p i _ _ id (ap (λ m. m.0) me)),
     )
-
-pub dealt_pass-2-requires : goal.dealt_pass-2-requires
-dealt_pass-2-requires g c = let table = c.args.table.now in let i = c.loop-number.number in let p = c.args.passes in let inv = c.loop-number.invariant in
-    let one : p - i ≡ suc 0 = (let t = c.loop-number-test.false in let q = c.requires.passes.1.0 in let e = c.loop-number.auto.number-end in omega arith) in
-    record { new = (p, (i, inv.1 ∙ (ap (λ k. (newcomer table.table_id.slots p (from_on i k), [])) one ∙ ap (λ z. (newcomer z.slots p (i ∷ []), [])) (sym inv.0)))) }
 
 pub returns : goal.returns
 returns g c = let table = c.args.table.now in let i = c.loop-number.number in let p = c.args.passes in let inv = c.loop-number.invariant in

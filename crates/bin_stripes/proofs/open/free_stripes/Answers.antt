@@ -5,7 +5,8 @@ use Rattle.bin_stripes.proofs.OpenedLemmas.{zeros_more}
 use Rattle.bin_stripes.proofs.open.free_stripes.Goals as goal
 
 pub loop-init : goal.loop-init
-loop-init g c = (search rules, search rules, subst (λ xs. All (IsEmptyBins g.B.Bins.table) xs) (search rules) (All-nil (IsEmptyBins g.B.Bins.table)))
+loop-init g c = let none : c.new-slots.result.items ≡ [] = search rules in
+    (search rules, search rules, subst (λ xs. All (IsEmptyBins g.B.Bins.table) xs) (sym none) (All-nil (IsEmptyBins g.B.Bins.table)))
 
 pub loop-preserved : goal.loop-preserved
 loop-preserved g c = let inv = c.loop.invariant in let P = IsEmptyBins g.B.Bins.table in (
