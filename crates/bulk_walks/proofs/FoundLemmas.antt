@@ -63,16 +63,16 @@ near_of rows sorted k d low =
     let a = get_or-map entry_of rows (suc k) row d (omega (arith, len)) in
     let b = get_or-map entry_of rows k row d (omega (arith, len)) in
     let h : comes_before (get_or rows (suc k) row) (get_or rows k row) ≡ false =
-        subst (λ m. comes_before (get_or rows m row) (get_or rows k row) ≡ false) (add-one k) (sorted k row (omega arith) (omega (arith, len))) in
+    subst (λ m. comes_before (get_or rows m row) (get_or rows k row) ≡ false) (add-one k) (sorted k row (omega arith) (omega (arith, len))) in
     subst (λ (x : Entry). is_lt (by_bytes x.0 (get_or (entries_of rows) k d).0) ≡ false) (sym a)
-        (subst (λ (y : Entry). is_lt (by_bytes (get_or rows (suc k) row).key y.0) ≡ false) (sym b) h)
+    (subst (λ (y : Entry). is_lt (by_bytes (get_or rows (suc k) row).key y.0) ≡ false) (sym b) h)
 
 -- the sorted rows
 pub finds_all : (n : ℕ) (before after : List PassState) (rs : List (Result (Vec Entry Global) NoMemory)) (rows sorted : List Row) → All_of n before after rs → ((h : Entry → ℕ) → sum_by h (entries_of rows) ≡ sum_by (found_sum h) rs) → IsPermutation rows sorted → IsSortedBy comes_before sorted
     → FindsAll n before after (entries_of sorted)
 finds_all n before after rs rows sorted f sum moved order =
     let all : (h : Entry → ℕ) → sum_by h (entries_of sorted) ≡ sum_below n (λ k. sum_by h (f.scans k)) =
-        λ h. sum_by-IsPermutation h (entries_of rows) (entries_of sorted) (IsPermutation-map entry_of rows sorted moved) ∙ sum h ∙ f.sum h in
+    λ h. sum_by-IsPermutation h (entries_of rows) (entries_of sorted) (IsPermutation-map entry_of rows sorted moved) ∙ sum h ∙ f.sum h in
     record {
       scans = f.scans;
       walked = f.walked;

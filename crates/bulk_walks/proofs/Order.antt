@@ -60,11 +60,11 @@ rises (e ∷ []) near once = tt
 rises (e ∷ f ∷ es) near once =
     let rest : T (is_sorted by_bytes (f ∷ es)) = rises (f ∷ es) (λ k d low. near (suc k) d (omega arith)) (λ key. let c = sum_by-cons (at_key key) e (f ∷ es) in let o = once key in omega (arith, c, o)) in
     let less : by_bytes e.0 f.0 ≡ Less =
-        elim (by_bytes e.0 f.0) as (λ r. by_bytes e.0 f.0 ≡ r → r ≡ Less) [
-          | Less ↦ λ p. refl
-          | Equal ↦ λ p. absurd (twice e f es p (once e.0))
-          | Greater ↦ λ p. absurd (false≢true (sym (near 0 e (omega arith)) ∙ ap is_lt (nat_list_cmp_total.antisymm f.0 e.0 ∙ ap ordering_reverse p)))
-        ] refl in
+    elim (by_bytes e.0 f.0) as (λ r. by_bytes e.0 f.0 ≡ r → r ≡ Less) [
+      | Less ↦ λ p. refl
+      | Equal ↦ λ p. absurd (twice e f es p (once e.0))
+      | Greater ↦ λ p. absurd (false≢true (sym (near 0 e (omega arith)) ∙ ap is_lt (nat_list_cmp_total.antisymm f.0 e.0 ∙ ap ordering_reverse p)))
+    ] refl in
     both _ _ (both _ _ (subst (λ r. T (is_lt r)) (sym less) tt) (below_less e.0 f.0 es less (first _ _ rest))) rest
 
 sum_below-none : (n : ℕ) (f : ℕ → ℕ) → ((k : ℕ) → k < n → f k ≡ 0) → sum_below n f ≡ 0
@@ -85,11 +85,11 @@ elsewhere n k key [] of ne = refl
 elsewhere n k key (e ∷ es) of ne =
     let rest = elsewhere n k key es (All-tail (λ (x : Entry). stripe_of n x.0 ≡ k) e es of) ne in
     let here : at_key key e ≡ 0 =
-        elim (by_bytes key e.0) as (λ r. by_bytes key e.0 ≡ r → one_if r ≡ 0) [
-          | Less ↦ λ p. refl
-          | Equal ↦ λ p. absurd (ne (sym (All-head (λ (x : Entry). stripe_of n x.0 ≡ k) e es of) ∙ ap (λ (b : List ℕ). stripe_of n b) (sym (slice_cmp-IsAntisymmetric nat_cmp-IsAntisymmetric key e.0 p))))
-          | Greater ↦ λ p. refl
-        ] refl in
+    elim (by_bytes key e.0) as (λ r. by_bytes key e.0 ≡ r → one_if r ≡ 0) [
+      | Less ↦ λ p. refl
+      | Equal ↦ λ p. absurd (ne (sym (All-head (λ (x : Entry). stripe_of n x.0 ≡ k) e es of) ∙ ap (λ (b : List ℕ). stripe_of n b) (sym (slice_cmp-IsAntisymmetric nat_cmp-IsAntisymmetric key e.0 p))))
+      | Greater ↦ λ p. refl
+    ] refl in
     let c = sum_by-cons (at_key key) e es in
     omega (arith, rest, here, c)
 

@@ -12,4 +12,4 @@ use Rattle.bin_stripes.specs.Passes.{PassState}
 pub serve_all : (stripes passes : ℕ) (id : TableId) (all : List PassState) → IsOpened stripes passes id all → All (λ pass. pass.map ≡ id) all
 serve_all stripes passes id all opened =
     subst (λ (ps : List PassState). All (λ pass. pass.map ≡ id) ps) (sym opened.passes_are) (λ i d low.
-        ap (λ (p : PassState). p.map) (get_or-map (pass_of id passes) (from_on 0 passes) i 0 d (omega (arith, low, length-map (from_on 0 passes) (pass_of id passes)))))
+    ap (λ (p : PassState). p.map) (get_or-map (pass_of id passes) (from_on 0 passes) i 0 d (omega (arith, low, length-map (from_on 0 passes) (pass_of id passes)))))

@@ -50,7 +50,7 @@ module _ (all : ℕ) (checked : Checked) (arg : Option (List ℕ)) (workers work
   replaces_more n p q before more total r turn same stripes e few sum =
       let counts = with_at r.counts n more in
       let here : IsReplaced all checked arg n more v (seen_of p.view n ++ e.makes.here.between) (own_events p.view e.actions) =
-          record { actions = e.actions; events = own_again p.view v e.actions r.walked.numbers; table = e.table; left = subst (λ (m : ℕ). Leaves m n (seen_of p.view n ++ e.makes.here.between) e.table) stripes e.found; are = e.are } in
+      record { actions = e.actions; events = own_again p.view v e.actions r.walked.numbers; table = e.table; left = subst (λ (m : ℕ). Leaves m n (seen_of p.view n ++ e.makes.here.between) e.table) stripes e.found; are = e.are } in
       let bound = at_most_scanned e.are in
       let s = turn_sum-more workers worker (λ (c : Counts). c.scanned) r.counts n more turn in
       let g = turn_sum-more workers worker (λ (c : Counts). c.given) r.counts n more turn in
@@ -95,7 +95,7 @@ module _ (n : ℕ) (checked : Checked) (arg : Option (List ℕ)) (before : List 
   pub replaces_fit : (kind : Counts → ℕ) → n ≤ 64 → ((j : ℕ) → j < length before → kind (get_or rs j none_counted) ≤ turn_sum (length before) j (λ _. 2 ^ 57) n) → sum_by kind rs < 2 ^ 64
   replaces_fit kind most few =
       let below : (k : ℕ) → k < length rs → kind (get_or rs k none_counted) ≤ turn_sum (length rs) k (λ _. 2 ^ 57) n =
-          λ k low. subst (λ m. kind (get_or rs k none_counted) ≤ turn_sum m k (λ _. 2 ^ 57) n) (sym did.answers) (few k (omega (arith, did.answers))) in
+      λ k low. subst (λ m. kind (get_or rs k none_counted) ≤ turn_sum m k (λ _. 2 ^ 57) n) (sym did.answers) (few k (omega (arith, did.answers))) in
       let total = bound_of_turns kind rs (λ _. 2 ^ 57) n none_counted (omega (arith, did.answers)) below in
       let top = sum_below-const n (2 ^ 57) in
       omega arith
@@ -127,10 +127,10 @@ module _ (n : ℕ) (checked : Checked) (arg : Option (List ℕ)) (before : List 
       let all = together none_counted (length before) G of in
       let counts = all.0 in
       let sums : (kind : Counts → ℕ) → ((j : ℕ) (own : ℕ → Counts) → G j own → kind (get_or rs j none_counted) ≡ turn_sum (length before) j (λ k. kind (own k)) n) → sum_by kind rs ≡ sum_below n (λ k. kind (counts k)) =
-          λ kind is. sums_of_turns kind rs (λ k. kind (counts k)) n none_counted (omega (arith, did.answers)) (λ j low.
-              let had = all.1 j (omega (arith, did.answers)) in
-              let same = turn_sum-same (length before) j (λ k. kind (had.0 k)) (λ k. kind (counts k)) n (λ k t. ap kind (had.1.1 k t.1)) in
-              subst (λ m. kind (get_or rs j none_counted) ≡ turn_sum m j (λ k. kind (counts k)) n) (sym did.answers) (is j had.0 had.1.0 ∙ same)) in
+      λ kind is. sums_of_turns kind rs (λ k. kind (counts k)) n none_counted (omega (arith, did.answers)) (λ j low.
+      let had = all.1 j (omega (arith, did.answers)) in
+      let same = turn_sum-same (length before) j (λ k. kind (had.0 k)) (λ k. kind (counts k)) n (λ k t. ap kind (had.1.1 k t.1)) in
+      subst (λ m. kind (get_or rs j none_counted) ≡ turn_sum m j (λ k. kind (counts k)) n) (sym did.answers) (is j had.0 had.1.0 ∙ same)) in
       record {
         counts = counts;
         walked = all_walked (IsReplaced n checked arg) n before after d did.left counts (λ j low. let had = all.1 j low in (had.0, (had.1.0.0, had.1.1)));

@@ -25,10 +25,10 @@ module _ (workers worker : ℕ) where
   turn_sum-same f h (suc n) e =
       let before : turn_sum workers worker f n ≡ turn_sum workers worker h n = turn_sum-same f h n (λ k t. e k (omega arith, t.1)) in
       let here : cond (eqb (n % workers) worker) (f n) 0 ≡ cond (eqb (n % workers) worker) (h n) 0 =
-          elim (cases_eq (n % workers) worker) [
-            | inl t ↦ ap (λ x. cond (eqb (n % workers) worker) x 0) (e n (omega arith, t))
-            | inr miss ↦ let b = ne_eqb (n % workers) worker miss in ap (λ b. cond b (f n) 0) b ∙ sym (ap (λ b. cond b (h n) 0) b)
-          ] in
+      elim (cases_eq (n % workers) worker) [
+        | inl t ↦ ap (λ x. cond (eqb (n % workers) worker) x 0) (e n (omega arith, t))
+        | inr miss ↦ let b = ne_eqb (n % workers) worker miss in ap (λ b. cond b (f n) 0) b ∙ sym (ap (λ b. cond b (h n) 0) b)
+      ] in
       omega (arith, before, here)
 
   pub turn_sum-turn : (f : ℕ → ℕ) (n : ℕ) → n % workers ≡ worker → turn_sum workers worker f (n + 1) ≡ turn_sum workers worker f n + f n

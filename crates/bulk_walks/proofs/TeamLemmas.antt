@@ -53,10 +53,10 @@ module _ {X : Type 0} (Of : ℕ → X → View Deed → Events → Events → Ty
     each = λ j e low.
         let had = of j low in
         let here : Walked n (length before) j (Each Of xs) (slice_index_or before j d).view (slice_index_or after j d).view =
-            walked_as (length before) j (Each Of had.0) (Each Of xs) (slice_index_or before j d).view n (slice_index_or after j d).view had.1.0
-                (λ k found more t made. subst (λ (x : X). Of k x (slice_index_or before j d).view found more) (had.1.1 k t.1) made) in
+        walked_as (length before) j (Each Of had.0) (Each Of xs) (slice_index_or before j d).view n (slice_index_or after j d).view had.1.0
+        (λ k found more t made. subst (λ (x : X). Of k x (slice_index_or before j d).view found more) (had.1.1 k t.1) made) in
         let swap : (x y : PassState) → slice_index_or before j d ≡ x → slice_index_or after j d ≡ y → Walked n (length before) j (Each Of xs) x.view y.view =
-            λ x y p q. subst (λ (y : PassState). Walked n (length before) j (Each Of xs) x.view y.view) q (subst (λ (x : PassState). Walked n (length before) j (Each Of xs) x.view (slice_index_or after j d).view) p here) in
+        λ x y p q. subst (λ (y : PassState). Walked n (length before) j (Each Of xs) x.view y.view) q (subst (λ (x : PassState). Walked n (length before) j (Each Of xs) x.view (slice_index_or after j d).view) p here) in
         swap _ _ (get_or_default before j d e low) (get_or_default after j d e (omega arith));
   }
 
@@ -64,7 +64,7 @@ module _ {X : Type 0} (Of : ℕ → X → View Deed → Events → Events → Ty
 pub counts_fit : (n : ℕ) (before : List PassState) (rs : List (Result ℕ NoMemory)) (after : List PassState) (d : PassState) → n ≤ 64 → 0 < length before → EachCounts n before rs after → sum_by counted rs < 2 ^ 64
 counts_fit n before rs after d most some did =
     let below : (k : ℕ) → k < length rs → counted (get_or rs k (Ok 0)) ≤ turn_sum (length rs) k (λ _. 2 ^ 55) n =
-        λ k low. subst (λ m. counted (get_or rs k (Ok 0)) ≤ turn_sum m k (λ _. 2 ^ 55) n) (sym did.answers) (counted-le (get_or rs k (Ok 0)) _ (did.each k d (Ok 0) (omega arith)).few) in
+    λ k low. subst (λ m. counted (get_or rs k (Ok 0)) ≤ turn_sum m k (λ _. 2 ^ 55) n) (sym did.answers) (counted-le (get_or rs k (Ok 0)) _ (did.each k d (Ok 0) (omega arith)).few) in
     let all = bound_of_turns counted rs (λ _. 2 ^ 55) n (Ok 0) (omega arith) below in
     let top = sum_below-const n (2 ^ 55) in
     omega arith
@@ -76,17 +76,16 @@ counts_all n before rs after d some did ok =
     let r : ℕ → Result ℕ NoMemory = λ j. get_or rs j (Ok 0) in
     let G : ℕ → (ℕ → List Entry) → Type 0 = λ j scans. Turn IsScan n before after d j scans × (counted (r j) ≡ turn_sum (length before) j (λ k. length (scans k)) n) in
     let of : (j : ℕ) → j < length before → (scans : ℕ → List Entry) × G j scans =
-        λ j low.
-            let one = at_ok (r j) _ (ok j (Ok 0) (omega (arith, did.answers))) (did.each j d (Ok 0) low).done in
-            (one.1.1.0, (one.1.1.1.0, ap counted one.1.0 ∙ one.1.1.1.1)) in
+    λ j low.
+    let one = at_ok (r j) _ (ok j (Ok 0) (omega (arith, did.answers))) (did.each j d (Ok 0) low).done in
+    (one.1.1.0, (one.1.1.1.0, ap counted one.1.0 ∙ one.1.1.1.1)) in
     let all = together [] (length before) G of in
     let scans = all.0 in
     let sums : (j : ℕ) → j < length rs → counted (get_or rs j (Ok 0)) ≡ turn_sum (length rs) j (λ k. length (scans k)) n =
-        λ j low.
-            let had = all.1 j (omega (arith, did.answers)) in
-            let same = turn_sum-same (length before) j (λ k. length (had.0 k)) (λ k. length (scans k)) n (λ k t. ap (λ (es : List Entry). length es) (had.1.1 k t.1)) in
-            subst (λ m. counted (get_or rs j (Ok 0)) ≡ turn_sum m j (λ k. length (scans k)) n) (sym did.answers) (had.1.0.1 ∙ same) in
-    (
+    λ j low.
+    let had = all.1 j (omega (arith, did.answers)) in
+    let same = turn_sum-same (length before) j (λ k. length (had.0 k)) (λ k. length (scans k)) n (λ k t. ap (λ (es : List Entry). length es) (had.1.1 k t.1)) in
+    subst (λ m. counted (get_or rs j (Ok 0)) ≡ turn_sum m j (λ k. length (scans k)) n) (sym did.answers) (had.1.0.1 ∙ same) in (
       scans,
       (all_walked IsScan n before after d did.left scans (λ j low. let had = all.1 j low in (had.0, (had.1.0.0, had.1.1))), sums_of_turns counted rs (λ k. length (scans k)) n (Ok 0) (omega (arith, did.answers)) sums),
     )

@@ -54,7 +54,7 @@ module _ (workers worker : ℕ) (Made : ℕ → View Deed → Events → Events 
       | inl e ↦
           let kept = p.others n (λ x. omega arith) in
           subst (λ m. (es : Events) × ((gains : Gains v w m es) × Made m v (seen_of v m ++ gains.between) es)) (sym e)
-              (more, (keeps_gains v u w n more p.numbers kept a.here, subst (λ (seen : Events). Made n v (seen ++ a.here.between) more) kept.seen made))
+          (more, (keeps_gains v u w n more p.numbers kept a.here, subst (λ (seen : Events). Made n v (seen ++ a.here.between) more) kept.seen made))
       | inr ne ↦ let had = p.turns k (omega arith, t.1) in (had.0, (gains_keeps v u w k had.0 had.1.0 (a.elsewhere k ne), had.1.1))
     ];
     others = λ k no.
@@ -110,4 +110,4 @@ pub scanned_more : (workers worker : ℕ) (scans : ℕ → List Entry) (v : View
     → Adds u n (own_events u (scanned entries ∷ [])) w → Walked (n + 1) workers worker (Each IsScan (with_at scans n entries)) v w
 scanned_more workers worker scans v n u w entries p turn same a =
     walked_more workers worker (Each IsScan (with_at scans n entries)) v n u w (own_events u (scanned entries ∷ [])) (walked_with IsScan workers worker scans v n u entries p) turn same a
-        (own_again u v (scanned entries ∷ []) p.numbers ∙ ap (λ (es : List Entry). own_events v (scanned es ∷ [])) (sym (with_at-same scans n entries)))
+    (own_again u v (scanned entries ∷ []) p.numbers ∙ ap (λ (es : List Entry). own_events v (scanned es ∷ [])) (sym (with_at-same scans n entries)))

@@ -123,10 +123,7 @@ fn fill<R: Wait>(rt: &R, map: &StripedMap, pass: &mut Pass) -> Result<(), Fail>
 fn is_reply(reply: &WalkReply, items: &[(&[u8], &[u8])], counts: (u64, u64, u64)) -> bool {
     let found = &reply.counts;
     reply.items.len() == items.len()
-        && reply
-            .items
-            .iter()
-            .zip(items)
-            .all(|(entry, item)| entry.0.as_slice() == item.0 && entry.1.as_slice() == item.1)
+        && reply.items.iter().zip(items).all(|(entry, item)| entry.0.as_slice() == item.0
+            && entry.1.as_slice() == item.1)
         && (found.scanned, found.given, found.unfit) == counts
 }

@@ -67,7 +67,17 @@ pub fn search<R: Threads + Wait + Sync, G: Gate + Sync>(
     ensures map { All (λ pass. pass.map ≡ map.now) result.0.passes.items }
     ensures walked { MatchResult result.1 (λ reply. IsWalk Search (stripes_of map.now) program.now arg.now team.passes.items result.0.passes.items reply) (λ _. AllWalked (stripes_of map.now) MayScan team.passes.items result.0.passes.items) }
 {
-    walk(rt, alloc, WalkKind::Search, map, team, program, arg, threshold, gate)
+    walk(
+        rt,
+        alloc,
+        WalkKind::Search,
+        map,
+        team,
+        program,
+        arg,
+        threshold,
+        gate,
+    )
 }
 
 /// All present answers with their keys, in key order. `NoMemory` where a request for memory was refused. Waits until each
@@ -86,5 +96,15 @@ pub fn for_each<R: Threads + Wait + Sync, G: Gate + Sync>(
     ensures map { All (λ pass. pass.map ≡ map.now) result.0.passes.items }
     ensures walked { MatchResult result.1 (λ reply. IsWalk ForEach (stripes_of map.now) program.now arg.now team.passes.items result.0.passes.items reply) (λ _. AllWalked (stripes_of map.now) MayScan team.passes.items result.0.passes.items) }
 {
-    walk(rt, alloc, WalkKind::ForEach, map, team, program, arg, threshold, gate)
+    walk(
+        rt,
+        alloc,
+        WalkKind::ForEach,
+        map,
+        team,
+        program,
+        arg,
+        threshold,
+        gate,
+    )
 }

@@ -54,11 +54,7 @@ pub fn count_of(alloc: Global, scanned: u64) -> WalkReply
 }
 
 // Adds the present answer of a row, where the walk gives it.
-pub(crate) fn give(
-    items: &mut Vec<(Key, Value)>,
-    kind: WalkKind,
-    row: Row,
-) -> Result<(), NoMemory>
+pub(crate) fn give(items: &mut Vec<(Key, Value)>, kind: WalkKind, row: Row) -> Result<(), NoMemory>
     ensures given { (found : List Entry) → items.old.items ≡ chosen kind found →
         OnOk result (items.new.items ≡ chosen kind (found ++ option_to_list (item_in row))) }
 {

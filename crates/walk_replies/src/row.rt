@@ -47,7 +47,13 @@ impl Row {
             return;
         }
         let mut answer = Value::new();
-        if run_into(program, &self.key, Some(&self.value), arg.as_ref(), &mut answer) {
+        if run_into(
+            program,
+            &self.key,
+            Some(&self.value),
+            arg.as_ref(),
+            &mut answer,
+        ) {
             self.value.set_from(answer.as_slice());
             self.fate = Fate::Given;
         } else {

@@ -30,8 +30,20 @@ fn all_answers_are_given_in_key_order(rt: HostRuntime) -> Result<(), Fail> {
         for threshold in [0, 3, 4] {
             let (map, mut pass, team) = opened(rt.alloc(), stripes, workers)?;
             fill(&rt, &map, &mut pass)?;
-            let (_, reply) = for_each(&rt, rt.alloc(), &map, team, &program, &arg, threshold, &OpenGate);
-            assert!(rt; is_reply(&reply?, &items, (3, 2, 1)), "{stripes} stripes, {workers} workers");
+            let (_, reply) = for_each(
+                &rt,
+                rt.alloc(),
+                &map,
+                team,
+                &program,
+                &arg,
+                threshold,
+                &OpenGate,
+            );
+            assert!(rt;
+                is_reply(&reply?, &items, (3, 2, 1)),
+                "{stripes} stripes, {workers} workers"
+            );
         }
     }
     Ok(())
@@ -46,8 +58,20 @@ fn search_gives_the_least_key(rt: HostRuntime) -> Result<(), Fail> {
         for threshold in [0, 3, 4] {
             let (map, mut pass, team) = opened(rt.alloc(), stripes, workers)?;
             fill(&rt, &map, &mut pass)?;
-            let (_, reply) = search(&rt, rt.alloc(), &map, team, &program, &arg, threshold, &OpenGate);
-            assert!(rt; is_reply(&reply?, &items, (3, 1, 1)), "{stripes} stripes, {workers} workers");
+            let (_, reply) = search(
+                &rt,
+                rt.alloc(),
+                &map,
+                team,
+                &program,
+                &arg,
+                threshold,
+                &OpenGate,
+            );
+            assert!(rt;
+                is_reply(&reply?, &items, (3, 1, 1)),
+                "{stripes} stripes, {workers} workers"
+            );
         }
     }
     Ok(())
@@ -61,12 +85,21 @@ fn values_are_counted_and_replaced(rt: HostRuntime) -> Result<(), Fail> {
         let (map, mut pass, team) = opened(rt.alloc(), stripes, workers)?;
         fill(&rt, &map, &mut pass)?;
         let (team, reply) = mapping_count(&rt, rt.alloc(), &map, team, &OpenGate);
-        assert!(rt; is_reply(&reply?, &[], (3, 0, 0)), "{stripes} stripes, {workers} workers");
+        assert!(rt;
+            is_reply(&reply?, &[], (3, 0, 0)),
+            "{stripes} stripes, {workers} workers"
+        );
         let (team, reply) = replace_all(&rt, rt.alloc(), &map, team, &program, &arg, &OpenGate);
-        assert!(rt; is_reply(&reply?, &[], (3, 2, 1)), "{stripes} stripes, {workers} workers");
+        assert!(rt;
+            is_reply(&reply?, &[], (3, 2, 1)),
+            "{stripes} stripes, {workers} workers"
+        );
         let (_, reply) = search(&rt, rt.alloc(), &map, team, &program, &arg, 0, &OpenGate);
         let items: [(&[u8], &[u8]); 1] = [(b"a", &THREE)];
-        assert!(rt; is_reply(&reply?, &items, (3, 1, 1)), "{stripes} stripes, {workers} workers");
+        assert!(rt;
+            is_reply(&reply?, &items, (3, 1, 1)),
+            "{stripes} stripes, {workers} workers"
+        );
     }
     Ok(())
 }

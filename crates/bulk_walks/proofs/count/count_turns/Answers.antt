@@ -21,7 +21,7 @@ pub returns-in_err-entries-clause-part : goal.returns-in_err-entries-clause-part
 returns-in_err-entries-clause-part g c =
     let done = c.loop-stripe.invariant.done in
     scans_cut (stripes_of c.args.map.now) c.args.workers c.args.worker c.args.pass.now.view done.0 c.loop-stripe.stripe (stripes_of c.args.map.now) c.loop-stripe.pass.view c.scan_stripe.new.pass.view
-        (omega (arith, c.loop-stripe-test.true, c.stripes-stripes.ensures.value)) done.1.0 c.if-stripe-workers.true c.in_err-entries.ensures.same.passes c.in_err-entries.ensures.err
+    (omega (arith, c.loop-stripe-test.true, c.stripes-stripes.ensures.value)) done.1.0 c.if-stripe-workers.true c.in_err-entries.ensures.same.passes c.in_err-entries.ensures.err
 
 pub overflow_add-count : goal.overflow_add-count
 overflow_add-count g c =
@@ -49,9 +49,14 @@ loop-stripe-preserved g c =
           let few : w.len.result < 2 ^ 55 = omega (arith, w.len.ensures, w.in_ok-entries.ensures.few, w.in_ok-entries.entries.ok.0) in
           record {
             map = ap (λ (p : PassState). p.map) w.pass-is ∙ w.in_ok-entries.ensures.same.map ∙ inv.map;
-            done = (with_at scans n entries, (subst (λ (p : PassState). Walked (n + 1) W j (Each IsScan (with_at scans n entries)) v p.view) (sym w.pass-is)
-                (scanned_more W j scans v n u w.scan_stripe.new.pass.view entries inv.done.1.0 w.if-stripe-workers.true w.in_ok-entries.ensures.same.passes w.in_ok-entries.ensures.ok),
-                omega (arith, sum, inv.done.1.1, w.count-is, w.len.ensures, w.in_ok-entries.entries.ok.0)));
+            done = (
+              with_at scans n entries,
+              (
+                subst (λ (p : PassState). Walked (n + 1) W j (Each IsScan (with_at scans n entries)) v p.view) (sym w.pass-is)
+                    (scanned_more W j scans v n u w.scan_stripe.new.pass.view entries inv.done.1.0 w.if-stripe-workers.true w.in_ok-entries.ensures.same.passes w.in_ok-entries.ensures.ok),
+                omega (arith, sum, inv.done.1.1, w.count-is, w.len.ensures, w.in_ok-entries.entries.ok.0),
+              ),
+            );
             few = omega (arith, most, w.count-is, inv.few, few);
           }
       | else-stripe-workers w ↦
@@ -59,8 +64,13 @@ loop-stripe-preserved g c =
           let most = turn_sum-past W j (λ _. 2 ^ 55) n w.if-stripe-workers.false in
           record {
             map = ap (λ (p : PassState). p.map) w.pass-is ∙ inv.map;
-            done = (scans, (subst (λ (p : PassState). Walked (n + 1) W j (Each IsScan scans) v p.view) (sym w.pass-is) (walked_past W j (Each IsScan scans) v n u inv.done.1.0 w.if-stripe-workers.false),
-                omega (arith, same, inv.done.1.1, w.count-is)));
+            done = (
+              scans,
+              (
+                subst (λ (p : PassState). Walked (n + 1) W j (Each IsScan scans) v p.view) (sym w.pass-is) (walked_past W j (Each IsScan scans) v n u inv.done.1.0 w.if-stripe-workers.false),
+                omega (arith, same, inv.done.1.1, w.count-is),
+              ),
+            );
             few = omega (arith, most, w.count-is, inv.few);
           }
     ]
@@ -70,4 +80,4 @@ pub returns-clause-part : goal.returns-clause-part
 returns-clause-part g c =
     let done = c.loop-stripe.invariant.done in
     scans_part (stripes_of c.args.map.now) c.args.workers c.args.worker c.args.pass.now.view done.0 c.loop-stripe.stripe (stripes_of c.args.map.now) c.loop-stripe.pass.view
-        (omega (arith, c.stripes-stripes.ensures.value)) done.1.0
+    (omega (arith, c.stripes-stripes.ensures.value)) done.1.0

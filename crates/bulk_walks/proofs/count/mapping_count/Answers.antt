@@ -62,7 +62,7 @@ returns-clause-walked g c =
     let ok : All (λ r. IsOk r) c'.in-Ok.answers.items = rw (← c'.deref.ensures.value) c.in-Ok-total.ensures.1 in
     let all = counts_all n c'.args.team.passes.items c'.in-Ok.answers.items c'.work-passes.result.0.items (head_of _ (some g c')) (some g c') (did g c') ok in
     let scanned : c.in-Ok-total.scanned ≡ sum_below n (λ k. length (all.0 k)) =
-        c.in-Ok-total.ensures.0 ∙ ap (λ (rs : List (Result ℕ NoMemory)). sum_by counted rs) c'.deref.ensures.value ∙ all.1.1 in
+    c.in-Ok-total.ensures.0 ∙ ap (λ (rs : List (Result ℕ NoMemory)). sum_by counted rs) c'.deref.ensures.value ∙ all.1.1 in
     let count = c.count_of.ensures in
     record {
       scans = all.0;

@@ -21,7 +21,7 @@ each_of g c i d e low =
     let len : c.len-workers.result ≡ length c.args.passes.items = omega (arith, c.len-workers.ensures, c.args.passes.ok.0) in
     let D : ℕ → PassState → PassState → Type 0 = λ m x y. Does c.args.map.now m i x (slice_index_or c.in-Ok.answers.items i e) y in
     subst (λ m. D m (slice_index_or c.args.passes.items i d) (slice_index_or c.work-passes.result.0.items i d)) len
-        (subst (λ (y : PassState). D c.len-workers.result (slice_index_or c.args.passes.items i d) y) one.left (subst (λ (x : PassState). D c.len-workers.result x one.after_call.now) one.argument_is one.call))
+    (subst (λ (y : PassState). D c.len-workers.result (slice_index_or c.args.passes.items i d) y) one.left (subst (λ (x : PassState). D c.len-workers.result x one.after_call.now) one.argument_is one.call))
 
 did : (g : _) (c : In-Ok g) → EachFinds (stripes_of c.args.map.now) c.args.passes.items c.in-Ok.answers.items c.work-passes.result.0.items
 did g c =
@@ -38,7 +38,7 @@ returns-clause-found g c =
     let c' = (goal.at.returns-clause-found g c).In-Ok in
     let some : 0 < length c'.args.passes.items = omega (arith, c.requires.some, c.args.passes.ok.0) in
     finds_all _ _ _ c'.in-Ok.answers.items c.in-Ok-merged.rows.items c.sort_rows.new.rows.items
-        (all_of (stripes_of c'.args.map.now) c'.args.passes.items c'.work-passes.result.0.items c'.in-Ok.answers.items (head_of _ some) (head_of c'.in-Ok.answers.items (omega (arith, (did g c').answers))) some (did g c') c.in-Ok-merged.ensures.ok) c.in-Ok-merged.ensures.all c.sort_rows.ensures.moved c.sort_rows.ensures.order
+    (all_of (stripes_of c'.args.map.now) c'.args.passes.items c'.work-passes.result.0.items c'.in-Ok.answers.items (head_of _ some) (head_of c'.in-Ok.answers.items (omega (arith, (did g c').answers))) some (did g c') c.in-Ok-merged.ensures.ok) c.in-Ok-merged.ensures.all c.sort_rows.ensures.moved c.sort_rows.ensures.order
 
 pub returns-clause-map : goal.returns-clause-map
 returns-clause-map g c = maps g (goal.at.returns-clause-map g c).In-Ok

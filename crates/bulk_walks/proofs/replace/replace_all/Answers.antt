@@ -20,7 +20,7 @@ each_of g c i d e low =
     let len : c.len-workers.result ≡ length c.args.team.passes.items = omega (arith, c.len-workers.ensures, c.args.team.passes.ok.0) in
     let D : ℕ → PassState → PassState → Type 0 = λ m x y. Does c.args.map.now c.args.program.now c.args.arg.now m i x (slice_index_or c.in-Ok.answers.items i e) y in
     subst (λ m. D m (slice_index_or c.args.team.passes.items i d) (slice_index_or c.work-passes.result.0.items i d)) len
-        (subst (λ (y : PassState). D c.len-workers.result (slice_index_or c.args.team.passes.items i d) y) one.left (subst (λ (x : PassState). D c.len-workers.result x one.after_call.now) one.argument_is one.call))
+    (subst (λ (y : PassState). D c.len-workers.result (slice_index_or c.args.team.passes.items i d) y) one.left (subst (λ (x : PassState). D c.len-workers.result x one.after_call.now) one.argument_is one.call))
 
 did : (g : _) (c : After-deref g) → EachReplaces (stripes_of c.args.map.now) c.args.program.now c.args.arg.now c.args.team.passes.items c.in-Ok.answers.items c.work-passes.result.0.items
 did g c =

@@ -53,7 +53,7 @@ loop-stripe-preserved g c =
                 w.pass-is w.total-is;
           }
       | else-stripe-workers w ↦ record {
-          map = ap (λ (p : PassState). p.map) w.pass-is ∙ inv.map;
-          done = replaces_at S checked arg (n + 1) W j v p _ _ _ (replaces_past S checked arg W j v n p.view c.loop-stripe.total inv.done w.if-stripe-workers.false) w.pass-is w.total-is;
-        }
+        map = ap (λ (p : PassState). p.map) w.pass-is ∙ inv.map;
+        done = replaces_at S checked arg (n + 1) W j v p _ _ _ (replaces_past S checked arg W j v n p.view c.loop-stripe.total inv.done w.if-stripe-workers.false) w.pass-is w.total-is;
+      }
     ]

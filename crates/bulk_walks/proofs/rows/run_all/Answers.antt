@@ -15,4 +15,4 @@ returns g c =
     let len : length ks ≡ length c.deref_mut.result.now = c.run_each.auto.rows in
     let whole : take rows.len (ks ++ drop (length ks) rows.items) ≡ ks = kept rows.len ks rows.items (sym c.deref_mut.ensures.len ∙ sym len) in
     subst (λ (news : List Row). AreRun checked arg (entries_of rows.items) news) (sym whole)
-        (subst (λ (olds : List Row). AreRun checked arg (entries_of olds) ks) c.deref_mut.ensures.value (are_run checked arg c.deref_mut.result.now ks len c.run_each.ensures.each))
+    (subst (λ (olds : List Row). AreRun checked arg (entries_of olds) ks) c.deref_mut.ensures.value (are_run checked arg c.deref_mut.result.now ks len c.run_each.ensures.each))
