@@ -1,14 +1,14 @@
 #!/usr/bin/env bash
 # Times calls on a map that threads share beside a plain C table of buckets, each guarded by a mutex; then requests of a
-# session over memory, and walks by teams: three times in turn, and prints the medians. By hand, not by the gate. It takes
-# two to three minutes; a first time takes longer, since a program is built only when all below it is proved.
+# session over memory, and walks by teams: five times in turn, and prints the medians. By hand, not by the gate. It takes
+# one to three minutes; a first time takes longer, since a program is built only when all below it is proved.
 set -euo pipefail
 shopt -s inherit_errexit
 cd "$(dirname "$0")/.."
 bench=crates/map_bench/out/map_bench
 work=$(mktemp -d)
 trap 'rm -rf "$work"' EXIT
-rounds=3
+rounds=5
 
 if [ ! -e $bench ] || [ -n "$(find crates.txt crates/*/src crates/*/specs crates/*/proofs -newer $bench -print -quit 2>/dev/null)" ]; then
     (cd crates/map_bench && rt run > "$work/build.log" 2>&1) || { cat "$work/build.log"; exit 1; }

@@ -1,7 +1,7 @@
 //! Calls on a map that threads share.
-ghost use Rattle.std.specs.Prelude.{◌≡◌, All, IfOk};
+ghost use Rattle.std.specs.Prelude.{◌≡◌};
 
-use crate::opening::{numbered_key, numbered_value, opened, put_one};
+use crate::opening::{last_pass, numbered_key, numbered_value, opened, put_one};
 use crate::sum::verified;
 use anyhow::{Result, bail};
 use atomic_methods::{Call, Reply};
@@ -162,19 +162,6 @@ fn sum_of<R: Wait>(rt: &R, map: &StripedMap, pass: &mut Pass, keys: Keys, count:
     Ok(sum)
 }
 
-// A pass for what comes before and after the threads' calls.
-fn first_pass(map: &StripedMap, passes: &mut Vec<Pass>) -> Result<Pass>
-    requires all { All (λ pass. pass.map ≡ map.now) passes.old.items }
-    ensures pass { IfOk result (λ pass. pass.map ≡ map.now) }
-    ensures all { All (λ pass. pass.map ≡ map.now) passes.new.items }
-{
-    let _ = map;
-    let Some(pass) = passes.pop() else {
-        bail!("no pass");
-    };
-    Ok(pass)
-}
-
 /// The sum of the values, after as many threads made as many calls each on keys that had the value 1. A call that was
 /// refused for memory shows in the sum.
 pub fn calls_sum<R: Threads + Wait + Sync>(
@@ -196,7 +183,7 @@ pub fn calls_sum<R: Threads + Wait + Sync>(
         count,
     };
     let (map, mut passes) = opened(alloc, threads + 1)?;
-    let mut pass = first_pass(&map, &mut passes)?;
+    let mut pass = last_pass(&map, &mut passes)?;
     fill(rt, &map, &mut pass, keys, keys.count(threads))?;
     let run = |worker: usize, pass: &mut Pass|
         requires { pass.old.map ≡ map.now }

@@ -1,6 +1,7 @@
 //! Maps of 64 stripes, and keys and values of eight bytes.
 ghost use Rattle.std.specs.Prelude.{◌≡◌, All, IfOk};
 
+use anyhow::{Result, anyhow};
 use atomic_methods::Call;
 use bin_stripes::{OpenFault, Pass, StripedMap};
 use bpf_model::{Key, TooLong, Value};
@@ -28,8 +29,22 @@ pub fn put_one(key: Key) -> Result<Call<'static>, TooLong> {
 }
 
 /// An empty map, and so many passes, which all serve it.
+#[tactic(auto, using(crate::proofs::PassLemmas::serve_all))]
 pub fn opened(alloc: Global, passes: u64) -> Result<(StripedMap, Vec<Pass>), OpenFault>
     ensures all { IfOk result (λ made. All (λ pass. pass.map ≡ made.0) made.1.items) }
 {
     StripedMap::open(alloc, STRIPES, passes)
+}
+
+/// The last of the map's passes.
+pub fn last_pass(map: &StripedMap, passes: &mut Vec<Pass>) -> Result<Pass>
+    requires all { All (λ pass. pass.map ≡ map.now) passes.old.items }
+    ensures pass { IfOk result (λ pass. pass.map ≡ map.now) }
+    ensures all { All (λ pass. pass.map ≡ map.now) passes.new.items }
+{
+    let _ = map;
+    match passes.pop() {
+        Some(pass) => Ok(pass),
+        None => Err(anyhow!("no pass")),
+    }
 }

@@ -1,7 +1,7 @@
 //! Walks over a map of many entries by a team of workers.
 ghost use Rattle.std.specs.Prelude.{◌≡◌, All, IfOk};
 
-use crate::opening::{numbered_key, numbered_value, opened, put_one};
+use crate::opening::{last_pass, numbered_key, numbered_value, opened, put_one};
 use crate::sum::verified;
 use anyhow::{Result, bail};
 use bin_stripes::{OpenGate, Pass, StripedMap};
@@ -47,9 +47,7 @@ fn filled<R: Wait>(rt: &R, map: &StripedMap, mut passes: Vec<Pass>, entries: u64
     requires { All (λ pass. pass.map ≡ map.now) passes.items }
     ensures { IfOk result (λ team. All (λ pass. pass.map ≡ map.now) team.passes.items) }
 {
-    let Some(mut pass) = passes.pop() else {
-        bail!("no pass");
-    };
+    let mut pass = last_pass(map, &mut passes)?;
     fill(rt, map, &mut pass, entries)?;
     let Ok(team) = Team::new(passes) else {
         bail!("no team");
