@@ -1,5 +1,5 @@
 //! Calls on a map that threads share.
-ghost use Rattle.std.specs.Prelude.{◌≡◌};
+ghost use Rattle.std.specs.Prelude.{◌≡◌, All};
 
 use crate::opening::{last_pass, numbered_key, numbered_value, opened, put_one};
 use crate::sum::verified;
@@ -138,6 +138,25 @@ fn make_calls<R: Wait>(
     Ok(())
 }
 
+// Makes the calls of all workers, each in a thread of its own where one can be made.
+fn make_all_calls<R: Threads + Wait + Sync>(
+    rt: &R,
+    map: &StripedMap,
+    passes: &mut [Pass],
+    plan: &Plan,
+)
+    requires { All (λ pass. pass.map ≡ map.now) passes.old }
+{
+    let threads = passes.len().max(1);
+    let call = move |worker: usize, pass: &mut Pass|
+        requires { pass.old.map ≡ map.now }
+        ensures { pass.new.map ≡ map.entry.now }
+    {
+        let _ = make_calls(rt, map, pass, plan, worker as u64);
+    };
+    thread::for_each_mut(rt, passes, threads, &call);
+}
+
 // The value's number; 0 where there is no value of eight bytes.
 fn number_of(reply: &Reply) -> u64 {
     let Reply::Value(Some(value)) = reply else {
@@ -185,12 +204,6 @@ pub fn calls_sum<R: Threads + Wait + Sync>(
     let (map, mut passes) = opened(alloc, threads + 1)?;
     let mut pass = last_pass(&map, &mut passes)?;
     fill(rt, &map, &mut pass, keys, keys.count(threads))?;
-    let run = |worker: usize, pass: &mut Pass|
-        requires { pass.old.map ≡ map.now }
-        ensures { pass.new.map ≡ map.entry.now }
-    {
-        let _ = make_calls(rt, &map, pass, &plan, worker as u64);
-    };
-    thread::for_each_mut(rt, &mut passes, threads as usize, &run);
+    make_all_calls(rt, &map, &mut passes, &plan);
     sum_of(rt, &map, &mut pass, keys, keys.count(threads))
 }
