@@ -3,10 +3,10 @@
 use crate::memory::{Counter, Repeated};
 use crate::opening::STRIPES;
 use crate::sum::{SIZES, summing};
-use anyhow::{Result, ensure};
+use anyhow::{Result, bail, ensure};
 use bpf_decode::encode;
 use map_server::{Alone, SessionEnd, session_alone};
-use std::alloc::{AllocError, Global};
+use std::alloc::Global;
 use std::sync::Wait;
 
 /// What each request asks for.
@@ -59,18 +59,17 @@ impl Ask {
 }
 
 // Adds a frame with this body.
-fn add_frame(frames: &mut Vec<u8>, body: &[u8]) -> Result<(), AllocError> {
-    frames.extend_from_slice(&(body.len() as u32).to_be_bytes())?;
-    frames.extend_from_slice(body)
+fn add_frame(frames: &mut Vec<u8>, body: &[u8]) -> Result<()> {
+    let Ok(length) = u32::try_from(body.len()) else {
+        bail!("the body is too long");
+    };
+    frames.extend_from_slice(&length.to_be_bytes())?;
+    frames.extend_from_slice(body)?;
+    Ok(())
 }
 
 // Adds a request on the key of this number.
-fn add_request(
-    frames: &mut Vec<u8>,
-    body: &mut Vec<u8>,
-    ask: Ask,
-    number: u64,
-) -> Result<(), AllocError> {
+fn add_request(frames: &mut Vec<u8>, body: &mut Vec<u8>, ask: Ask, number: u64) -> Result<()> {
     let (tag, fields) = ask.parts();
     body.clear();
     body.extend_from_slice(&[tag, 8])?;
@@ -82,7 +81,7 @@ fn add_request(
 }
 
 // A request on each of the keys.
-fn add_block(alloc: Global, frames: &mut Vec<u8>, ask: Ask) -> Result<(), AllocError> {
+fn add_block(alloc: Global, frames: &mut Vec<u8>, ask: Ask) -> Result<()> {
     let mut body = Vec::new(alloc);
     for number in 0..BLOCK {
         add_request(frames, &mut body, ask, number)?;
