@@ -16,10 +16,9 @@ pub struct Repeated {
 }
 
 impl Repeated {
-    /// Of these bytes so many are the opening.
-    pub fn new(bytes: Vec<u8>, opening: usize, times: u64) -> Repeated
-        requires { opening ≤ vec_len bytes }
-    {
+    /// Of these bytes so many, or all where they are fewer, are the opening.
+    pub fn new(bytes: Vec<u8>, opening: usize, times: u64) -> Repeated {
+        let opening = opening.min(bytes.len());
         Repeated {
             bytes,
             opening,
