@@ -74,6 +74,33 @@ fn walked<R: Threads + Wait + Sync>(
     }
 }
 
+// So many walks by one team: how many entries all of them scanned and gave, modulo 2^64.
+fn walked_often<R: Threads + Wait + Sync>(
+    rt: &R,
+    alloc: Global,
+    map: &StripedMap,
+    mut team: Team,
+    walk: Walk,
+    program: &Verified,
+    arg: &Option<Value>,
+    count: u64,
+) -> Result<(u64, u64)>
+    requires { All (λ pass. pass.map ≡ map.now) team.passes.items }
+{
+    let mut sums = (0u64, 0u64);
+    for turn in 0..count {
+        let _ = turn;
+        let (again, reply) = walked(rt, alloc, map, team, walk, program, arg);
+        let counts = reply?.counts;
+        sums = (
+            sums.0.wrapping_add(counts.scanned),
+            sums.1.wrapping_add(counts.given),
+        );
+        team = again;
+    }
+    Ok(sums)
+}
+
 /// Walks over so many entries as often as `count` says. How many entries all walks scanned and gave, modulo 2^64.
 pub fn walk_often<R: Threads + Wait + Sync>(
     rt: &R,
@@ -89,16 +116,6 @@ pub fn walk_often<R: Threads + Wait + Sync>(
     let program = verified(alloc)?;
     let arg = Some(numbered_value(1)?);
     let (map, passes) = opened(alloc, workers + 1)?;
-    let mut team = filled(rt, &map, passes, entries)?;
-    let mut sums = (0u64, 0u64);
-    for _ in 0..count {
-        let (again, reply) = walked(rt, alloc, &map, team, walk, &program, &arg);
-        let counts = reply?.counts;
-        sums = (
-            sums.0.wrapping_add(counts.scanned),
-            sums.1.wrapping_add(counts.given),
-        );
-        team = again;
-    }
-    Ok(sums)
+    let team = filled(rt, &map, passes, entries)?;
+    walked_often(rt, alloc, &map, team, walk, &program, &arg, count)
 }
