@@ -1,0 +1,91 @@
+#!/usr/bin/env bash
+# Times calls on a map that threads share beside a plain C table of buckets, each guarded by a mutex; then requests of a
+# session over memory, and walks by teams: five times in turn, and prints the medians. By hand, not by the gate. It takes
+# one to three minutes; a first time takes longer, since a program is built only when all below it is proved.
+set -euo pipefail
+shopt -s inherit_errexit
+cd "$(dirname "$0")/.."
+bench=crates/map_bench/out/map_bench
+work=$(mktemp -d)
+trap 'rm -rf "$work"' EXIT
+rounds=5
+
+if [ ! -e $bench ] || [ -n "$(find crates.txt crates/*/src crates/*/specs crates/*/proofs -newer $bench -print -quit 2>/dev/null)" ]; then
+    (cd crates/map_bench && rt run > "$work/build.log" 2>&1) || { cat "$work/build.log"; exit 1; }
+    touch $bench
+fi
+gcc -O2 -pthread -o "$work/table" bench/table.c
+
+# a side, and its words
+side() {
+    case $1 in
+        table) "$work/table" "${@:2}" ;;
+        *) "$bench" "$@" ;;
+    esac
+}
+
+# nanoseconds that so much takes, without what a start and the filling take: how often, a side, its words but the last
+elapsed() {
+    local begun started ended
+    begun=$(date +%s%N)
+    side "${@:2}" 0 > "$work/out"
+    started=$(date +%s%N)
+    side "${@:2}" "$1" > "$work/out"
+    ended=$(date +%s%N)
+    echo $((ended - started - (started - begun)))
+}
+
+# the median of the times in a file
+median() { sort -n "$1" | sed -n $((rounds / 2 + 1))p; }
+
+# what is measured, kind, keys, threads, how many calls each thread makes
+measure_calls() {
+    local answer other
+    answer=$(side calls "$2" "$3" "$4" 100)
+    other=$(side table "$2" "$3" "$4" 100)
+    [ "$answer" = "$other" ] || { echo "$2 $3 $4: the map answers '$answer', C '$other'" >&2; exit 1; }
+    : > "$work/map.times"
+    : > "$work/table.times"
+    for _ in $(seq $rounds); do
+        elapsed "$5" calls "$2" "$3" "$4" >> "$work/map.times"
+        elapsed "$5" table "$2" "$3" "$4" >> "$work/table.times"
+    done
+    echo "$(median "$work/map.times") $(median "$work/table.times")" |
+        awk -v calls=$(($4 * $5)) -v what="$1" '{
+            printf "%s: %.2f million calls a second, C %.2f million (ratio of times %.2f)\n",
+                what, 1000 * calls / $1, 1000 * calls / $2, $1 / $2 }'
+}
+
+# kind, thousands of requests
+measure_session() {
+    : > "$work/session.times"
+    for _ in $(seq $rounds); do elapsed "$2" session "$1" >> "$work/session.times"; done
+    median "$work/session.times" | awk -v requests=$((1000 * $2)) -v what="$1" '{
+        printf "%s in a session: %.2f million requests a second, %.0f ns a request\n",
+            what, 1000 * requests / $1, $1 / requests }'
+}
+
+# kind, entries, how many walks
+measure_walk() {
+    for workers in 1 2 4; do : > "$work/walk$workers.times"; done
+    for _ in $(seq $rounds); do
+        for workers in 1 2 4; do elapsed "$3" walk "$1" $workers "$2" >> "$work/walk$workers.times"; done
+    done
+    echo "$(median "$work/walk1.times") $(median "$work/walk2.times") $(median "$work/walk4.times")" |
+        awk -v walks="$3" -v what="$1 over $2 entries" '{
+            printf "%s: %.2f ms with 1 worker; 2 workers take %.2f of that, 4 workers %.2f\n",
+                what, $1 / walks / 1e6, $2 / $1, $3 / $1 }'
+}
+
+for kind in get put merge; do
+    for keys in 1 1000; do
+        for threads in 1 2 4; do
+            measure_calls "$kind, $keys keys, $threads threads" $kind $keys $threads 200000
+        done
+    done
+done
+measure_calls "merge, a key for each of 4 threads, words side by side" merge near 4 200000
+measure_calls "merge, a key for each of 4 threads, words 8 apart" merge apart 4 200000
+for kind in get put merge; do measure_session $kind 200; done
+measure_walk for_each 100000 5
+measure_walk mapping_count 100000 5

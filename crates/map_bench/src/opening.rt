@@ -1,0 +1,50 @@
+//! Maps of 64 stripes, and keys and values of eight bytes.
+ghost use Rattle.std.specs.Prelude.{◌≡◌, All, IfOk};
+
+use anyhow::{Result, anyhow};
+use atomic_methods::Call;
+use bin_stripes::{OpenFault, Pass, StripedMap};
+use bpf_model::{Key, TooLong, Value};
+use std::alloc::Global;
+
+/// The stripes of each map that is measured.
+pub const STRIPES: u64 = 64;
+
+/// The key of this number. Numbers that rise have keys that rise.
+pub fn numbered_key(number: u64) -> Result<Key, TooLong> {
+    Key::from_slice(&number.to_be_bytes())
+}
+
+/// The number as a value.
+pub fn numbered_value(number: u64) -> Result<Value, TooLong> {
+    Value::from_slice(&number.to_le_bytes())
+}
+
+/// The call that enters the value 1.
+pub fn put_one(key: Key) -> Result<Call<'static>, TooLong> {
+    Ok(Call::Put {
+        key,
+        value: numbered_value(1)?,
+    })
+}
+
+/// An empty map, and so many passes, which all serve it.
+#[tactic(auto, using(crate::proofs::PassLemmas::serve_all))]
+pub fn opened(alloc: Global, passes: u64) -> Result<(StripedMap, Vec<Pass>), OpenFault>
+    ensures all { IfOk result (λ made. All (λ pass. pass.map ≡ made.0) made.1.items) }
+{
+    StripedMap::open(alloc, STRIPES, passes)
+}
+
+/// The last of the map's passes.
+pub fn last_pass(map: &StripedMap, passes: &mut Vec<Pass>) -> Result<Pass>
+    requires all { All (λ pass. pass.map ≡ map.now) passes.old.items }
+    ensures pass { IfOk result (λ pass. pass.map ≡ map.now) }
+    ensures all { All (λ pass. pass.map ≡ map.now) passes.new.items }
+{
+    let _ = map;
+    match passes.pop() {
+        Some(pass) => Ok(pass),
+        None => Err(anyhow!("no pass")),
+    }
+}
