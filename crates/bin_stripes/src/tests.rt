@@ -3,6 +3,7 @@ ghost use Rattle.std.specs.Prelude.{◌≡◌, ◌≤◌, All, IfOk};
 
 use crate::{CallFault, Gate, OpenFault, OpenGate, Pass, Place, StripedMap};
 use atomic_methods::{Call, Reply};
+use bins::Counts;
 use bpf_model::{
     AccessSize, AluOp, Insn, Key, LoadKind, Operand, Program, Reg, Sizes, TooLong, Value, Width,
 };
@@ -12,6 +13,7 @@ use std::sync::Wait;
 use std::sync::atomic::{AtomicU64, Ordering};
 use std::test::Fail;
 use std::thread;
+use std::thread::Threads;
 use verifier::{Verified, verify};
 
 mod many;
@@ -112,6 +114,23 @@ fn opened(alloc: Global, stripes: u64, passes: u64) -> Result<(StripedMap, Vec<P
     ensures all { IfOk result (λ made. All (λ pass. pass.map ≡ made.0) made.1.items) }
 {
     StripedMap::open(alloc, stripes, passes)
+}
+
+// The entries of a stripe, where the map has it and memory is there.
+fn scanned<R: Wait>(
+    rt: &R,
+    alloc: Global,
+    map: &StripedMap,
+    pass: &mut Pass,
+    stripe: u64,
+) -> Option<Vec<(Key, Value)>>
+    requires { pass.old.map ≡ map.now }
+    ensures { pass.new.map ≡ map.now }
+{
+    if stripe >= map.stripes() {
+        return None;
+    }
+    map.scan_stripe(rt, alloc, pass, stripe).ok()
 }
 
 // The next of the map's passes.

@@ -1,4 +1,6 @@
 //! Rows of one thread.
+ghost use Rattle.std.specs.Prelude.{◌≡◌};
+
 use super::*;
 
 #[test]
@@ -47,19 +49,63 @@ fn last_entries_are_in_key_order(rt: HostRuntime) -> Result<(), Fail> {
     Ok(())
 }
 
+// Tries a call, a scan and a replacement, on a key of stripe 0; whether each was made on that entry.
+fn are_made(alloc: Global, map: &StripedMap, pass: &mut Pass, program: &Verified) -> Result<bool, Fail>
+    requires { pass.old.map ≡ map.now }
+    ensures { pass.new.map ≡ map.now }
+{
+    if map.stripes() == 0 {
+        return Ok(false);
+    }
+    map.try_call(pass, &put(b"a", &ONE)?)?;
+    let found = map.try_scan_stripe(alloc, pass, 0)?;
+    let counts = map.try_replace_stripe(pass, 0, program, &Some(value(&ONE)?))?;
+    Ok(found.len() == 1 && (counts.scanned, counts.given, counts.unfit) == (1, 1, 0))
+}
+
+// The same so many times; whether it always was.
+fn are_always_made(
+    alloc: Global,
+    map: &StripedMap,
+    pass: &mut Pass,
+    program: &Verified,
+    times: u64,
+) -> Result<bool, Fail>
+    requires { pass.old.map ≡ map.now }
+    ensures { pass.new.map ≡ map.now }
+{
+    for _ in 0..times {
+        if !are_made(alloc, map, pass, program)? {
+            return Ok(false);
+        }
+    }
+    Ok(true)
+}
+
 #[test]
 fn a_single_thread_is_never_busy(rt: HostRuntime) -> Result<(), Fail> {
     let program = summing(rt.alloc())?;
     let (map, mut passes) = opened(rt.alloc(), 2, 1)?;
     let mut pass = next_pass(&map, &mut passes)?;
-    for _ in 0..1_000 {
-        map.try_call(&mut pass, &put(b"a", &ONE)?)?;
-        let found = map.try_scan_stripe(rt.alloc(), &mut pass, 0)?;
-        assert_eq!(rt; found.len(), 1);
-        let counts = map.try_replace_stripe(&mut pass, 0, &program, &Some(value(&ONE)?))?;
-        assert_eq!(rt; (counts.scanned, counts.given, counts.unfit), (1, 1, 0));
-    }
+    assert!(rt; are_always_made(rt.alloc(), &map, &mut pass, &program, 1_000)?);
     Ok(())
+}
+
+// The counts of a replacement of the values of stripe 1.
+fn replaced<R: Wait>(
+    rt: &R,
+    map: &StripedMap,
+    pass: &mut Pass,
+    program: &Verified,
+) -> Result<Counts, Fail>
+    requires { pass.old.map ≡ map.now }
+    ensures { pass.new.map ≡ map.now }
+{
+    if map.stripes() < 2 {
+        return Err("no such stripe".into());
+    }
+    let arg = Some(value(&ONE)?);
+    Ok(map.replace_stripe(rt, pass, 1, program, &arg, &OpenGate, 0))
 }
 
 #[test]
@@ -71,13 +117,11 @@ fn a_stripe_has_its_own_keys(rt: HostRuntime) -> Result<(), Fail> {
     assert_eq!(rt; (map.stripe_of(&key(b"")?), map.stripe_of(&key(b"ab")?)), (1, 2));
     map.call(&rt, &mut pass, &put(b"", &ONE)?)?;
     map.call(&rt, &mut pass, &put(b"ab", &ONE)?)?;
-    let lengths = [0, 1, 1, 0];
-    for stripe in 0..4u64 {
-        let found = map.scan_stripe(&rt, rt.alloc(), &mut pass, stripe)?;
-        assert_eq!(rt; found.len(), lengths[stripe as usize]);
-    }
-    let arg = Some(value(&ONE)?);
-    let counts = map.replace_stripe(&rt, &mut pass, 1, &program, &arg, &OpenGate, 0);
+    assert_eq!(rt; scanned(&rt, rt.alloc(), &map, &mut pass, 0).map(|found| found.len()), Some(0));
+    assert_eq!(rt; scanned(&rt, rt.alloc(), &map, &mut pass, 1).map(|found| found.len()), Some(1));
+    assert_eq!(rt; scanned(&rt, rt.alloc(), &map, &mut pass, 2).map(|found| found.len()), Some(1));
+    assert_eq!(rt; scanned(&rt, rt.alloc(), &map, &mut pass, 3).map(|found| found.len()), Some(0));
+    let counts = replaced(&rt, &map, &mut pass, &program)?;
     assert_eq!(rt; (counts.scanned, counts.given, counts.unfit), (1, 1, 0));
     let sum = map.call(&rt, &mut pass, &get(b"")?)?;
     assert!(rt; is_value(&sum, &[2, 0, 0, 0, 0, 0, 0, 0]));
@@ -101,9 +145,9 @@ fn a_refused_call_changes_nothing(rt: HostRuntime) -> Result<(), Fail> {
         assert!(rt; matches!(none, Reply::Value(None)));
         map.call(&rt, &mut pass, &call)?;
     }
-    let found = match map.scan_stripe(&rt, rt.alloc(), &mut pass, 0) {
-        Ok(found) => found,
-        Err(_) => map.scan_stripe(&rt, rt.alloc(), &mut pass, 0)?,
+    let found = match scanned(&rt, rt.alloc(), &map, &mut pass, 0) {
+        Some(found) => found,
+        None => scanned(&rt, rt.alloc(), &map, &mut pass, 0).ok_or("no entries")?,
     };
     assert_eq!(rt; found.len(), 1);
     let Ok(entries) = map.close(&rt, rt.alloc(), pass) else {
