@@ -133,10 +133,10 @@ sink=/dev/full expect "a refusal that can't be written" 3 "" "failed write" chec
 hello='00000002 0001'
 welcome='00000002 8001'
 put_and_get='00000007 11016100027879 00000003 100161'
-program='00000019 01004001000100 0100 b7000000ffffffff9500000000000000'
+register='00000019 01004001000100 0100 b7000000ffffffff9500000000000000'
 compute='0000000d 170161 0000000000000000 ffff'
 serve "a session" "$hello $put_and_get" 0 "$welcome 00000003 82ffff 00000005 8200027879" ""
-serve "a session with a program" "$hello $program $compute" 0 "$welcome 00000009 810000000000000000 00000003 82ffff" ""
+serve "a session with a program" "$hello $register $compute" 0 "$welcome 00000009 810000000000000000 00000003 82ffff" ""
 serve "a session that is refused" "$hello $hello" 1 "$welcome 00000006 854000000000" ""
 serve "a session that is cut" "$hello 00000003 10" 1 "$welcome" ""
 expect "stripes that there are not" 1 "refused 50 at 0" "not a number of stripes" exec --stripes 3
@@ -183,7 +183,7 @@ if command -v gcc > /dev/null; then
     frames "$hello $put_and_get"
     refuse_each_answer "a session" "$welcome" \
         "00000003 82ffff|00000006 850900000000" "00000005 8200027879|00000003 82ffff"
-    frames "$hello $program $compute"
+    frames "$hello $register $compute"
     refuse_each_answer "a session with a program" "$welcome" \
         "00000009 810000000000000000|00000006 850900000000" "00000003 82ffff|00000006 854200000000"
 else
