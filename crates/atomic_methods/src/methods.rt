@@ -29,7 +29,11 @@ pub fn apply<B: Bins>(bins: &mut B, call: &Call) -> Result<Reply, NoMemory>
 
 /// Makes one call as `apply` does, and leaves the bytes of the replied value in `bytes`, so that no value is moved. What
 /// `bytes` held is lost. One search serves a present key; a program runs before room is asked for.
-pub fn apply_into<B: Bins>(bins: &mut B, call: &Call, bytes: &mut Value) -> Result<ReplyKind, NoMemory>
+pub fn apply_into<B: Bins>(
+    bins: &mut B,
+    call: &Call,
+    bytes: &mut Value,
+) -> Result<ReplyKind, NoMemory>
     ensures ok { IfOk result (λ kind.
         Answers (B.table bins.old) (invocation_of call.now) (B.table bins.new) (reply_by kind bytes.new)) }
     ensures err { OnErr result (B.table bins.new ≡ B.table bins.old) }

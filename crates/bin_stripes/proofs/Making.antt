@@ -72,15 +72,15 @@ module _ (n k : ℕ) where
           → Between old new (e ∷ rest) t → Between old new rest (finmap.insert t e.0 (value_after (outcome e.0) e.1))
       next_between e rest t was once b q = let u = finmap.insert t e.0 (value_after (outcome e.0) e.1) in
           elim (eq_by_cmp by_bytes q e.0) as (λ x. eq_by_cmp by_bytes q e.0 ≡ x
-              → ((cond x (Some e.1) (find by_bytes q rest) ≡ None → finmap.get t q ≡ finmap.get new q)
-              × ((z : List ℕ) → cond x (Some e.1) (find by_bytes q rest) ≡ Some z → finmap.get t q ≡ Some z))
-              → (finmap.get u q ≡ cond x (Some (value_after (outcome e.0) e.1)) (finmap.get t q))
-              → ((find by_bytes q rest ≡ None → finmap.get u q ≡ finmap.get new q)
-              × ((z : List ℕ) → find by_bytes q rest ≡ Some z → finmap.get u q ≡ Some z))) [
+          → ((cond x (Some e.1) (find by_bytes q rest) ≡ None → finmap.get t q ≡ finmap.get new q)
+          × ((z : List ℕ) → cond x (Some e.1) (find by_bytes q rest) ≡ Some z → finmap.get t q ≡ Some z))
+          → (finmap.get u q ≡ cond x (Some (value_after (outcome e.0) e.1)) (finmap.get t q))
+          → ((find by_bytes q rest ≡ None → finmap.get u q ≡ finmap.get new q)
+          × ((z : List ℕ) → find by_bytes q rest ≡ Some z → finmap.get u q ≡ Some z))) [
             | true ↦ λ same here is. let at = tied_same q e.0 same in (
-                (λ none. is ∙ sym (values q ∙ ap (λ (o : Outcome × Option (List ℕ)). option_map (value_after o.0) o.1) (λ i. (outcome (at i), (ap (finmap.get old) at ∙ was) i)))),
-                λ z found. absurd (some_of_none (find by_bytes q rest) z (ap (λ x. find by_bytes x rest) at ∙ once) found),
-              )
+              (λ none. is ∙ sym (values q ∙ ap (λ (o : Outcome × Option (List ℕ)). option_map (value_after o.0) o.1) (λ i. (outcome (at i), (ap (finmap.get old) at ∙ was) i)))),
+              λ z found. absurd (some_of_none (find by_bytes q rest) z (ap (λ x. find by_bytes x rest) at ∙ once) found),
+            )
             | false ↦ λ other here is. ((λ none. is ∙ here.0 none), λ z found. is ∙ here.1 z found)
           ] refl (b q) (get-insert total t e.0 (value_after (outcome e.0) e.1) q)
 

@@ -65,7 +65,7 @@ module _ {B : Type 0} (content : B → Table) (table : TableId) (shape : Shape) 
       → Allows Rule table.slots id me k (λ _. 0) (released may (step table.slots k 0 0 maybe.none) me)
   releases_stripe may id k me inside c held bins others out actions may_be leaves s r wide at small =
       let t = subst (λ n. Allows (Kept (does n) empty content n shape.passes) table.slots id me k (λ _. 0) (Rattle.stripe_rule.specs.Steps.released (does table.slots) empty (own_events me.0 actions) (step table.slots k 0 0 maybe.none) me)) (sym laid.stripes)
-          (releases (does table.slots) empty content table.slots shape.passes table.slots id k me others bins (own_events me.0 actions) (least me.0.numbers) inside c held out leaves (events_under me.0 actions c)) s r wide at small in
+      (releases (does table.slots) empty content table.slots shape.passes table.slots id k me others bins (own_events me.0 actions) (least me.0.numbers) inside c held out leaves (events_under me.0 actions c)) s r wide at small in
       (t.0, t.1, t.2, t.3, record { actions = actions; may_be = may_be; releases = t.4 })
 
 module _ {B : Type 0} (content : B → Table) (stripes k : ℕ) where

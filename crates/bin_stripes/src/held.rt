@@ -80,7 +80,7 @@ pub(crate) fn make_call<B: Bins + Drop>(
     ensures same { (seat.new.table_id ≡ seat.old.table_id) × (seat.new.id ≡ seat.old.id) }
     ensures ok { IfOk result (λ reply.
         Lets (λ actions. actions ≡ called (invocation_of call.now) reply ∷ []) table.now.table_id.slots stripe
-            seat.old.me seat.new.me) }
+        seat.old.me seat.new.me) }
     ensures err { OnErr result
         (Lets (λ actions. actions ≡ []) table.now.table_id.slots stripe seat.old.me seat.new.me
         × Refuses table.now.table_id.slots stripe seat.old.me (invocation_of call.now)) }
@@ -149,7 +149,7 @@ pub(crate) fn make_replacements<B: Bins + Drop, G: Gate>(
     ensures same { (seat.new.table_id ≡ seat.old.table_id) × (seat.new.id ≡ seat.old.id) }
     ensures made { (there : Table) × (Leaves table.now.table_id.slots stripe (seen_of seat.old.me.0 stripe) there
         × Lets (λ actions. AreReplacements by.entry.0.now by.entry.1.now (map.entries there) actions result)
-            table.now.table_id.slots stripe seat.old.me seat.new.me) }
+        table.now.table_id.slots stripe seat.old.me seat.new.me) }
     ensures few { result.scanned < 2 ^ 57 }
 {
     let mut bins = bins_out(table, seat, stripe);

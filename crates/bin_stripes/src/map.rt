@@ -8,9 +8,9 @@ ghost use Rattle.bin_stripes.specs.Passes.{Serves, stripes_of};
 use crate::deed::Deed;
 use crate::fault::CallFault;
 use crate::gate::Gate;
+use crate::held::{make_call, make_replacements, make_scan};
 use crate::pass::Pass;
 use crate::rule::{Shape, Striping};
-use crate::held::{make_call, make_replacements, make_scan};
 use crate::seats::{try_call, try_replace, try_scan};
 use crate::steps::take;
 use atomic_methods::{Call, Reply};
@@ -188,7 +188,12 @@ impl StripedMap {
         ensures few { IfOk result (λ counts. counts.scanned < 2 ^ 57) }
     {
         let mut seat = pass.known.take();
-        let answer = try_replace(&self.table.shared, &mut seat, stripe as usize, (program, arg));
+        let answer = try_replace(
+            &self.table.shared,
+            &mut seat,
+            stripe as usize,
+            (program, arg),
+        );
         pass.known.put(seat);
         answer
     }

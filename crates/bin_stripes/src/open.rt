@@ -49,10 +49,7 @@ fn opened(alloc: Global, stripes: u64, passes: u64) -> Result<(StripedMap, Vec<P
     ensures ok { IfOk result (λ opened. IsOpened stripes passes opened.0 opened.1.items) }
 {
     let (words, slots) = free_stripes::<StripeBins>(alloc, stripes)?;
-    let shape = Shape {
-        stripes,
-        passes,
-    };
+    let shape = Shape { stripes, passes };
     let Ok((table, seat)) = Table::new(alloc, &words, slots, &shape) else {
         return Err(NoMemory);
     };

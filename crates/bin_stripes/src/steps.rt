@@ -24,7 +24,11 @@ pub(crate) type Stripes<B> = Shared<Option<B>, View<Deed>, Shape, Striping<B>>;
 pub(crate) type Stand<B> = Seat<Option<B>, View<Deed>>;
 
 /// Tries once to take the stripe: whether it was free. Never waits.
-pub(crate) fn try_take<B: Bins + Drop>(table: &Stripes<B>, seat: &mut Stand<B>, stripe: usize) -> bool
+pub(crate) fn try_take<B: Bins + Drop>(
+    table: &Stripes<B>,
+    seat: &mut Stand<B>,
+    stripe: usize,
+) -> bool
     requires table { IsLaid table.now.table_id table.now.key × (seat.old.table_id ≡ table.now.table_id) }
     requires stripe { stripe < table.now.table_id.slots }
     requires pass { Carries seat.old.me.0 (least seat.old.me.0.numbers) × (held_at seat.old.me.0 stripe ≡ false) }
@@ -37,7 +41,12 @@ pub(crate) fn try_take<B: Bins + Drop>(table: &Stripes<B>, seat: &mut Stand<B>, 
 }
 
 /// Takes the stripe. Waits until it is free.
-pub(crate) fn take<B: Bins + Drop, R: Wait>(rt: &R, table: &Stripes<B>, seat: &mut Stand<B>, stripe: usize)
+pub(crate) fn take<B: Bins + Drop, R: Wait>(
+    rt: &R,
+    table: &Stripes<B>,
+    seat: &mut Stand<B>,
+    stripe: usize,
+)
     requires table { IsLaid table.now.table_id table.now.key × (seat.old.table_id ≡ table.now.table_id) }
     requires stripe { stripe < table.now.table_id.slots }
     requires pass { Carries seat.old.me.0 (least seat.old.me.0.numbers) × (held_at seat.old.me.0 stripe ≡ false) }
@@ -87,7 +96,7 @@ pub(crate) fn bins_home<B: Bins + Drop, T, M: Shows<T>>(
         × ((others : List (ℕ × Option B)) × (seat.old.me.1 ≡ (stripe, None) ∷ others)) }
     requires made { (actions : List Action) × (M.shows what.now actions
         × Leaves table.now.table_id.slots stripe
-            (seen_of seat.old.me.0 stripe ++ own_events seat.old.me.0 actions) (B.table bins)) }
+        (seen_of seat.old.me.0 stripe ++ own_events seat.old.me.0 actions) (B.table bins)) }
     ensures same { (seat.new.table_id ≡ seat.old.table_id) × (seat.new.id ≡ seat.old.id) }
     ensures made { Lets (M.shows what.now) table.now.table_id.slots stripe seat.old.me seat.new.me }
 {
@@ -110,7 +119,7 @@ fn release<B: Bins + Drop, T, J: May>(
     requires made { (bins : B) × ((others : List (ℕ × Option B)) × ((seat.old.me.1 ≡ (stripe, Some bins) ∷ others)
         × ((actions : List Action) × (J.may actions
         × Leaves table.now.table_id.slots stripe
-            (seen_of seat.old.me.0 stripe ++ own_events seat.old.me.0 actions) (B.table bins))))) }
+        (seen_of seat.old.me.0 stripe ++ own_events seat.old.me.0 actions) (B.table bins))))) }
     ensures same { (seat.new.table_id ≡ seat.old.table_id) × (seat.new.id ≡ seat.old.id) }
     ensures made { Lets J.may table.now.table_id.slots stripe seat.old.me seat.new.me }
 {

@@ -156,13 +156,7 @@ fn merge_one<R: Wait>(rt: &R, map: &StripedMap, pass: &mut Pass, program: &Verif
 }
 
 // Merges 1 so many times, each second one by tries, and gives the pass back.
-fn merges<R: Wait>(
-    rt: &R,
-    map: &StripedMap,
-    mut pass: Pass,
-    program: &Verified,
-    times: u64,
-) -> Pass
+fn merges<R: Wait>(rt: &R, map: &StripedMap, mut pass: Pass, program: &Verified, times: u64) -> Pass
     requires { pass.map ≡ map.now }
     ensures { result.map ≡ map.now }
 {

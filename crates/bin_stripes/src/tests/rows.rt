@@ -16,7 +16,11 @@ fn open_refuses_by_the_first_test_that_fails(rt: HostRuntime) -> Result<(), Fail
         (64, 64, 0),
     ];
     for (stripes, passes, wanted) in rows {
-        assert_eq!(rt; refusal(rt.alloc(), stripes, passes), wanted, "{stripes}, {passes}");
+        assert_eq!(rt;
+            refusal(rt.alloc(), stripes, passes),
+            wanted,
+            "{stripes}, {passes}"
+        );
     }
     Ok(())
 }
@@ -44,13 +48,20 @@ fn last_entries_are_in_key_order(rt: HostRuntime) -> Result<(), Fail> {
     let entries = map.close(&rt, rt.alloc(), both)?;
     assert_eq!(rt; entries.len(), 2);
     for (entry, (name, bytes)) in entries.iter().zip(&[(b"a", [1]), (b"b", [2])]) {
-        assert!(rt; entry.0.as_slice() == name.as_slice() && entry.1.as_slice() == bytes.as_slice());
+        assert!(rt;
+            entry.0.as_slice() == name.as_slice() && entry.1.as_slice() == bytes.as_slice()
+        );
     }
     Ok(())
 }
 
 // Tries a call, a scan and a replacement, on a key of stripe 0; whether each was made on that entry.
-fn are_made(alloc: Global, map: &StripedMap, pass: &mut Pass, program: &Verified) -> Result<bool, Fail>
+fn are_made(
+    alloc: Global,
+    map: &StripedMap,
+    pass: &mut Pass,
+    program: &Verified,
+) -> Result<bool, Fail>
     requires { pass.old.map ≡ map.now }
     ensures { pass.new.map ≡ map.now }
 {
@@ -114,13 +125,28 @@ fn a_stripe_has_its_own_keys(rt: HostRuntime) -> Result<(), Fail> {
     let (map, mut passes) = opened(rt.alloc(), 4, 1)?;
     let mut pass = next_pass(&map, &mut passes)?;
     assert_eq!(rt; map.stripes(), 4);
-    assert_eq!(rt; (map.stripe_of(&key(b"")?), map.stripe_of(&key(b"ab")?)), (1, 2));
+    assert_eq!(rt;
+        (map.stripe_of(&key(b"")?), map.stripe_of(&key(b"ab")?)),
+        (1, 2)
+    );
     map.call(&rt, &mut pass, &put(b"", &ONE)?)?;
     map.call(&rt, &mut pass, &put(b"ab", &ONE)?)?;
-    assert_eq!(rt; scanned(&rt, rt.alloc(), &map, &mut pass, 0).map(|found| found.len()), Some(0));
-    assert_eq!(rt; scanned(&rt, rt.alloc(), &map, &mut pass, 1).map(|found| found.len()), Some(1));
-    assert_eq!(rt; scanned(&rt, rt.alloc(), &map, &mut pass, 2).map(|found| found.len()), Some(1));
-    assert_eq!(rt; scanned(&rt, rt.alloc(), &map, &mut pass, 3).map(|found| found.len()), Some(0));
+    assert_eq!(rt;
+        scanned(&rt, rt.alloc(), &map, &mut pass, 0).map(|found| found.len()),
+        Some(0)
+    );
+    assert_eq!(rt;
+        scanned(&rt, rt.alloc(), &map, &mut pass, 1).map(|found| found.len()),
+        Some(1)
+    );
+    assert_eq!(rt;
+        scanned(&rt, rt.alloc(), &map, &mut pass, 2).map(|found| found.len()),
+        Some(1)
+    );
+    assert_eq!(rt;
+        scanned(&rt, rt.alloc(), &map, &mut pass, 3).map(|found| found.len()),
+        Some(0)
+    );
     let counts = replaced(&rt, &map, &mut pass, &program)?;
     assert_eq!(rt; (counts.scanned, counts.given, counts.unfit), (1, 1, 0));
     let sum = map.call(&rt, &mut pass, &get(b"")?)?;

@@ -46,6 +46,8 @@ pub returns : goal.returns
 returns g c = let table = c.args.table.now in let i = c.loop-number.number in let p = c.args.passes in let inv = c.loop-number.invariant in
     let one : p - i ≡ suc 0 = (let t = c.loop-number-test.false in let q = c.requires.passes.1.0 in let e = c.loop-number.auto.number-end in omega arith) in
     let last : i + 1 ≡ p = (let t = c.loop-number-test.false in let q = c.requires.passes.1.0 in let e = c.loop-number.auto.number-end in omega arith) in
-    record { dealt = c.in_ok-push-2.ensures.items ∙ (dealt_more table.table_id p i c.loop-number.all.items c.dealt_pass-2.result inv.2
-        (c.dealt_pass-2.ensures.pass ∙ pass_is table.table_id p i _ _ inv.0 (ap (λ m. m.0) (inv.1 ∙ ap (λ k. (newcomer table.table_id.slots p (from_on i k), [])) one)))
-        ∙ ap (λ n. map (pass_of table.table_id p) (from_on 0 n)) last) }
+    record {
+      dealt = c.in_ok-push-2.ensures.items ∙ (dealt_more table.table_id p i c.loop-number.all.items c.dealt_pass-2.result inv.2
+          (c.dealt_pass-2.ensures.pass ∙ pass_is table.table_id p i _ _ inv.0 (ap (λ m. m.0) (inv.1 ∙ ap (λ k. (newcomer table.table_id.slots p (from_on i k), [])) one)))
+          ∙ ap (λ n. map (pass_of table.table_id p) (from_on 0 n)) last);
+    }

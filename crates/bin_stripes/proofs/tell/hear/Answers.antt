@@ -9,9 +9,15 @@ use Rattle.bin_stripes.proofs.TellingLemmas.{learns_of, told_sound, told_again, 
 use Rattle.bin_stripes.proofs.tell.hear.Goals as goal
 
 pub learn-requires : goal.learn-requires
-learn-requires g c = let seat = c.args.seat.now in let from = c.args.from.now in
-    (c.requires.seats.0, c.requires.seats.1, (view_of from.views, c.requires.from.one,
-        learns_of g.B.Bins.table c.args.table.now.key seat.id seat.me.0 from.id (view_of from.views) c.requires.rests.0.some c.requires.from.some))
+learn-requires g c = let seat = c.args.seat.now in let from = c.args.from.now in (
+  c.requires.seats.0,
+  c.requires.seats.1,
+  (
+    view_of from.views,
+    c.requires.from.one,
+    learns_of g.B.Bins.table c.args.table.now.key seat.id seat.me.0 from.id (view_of from.views) c.requires.rests.0.some c.requires.from.some,
+  ),
+)
 
 pub loop-stripe-init : goal.loop-stripe-init
 loop-stripe-init g c = let from = view_of c.args.from.now.views in let v = c.args.seat.now.me.0 in let u = c.learn.new.seat.me in let t = told_is from v u.0 c.learn.ensures.3.0 c.args.from.now.views c.learn.ensures.3.1 refl c.learn.ensures.3.2 in

@@ -16,17 +16,37 @@ pub returns-then-is_inside-clause-ended : goal.returns-then-is_inside-clause-end
 returns-then-is_inside-clause-ended g c =
     let (read, written, consumed, appended, all) = c.loop.invariant.so_far in
     let none : c.in-Ok.n ≡ 0 = omega (arith, c.if-n-eq0.true) in
-    let inside : is_inside c.loop.feeder ≡ true = let told = c.is_inside.ensures in let test = c.if-is_inside.true in cc in
-    (read, (written, (nothing_came g.S.Service.answers _ _ _ read c.read.new.buffer c.in-Ok.n consumed c.in-Ok.ensures.bytes.0 none, (appended,
-    cut_end g.S.Service.answers c.args.service.now c.loop.service c.loop.feeder read written inside all))))
+    let inside : is_inside c.loop.feeder ≡ true = let told = c.is_inside.ensures in let test = c.if-is_inside.true in cc in (
+      read,
+      (
+        written,
+        (
+          nothing_came g.S.Service.answers _ _ _ read c.read.new.buffer c.in-Ok.n consumed c.in-Ok.ensures.bytes.0 none,
+          (
+            appended,
+            cut_end g.S.Service.answers c.args.service.now c.loop.service c.loop.feeder read written inside all,
+          ),
+        ),
+      ),
+    )
 
 pub returns-then-n-eq0-clause-ended : goal.returns-then-n-eq0-clause-ended
 returns-then-n-eq0-clause-ended g c =
     let (read, written, consumed, appended, all) = c.loop.invariant.so_far in
     let none : c.in-Ok.n ≡ 0 = omega (arith, c.if-n-eq0.true) in
-    let between : is_inside c.loop.feeder ≡ false = let told = c.is_inside.ensures in let test = c.if-is_inside.false in cc in
-    (read, (written, (nothing_came g.S.Service.answers _ _ _ read c.read.new.buffer c.in-Ok.n consumed c.in-Ok.ensures.bytes.0 none, (appended,
-    closed_end g.S.Service.answers c.args.service.now c.loop.service c.loop.feeder read written c.loop.invariant.faultless between all))))
+    let between : is_inside c.loop.feeder ≡ false = let told = c.is_inside.ensures in let test = c.if-is_inside.false in cc in (
+      read,
+      (
+        written,
+        (
+          nothing_came g.S.Service.answers _ _ _ read c.read.new.buffer c.in-Ok.n consumed c.in-Ok.ensures.bytes.0 none,
+          (
+            appended,
+            closed_end g.S.Service.answers c.args.service.now c.loop.service c.loop.feeder read written c.loop.invariant.faultless between all,
+          ),
+        ),
+      ),
+    )
 
 pub returns-in_default-feed-clause-ended : goal.returns-in_default-feed-clause-ended
 returns-in_default-feed-clause-ended g c =

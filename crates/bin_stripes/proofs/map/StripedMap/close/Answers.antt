@@ -23,7 +23,7 @@ returns g c = let known = c.pass.inside.known in let me = c.take-seat.result.me 
     let same : known.table_id ≡ c.self.inside.table.shared.table_id = ap (λ (s : PassState). s.map) c.pass.view_is ∙ (c.requires.map ∙ sym c.self.view_is) in
     let n : c.slot_count-stripes.result ≡ stripes_of known.table_id = c.slot_count-stripes.ensures ∙ ap (λ (t : TableId). t.slots) (sym same) in
     let here : HasTaken (does (stripes_of known.table_id)) empty (view_of known.views) (stripes_of known.table_id) out.0 w =
-        subst (λ (z : ℕ × View Deed). HasTaken (does z.0) empty z.1 z.0 out.0 w) (λ i. (n i, ap view_of (sym c.take-seat.ensures.2) i)) out.1.1.0 in
+    subst (λ (z : ℕ × View Deed). HasTaken (does z.0) empty z.1 z.0 out.0 w) (λ i. (n i, ap view_of (sym c.take-seat.ensures.2) i)) out.1.1.0 in
     let stripes = are_stripes (stripes_of known.table_id) (view_of known.views) w out.0 (subst (λ (t : TableId). IsStripeCount t.slots) (sym same) c.self.invariant.count) here in
     let order = ranks_by total (λ (e : Entry). e.0) in
     let up = c.in_ok-sort_by.ensures.sorted smaller order (answers_always _ _ _ (λ f a r q k. search rules)) in

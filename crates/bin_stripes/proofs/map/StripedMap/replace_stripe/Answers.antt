@@ -16,7 +16,7 @@ returns-clause-each g c = let id = c.pass.inside.known.table_id in let sid = c.s
     let k = c.args.stripe in let program = c.args.program.now in let arg = c.args.arg.now in let counts = c.make_replacements-counts.result in let m = c.make_replacements-counts.ensures.made in
     let rests = rests_of id known.views me c.pass.invariant c.take-seat.ensures.2 c.take-seat.ensures.3 in
     replaced_after id known.views me c.pass.invariant c.take-seat.ensures.2 me' k program arg counts
-        (subst (λ z. Replaces (stripes_of z) k me program arg counts me') (sym e)
-            (replaces_after (Rattle.bins.specs.contracts.list_bins.ListBinsBins.TheImpl.table-value).it sid.slots k me held me' program arg counts rests c.take.ensures.took m.0 m.1.0 m.1.1))
-        c.put.new.self.table_id c.put.new.self.views (c.put.ensures.0 ∙ (c.make_replacements-counts.ensures.same.0 ∙ (c.take.ensures.same.0 ∙ c.take-seat.ensures.0))) c.put.ensures.2
-        c.args.pass.now c.pass.view_is
+    (subst (λ z. Replaces (stripes_of z) k me program arg counts me') (sym e)
+    (replaces_after (Rattle.bins.specs.contracts.list_bins.ListBinsBins.TheImpl.table-value).it sid.slots k me held me' program arg counts rests c.take.ensures.took m.0 m.1.0 m.1.1))
+    c.put.new.self.table_id c.put.new.self.views (c.put.ensures.0 ∙ (c.make_replacements-counts.ensures.same.0 ∙ (c.take.ensures.same.0 ∙ c.take-seat.ensures.0))) c.put.ensures.2
+    c.args.pass.now c.pass.view_is

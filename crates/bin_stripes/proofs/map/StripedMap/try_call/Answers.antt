@@ -12,8 +12,8 @@ returns-clause-memory c = let id = c.pass.inside.known.table_id in let sid = c.s
     let known = c.pass.inside.known in let me = c.take-seat.result.me in let me' = c.try_call-answer.new.seat.me in
     let k = c.stripe_of-stripe.result in let i = invocation_of c.args.call.now in let answer = c.try_call-answer.ensures in
     λ refused. refused_after id known.views me c.pass.invariant c.take-seat.ensures.2 me' k i
-        (subst (λ z. Settles (stripes_of z) k me [] me') (sym e) (of_error c.try_call-answer.result NoMemory refused answer.err))
-        c.put.new.self.table_id c.put.new.self.views (c.put.ensures.0 ∙ (answer.same.0 ∙ c.take-seat.ensures.0)) c.put.ensures.2
-        (subst (λ z. Refuses (stripes_of z) k me' i) (sym e) (answer.memory refused))
-        c.args.pass.now c.pass.view_is
-        (c.stripe_of-stripe.ensures.value ∙ (λ j. stripe_of (stripes_of (sym c.requires.map j)) (c.key.ensures.value j)))
+    (subst (λ z. Settles (stripes_of z) k me [] me') (sym e) (of_error c.try_call-answer.result NoMemory refused answer.err))
+    c.put.new.self.table_id c.put.new.self.views (c.put.ensures.0 ∙ (answer.same.0 ∙ c.take-seat.ensures.0)) c.put.ensures.2
+    (subst (λ z. Refuses (stripes_of z) k me' i) (sym e) (answer.memory refused))
+    c.args.pass.now c.pass.view_is
+    (c.stripe_of-stripe.ensures.value ∙ (λ j. stripe_of (stripes_of (sym c.requires.map j)) (c.key.ensures.value j)))
