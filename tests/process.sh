@@ -139,6 +139,10 @@ serve "a session" "$hello $put_and_get" 0 "$welcome 00000003 82ffff 00000005 820
 serve "a session with a program" "$hello $register $compute" 0 "$welcome 00000009 810000000000000000 00000003 82ffff" ""
 serve "a session that is refused" "$hello $hello" 1 "$welcome 00000006 854000000000" ""
 serve "a session that is cut" "$hello 00000003 10" 1 "$welcome" ""
+# The session that docs/PROTOCOL.md shows, and the answers that stand below it.
+shown=$(sed -n "/^printf '%s' '\$/,/^' | xxd/p" docs/PROTOCOL.md | grep -v xxd | tail -n +2 | tr -d '\n')
+told=$(sed -n '/^The responses are these bytes/,$p' docs/PROTOCOL.md | sed -n '/^0/s/   .*//p' | tr -d '\n')
+serve "the session of docs/PROTOCOL.md" "$shown" 1 "$told" ""
 expect "stripes that there are not" 1 "refused 50 at 0" "not a number of stripes" exec --stripes 3
 input=/ expect "a session that can't be read" 3 "" "failed read" exec
 frames "$hello"

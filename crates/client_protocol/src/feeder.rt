@@ -1,5 +1,5 @@
 //! Requests from a stream that comes in pieces.
-ghost use Rattle.std.specs.Prelude.{◌≡◌, ◌≤◌, ◌<◌, ◌++◌, ℕ, List, [], length, take, IfOk, IfErr, IfSome, IfNone, IsOk, IsSome, OnErr, None};
+ghost use Rattle.std.specs.Prelude.{◌≡◌, ◌<◌, ◌++◌, List, [], length, take, IfOk, IfErr, IfSome, IfNone, IsOk, IsSome, OnErr, None};
 ghost use Rattle.client_protocol.specs.declared.request.Request.{Request as TheRequest};
 ghost use Rattle.client_protocol.specs.Reading.{IfFault};
 ghost use Rattle.client_protocol.specs.Frames.{Frames, Feeds, IsRequest, IsBeginning, IsFaulty, frame_of, held_of, fault_of, is_inside};

@@ -1,5 +1,5 @@
 //! Lists of fields that are a whole body behind its tag.
-ghost use Rattle.std.specs.Prelude.{◌≡◌, [], ◌∷◌, ◌++◌, length, IfOk, IfErr, Some, false};
+ghost use Rattle.std.specs.Prelude.{◌≡◌, [], ◌∷◌, IfOk, IfErr, Some, false};
 ghost use Rattle.client_protocol.specs.Bodies.{limits_after, kinds_of, takes_tail, whole, BodyHas};
 ghost use Rattle.client_protocol.specs.Reading.{Spells};
 

@@ -1,7 +1,7 @@
 //! Whole frames at the front of bytes.
 ghost use Rattle.std.specs.Prelude.{◌≡◌, ◌++◌, ◌<◌, ◌≤◌, ◌^◌, List, length, IfOk, IfErr, IfSome, IfNone};
 ghost use Rattle.client_protocol.specs.declared.request.Request.{Request as TheRequest};
-ghost use Rattle.client_protocol.specs.Bodies.{limits_after, hello_after};
+ghost use Rattle.client_protocol.specs.Bodies.{hello_after};
 ghost use Rattle.client_protocol.specs.Frames.{length_bytes, frame_of, IsRequest, IsBeginning, IsFaulty, Frames, held_of};
 ghost use Rattle.client_protocol.specs.Reading.{IfFault, Lacks};
 

@@ -1,5 +1,5 @@
 //! Versions of the protocol, and what may be sent in each.
-ghost use Rattle.std.specs.Prelude.{◌≡◌, ◌≢◌, ◌≤◌, IfSome, IfNone};
+ghost use Rattle.std.specs.Prelude.{◌≡◌, ◌≢◌, IfSome, IfNone};
 ghost use Rattle.client_protocol.specs.declared.limits.Version.{Version as TheVersion};
 ghost use Rattle.client_protocol.specs.Bodies.{version_number, limits_after};
 

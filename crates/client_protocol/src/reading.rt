@@ -1,7 +1,6 @@
 //! A request from the body of a frame.
-ghost use Rattle.std.specs.Prelude.{◌≡◌, ◌≢◌, ◌≤◌, ◌<◌, [], ◌∷◌, length, IfOk, IfErr, IfSome, IfNone, IsTrue, IsFalse};
-ghost use Rattle.client_protocol.specs.declared.reading.ReadFault.{ReadFault as TheReadFault};
-ghost use Rattle.client_protocol.specs.Bodies.{is_hello, is_none, MayCome, body_of, sizes_fields, BodyHas, limits_after};
+ghost use Rattle.std.specs.Prelude.{◌≡◌, ◌≢◌, ◌≤◌, ◌<◌, ◌∷◌, length, IfOk, IfErr, IfSome, IfNone, IsTrue, IsFalse};
+ghost use Rattle.client_protocol.specs.Bodies.{is_hello, is_none, MayCome, body_of, BodyHas, limits_after};
 ghost use Rattle.client_protocol.specs.Reading.{Spells, TakesSizes, NoSizes, ReadsBody, IfFault};
 
 use crate::fault::ProtocolFault;

@@ -1,6 +1,7 @@
 //! Frames of requests with what they ask, bytes with their fault, and responses with their frames. The values were
 //! worked out from docs/PROTOCOL.md's tables, apart from this program.
 mod faults;
+mod fields;
 mod requests;
 mod responses;
 mod streams;

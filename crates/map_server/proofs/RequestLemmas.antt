@@ -1,5 +1,5 @@
 -- What a walk answers, where its program is registered.
-use Rattle.std.proofs.Common.{◌≡◌, inl, refl, sym, subst, ℕ, List, Option, Some}
+use Rattle.std.proofs.Common.{◌≡◌, inl, refl, subst, ℕ, List, Option, Some}
 use Rattle.std.specs.Prelude.{slice_get}
 use Rattle.std.specs.FinMap as map
 use Rattle.verifier.specs.Checked.{Checked}

@@ -1,19 +1,19 @@
 -- How a session goes on and ends.
-use Rattle.std.proofs.Common.{◌≡◌, ◌≢◌, ℕ, ◌+◌, ◌≤◌, ◌<◌, ◌⊎◌, inl, inr, Bool, true, false, List, [], ◌∷◌, ◌++◌, length, take, Option, Some, None, refl, sym, ap, subst, ◌∙◌, append_assoc, append-nil, arith}
-use Rattle.std.proofs.KnownBytes.{Appends-trans, Consumes-trans, Consumes-kept}
-use Rattle.std.specs.Io.KnownBytes.{Appends, Consumes, Keeps}
+use Rattle.std.proofs.Common.{◌≡◌, ◌≢◌, ℕ, ◌+◌, ◌⊎◌, inl, inr, true, false, List, [], ◌∷◌, ◌++◌, take, Option, Some, None, refl, sym, ap, subst, append-nil, arith}
+use Rattle.std.proofs.KnownBytes.{Appends-trans, Consumes-trans}
+use Rattle.std.specs.Io.KnownBytes.{Appends, Consumes}
 use Rattle.client_protocol.specs.declared.limits.Version.{Version}
 use Rattle.client_protocol.specs.declared.request.Request.{Request}
 use Rattle.client_protocol.specs.declared.fault.ProtocolFault.{ProtocolFault}
 use Rattle.client_protocol.specs.declared.response.Response.{Response}
-use Rattle.client_protocol.specs.Frames.{Held, Frames, Feeds, fault_of, is_inside}
+use Rattle.client_protocol.specs.Frames.{Held, Feeds, fault_of, is_inside}
 use Rattle.client_protocol.specs.Frames.Held.{open_at, failed}
 use Rattle.client_protocol.specs.Faults.{fault_number}
 use Rattle.client_protocol.proofs.FrameLaws.{frames_go_on}
 use Rattle.map_server.specs.declared.session.SessionEnd.{SessionEnd}
 use Rattle.map_server.specs.declared.session.SessionEnd.TheVariants.{Closed, Cut, Refused, ReadFailed, WriteFailed, NoMemory}
 use Rattle.map_server.specs.Devices.{SinkState, Takes, TakesPart}
-use Rattle.map_server.specs.Answering.{Answered, IsPart, BreaksOff}
+use Rattle.map_server.specs.Answering.{Answered, BreaksOff}
 use Rattle.map_server.specs.Sessions.{refusal, AllAnswered, Owes, Ended}
 use Rattle.map_server.proofs.AnsweringLemmas.{answered_then, answered_none, breaks_then}
 

@@ -1,5 +1,5 @@
 -- What `bpfmap exec` does: a session over a table of its own, and how its end is told.
-use Rattle.std.specs.Prelude.{◌≡◌, ◌≢◌, ◌+◌, ◌⊎◌, ℕ, true, List, codes}
+use Rattle.std.specs.Prelude.{◌≡◌, ◌+◌, ◌⊎◌, ℕ, true, List, codes}
 use Rattle.std.specs.Io.KnownBytes.{Appends, Consumes, IsAtEnd, Keeps}
 use Rattle.atomic_methods.specs.Hashes.{IsStripeCount}
 use Rattle.map_server.specs.declared.alone.Alone.{Alone}

@@ -5,7 +5,7 @@ use Rattle.std.specs.FinMap as map
 use Rattle.bpf_model.specs.declared.input.Sizes.{Sizes}
 use Rattle.verifier.specs.Checked.{Checked}
 use Rattle.verifier.specs.Faults.{ExceedLimits}
-use Rattle.bins.specs.Table.{Table, Entry}
+use Rattle.bins.specs.Table.{Entry}
 use Rattle.bins.specs.Replacements.{ReplacesEach}
 use Rattle.bins.specs.declared.counts.Counts.{Counts}
 use Rattle.atomic_methods.specs.Invocations.{Invocation, on_key, get, put, put_if_absent, remove, remove_if, replace, replace_if, compute, compute_if_absent, compute_if_present, merge}

@@ -1,7 +1,7 @@
 //! The command `exec`: a session over the streams, and a table of its own.
 ghost use Rattle.std.specs.Prelude.{◌≢◌, ◌<◌, ◌-◌, ◌^◌};
 ghost use Rattle.map_server.specs.Endings.{outputs};
-ghost use Rattle.map_server.specs.Executions.{Executes, Flushes, HasSession, TellsEnd};
+ghost use Rattle.map_server.specs.Executions.{Executes, Flushes, TellsEnd};
 
 use crate::alone::{Alone, session_alone};
 use crate::bpfmap::ending::{Ending, FAILED_DEVICE, warn};

@@ -1,6 +1,6 @@
 //! Hex text: pairs of hexadecimal digits of either case, with blank space before, between and after them.
 ghost use Rattle.std.specs.Prelude.{◌≡◌, ◌↔◌, ◌<◌, ◌+◌, ◌*◌, ◌++◌, List, ℕ, IsTrue, IsSome, IfSome, IfNone, IfOk, IfErr, MatchResult, unwrap_or, option_to_list};
-ghost use Rattle.map_server.specs.Hex.{Piece, IsPiece, IsBlank, digit_of, text_of, bytes_of, HasNoPiece, SpellsBytes, IsFault};
+ghost use Rattle.map_server.specs.Hex.{Piece, IsPiece, IsBlank, digit_of, text_of, bytes_of, HasNoPiece, SpellsBytes};
 ghost use Rattle.map_server.specs.HexFaults.{TellsFault};
 
 use std::alloc::{AllocFailed, Global};

@@ -1,7 +1,7 @@
 //! What a refusal means, in words: a line for standard error.
 ghost use Rattle.std.specs.Prelude.{◌≡◌, ◌++◌, codes, IfOk, string_bytes};
 ghost use Rattle.bpf_model.specs.Program.{instruction_at};
-ghost use Rattle.map_server.specs.Meanings.{refused_instruction, verdict, IsVerdict, IsMeaning};
+ghost use Rattle.map_server.specs.Meanings.{refused_instruction, verdict, IsMeaning};
 
 use crate::admission::AdmissionFault;
 use crate::bpfmap::commands::program_of;

@@ -5,5 +5,6 @@ mod faults;
 mod meanings;
 mod memory;
 mod programs;
+mod refused_memory;
 mod sessions;
 mod texts;

@@ -1,5 +1,5 @@
 -- the requests so far are answered
-use Rattle.std.proofs.Common.{◌≡◌, ℕ, List, take}
+use Rattle.std.proofs.Common.{ℕ, List, take}
 use Rattle.map_server.specs.Answering.{Answered}
 use Rattle.map_server.specs.Devices.{Takes}
 use Rattle.map_server.proofs.session.answer_all.Given as goal

@@ -1,4 +1,4 @@
-use Rattle.std.proofs.Common.{◌≡◌, true, false, arith, [], ◌++◌, ℕ, List, take, refl, sym, ap, ◌∙◌}
+use Rattle.std.proofs.Common.{◌≡◌, true, false, arith, [], ◌++◌, take, refl, sym, ap, ◌∙◌}
 use Rattle.std.proofs.KnownBytes.{Appends-trans, Appends-nil, Consumes-trans, Consumes-nil}
 use Rattle.client_protocol.specs.Frames.{fault_of, is_inside}
 use Rattle.map_server.proofs.SessionLemmas.{nothing_came, cut_end, closed_end, begins, goes_on, write_failed_end, memory_ends, fault_ends}

@@ -1,5 +1,5 @@
 -- what was read is answered so far
-use Rattle.std.proofs.Common.{◌≡◌, ℕ, List, Option, None}
+use Rattle.std.proofs.Common.{◌≡◌, ℕ, List, None}
 use Rattle.std.specs.Io.KnownBytes.{Appends, Consumes}
 use Rattle.client_protocol.specs.Frames.{fault_of}
 use Rattle.map_server.specs.Sessions.{AllAnswered}

@@ -1,8 +1,7 @@
-use Rattle.std.proofs.Common.{◌∙◌, ap, sym, subst, map, List, ℕ}
+use Rattle.std.proofs.Common.{map}
 use Rattle.std.proofs.lemmas.Result.{err_from_is_err_and}
 use Rattle.client_protocol.specs.Responses.{response_frame, response_frames}
 use Rattle.map_server.specs.Answering.{item_of, end_of}
-use Rattle.map_server.specs.Devices.{SinkState, Takes, TakesPart}
 use Rattle.map_server.proofs.AnsweringLemmas.{takes_then, part_more, part_after, walk_frames}
 use Rattle.map_server.proofs.session.send.send.Goals as goal
 

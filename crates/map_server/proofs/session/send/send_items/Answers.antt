@@ -1,7 +1,5 @@
-use Rattle.std.proofs.Common.{arith, take, drop, map, ◌+◌, ◌++◌}
+use Rattle.std.proofs.Common.{arith}
 use Rattle.std.proofs.lemmas.Result.{err_from_is_err_and}
-use Rattle.client_protocol.specs.Responses.{response_frame, response_frames}
-use Rattle.map_server.specs.Answering.{item_of}
 use Rattle.map_server.proofs.AnsweringLemmas.{part_at}
 use Rattle.map_server.proofs.session.send.send_items.Goals as goal
 
