@@ -57,6 +57,15 @@ impl Frame {
         }
     }
 
+    /// Becomes a copy of another frame, in place. Takes no memory.
+    pub fn copy_from(&mut self, other: &Frame)
+        ensures value { self.new ≡ other.now }
+    {
+        self.result = other.result;
+        self.stack = other.stack;
+        self.slots = other.slots;
+    }
+
     /// The frame after a store of a word for which the value stands. The bytes become written where their place is one
     /// alone. A slot that the store fills has the value then; every other slot that it may touch has none. Takes no
     /// memory.

@@ -21,7 +21,9 @@ pub(crate) fn join_each(slots: &mut [Option<RegValue>], other: &[Option<RegValue
         (slice_index_or other.now i None) (slice_index_or slots.new i None) }
 {
     for (index, slot) in slots.iter_mut().enumerate() {
-        *slot = joined(slot, &other[index]);
+        if slot.is_some() {
+            *slot = joined(slot, &other[index]);
+        }
     }
 }
 

@@ -1,5 +1,5 @@
 //! The states that are kept for units ahead.
-ghost use Rattle.std.specs.Prelude.{◌≡◌, ◌≢◌, ◌<◌, ℕ, Some, None, OnOk, vec_len};
+ghost use Rattle.std.specs.Prelude.{◌≡◌, ◌≢◌, ◌<◌, ℕ, Some, None, IfOk, OnOk, vec_len};
 ghost use Rattle.verifier.specs.Walks.{boxed, kept_at, IncludesSome, MeetsKnown};
 
 use crate::abstract_state::AbstractState;
@@ -11,6 +11,8 @@ pub struct Pending {
     alloc: Global,
     // by unit, up to the last one to which a jump led so far
     states: Vec<Option<Box<AbstractState>>>,
+    // room of a state that is kept no more, for the next one
+    spare: Option<Box<AbstractState>>,
 }
 
 impl Pending {
@@ -21,6 +23,7 @@ impl Pending {
         Pending {
             alloc,
             states: Vec::new(alloc),
+            spare: None,
         }
     }
 
@@ -38,6 +41,15 @@ impl Pending {
         }
     }
 
+    /// Takes back what was given up, so that its room serves again.
+    pub fn give_back(&mut self, kept: Option<Box<AbstractState>>)
+        ensures same { (unit : ℕ) → kept_at self.new unit ≡ kept_at self.old unit }
+    {
+        if kept.is_some() {
+            self.spare = kept;
+        }
+    }
+
     /// Keeps a state for a unit, joined with what is kept for it.
     pub fn send(&mut self, unit: usize, state: &AbstractState) -> Result<(), AllocError>
         ensures sent { OnOk result (IncludesSome (Some state.now) (kept_at self.new unit)) }
@@ -49,11 +61,27 @@ impl Pending {
             → kept_at self.new other ≡ kept_at self.old other) }
     {
         self.reach(unit)?;
-        match &mut self.states[unit] {
-            Some(kept) => kept.join(state),
-            place => *place = Some(Box::new(self.alloc, state.copied())?),
+        if let Some(kept) = &mut self.states[unit] {
+            kept.join(state);
+            return Ok(());
         }
+        let copy = self.boxed(state)?;
+        self.states[unit] = Some(copy);
         Ok(())
+    }
+
+    // a copy of the state, in room that was given back if there is some
+    fn boxed(&mut self, state: &AbstractState) -> Result<Box<AbstractState>, AllocError>
+        ensures value { IfOk result (λ copy. copy.value ≡ state.now) }
+        ensures same { self.new.states ≡ self.old.states }
+    {
+        match self.spare.take() {
+            Some(mut room) => {
+                room.copy_from(state);
+                Ok(room)
+            }
+            None => Ok(Box::new(self.alloc, state.copied())?),
+        }
     }
 
     // makes a place for each unit up to this one
