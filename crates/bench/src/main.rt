@@ -5,15 +5,17 @@
 #![tactic(auto)]
 
 mod calls;
+mod made_up;
 mod programs;
 
 use anyhow::{Result, bail, ensure};
 use bpf_assembler::assemble;
 use bpf_decode::encode;
-use bpf_machine::{run, run_into};
+use bpf_machine::{Machine, run, run_into};
 use bpf_model::{Answer, Input, Insn, Key, Program, Sizes, Value, fits};
 use calls::call_often;
 use flow_shape::{Shaped, shape};
+use made_up::checksum;
 use programs::Sample;
 use std::alloc::Global;
 use std::{env, io};
@@ -83,13 +85,14 @@ fn run_into_often(alloc: Global, sample: Sample, count: u64) -> Result<()> {
     let verified = verified(alloc, sample)?;
     let inputs = inputs(alloc)?;
     ensure!(inputs.len() as u64 == INPUTS, "inputs");
+    let mut machine = Machine::new();
     let mut answer = Value::new();
     for turn in 0..count {
         let input = &inputs[(turn % INPUTS) as usize];
         ensure!(fits(&verified.sizes(), input).is_ok(), "unfit");
         let (old, arg) = (input.old.as_ref(), input.arg.as_ref());
         ensure!(
-            run_into(&verified, &input.key, old, arg, &mut answer),
+            run_into(&verified, &input.key, old, arg, &mut machine, &mut answer),
             "no bytes"
         );
     }
@@ -131,6 +134,11 @@ fn print_answer(rt: &HostRuntime, name: &str, sample: Sample) -> Result<()> {
     Ok(())
 }
 
+fn print_checksum(rt: &HostRuntime, count: u64) -> Result<()> {
+    let (safe, sum) = checksum(rt.alloc(), count)?;
+    Ok(println!(rt; "{count} made-up programs, {safe} of them safe: {sum:016x}")?)
+}
+
 fn print_answers(rt: &HostRuntime) -> Result<()> {
     print_answer(rt, "sum", Sample::Sum)?;
     print_answer(rt, "alu", Sample::Arithmetic)?;
@@ -139,7 +147,8 @@ fn print_answers(rt: &HostRuntime) -> Result<()> {
     print_answer(rt, "straight", Sample::Straight)?;
     print_answer(rt, "jumps", Sample::Jumps)?;
     print_answer(rt, "ladder", Sample::Ladder)?;
-    print_answer(rt, "spills", Sample::Spills)
+    print_answer(rt, "spills", Sample::Spills)?;
+    print_checksum(rt, 2000)
 }
 
 fn bench(rt: &HostRuntime, word: &str, name: &str, count: &str) -> Result<()> {
