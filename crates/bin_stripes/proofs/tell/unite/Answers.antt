@@ -1,8 +1,5 @@
-use Rattle.std.proofs.Common.{◌≡◌, ◌∙◌, ap, length, length-append}
-use Rattle.stripe_rule.specs.declared.view.View.{View}
 use Rattle.stripe_rule.specs.Gains.{least}
 use Rattle.stripe_rule.proofs.JoinLemmas.{unites}
-use Rattle.bin_stripes.specs.declared.deed.Deed.{Deed}
 use Rattle.bin_stripes.specs.Histories.{empty, does}
 use Rattle.bin_stripes.proofs.tell.unite.Goals as goal
 
@@ -15,7 +12,3 @@ join_seat-requires g c = let shape = c.args.table.now.key in let v = c.args.seat
       c.requires.table.2,
       unites (does shape.stripes) empty g.B.Bins.table shape.stripes shape.passes c.args.seat.now.id v c.args.other.id w (least v.numbers) (least w.numbers) r.some s.some r.idle s.idle,
     )
-
-pub returns-clause-numbers : goal.returns-clause-numbers
-returns-clause-numbers g c =
-    ap (λ m. length m.0.numbers) c.join_seat.ensures.2 ∙ length-append c.args.seat.now.me.0.numbers c.args.other.me.0.numbers
