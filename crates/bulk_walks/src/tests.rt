@@ -18,6 +18,7 @@ use verifier::{Verified, verify};
 
 mod changing;
 mod gates;
+mod refused;
 mod rows;
 
 // Eight bytes, little-endian.

@@ -3,7 +3,7 @@
 //! Thread j has two keys of one stripe, the bytes j and j + 8. At its turn t it puts t under the lower, then under the upper,
 //! and removes the lower, then the upper. So one scan of its stripe finds neither, the lower alone, both of one turn, or the
 //! upper alone; and a later scan finds no earlier state. The program adds 1 to each value.
-ghost use Rattle.std.specs.Prelude.{length, ◌≤◌};
+ghost use Rattle.std.specs.Prelude.{◌≡◌, All, IfOk};
 
 use super::*;
 use std::thread::Threads;
