@@ -1,38 +1,24 @@
 #!/usr/bin/env bash
 # Times calls on a map that threads share beside a plain C table of buckets, each guarded by a mutex; then requests of a
 # session over memory, and walks by teams: five times in turn, and prints the medians. By hand, not by the gate. It takes
-# one to three minutes; a first time takes longer, since a program is built only when all below it is proved.
-set -euo pipefail
-shopt -s inherit_errexit
-cd "$(dirname "$0")/.."
-bench=crates/map_bench/out/map_bench
-work=$(mktemp -d)
-trap 'rm -rf "$work"' EXIT
+# one to three minutes, and stops after four, where a program is built; to build it takes longer, since all below it is
+# proved first.
+source "$(dirname "$0")/common.sh" map_bench
 rounds=5
+SECONDS=0
+# seconds that all may take, and one run
+all_seconds=240
+run_seconds=30
 
-if [ ! -e $bench ] || [ -n "$(find crates.txt crates/*/src crates/*/specs crates/*/proofs -newer $bench -print -quit 2>/dev/null)" ]; then
-    (cd crates/map_bench && rt run > "$work/build.log" 2>&1) || { cat "$work/build.log"; exit 1; }
-    touch $bench
-fi
 gcc -O2 -pthread -o "$work/table" bench/table.c
 
 # a side, and its words
 side() {
+    [ $SECONDS -lt $all_seconds ] || { echo "stopped after $SECONDS seconds, at: $*" >&2; exit 1; }
     case $1 in
-        table) "$work/table" "${@:2}" ;;
-        *) "$bench" "$@" ;;
+        table) timeout $run_seconds "$work/table" "${@:2}" ;;
+        *) timeout $run_seconds "$bench" "$@" ;;
     esac
-}
-
-# nanoseconds that so much takes, without what a start and the filling take: how often, a side, its words but the last
-elapsed() {
-    local begun started ended
-    begun=$(date +%s%N)
-    side "${@:2}" 0 > "$work/out"
-    started=$(date +%s%N)
-    side "${@:2}" "$1" > "$work/out"
-    ended=$(date +%s%N)
-    echo $((ended - started - (started - begun)))
 }
 
 # the median of the times in a file

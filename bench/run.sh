@@ -3,17 +3,8 @@
 # units and windows; direct threading; each by gcc and by clang), `verify` of verifier, and calls on a table: seven times in
 # turn, and prints the medians. Where valgrind is installed, instructions a run too. By hand, not by the gate. It takes some
 # seconds; a first time takes minutes, since a program is built only when all below it is proved.
-set -euo pipefail
-shopt -s inherit_errexit
-cd "$(dirname "$0")/.."
-bench=crates/bench/out/bench
-work=$(mktemp -d)
-trap 'rm -rf "$work"' EXIT
+source "$(dirname "$0")/common.sh" bench
 
-if [ ! -e $bench ] || [ -n "$(find crates.txt crates/*/src crates/*/specs crates/*/proofs -newer $bench -print -quit 2>/dev/null)" ]; then
-    (cd crates/bench && rt run > "$work/build.log" 2>&1) || { cat "$work/build.log"; exit 1; }
-    touch $bench
-fi
 loops=()
 for compiler in gcc clang; do
     command -v $compiler > /dev/null || continue
@@ -33,24 +24,13 @@ side() {
     esac
 }
 
-# nanoseconds that the runs take, without what a start takes
-elapsed() {
-    local begun started ended
-    begun=$(date +%s%N)
-    side "$1" "$2" 0 > "$work/out"
-    started=$(date +%s%N)
-    side "$1" "$2" "$3" > "$work/out"
-    ended=$(date +%s%N)
-    echo $((ended - started - (started - begun)))
-}
-
 # the median of seven times of each side, in turn: a program, how often, sides
 medians() {
     local program=$1 count=$2
     shift 2
     for name in "$@"; do : > "$work/$name.times"; done
     for _ in 1 2 3 4 5 6 7; do
-        for name in "$@"; do elapsed "$name" "$program" "$count" >> "$work/$name.times"; done
+        for name in "$@"; do elapsed "$count" "$name" "$program" >> "$work/$name.times"; done
     done
     for name in "$@"; do sort -n "$work/$name.times" | sed -n 4p; done
 }

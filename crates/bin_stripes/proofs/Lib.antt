@@ -6,3 +6,4 @@ pub mod TellingLemmas
 pub mod PassLemmas
 pub mod ClosingLemmas
 pub mod PassLists
+pub mod StripeContent

@@ -1,23 +1,17 @@
 -- New passes: what each has, and how they are dealt.
-use Rattle.std.proofs.Common.{◌≡◌, ℕ, zero, suc, ◌+◌, ◌-◌, ◌<◌, true, false, ◌||◌, eqb, List, [], ◌∷◌, ◌++◌, Option, Some, map, replicate, length, refl, sym, ap, ◌∙◌, subst, arith, eq-eqb, All}
+use Rattle.std.proofs.Common.{◌≡◌, ℕ, zero, suc, ◌+◌, false, ◌||◌, List, [], ◌∷◌, ◌++◌, map, replicate, refl, sym, ap, ◌∙◌, subst, arith, eq-eqb}
 use Rattle.std.proofs.lemmas.List.{length-replicate}
 use Rattle.std.proofs.lemmas.List.Elements.{All-nil}
-use Rattle.atomic_table.specs.Table.{Splits, State}
 use Rattle.atomic_table.specs.Seated.{TableId}
-use Rattle.stripe_rule.specs.declared.view.Event.{Event}
 use Rattle.stripe_rule.specs.declared.view.Part.{Part}
 use Rattle.stripe_rule.specs.declared.view.View.{View}
-use Rattle.stripe_rule.specs.History.{has, made_by, AreUnder, AreBelow, IsLegal}
-use Rattle.stripe_rule.specs.Gains.{blank, least, part_of, seen_of, mine_of, Carries, IsIdle}
-use Rattle.stripe_rule.specs.Rule.{from_on, newcomer, Kept}
-use Rattle.stripe_rule.specs.Steps.{with_numbers, head_of, tail_of}
+use Rattle.stripe_rule.specs.History.{made_by, AreUnder, AreBelow, IsLegal}
+use Rattle.stripe_rule.specs.Gains.{blank, part_of}
+use Rattle.stripe_rule.specs.Rule.{from_on, newcomer}
 use Rattle.stripe_rule.proofs.HistoryLemmas.{IsUnder, IsBelow}
-use Rattle.stripe_rule.proofs.OpenLemmas.{part_new, deals_as}
-use Rattle.bins.specs.Table.{Table}
+use Rattle.stripe_rule.proofs.OpenLemmas.{part_new}
 use Rattle.bin_stripes.specs.declared.deed.Deed.{Deed}
-use Rattle.bin_stripes.specs.declared.rule.Shape.{Shape}
 use Rattle.bin_stripes.specs.Histories.{empty, does, Sound}
-use Rattle.bin_stripes.specs.Holding.{IsLaid}
 use Rattle.bin_stripes.specs.Passes.{IsPass, stripes_of, PassState}
 use Rattle.bin_stripes.specs.Opened.{pass_of}
 

@@ -4,20 +4,19 @@ use mathlib.Core.Option as maybe
 use prog.Atomic.{either}
 use Rattle.atomic_table.specs.Table.{State, Me, step, rest, Allows}
 use Rattle.atomic_table.specs.Seated.{TableId}
-use Rattle.stripe_rule.specs.declared.view.Event.{Event}
 use Rattle.stripe_rule.specs.declared.view.View.{View}
 use Rattle.stripe_rule.specs.History.{AreUnder}
-use Rattle.stripe_rule.specs.Gains.{least, Carries, IsIdle, held_at, seen_of, mine_of, own_event, part_of, Adds}
+use Rattle.stripe_rule.specs.Gains.{least, Carries, held_at, seen_of, mine_of, own_event, part_of, Adds}
 use Rattle.stripe_rule.specs.Rule.{Kept}
 use Rattle.stripe_rule.specs.Steps.{Sets, Extends, Looks, Takes, Releases, grown}
 use Rattle.stripe_rule.proofs.TakeLemmas.{takes_it, looks}
 use Rattle.stripe_rule.proofs.ReleaseLemmas.{releases}
-use Rattle.stripe_rule.proofs.CallLemmas.{least_has, own_under, own_same, carries_same, extends_self, extends_again, adds_none, adds_after, idle_after, idle_released}
+use Rattle.stripe_rule.proofs.CallLemmas.{least_has, own_under, own_same, carries_same, extends_again, adds_none, adds_after, idle_after, idle_released}
 use Rattle.bins.specs.Table.{Table}
 use Rattle.bin_stripes.specs.declared.deed.Deed.{Deed}
 use Rattle.bin_stripes.specs.declared.rule.Shape.{Shape}
 use Rattle.bin_stripes.specs.Actions.{Action}
-use Rattle.bin_stripes.specs.Histories.{empty, does, own_events, Leaves, Sound}
+use Rattle.bin_stripes.specs.Histories.{empty, does, own_events, Leaves}
 use Rattle.bin_stripes.specs.Releasing.{looked, took, released, Lets}
 use Rattle.bin_stripes.specs.Holding.{IsLaid, Rests, Settles, Holds, Refuses, Replaces}
 use Rattle.bin_stripes.specs.Invoked.{AreReplacements}

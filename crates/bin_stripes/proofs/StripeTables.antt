@@ -1,10 +1,10 @@
 -- The tables that the events of a stripe leave: their keys lie in the stripe.
-use Rattle.std.proofs.Common.{◌≡◌, ◌≢◌, ℕ, ◌<◌, Bool, true, false, T, cond, is_eq, List, [], ◌∷◌, ◌++◌, Option, Some, None, refl, sym, ap, ◌∙◌, subst, All}
+use Rattle.std.proofs.Common.{◌≡◌, ℕ, true, false, cond, is_eq, List, [], ◌∷◌, Option, Some, None, refl, sym, ap, ◌∙◌, subst, All}
 use Rattle.std.proofs.lemmas.List.Elements.{All-nil, All-cons}
 use Rattle.std.specs.Ordering.{eq_by_cmp}
 use Rattle.std.specs.Cmp.{tied_itself}
 use Rattle.std.specs.FinMap as map
-use Rattle.std.specs.FinMap.{find, is_sorted, get-entries, get-empty, get-insert, get-remove, entries_sorted}
+use Rattle.std.specs.FinMap.{find, get-entries, get-empty, get-insert, get-remove, entries_sorted}
 use Rattle.stripe_rule.specs.declared.view.Event.{Event}
 use Rattle.bins.specs.Table.{Entry, Table, by_bytes}
 use Rattle.atomic_methods.specs.Hashes.{stripe_of}

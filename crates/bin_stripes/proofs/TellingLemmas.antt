@@ -1,19 +1,15 @@
 -- A pass at rest that is told, and looks.
-use Rattle.std.proofs.Common.{◌≡◌, ℕ, ◌<◌, false, List, [], ◌∷◌, ◌++◌, Option, refl, sym, ap, ◌∙◌, subst, All}
-use lib.ListN.{get_elem?}
-use mathlib.Core.Option as maybe
+use Rattle.std.proofs.Common.{◌≡◌, ℕ, List, [], ◌∷◌, ◌++◌, Option, refl, sym, ap, ◌∙◌, subst}
 use Rattle.known_seat.specs.Knowing.{Learns}
-use Rattle.atomic_table.specs.Table.{State, Me}
-use Rattle.atomic_table.specs.Seated.{TableId}
-use Rattle.stripe_rule.specs.declared.view.Event.{Event}
+use Rattle.atomic_table.specs.Table.{Me}
 use Rattle.stripe_rule.specs.declared.view.Part.{Part}
 use Rattle.stripe_rule.specs.declared.view.View.{View}
 use Rattle.stripe_rule.specs.History.{has, made_by, AreUnder, AreOthers, AreBelow, IsLegal}
-use Rattle.stripe_rule.specs.Gains.{least, part_of, seen_of, held_at, Carries, IsIdle}
+use Rattle.stripe_rule.specs.Gains.{least, seen_of, Carries}
 use Rattle.stripe_rule.specs.Rule.{Kept}
 use Rattle.stripe_rule.specs.Steps.{IsTold, HasHeard, Looks, told_part, view_of}
 use Rattle.stripe_rule.proofs.CallLemmas.{least_has, carries_same}
-use Rattle.stripe_rule.proofs.TellLemmas.{told_by, heard_none, heard_more}
+use Rattle.stripe_rule.proofs.TellLemmas.{told_by, heard_none}
 use Rattle.bins.specs.Table.{Table}
 use Rattle.bin_stripes.specs.declared.deed.Deed.{Deed}
 use Rattle.bin_stripes.specs.declared.rule.Shape.{Shape}

@@ -1,5 +1,5 @@
 -- Actions as ghost data: how they are told apart.
-use Rattle.std.specs.Prelude.{◌≡◌, ◌⊎◌, ℕ, List, Option, Result}
+use Rattle.std.specs.Prelude.{◌≡◌, ◌⊎◌, ℕ, List, Option}
 use Rattle.std.specs.Coded.{Coded, code_by, coded_ℕ, coded_list, coded_option, coded_result, coded×, coded⊎}
 use base.Stored.{coded_unit}
 use mathlib.Core.Path.{refl}

@@ -4,7 +4,7 @@ use Rattle.std.specs.FinMap as finmap
 use Rattle.stripe_rule.specs.declared.view.Event.{Event}
 use Rattle.stripe_rule.specs.declared.view.View.{View}
 use Rattle.stripe_rule.specs.History.{Replays}
-use Rattle.stripe_rule.specs.Gains.{own_event, seen_of, IsSound}
+use Rattle.stripe_rule.specs.Gains.{own_event, IsSound}
 use Rattle.bins.specs.Table.{Table}
 use Rattle.bin_stripes.specs.declared.deed.Deed.{Deed}
 use Rattle.bin_stripes.specs.Actions.{Action, Does}

@@ -1,7 +1,7 @@
 //! What one pass knows is told to another, and two passes become one.
-ghost use Rattle.std.specs.Prelude.{◌≡◌, []};
+ghost use Rattle.std.specs.Prelude.{◌≡◌, ◌<◌, []};
 ghost use Rattle.stripe_rule.specs.Gains.{Hears, IsJoined, Carries, least};
-ghost use Rattle.stripe_rule.specs.Steps.{HasHeard, view_of};
+ghost use Rattle.stripe_rule.specs.Steps.{HasHeard, united, view_of};
 ghost use Rattle.bin_stripes.specs.Histories.{Sound};
 ghost use Rattle.bin_stripes.specs.Holding.{IsLaid, Rests};
 ghost use Rattle.bin_stripes.specs.Passes.{IsPass, Serves, stripes_of};
@@ -43,12 +43,23 @@ impl StripedMap {
         let Pass { known: mut other } = other;
         let mut seat = one.take();
         hear(table, &other, &mut seat, stripes);
-        table.join_seat::<Unite>(&mut seat, other.take());
+        unite(table, &mut seat, other.take());
         table.load::<Look>(&mut seat, 0);
         Pass {
             known: Known::of(seat),
         }
     }
+}
+
+// The seat comes to carry what both carried, and the other is spent.
+fn unite<B: Bins + Drop>(table: &Stripes<B>, seat: &mut Stand<B>, other: Stand<B>)
+    requires table { (seat.old.table_id ≡ table.now.table_id) × (other.table_id ≡ table.now.table_id)
+        × (0 < table.now.table_id.words) }
+    requires rests { Rests seat.old.me × Rests other.me }
+    ensures same { (seat.new.table_id ≡ seat.old.table_id) × (seat.new.id ≡ seat.old.id) }
+    ensures both { seat.new.me ≡ (united seat.old.me.0 other.me.0, seat.old.me.1) }
+{
+    table.join_seat::<Unite>(seat, other);
 }
 
 // The seat hears of all that the one at rest has seen: it learns of it, and a look at each word shows it.

@@ -1,5 +1,5 @@
 -- From what each worker found to what the team found.
-use Rattle.std.proofs.Common.{◌≡◌, ℕ, suc, ◌+◌, ◌%◌, ◌<◌, ◌≤◌, List, [], length, map, sum_by, get_or, slice_index_or, Result, Ok, Err, IfOk, IsOk, All, None, Vec, Global, false, refl, sym, ap, ◌∙◌, subst, arith, add-one}
+use Rattle.std.proofs.Common.{◌≡◌, ℕ, suc, ◌%◌, ◌<◌, List, [], length, sum_by, get_or, Result, Ok, Err, IfOk, IsOk, All, Vec, Global, false, refl, sym, ap, ◌∙◌, subst, arith, add-one}
 use Rattle.std.specs.Ordering.{is_lt}
 use Rattle.std.specs.List.Sorted.{IsPermutation, IsSortedBy}
 use Rattle.std.proofs.lemmas.List.{get_or-map, length-map}
@@ -15,7 +15,7 @@ use Rattle.bpf_model.specs.declared.memory.NoMemory.{NoMemory}
 use Rattle.walk_replies.specs.declared.row.Row.{Row}
 use Rattle.walk_replies.specs.declared.row.Fate.TheVariants.{Waiting}
 use Rattle.walk_replies.specs.Rows.{entry_of}
-use Rattle.bulk_walks.specs.Walks.{IsTurn, Walked, AllWalked, Each, IsScan, MayScan, sum_below}
+use Rattle.bulk_walks.specs.Walks.{IsTurn, Walked, AllWalked, Each, IsScan, sum_below}
 use Rattle.bulk_walks.specs.Turns.{turn_sum, Finds, EachFinds, FindsAll, found_sum, entries_of, comes_before}
 use Rattle.bulk_walks.proofs.Sums.{turn_sum-same, sums_of_turns}
 use Rattle.bulk_walks.proofs.TeamLemmas.{Turn, together, all_walked}

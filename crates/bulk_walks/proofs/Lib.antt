@@ -8,3 +8,4 @@ pub mod FoundLemmas
 pub mod RunLemmas
 pub mod ReplaceLemmas
 pub mod PassLemmas
+pub mod SameScans

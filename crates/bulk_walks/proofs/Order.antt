@@ -1,15 +1,14 @@
 -- Sorted entries of which none stands twice rise.
-use Rattle.std.proofs.Common.{◌≡◌, ◌≢◌, ℕ, zero, suc, ◌+◌, ◌%◌, ◌<◌, ◌≤◌, List, [], ◌∷◌, Bool, true, false, cond, ◌&&◌, length, get_or, sum_by, All, refl, sym, ap, subst, ◌∙◌, inl, inr, arith, T}
+use Rattle.std.proofs.Common.{◌≡◌, ◌≢◌, ℕ, zero, suc, ◌<◌, ◌≤◌, List, [], ◌∷◌, Bool, true, false, cond, ◌&&◌, length, get_or, sum_by, All, refl, sym, ap, subst, ◌∙◌, inl, inr, arith, T}
 use Rattle.std.specs.declared.cmp.Ordering.{Ordering}
 use Rattle.std.specs.declared.cmp.Ordering.TheVariants.{Less, Equal, Greater}
 use Rattle.std.specs.Ordering.{is_lt, is_eq, ordering_reverse}
-use Rattle.std.specs.Cmp.{IsTotalOrder}
 use Rattle.std.specs.Cmp.Lexicographic.{nat_list_cmp_total}
 use Rattle.std.specs.FinMap.{is_sorted, slice_cmp-IsAntisymmetric, nat_cmp-IsAntisymmetric}
 use Rattle.std.specs.FinMap.Entries.{below_all}
 use Rattle.std.proofs.lemmas.List.Sums.{sum_by-cons}
 use Rattle.std.proofs.lemmas.List.Elements.{All-head, All-tail}
-use Rattle.std.proofs.lemmas.Bool.{cases_eq, false≢true, true≢false}
+use Rattle.std.proofs.lemmas.Bool.{cases_eq, false≢true}
 use Rattle.bins.specs.Table.{Entry, by_bytes}
 use Rattle.atomic_methods.specs.Hashes.{stripe_of}
 use Rattle.bin_stripes.specs.Invoked.{AreOf}
@@ -19,20 +18,20 @@ both : (a b : Bool) → T a → T b → T (a && b)
 both true b p q = q
 both false b p q = p
 
-first : (a b : Bool) → T (a && b) → T a
+pub first : (a b : Bool) → T (a && b) → T a
 first true b p = tt
 first false b p = p
 
-second : (a b : Bool) → T (a && b) → T b
+pub second : (a b : Bool) → T (a && b) → T b
 second true b p = p
 second false b p = absurd p
 
-less_of : (r : Ordering) → T (is_lt r) → r ≡ Less
+pub less_of : (r : Ordering) → T (is_lt r) → r ≡ Less
 less_of Less h = refl
 less_of Equal h = absurd h
 less_of Greater h = absurd h
 
-below_less : (x y : List ℕ) (es : List Entry) → by_bytes x y ≡ Less → T (below_all by_bytes y es) → T (below_all by_bytes x es)
+pub below_less : (x y : List ℕ) (es : List Entry) → by_bytes x y ≡ Less → T (below_all by_bytes y es) → T (below_all by_bytes x es)
 below_less x y [] p h = tt
 below_less x y (e ∷ es) p h = both _ _ (subst (λ r. T (is_lt r)) (sym (nat_list_cmp_total.trans x y e.0 p (less_of _ (first _ _ h)))) tt) (below_less x y es p (second _ _ h))
 
@@ -43,7 +42,7 @@ one_if r = cond (is_eq r) 1 0
 abbrev pub at_key : List ℕ → Entry → ℕ
 at_key key e = one_if (by_bytes key e.0)
 
-self : (x y : List ℕ) → by_bytes x y ≡ Equal → by_bytes x x ≡ Equal
+pub self : (x y : List ℕ) → by_bytes x y ≡ Equal → by_bytes x x ≡ Equal
 self x y p = nat_list_cmp_total.congr x y x p ∙ nat_list_cmp_total.antisymm y x ∙ ap ordering_reverse p
 
 twice : (e f : Entry) (es : List Entry) → by_bytes e.0 f.0 ≡ Equal → sum_by (at_key e.0) (e ∷ f ∷ es) ≤ 1 → ⊥
@@ -93,7 +92,7 @@ elsewhere n k key (e ∷ es) of ne =
     let c = sum_by-cons (at_key key) e es in
     omega (arith, rest, here, c)
 
-above : (key x : List ℕ) (es : List Entry) → by_bytes key x ≡ Equal → T (below_all by_bytes x es) → sum_by (at_key key) es ≡ 0
+pub above : (key x : List ℕ) (es : List Entry) → by_bytes key x ≡ Equal → T (below_all by_bytes x es) → sum_by (at_key key) es ≡ 0
 above key x [] p h = refl
 above key x (e ∷ es) p h =
     let rest = above key x es p (second _ _ h) in

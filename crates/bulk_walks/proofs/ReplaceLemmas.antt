@@ -1,9 +1,6 @@
 -- A worker's loop that replaces, and its sums.
-use Rattle.std.proofs.Common.{◌≡◌, ◌≢◌, ℕ, ◌+◌, ◌*◌, ◌^◌, ◌%◌, ◌<◌, ◌≤◌, List, [], ◌∷◌, ◌++◌, Option, length, sum_by, get_or, slice_index_or, inl, inr, refl, sym, ap, ◌∙◌, subst, arith}
-use Rattle.std.specs.FinMap as finmap
-use Rattle.std.specs.List.{count_by}
+use Rattle.std.proofs.Common.{◌≡◌, ◌≢◌, ℕ, ◌+◌, ◌^◌, ◌%◌, ◌<◌, ◌≤◌, List, ◌++◌, Option, length, sum_by, get_or, sym, ap, ◌∙◌, subst, arith}
 use Rattle.std.proofs.lemmas.List.Sums.{count_by-le-length}
-use Rattle.atomic_table.specs.Seated.{TableId}
 use Rattle.stripe_rule.specs.declared.view.View.{View}
 use Rattle.stripe_rule.specs.Gains.{seen_of}
 use Rattle.verifier.specs.Checked.{Checked}
@@ -14,7 +11,7 @@ use Rattle.bin_stripes.specs.declared.deed.Deed.{Deed}
 use Rattle.bin_stripes.specs.Histories.{own_events, Leaves}
 use Rattle.bin_stripes.specs.Invoked.{AreReplacements, ReplacesEach}
 use Rattle.bin_stripes.specs.Passes.{PassState, stripes_of}
-use Rattle.bulk_walks.specs.Walks.{Walked, AllWalked, Each, IsReplaced, sum_below}
+use Rattle.bulk_walks.specs.Walks.{AllWalked, Each, IsReplaced, sum_below}
 use Rattle.bulk_walks.specs.Turns.{turn_sum, ReplacesTurns, EachReplaces, IsSum}
 use Rattle.bulk_walks.proofs.Sums.{with_at, with_at-same, turn_sum-same, turn_sum-turn, turn_sum-more, turn_sum-past, sums_of_turns, bound_of_turns, sum_below-const}
 use Rattle.bulk_walks.proofs.TurnLemmas.{walked_none, walked_more, walked_past, walked_with, own_again}

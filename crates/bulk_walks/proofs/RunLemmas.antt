@@ -1,5 +1,5 @@
 -- Rows that were run in their places.
-use Rattle.std.proofs.Common.{◌≡◌, ℕ, suc, ◌+◌, ◌<◌, List, [], ◌∷◌, Option, length, map, get_or, slice_index_or, refl, sym, ap, ◌∙◌, subst, arith}
+use Rattle.std.proofs.Common.{◌≡◌, ℕ, suc, ◌<◌, List, [], ◌∷◌, Option, length, slice_index_or, arith}
 use Rattle.verifier.specs.Checked.{Checked}
 use Rattle.walk_replies.specs.declared.row.Row.{Row}
 use Rattle.walk_replies.specs.Rows.{entry_of, Ran, AreRun}

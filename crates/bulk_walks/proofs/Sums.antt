@@ -1,6 +1,6 @@
 -- Sums over stripes, by turns and by workers.
-use Rattle.std.proofs.Common.{ltb, ◌≡◌, ◌≢◌, ℕ, zero, suc, ◌+◌, ◌%◌, ◌*◌, ◌<◌, ◌≤◌, cond, eqb, add-one, Bool, true, false, List, [], ◌∷◌, inl, inr, refl, sym, ap, ◌∙◌, subst, arith, sum_by, length, get_or, slice_index_or, take}
-use Rattle.std.proofs.lemmas.Bool.{le-ltb, lt-ltb, cases_eq, eq-eqb, ne_eqb, cond_both, eqb-true}
+use Rattle.std.proofs.Common.{ltb, ◌≡◌, ◌≢◌, ℕ, zero, suc, ◌+◌, ◌%◌, ◌*◌, ◌<◌, ◌≤◌, cond, eqb, add-one, List, inl, inr, refl, sym, ap, ◌∙◌, arith, sum_by, length, get_or, take}
+use Rattle.std.proofs.lemmas.Bool.{le-ltb, lt-ltb, cases_eq, eq-eqb, ne_eqb, cond_both}
 use Rattle.std.proofs.lemmas.Bool.Decides.{nat_tests}
 use Rattle.std.proofs.lemmas.List.Sums.{sum_by_more}
 use Rattle.std.proofs.Math.Nat.{mod-lt}

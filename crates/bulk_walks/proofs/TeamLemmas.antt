@@ -1,5 +1,5 @@
 -- From what each worker did to what the team did.
-use Rattle.std.proofs.Common.{◌≡◌, ℕ, ◌+◌, ◌*◌, ◌^◌, ◌%◌, ◌<◌, ◌≤◌, ◌⊎◌, inl, inr, List, [], ◌∷◌, length, sum_by, get_or, slice_index_or, Result, Ok, Err, IfOk, IsOk, All, refl, sym, ap, ◌∙◌, subst, arith}
+use Rattle.std.proofs.Common.{◌≡◌, ℕ, ◌^◌, ◌%◌, ◌<◌, ◌≤◌, ◌⊎◌, inl, inr, List, [], ◌∷◌, length, sum_by, get_or, slice_index_or, Result, Ok, Err, IfOk, IsOk, All, refl, sym, ap, ◌∙◌, subst, arith}
 use Rattle.std.proofs.lemmas.Bool.{cases_lt, false≢true}
 use Rattle.std.proofs.lemmas.List.{get_or_default}
 use Rattle.stripe_rule.specs.declared.view.View.{View}
@@ -8,8 +8,8 @@ use Rattle.bins.specs.Table.{Entry}
 use Rattle.atomic_methods.specs.Hashes.{IsStripeCount}
 use Rattle.bin_stripes.specs.declared.deed.Deed.{Deed}
 use Rattle.bin_stripes.specs.Passes.{PassState}
-use Rattle.bulk_walks.specs.Walks.{Events, IsTurn, Walked, AllWalked, Each, IsScan, MayScan, sum_below}
-use Rattle.bulk_walks.specs.Turns.{turn_sum, counted, CountsTurns, EachCounts}
+use Rattle.bulk_walks.specs.Walks.{Events, Walked, AllWalked, Each, IsScan, MayScan, sum_below}
+use Rattle.bulk_walks.specs.Turns.{turn_sum, counted, EachCounts}
 use Rattle.bulk_walks.proofs.TurnLemmas.{walked_as}
 use Rattle.bulk_walks.proofs.Sums.{turn_sum-same, sums_of_turns, bound_of_turns, sum_below-const}
 

@@ -98,3 +98,32 @@ pub record ReplacesAll (n : ℕ) (checked : Checked) (arg : Option (List ℕ)) (
   pub scanned : reply.counts.scanned ≡ sum_below n (λ k. (counts k).scanned)
   pub given : reply.counts.given ≡ sum_below n (λ k. (counts k).given)
   pub unfit : reply.counts.unfit ≡ sum_below n (λ k. (counts k).unfit)
+
+-- the scans of two walks found the same on each of n stripes
+abbrev pub FindSame : ℕ → (ℕ → List Entry) → (ℕ → List Entry) → Type 0
+FindSame n scans others = (k : ℕ) → k < n → scans k ≡ others k
+
+-- replies to two walks of one kind, with one program and one argument, whose scans found the same; by any two teams
+pub record WalksAlike (one other : WalkReply) : Type 0 where
+  pub kind : WalkKind
+  pub n : ℕ
+  pub checked : Checked
+  pub arg : Option (List ℕ)
+  pub before : List PassState
+  pub after : List PassState
+  pub walk : IsWalk kind n checked arg before after one
+  pub other_before : List PassState
+  pub other_after : List PassState
+  pub other_walk : IsWalk kind n checked arg other_before other_after other
+  pub same : FindSame n walk.scans other_walk.scans
+
+-- replies to two counts whose scans found the same; by any two teams
+pub record CountsAlike (one other : WalkReply) : Type 0 where
+  pub n : ℕ
+  pub before : List PassState
+  pub after : List PassState
+  pub count : CountsAll n before after one
+  pub other_before : List PassState
+  pub other_after : List PassState
+  pub other_count : CountsAll n other_before other_after other
+  pub same : FindSame n count.scans other_count.scans

@@ -6,6 +6,7 @@
 //! passes in their order. Each walk waits until each stripe is free in its turn, and takes memory for what it gives.
 #![tactic(auto)]
 
+mod alike;
 mod count;
 mod finding;
 mod replace;
@@ -14,6 +15,7 @@ mod team;
 mod walks;
 mod workers;
 
+pub use alike::is_same_reply;
 pub use count::mapping_count;
 pub use replace::replace_all;
 pub use team::{EmptyTeam, Team};

@@ -5,7 +5,8 @@ use super::*;
 use atomic_methods::Call;
 use bin_stripes::{Gate, OpenGate, Pass, Place, StripedMap};
 use bpf_model::{
-    AccessSize, AluOp, Insn, Key, LoadKind, Operand, Program, Reg, Sizes, TooLong, Value, Width,
+    AccessSize, AluOp, Insn, Key, LoadKind, NoMemory, Operand, Program, Reg, Sizes, TooLong, Value,
+    Width,
 };
 use flow_shape::shape;
 use std::alloc::Global;
@@ -15,7 +16,9 @@ use std::test::Fail;
 use std::thread;
 use verifier::{Verified, verify};
 
+mod changing;
 mod gates;
+mod refused;
 mod rows;
 
 // Eight bytes, little-endian.

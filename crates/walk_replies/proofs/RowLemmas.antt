@@ -1,5 +1,5 @@
 -- Rows that were run, as a reply.
-use Rattle.std.proofs.Common.{◌≡◌, ℕ, suc, ◌+◌, ◌<◌, ◌≤◌, Bool, true, false, cond, List, [], ◌∷◌, ◌++◌, length, take, Option, Some, None, Ok, Err, refl, sym, ap, subst, ◌∙◌, arith}
+use Rattle.std.proofs.Common.{◌≡◌, ℕ, suc, ◌+◌, ◌≤◌, Bool, true, false, cond, List, [], ◌∷◌, ◌++◌, length, Option, Some, None, Ok, Err, refl, sym, ap, ◌∙◌, arith}
 use Rattle.std.specs.List.{count_by, filter_map, cons_option}
 use Rattle.std.specs.Option.{option_to_list}
 use Rattle.std.proofs.lemmas.List.Sums.{sum_by-cons, sum_by_push}
@@ -10,7 +10,6 @@ use Rattle.bins.specs.Table.{Entry}
 use Rattle.bins.specs.Replacements.{Outcome, is_unfit}
 use Rattle.walk_replies.specs.declared.row.Row.{Row}
 use Rattle.walk_replies.specs.declared.reply.WalkKind.{WalkKind}
-use Rattle.walk_replies.specs.declared.reply.WalkKind.TheVariants.{Search, ForEach}
 use Rattle.walk_replies.specs.declared.reply.WalkReply.{WalkReply}
 use Rattle.walk_replies.specs.Replies.{AreOutcomes, present, chosen, IsReply}
 use Rattle.walk_replies.specs.Rows.{item_in, item_at, unfit_in, Ran, AreRun}

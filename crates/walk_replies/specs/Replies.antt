@@ -1,7 +1,7 @@
 -- What a walk answers for the entries that it found. Java SE 17: ConcurrentHashMap.search, forEach and mappingCount, whose
 -- function is a program here. That search answers for the least key, that forEach gives its answers back, and that entries
 -- which do not fit are counted, is this map's profile.
-use Rattle.std.specs.Prelude.{◌≡◌, ℕ, ⊤, List, [], ◌∷◌, length, take, Option, Some, Result, Ok, Err, count_by}
+use Rattle.std.specs.Prelude.{◌≡◌, ℕ, ⊤, List, [], ◌∷◌, length, take, Option, Some, Ok, Err, count_by}
 use Rattle.bpf_model.specs.declared.input.Answer.TheVariants.{Nothing, Bytes}
 use Rattle.bpf_model.specs.Fits.{input_of}
 use Rattle.verifier.specs.Checked.{Checked}

@@ -1,8 +1,9 @@
 //! The reply of a walk, made of the rows that were run.
-ghost use Rattle.std.specs.Prelude.{◌≡◌, ◌++◌, List, ℕ, IfOk, OnOk, Option, length};
+ghost use Rattle.std.specs.Prelude.{◌≡◌, ◌↔◌, ◌++◌, List, ℕ, IfOk, IsTrue, OnOk, Option, length};
 ghost use Rattle.std.specs.Option.{option_to_list};
 ghost use Rattle.verifier.specs.Checked.{Checked};
 ghost use Rattle.bins.specs.Table.{Entry};
+ghost use Rattle.walk_replies.specs.declared.reply.WalkKind.{WalkKind as AnyKind};
 ghost use Rattle.walk_replies.specs.Replies.{chosen, IsReply, IsCount};
 ghost use Rattle.walk_replies.specs.Rows.{item_in, AreRun};
 
@@ -18,6 +19,26 @@ pub struct WalkReply {
     pub items: Vec<(Key, Value)>,
     /// `scanned` and `unfit` count entries, and `given` the items.
     pub counts: Counts,
+}
+
+impl WalkReply {
+    /// Whether two replies are the same: those to one walk over the same entries are, and those to a count of as many.
+    pub fn is_same(&self, other: &WalkReply) -> bool
+        ensures exact { IsTrue result ↔ (self.now.items.items ≡ other.now.items.items) × (self.now.counts ≡ other.now.counts) }
+        ensures one { (kind : AnyKind) (checked : Checked) (arg : Option (List ℕ)) (entries : List Entry) →
+            IsReply kind checked arg entries self.now → IsReply kind checked arg entries other.now →
+            IsTrue result }
+        ensures one_count { (entries : ℕ) → IsCount entries self.now → IsCount entries other.now → IsTrue result }
+    {
+        are_same(&self.items, &other.items) && self.counts == other.counts
+    }
+}
+
+// Whether the entries are the same.
+fn are_same(one: &[(Key, Value)], other: &[(Key, Value)]) -> bool
+    ensures { IsTrue result ↔ (one.now ≡ other.now) }
+{
+    one == other
 }
 
 /// Which of the present answers a walk gives.

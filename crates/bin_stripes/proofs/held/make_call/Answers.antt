@@ -1,4 +1,4 @@
-use Rattle.std.proofs.Common.{◌≡◌, sym, ap, subst, Some, None}
+use Rattle.std.proofs.Common.{Some, None}
 use Rattle.atomic_methods.specs.Invocations.{invocation_of}
 use Rattle.bin_stripes.proofs.StepLemmas.{found_is, held_still, lets_from}
 use Rattle.bin_stripes.proofs.Making.{call_made, nothing_made}

@@ -1,4 +1,4 @@
-use Rattle.std.proofs.Common.{◌≡◌, ◌++◌, List, refl, sym, ap, subst, Some, None}
+use Rattle.std.proofs.Common.{◌++◌, List, sym, subst, Some, None}
 use Rattle.std.specs.FinMap as map
 use Rattle.stripe_rule.specs.Gains.{seen_of}
 use Rattle.bin_stripes.specs.Actions.{Action}

@@ -1,4 +1,4 @@
-use Rattle.std.proofs.Common.{◌≡◌, refl, sym, ap, subst, Some, None}
+use Rattle.std.proofs.Common.{refl, Some, None}
 use Rattle.bin_stripes.proofs.StepLemmas.{found_is, held_still, lets_from}
 use Rattle.bin_stripes.proofs.Making.{scan_made, nothing_made}
 use Rattle.bin_stripes.proofs.held.make_scan.Goals as goal

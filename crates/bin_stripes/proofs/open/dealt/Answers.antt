@@ -1,13 +1,10 @@
-use Rattle.std.proofs.Common.{rules, ◌≡◌, ℕ, suc, ◌+◌, ◌-◌, ◌<◌, List, [], ◌∷◌, ◌++◌, refl, sym, ap, ◌∙◌, subst, arith, map}
+use Rattle.std.proofs.Common.{rules, ◌≡◌, ℕ, suc, ◌+◌, ◌-◌, ◌<◌, [], ◌∷◌, sym, ap, ◌∙◌, subst, arith, map}
 use Rattle.atomic_table.specs.Table.{Splits}
-use Rattle.stripe_rule.specs.declared.view.View.{View}
 use Rattle.stripe_rule.specs.Rule.{Kept, newcomer, from_on}
 use Rattle.stripe_rule.specs.Steps.{with_numbers, head_of, tail_of}
 use Rattle.stripe_rule.proofs.OpenLemmas.{deals_as}
-use Rattle.bin_stripes.specs.declared.deed.Deed.{Deed}
 use Rattle.bin_stripes.specs.Histories.{empty, does}
 use Rattle.bin_stripes.specs.Opened.{pass_of}
-use Rattle.bin_stripes.specs.Passes.{PassState}
 use Rattle.bin_stripes.proofs.OpenedLemmas.{dealt_more, pass_is}
 use Rattle.bin_stripes.proofs.open.dealt.Goals as goal
 

@@ -1,4 +1,4 @@
-use Rattle.std.proofs.Common.{◌≡◌, ◌∷◌, ◌++◌, sym, ap, subst}
+use Rattle.std.proofs.Common.{◌++◌, sym, ap, subst}
 use Rattle.atomic_table.specs.Table.{rest}
 use Rattle.stripe_rule.specs.declared.view.View.{View}
 use Rattle.stripe_rule.specs.Gains.{seen_of}

@@ -1,7 +1,7 @@
-use Rattle.std.proofs.Common.{rules, ◌≡◌, false, refl, sym, ap, ◌∙◌, subst}
-use Rattle.stripe_rule.specs.Gains.{least, held_at}
+use Rattle.std.proofs.Common.{rules, refl, ap, ◌∙◌, subst}
+use Rattle.stripe_rule.specs.Gains.{least}
 use Rattle.stripe_rule.specs.Steps.{Extends}
-use Rattle.stripe_rule.proofs.CallLemmas.{least_has, carries_same, extends_self, extends_again}
+use Rattle.stripe_rule.proofs.CallLemmas.{least_has, carries_same, extends_self}
 use Rattle.bin_stripes.proofs.StepLemmas.{takes_since, looks_since}
 use Rattle.bin_stripes.proofs.steps.take.Goals as goal
 

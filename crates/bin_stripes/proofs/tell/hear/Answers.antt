@@ -1,11 +1,9 @@
-use Rattle.std.proofs.Common.{◌≡◌, ◌<◌, [], ◌∷◌, refl, sym, ap, ◌∙◌, subst, arith}
-use Rattle.stripe_rule.specs.declared.view.View.{View}
-use Rattle.stripe_rule.specs.Steps.{view_of, IsTold, HasHeard}
+use Rattle.std.proofs.Common.{◌≡◌, ◌<◌, refl, sym, ◌∙◌, subst, arith}
+use Rattle.stripe_rule.specs.Steps.{view_of, HasHeard}
 use Rattle.stripe_rule.proofs.TellLemmas.{heard_none, heard_more}
-use Rattle.bin_stripes.specs.declared.deed.Deed.{Deed}
 use Rattle.bin_stripes.specs.Histories.{Sound}
 use Rattle.bin_stripes.proofs.StepLemmas.{looks_at}
-use Rattle.bin_stripes.proofs.TellingLemmas.{learns_of, told_sound, told_again, told_rests, heard_since, rests_heard, told_is, told_looks}
+use Rattle.bin_stripes.proofs.TellingLemmas.{learns_of, told_sound, told_again, told_rests, heard_since, told_is, told_looks}
 use Rattle.bin_stripes.proofs.tell.hear.Goals as goal
 
 pub learn-requires : goal.learn-requires

@@ -1,4 +1,4 @@
-use Rattle.std.proofs.Common.{rules, arith, ◌≡◌, ◌<◌, ◌≤◌, ℕ, List, [], length, refl, sym, ap, subst, ◌∙◌, ◌^◌, ◌*◌, ◌+◌}
+use Rattle.std.proofs.Common.{arith, ◌<◌, List, [], length, refl, sym, ap, subst, ◌∙◌, ◌^◌, ◌+◌}
 use Rattle.bins.specs.Table.{Entry}
 use Rattle.bin_stripes.specs.Passes.{PassState, stripes_of}
 use Rattle.bulk_walks.specs.Walks.{Walked, Each, IsScan}

@@ -1,8 +1,6 @@
-use Rattle.std.proofs.Common.{rules, ◌≡◌, ℕ, ◌<◌, ◌≤◌, ◌^◌, Result, Ok, IsOk, All, List, length, sum_by, arith, sym, ap, ◌∙◌, subst, slice_index_or}
+use Rattle.std.proofs.Common.{◌≡◌, ℕ, ◌<◌, Result, Ok, IsOk, All, List, length, sum_by, arith, ap, ◌∙◌, subst, slice_index_or}
 use Rattle.atomic_table.specs.Seated.{TableId}
-use Rattle.bins.specs.Table.{Entry}
 use Rattle.bin_stripes.specs.Passes.{PassState, stripes_of}
-use Rattle.walk_replies.specs.Replies.{IsCount}
 use Rattle.bpf_model.specs.declared.memory.NoMemory.{NoMemory}
 use Rattle.bulk_walks.specs.Walks.{sum_below}
 use Rattle.bulk_walks.specs.Turns.{counted, CountsTurns, EachCounts}

@@ -1,4 +1,4 @@
-use Rattle.std.proofs.Common.{rules, ◌≡◌, ℕ, ◌<◌, ◌≤◌, Result, Ok, Vec, Global, IfOk, IsOk, All, List, length, sum_by, arith, sym, ap, ◌∙◌, subst, slice_index_or}
+use Rattle.std.proofs.Common.{◌≡◌, ℕ, ◌<◌, Result, Vec, Global, IfOk, All, length, arith, subst, slice_index_or}
 use Rattle.atomic_table.specs.Seated.{TableId}
 use Rattle.bins.specs.Table.{Entry}
 use Rattle.bin_stripes.specs.Passes.{PassState, stripes_of}

@@ -1,4 +1,4 @@
-use Rattle.std.proofs.Common.{rules, ◌≡◌, ℕ, ◌<◌, ◌≤◌, All, List, length, sum_by, arith, sym, ap, ◌∙◌, subst, slice_index_or, Option}
+use Rattle.std.proofs.Common.{◌≡◌, ℕ, ◌<◌, List, length, sum_by, arith, ap, ◌∙◌, subst, slice_index_or, Option}
 use Rattle.atomic_table.specs.Seated.{TableId}
 use Rattle.verifier.specs.Checked.{Checked}
 use Rattle.bins.specs.declared.counts.Counts.{Counts}

@@ -1,8 +1,6 @@
-use Rattle.std.proofs.Common.{rules, arith, ◌≡◌, ◌<◌, ◌≤◌, ℕ, ◌+◌, ◌*◌, ◌^◌, refl, sym, ap, subst, ◌∙◌}
+use Rattle.std.proofs.Common.{arith, ◌+◌, ◌^◌, refl, ap, ◌∙◌}
 use Rattle.atomic_table.specs.Seated.{TableId}
-use Rattle.bins.specs.declared.counts.Counts.{Counts}
 use Rattle.bin_stripes.specs.Passes.{PassState, stripes_of}
-use Rattle.bulk_walks.specs.Turns.{turn_sum, ReplacesTurns, IsSum}
 use Rattle.bulk_walks.proofs.Sums.{turn_sum-le}
 use Rattle.bulk_walks.proofs.TeamLemmas.{at_most_64}
 use Rattle.bulk_walks.proofs.ReplaceLemmas.{at_most_scanned, replaces_none, replaces_more, replaces_past, replaces_at}

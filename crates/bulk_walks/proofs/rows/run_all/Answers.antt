@@ -1,4 +1,4 @@
-use Rattle.std.proofs.Common.{◌≡◌, ◌++◌, take, drop, length, sym, ◌∙◌, subst, List, arith}
+use Rattle.std.proofs.Common.{◌≡◌, ◌++◌, take, drop, length, sym, ◌∙◌, subst, List}
 use Rattle.walk_replies.specs.declared.row.Row.{Row}
 use Rattle.walk_replies.specs.Rows.{AreRun}
 use Rattle.bulk_walks.specs.Turns.{entries_of}

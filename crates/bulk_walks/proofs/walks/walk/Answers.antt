@@ -1,4 +1,3 @@
-use Rattle.std.proofs.Common.{rules}
 use Rattle.bulk_walks.specs.Turns.{entries_of}
 use Rattle.bulk_walks.proofs.RunLemmas.{may_all}
 use Rattle.bulk_walks.proofs.walks.walk.Goals as goal

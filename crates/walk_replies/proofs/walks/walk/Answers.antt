@@ -1,6 +1,5 @@
-use Rattle.std.proofs.Common.{rules, ◌≡◌, ◌+◌, ◌≤◌, List, [], ◌∷◌, ◌++◌, Bool, true, false, cond, length, length-append, ap, sym, subst, ◌∙◌, arith}
+use Rattle.std.proofs.Common.{◌≡◌, List, [], ◌∷◌, ◌++◌, length, length-append, ap, sym, subst, ◌∙◌, arith}
 use Rattle.std.proofs.Common.{Vec, Global}
-use Rattle.std.specs.List.{count_by, filter_map}
 use Rattle.std.proofs.lemmas.List.{map-id}
 use Rattle.std.proofs.lemmas.Iterator.Adapters.{YieldsList-from_vec}
 use Rattle.std.proofs.lemmas.Iterator.Consumers.{YieldsList-end}
@@ -8,7 +7,7 @@ use Rattle.bins.specs.Table.{Entry}
 use Rattle.bins.specs.declared.counts.Counts.{Counts}
 use Rattle.walk_replies.specs.declared.row.Row.{Row}
 use Rattle.walk_replies.specs.Replies.{chosen}
-use Rattle.walk_replies.specs.Rows.{entry_of, item_in, unfit_in, Ran, AreRun}
+use Rattle.walk_replies.specs.Rows.{entry_of, unfit_in, Ran, AreRun}
 use Rattle.walk_replies.proofs.RowLemmas.{AreRun-push, found-push, count-push, at_most_one, is_reply}
 use Rattle.walk_replies.proofs.walks.walk.Goals as goal
 

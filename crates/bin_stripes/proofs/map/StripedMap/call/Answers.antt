@@ -5,6 +5,7 @@ use Rattle.bin_stripes.specs.Holding.{Settles, Refuses}
 use Rattle.bin_stripes.specs.Passes.{stripes_of}
 use Rattle.bin_stripes.proofs.StepLemmas.{holds_after, settles_as, refuses_after}
 use Rattle.bin_stripes.proofs.PassLemmas.{rests_of, refused_after, on_err_so}
+use Rattle.bin_stripes.proofs.StripeContent.{content}
 use Rattle.bin_stripes.proofs.map.StripedMap.call.Goals as goal
 
 pub make_call-answer-requires-clause-held : goal.make_call-answer-requires-clause-held
@@ -20,7 +21,7 @@ returns-clause-err g c = let id = c.pass.inside.known.table_id in let sid = c.se
     on_err_so c.make_call-answer.result (λ r. refused_after id known.views me c.pass.invariant c.take-seat.ensures.2 me' k i
     (subst (λ z. Settles (stripes_of z) k me [] me') (sym e) (settles_as _ sid.slots k me held me' [] rests c.take.ensures.took r.0))
     c.put.new.self.table_id c.put.new.self.views (c.put.ensures.0 ∙ (c.make_call-answer.ensures.same.0 ∙ (c.take.ensures.same.0 ∙ c.take-seat.ensures.0))) c.put.ensures.2
-    (subst (λ z. Refuses (stripes_of z) k me' i) (sym e) (refuses_after (Rattle.bins.specs.contracts.list_bins.ListBinsBins.TheImpl.table-value).it sid.slots k held me' i r.0 r.1))
+    (subst (λ z. Refuses (stripes_of z) k me' i) (sym e) (refuses_after content sid.slots k held me' i r.0 r.1))
     c.args.pass.now c.pass.view_is
     (c.stripe_of-stripe.ensures.value ∙ (λ j. stripe_of (stripes_of (sym c.requires.map j)) (c.key.ensures.value j))))
     c.make_call-answer.ensures.err

@@ -1,4 +1,4 @@
-use Rattle.std.proofs.Common.{◌≡◌, ℕ, ◌<◌, ◌∷◌, [], List, length, refl, sym, ap, ◌∙◌, subst, arith}
+use Rattle.std.proofs.Common.{◌≡◌, ℕ, ◌<◌, List, length, refl, sym, ap, ◌∙◌, subst}
 use Rattle.atomic_table.specs.Seated.{TableId}
 use Rattle.stripe_rule.specs.declared.view.View.{View}
 use Rattle.stripe_rule.specs.Gains.{Hears, IsJoined, least, held_at}
@@ -11,18 +11,19 @@ use Rattle.bin_stripes.specs.Histories.{empty, does}
 use Rattle.bin_stripes.specs.Passes.{IsPass, stripes_of}
 use Rattle.bin_stripes.proofs.StepLemmas.{looks_at, settles_lost}
 use Rattle.bin_stripes.proofs.PassLemmas.{rests_of, joined_rests, wide_united}
+use Rattle.bin_stripes.proofs.StripeContent.{content}
 use Rattle.bin_stripes.proofs.map.StripedMap.join.Goals as goal
 
-pub join_seat-requires : goal.join_seat-requires
-join_seat-requires c = let shared = c.self.inside.table.shared in let first = c.one.inside.known in let second = c.other.inside.known in
-    let v = c.hear.new.seat.me in let w = c.take.result.me in let r = c.hear.ensures.rests.0 in
-    let s = rests_of second.table_id second.views w c.other.invariant c.take.ensures.2 c.take.ensures.3 in (
-      c.hear.ensures.same.0 ∙ (c.take-seat.ensures.0 ∙ (ap (λ p. p.map) c.one.view_is ∙ (c.requires.one ∙ sym c.self.view_is))),
-      c.take.ensures.0 ∙ (ap (λ p. p.map) c.other.view_is ∙ (c.requires.other ∙ sym c.self.view_is)),
-      c.take.ensures.3,
-      subst (λ n. 0 < n) (sym c.self.invariant.laid.words) (some_stripe shared.table_id.slots c.self.invariant.count),
-      unites (does shared.key.stripes) empty _ shared.key.stripes shared.key.passes c.hear.new.seat.id v.0 c.take.result.id w.0 (least v.0.numbers) (least w.0.numbers) r.some s.some r.idle s.idle,
-    )
+pub unite-requires-clause-table : goal.unite-requires-clause-table
+unite-requires-clause-table c = let shared = c.self.inside.table.shared in (
+  c.hear.ensures.same.0 ∙ (c.take-seat.ensures.0 ∙ (ap (λ p. p.map) c.one.view_is ∙ (c.requires.one ∙ sym c.self.view_is))),
+  c.take.ensures.0 ∙ (ap (λ p. p.map) c.other.view_is ∙ (c.requires.other ∙ sym c.self.view_is)),
+  subst (λ n. 0 < n) (sym c.self.invariant.laid.words) (some_stripe shared.table_id.slots c.self.invariant.count),
+)
+
+pub unite-requires-clause-rests : goal.unite-requires-clause-rests
+unite-requires-clause-rests c = let second = c.other.inside.known in
+    (c.hear.ensures.rests.0, rests_of second.table_id second.views c.take.result.me c.other.invariant c.take.ensures.2 c.take.ensures.3)
 
 pub load-requires : goal.load-requires
 load-requires c = let shared = c.self.inside.table.shared in let first = c.one.inside.known in let second = c.other.inside.known in
@@ -31,8 +32,8 @@ load-requires c = let shared = c.self.inside.table.shared in let first = c.one.i
     let some = some_stripe shared.table_id.slots c.self.invariant.count in
     let same : first.table_id ≡ second.table_id = ap (λ p. p.map) c.one.view_is ∙ (c.requires.one ∙ (sym c.requires.other ∙ sym (ap (λ p. p.map) c.other.view_is))) in
     let wide : length v.0.parts ≡ length w.0.parts = c.hear.ensures.heard.wide ∙ (ap (λ (x : View Deed). length x.parts) (sym (ap view_of c.take-seat.ensures.2)) ∙ (c.one.invariant.wide ∙ (ap stripes_of same ∙ (sym c.other.invariant.wide ∙ ap (λ (x : View Deed). length x.parts) (ap view_of c.take.ensures.2))))) in
-    let now = c.join_seat.new.seat in let rests = joined_rests v w now.me r s wide c.join_seat.ensures.2 in (
-      c.join_seat.ensures.0 ∙ (c.hear.ensures.same.0 ∙ (c.take-seat.ensures.0 ∙ (ap (λ p. p.map) c.one.view_is ∙ (c.requires.one ∙ sym c.self.view_is)))),
+    let now = c.unite.new.seat in let rests = joined_rests v w now.me r s wide c.unite.ensures.both in (
+      c.unite.ensures.same.0 ∙ (c.hear.ensures.same.0 ∙ (c.take-seat.ensures.0 ∙ (ap (λ p. p.map) c.one.view_is ∙ (c.requires.one ∙ sym c.self.view_is)))),
       subst (λ n. 0 < n) (sym c.self.invariant.laid.words) some,
       looks_at _ shared.table_id shared.key c.self.invariant.laid now.id 0 now.me some rests.some,
     )
@@ -44,16 +45,16 @@ invariant_of-result c = let shared = c.self.inside.table.shared in let first = c
     let same : first.table_id ≡ second.table_id = ap (λ p. p.map) c.one.view_is ∙ (c.requires.one ∙ (sym c.requires.other ∙ sym (ap (λ p. p.map) c.other.view_is))) in
     let mine : length v.0.parts ≡ stripes_of first.table_id = c.hear.ensures.heard.wide ∙ (ap (λ (x : View Deed). length x.parts) (sym (ap view_of c.take-seat.ensures.2)) ∙ c.one.invariant.wide) in
     let wide : length v.0.parts ≡ length w.0.parts = mine ∙ (ap stripes_of same ∙ (sym c.other.invariant.wide ∙ ap (λ (x : View Deed). length x.parts) (ap view_of c.take.ensures.2))) in
-    let now = c.join_seat.new.seat.me in let end = c.load.new.seat.me in let rests = joined_rests v w now r s wide c.join_seat.ensures.2 in
+    let now = c.unite.new.seat.me in let end = c.load.new.seat.me in let rests = joined_rests v w now r s wide c.unite.ensures.both in
     let e : first.table_id ≡ shared.table_id = ap (λ p. p.map) c.one.view_is ∙ (c.requires.one ∙ sym c.self.view_is) in
-    let l = settles_lost (Rattle.bins.specs.contracts.list_bins.ListBinsBins.TheImpl.table-value).it shared.table_id.slots 0 now end rests c.load.ensures.2 in
-    let id : c.of.result.table_id ≡ first.table_id = c.of.ensures.0 ∙ (c.load.ensures.0 ∙ (c.join_seat.ensures.0 ∙ (c.hear.ensures.same.0 ∙ c.take-seat.ensures.0))) in
+    let l = settles_lost content shared.table_id.slots 0 now end rests c.load.ensures.2 in
+    let id : c.of.result.table_id ≡ first.table_id = c.of.ensures.0 ∙ (c.load.ensures.0 ∙ (c.unite.ensures.same.0 ∙ (c.hear.ensures.same.0 ∙ c.take-seat.ensures.0))) in
     subst (λ (z : TableId × List (View Deed)). IsPass z.0 z.1) (λ i. (sym id i, sym c.of.ensures.2 i)) (record {
       one = refl;
       idle = l.rests.idle;
       some = l.rests.some;
       sound = subst (λ z. Rattle.bin_stripes.specs.Histories.Sound (stripes_of z) end.0) (sym e) l.sound;
-      wide = l.wide ∙ (wide_united v.0 w.0 now.0 (ap (λ m. m.0) c.join_seat.ensures.2) ∙ mine);
+      wide = l.wide ∙ (wide_united v.0 w.0 now.0 (ap (λ m. m.0) c.unite.ensures.both) ∙ mine);
     })
 
 pub returns-clause-joined : goal.returns-clause-joined
@@ -66,8 +67,8 @@ returns-clause-joined c = let shared = c.self.inside.table.shared in let first =
     let there : view_of second.views ≡ w.0 = ap view_of c.take.ensures.2 in
     let heard' : Hears n w.0 c.take-seat.result.me.0 v.0 = subst (λ x. Hears n x c.take-seat.result.me.0 v.0) there heard in
     let some : 0 < n = subst (λ m. 0 < m) (sym c.slot_count-stripes.ensures) (some_stripe shared.table_id.slots c.self.invariant.count) in
-    let now = c.join_seat.new.seat.me.0 in let end = c.load.new.seat.me.0 in
-    let look : Extends (united v.0 w.0) 0 (held_at now 0) end = subst (λ x. Extends x 0 (held_at now 0) end) (ap (λ m. m.0) c.join_seat.ensures.2) c.load.ensures.2.extends in
+    let now = c.unite.new.seat.me.0 in let end = c.load.new.seat.me.0 in
+    let look : Extends (united v.0 w.0) 0 (held_at now 0) end = subst (λ x. Extends x 0 (held_at now 0) end) (ap (λ m. m.0) c.unite.ensures.both) c.load.ensures.2.extends in
     subst (λ (z : ℕ × View Deed × View Deed × View Deed). IsJoined z.0 z.1 z.2 z.3)
     (λ i. ((c.slot_count-stripes.ensures ∙ ap (λ t. t.slots) c.self.view_is) i, (sym (ap view_of c.take-seat.ensures.2) ∙ ap (λ p. p.view) c.one.view_is) i, (sym there ∙ ap (λ p. p.view) c.other.view_is) i, sym (ap view_of c.of.ensures.2) i))
     (joined n 0 c.take-seat.result.me.0 w.0 v.0 end (held_at now 0) wide heard' some look)

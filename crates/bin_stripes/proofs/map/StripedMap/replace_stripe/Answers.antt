@@ -3,6 +3,7 @@ use Rattle.bin_stripes.specs.Holding.{Replaces}
 use Rattle.bin_stripes.specs.Passes.{stripes_of}
 use Rattle.bin_stripes.proofs.StepLemmas.{holds_after, replaces_after}
 use Rattle.bin_stripes.proofs.PassLemmas.{rests_of, replaced_after}
+use Rattle.bin_stripes.proofs.StripeContent.{content}
 use Rattle.bin_stripes.proofs.map.StripedMap.replace_stripe.Goals as goal
 
 pub make_replacements-counts-requires-clause-held : goal.make_replacements-counts-requires-clause-held
@@ -17,6 +18,6 @@ returns-clause-each g c = let id = c.pass.inside.known.table_id in let sid = c.s
     let rests = rests_of id known.views me c.pass.invariant c.take-seat.ensures.2 c.take-seat.ensures.3 in
     replaced_after id known.views me c.pass.invariant c.take-seat.ensures.2 me' k program arg counts
     (subst (λ z. Replaces (stripes_of z) k me program arg counts me') (sym e)
-    (replaces_after (Rattle.bins.specs.contracts.list_bins.ListBinsBins.TheImpl.table-value).it sid.slots k me held me' program arg counts rests c.take.ensures.took m.0 m.1.0 m.1.1))
+    (replaces_after content sid.slots k me held me' program arg counts rests c.take.ensures.took m.0 m.1.0 m.1.1))
     c.put.new.self.table_id c.put.new.self.views (c.put.ensures.0 ∙ (c.make_replacements-counts.ensures.same.0 ∙ (c.take.ensures.same.0 ∙ c.take-seat.ensures.0))) c.put.ensures.2
     c.args.pass.now c.pass.view_is

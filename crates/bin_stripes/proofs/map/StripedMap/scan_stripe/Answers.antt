@@ -1,4 +1,4 @@
-use Rattle.std.proofs.Common.{◌≡◌, sym, ap, ◌∙◌, subst}
+use Rattle.std.proofs.Common.{sym, subst}
 use Rattle.stripe_rule.specs.Gains.{seen_of}
 use Rattle.bin_stripes.specs.Invoked.{AreOf}
 use Rattle.bin_stripes.specs.Passes.{stripes_of}

@@ -1,0 +1,5 @@
+-- What the bins under a map's stripes contain. With the alias `StripeBins` of src/map.rt, this is all that names their kind.
+use Rattle.bins.specs.Table.{Table}
+
+abbrev pub content : Table → Table
+content = (Rattle.bins.specs.contracts.list_bins.ListBinsBins.TheImpl.table-value).it
