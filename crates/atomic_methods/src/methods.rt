@@ -43,18 +43,41 @@ pub fn apply_into<B: Bins>(
         Some(value) => {
             let (stays, kind) = change_value(call, value, bytes);
             if !stays {
-                bins.remove(call.key());
+                remove_key(bins, call.key());
             }
             Ok(kind)
         }
-        None => {
-            let (enters, kind) = new_value(call, bytes);
-            if enters {
-                bins.put(call.key().copied(), bytes.copied())?;
-            }
-            Ok(kind)
-        }
+        None => apply_to_absent(bins, call, bytes),
     }
+}
+
+// Removes a key. Apart from `apply_into`, so that calls which remove none clear no place for a removed value.
+#[inline(never)]
+fn remove_key<B: Bins>(bins: &mut B, key: &Key)
+    ensures gone { B.table bins.new ≡ map.remove (B.table bins.old) key.now }
+{
+    bins.remove(key);
+}
+
+// Makes a call whose key is absent, as `apply_into` does. Apart from it, so that calls on present keys clear no place for
+// a new entry.
+#[inline(never)]
+fn apply_to_absent<B: Bins>(
+    bins: &mut B,
+    call: &Call,
+    bytes: &mut Value,
+) -> Result<ReplyKind, NoMemory>
+    requires absent { map.get (B.table bins.old) (invocation_of call.now).key ≡ None }
+    ensures ok { IfOk result (λ kind.
+        Answers (B.table bins.old) (invocation_of call.now) (B.table bins.new) (reply_by kind bytes.new)) }
+    ensures err { OnErr result (B.table bins.new ≡ B.table bins.old) }
+    ensures memory { OnErr result (WouldAdd (B.table bins.old) (invocation_of call.now)) }
+{
+    let (enters, kind) = new_value(call, bytes);
+    if enters {
+        bins.put(call.key().copied(), bytes.copied())?;
+    }
+    Ok(kind)
 }
 
 /// Copies of all entries, in key order. `NoMemory` where a request for memory was refused. Never waits.

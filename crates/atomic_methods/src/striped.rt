@@ -7,7 +7,7 @@ ghost use Rattle.atomic_methods.specs.Invocations.{invocation_of};
 ghost use Rattle.atomic_methods.specs.Methods.{Answers, WouldAdd};
 ghost use Rattle.atomic_methods.specs.Plans.{reply_by};
 ghost use Rattle.atomic_methods.specs.Runs.{AnswersInTurn, first_of, IsRefused};
-ghost use Rattle.atomic_methods.specs.Whole.{stripe_at, all_entries, ReplacesStripes};
+ghost use Rattle.atomic_methods.specs.Whole.{stripe_at, all_entries, whole, AreStripes, ReplacesStripes};
 
 use crate::call::Call;
 use crate::fault::OpenFault;
@@ -113,9 +113,7 @@ impl Striped {
     pub fn scan(&self, alloc: Global) -> Result<Vec<(Key, Value)>, NoMemory>
         ensures ok { IfOk result (λ found. found.items ≡ finmap.entries self.now) }
     {
-        let mut found = entries_of(alloc, &self.stripes)?;
-        found.sort_by(|a, b| a.0.cmp(&b.0))?;
-        Ok(found)
+        sorted_entries(alloc, &self.stripes)
     }
 
     /// Replaces the value of each key of the table once by what the program answers on the key, its value and the
@@ -170,5 +168,15 @@ fn entries_of(alloc: Global, stripes: &[ListBins]) -> Result<Vec<(Key, Value)>, 
         let mut entries = stripe.entries(alloc)?;
         found.append(&mut entries)?;
     }
+    Ok(found)
+}
+
+// Copies of the entries of all stripes, in key order.
+fn sorted_entries(alloc: Global, stripes: &[ListBins]) -> Result<Vec<(Key, Value)>, NoMemory>
+    requires { AreStripes stripes.now }
+    ensures ok { IfOk result (λ found. found.items ≡ finmap.entries (whole stripes.now)) }
+{
+    let mut found = entries_of(alloc, stripes)?;
+    found.sort_by(|a, b| a.0.cmp(&b.0))?;
     Ok(found)
 }
