@@ -5,7 +5,7 @@ ghost use Rattle.bpf_model.specs.Fits.{input_of};
 ghost use Rattle.bins.specs.Replacements.{ComesTo};
 ghost use Rattle.atomic_methods.specs.Plans.{outcome_by};
 
-use bpf_machine::run_into;
+use bpf_machine::{Machine, run_into};
 use bpf_model::{Key, Value, Window, fits_parts};
 use verifier::Verified;
 
@@ -22,5 +22,6 @@ pub fn answer_into(
         ComesTo program.now input (outcome_by result answer.new) }
 {
     fits_parts(&program.sizes(), key, old, arg)?;
-    Ok(run_into(program, key, old, arg, answer))
+    let mut machine = Machine::new();
+    Ok(run_into(program, key, old, arg, &mut machine, answer))
 }
