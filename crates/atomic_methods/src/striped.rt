@@ -15,6 +15,7 @@ use crate::methods;
 use crate::reply::{Reply, ReplyKind};
 use crate::stripes::{MAX_STRIPES, is_stripe_count, stripe_of};
 use bins::{Bins, Counts, ListBins};
+use bpf_machine::Machine;
 use bpf_model::{Key, NoMemory, Value};
 use std::alloc::Global;
 use std::marker::Model;
@@ -27,10 +28,11 @@ pub struct Stopped {
     pub replies: Vec<Reply>,
 }
 
-/// A table of one caller, in stripes by the hashes of the keys.
+/// A table of one caller, in stripes by the hashes of the keys, with the machine that programs run in.
 #[derive(Drop)]
 pub struct Striped {
     stripes: Vec<ListBins>,
+    machine: Machine,
 }
 
 impl Model for Striped {
@@ -56,8 +58,10 @@ impl Striped {
         if !is_stripe_count(stripes) {
             return Err(OpenFault::BadStripes);
         }
-        let stripes = empty_stripes(alloc, stripes)?;
-        Ok(Striped { stripes })
+        Ok(Striped {
+            stripes: empty_stripes(alloc, stripes)?,
+            machine: Machine::new(),
+        })
     }
 
     /// Makes one call on the whole table. `NoMemory` only where it would have added a key and the room for it was
@@ -81,7 +85,7 @@ impl Striped {
         ensures memory { OnErr result (WouldAdd self.old (invocation_of call.now)) }
     {
         let place = stripe_of(call.key(), self.stripes.len() as u64) as usize;
-        methods::apply_into(&mut self.stripes[place], call, bytes)
+        methods::apply_into(&mut self.stripes[place], call, &mut self.machine, bytes)
     }
 
     /// Makes the calls in turn, each on what the ones before it left. Where a call is refused, neither it nor any after
