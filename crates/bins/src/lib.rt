@@ -8,10 +8,13 @@
 #![tactic(auto)]
 
 mod bins;
+mod copies;
 mod counts;
+mod hashed_bins;
 mod list_bins;
 mod replacement;
 
 pub use bins::Bins;
 pub use counts::Counts;
+pub use hashed_bins::HashedBins;
 pub use list_bins::ListBins;
