@@ -8,10 +8,14 @@
 #![tactic(auto)]
 
 mod bins;
+mod chains;
 mod counts;
+mod hashes;
+mod index;
 mod list_bins;
 mod replacement;
 
 pub use bins::Bins;
 pub use counts::Counts;
+pub use hashes::hash_of;
 pub use list_bins::ListBins;
