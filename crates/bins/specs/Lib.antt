@@ -4,3 +4,5 @@ pub mod Places
 pub mod Lending
 pub mod Replacements
 pub mod Passes
+pub mod Hashes
+pub mod Chains
