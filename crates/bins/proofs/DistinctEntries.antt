@@ -252,7 +252,7 @@ module _ (es : List Entry) (i : ℕ) (d : Entry) (k : List ℕ) (h : Distinct es
 
   which : Case
   which = elim (cases_lt i end) [
-    | inl lower ↦ inr (omega (arith, lower, length-take-le end es (omega arith)), λ e. get_or-take end es i e lower ∙ at e, take_over end es i last lower)
+    | inl lower ↦ inr (omega (arith, lower, length-take-le end es (omega arith)), λ e. ap (λ (x : Entry). x.0) (get_or-take end es i e lower) ∙ at e, take_over end es i last lower)
     | inr ge ↦ let same : end ≡ i = omega (arith, ge, lt) in inl (ap (λ (n : ℕ). (get_or es n d).0) same ∙ at d, take-set-le end es i last (omega (arith, ge)))
   ]
 
