@@ -116,6 +116,3 @@ impl Bins for ListBins {
         replace_values(&mut self.entries, program, arg)
     }
 }
-
-#[cfg(test)]
-mod tests;
