@@ -219,6 +219,7 @@ impl Chains {
     fn link_to(&self, bin: usize, place: usize) -> Link
         requires linked { AreLinked self.now }
         requires bin { bin < length self.now.heads.items }
+        requires place { place < length self.now.nexts.items }
         ensures is_link { IsLink self.now result }
         ensures leads {
             (bins : ℕ → ℕ) → Links bins (length self.now.nexts.items) self.now.heads.items self.now.nexts.items
@@ -236,7 +237,7 @@ impl Chains {
     // The place that a link leads to, counted from 1.
     fn follow(&self, link: Link) -> usize
         requires { IsLink self.now link }
-        ensures value { result ≡ follow self.now link }
+        ensures value { result ≡ follow self.now.heads.items self.now.nexts.items link }
     {
         match link {
             Link::Head(bin) => self.heads[bin],
