@@ -1,10 +1,10 @@
 -- Which bin a hash goes to: masks and shifts, of numbers that are powers of two.
-use Rattle.std.proofs.Common.{◌≡◌, ℕ, zero, suc, ◌-◌, ◌%◌, ◌^◌, ◌<◌, ◌≤◌, Bool, true, false, T, ◌&&◌, refl, sym, ap, subst, ◌∙◌, arith, inl, inr}
+use Rattle.std.proofs.Common.{◌≡◌, ℕ, zero, suc, ◌+◌, ◌-◌, ◌*◌, ◌%◌, ◌^◌, ◌<◌, ◌≤◌, Bool, true, false, T, ◌&&◌, refl, sym, ap, subst, ◌∙◌, arith, inl, inr}
 use Rattle.std.specs.Prelude.{bit_and, nat_eq, min}
 use Rattle.std.specs.Int.{IsPowerOfTwo, trailing_zeros, w64}
 use Rattle.std.proofs.lemmas.Bool.{cases_eq, cases_lt, eqb-true}
 use Rattle.std.proofs.Math.Nat.{pow-le-pow_right}
-use Rattle.std.proofs.lemmas.Nat.{and_mask}
+use Rattle.std.proofs.lemmas.Nat.{and_mask, pow-add}
 use Rattle.bins.specs.Chains.{IsBinCount, bin_of}
 
 -- the lowest bits of a number are its remainder
@@ -57,3 +57,15 @@ shifted n is lt = elim (cases_lt is.0 32) [
 pub bin_within : (stripes bins hash : ℕ) → IsBinCount bins → bin_of stripes bins hash < bins
 unfolding bin_of
 bin_within stripes bins hash is = omega (arith, is.1)
+
+-- twice the bins, where they are fewer than the most
+pub twice_bins : (bins : ℕ) → IsBinCount bins → bins < 65536 → IsBinCount (2 * bins)
+twice_bins bins is few = elim (cases_lt is.0.0 16) [
+  | inl small ↦
+      let most : 2 ^ is.0.0 ≤ 2 ^ 15 = pow-le-pow_right {n = 2} (omega arith) {i = is.0.0} {j = 15} (omega (arith, small)) in
+      ((is.0.0 + 1, ap (λ (n : ℕ). 2 * n) is.0.1 ∙ twice_power is.0.0), omega (arith, is.1), omega (arith, most, is.0.1))
+  | inr ge ↦ let large : 2 ^ 16 ≤ 2 ^ is.0.0 = pow-le-pow_right {n = 2} (omega arith) {i = 16} {j = is.0.0} ge in absurd (omega (arith, large, is.0.1, few))
+]
+  where
+    twice_power : (k : ℕ) → 2 * 2 ^ k ≡ 2 ^ (k + 1)
+    twice_power k = omega (arith, pow-add 2 k 1)

@@ -135,3 +135,16 @@ passed_on bin hs hash b n at p binned pos differs last is = (
     ],
     λ more. last.there more ∙ is.2 pos,
   )
+
+-- where there is no place, no head leads anywhere
+pub links_none : (bin : ℕ → ℕ) (n : ℕ) (heads nexts : List ℕ) → n ≡ 0 → ((b : ℕ) → slice_index heads b ≡ 0) → Links bin n heads nexts
+links_none bin n heads nexts none zeros = record {
+  long = omega (arith, none);
+  falls = λ i high. absurd (omega (arith, none, high));
+  at_heads = λ b in_range. record {
+    range = omega (arith, zeros b);
+    later = λ j low high. absurd (omega (arith, none, high));
+    there = λ pos. absurd (omega (arith, pos, zeros b));
+  };
+  at_nexts = λ i high. absurd (omega (arith, none, high));
+}

@@ -61,6 +61,7 @@ fn chain_all(shift: u32, heads: &mut Vec<usize>, hashes: &[u32], nexts: &mut Vec
     requires empty { (b : ℕ) → slice_index heads.old.items b ≡ 0 }
     ensures links { Links (bins_of (2 ^ shift) (length heads.new.items) hashes.now) (length hashes.now) heads.new.items nexts.new.items }
     ensures bins { length heads.new.items ≡ length heads.old.items }
+    ensures long { length nexts.new.items ≡ length nexts.old.items }
 {
     let bins = heads.len();
     for place in 0..hashes.len() {
