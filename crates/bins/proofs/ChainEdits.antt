@@ -83,11 +83,11 @@ module _ (bin : ℕ → ℕ) (i m : ℕ) where
   hidden_other : (j : ℕ) → j ≢ i → hidden j ≡ bin j
   hidden_other j other = rw (ne_eqb j i other) refl
 
-length-heads_relinked : (link : Link) (at : ℕ) (heads : List ℕ) → length (heads_relinked link at heads) ≡ length heads
+pub length-heads_relinked : (link : Link) (at : ℕ) (heads : List ℕ) → length (heads_relinked link at heads) ≡ length heads
 length-heads_relinked (Head b) at heads = length-set heads b at
 length-heads_relinked (Next p) at heads = refl
 
-length-nexts_relinked : (link : Link) (at : ℕ) (nexts : List ℕ) → length (nexts_relinked link at nexts) ≡ length nexts
+pub length-nexts_relinked : (link : Link) (at : ℕ) (nexts : List ℕ) → length (nexts_relinked link at nexts) ≡ length nexts
 length-nexts_relinked (Head b) at nexts = refl
 length-nexts_relinked (Next p) at nexts = length-set nexts p at
 
