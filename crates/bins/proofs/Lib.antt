@@ -5,3 +5,7 @@ pub mod EntryCounts
 pub mod SortedCopies
 pub mod HashSearch
 pub mod ReplacementLemmas
+pub mod ChainLemmas
+pub mod ChainMoves
+pub mod ChainBins
+pub mod ChainEdits

@@ -67,10 +67,10 @@ LeadsTo bin n b place (Head c) = (c ≡ b) × ((j : ℕ) → place < j → j < n
 LeadsTo bin n b place (Next next) =
     (place < next) × (next < n) × (bin next ≡ b) × ((j : ℕ) → place < j → j < next → bin j ≢ b)
 
--- what a link leads to
-abbrev pub follow : Chains → Link → ℕ
-follow chains (Head bin) = slice_index chains.heads.items bin
-follow chains (Next place) = slice_index chains.nexts.items place
+-- the place that a link leads to, counted from 1
+abbrev pub follow : List ℕ → List ℕ → Link → ℕ
+follow heads nexts (Head bin) = slice_index heads bin
+follow heads nexts (Next place) = slice_index nexts place
 
 -- the chains have this link
 abbrev pub IsLink : Chains → Link → Type 0

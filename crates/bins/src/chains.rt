@@ -61,6 +61,7 @@ fn chain_all(shift: u32, heads: &mut Vec<usize>, hashes: &[u32], nexts: &mut Vec
     requires empty { (b : ℕ) → slice_index heads.old.items b ≡ 0 }
     ensures links { Links (bins_of (2 ^ shift) (length heads.new.items) hashes.now) (length hashes.now) heads.new.items nexts.new.items }
     ensures bins { length heads.new.items ≡ length heads.old.items }
+    ensures long { length nexts.new.items ≡ length nexts.old.items }
 {
     let bins = heads.len();
     for place in 0..hashes.len() {
@@ -219,6 +220,7 @@ impl Chains {
     fn link_to(&self, bin: usize, place: usize) -> Link
         requires linked { AreLinked self.now }
         requires bin { bin < length self.now.heads.items }
+        requires place { place < length self.now.nexts.items }
         ensures is_link { IsLink self.now result }
         ensures leads {
             (bins : ℕ → ℕ) → Links bins (length self.now.nexts.items) self.now.heads.items self.now.nexts.items
@@ -236,7 +238,7 @@ impl Chains {
     // The place that a link leads to, counted from 1.
     fn follow(&self, link: Link) -> usize
         requires { IsLink self.now link }
-        ensures value { result ≡ follow self.now link }
+        ensures value { result ≡ follow self.now.heads.items self.now.nexts.items link }
     {
         match link {
             Link::Head(bin) => self.heads[bin],
