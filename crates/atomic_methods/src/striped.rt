@@ -7,7 +7,7 @@ ghost use Rattle.atomic_methods.specs.Invocations.{invocation_of};
 ghost use Rattle.atomic_methods.specs.Methods.{Answers, WouldAdd};
 ghost use Rattle.atomic_methods.specs.Plans.{reply_by};
 ghost use Rattle.atomic_methods.specs.Runs.{AnswersInTurn, first_of, IsRefused};
-ghost use Rattle.atomic_methods.specs.Whole.{stripe_at, all_entries, ReplacesStripes};
+ghost use Rattle.atomic_methods.specs.Whole.{stripe_at, all_entries, whole, AreStripes, ReplacesStripes};
 
 use crate::call::Call;
 use crate::fault::OpenFault;
@@ -15,6 +15,7 @@ use crate::methods;
 use crate::reply::{Reply, ReplyKind};
 use crate::stripes::{MAX_STRIPES, is_stripe_count, stripe_of};
 use bins::{Bins, Counts, ListBins};
+use bpf_machine::Machine;
 use bpf_model::{Key, NoMemory, Value};
 use std::alloc::Global;
 use std::marker::Model;
@@ -27,10 +28,11 @@ pub struct Stopped {
     pub replies: Vec<Reply>,
 }
 
-/// A table of one caller, in stripes by the hashes of the keys.
+/// A table of one caller, in stripes by the hashes of the keys, with the machine that programs run in.
 #[derive(Drop)]
 pub struct Striped {
     stripes: Vec<ListBins>,
+    machine: Machine,
 }
 
 impl Model for Striped {
@@ -56,8 +58,10 @@ impl Striped {
         if !is_stripe_count(stripes) {
             return Err(OpenFault::BadStripes);
         }
-        let stripes = empty_stripes(alloc, stripes)?;
-        Ok(Striped { stripes })
+        Ok(Striped {
+            stripes: empty_stripes(alloc, stripes)?,
+            machine: Machine::new(),
+        })
     }
 
     /// Makes one call on the whole table. `NoMemory` only where it would have added a key and the room for it was
@@ -81,7 +85,7 @@ impl Striped {
         ensures memory { OnErr result (WouldAdd self.old (invocation_of call.now)) }
     {
         let place = stripe_of(call.key(), self.stripes.len() as u64) as usize;
-        methods::apply_into(&mut self.stripes[place], call, bytes)
+        methods::apply_into(&mut self.stripes[place], call, &mut self.machine, bytes)
     }
 
     /// Makes the calls in turn, each on what the ones before it left. Where a call is refused, neither it nor any after
@@ -113,9 +117,7 @@ impl Striped {
     pub fn scan(&self, alloc: Global) -> Result<Vec<(Key, Value)>, NoMemory>
         ensures ok { IfOk result (λ found. found.items ≡ finmap.entries self.now) }
     {
-        let mut found = entries_of(alloc, &self.stripes)?;
-        found.sort_by(|a, b| a.0.cmp(&b.0))?;
-        Ok(found)
+        sorted_entries(alloc, &self.stripes)
     }
 
     /// Replaces the value of each key of the table once by what the program answers on the key, its value and the
@@ -170,5 +172,15 @@ fn entries_of(alloc: Global, stripes: &[ListBins]) -> Result<Vec<(Key, Value)>, 
         let mut entries = stripe.entries(alloc)?;
         found.append(&mut entries)?;
     }
+    Ok(found)
+}
+
+// Copies of the entries of all stripes, in key order.
+fn sorted_entries(alloc: Global, stripes: &[ListBins]) -> Result<Vec<(Key, Value)>, NoMemory>
+    requires { AreStripes stripes.now }
+    ensures ok { IfOk result (λ found. found.items ≡ finmap.entries (whole stripes.now)) }
+{
+    let mut found = entries_of(alloc, stripes)?;
+    found.sort_by(|a, b| a.0.cmp(&b.0))?;
     Ok(found)
 }

@@ -26,6 +26,7 @@ pub fn hash_of(key: &Key) -> u32
 }
 
 /// The stripe of a key, counted from 0, in a table of so many stripes.
+#[tactic(auto, using(crate::proofs::StripeLemmas::masked))]
 pub fn stripe_of(key: &Key, stripes: u64) -> u64
     requires { IsStripeCount stripes }
     ensures value { result ≡ stripe_of stripes key.now }
