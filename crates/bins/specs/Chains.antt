@@ -1,6 +1,6 @@
 -- Chains of places among a list of hashes: each place leads to the last one before it in the same bin.
 -- Which bin a hash goes to, and when the bins double, is our profile.
-use Rattle.std.specs.Prelude.{◌≡◌, ◌≢◌, ℕ, ◌+◌, ◌-◌, ◌*◌, ◌/◌, ◌%◌, ◌^◌, ◌<◌, ◌≤◌, ◌⊎◌, List, Option, Some, None, length, set, slice_index}
+use Rattle.std.specs.Prelude.{◌≡◌, ◌≢◌, ℕ, ◌-◌, ◌*◌, ◌/◌, ◌%◌, ◌^◌, ◌<◌, ◌≤◌, ◌⊎◌, List, Option, Some, None, length, set, slice_index}
 use Rattle.std.specs.Int.{IsPowerOfTwo}
 use Rattle.bins.specs.declared.chains.TheConstants.{FIRST_BINS, MOST_BINS}
 use Rattle.bins.specs.declared.chains.Chains.{Chains}

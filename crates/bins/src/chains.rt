@@ -101,8 +101,7 @@ impl Chains {
     fn find_from(&self, first: usize, hash: u32) -> Option<usize>
         requires chained { AreChained self.now }
         requires range { first ≤ length self.now.hashes.items }
-        ensures value {
-            (n : ℕ) → n ≤ length self.now.hashes.items
+        ensures value { (n : ℕ) → n ≤ length self.now.hashes.items
             → IsLast (bins_of (2 ^ self.now.shift) (length self.now.heads.items) self.now.hashes.items) n (bin_of (2 ^ self.now.shift) (length self.now.heads.items) hash) first
             → IsLastOf self.now.hashes.items n hash result }
     {
@@ -222,8 +221,7 @@ impl Chains {
         requires bin { bin < length self.now.heads.items }
         requires place { place < length self.now.nexts.items }
         ensures is_link { IsLink self.now result }
-        ensures leads {
-            (bins : ℕ → ℕ) → Links bins (length self.now.nexts.items) self.now.heads.items self.now.nexts.items
+        ensures leads { (bins : ℕ → ℕ) → Links bins (length self.now.nexts.items) self.now.heads.items self.now.nexts.items
             → LeadsTo bins (length self.now.nexts.items) bin place result }
     {
         let mut link = Link::Head(bin);
