@@ -257,15 +257,15 @@ fn a_refused_put_leaves_the_list(rt: HostRuntime) -> Result<(), Fail> {
 #[test]
 fn a_refused_put_leaves_the_bins(rt: HostRuntime) -> Result<(), Fail> {
     let mut bins = opened::<HashedBins>(rt.alloc())?;
-    let mut late = 0;
+    let mut late = false;
     for number in 0..70u8 {
         assert!(rt; put_twice(&mut bins, number)?);
         assert!(rt; has_first(&bins, number + 1)?);
         if bins.bins() != wanted_bins(number + 1) {
-            late += 1;
+            assert!(rt; !late);
+            late = true;
         }
     }
-    assert!(rt; late <= 1);
     assert_eq!(rt; bins.bins(), 64);
     Ok(())
 }
