@@ -1,10 +1,8 @@
 -- Chains of places: a further place, the last one taken out, and a link that is made to lead elsewhere.
-use Rattle.std.proofs.Common.{◌≡◌, ◌≢◌, ℕ, ◌+◌, ◌-◌, ◌<◌, ◌≤◌, List, length, get_or, set, slice_index, refl, sym, ap, subst, ◌∙◌, arith, inl, inr}
+use Rattle.std.proofs.Common.{◌≡◌, ◌≢◌, ℕ, ◌+◌, ◌-◌, ◌<◌, ◌≤◌, List, length, set, slice_index, sym, ap, subst, ◌∙◌, arith, inl, inr}
 use Rattle.std.proofs.lemmas.Bool.{cases_eq, cases_lt}
 use Rattle.std.proofs.lemmas.List.{length-set, get_or-set_same, get_or-set_other}
-use Rattle.bins.specs.declared.chains.Link.{Link}
-use Rattle.bins.specs.declared.chains.Link.TheVariants.{Head, Next}
-use Rattle.bins.specs.Chains.{IsLast, Links, LeadsTo, heads_relinked, nexts_relinked}
+use Rattle.bins.specs.Chains.{IsLast, Links}
 
 -- the same fact of equal numbers
 pub last_in : (bin : ℕ → ℕ) (n b c p : ℕ) → b ≡ c → IsLast bin n b p → IsLast bin n c p
@@ -26,7 +24,7 @@ module _ (bin : ℕ → ℕ) where
   pub last_more : (n m b p : ℕ) → n ≤ m → ((j : ℕ) → n ≤ j → j < m → bin j ≢ b) → IsLast bin n b p → IsLast bin m b p
   last_more n m b p le none is = record {
     range = omega (arith, is.range);
-    later = λ j low high. elim (cases_lt j n) [ | inl lt ↦ is.later j low lt | inr ge ↦ none j ge high ];
+    later = λ j low high. elim (cases_lt j n) [ inl lt ↦ is.later j low lt | inr ge ↦ none j ge high ];
     there = is.there;
   }
 
@@ -42,7 +40,7 @@ module _ (bin : ℕ → ℕ) where
 
   -- a place in the bin stands before the last one
   pub last_behind : (n b p j : ℕ) → IsLast bin n b p → j < n → bin j ≡ b → j < p
-  last_behind n b p j is high e = elim (cases_lt j p) [ | inl lt ↦ lt | inr ge ↦ absurd (is.later j ge high e) ]
+  last_behind n b p j is high e = elim (cases_lt j p) [ inl lt ↦ lt | inr ge ↦ absurd (is.later j ge high e) ]
 
   -- a further place is chained
   pub links_more : (n b : ℕ) (heads nexts news : List ℕ) → Links bin n heads nexts → b ≡ bin n → b < length heads → n + 1 ≤ length news
@@ -57,7 +55,7 @@ module _ (bin : ℕ → ℕ) where
       | inl eq ↦ last_at bin (n + 1) c (n + 1) _ (sym (get_or-set_same heads b (n + 1) 0 lt) ∙ ap (slice_index (set heads b (n + 1))) (sym eq)) (last_here n c (sym e ∙ sym eq))
       | inr other ↦ last_at bin (n + 1) c _ _ (sym (get_or-set_other heads b c (n + 1) 0 other))
           (last_more n (n + 1) c _ (omega arith) (λ j low high at. let j_is : j ≡ n = omega (arith, low, high) in other (sym at ∙ ap bin j_is ∙ sym e))
-            (is.at_heads c (subst (λ (k : ℕ). c < k) (length-set heads b (n + 1)) in_range)))
+          (is.at_heads c (subst (λ (k : ℕ). c < k) (length-set heads b (n + 1)) in_range)))
     ];
     at_nexts = λ i high in_range. elim (cases_lt i n) [
       | inl less ↦ last_at bin i (bin i) _ _ (sym (same i less)) (is.at_nexts i less (subst (λ (k : ℕ). bin i < k) (length-set heads b (n + 1)) in_range))
@@ -77,7 +75,7 @@ module _ (bin : ℕ → ℕ) where
           (last_in bin n (bin n) c _ (sym e ∙ sym eq) (is.at_nexts n (omega arith) (subst (λ (k : ℕ). k < length heads) e lt)))
       | inr other ↦ last_at bin n c _ _ (sym (get_or-set_other heads b c (slice_index nexts n) 0 other))
           (last_fewer n (n + 1) c _ (omega arith) (λ j low high at. let j_is : j ≡ n = omega (arith, low, high) in other (sym at ∙ ap bin j_is ∙ sym e))
-            (is.at_heads c (subst (λ (k : ℕ). c < k) (length-set heads b (slice_index nexts n)) in_range)))
+          (is.at_heads c (subst (λ (k : ℕ). c < k) (length-set heads b (slice_index nexts n)) in_range)))
     ];
     at_nexts = λ i high in_range. last_at bin i (bin i) _ _ (sym (same i high))
         (is.at_nexts i (omega (arith, high)) (subst (λ (k : ℕ). bin i < k) (length-set heads b (slice_index nexts n)) in_range));
@@ -89,9 +87,9 @@ module _ (bin : ℕ → ℕ) where
     long = omega (arith, is.long, length-set nexts i v);
     falls = λ k high. elim (cases_eq k i) [
       | inl eq ↦ elim (cases_lt i (length nexts)) [
-          | inl lt ↦ omega (arith, eq, get_or-set_same nexts i v 0 lt, ap (slice_index (set nexts i v)) eq)
-          | inr ge ↦ absurd (omega (arith, ge, eq, high, is.long))
-        ]
+        | inl lt ↦ omega (arith, eq, get_or-set_same nexts i v 0 lt, ap (slice_index (set nexts i v)) eq)
+        | inr ge ↦ absurd (omega (arith, ge, eq, high, is.long))
+      ]
       | inr other ↦ omega (arith, is.falls k high, get_or-set_other nexts i k v 0 other)
     ];
     at_heads = is.at_heads;
@@ -114,7 +112,7 @@ links_alike bin new n heads nexts same is = record {
   at_heads = λ b in_range. last_alike bin new n b _ (λ j high e. same j high ∙ e) (λ j high e. sym (same j high) ∙ e) (is.at_heads b in_range);
   at_nexts = λ i high in_range. last_in new i (bin i) (new i) _ (sym (same i high))
       (last_alike bin new i (bin i) _ (λ j low e. same j (omega (arith, low, high)) ∙ e) (λ j low e. sym (same j (omega (arith, low, high))) ∙ e)
-        (is.at_nexts i high (subst (λ (k : ℕ). k < length heads) (same i high) in_range)));
+      (is.at_nexts i high (subst (λ (k : ℕ). k < length heads) (same i high) in_range)));
 }
 
 -- what a search along a chain has passed: no place from `at` on has the hash, and the one that `at` leads to is in its bin
@@ -125,16 +123,16 @@ Passed bin hs hash b n at = (at ≤ n) × ((j : ℕ) → at ≤ j → j < n → 
 pub passed_on : (bin : ℕ → ℕ) (hs : List ℕ) (hash b n at p : ℕ) → ((j : ℕ) → slice_index hs j ≡ hash → bin j ≡ b) → 0 < at → slice_index hs (at - 1) ≢ hash
     → IsLast bin (at - 1) (bin (at - 1)) p → Passed bin hs hash b n at → Passed bin hs hash b n p
 passed_on bin hs hash b n at p binned pos differs last is = (
-    omega (arith, last.range, is.0),
-    λ j low high e. elim (cases_lt j (at - 1)) [
-      | inl lt ↦ last.later j low lt (binned j e ∙ sym (is.2 pos))
-      | inr ge ↦ elim (cases_lt j at) [
-          | inl less ↦ let here : j ≡ at - 1 = omega (arith, ge, less) in differs (sym (ap (slice_index hs) here) ∙ e)
-          | inr beyond ↦ is.1 j beyond high e
-        ]
-    ],
-    λ more. last.there more ∙ is.2 pos,
-  )
+  omega (arith, last.range, is.0),
+  λ j low high e. elim (cases_lt j (at - 1)) [
+    | inl lt ↦ last.later j low lt (binned j e ∙ sym (is.2 pos))
+    | inr ge ↦ elim (cases_lt j at) [
+      | inl less ↦ let here : j ≡ at - 1 = omega (arith, ge, less) in differs (sym (ap (slice_index hs) here) ∙ e)
+      | inr beyond ↦ is.1 j beyond high e
+    ]
+  ],
+  λ more. last.there more ∙ is.2 pos,
+)
 
 -- where there is no place, no head leads anywhere
 pub links_none : (bin : ℕ → ℕ) (n : ℕ) (heads nexts : List ℕ) → n ≡ 0 → ((b : ℕ) → slice_index heads b ≡ 0) → Links bin n heads nexts

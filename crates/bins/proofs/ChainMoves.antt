@@ -1,11 +1,11 @@
 -- A place that changes its bin: one link is made to lead elsewhere.
-use Rattle.std.proofs.Common.{◌≡◌, ◌≢◌, ℕ, ◌+◌, ◌-◌, ◌<◌, ◌≤◌, List, length, get_or, set, slice_index, refl, sym, ap, subst, ◌∙◌, arith, inl, inr}
+use Rattle.std.proofs.Common.{◌≡◌, ◌≢◌, ℕ, ◌+◌, ◌-◌, ◌<◌, ◌≤◌, List, length, set, slice_index, sym, ap, subst, ◌∙◌, arith, inl, inr}
 use Rattle.std.proofs.lemmas.Bool.{cases_eq, cases_lt}
 use Rattle.std.proofs.lemmas.List.{length-set, get_or-set_same, get_or-set_other}
 use Rattle.bins.specs.declared.chains.Link.{Link}
 use Rattle.bins.specs.declared.chains.Link.TheVariants.{Head, Next}
 use Rattle.bins.specs.Chains.{IsLast, Links, LeadsTo, follow, heads_relinked, nexts_relinked}
-use Rattle.bins.proofs.ChainLemmas.{last_in, last_at, last_here, last_more, last_fewer, last_behind, last_alike}
+use Rattle.bins.proofs.ChainLemmas.{last_in, last_at, last_more, last_fewer, last_behind, last_alike}
 
 -- place i goes from one way to spread places over bins to another, for which bin b alone matters
 module _ (bin new : ℕ → ℕ) (heads nexts : List ℕ) (n i b v : ℕ) (is : Links bin n heads nexts) (within : i < n) (in_bins : b < length heads)
@@ -13,7 +13,6 @@ module _ (bin new : ℕ → ℕ) (heads nexts : List ℕ) (n i b v : ℕ) (is : 
     (others : (c : ℕ) → c < length heads → c ≢ b → (bin i ≢ c) × (new i ≢ c))
     (last : IsLast new (i + 1) b v)
     (here : new i < length heads → IsLast new i (new i) (slice_index nexts i)) where
-
   -- the last place stands behind i
   behind : (m p : ℕ) → i + 1 < p → IsLast bin m b p → IsLast new m b p
   behind m p lt was = record {
@@ -56,9 +55,9 @@ module _ (bin new : ℕ → ℕ) (heads nexts : List ℕ) (n i b v : ℕ) (is : 
                 let bound_before : bin k < length heads = subst (λ (m : ℕ). m < length heads) (same k other) bound in
                 last_in new k (bin k) (new k) _ (sym (same k other)) (elim (cases_eq (bin k) b) [
                   | inl in_b ↦ elim (cases_lt k i) [
-                      | inl lt ↦ earlier k (bin k) _ (omega (arith, lt)) (is.at_nexts k high bound_before)
-                      | inr ge ↦ absurd (none k (omega (arith, ge, other)) high in_b)
-                    ]
+                    | inl lt ↦ earlier k (bin k) _ (omega (arith, lt)) (is.at_nexts k high bound_before)
+                    | inr ge ↦ absurd (none k (omega (arith, ge, other)) high in_b)
+                  ]
                   | inr not_b ↦ elsewhere k (bin k) _ bound_before not_b (is.at_nexts k high bound_before)
                 ])
           ];
@@ -89,19 +88,19 @@ module _ (bin new : ℕ → ℕ) (heads nexts : List ℕ) (n i b v : ℕ) (is : 
       where
         at_other : (k : ℕ) → k < n → k ≢ i → bin k < length heads → IsLast new k (bin k) (slice_index (set nexts p v) k)
         at_other k less other bound = elim (cases_eq (bin k) b) [
-            | inl k_in_b ↦ elim (cases_lt k i) [
-                | inl lt ↦ last_at new k (bin k) _ _ (sym (get_or-set_other nexts p k v 0 (λ e. omega (arith, e, lt, low)))) (earlier k (bin k) _ (omega (arith, lt)) (is.at_nexts k less bound))
-                | inr ge ↦ last_in new k b (bin k) _ (sym k_in_b) (elim (cases_eq k p) [
-                    | inl eq ↦ last_at new k b v _ (sym (get_or-set_same nexts p v 0 in_nexts) ∙ ap (slice_index (set nexts p v)) (sym eq))
-                        (subst (λ (m : ℕ). IsLast new m b v) (sym eq) (upto p low none))
-                    | inr apart ↦ last_at new k b _ _ (sym (get_or-set_other nexts p k v 0 apart))
-                        (let later : p < k = elim (cases_lt k p) [ | inl lt ↦ absurd (none k (omega (arith, ge, other)) lt k_in_b) | inr le ↦ omega (arith, le, apart) ] in
-                         let was = last_in bin k (bin k) b _ k_in_b (is.at_nexts k less bound) in
-                         behind k _ (omega (arith, low, last_behind bin k b _ p was later in_b)) was)
-                  ])
-              ]
-            | inr not_b ↦ last_at new k (bin k) _ _ (sym (get_or-set_other nexts p k v 0 (λ e. not_b (ap bin e ∙ in_b)))) (elsewhere k (bin k) _ bound not_b (is.at_nexts k less bound))
+          | inl k_in_b ↦ elim (cases_lt k i) [
+            | inl lt ↦ last_at new k (bin k) _ _ (sym (get_or-set_other nexts p k v 0 (λ e. omega (arith, e, lt, low)))) (earlier k (bin k) _ (omega (arith, lt)) (is.at_nexts k less bound))
+            | inr ge ↦ last_in new k b (bin k) _ (sym k_in_b) (elim (cases_eq k p) [
+              | inl eq ↦ last_at new k b v _ (sym (get_or-set_same nexts p v 0 in_nexts) ∙ ap (slice_index (set nexts p v)) (sym eq))
+                  (subst (λ (m : ℕ). IsLast new m b v) (sym eq) (upto p low none))
+              | inr apart ↦ last_at new k b _ _ (sym (get_or-set_other nexts p k v 0 apart))
+                  (let later : p < k = elim (cases_lt k p) [ inl lt ↦ absurd (none k (omega (arith, ge, other)) lt k_in_b) | inr le ↦ omega (arith, le, apart) ] in
+                  let was = last_in bin k (bin k) b _ k_in_b (is.at_nexts k less bound) in
+                  behind k _ (omega (arith, low, last_behind bin k b _ p was later in_b)) was)
+            ])
           ]
+          | inr not_b ↦ last_at new k (bin k) _ _ (sym (get_or-set_other nexts p k v 0 (λ e. not_b (ap bin e ∙ in_b)))) (elsewhere k (bin k) _ bound not_b (is.at_nexts k less bound))
+        ]
 
   -- by whichever link leads to i
   pub links_relinked : (link : Link) → LeadsTo bin n b i link → Links new n (heads_relinked link v heads) (nexts_relinked link v nexts)

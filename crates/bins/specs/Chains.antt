@@ -1,6 +1,6 @@
 -- Chains of places among a list of hashes: each place leads to the last one before it in the same bin.
 -- Which bin a hash goes to, and when the bins double, is our profile.
-use Rattle.std.specs.Prelude.{◌≡◌, ◌≢◌, ℕ, ◌+◌, ◌-◌, ◌*◌, ◌/◌, ◌%◌, ◌^◌, ◌<◌, ◌≤◌, ◌⊎◌, List, Option, Some, None, length, set, slice_index}
+use Rattle.std.specs.Prelude.{◌≡◌, ◌≢◌, ℕ, ◌-◌, ◌*◌, ◌/◌, ◌%◌, ◌^◌, ◌<◌, ◌≤◌, ◌⊎◌, List, Option, Some, None, length, set, slice_index}
 use Rattle.std.specs.Int.{IsPowerOfTwo}
 use Rattle.bins.specs.declared.chains.TheConstants.{FIRST_BINS, MOST_BINS}
 use Rattle.bins.specs.declared.chains.Chains.{Chains}
@@ -20,6 +20,10 @@ pub record PlacedHashes : Type 0 where
   pub stripes : ℕ
   pub bins : ℕ
   pub hashes : List ℕ
+
+abbrev pub placed : Chains → PlacedHashes
+placed chains =
+    record { stripes = 2 ^ chains.shift; bins = length chains.heads.items; hashes = chains.hashes.items }
 
 -- the hashes are more than twice the bins, and there may be more bins
 abbrev pub IsCrowded : ℕ → List ℕ → Type 0
@@ -49,6 +53,17 @@ pub record Links (bin : ℕ → ℕ) (n : ℕ) (heads nexts : List ℕ) : Type 0
 abbrev pub bins_of : ℕ → ℕ → List ℕ → ℕ → ℕ
 bins_of stripes bins hashes place = bin_of stripes bins (slice_index hashes place)
 
+-- the bin of a hash among these chains, and that of a place
+abbrev pub bin_in : Chains → ℕ → ℕ
+bin_in chains hash = bin_of (2 ^ chains.shift) (length chains.heads.items) hash
+
+abbrev pub place_bin : Chains → ℕ → ℕ
+place_bin chains place = bin_in chains (slice_index chains.hashes.items place)
+
+-- all places are chained by these bins
+abbrev pub AreLinkedBy : (ℕ → ℕ) → Chains → Type 0
+AreLinkedBy bin chains = Links bin (length chains.nexts.items) chains.heads.items chains.nexts.items
+
 -- all places are chained by their hashes
 pub record AreChained (chains : Chains) : Type 0 where
   pub shift : chains.shift < 32
@@ -57,9 +72,9 @@ pub record AreChained (chains : Chains) : Type 0 where
   pub links : Links (bins_of (2 ^ chains.shift) (length chains.heads.items) chains.hashes.items)
       (length chains.hashes.items) chains.heads.items chains.nexts.items
 
--- some places are chained by some bins
+-- all places are chained by some bins
 abbrev pub AreLinked : Chains → Type 0
-AreLinked chains = (bin : ℕ → ℕ) × Links bin (length chains.nexts.items) chains.heads.items chains.nexts.items
+AreLinked chains = (bin : ℕ → ℕ) × AreLinkedBy bin chains
 
 -- the link of a bin's chain that leads, or would lead, to this place: no place of the bin stands between them
 abbrev pub LeadsTo : (ℕ → ℕ) → ℕ → ℕ → ℕ → Link → Type 0
@@ -94,5 +109,5 @@ pub record Relinked (link : Link) (at : ℕ) (old new : Chains) : Type 0 where
   pub nexts : new.nexts.items ≡ nexts_relinked link at old.nexts.items
 
 -- after a further hash the bins are as many as before, or twice as many where they had become crowded
-abbrev pub MayDouble : ℕ → ℕ → List ℕ → Type 0
-MayDouble old new hashes = (new ≡ old) ⊎ (IsCrowded old hashes × (new ≡ 2 * old))
+abbrev pub MayDouble : PlacedHashes → PlacedHashes → Type 0
+MayDouble old new = (new.bins ≡ old.bins) ⊎ (IsCrowded old.bins new.hashes × (new.bins ≡ 2 * old.bins))

@@ -6,7 +6,7 @@
 ghost use Rattle.std.specs.Prelude.{◌≡◌, ◌<◌, ◌≤◌, ◌^◌, ◌*◌, ◌↔◌, ℕ, ◌++◌, [], ◌∷◌, length, set, slice_index, IfOk, OnOk, OnErr, IsTrue};
 ghost use Rattle.std.specs.List.{swap_remove};
 ghost use Rattle.std.specs.Int.{IsPowerOfTwo};
-ghost use Rattle.bins.specs.Chains.{AreChained, AreLinked, IsBinCount, IsCrowded, IsLast, IsLastOf, IsLink, LeadsTo, Links, MayDouble, Relinked, bin_of, bins_of, follow};
+ghost use Rattle.bins.specs.Chains.{AreChained, AreLinked, AreLinkedBy, IsBinCount, IsCrowded, IsLast, IsLastOf, IsLink, LeadsTo, Links, MayDouble, Relinked, bin_in, bin_of, bins_of, follow, place_bin, placed};
 
 use bpf_model::NoMemory;
 use std::alloc::Global;
@@ -59,7 +59,8 @@ fn chain_all(shift: u32, heads: &mut Vec<usize>, hashes: &[u32], nexts: &mut Vec
     requires bins { IsBinCount (length heads.old.items) }
     requires long { length nexts.old.items ≡ length hashes.now }
     requires empty { (b : ℕ) → slice_index heads.old.items b ≡ 0 }
-    ensures links { Links (bins_of (2 ^ shift) (length heads.new.items) hashes.now) (length hashes.now) heads.new.items nexts.new.items }
+    ensures links { Links (bins_of (2 ^ shift) (length heads.new.items) hashes.now) (length hashes.now)
+        heads.new.items nexts.new.items }
     ensures bins { length heads.new.items ≡ length heads.old.items }
     ensures long { length nexts.new.items ≡ length nexts.old.items }
 {
@@ -77,7 +78,8 @@ impl Chains {
         ensures chained { IfOk result AreChained }
         ensures empty { IfOk result (λ chains. chains.hashes.items ≡ []) }
         ensures bins { IfOk result (λ chains. length chains.heads.items ≡ 8) }
-        ensures stripes { IsPowerOfTwo stripes → stripes < 2 ^ 32 → IfOk result (λ chains. 2 ^ chains.shift ≡ stripes) }
+        ensures stripes { IsPowerOfTwo stripes → stripes < 2 ^ 32
+            → IfOk result (λ chains. 2 ^ chains.shift ≡ stripes) }
     {
         let mut heads = Vec::new(alloc);
         heads.resize(FIRST_BINS, 0)?;
@@ -101,9 +103,8 @@ impl Chains {
     fn find_from(&self, first: usize, hash: u32) -> Option<usize>
         requires chained { AreChained self.now }
         requires range { first ≤ length self.now.hashes.items }
-        ensures value {
-            (n : ℕ) → n ≤ length self.now.hashes.items
-            → IsLast (bins_of (2 ^ self.now.shift) (length self.now.heads.items) self.now.hashes.items) n (bin_of (2 ^ self.now.shift) (length self.now.heads.items) hash) first
+        ensures value { (n : ℕ) → n ≤ length self.now.hashes.items
+            → IsLast (place_bin self.now) n (bin_in self.now hash) first
             → IsLastOf self.now.hashes.items n hash result }
     {
         let mut at = first;
@@ -187,8 +188,9 @@ impl Chains {
         requires chained { AreChained self.old }
         ensures chained { AreChained self.new }
         ensures ok { OnOk result (self.new.hashes.items ≡ self.old.hashes.items ++ hash ∷ []) }
-        ensures err { OnErr result ((self.new.hashes.items ≡ self.old.hashes.items) × (length self.new.heads.items ≡ length self.old.heads.items)) }
-        ensures bins { OnOk result (MayDouble (length self.old.heads.items) (length self.new.heads.items) self.new.hashes.items) }
+        ensures err { OnErr result (self.new.hashes.items ≡ self.old.hashes.items) }
+        ensures err_bins { OnErr result (length self.new.heads.items ≡ length self.old.heads.items) }
+        ensures bins { OnOk result (MayDouble (placed self.old) (placed self.new)) }
         ensures shift { self.new.shift ≡ self.old.shift }
     {
         self.add(hash)?;
@@ -222,8 +224,7 @@ impl Chains {
         requires bin { bin < length self.now.heads.items }
         requires place { place < length self.now.nexts.items }
         ensures is_link { IsLink self.now result }
-        ensures leads {
-            (bins : ℕ → ℕ) → Links bins (length self.now.nexts.items) self.now.heads.items self.now.nexts.items
+        ensures leads { (bins : ℕ → ℕ) → AreLinkedBy bins self.now
             → LeadsTo bins (length self.now.nexts.items) bin place result }
     {
         let mut link = Link::Head(bin);

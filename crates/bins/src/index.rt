@@ -17,14 +17,13 @@ pub struct Index {
 }
 
 impl Model for Index {
-    ghost use Rattle.std.specs.Prelude.{◌^◌, length};
-    ghost use Rattle.bins.specs.Chains.{PlacedHashes, AreChained};
+    ghost use Rattle.bins.specs.Chains.{PlacedHashes, AreChained, placed};
 
     ghost Value = { PlacedHashes };
 
-    ghost view = { λ i. record { stripes = 2 ^ i.chains.shift; bins = length i.chains.heads.items; hashes = i.chains.hashes.items } };
+    ghost view = { λ index. placed index.chains };
 
-    ghost invariant = { λ i. AreChained i.chains };
+    ghost invariant = { λ index. AreChained index.chains };
 }
 
 impl Index {
@@ -32,7 +31,8 @@ impl Index {
     /// refused.
     pub fn open(alloc: Global, stripes: u64) -> Result<Index, NoMemory>
         ensures ok { IfOk result (λ index. (index.hashes ≡ []) × (index.bins ≡ 8)) }
-        ensures stripes { IsPowerOfTwo stripes → stripes < 2 ^ 32 → IfOk result (λ index. index.stripes ≡ stripes) }
+        ensures stripes { IsPowerOfTwo stripes → stripes < 2 ^ 32
+            → IfOk result (λ index. index.stripes ≡ stripes) }
     {
         Ok(Index {
             chains: Chains::open(alloc, stripes)?,
@@ -71,7 +71,7 @@ impl Index {
         ensures ok { OnOk result (self.new.hashes ≡ self.old.hashes ++ hash ∷ []) }
         ensures err { OnErr result (self.new ≡ self.old) }
         ensures stripes { self.new.stripes ≡ self.old.stripes }
-        ensures bins { OnOk result (MayDouble self.old.bins self.new.bins self.new.hashes) }
+        ensures bins { OnOk result (MayDouble self.old self.new) }
     {
         self.chains.push(hash)
     }

@@ -30,11 +30,7 @@ fn put_all<B: Bins>(bins: &mut B, rows: &[(&[u8], &[u8])]) -> Result<(), Fail> {
 }
 
 // Whether these are all entries, in this order.
-fn holds<B: Bins>(
-    bins: &B,
-    alloc: Global,
-    wanted: &[(&[u8], &[u8])],
-) -> Result<bool, NoMemory> {
+fn holds<B: Bins>(bins: &B, alloc: Global, wanted: &[(&[u8], &[u8])]) -> Result<bool, NoMemory> {
     let found = bins.entries(alloc)?;
     let mut same = found.len() == wanted.len();
     for (entry, (name, bytes)) in found.iter().zip(wanted) {
@@ -257,15 +253,15 @@ fn a_refused_put_leaves_the_list(rt: HostRuntime) -> Result<(), Fail> {
 #[test]
 fn a_refused_put_leaves_the_bins(rt: HostRuntime) -> Result<(), Fail> {
     let mut bins = opened::<HashedBins>(rt.alloc())?;
-    let mut late = 0;
+    let mut late = false;
     for number in 0..70u8 {
         assert!(rt; put_twice(&mut bins, number)?);
         assert!(rt; has_first(&bins, number + 1)?);
         if bins.bins() != wanted_bins(number + 1) {
-            late += 1;
+            assert!(rt; !late);
+            late = true;
         }
     }
-    assert!(rt; late <= 1);
     assert_eq!(rt; bins.bins(), 64);
     Ok(())
 }

@@ -1,4 +1,4 @@
-use Rattle.std.proofs.Common.{◌≡◌, ◌<◌, ◌+◌, ◌^◌, ◌++◌, ◌∷◌, [], ℕ, List, length, set, slice_index, sym, ap, subst, ◌∙◌}
+use Rattle.std.proofs.Common.{◌≡◌, ◌<◌, ◌+◌, ◌^◌, ◌++◌, ◌∷◌, [], ℕ, List, length, set, sym, ap, subst, ◌∙◌}
 use Rattle.std.proofs.lemmas.List.{get_or_read, length-set, length_push}
 use Rattle.bins.specs.Chains.{IsBinCount, bin_of}
 use Rattle.bins.proofs.ChainEdits.{links_added}
@@ -9,7 +9,7 @@ returns-clause-chained c =
     let before = c.requires.chained in
     let bins : c.len.result ≡ length c.args.self.now.heads.items = c.len.ensures ∙ c.args.self.now.heads.ok.0 in
     let bin : c.bin_of-bin.result ≡ bin_of (2 ^ c.args.self.now.shift) (length c.args.self.now.heads.items) c.args.hash =
-        c.bin_of-bin.ensures.value ∙ ap (λ (n : ℕ). bin_of (2 ^ c.args.self.now.shift) n c.args.hash) bins in
+    c.bin_of-bin.ensures.value ∙ ap (λ (n : ℕ). bin_of (2 ^ c.args.self.now.shift) n c.args.hash) bins in
     let range : c.bin_of-bin.result < length c.args.self.now.heads.items = subst (λ (n : ℕ). c.bin_of-bin.result < n) bins c.bin_of-bin.ensures.range in
     let pushed = c.push_reserved.ensures.items ∙ ap (λ (xs : List ℕ). xs ++ c.args.hash ∷ []) c.try_reserve.ensures.items in
     let read = get_or_read c.args.self.now.heads.items c.bin_of-bin.result c.index.result.now range c.index.ensures 0 in

@@ -1,4 +1,4 @@
-use Rattle.std.proofs.Common.{◌<◌, ◌^◌, ℕ, length, slice_index, sym, ap, arith}
+use Rattle.std.proofs.Common.{◌^◌, length, slice_index, sym, ap, arith}
 use Rattle.std.proofs.lemmas.List.{get_or_read}
 use Rattle.bins.specs.Chains.{bin_of, bins_of}
 use Rattle.bins.proofs.ChainBins.{bin_within}
@@ -14,5 +14,5 @@ returns c =
     record {
       value = c.find_from.ensures.value c.args.place (omega (arith, c.requires.range))
           (last_in (bins_of (2 ^ c.args.self.now.shift) (length c.args.self.now.heads.items) c.args.self.now.hashes.items) _ _ _ _
-            (ap (bin_of (2 ^ c.args.self.now.shift) (length c.args.self.now.heads.items)) c.requires.same) last);
+          (ap (bin_of (2 ^ c.args.self.now.shift) (length c.args.self.now.heads.items)) c.requires.same) last);
     }

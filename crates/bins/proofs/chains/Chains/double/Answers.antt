@@ -1,4 +1,4 @@
-use Rattle.std.proofs.Common.{rules, ◌≡◌, ◌*◌, ℕ, length, sym, ap, subst, ◌∙◌}
+use Rattle.std.proofs.Common.{rules, ◌≡◌, ◌*◌, ℕ, length, sym, subst, ◌∙◌}
 use Rattle.bins.specs.Chains.{IsBinCount}
 use Rattle.bins.proofs.ChainBins.{twice_bins}
 use Rattle.bins.proofs.chains.Chains.double.Goals as goal

@@ -1,7 +1,7 @@
-use Rattle.std.proofs.Common.{◌≡◌, ◌≢◌, ◌<◌, ◌≤◌, ◌-◌, ◌^◌, ℕ, length, slice_index, sym, ap, subst, ◌∙◌, arith, inl, inr}
+use Rattle.std.proofs.Common.{◌≢◌, ◌<◌, ◌-◌, ◌^◌, ℕ, length, slice_index, sym, ap, ◌∙◌, arith, inl, inr}
 use Rattle.std.proofs.lemmas.Bool.{cases_lt}
 use Rattle.std.proofs.lemmas.List.{get_or_read}
-use Rattle.bins.specs.Chains.{IsLast, bin_of, bins_of}
+use Rattle.bins.specs.Chains.{bin_of, bins_of}
 use Rattle.bins.proofs.ChainBins.{bin_within}
 use Rattle.bins.proofs.ChainLemmas.{last_at, passed_on}
 use Rattle.bins.proofs.chains.Chains.find_from.Goals as goal
@@ -9,20 +9,21 @@ use Rattle.bins.proofs.chains.Chains.find_from.Goals as goal
 pub returns-then-index-hash : goal.returns-then-index-hash
 returns-then-index-hash c =
     let before = c.loop-at.invariant in
-    let pos : 0 < c.loop-at.at = elim (cases_lt 0 c.loop-at.at) [ | inl lt ↦ lt | inr ge ↦ absurd (c.loop-at-test.true (omega (arith, ge))) ] in
+    let pos : 0 < c.loop-at.at = elim (cases_lt 0 c.loop-at.at) [ inl lt ↦ lt | inr ge ↦ absurd (c.loop-at-test.true (omega (arith, ge))) ] in
     let low : c.loop-at.at - 1 < length c.args.self.now.hashes.items = omega (arith, pos, before.range) in
     record {
       value = λ n le first.
-          let passed = before.passed n le first in
-          (omega (arith, pos, passed.0),
-           sym (get_or_read c.args.self.now.hashes.items (c.loop-at.at - 1) c.index.result.now low c.index.ensures 0) ∙ c.if-index-hash.true,
-           λ j behind high. passed.1 j (omega (arith, behind, pos)) high);
+          let passed = before.passed n le first in (
+            omega (arith, pos, passed.0),
+            sym (get_or_read c.args.self.now.hashes.items (c.loop-at.at - 1) c.index.result.now low c.index.ensures 0) ∙ c.if-index-hash.true,
+            λ j behind high. passed.1 j (omega (arith, behind, pos)) high,
+          );
     }
 
 pub loop-at-preserved : goal.loop-at-preserved
 loop-at-preserved c =
     let before = c.loop-at.invariant in
-    let pos : 0 < c.loop-at.at = elim (cases_lt 0 c.loop-at.at) [ | inl lt ↦ lt | inr ge ↦ absurd (c.loop-at-test.true (omega (arith, ge))) ] in
+    let pos : 0 < c.loop-at.at = elim (cases_lt 0 c.loop-at.at) [ inl lt ↦ lt | inr ge ↦ absurd (c.loop-at-test.true (omega (arith, ge))) ] in
     let low : c.loop-at.at - 1 < length c.args.self.now.hashes.items = omega (arith, pos, before.range) in
     let lower : c.loop-at.at - 1 < length c.args.self.now.nexts.items = omega (arith, low, c.requires.chained.long) in
     let read = get_or_read c.args.self.now.nexts.items (c.loop-at.at - 1) c.index-at.result.now lower c.index-at.ensures 0 in

@@ -9,7 +9,7 @@ invariant-loop-at l = record {
   passed : (n : ℕ) → n ≤ length l.self.hashes.items
       → IsLast (bins_of (2 ^ l.self.shift) (length l.self.heads.items) l.self.hashes.items) n (bin_of (2 ^ l.self.shift) (length l.self.heads.items) l.hash) l.first
       → (l.at ≤ n) × ((j : ℕ) → l.at ≤ j → j < n → slice_index l.self.hashes.items j ≢ l.hash)
-        × (0 < l.at → bins_of (2 ^ l.self.shift) (length l.self.heads.items) l.self.hashes.items (l.at - 1) ≡ bin_of (2 ^ l.self.shift) (length l.self.heads.items) l.hash);
+      × (0 < l.at → bins_of (2 ^ l.self.shift) (length l.self.heads.items) l.self.hashes.items (l.at - 1) ≡ bin_of (2 ^ l.self.shift) (length l.self.heads.items) l.hash);
 }
 
 abbrev pub decreases-loop-at : goal.decreases-loop-at

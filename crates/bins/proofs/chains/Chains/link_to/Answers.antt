@@ -1,4 +1,4 @@
-use Rattle.std.proofs.Common.{◌≡◌, ◌<◌, ◌-◌, ◌+◌, ℕ, length, slice_index, arith}
+use Rattle.std.proofs.Common.{◌-◌}
 use Rattle.std.proofs.lemmas.List.{get_or_read}
 use Rattle.bins.proofs.ChainMoves.{reach_on, reach_end}
 use Rattle.bins.proofs.chains.Chains.link_to.Goals as goal

@@ -1,4 +1,4 @@
-use Rattle.std.proofs.Common.{◌≡◌, ◌≤◌, ◌<◌, ◌^◌, ℕ, length, slice_index}
+use Rattle.std.proofs.Common.{◌≡◌, ℕ, length}
 use Rattle.bins.specs.Chains.{Links, IsLink, follow}
 use Rattle.bins.proofs.ChainMoves.{Reaches}
 use Rattle.bins.proofs.chains.Chains.link_to.Given as goal

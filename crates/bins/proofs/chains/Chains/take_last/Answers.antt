@@ -12,8 +12,8 @@ returns-clause-chained c =
     let next = get_or_read c.args.self.now.nexts.items (c.len-place.result - 1) c.index.result.now (omega (arith, count, before.long)) c.index.ensures 0 in
     let bins : c.len.result ≡ length c.args.self.now.heads.items = c.len.ensures ∙ c.args.self.now.heads.ok.0 in
     let bin : c.bin_of-bin.result ≡ bin_of (2 ^ c.args.self.now.shift) (length c.args.self.now.heads.items) (slice_index c.args.self.now.hashes.items (c.len-place.result - 1)) =
-        c.bin_of-bin.ensures.value ∙ ap (λ (n : ℕ). bin_of (2 ^ c.args.self.now.shift) n c.index-hash.result.now) bins
-        ∙ ap (bin_of (2 ^ c.args.self.now.shift) (length c.args.self.now.heads.items)) hash in
+    c.bin_of-bin.ensures.value ∙ ap (λ (n : ℕ). bin_of (2 ^ c.args.self.now.shift) n c.index-hash.result.now) bins
+    ∙ ap (bin_of (2 ^ c.args.self.now.shift) (length c.args.self.now.heads.items)) hash in
     let range : c.bin_of-bin.result < length c.args.self.now.heads.items = subst (λ (n : ℕ). c.bin_of-bin.result < n) bins c.bin_of-bin.ensures.range in
     record {
       shift = before.shift;
