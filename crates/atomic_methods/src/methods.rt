@@ -1,6 +1,7 @@
 //! The methods, over whatever keeps the entries.
 ghost use Rattle.std.specs.Prelude.{◌≡◌, ◌<◌, ◌^◌, IfOk, OnErr, Some, None};
 ghost use Rattle.std.specs.FinMap as map;
+ghost use Rattle.bins.specs.Hashes.{hash as hash_is};
 ghost use Rattle.bins.specs.Replacements.{ReplacesEach};
 ghost use Rattle.atomic_methods.specs.Invocations.{invocation_of};
 ghost use Rattle.atomic_methods.specs.Methods.{rule_of, Follows, Leaves, Answers, WouldAdd};
@@ -10,7 +11,7 @@ use crate::call::Call;
 use crate::plan::{Change, Plan, Told, plan_of};
 use crate::program::answer_into;
 use crate::reply::{Reply, ReplyKind};
-use bins::{Bins, Counts};
+use bins::{Bins, Counts, hash_of};
 use bpf_machine::Machine;
 use bpf_model::{Key, NoMemory, Value};
 use std::alloc::Global;
@@ -25,42 +26,45 @@ pub fn apply<B: Bins>(bins: &mut B, call: &Call) -> Result<Reply, NoMemory>
 {
     let mut machine = Machine::new();
     let mut bytes = Value::new();
-    let kind = apply_into(bins, call, &mut machine, &mut bytes)?;
+    let kind = apply_into(bins, call, hash_of(call.key()), &mut machine, &mut bytes)?;
     Ok(kind.with(bytes))
 }
 
-/// Makes one call as `apply` does. Leaves the bytes of the replied value in `bytes`, so that no value is moved, and runs
+/// Makes one call, whose key has this hash, as `apply` does. Leaves the bytes of the replied value in `bytes`, so that no value is moved, and runs
 /// programs in `machine`, so that none is cleared; what both held is lost. One search serves a present key; a program runs
 /// before room is asked for.
 pub fn apply_into<B: Bins>(
     bins: &mut B,
     call: &Call,
+    hash: u32,
     machine: &mut Machine,
     bytes: &mut Value,
 ) -> Result<ReplyKind, NoMemory>
+    requires hash { hash ≡ hash_is (invocation_of call.now).key }
     ensures ok { IfOk result (λ kind.
         Answers (B.table bins.old) (invocation_of call.now) (B.table bins.new) (reply_by kind bytes.new)) }
     ensures err { OnErr result (B.table bins.new ≡ B.table bins.old) }
     ensures memory { OnErr result (WouldAdd (B.table bins.old) (invocation_of call.now)) }
 {
-    match bins.find_mut(call.key()) {
+    match bins.find_mut(call.key(), hash) {
         Some(value) => {
             let (stays, kind) = change_value(call, value, machine, bytes);
             if !stays {
-                remove_key(bins, call.key());
+                remove_key(bins, call.key(), hash);
             }
             Ok(kind)
         }
-        None => apply_to_absent(bins, call, machine, bytes),
+        None => apply_to_absent(bins, call, hash, machine, bytes),
     }
 }
 
 // Removes a key. Apart from `apply_into`, so that calls which remove none clear no place for a removed value.
 #[inline(never)]
-fn remove_key<B: Bins>(bins: &mut B, key: &Key)
+fn remove_key<B: Bins>(bins: &mut B, key: &Key, hash: u32)
+    requires hash { hash ≡ hash_is key.now }
     ensures gone { B.table bins.new ≡ map.remove (B.table bins.old) key.now }
 {
-    bins.remove(key);
+    bins.remove(key, hash);
 }
 
 // Makes a call whose key is absent, as `apply_into` does. Apart from it, so that calls on present keys clear no place for
@@ -69,9 +73,11 @@ fn remove_key<B: Bins>(bins: &mut B, key: &Key)
 fn apply_to_absent<B: Bins>(
     bins: &mut B,
     call: &Call,
+    hash: u32,
     machine: &mut Machine,
     bytes: &mut Value,
 ) -> Result<ReplyKind, NoMemory>
+    requires hash { hash ≡ hash_is (invocation_of call.now).key }
     requires absent { map.get (B.table bins.old) (invocation_of call.now).key ≡ None }
     ensures ok { IfOk result (λ kind.
         Answers (B.table bins.old) (invocation_of call.now) (B.table bins.new) (reply_by kind bytes.new)) }
@@ -80,7 +86,7 @@ fn apply_to_absent<B: Bins>(
 {
     let (enters, kind) = new_value(call, machine, bytes);
     if enters {
-        bins.put(call.key().copied(), bytes.copied())?;
+        bins.put(call.key().copied(), bytes.copied(), hash)?;
     }
     Ok(kind)
 }

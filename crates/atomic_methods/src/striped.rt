@@ -13,8 +13,8 @@ use crate::call::Call;
 use crate::fault::OpenFault;
 use crate::methods;
 use crate::reply::{Reply, ReplyKind};
-use crate::stripes::{MAX_STRIPES, is_stripe_count, stripe_of};
-use bins::{Bins, Counts, ListBins};
+use crate::stripes::{MAX_STRIPES, is_stripe_count, stripe_of_hash};
+use bins::{Bins, Counts, HashedBins, hash_of};
 use bpf_machine::Machine;
 use bpf_model::{Key, NoMemory, Value};
 use std::alloc::Global;
@@ -31,7 +31,7 @@ pub struct Stopped {
 /// A table of one caller, in stripes by the hashes of the keys, with the machine that programs run in.
 #[derive(Drop)]
 pub struct Striped {
-    stripes: Vec<ListBins>,
+    stripes: Vec<HashedBins>,
     machine: Machine,
 }
 
@@ -84,8 +84,10 @@ impl Striped {
         ensures err { OnErr result (self.new ≡ self.old) }
         ensures memory { OnErr result (WouldAdd self.old (invocation_of call.now)) }
     {
-        let place = stripe_of(call.key(), self.stripes.len() as u64) as usize;
-        methods::apply_into(&mut self.stripes[place], call, &mut self.machine, bytes)
+        let hash = hash_of(call.key());
+        let place = stripe_of_hash(hash, self.stripes.len() as u64) as usize;
+        let bins = &mut self.stripes[place];
+        methods::apply_into(bins, call, hash, &mut self.machine, bytes)
     }
 
     /// Makes the calls in turn, each on what the ones before it left. Where a call is refused, neither it nor any after
@@ -131,7 +133,7 @@ impl Striped {
 }
 
 // Replaces the values of each stripe, and counts them together.
-fn replace_stripes(stripes: &mut Vec<ListBins>, program: &Verified, arg: &Option<Value>) -> Counts
+fn replace_stripes(stripes: &mut Vec<HashedBins>, program: &Verified, arg: &Option<Value>) -> Counts
     requires few { length stripes.old.items ≤ MAX_STRIPES }
     ensures each { ReplacesStripes program.now arg.now stripes.old.items stripes.new.items result }
 {
@@ -152,19 +154,19 @@ fn replace_stripes(stripes: &mut Vec<ListBins>, program: &Verified, arg: &Option
 }
 
 // So many stripes without entries.
-fn empty_stripes(alloc: Global, count: u64) -> Result<Vec<ListBins>, NoMemory>
+fn empty_stripes(alloc: Global, count: u64) -> Result<Vec<HashedBins>, NoMemory>
     ensures count { IfOk result (λ stripes. length stripes.items ≡ count) }
     ensures empty { IfOk result (λ stripes. (i : ℕ) → stripe_at stripes.items i ≡ finmap.empty) }
 {
     let mut stripes = Vec::new(alloc);
     for _ in 0..count {
-        stripes.push(ListBins::open(alloc, count)?)?;
+        stripes.push(HashedBins::open(alloc, count)?)?;
     }
     Ok(stripes)
 }
 
 // Copies of the entries of each stripe in turn.
-fn entries_of(alloc: Global, stripes: &[ListBins]) -> Result<Vec<(Key, Value)>, NoMemory>
+fn entries_of(alloc: Global, stripes: &[HashedBins]) -> Result<Vec<(Key, Value)>, NoMemory>
     ensures ok { IfOk result (λ found. found.items ≡ all_entries stripes.now) }
 {
     let mut found = Vec::new(alloc);
@@ -176,7 +178,7 @@ fn entries_of(alloc: Global, stripes: &[ListBins]) -> Result<Vec<(Key, Value)>, 
 }
 
 // Copies of the entries of all stripes, in key order.
-fn sorted_entries(alloc: Global, stripes: &[ListBins]) -> Result<Vec<(Key, Value)>, NoMemory>
+fn sorted_entries(alloc: Global, stripes: &[HashedBins]) -> Result<Vec<(Key, Value)>, NoMemory>
     requires { AreStripes stripes.now }
     ensures ok { IfOk result (λ found. found.items ≡ finmap.entries (whole stripes.now)) }
 {

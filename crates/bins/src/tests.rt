@@ -30,11 +30,7 @@ fn put_all<B: Bins>(bins: &mut B, rows: &[(&[u8], &[u8])]) -> Result<(), Fail> {
 }
 
 // Whether these are all entries, in this order.
-fn holds<B: Bins>(
-    bins: &B,
-    alloc: Global,
-    wanted: &[(&[u8], &[u8])],
-) -> Result<bool, NoMemory> {
+fn holds<B: Bins>(bins: &B, alloc: Global, wanted: &[(&[u8], &[u8])]) -> Result<bool, NoMemory> {
     let found = bins.entries(alloc)?;
     let mut same = found.len() == wanted.len();
     for (entry, (name, bytes)) in found.iter().zip(wanted) {

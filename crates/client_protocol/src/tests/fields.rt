@@ -29,8 +29,14 @@ const BODIES: [(&str, &[u8]); 15] = [
     ("ComputeIfAbsent", b"\x18\x01k\0\0\0\0\0\0\0\x05\xFF\xFF"),
     ("ComputeIfPresent", b"\x19\x01k\0\0\0\0\0\0\0\x05\0\x01a"),
     ("Merge", b"\x1A\x01k\0\x02vv\0\0\0\0\0\0\0\x05"),
-    ("Search", b"\x20\0\0\0\0\0\0\0\x05\xFF\xFF\0\0\0\0\0\0\0\x01"),
-    ("ForEach", b"\x21\0\0\0\0\0\0\0\x05\0\x01a\0\0\0\0\0\0\0\x01"),
+    (
+        "Search",
+        b"\x20\0\0\0\0\0\0\0\x05\xFF\xFF\0\0\0\0\0\0\0\x01",
+    ),
+    (
+        "ForEach",
+        b"\x21\0\0\0\0\0\0\0\x05\0\x01a\0\0\0\0\0\0\0\x01",
+    ),
     ("ReplaceAll", b"\x22\0\0\0\0\0\0\0\x05\0\x01a"),
     ("Count", b"\x23"),
 ];
@@ -72,11 +78,7 @@ const ARGUMENTS: [Place; 6] = [
 ];
 
 // behind a Hello, what the frame with this body is found to be, which is the same however it is cut
-fn fault_of(
-    rt: &impl Abort,
-    alloc: Global,
-    body: &[&[u8]],
-) -> Result<Option<ProtocolFault>, Fail> {
+fn fault_of(rt: &impl Abort, alloc: Global, body: &[&[u8]]) -> Result<Option<ProtocolFault>, Fail> {
     let body = joined(alloc, body)?;
     let length = u32::try_from(body.len()).expect(rt, "a length");
     let bytes = joined(alloc, &[HELLO, &length.to_be_bytes(), body.as_slice()])?;
@@ -100,12 +102,7 @@ fn are_bad(rt: &impl Abort, alloc: Global, places: &[Place], field: &[u8]) -> Re
 }
 
 // each beginning of the body is a bad field, and the whole body is none
-fn beginnings_are_bad(
-    rt: &impl Abort,
-    alloc: Global,
-    name: &str,
-    body: &[u8],
-) -> Result<(), Fail> {
+fn beginnings_are_bad(rt: &impl Abort, alloc: Global, name: &str, body: &[u8]) -> Result<(), Fail> {
     for len in 1..body.len() {
         let fault = fault_of(rt, alloc, &[&body[..len]])?;
         assert!(rt; fault == Some(BadField), "{name} of {len} bytes");

@@ -38,7 +38,7 @@ loop-next-preserved c =
     let last = rw c.in-Some.is at c.loop-next.invariant.last in
     let inside : c.in-Some.place < length c.args.entries.now = omega (arith, last.0, c.loop-next.invariant.bound) in
     let other : (d : Entry) → (get_or c.args.entries.now c.in-Some.place d).0 ≢ c.args.key.now = λ d same.
-        unlike _ _ c.if-eq.ensures (ap (λ (e : Entry). e.0) (get_or_default c.args.entries.now c.in-Some.place c.index-entries-place.result d inside) ∙ same) in
+    unlike _ _ c.if-eq.ensures (ap (λ (e : Entry). e.0) (get_or_default c.args.entries.now c.in-Some.place c.index-entries-place.result d inside) ∙ same) in
     record {
       end = c.in-Some.place;
       bound = omega (arith, inside);

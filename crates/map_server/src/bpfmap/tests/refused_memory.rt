@@ -66,39 +66,40 @@ const COUNTED: &[u8] = b"\0\0\0\x19\x87\0\0\0\0\0\0\0\x01\0\0\0\0\0\0\0\0\0\0\0\
 const GIVEN: &[u8] = b"\0\0\0\x19\x87\0\0\0\0\0\0\0\x01\0\0\0\0\0\0\0\x01\0\0\0\0\0\0\0\0";
 
 // That answer, and the end.
-const FOUND: &[u8] = b"\0\0\0\x0D\x86\x01a\0\x08\x02\0\0\0\0\0\0\0\0\0\0\x19\x87\0\0\0\0\0\0\0\x01\0\0\0\0\0\0\0\x01\0\0\0\0\0\0\0\0";
+const FOUND: &[u8] =
+    b"\0\0\0\x0D\x86\x01a\0\x08\x02\0\0\0\0\0\0\0\0\0\0\x19\x87\0\0\0\0\0\0\0\x01\0\0\0\0\0\0\0\x01\0\0\0\0\0\0\0\0";
 
 const PUT: &[u8] = b"\0\0\0\x07\x11\x01a\0\x02xy";
 
 const GET: &[u8] = b"\0\0\0\x03\x10\x01a";
 
 const ROWS: [Row; 3] = [
-Row {
-    name: "Put and Get",
-    sent: b"\0\0\0\x07\x11\x01a\0\x02xy\0\0\0\x03\x10\x01a",
-    answered: &[NOTHING, TEXT],
-    others: &[&[REFUSED, NOTHING]],
-},
-// A program that answers nothing, and a Compute by it.
-Row {
-    name: "Register and Compute",
-    sent: b"\0\0\0\x19\x01\0\x40\x01\0\x01\0\x01\0\xB7\0\0\0\xFF\xFF\xFF\xFF\x95\0\0\0\0\0\0\0\0\0\0\x0D\x17\x01a\0\0\0\0\0\0\0\0\xFF\xFF",
-    answered: &[REGISTERED, NOTHING],
-    others: &[&[REFUSED, UNKNOWN]],
-},
-// A program that adds its argument, a Put of 1, each walk with the argument 1, and a Get.
-Row {
-    name: "walks",
-    sent: b"\0\0\0\x39\x01\0\x40\0\x08\0\x08\0\x08\x79\x20\0\0\0\0\0\0\x79\x39\0\0\0\0\0\0\x0F\x90\0\0\0\0\0\0\x7B\x04\0\0\0\0\0\0\xB7\0\0\0\x08\0\0\0\x95\0\0\0\0\0\0\0\0\0\0\x0D\x11\x01a\0\x08\x01\0\0\0\0\0\0\0\0\0\0\x1B\x21\0\0\0\0\0\0\0\0\0\x08\x01\0\0\0\0\0\0\0\0\0\0\0\0\0\0\0\0\0\0\x1B\x20\0\0\0\0\0\0\0\0\0\x08\x01\0\0\0\0\0\0\0\0\0\0\0\0\0\0\0\0\0\0\x01\x23\0\0\0\x13\x22\0\0\0\0\0\0\0\0\0\x08\x01\0\0\0\0\0\0\0\0\0\0\x03\x10\x01a",
-    answered: &[REGISTERED, NOTHING, FOUND, FOUND, COUNTED, GIVEN, TWO],
-    others: &[
-        &[REFUSED, NOTHING, UNKNOWN, UNKNOWN, COUNTED, UNKNOWN, ONE],
-        &[REGISTERED, REFUSED, NONE, NONE, NONE, NONE, NOTHING],
-        &[REGISTERED, NOTHING, REFUSED, FOUND, COUNTED, GIVEN, TWO],
-        &[REGISTERED, NOTHING, FOUND, REFUSED, COUNTED, GIVEN, TWO],
-        &[REGISTERED, NOTHING, FOUND, FOUND, REFUSED, GIVEN, TWO],
-    ],
-},
+    Row {
+        name: "Put and Get",
+        sent: b"\0\0\0\x07\x11\x01a\0\x02xy\0\0\0\x03\x10\x01a",
+        answered: &[NOTHING, TEXT],
+        others: &[&[REFUSED, NOTHING]],
+    },
+    // A program that answers nothing, and a Compute by it.
+    Row {
+        name: "Register and Compute",
+        sent: b"\0\0\0\x19\x01\0\x40\x01\0\x01\0\x01\0\xB7\0\0\0\xFF\xFF\xFF\xFF\x95\0\0\0\0\0\0\0\0\0\0\x0D\x17\x01a\0\0\0\0\0\0\0\0\xFF\xFF",
+        answered: &[REGISTERED, NOTHING],
+        others: &[&[REFUSED, UNKNOWN]],
+    },
+    // A program that adds its argument, a Put of 1, each walk with the argument 1, and a Get.
+    Row {
+        name: "walks",
+        sent: b"\0\0\0\x39\x01\0\x40\0\x08\0\x08\0\x08\x79\x20\0\0\0\0\0\0\x79\x39\0\0\0\0\0\0\x0F\x90\0\0\0\0\0\0\x7B\x04\0\0\0\0\0\0\xB7\0\0\0\x08\0\0\0\x95\0\0\0\0\0\0\0\0\0\0\x0D\x11\x01a\0\x08\x01\0\0\0\0\0\0\0\0\0\0\x1B\x21\0\0\0\0\0\0\0\0\0\x08\x01\0\0\0\0\0\0\0\0\0\0\0\0\0\0\0\0\0\0\x1B\x20\0\0\0\0\0\0\0\0\0\x08\x01\0\0\0\0\0\0\0\0\0\0\0\0\0\0\0\0\0\0\x01\x23\0\0\0\x13\x22\0\0\0\0\0\0\0\0\0\x08\x01\0\0\0\0\0\0\0\0\0\0\x03\x10\x01a",
+        answered: &[REGISTERED, NOTHING, FOUND, FOUND, COUNTED, GIVEN, TWO],
+        others: &[
+            &[REFUSED, NOTHING, UNKNOWN, UNKNOWN, COUNTED, UNKNOWN, ONE],
+            &[REGISTERED, REFUSED, NONE, NONE, NONE, NONE, NOTHING],
+            &[REGISTERED, NOTHING, REFUSED, FOUND, COUNTED, GIVEN, TWO],
+            &[REGISTERED, NOTHING, FOUND, REFUSED, COUNTED, GIVEN, TWO],
+            &[REGISTERED, NOTHING, FOUND, FOUND, REFUSED, GIVEN, TWO],
+        ],
+    },
 ];
 
 // An empty table, asked for once more where memory was refused.

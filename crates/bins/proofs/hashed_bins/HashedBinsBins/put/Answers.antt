@@ -38,7 +38,7 @@ invariant_of-self-in-None c =
     let absent = rw c.deref.ensures.value at c.in-None.ensures.absent in
     let items = c.push_reserved.ensures.items ∙ ap (λ (es : List Entry). es ++ (c.args.key, c.args.value) ∷ []) c.try_reserve.ensures.items in
     let hashes = c.in_ok-push-in-None.ensures.ok ∙ ap (λ (h : ℕ). c.self.inside.index.hashes ++ h ∷ []) c.requires.hash
-        ∙ ap (λ (hs : List ℕ). hs ++ hash c.args.key ∷ []) c.self.invariant.0 ∙ sym (pushed_hashes c.self.inside.entries.items c.args.key c.args.value) ∙ ap hashes_of (sym items) in
+    ∙ ap (λ (hs : List ℕ). hs ++ hash c.args.key ∷ []) c.self.invariant.0 ∙ sym (pushed_hashes c.self.inside.entries.items c.args.key c.args.value) ∙ ap hashes_of (sym items) in
     (hashes, subst Distinct (sym items) (pushed_distinct _ _ _ c.self.invariant.1 absent))
 
 pub returns-in_ok-push-in-None-clause-ok : goal.returns-in_ok-push-in-None-clause-ok

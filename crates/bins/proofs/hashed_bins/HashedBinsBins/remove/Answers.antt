@@ -13,7 +13,7 @@ invariant_of-self c =
     let found = rw c.deref.ensures.value at c.in-Some.ensures.found in
     let items = c.swap_remove-in-Some.ensures.items in
     let hashes = c.swap_remove.ensures.hashes ∙ ap (λ (hs : List ℕ). swap_remove hs c.in-Some.place 0) c.self.invariant.0
-        ∙ sym (removed_hashes c.self.inside.entries.items c.in-Some.place c.swap_remove-in-Some.result 0 bound) ∙ ap hashes_of (sym items) in
+    ∙ sym (removed_hashes c.self.inside.entries.items c.in-Some.place c.swap_remove-in-Some.result 0 bound) ∙ ap hashes_of (sym items) in
     (hashes, subst Distinct (sym items) (removed_distinct _ _ c.swap_remove-in-Some.result _ c.self.invariant.1 bound found))
 
 pub returns-in-Some-clause-value : goal.returns-in-Some-clause-value
