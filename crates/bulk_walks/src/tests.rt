@@ -115,6 +115,7 @@ fn opened(alloc: Global, stripes: u64, workers: u64) -> Result<(StripedMap, Pass
 // Puts the entries `a` of 1 and `b` of 2, and `c` of nine bytes, which is too long for the program.
 fn fill<R: Wait>(rt: &R, map: &StripedMap, pass: &mut Pass) -> Result<(), Fail>
     requires { pass.old.map ≡ map.now }
+    ensures { pass.new.map ≡ map.now }
 {
     map.call(rt, pass, &put(b"a", &ONE)?)?;
     map.call(rt, pass, &put(b"b", &TWO)?)?;
