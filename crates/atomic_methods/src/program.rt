@@ -5,22 +5,23 @@ ghost use Rattle.bpf_model.specs.Fits.{input_of};
 ghost use Rattle.bins.specs.Replacements.{ComesTo};
 ghost use Rattle.atomic_methods.specs.Plans.{outcome_by};
 
-use bpf_machine::run_into;
+use bpf_machine::{Machine, run_into};
 use bpf_model::{Key, Value, Window, fits_parts};
 use verifier::Verified;
 
-/// Runs the program on the key, its value and the argument: whether it answers bytes, which are then in `answer`; an
+/// Runs the program on the key, its value and the argument, in a machine that is lent: whether it answers bytes, which are then in `answer`; an
 /// answer of nothing is `false`. The first window that is too small, where one is. Takes no memory.
 pub fn answer_into(
     program: &Verified,
     key: &Key,
     old: Option<&Value>,
     arg: Option<&Value>,
+    machine: &mut Machine,
     answer: &mut Value,
 ) -> Result<bool, Window>
     ensures outcome { let input = input_of key.now (option_copied old.entry) (option_copied arg.entry) in
         ComesTo program.now input (outcome_by result answer.new) }
 {
     fits_parts(&program.sizes(), key, old, arg)?;
-    Ok(run_into(program, key, old, arg, answer))
+    Ok(run_into(program, key, old, arg, machine, answer))
 }

@@ -7,14 +7,15 @@ ghost use Rattle.atomic_methods.specs.Invocations.{invocation_of};
 ghost use Rattle.atomic_methods.specs.Methods.{Answers, WouldAdd};
 ghost use Rattle.atomic_methods.specs.Plans.{reply_by};
 ghost use Rattle.atomic_methods.specs.Runs.{AnswersInTurn, first_of, IsRefused};
-ghost use Rattle.atomic_methods.specs.Whole.{stripe_at, all_entries, ReplacesStripes};
+ghost use Rattle.atomic_methods.specs.Whole.{stripe_at, all_entries, whole, AreStripes, ReplacesStripes};
 
 use crate::call::Call;
 use crate::fault::OpenFault;
 use crate::methods;
 use crate::reply::{Reply, ReplyKind};
-use crate::stripes::{MAX_STRIPES, is_stripe_count, stripe_of};
-use bins::{Bins, Counts, ListBins};
+use crate::stripes::{MAX_STRIPES, is_stripe_count, stripe_of_hash};
+use bins::{Bins, Counts, HashedBins, hash_of};
+use bpf_machine::Machine;
 use bpf_model::{Key, NoMemory, Value};
 use std::alloc::Global;
 use std::marker::Model;
@@ -27,10 +28,11 @@ pub struct Stopped {
     pub replies: Vec<Reply>,
 }
 
-/// A table of one caller, in stripes by the hashes of the keys.
+/// A table of one caller, in stripes by the hashes of the keys, with the machine that programs run in.
 #[derive(Drop)]
 pub struct Striped {
-    stripes: Vec<ListBins>,
+    stripes: Vec<HashedBins>,
+    machine: Machine,
 }
 
 impl Model for Striped {
@@ -56,8 +58,10 @@ impl Striped {
         if !is_stripe_count(stripes) {
             return Err(OpenFault::BadStripes);
         }
-        let stripes = empty_stripes(alloc, stripes)?;
-        Ok(Striped { stripes })
+        Ok(Striped {
+            stripes: empty_stripes(alloc, stripes)?,
+            machine: Machine::new(),
+        })
     }
 
     /// Makes one call on the whole table. `NoMemory` only where it would have added a key and the room for it was
@@ -80,8 +84,10 @@ impl Striped {
         ensures err { OnErr result (self.new ≡ self.old) }
         ensures memory { OnErr result (WouldAdd self.old (invocation_of call.now)) }
     {
-        let place = stripe_of(call.key(), self.stripes.len() as u64) as usize;
-        methods::apply_into(&mut self.stripes[place], call, bytes)
+        let hash = hash_of(call.key());
+        let place = stripe_of_hash(hash, self.stripes.len() as u64) as usize;
+        let bins = &mut self.stripes[place];
+        methods::apply_into(bins, call, hash, &mut self.machine, bytes)
     }
 
     /// Makes the calls in turn, each on what the ones before it left. Where a call is refused, neither it nor any after
@@ -113,9 +119,7 @@ impl Striped {
     pub fn scan(&self, alloc: Global) -> Result<Vec<(Key, Value)>, NoMemory>
         ensures ok { IfOk result (λ found. found.items ≡ finmap.entries self.now) }
     {
-        let mut found = entries_of(alloc, &self.stripes)?;
-        found.sort_by(|a, b| a.0.cmp(&b.0))?;
-        Ok(found)
+        sorted_entries(alloc, &self.stripes)
     }
 
     /// Replaces the value of each key of the table once by what the program answers on the key, its value and the
@@ -129,7 +133,7 @@ impl Striped {
 }
 
 // Replaces the values of each stripe, and counts them together.
-fn replace_stripes(stripes: &mut Vec<ListBins>, program: &Verified, arg: &Option<Value>) -> Counts
+fn replace_stripes(stripes: &mut Vec<HashedBins>, program: &Verified, arg: &Option<Value>) -> Counts
     requires few { length stripes.old.items ≤ MAX_STRIPES }
     ensures each { ReplacesStripes program.now arg.now stripes.old.items stripes.new.items result }
 {
@@ -150,19 +154,19 @@ fn replace_stripes(stripes: &mut Vec<ListBins>, program: &Verified, arg: &Option
 }
 
 // So many stripes without entries.
-fn empty_stripes(alloc: Global, count: u64) -> Result<Vec<ListBins>, NoMemory>
+fn empty_stripes(alloc: Global, count: u64) -> Result<Vec<HashedBins>, NoMemory>
     ensures count { IfOk result (λ stripes. length stripes.items ≡ count) }
     ensures empty { IfOk result (λ stripes. (i : ℕ) → stripe_at stripes.items i ≡ finmap.empty) }
 {
     let mut stripes = Vec::new(alloc);
     for _ in 0..count {
-        stripes.push(ListBins::open(alloc, count)?)?;
+        stripes.push(HashedBins::open(alloc, count)?)?;
     }
     Ok(stripes)
 }
 
 // Copies of the entries of each stripe in turn.
-fn entries_of(alloc: Global, stripes: &[ListBins]) -> Result<Vec<(Key, Value)>, NoMemory>
+fn entries_of(alloc: Global, stripes: &[HashedBins]) -> Result<Vec<(Key, Value)>, NoMemory>
     ensures ok { IfOk result (λ found. found.items ≡ all_entries stripes.now) }
 {
     let mut found = Vec::new(alloc);
@@ -170,5 +174,15 @@ fn entries_of(alloc: Global, stripes: &[ListBins]) -> Result<Vec<(Key, Value)>, 
         let mut entries = stripe.entries(alloc)?;
         found.append(&mut entries)?;
     }
+    Ok(found)
+}
+
+// Copies of the entries of all stripes, in key order.
+fn sorted_entries(alloc: Global, stripes: &[HashedBins]) -> Result<Vec<(Key, Value)>, NoMemory>
+    requires { AreStripes stripes.now }
+    ensures ok { IfOk result (λ found. found.items ≡ finmap.entries (whole stripes.now)) }
+{
+    let mut found = entries_of(alloc, stripes)?;
+    found.sort_by(|a, b| a.0.cmp(&b.0))?;
     Ok(found)
 }

@@ -1,8 +1,8 @@
 //! Rows of calls and what they reply.
 ghost use Rattle.std.specs.Prelude.{◌≤◌};
 
-use crate::{Call, OpenFault, Reply, Striped, hash_of, is_stripe_count, stripe_of};
-use bins::Counts;
+use crate::{Call, OpenFault, Reply, Striped, is_stripe_count, stripe_of};
+use bins::{Counts, hash_of};
 use bpf_model::{
     AccessSize, AluOp, Insn, Key, LoadKind, NoMemory, Operand, Program, Reg, Sizes, TooLong, Value,
     Width, Window,

@@ -1,5 +1,8 @@
 pub mod Table
+pub mod Entries
 pub mod Places
 pub mod Lending
 pub mod Replacements
 pub mod Passes
+pub mod Hashes
+pub mod Chains

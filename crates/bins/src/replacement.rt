@@ -3,7 +3,7 @@ ghost use Rattle.std.specs.Prelude.{◌≡◌, ◌<◌, ◌^◌, length};
 ghost use Rattle.bins.specs.Passes.{Replaces, ReplacesList};
 
 use crate::counts::Counts;
-use bpf_machine::run_into;
+use bpf_machine::{Machine, run_into};
 use bpf_model::{Key, Value, Window, fits_parts};
 use verifier::Verified;
 
@@ -14,12 +14,13 @@ fn replace_value(
     key: &Key,
     value: &mut Value,
     arg: &Option<Value>,
+    machine: &mut Machine,
     answer: &mut Value,
 ) -> Result<bool, Window>
     ensures by_outcome { Replaces program.now key.now arg.now value.old value.new result }
 {
     fits_parts(&program.sizes(), key, Some(value), arg.as_ref())?;
-    let given = run_into(program, key, Some(value), arg.as_ref(), answer);
+    let given = run_into(program, key, Some(value), arg.as_ref(), machine, answer);
     if given {
         value.set_from(answer.as_slice());
     }
@@ -35,11 +36,13 @@ pub fn replace_values(
     ensures each { ReplacesList program.now arg.now entries.old.items entries.new.items result }
     ensures few { result.scanned < 2 ^ 57 }
 {
+    let mut machine = Machine::new();
     let mut answer = Value::new();
     let mut given = 0;
     let mut unfit = 0;
     for entry in entries.iter_mut() {
-        match replace_value(program, &entry.0, &mut entry.1, arg, &mut answer) {
+        let (key, value) = (&entry.0, &mut entry.1);
+        match replace_value(program, key, value, arg, &mut machine, &mut answer) {
             Ok(true) => given += 1,
             Ok(false) => {}
             Err(_) => unfit += 1,

@@ -15,3 +15,4 @@ mod machine;
 mod windows;
 
 pub use execution::{run, run_into};
+pub use machine::Machine;

@@ -2,7 +2,7 @@
 ghost use Rattle.std.specs.Prelude.{◌≡◌, if◌then◌else◌};
 ghost use Rattle.walk_replies.specs.Rows.{entry_of, unfit_in, Ran};
 
-use bpf_machine::run_into;
+use bpf_machine::{Machine, run_into};
 use bpf_model::{Key, Value, fits_parts};
 use verifier::Verified;
 
@@ -46,12 +46,14 @@ impl Row {
             self.fate = Fate::Unfit;
             return;
         }
+        let mut machine = Machine::new();
         let mut answer = Value::new();
         if run_into(
             program,
             &self.key,
             Some(&self.value),
             arg.as_ref(),
+            &mut machine,
             &mut answer,
         ) {
             self.value.set_from(answer.as_slice());

@@ -6,6 +6,8 @@ use super::Method::{
 use super::Wanted::{Bytes, Done, Unfit};
 use super::Which::{NoKey, Nothing, Sum};
 use super::*;
+use crate::apply;
+use bins::{Bins, HashedBins, ListBins};
 use std::process::Abort;
 
 // Values of calls without programs.
@@ -82,33 +84,77 @@ const COMPUTING: [Row; 18] = [
     (WAS, Merge(&NINE, Sum), NO_ARG, WAS),
 ];
 
+// What rows are tried on: a whole table, or bins of either kind alone.
+trait Tried: Sized {
+    fn opened(alloc: Global) -> Result<Self, Fail>;
+
+    fn made(&mut self, call: &Call) -> Result<Reply, NoMemory>;
+}
+
+impl Tried for Striped {
+    fn opened(alloc: Global) -> Result<Striped, Fail> {
+        Ok(Striped::open(alloc, 4)?)
+    }
+
+    fn made(&mut self, call: &Call) -> Result<Reply, NoMemory> {
+        self.apply(call)
+    }
+}
+
+impl Tried for ListBins {
+    fn opened(alloc: Global) -> Result<ListBins, Fail> {
+        Ok(ListBins::open(alloc, 1)?)
+    }
+
+    fn made(&mut self, call: &Call) -> Result<Reply, NoMemory> {
+        apply(self, call)
+    }
+}
+
+impl Tried for HashedBins {
+    fn opened(alloc: Global) -> Result<HashedBins, Fail> {
+        Ok(HashedBins::open(alloc, 1)?)
+    }
+
+    fn made(&mut self, call: &Call) -> Result<Reply, NoMemory> {
+        apply(self, call)
+    }
+}
+
 // Each row on the key `a` of a table of its own, in which the key has a neighbour.
-fn try_rows(rt: &impl Abort, alloc: Global, rows: &[Row]) -> Result<(), Fail> {
+fn try_rows<T: Tried + Drop>(rt: &impl Abort, alloc: Global, rows: &[Row]) -> Result<(), Fail> {
     let programs = Programs::new(alloc)?;
     for (number, (before, method, reply, after)) in rows.iter().enumerate() {
-        let mut table = Striped::open(alloc, 4)?;
-        table.apply(&programs.call(b"ab", Put(b"other"))?)?;
+        let mut table = T::opened(alloc)?;
+        table.made(&programs.call(b"ab", Put(b"other"))?)?;
         if let Bytes(bytes) = before {
-            table.apply(&programs.call(b"a", Put(bytes))?)?;
+            table.made(&programs.call(b"a", Put(bytes))?)?;
         }
-        let given = table.apply(&programs.call(b"a", *method)?)?;
+        let given = table.made(&programs.call(b"a", *method)?)?;
         assert!(rt; is_wanted(&given, *reply), "row {number}");
-        let found = table.apply(&programs.call(b"a", Get)?)?;
+        let found = table.made(&programs.call(b"a", Get)?)?;
         assert!(rt; is_wanted(&found, *after), "row {number}, after");
-        let beside = table.apply(&programs.call(b"ab", Get)?)?;
+        let beside = table.made(&programs.call(b"ab", Get)?)?;
         assert!(rt; is_wanted(&beside, Bytes(b"other")), "row {number}, beside");
     }
     Ok(())
 }
 
+// The rows on a table in stripes, and on bins of both kinds.
+fn try_everywhere(rt: &impl Abort, alloc: Global, rows: &[Row]) -> Result<(), Fail> {
+    try_rows::<Striped>(rt, alloc, rows)?;
+    try_rows::<ListBins>(rt, alloc, rows)?;
+    try_rows::<HashedBins>(rt, alloc, rows)
+}
+
 #[test]
 fn methods_without_programs(rt: HostRuntime) -> Result<(), Fail> {
-    try_rows(&rt, rt.alloc(), &PLAIN)
+    try_everywhere(&rt, rt.alloc(), &PLAIN)
 }
 
 #[test]
 fn methods_with_programs(rt: HostRuntime) -> Result<(), Fail> {
-    try_rows(&rt, rt.alloc(), &COMPUTING)
+    try_everywhere(&rt, rt.alloc(), &COMPUTING)
 }
 
 #[test]

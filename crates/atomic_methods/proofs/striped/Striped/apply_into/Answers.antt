@@ -7,20 +7,20 @@ use Rattle.atomic_methods.proofs.striped.Striped.apply_into.Goals as goal
 pub invariant_of-self : goal.invariant_of-self
 invariant_of-self c =
     let count = c.len.ensures ∙ c.self.inside.stripes.ok.0 in
-    let at = rw (count, c.key.ensures.value) at c.stripe_of-place.ensures.value in
-    let lt = rw count at c.stripe_of-place.ensures.range in
-    (applied (λ k. reply_by k c.before.apply_into.new.bytes) _ c.self.invariant _ (invocation_of c.args.call.now) at lt _ _ c.index_mut.ensures.value _ c.apply_into.ensures.ok c.apply_into.ensures.err c.apply_into.ensures.memory).stripes
+    let at = rw (count, c.hash_of-hash.ensures.value, c.key.ensures.value) at c.stripe_of_hash-place.ensures.value in
+    let lt = rw count at c.stripe_of_hash-place.ensures.range in
+    (applied (λ k. reply_by k c.before.apply_into.new.bytes) _ c.self.invariant _ (invocation_of c.args.call.now) at lt _ _ c.index_mut-bins.ensures.value _ c.apply_into.ensures.ok c.apply_into.ensures.err c.apply_into.ensures.memory).stripes
 
 pub returns-clause-ok : goal.returns-clause-ok
 returns-clause-ok c =
     let count = c.len.ensures ∙ c.self.inside.stripes.ok.0 in
-    let at = rw (count, c.key.ensures.value) at c.stripe_of-place.ensures.value in
-    let lt = rw count at c.stripe_of-place.ensures.range in
-    rw (← c.self.view_is) (applied (λ k. reply_by k c.before.apply_into.new.bytes) _ c.self.invariant _ (invocation_of c.args.call.now) at lt _ _ c.index_mut.ensures.value _ c.apply_into.ensures.ok c.apply_into.ensures.err c.apply_into.ensures.memory).answers
+    let at = rw (count, c.hash_of-hash.ensures.value, c.key.ensures.value) at c.stripe_of_hash-place.ensures.value in
+    let lt = rw count at c.stripe_of_hash-place.ensures.range in
+    rw (← c.self.view_is) (applied (λ k. reply_by k c.before.apply_into.new.bytes) _ c.self.invariant _ (invocation_of c.args.call.now) at lt _ _ c.index_mut-bins.ensures.value _ c.apply_into.ensures.ok c.apply_into.ensures.err c.apply_into.ensures.memory).answers
 
 pub returns-clause-memory : goal.returns-clause-memory
 returns-clause-memory c =
     let count = c.len.ensures ∙ c.self.inside.stripes.ok.0 in
-    let at = rw (count, c.key.ensures.value) at c.stripe_of-place.ensures.value in
-    let lt = rw count at c.stripe_of-place.ensures.range in
-    rw (← c.self.view_is) (applied (λ k. reply_by k c.before.apply_into.new.bytes) _ c.self.invariant _ (invocation_of c.args.call.now) at lt _ _ c.index_mut.ensures.value _ c.apply_into.ensures.ok c.apply_into.ensures.err c.apply_into.ensures.memory).adds
+    let at = rw (count, c.hash_of-hash.ensures.value, c.key.ensures.value) at c.stripe_of_hash-place.ensures.value in
+    let lt = rw count at c.stripe_of_hash-place.ensures.range in
+    rw (← c.self.view_is) (applied (λ k. reply_by k c.before.apply_into.new.bytes) _ c.self.invariant _ (invocation_of c.args.call.now) at lt _ _ c.index_mut-bins.ensures.value _ c.apply_into.ensures.ok c.apply_into.ensures.err c.apply_into.ensures.memory).adds

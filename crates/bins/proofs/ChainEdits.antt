@@ -1,0 +1,160 @@
+-- Lists of hashes and the links of their places: a hash added, the last one taken out, one replaced.
+use Rattle.std.proofs.Common.{◌≡◌, ◌≢◌, ℕ, ◌+◌, ◌-◌, ◌<◌, ◌≤◌, cond, List, [], ◌∷◌, ◌++◌, length, set, take, slice_index, refl, sym, ap, subst, ◌∙◌, arith}
+use Rattle.std.specs.Prelude.{nat_eq}
+use Rattle.std.specs.List.{swap_remove}
+use Rattle.std.proofs.lemmas.Bool.{eq-eqb, ne_eqb}
+use Rattle.std.proofs.lemmas.List.{length-set, length_push, length-take-le, get_or_append_left, get_or_push, get_or-take, get_or-set_same, get_or-set_other, take_more, take_all, take_at, set_at, set-append_left}
+use Rattle.bins.specs.declared.chains.Link.{Link}
+use Rattle.bins.specs.declared.chains.Link.TheVariants.{Head, Next}
+use Rattle.bins.specs.Chains.{Links, LeadsTo, follow, heads_relinked, nexts_relinked, bin_of, bins_of}
+use Rattle.bins.proofs.ChainLemmas.{last_at, last_here, last_more, last_fewer, last_alike, links_more, links_fewer, links_hidden, links_alike}
+use Rattle.bins.proofs.ChainMoves.{links_relinked, last_upto}
+
+-- the same fact of equal numbers and lists
+links_at : (s m n k l : ℕ) (hs heads others nexts : List ℕ) → m ≡ n → k ≡ l → heads ≡ others → Links (bins_of s m hs) k heads nexts → Links (bins_of s n hs) l others nexts
+links_at s m n k l hs heads others nexts bins size same is =
+    subst (λ (x : ℕ). Links (bins_of s x hs) l others nexts) bins
+    (subst (λ (x : ℕ). Links (bins_of s m hs) x others nexts) size
+    (subst (λ (xs : List ℕ). Links (bins_of s m hs) k xs nexts) same is))
+
+-- a hash is added behind the others, and its place becomes the head of its bin
+pub links_added : (s h b : ℕ) (heads hs nexts hashes news others : List ℕ) → Links (bins_of s (length heads) hs) (length hs) heads nexts → length nexts ≡ length hs
+    → b ≡ bin_of s (length heads) h → b < length heads → hashes ≡ hs ++ h ∷ [] → news ≡ nexts ++ slice_index heads b ∷ [] → others ≡ set heads b (length news)
+    → Links (bins_of s (length others) hashes) (length hashes) others news
+links_added s h b heads hs nexts hashes news others is long e lt pushed next_pushed head_set =
+    let size : length hs + 1 ≡ length hashes = sym (ap length pushed ∙ length_push hs h) in
+    let count : length hs + 1 ≡ length news = sym (ap length next_pushed ∙ length_push nexts (slice_index heads b) ∙ ap (λ (k : ℕ). k + 1) long) in
+    let bins : length heads ≡ length others = sym (ap length head_set ∙ length-set heads b (length news)) in
+    let here : slice_index hashes (length hs) ≡ h = ap (λ (xs : List ℕ). slice_index xs (length hs)) pushed ∙ get_or_push hs h 0 (length hs) refl in
+    links_at s (length heads) (length others) (length hs + 1) (length hashes) hashes (set heads b (length hs + 1)) others news bins size (ap (set heads b) count ∙ sym head_set)
+    (links_more (bins_of s (length heads) hashes) (length hs) b heads nexts news
+    (links_alike (bins_of s (length heads) hs) (bins_of s (length heads) hashes) (length hs) heads nexts
+    (λ j high. ap (bin_of s (length heads)) (ap (λ (xs : List ℕ). slice_index xs j) pushed ∙ get_or_append_left hs (h ∷ []) 0 j high)) is)
+    (e ∙ ap (bin_of s (length heads)) (sym here)) lt (omega (arith, count))
+    (λ j high. ap (λ (xs : List ℕ). slice_index xs j) next_pushed ∙ get_or_append_left nexts (slice_index heads b ∷ []) 0 j (omega (arith, high, long)))
+    (ap (λ (xs : List ℕ). slice_index xs (length hs)) next_pushed ∙ get_or_push nexts (slice_index heads b) 0 (length hs) long))
+
+-- the last hash is taken out, and the place before it in its bin becomes the head
+pub links_taken : (s b n : ℕ) (heads hs nexts hashes news others : List ℕ) → Links (bins_of s (length heads) hs) (length hs) heads nexts → length nexts ≡ length hs
+    → n + 1 ≡ length hs → b ≡ bin_of s (length heads) (slice_index hs n) → b < length heads → hashes ≡ take n hs → news ≡ take n nexts → others ≡ set heads b (slice_index nexts n)
+    → Links (bins_of s (length others) hashes) (length hashes) others news
+links_taken s b n heads hs nexts hashes news others is long count e lt cut next_cut head_set =
+    let size : n ≡ length hashes = sym (ap length cut ∙ length-take-le n hs (omega (arith, count))) in
+    let news_size : length news ≡ n = ap length next_cut ∙ length-take-le n nexts (omega (arith, count, long)) in
+    let bins : length heads ≡ length others = sym (ap length head_set ∙ length-set heads b (slice_index nexts n)) in
+    links_at s (length heads) (length others) n (length hashes) hashes (set heads b (slice_index nexts n)) others news bins size (sym head_set)
+    (links_alike (bins_of s (length heads) hs) (bins_of s (length heads) hashes) n (set heads b (slice_index nexts n)) news
+    (λ j high. ap (bin_of s (length heads)) (ap (λ (xs : List ℕ). slice_index xs j) cut ∙ get_or-take n hs j 0 high))
+    (links_fewer (bins_of s (length heads) hs) n b heads nexts news
+    (subst (λ (k : ℕ). Links (bins_of s (length heads) hs) k heads nexts) (sym count) is) e lt (omega (arith, news_size))
+    (λ j high. ap (λ (xs : List ℕ). slice_index xs j) next_cut ∙ get_or-take n nexts j 0 high)))
+
+pub split_last : (hs : List ℕ) (n h : ℕ) → n + 1 ≡ length hs → h ≡ slice_index hs n → hs ≡ take n hs ++ h ∷ []
+split_last hs n h count e = sym (take_all (n + 1) hs (omega (arith, count))) ∙ take_more hs n 0 (omega (arith, count)) ∙ ap (λ (x : ℕ). take n hs ++ x ∷ []) (sym e)
+
+-- the last hash takes the place of another, or is the one that is removed
+at_end : (rest : List ℕ) (h i : ℕ) → swap_remove (rest ++ h ∷ []) i 0 ≡ take (length rest) (set (rest ++ h ∷ []) i h)
+at_end rest h i =
+    let count : length (rest ++ h ∷ []) - 1 ≡ length rest = omega (arith, length_push rest h) in
+    ap (λ (n : ℕ). take n (set (rest ++ h ∷ []) i (slice_index (rest ++ h ∷ []) n))) count
+    ∙ ap (λ (x : ℕ). take (length rest) (set (rest ++ h ∷ []) i x)) (get_or_push rest h 0 (length rest) refl)
+
+pub swapped_earlier : (hs rest : List ℕ) (i h : ℕ) → hs ≡ rest ++ h ∷ [] → i < length rest → set rest i h ≡ swap_remove hs i 0
+swapped_earlier hs rest i h split lt =
+    sym (ap (λ (xs : List ℕ). swap_remove xs i 0) split ∙ at_end rest h i
+    ∙ ap (take (length rest)) (set-append_left rest (h ∷ []) i h lt)
+    ∙ take_at (set rest i h) (h ∷ []) (length rest) (length-set rest i h))
+
+pub swapped_last : (hs rest : List ℕ) (i h : ℕ) → hs ≡ rest ++ h ∷ [] → i < length hs → length rest ≤ i → rest ≡ swap_remove hs i 0
+swapped_last hs rest i h split lt ge =
+    let here : length rest ≡ i = omega (arith, ge, lt, ap length split, length_push rest h) in
+    sym (ap (λ (xs : List ℕ). swap_remove xs i 0) split ∙ at_end rest h i
+    ∙ ap (take (length rest)) (set_at rest h [] h i here)
+    ∙ take_at rest (h ∷ []) (length rest) refl)
+
+-- place i is in no bin, and the others are where they were
+module _ (bin : ℕ → ℕ) (i m : ℕ) where
+  abbrev pub hidden : ℕ → ℕ
+  hidden j = cond (nat_eq j i) m (bin j)
+
+  hidden_here : hidden i ≡ m
+  hidden_here = rw (eq-eqb i i refl) refl
+
+  hidden_other : (j : ℕ) → j ≢ i → hidden j ≡ bin j
+  hidden_other j other = rw (ne_eqb j i other) refl
+
+pub length-heads_relinked : (link : Link) (at : ℕ) (heads : List ℕ) → length (heads_relinked link at heads) ≡ length heads
+length-heads_relinked (Head b) at heads = length-set heads b at
+length-heads_relinked (Next p) at heads = refl
+
+pub length-nexts_relinked : (link : Link) (at : ℕ) (nexts : List ℕ) → length (nexts_relinked link at nexts) ≡ length nexts
+length-nexts_relinked (Head b) at nexts = refl
+length-nexts_relinked (Next p) at nexts = length-set nexts p at
+
+-- a place is taken out of its chain: the link that leads to it leads past it
+pub links_unlinked : (bin : ℕ → ℕ) (heads nexts : List ℕ) (n i : ℕ) (link : Link) → Links bin n heads nexts → i < n → bin i < length heads → LeadsTo bin n (bin i) i link
+    → Links (hidden bin i (length heads)) n (heads_relinked link (slice_index nexts i) heads) (nexts_relinked link (slice_index nexts i) nexts)
+links_unlinked bin heads nexts n i link is within in_bins to =
+    let none = hidden_here bin i (length heads) in
+    let same = hidden_other bin i (length heads) in
+    links_relinked bin (hidden bin i (length heads)) heads nexts n i (bin i) (slice_index nexts i) is within in_bins same
+    (λ c in_range other. (λ e. other (sym e), λ e. omega (arith, e, none, in_range)))
+    (last_more (hidden bin i (length heads)) i (i + 1) (bin i) (slice_index nexts i) (omega arith)
+    (λ j low high e. let here : j ≡ i = omega (arith, low, high) in omega (arith, sym (ap (hidden bin i (length heads)) here) ∙ e, none, in_bins))
+    (last_alike bin (hidden bin i (length heads)) i (bin i) (slice_index nexts i)
+    (λ j high e. same j (λ eq. omega (arith, eq, high)) ∙ e) (λ j high e. sym (same j (λ eq. omega (arith, eq, high))) ∙ e) (is.at_nexts i within in_bins)))
+    (λ in_range. absurd (omega (arith, none, in_range))) link to
+
+-- a place that is in no chain is linked in: it leads on to where the link led, and the link leads to it
+pub links_linked : (bin new : ℕ → ℕ) (heads nexts : List ℕ) (n i : ℕ) (link : Link) → Links bin n heads nexts → i < n → length heads ≤ bin i → new i < length heads
+    → ((j : ℕ) → j ≢ i → new j ≡ bin j) → LeadsTo bin n (new i) i link
+    → Links new n (heads_relinked link (i + 1) heads) (nexts_relinked link (i + 1) (set nexts i (follow heads nexts link)))
+links_linked bin new heads nexts n i link is within none in_bins same to =
+    let upto = last_upto bin heads nexts n (new i) i is in_bins link within to in
+    let before = last_fewer bin i (i + 1) (new i) (follow heads nexts link) (omega arith)
+    (λ j low high e. let here : j ≡ i = omega (arith, low, high) in omega (arith, sym (ap bin here) ∙ e, none, in_bins)) upto in
+    let long : i < length nexts = omega (arith, within, is.long) in
+    let set_here : slice_index (set nexts i (follow heads nexts link)) i ≡ follow heads nexts link = get_or-set_same nexts i (follow heads nexts link) 0 long in
+    links_relinked bin new heads (set nexts i (follow heads nexts link)) n i (new i) (i + 1)
+    (links_hidden bin n i (follow heads nexts link) heads nexts is none before.range) within in_bins same
+    (λ c in_range other. (λ e. omega (arith, e, none, in_range), λ e. other (sym e)))
+    (last_here new i (new i) refl)
+    (λ in_range. last_at new i (new i) _ _ (sym set_here)
+    (last_alike bin new i (new i) (follow heads nexts link) (λ j high e. same j (λ eq. omega (arith, eq, high)) ∙ e) (λ j high e. sym (same j (λ eq. omega (arith, eq, high))) ∙ e) before))
+    link to
+
+-- the bins of the places but i
+abbrev pub rest_bins : ℕ → ℕ → List ℕ → List ℕ → ℕ → ℕ
+rest_bins s i heads hs = hidden (bins_of s (length heads) hs) i (length heads)
+
+-- a place taken out of the chain of its hash
+pub links_out : (s i : ℕ) (heads hs nexts others news : List ℕ) (link : Link) (b at : ℕ) → Links (bins_of s (length heads) hs) (length hs) heads nexts → length nexts ≡ length hs → i < length hs → b < length heads
+    → b ≡ bin_of s (length heads) (slice_index hs i) → at ≡ slice_index nexts i → LeadsTo (bins_of s (length heads) hs) (length nexts) b i link
+    → others ≡ heads_relinked link at heads → news ≡ nexts_relinked link at nexts → Links (rest_bins s i heads hs) (length news) others news
+links_out s i heads hs nexts others news link b at is long within in_bins e read to heads_are nexts_are =
+    let to_bin : LeadsTo (bins_of s (length heads) hs) (length hs) (bins_of s (length heads) hs i) i link =
+    subst (λ (k : ℕ). LeadsTo (bins_of s (length heads) hs) (length hs) k i link) e (subst (λ (k : ℕ). LeadsTo (bins_of s (length heads) hs) k b i link) long to) in
+    let out = links_unlinked (bins_of s (length heads) hs) heads nexts (length hs) i link is within (subst (λ (k : ℕ). k < length heads) e in_bins) to_bin in
+    let size : length hs ≡ length news = sym (ap length nexts_are ∙ length-nexts_relinked link at nexts ∙ long) in
+    subst (λ (k : ℕ). Links (rest_bins s i heads hs) k others news) size
+    (subst (λ (xs : List ℕ). Links (rest_bins s i heads hs) (length hs) xs news) (ap (λ (x : ℕ). heads_relinked link x heads) (sym read) ∙ sym heads_are)
+    (subst (λ (xs : List ℕ). Links (rest_bins s i heads hs) (length hs) (heads_relinked link (slice_index nexts i) heads) xs) (ap (λ (x : ℕ). nexts_relinked link x nexts) (sym read) ∙ sym nexts_are) out))
+
+-- a place linked into the chain of its new hash
+pub links_in : (s i h b at : ℕ) (heads hs others news hashes heads_after nexts_after : List ℕ) (link : Link)
+    → Links (rest_bins s i heads hs) (length news) others news → length others ≡ length heads → length news ≡ length hs → i < length hs → b < length heads
+    → b ≡ bin_of s (length heads) h → at ≡ follow others news link → LeadsTo (rest_bins s i heads hs) (length news) b i link
+    → hashes ≡ set hs i h → heads_after ≡ heads_relinked link (i + 1) others → nexts_after ≡ nexts_relinked link (i + 1) (set news i at)
+    → Links (bins_of s (length heads_after) hashes) (length hashes) heads_after nexts_after
+links_in s i h b at heads hs others news hashes heads_after nexts_after link is bins long within in_bins e leads to hashes_are heads_are nexts_are =
+    let new_here : bins_of s (length heads) hashes i ≡ b = ap (bin_of s (length heads)) (ap (λ (xs : List ℕ). slice_index xs i) hashes_are ∙ get_or-set_same hs i h 0 within) ∙ sym e in
+    let new_other : (j : ℕ) → j ≢ i → bins_of s (length heads) hashes j ≡ rest_bins s i heads hs j = λ j other.
+    ap (bin_of s (length heads)) (ap (λ (xs : List ℕ). slice_index xs j) hashes_are ∙ get_or-set_other hs i j h 0 other) ∙ sym (hidden_other (bins_of s (length heads) hs) i (length heads) j other) in
+    let none = hidden_here (bins_of s (length heads) hs) i (length heads) in
+    let linked = links_linked (rest_bins s i heads hs) (bins_of s (length heads) hashes) others news (length news) i link is (omega (arith, long, within)) (omega (arith, none, bins)) (omega (arith, new_here, in_bins, bins)) new_other
+    (subst (λ (k : ℕ). LeadsTo (rest_bins s i heads hs) (length news) k i link) (sym new_here) to) in
+    let size : length news ≡ length hashes = long ∙ sym (ap length hashes_are ∙ length-set hs i h) in
+    let count : length heads ≡ length heads_after = sym (ap length heads_are ∙ length-heads_relinked link (i + 1) others ∙ bins) in
+    links_at s (length heads) (length heads_after) (length news) (length hashes) hashes (heads_relinked link (i + 1) others) heads_after nexts_after count size (sym heads_are)
+    (subst (λ (xs : List ℕ). Links (bins_of s (length heads) hashes) (length news) (heads_relinked link (i + 1) others) xs)
+    (ap (λ (x : ℕ). nexts_relinked link (i + 1) (set news i x)) (sym leads) ∙ sym nexts_are) linked)

@@ -1,0 +1,8 @@
+use Rattle.std.proofs.Common.{◌≡◌, drop}
+use Rattle.std.specs.List.{fold}
+use Rattle.bins.specs.Hashes.{hash_more}
+use Rattle.bins.proofs.hashes.hash_of.Given as goal
+
+-- the bytes that are left lead to the hash
+abbrev pub invariant-loop-byte : goal.invariant-loop-byte
+invariant-loop-byte l = fold hash_more l.hash (drop l.byte-index l.byte-items) ≡ fold hash_more 1 l.byte-items

@@ -1,0 +1,296 @@
+//! Chains of places, a chain for each bin of hashes.
+//!
+//! A bin's head is its last place, and a place's next is the one before it in the same bin; both count from 1, and 0
+//! ends a chain. So a chain falls, and the hashes alone determine the heads and the nexts (`AreChained` of
+//! `specs/Chains.antt`). A doubling of the bins makes the links anew, and touches nothing else.
+ghost use Rattle.std.specs.Prelude.{◌≡◌, ◌<◌, ◌≤◌, ◌^◌, ◌*◌, ◌↔◌, ℕ, ◌++◌, [], ◌∷◌, length, set, slice_index, IfOk, OnOk, OnErr, IsTrue};
+ghost use Rattle.std.specs.List.{swap_remove};
+ghost use Rattle.std.specs.Int.{IsPowerOfTwo};
+ghost use Rattle.bins.specs.Chains.{AreChained, AreLinked, AreLinkedBy, IsBinCount, IsCrowded, IsLast, IsLastOf, IsLink, LeadsTo, Links, MayDouble, Relinked, bin_in, bin_of, bins_of, follow, place_bin, placed};
+
+use bpf_model::NoMemory;
+use std::alloc::Global;
+
+/// The first number of bins.
+pub const FIRST_BINS: usize = 8;
+/// The greatest number of bins.
+pub const MOST_BINS: usize = 65_536;
+
+/// The hashes in the order of their places, and the links of their chains. `1 << shift` is the number of stripes.
+#[derive(Drop)]
+pub struct Chains {
+    shift: u32,
+    heads: Vec<usize>,
+    hashes: Vec<u32>,
+    nexts: Vec<usize>,
+}
+
+/// A link of a chain: the head of a bin, or the next of a place.
+#[derive(Clone, Copy)]
+pub enum Link {
+    /// The head of this bin.
+    Head(usize),
+    /// The next of this place.
+    Next(usize),
+}
+
+// How far the bits that told the stripe reach.
+fn shift_of(stripes: u64) -> u32
+    ensures range { result < 32 }
+    ensures value { IsPowerOfTwo stripes → stripes < 2 ^ 32 → 2 ^ result ≡ stripes }
+{
+    stripes.trailing_zeros().min(31)
+}
+
+// The bin of a hash.
+#[inline(always)]
+fn bin_of(shift: u32, bins: usize, hash: u32) -> usize
+    requires shift { shift < 32 }
+    requires bins { IsBinCount bins }
+    ensures value { result ≡ bin_of (2 ^ shift) bins hash }
+    ensures range { result < bins }
+{
+    (hash >> shift) as usize & (bins - 1)
+}
+
+// Chains all places, from heads that lead nowhere.
+fn chain_all(shift: u32, heads: &mut Vec<usize>, hashes: &[u32], nexts: &mut Vec<usize>)
+    requires shift { shift < 32 }
+    requires bins { IsBinCount (length heads.old.items) }
+    requires long { length nexts.old.items ≡ length hashes.now }
+    requires empty { (b : ℕ) → slice_index heads.old.items b ≡ 0 }
+    ensures links { Links (bins_of (2 ^ shift) (length heads.new.items) hashes.now) (length hashes.now)
+        heads.new.items nexts.new.items }
+    ensures bins { length heads.new.items ≡ length heads.old.items }
+    ensures long { length nexts.new.items ≡ length nexts.old.items }
+{
+    let bins = heads.len();
+    for place in 0..hashes.len() {
+        let bin = bin_of(shift, bins, hashes[place]);
+        nexts[place] = heads[bin];
+        heads[bin] = place + 1;
+    }
+}
+
+impl Chains {
+    /// No places, in 8 bins. `NoMemory` where a request for memory was refused.
+    pub fn open(alloc: Global, stripes: u64) -> Result<Chains, NoMemory>
+        ensures chained { IfOk result AreChained }
+        ensures empty { IfOk result (λ chains. chains.hashes.items ≡ []) }
+        ensures bins { IfOk result (λ chains. length chains.heads.items ≡ 8) }
+        ensures stripes { IsPowerOfTwo stripes → stripes < 2 ^ 32
+            → IfOk result (λ chains. 2 ^ chains.shift ≡ stripes) }
+    {
+        let mut heads = Vec::new(alloc);
+        heads.resize(FIRST_BINS, 0)?;
+        Ok(Chains {
+            shift: shift_of(stripes),
+            heads,
+            hashes: Vec::new(alloc),
+            nexts: Vec::new(alloc),
+        })
+    }
+
+    /// The number of bins. Takes no memory.
+    pub fn bins(&self) -> usize
+        ensures value { result ≡ length self.now.heads.items }
+    {
+        self.heads.len()
+    }
+
+    // The first place with this hash along a chain.
+    #[inline(always)]
+    fn find_from(&self, first: usize, hash: u32) -> Option<usize>
+        requires chained { AreChained self.now }
+        requires range { first ≤ length self.now.hashes.items }
+        ensures value { (n : ℕ) → n ≤ length self.now.hashes.items
+            → IsLast (place_bin self.now) n (bin_in self.now hash) first
+            → IsLastOf self.now.hashes.items n hash result }
+    {
+        let mut at = first;
+        while at != 0 {
+            let place = at - 1;
+            if self.hashes[place] == hash {
+                return Some(place);
+            }
+            at = self.nexts[place];
+        }
+        None
+    }
+
+    /// The last place of a hash. Takes no memory.
+    #[inline(always)]
+    pub fn last(&self, hash: u32) -> Option<usize>
+        requires chained { AreChained self.now }
+        ensures value { IsLastOf self.now.hashes.items (length self.now.hashes.items) hash result }
+    {
+        let bin = bin_of(self.shift, self.heads.len(), hash);
+        self.find_from(self.heads[bin], hash)
+    }
+
+    /// The last place before this one that has the same hash. Takes no memory.
+    #[inline(always)]
+    pub fn before(&self, place: usize, hash: u32) -> Option<usize>
+        requires chained { AreChained self.now }
+        requires range { place < length self.now.hashes.items }
+        requires same { slice_index self.now.hashes.items place ≡ hash }
+        ensures value { IsLastOf self.now.hashes.items place hash result }
+    {
+        self.find_from(self.nexts[place], hash)
+    }
+
+    // A further place, for this hash.
+    fn add(&mut self, hash: u32) -> Result<(), NoMemory>
+        requires chained { AreChained self.old }
+        ensures chained { AreChained self.new }
+        ensures ok { OnOk result (self.new.hashes.items ≡ self.old.hashes.items ++ hash ∷ []) }
+        ensures err { OnErr result (self.new.hashes.items ≡ self.old.hashes.items) }
+        ensures bins { length self.new.heads.items ≡ length self.old.heads.items }
+        ensures shift { self.new.shift ≡ self.old.shift }
+    {
+        self.hashes.try_reserve(1)?;
+        let bin = bin_of(self.shift, self.heads.len(), hash);
+        self.nexts.push(self.heads[bin])?;
+        self.hashes.push_reserved(hash);
+        self.heads[bin] = self.nexts.len();
+        Ok(())
+    }
+
+    // Whether the hashes are more than twice the bins, and there may be more bins.
+    fn is_crowded(&self) -> bool
+        requires chained { AreChained self.now }
+        ensures exact { IsTrue result ↔ IsCrowded (length self.now.heads.items) self.now.hashes.items }
+    {
+        self.hashes.len() > 2 * self.heads.len() && self.heads.len() < MOST_BINS
+    }
+
+    // Twice the bins, where there is memory.
+    fn double(&mut self) -> Result<(), NoMemory>
+        requires chained { AreChained self.old }
+        requires few { length self.old.heads.items < MOST_BINS }
+        ensures chained { AreChained self.new }
+        ensures hashes { self.new.hashes.items ≡ self.old.hashes.items }
+        ensures ok { OnOk result (length self.new.heads.items ≡ 2 * length self.old.heads.items) }
+        ensures err { OnErr result (length self.new.heads.items ≡ length self.old.heads.items) }
+        ensures shift { self.new.shift ≡ self.old.shift }
+    {
+        let bins = 2 * self.heads.len();
+        let mut heads = Vec::with_capacity(*self.heads.allocator(), bins)?;
+        heads.resize(bins, 0)?;
+        chain_all(self.shift, &mut heads, &self.hashes, &mut self.nexts);
+        self.heads = heads;
+        Ok(())
+    }
+
+    /// Adds a hash, at the place behind the others, and doubles the bins where the hashes are more than twice as many
+    /// then and the memory for it is granted. `NoMemory` where the room for the hash was refused.
+    pub fn push(&mut self, hash: u32) -> Result<(), NoMemory>
+        requires chained { AreChained self.old }
+        ensures chained { AreChained self.new }
+        ensures ok { OnOk result (self.new.hashes.items ≡ self.old.hashes.items ++ hash ∷ []) }
+        ensures err { OnErr result (self.new.hashes.items ≡ self.old.hashes.items) }
+        ensures err_bins { OnErr result (length self.new.heads.items ≡ length self.old.heads.items) }
+        ensures bins { OnOk result (MayDouble (placed self.old) (placed self.new)) }
+        ensures shift { self.new.shift ≡ self.old.shift }
+    {
+        self.add(hash)?;
+        if self.is_crowded() {
+            let _ = self.double();
+        }
+        Ok(())
+    }
+
+    // Takes the last place out of its chain, of which it is the head, and gives its hash.
+    fn take_last(&mut self) -> u32
+        requires chained { AreChained self.old }
+        requires some { 0 < length self.old.hashes.items }
+        ensures chained { AreChained self.new }
+        ensures hashes { self.old.hashes.items ≡ self.new.hashes.items ++ result ∷ [] }
+        ensures bins { length self.new.heads.items ≡ length self.old.heads.items }
+        ensures shift { self.new.shift ≡ self.old.shift }
+    {
+        let place = self.hashes.len() - 1;
+        let hash = self.hashes[place];
+        let bin = bin_of(self.shift, self.heads.len(), hash);
+        self.heads[bin] = self.nexts[place];
+        self.hashes.truncate(place);
+        self.nexts.truncate(place);
+        hash
+    }
+
+    // The link of a bin that leads, or would lead, to a place.
+    fn link_to(&self, bin: usize, place: usize) -> Link
+        requires linked { AreLinked self.now }
+        requires bin { bin < length self.now.heads.items }
+        requires place { place < length self.now.nexts.items }
+        ensures is_link { IsLink self.now result }
+        ensures leads { (bins : ℕ → ℕ) → AreLinkedBy bins self.now
+            → LeadsTo bins (length self.now.nexts.items) bin place result }
+    {
+        let mut link = Link::Head(bin);
+        let mut at = self.heads[bin];
+        while at > place + 1 {
+            link = Link::Next(at - 1);
+            at = self.nexts[at - 1];
+        }
+        link
+    }
+
+    // The place that a link leads to, counted from 1.
+    fn follow(&self, link: Link) -> usize
+        requires { IsLink self.now link }
+        ensures value { result ≡ follow self.now.heads.items self.now.nexts.items link }
+    {
+        match link {
+            Link::Head(bin) => self.heads[bin],
+            Link::Next(place) => self.nexts[place],
+        }
+    }
+
+    // Makes a link lead elsewhere.
+    fn relink(&mut self, link: Link, at: usize)
+        requires { IsLink self.old link }
+        ensures value { Relinked link at self.old self.new }
+    {
+        match link {
+            Link::Head(bin) => self.heads[bin] = at,
+            Link::Next(place) => self.nexts[place] = at,
+        }
+    }
+
+    // Gives a place another hash: takes it out of the one's chain, and links it in the other's.
+    fn rehash(&mut self, place: usize, hash: u32)
+        requires chained { AreChained self.old }
+        requires range { place < length self.old.hashes.items }
+        ensures chained { AreChained self.new }
+        ensures hashes { self.new.hashes.items ≡ set self.old.hashes.items place hash }
+        ensures bins { length self.new.heads.items ≡ length self.old.heads.items }
+        ensures shift { self.new.shift ≡ self.old.shift }
+    {
+        let bins = self.heads.len();
+        let old_bin = bin_of(self.shift, bins, self.hashes[place]);
+        let old_link = self.link_to(old_bin, place);
+        let next = self.nexts[place];
+        self.relink(old_link, next);
+        let new_bin = bin_of(self.shift, bins, hash);
+        let new_link = self.link_to(new_bin, place);
+        self.nexts[place] = self.follow(new_link);
+        self.relink(new_link, place + 1);
+        self.hashes[place] = hash;
+    }
+
+    /// Removes the hash at a place; the last hash takes that place. Takes no memory.
+    pub fn swap_remove(&mut self, place: usize)
+        requires chained { AreChained self.old }
+        requires range { place < length self.old.hashes.items }
+        ensures chained { AreChained self.new }
+        ensures hashes { self.new.hashes.items ≡ swap_remove self.old.hashes.items place 0 }
+        ensures bins { length self.new.heads.items ≡ length self.old.heads.items }
+        ensures shift { self.new.shift ≡ self.old.shift }
+    {
+        let hash = self.take_last();
+        if place < self.hashes.len() {
+            self.rehash(place, hash);
+        }
+    }
+}

@@ -1,0 +1,44 @@
+#!/usr/bin/env bash
+# Runs tests with each of their requests for memory refused in turn: a refused call must leave what it found, and succeed at
+# the next try. Behind the gate, which builds the tests; by hand after `rt test` in the crates named below.
+set -euo pipefail
+cd "$(dirname "$0")/.."
+work=$(mktemp -d)
+trap 'rm -rf "$work"' EXIT
+passed=0
+failed=0
+
+command -v gcc > /dev/null || { echo "refused: no gcc here, so no request for memory was refused"; exit 0; }
+gcc -O1 -shared -fPIC -fno-builtin -o "$work/refuse.so" tests/refuse.c
+
+# Whether the test passes, with or without a refused request, which $REFUSED_REQUEST names.
+passes() {
+    LD_PRELOAD=$work/refuse.so REQUESTS_FILE=$work/requests timeout 60 "$@" > "$work/out" 2> "$work/err"
+}
+
+# A crate and the name of one of its tests.
+refuse_each() {
+    local program=crates/$1/out/$1_tests requests number
+    [ -x "$program" ] || { echo "refused: $program is not built; run the gate first" >&2; exit 1; }
+    passes "$program" "$2" || { echo "FAILED: $1, $2, with ample memory"; failed=$((failed + 1)); return; }
+    requests=$(cat "$work/requests")
+    for number in $(seq "$requests"); do
+        if REFUSED_REQUEST=$number passes "$program" "$2"; then
+            passed=$((passed + 1))
+        else
+            failed=$((failed + 1))
+            echo "FAILED: $1, $2, request $number of $requests refused: $(cat "$work/err")"
+        fi
+    done
+    echo "$1, $2: $requests requests"
+}
+
+refuse_each bins list_bins::tests::a_refused_put_leaves_the_entries
+refuse_each atomic_methods tests::stripes::a_refused_call_leaves_the_table
+refuse_each atomic_methods tests::stripes::a_stopped_run_made_the_calls_that_were_replied_to
+refuse_each atomic_methods tests::stripes::a_refused_scan_leaves_the_table
+refuse_each program_registry registry::tests::a_refused_program_comes_back
+refuse_each bin_stripes tests::rows::a_refused_call_changes_nothing
+
+echo "refused: $passed passed, $failed failed"
+[ "$failed" = 0 ]
