@@ -39,6 +39,7 @@ refuse_each atomic_methods tests::stripes::a_stopped_run_made_the_calls_that_wer
 refuse_each atomic_methods tests::stripes::a_refused_scan_leaves_the_table
 refuse_each program_registry registry::tests::a_refused_program_comes_back
 refuse_each bin_stripes tests::rows::a_refused_call_changes_nothing
+refuse_each bulk_walks tests::refused::a_refused_walk_changes_nothing
 
 echo "refused: $passed passed, $failed failed"
 [ "$failed" = 0 ]

@@ -2,4 +2,4 @@
 use Rattle.bins.specs.Table.{Table}
 
 abbrev pub content : Table → Table
-content = (Rattle.bins.specs.contracts.list_bins.ListBinsBins.TheImpl.table-value).it
+content = (Rattle.bins.specs.contracts.hashed_bins.HashedBinsBins.TheImpl.table-value).it

@@ -28,7 +28,7 @@ impl StripedMap {
         ensures ok { IfOk result (λ found. Closes pass found.items) }
     {
         let stripes = self.table.slot_count();
-        let Pass { mut known } = pass;
+        let Pass { mut known, .. } = pass;
         let mut seat = known.take();
         let mut found = entries_out(rt, alloc, &self.table.shared, &mut seat, stripes)?;
         found.sort_by(|a, b| a.0.cmp(&b.0))?;

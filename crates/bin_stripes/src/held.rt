@@ -2,8 +2,10 @@
 //! bins out, works on them, brings them home and lets the stripe go.
 ghost use Rattle.std.specs.Prelude.{◌≡◌, ◌<◌, ◌^◌, List, [], ◌∷◌, IfOk, OnErr};
 ghost use Rattle.std.specs.FinMap as map;
+ghost use Rattle.bins.specs.Hashes.{hash as hash_is};
 ghost use Rattle.atomic_methods.specs.Hashes.{stripe_of};
 ghost use Rattle.atomic_methods.specs.Invocations.{invocation_of};
+ghost use Rattle.atomic_methods.specs.Methods.{Answers, WouldAdd};
 ghost use Rattle.bins.specs.Table.{Table};
 ghost use Rattle.stripe_rule.specs.Gains.{seen_of};
 ghost use Rattle.bin_stripes.specs.Actions.{called, scanned};
@@ -14,8 +16,9 @@ ghost use Rattle.bin_stripes.specs.Holding.{IsLaid, Holds, Refuses};
 
 use crate::gate::{Gate, Place};
 use crate::steps::{Shows, Stand, Stripes, bins_home, bins_out};
-use atomic_methods::{Call, Reply, apply, replace_each, scan};
+use atomic_methods::{Call, Reply, apply_into, replace_each, scan};
 use bins::{Bins, Counts};
+use bpf_machine::Machine;
 use bpf_model::{Key, NoMemory, Value};
 use std::alloc::Global;
 use std::snapshot::Snapshot;
@@ -66,17 +69,37 @@ impl<'a, B: Bins> Shows<Replacement<'a, B>> for Replacing {
         AreReplacements done.program.now done.arg.now (map.entries (B.table done.before.value)) actions done.counts };
 }
 
-/// Makes the call on the stripe of its key. `NoMemory` as `apply` has it; then nothing was done.
+// Makes one call, whose key has this hash. A program runs in the machine.
+fn apply_hashed<B: Bins>(
+    bins: &mut B,
+    call: &Call,
+    hash: u32,
+    machine: &mut Machine,
+) -> Result<Reply, NoMemory>
+    requires hash { hash ≡ hash_is (invocation_of call.now).key }
+    ensures ok { IfOk result (Answers (B.table bins.old) (invocation_of call.now) (B.table bins.new)) }
+    ensures err { OnErr result (B.table bins.new ≡ B.table bins.old) }
+    ensures memory { OnErr result (WouldAdd (B.table bins.old) (invocation_of call.now)) }
+{
+    let mut bytes = Value::new();
+    let kind = apply_into(bins, call, hash, machine, &mut bytes)?;
+    Ok(kind.with(bytes))
+}
+
+/// Makes the call on the stripe of its key, which has this hash. `NoMemory` as `apply_into` has it; then nothing was done.
 pub(crate) fn make_call<B: Bins + Drop>(
     table: &Stripes<B>,
     seat: &mut Stand<B>,
     stripe: usize,
     call: &Call,
+    hash: u32,
+    machine: &mut Machine,
 ) -> Result<Reply, NoMemory>
     requires table { IsLaid table.now.table_id table.now.key × (seat.old.table_id ≡ table.now.table_id) }
     requires stripe { stripe < table.now.table_id.slots }
     requires held { Holds B.table table.now.table_id.slots stripe seat.old.me }
     requires key { stripe_of table.now.table_id.slots (invocation_of call.now).key ≡ stripe }
+    requires hash { hash ≡ hash_is (invocation_of call.now).key }
     ensures same { (seat.new.table_id ≡ seat.old.table_id) × (seat.new.id ≡ seat.old.id) }
     ensures ok { IfOk result (λ reply.
         Lets (λ actions. actions ≡ called (invocation_of call.now) reply ∷ []) table.now.table_id.slots stripe
@@ -86,7 +109,7 @@ pub(crate) fn make_call<B: Bins + Drop>(
         × Refuses table.now.table_id.slots stripe seat.old.me (invocation_of call.now)) }
 {
     let mut bins = bins_out(table, seat, stripe);
-    match apply(&mut bins, call) {
+    match apply_hashed(&mut bins, call, hash, machine) {
         Ok(reply) => {
             let done = Answered {
                 call,

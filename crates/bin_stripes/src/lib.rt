@@ -5,8 +5,8 @@
 //! `stripe_rule`, in the clauses of each call; `Pass::vouch`). What may happen on a stripe: `specs/Actions.antt`.
 //!
 //! **Words, slots, passes.** Each stripe has a word of 64 bits, 0 or 1, and a slot with the handle of its bins. A pass is a
-//! seat of the table, which has no bytes: what it carries (numbers, by which its events are known) and what it has seen and
-//! made exists in proofs alone. No history is stored.
+//! seat of the table, which has no bytes, beside the machine that its programs run in: what it carries (numbers, by which
+//! its events are known) and what it has seen and made exists in proofs alone. No history is stored.
 //!
 //! **The five steps** (`steps`), each atomic: a look loads the word; a take changes the word from 0 to 1 by a
 //! compare-exchange; bins out and bins home exchange the slot, which only the holder of the stripe does; a release swaps the

@@ -1,5 +1,6 @@
 //! The map that passes share.
 ghost use Rattle.std.specs.Prelude.{◌≡◌, ◌<◌, ◌^◌, [], length, IfOk, IfErr, OnErr, IsErrOf};
+ghost use Rattle.bins.specs.Hashes.{hash as hash_is};
 ghost use Rattle.atomic_methods.specs.Hashes.{stripe_of, IsStripeCount};
 ghost use Rattle.atomic_methods.specs.Invocations.{invocation_of};
 ghost use Rattle.bin_stripes.specs.Invoked.{Makes, Calls, IsRefused, Scans, AreOf, ReplacesEach, stripe_for};
@@ -13,9 +14,9 @@ use crate::pass::Pass;
 use crate::rule::{Shape, Striping};
 use crate::seats::{try_call, try_replace, try_scan};
 use crate::steps::take;
-use atomic_methods::{Call, Reply};
+use atomic_methods::{Call, Reply, stripe_of_hash};
 use atomic_table::Table;
-use bins::{Counts, ListBins};
+use bins::{Counts, HashedBins, hash_of};
 use bpf_model::{Key, NoMemory, Value};
 use std::alloc::Global;
 use std::marker::Model;
@@ -24,7 +25,7 @@ use stripe_rule::View;
 use verifier::Verified;
 
 /// What keeps the entries of a stripe. The map's contracts and proofs know it by the trait `Bins` alone.
-pub(crate) type StripeBins = ListBins;
+pub(crate) type StripeBins = HashedBins;
 
 /// A table in stripes by the hashes of the keys, which passes share: each stripe has a word, which is 1 while it is held,
 /// and a slot for its bins.
@@ -63,6 +64,16 @@ impl StripedMap {
         atomic_methods::stripe_of(key, self.stripes())
     }
 
+    // The stripe of the call's key, and the key's hash.
+    fn stripe_and_hash(&self, call: &Call) -> (usize, u32)
+        ensures stripe { result.0 ≡ stripe_of (stripes_of self.now) (invocation_of call.now).key }
+        ensures range { result.0 < stripes_of self.now }
+        ensures hash { result.1 ≡ hash_is (invocation_of call.now).key }
+    {
+        let hash = hash_of(call.key());
+        (stripe_of_hash(hash, self.stripes()) as usize, hash)
+    }
+
     /// Makes the call. `NoMemory` only where it would have added its key and a request for memory was refused; nothing was
     /// made then. Waits until the stripe of the key is free.
     pub fn call<R: Wait>(&self, rt: &R, pass: &mut Pass, call: &Call) -> Result<Reply, NoMemory>
@@ -71,11 +82,11 @@ impl StripedMap {
         ensures ok { IfOk result (λ reply. Calls pass.old (invocation_of call.now) reply pass.new) }
         ensures err { OnErr result (IsRefused pass.old (invocation_of call.now) pass.new) }
     {
-        let stripe = self.stripe_of(call.key()) as usize;
+        let (stripe, hash) = self.stripe_and_hash(call);
         let table = &self.table.shared;
         let mut seat = pass.known.take();
         take(rt, table, &mut seat, stripe);
-        let answer = make_call(table, &mut seat, stripe, call);
+        let answer = make_call(table, &mut seat, stripe, call, hash, &mut pass.machine);
         pass.known.put(seat);
         answer
     }
@@ -89,9 +100,10 @@ impl StripedMap {
         ensures err { OnErr result (Makes pass.old (stripe_for pass.old (invocation_of call.now)) [] pass.new) }
         ensures memory { IsErrOf result CallFault.NoMemory → IsRefused pass.old (invocation_of call.now) pass.new }
     {
-        let stripe = self.stripe_of(call.key()) as usize;
+        let (stripe, hash) = self.stripe_and_hash(call);
+        let table = &self.table.shared;
         let mut seat = pass.known.take();
-        let answer = try_call(&self.table.shared, &mut seat, stripe, call);
+        let answer = try_call(table, &mut seat, stripe, call, hash, &mut pass.machine);
         pass.known.put(seat);
         answer
     }

@@ -13,6 +13,7 @@ use crate::steps::{Stand, Stripes};
 use atomic_methods::is_stripe_count;
 use atomic_table::Table;
 use bins::Bins;
+use bpf_machine::Machine;
 use bpf_model::NoMemory;
 use known_seat::Known;
 use std::alloc::Global;
@@ -106,5 +107,6 @@ fn dealt_pass<B: Bins>(seat: Stand<B>) -> Pass
 {
     Pass {
         known: Known::of(seat),
+        machine: Machine::new(),
     }
 }

@@ -1,15 +1,17 @@
 //! What a thread makes its calls with.
 
 use crate::deed::Deed;
+use bpf_machine::Machine;
 use known_seat::Known;
 use std::marker::Model;
 use stripe_rule::View;
 
-/// The right to make calls on the map that it was opened with. It has no bytes. Contracts see what it carries and knows:
-/// of each stripe the events that it has seen, and those of them that it made.
+/// The right to make calls on the map that it was opened with. Its bytes are the machine that its calls run programs in.
+/// Contracts see what it carries and knows: of each stripe the events that it has seen, and those of them that it made.
 #[derive(Drop)]
 pub struct Pass {
     pub(crate) known: Known<View<Deed>>,
+    pub(crate) machine: Machine,
 }
 
 impl Model for Pass {

@@ -1,6 +1,7 @@
 //! Calls, scans and replacements by a seat at rest that tries the take once.
 ghost use Rattle.std.specs.Prelude.{◌≡◌, ◌<◌, ◌^◌, [], ◌∷◌, IfOk, IfErr, OnErr, IsErrOf};
 ghost use Rattle.std.specs.FinMap as map;
+ghost use Rattle.bins.specs.Hashes.{hash as hash_is};
 ghost use Rattle.atomic_methods.specs.Hashes.{stripe_of};
 ghost use Rattle.atomic_methods.specs.Invocations.{invocation_of};
 ghost use Rattle.bin_stripes.specs.Actions.{called, scanned};
@@ -12,21 +13,25 @@ use crate::held::{make_call, make_replacements, make_scan};
 use crate::steps::{Stand, Stripes, try_take};
 use atomic_methods::{Call, Reply};
 use bins::{Bins, Counts};
+use bpf_machine::Machine;
 use bpf_model::{Key, Value};
 use std::alloc::Global;
 use verifier::Verified;
 
-/// Makes the call on the stripe of its key, where that is free.
+/// Makes the call on the stripe of its key, where that is free. The hash is the key's; a program runs in the machine.
 pub(crate) fn try_call<B: Bins + Drop>(
     table: &Stripes<B>,
     seat: &mut Stand<B>,
     stripe: usize,
     call: &Call,
+    hash: u32,
+    machine: &mut Machine,
 ) -> Result<Reply, CallFault>
     requires table { IsLaid table.now.table_id table.now.key × (seat.old.table_id ≡ table.now.table_id) }
     requires stripe { stripe < table.now.table_id.slots }
     requires rests { Rests seat.old.me }
     requires key { stripe_of table.now.table_id.slots (invocation_of call.now).key ≡ stripe }
+    requires hash { hash ≡ hash_is (invocation_of call.now).key }
     ensures same { (seat.new.table_id ≡ seat.old.table_id) × (seat.new.id ≡ seat.old.id) }
     ensures ok { IfOk result (λ reply. Settles table.now.table_id.slots stripe seat.old.me
         (called (invocation_of call.now) reply ∷ []) seat.new.me) }
@@ -37,7 +42,7 @@ pub(crate) fn try_call<B: Bins + Drop>(
     if !try_take(table, seat, stripe) {
         return Err(CallFault::Busy);
     }
-    Ok(make_call(table, seat, stripe, call)?)
+    Ok(make_call(table, seat, stripe, call, hash, machine)?)
 }
 
 /// Copies of the stripe's entries, in key order, where it is free.

@@ -39,14 +39,21 @@ impl StripedMap {
     {
         let stripes = self.table.slot_count();
         let table = &self.table.shared;
-        let Pass { known: mut one } = one;
-        let Pass { known: mut other } = other;
+        let Pass {
+            known: mut one,
+            machine,
+        } = one;
+        let Pass {
+            known: mut other,
+            ..
+        } = other;
         let mut seat = one.take();
         hear(table, &other, &mut seat, stripes);
         unite(table, &mut seat, other.take());
         table.load::<Look>(&mut seat, 0);
         Pass {
             known: Known::of(seat),
+            machine,
         }
     }
 }

@@ -1,5 +1,5 @@
 //! Walks over a small map, by teams of several sizes.
-ghost use Rattle.std.specs.Prelude.{◌≡◌, ◌≤◌, All, IfOk};
+ghost use Rattle.std.specs.Prelude.{◌≡◌, ◌≤◌, All, IfOk, IfSome};
 
 use super::*;
 use atomic_methods::Call;
@@ -70,16 +70,21 @@ fn sum() -> [Insn; 6] {
     [load(0, 2), load(9, 3), add, store, length, Insn::Exit]
 }
 
-fn summing(alloc: Global) -> Result<Verified, Fail> {
-    let instructions = Vec::from_array(alloc, sum())?;
-    let program = Program::new(instructions).ok_or("no program")?;
+// The sum, verified; none where memory was refused.
+fn summed(alloc: Global) -> Option<Verified> {
+    let instructions = Vec::from_array(alloc, sum()).ok()?;
+    let program = Program::new(instructions)?;
     let sizes = Sizes {
         key: 64,
         old: 8,
         arg: 8,
         result: 8,
     };
-    Ok(verify(alloc, shape(program)?, sizes)?)
+    verify(alloc, shape(program).ok()?, sizes).ok()
+}
+
+fn summing(alloc: Global) -> Result<Verified, Fail> {
+    Ok(summed(alloc).ok_or("no program")?)
 }
 
 fn put(name: &[u8], bytes: &[u8]) -> Result<Call<'static>, TooLong> {
@@ -90,36 +95,56 @@ fn put(name: &[u8], bytes: &[u8]) -> Result<Call<'static>, TooLong> {
 }
 
 // The last of a map's passes, and a team of the others.
-fn dealt(map: &StripedMap, mut passes: Vec<Pass>) -> Result<(Pass, Team), Fail>
+fn dealt(map: &StripedMap, mut passes: Vec<Pass>) -> Option<(Pass, Team)>
     requires { All (λ pass. pass.map ≡ map.now) passes.items }
-    ensures pass { IfOk result (λ r. r.0.map ≡ map.now) }
-    ensures team { IfOk result (λ r. All (λ pass. pass.map ≡ map.now) r.1.passes.items) }
+    ensures pass { IfSome result (λ r. r.0.map ≡ map.now) }
+    ensures team { IfSome result (λ r. All (λ pass. pass.map ≡ map.now) r.1.passes.items) }
 {
-    let pass = passes.pop().ok_or("no pass")?;
-    let team = Team::new(passes).ok().ok_or("no team")?;
-    Ok((pass, team))
+    let pass = passes.pop()?;
+    let team = Team::new(passes).ok()?;
+    Some((pass, team))
 }
 
-// A map of so many stripes, a pass, and a team of so many more.
+// A map of so many stripes, a pass, and a team of so many more; none where memory was refused.
 #[tactic(auto, using(crate::proofs::PassLemmas::serve_all))]
+fn made(alloc: Global, stripes: u64, workers: u64) -> Option<(StripedMap, Pass, Team)>
+    requires { workers ≤ 63 }
+    ensures pass { IfSome result (λ r. r.1.map ≡ r.0) }
+    ensures team { IfSome result (λ r. All (λ pass. pass.map ≡ r.0) r.2.passes.items) }
+{
+    let (map, passes) = StripedMap::open(alloc, stripes, workers + 1).ok()?;
+    let (pass, team) = dealt(&map, passes)?;
+    Some((map, pass, team))
+}
+
 fn opened(alloc: Global, stripes: u64, workers: u64) -> Result<(StripedMap, Pass, Team), Fail>
     requires { workers ≤ 63 }
     ensures pass { IfOk result (λ r. r.1.map ≡ r.0) }
     ensures team { IfOk result (λ r. All (λ pass. pass.map ≡ r.0) r.2.passes.items) }
 {
-    let (map, passes) = StripedMap::open(alloc, stripes, workers + 1)?;
-    let (pass, team) = dealt(&map, passes)?;
-    Ok((map, pass, team))
+    match made(alloc, stripes, workers) {
+        Some(made) => Ok(made),
+        None => Err("no map".into()),
+    }
 }
 
-// Puts the entries `a` of 1 and `b` of 2, and `c` of nine bytes, which is too long for the program.
+// Puts the entries `a` of 1 and `b` of 2, and `c` of nine bytes, which is too long for the program; none where memory was
+// refused.
+fn put_all<R: Wait>(rt: &R, map: &StripedMap, pass: &mut Pass) -> Option<()>
+    requires { pass.old.map ≡ map.now }
+    ensures { pass.new.map ≡ map.now }
+{
+    map.call(rt, pass, &put(b"a", &ONE).ok()?).ok()?;
+    map.call(rt, pass, &put(b"b", &TWO).ok()?).ok()?;
+    map.call(rt, pass, &put(b"c", &NINE).ok()?).ok()?;
+    Some(())
+}
+
 fn fill<R: Wait>(rt: &R, map: &StripedMap, pass: &mut Pass) -> Result<(), Fail>
     requires { pass.old.map ≡ map.now }
+    ensures { pass.new.map ≡ map.now }
 {
-    map.call(rt, pass, &put(b"a", &ONE)?)?;
-    map.call(rt, pass, &put(b"b", &TWO)?)?;
-    map.call(rt, pass, &put(b"c", &NINE)?)?;
-    Ok(())
+    Ok(put_all(rt, map, pass).ok_or("not filled")?)
 }
 
 // Whether the reply has these items and counts.

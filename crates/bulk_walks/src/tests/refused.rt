@@ -1,19 +1,19 @@
 //! Walks of which one request for memory is refused: it leaves the entries, and the walk is made the next time. Where no
 //! request is refused, the walks are as any.
-ghost use Rattle.std.specs.Prelude.{◌≡◌, All, IfOk};
+ghost use Rattle.std.specs.Prelude.{◌≡◌, All, IfSome};
 
 use super::*;
 use atomic_methods::Reply;
 
-// A map of three entries in four stripes, a pass, a team of two, and the sum.
-fn filled<R: Wait>(rt: &R, alloc: Global) -> Result<(StripedMap, Pass, Team, Verified), Fail>
-    ensures pass { IfOk result (λ r. r.1.map ≡ r.0) }
-    ensures team { IfOk result (λ r. All (λ pass. pass.map ≡ r.0) r.2.passes.items) }
+// A map of three entries in four stripes, a pass, a team of two, and the sum; none where memory was refused.
+fn filled<R: Wait>(rt: &R, alloc: Global) -> Option<(StripedMap, Pass, Team, Verified)>
+    ensures pass { IfSome result (λ r. r.1.map ≡ r.0) }
+    ensures team { IfSome result (λ r. All (λ pass. pass.map ≡ r.0) r.2.passes.items) }
 {
-    let program = summing(alloc)?;
-    let (map, mut pass, team) = opened(alloc, 4, 2)?;
-    fill(rt, &map, &mut pass)?;
-    Ok((map, pass, team, program))
+    let program = summed(alloc)?;
+    let (map, mut pass, team) = made(alloc, 4, 2)?;
+    put_all(rt, &map, &mut pass)?;
+    Some((map, pass, team, program))
 }
 
 // Whether the key has this value.
@@ -56,7 +56,10 @@ fn are_replies(
 #[test]
 fn a_refused_walk_changes_nothing(rt: HostRuntime) -> Result<(), Fail> {
     let alloc = rt.alloc();
-    let (map, mut pass, team, program) = filled(&rt, alloc)?;
+    let (map, mut pass, team, program) = match filled(&rt, alloc) {
+        Some(made) => made,
+        None => filled(&rt, alloc).ok_or("no map")?,
+    };
     let arg = Some(Value::from_slice(&ONE)?);
     let items: [(&[u8], &[u8]); 2] = [(b"a", &TWO), (b"b", &THREE)];
     let (team, first) = for_each(&rt, alloc, &map, team, &program, &arg, 0, &OpenGate);
