@@ -1,4 +1,4 @@
-use Rattle.std.proofs.Common.{List, ℕ, sym, ap, subst, ◌∙◌}
+use Rattle.std.proofs.Common.{◌≡◌, sym, ap, subst, ◌∙◌}
 use Rattle.std.specs.List.{swap_remove}
 use Rattle.std.specs.FinMap as map
 use Rattle.bins.specs.Entries.{Distinct, hashes_of}
@@ -12,8 +12,8 @@ invariant_of-self c =
     let bound = rw c.deref.ensures.value at c.in-Some.ensures.bound in
     let found = rw c.deref.ensures.value at c.in-Some.ensures.found in
     let items = c.swap_remove-in-Some.ensures.items in
-    let hashes = c.swap_remove.ensures.hashes ∙ ap (λ (hs : List ℕ). swap_remove hs c.in-Some.place 0) c.self.invariant.0
-    ∙ sym (removed_hashes c.self.inside.entries.items c.in-Some.place c.swap_remove-in-Some.result 0 bound) ∙ ap hashes_of (sym items) in
+    let kept : c.swap_remove.new.self.hashes ≡ swap_remove (hashes_of c.self.inside.entries.items) c.in-Some.place 0 = cc (c.swap_remove.ensures.hashes, c.self.invariant.0) in
+    let hashes = kept ∙ sym (removed_hashes c.self.inside.entries.items c.in-Some.place c.swap_remove-in-Some.result 0 bound) ∙ ap hashes_of (sym items) in
     (hashes, subst Distinct (sym items) (removed_distinct _ _ c.swap_remove-in-Some.result _ c.self.invariant.1 bound found))
 
 pub returns-in-Some-clause-value : goal.returns-in-Some-clause-value
