@@ -1,5 +1,9 @@
 pub mod SortedEntries
 pub mod MapEdits
+pub mod DistinctEntries
+pub mod EntryCounts
+pub mod SortedCopies
+pub mod HashSearch
 pub mod ReplacementLemmas
 pub mod ChainLemmas
 pub mod ChainMoves

@@ -1,11 +1,11 @@
 -- Entries after outcomes: one more outcome, and what they make of the table.
-use Rattle.std.proofs.Common.{◌≡◌, ℕ, suc, ◌+◌, ◌<◌, Bool, true, false, T, cond, ◌&&◌, List, [], ◌∷◌, ◌++◌, length, get_or, set, Option, Some, Ok, Err, Ordering, Less, Equal, Greater, is_eq, is_lt, refl, sym, ap, subst, ◌∙◌, arith}
+use Rattle.std.proofs.Common.{◌≡◌, ℕ, suc, ◌+◌, ◌<◌, Bool, true, false, T, cond, ◌&&◌, List, [], ◌∷◌, ◌++◌, length, get_or, set, Option, Some, None, Ok, Err, Ordering, Less, Equal, Greater, is_eq, is_lt, refl, sym, ap, subst, ◌∙◌, arith}
 use Rattle.std.specs.List.{count_by}
 use Rattle.std.proofs.lemmas.List.Sums.{sum_by-cons, sum_by_push}
 use Rattle.std.specs.Option.{option_map, unwrap_or}
 use Rattle.std.specs.Ordering.{eq_by_cmp}
-use Rattle.std.specs.Cmp.{tied_itself, eq_by_cmp_equiv}
-use Rattle.std.specs.FinMap.{find, is_sorted, from_sorted, entries-from_sorted, get-from_sorted, len-entries}
+use Rattle.std.specs.Cmp.{tied_itself}
+use Rattle.std.specs.FinMap.{find, is_sorted, from_sorted, from_entries, get-from_entries}
 use Rattle.std.specs.FinMap.Entries.{below_all}
 use Rattle.bpf_model.specs.declared.input.Answer.TheVariants.{Nothing, Bytes}
 use Rattle.bpf_model.specs.declared.input.Window.{Window}
@@ -13,11 +13,14 @@ use Rattle.bpf_model.specs.declared.input.Window.TheVariants.{Key}
 use Rattle.bpf_model.specs.Fits.{input_of}
 use Rattle.verifier.specs.Checked.{Checked}
 use Rattle.bins.specs.declared.counts.Counts.{Counts}
-use Rattle.bins.specs.Table.{Entry, by_bytes}
+use Rattle.bins.specs.Hashes.{hash}
+use Rattle.bins.specs.Table.{Entry, Table, by_bytes}
+use Rattle.bins.specs.Entries.{Distinct, hashes_of}
 use Rattle.bins.specs.Replacements.{Outcome, ComesTo, value_after, is_given, is_unfit, ReplacesEach}
 use Rattle.bins.specs.Passes.{told_of, AreOutcomes, entries_after, ReplacesList}
-use Rattle.bins.proofs.SortedEntries.{both_hold}
-use Rattle.bins.proofs.MapEdits.{total, antisymmetric}
+use Rattle.bins.proofs.MapEdits.{total}
+use Rattle.bins.proofs.DistinctEntries.{same_key, turned, alike, none_after}
+use Rattle.bins.proofs.EntryCounts.{Distinct-sorted, from_entries-sorted, counted_in_table, len-table}
 
 pub length-entries_after : (es : List Entry) (os : List Outcome) → length (entries_after es os) ≡ length es
 length-entries_after es [] = refl
@@ -95,14 +98,6 @@ outcome_at [] os k = Err Key
 outcome_at (e ∷ es) [] k = Err Key
 outcome_at (e ∷ es) (o ∷ os) k = cond (eq_by_cmp by_bytes k e.0) o (outcome_at es os k)
 
-is_equal : (r : Ordering) → is_eq r ≡ true → r ≡ Equal
-is_equal Less e = absurd (subst T (sym e) tt)
-is_equal Equal e = refl
-is_equal Greater e = absurd (subst T (sym e) tt)
-
-same_key : (x y : List ℕ) → eq_by_cmp by_bytes x y ≡ true → x ≡ y
-same_key x y e = antisymmetric x y (is_equal (by_bytes x y) e)
-
 inside : (x y : List ℕ) → Some x ≡ Some y → x ≡ y
 inside x y e = ap (λ (o : Option (List ℕ)). unwrap_or o x) e
 
@@ -115,7 +110,7 @@ comes_to_at checked arg (e ∷ es) [] k v one_each are found = absurd (omega (ar
 comes_to_at checked arg (e ∷ es) (o ∷ os) k v one_each are found =
     elim (eq_by_cmp by_bytes k e.0) as (λ b. eq_by_cmp by_bytes k e.0 ≡ b → cond b (Some e.1) (find by_bytes k es) ≡ Some v → ComesTo checked (input_of k (Some v) arg) (cond b o (outcome_at es os k))) [
       | true ↦ λ same is. subst (λ (x : List ℕ). ComesTo checked (input_of k (Some x) arg) o) (inside e.1 v is)
-          (subst (λ (x : List ℕ). ComesTo checked (input_of x (Some e.1) arg) o) (sym (same_key k e.0 same)) are.0)
+          (subst (λ (x : List ℕ). ComesTo checked (input_of x (Some e.1) arg) o) (sym (alike k e.0 same)) are.0)
       | false ↦ λ other is. comes_to_at checked arg es os k v (omega (arith, one_each)) are.1 is
     ] refl found
 
@@ -132,14 +127,6 @@ find-entries_after (e ∷ es) (o ∷ os) k one_each =
       | false ↦ find-entries_after es os k (omega (arith, one_each))
     ]
 
-below_is_other : (x y : List ℕ) → T (is_lt (by_bytes x y)) → eq_by_cmp by_bytes y x ≡ false
-below_is_other x y h = (eq_by_cmp_equiv total).symm y x ∙ is_other (by_bytes x y) h
-  where
-    is_other : (r : Ordering) → T (is_lt r) → is_eq r ≡ false
-    is_other Less h = refl
-    is_other Equal h = absurd h
-    is_other Greater h = absurd h
-
 -- the number of entries, or outcomes, that pass, from the front
 one : Bool → ℕ
 one b = cond b 1 0
@@ -148,47 +135,69 @@ count_cons : {X : Type 0} (p : X → Bool) (x : X) (xs : List X) → count_by p 
 unfolding one
 count_cons p x xs = sum_by-cons (λ y. cond (p y) 1 0) x xs
 
--- the first outcome is not that of the entries above it
-count_above : (p : Outcome → Bool) (x : List ℕ) (o : Outcome) (es fs : List Entry) (os : List Outcome) → T (below_all by_bytes x fs)
+-- the first outcome is not that of entries of other keys
+count_others : (p : Outcome → Bool) (x : List ℕ) (o : Outcome) (es fs : List Entry) (os : List Outcome) → find by_bytes x fs ≡ None
     → count_by (λ (e : Entry). p (cond (eq_by_cmp by_bytes e.0 x) o (outcome_at es os e.0))) fs ≡ count_by (λ (e : Entry). p (outcome_at es os e.0)) fs
-count_above p x o es [] os h = refl
-count_above p x o es (f ∷ fs) os h =
-    let halves = both_hold _ _ h in
+count_others p x o es [] os none = refl
+count_others p x o es (f ∷ fs) os none =
+    let rest = none_after (same_key x f.0) f.1 (find by_bytes x fs) none in
     count_cons (λ (e : Entry). p (cond (eq_by_cmp by_bytes e.0 x) o (outcome_at es os e.0))) f fs
-    ∙ ap (λ (b : Bool). one (p (cond b o (outcome_at es os f.0))) + count_by (λ (e : Entry). p (cond (eq_by_cmp by_bytes e.0 x) o (outcome_at es os e.0))) fs) (below_is_other x f.0 halves.0)
-    ∙ ap (λ (n : ℕ). one (p (outcome_at es os f.0)) + n) (count_above p x o es fs os halves.1)
+    ∙ ap (λ (b : Bool). one (p (cond b o (outcome_at es os f.0))) + count_by (λ (e : Entry). p (cond (eq_by_cmp by_bytes e.0 x) o (outcome_at es os e.0))) fs) (turned f.0 x ∙ rest.0)
+    ∙ ap (λ (n : ℕ). one (p (outcome_at es os f.0)) + n) (count_others p x o es fs os rest.1)
     ∙ sym (count_cons (λ (e : Entry). p (outcome_at es os e.0)) f fs)
 
 -- to count the outcomes is to count the entries by the outcomes at their keys
-pub count_by-outcome_at : (p : Outcome → Bool) (es : List Entry) (os : List Outcome) → T (is_sorted by_bytes es) → length os ≡ length es
+pub count_by-outcome_at : (p : Outcome → Bool) (es : List Entry) (os : List Outcome) → Distinct es → length os ≡ length es
     → count_by p os ≡ count_by (λ (e : Entry). p (outcome_at es os e.0)) es
 unfolding outcome_at
 count_by-outcome_at p [] [] h one_each = refl
 count_by-outcome_at p [] (o ∷ os) h one_each = absurd (omega (arith, one_each))
 count_by-outcome_at p (e ∷ es) [] h one_each = absurd (omega (arith, one_each))
 count_by-outcome_at p (e ∷ es) (o ∷ os) h one_each =
-    let halves = both_hold _ _ h in
     count_cons p o os
-    ∙ ap (λ (n : ℕ). one (p o) + n) (count_by-outcome_at p es os halves.1 (omega (arith, one_each)) ∙ sym (count_above p e.0 o es es os halves.0))
+    ∙ ap (λ (n : ℕ). one (p o) + n) (count_by-outcome_at p es os h.1 (omega (arith, one_each)) ∙ sym (count_others p e.0 o es es os h.0))
     ∙ ap (λ (r : Ordering). one (p (cond (is_eq r) o (outcome_at es os e.0))) + count_by (λ (f : Entry). p (cond (eq_by_cmp by_bytes f.0 e.0) o (outcome_at es os f.0))) es) (sym (tied_itself total e.0))
     ∙ sym (count_cons (λ (f : Entry). p (cond (eq_by_cmp by_bytes f.0 e.0) o (outcome_at es os f.0))) e es)
+
+-- the keys are as before
+hashes-entries_after : (es : List Entry) (os : List Outcome) → hashes_of (entries_after es os) ≡ hashes_of es
+hashes-entries_after es [] = refl
+hashes-entries_after [] (o ∷ os) = refl
+hashes-entries_after (e ∷ es) (o ∷ os) = ap (λ (hs : List ℕ). hash e.0 ∷ hs) (hashes-entries_after es os)
+
+Distinct-entries_after : (es : List Entry) (os : List Outcome) → length os ≡ length es → Distinct es → Distinct (entries_after es os)
+Distinct-entries_after es [] one_each h = h
+Distinct-entries_after [] (o ∷ os) one_each h = absurd (omega (arith, one_each))
+Distinct-entries_after (e ∷ es) (o ∷ os) one_each h =
+    let later : length os ≡ length es = omega (arith, one_each) in
+    (find-entries_after es os e.0 later ∙ ap (option_map (value_after (outcome_at es os e.0))) h.0, Distinct-entries_after es os later h.1)
+
+-- what was done to entries without a key twice is done to their table
+pub replaces_entries : (checked : Checked) (arg : Option (List ℕ)) (old new : List Entry) (counts : Counts) → Distinct old → ReplacesList checked arg old new counts
+    → (hashes_of new ≡ hashes_of old) × Distinct new × ReplacesEach checked arg (from_entries old) (from_entries new) counts
+replaces_entries checked arg old new counts h list =
+    let outcome = outcome_at old list.outcomes in (
+      ap hashes_of list.entered ∙ hashes-entries_after old list.outcomes,
+      subst Distinct (sym list.entered) (Distinct-entries_after old list.outcomes list.one_each h),
+      record {
+        outcome = outcome;
+        comes_to = λ k v found. comes_to_at checked arg old list.outcomes k v list.one_each list.are_outcomes (sym (get-from_entries total old k) ∙ found);
+        values = λ k. get-from_entries total new k ∙ ap (find by_bytes k) list.entered ∙ find-entries_after old list.outcomes k list.one_each
+            ∙ ap (option_map (value_after (outcome k))) (sym (get-from_entries total old k));
+        scanned = list.scanned ∙ sym (len-table old h);
+        given = list.given ∙ count_by-outcome_at is_given old list.outcomes h list.one_each ∙ sym (counted_in_table (λ (e : Entry). is_given (outcome e.0)) old h);
+        unfit = list.unfit ∙ count_by-outcome_at is_unfit old list.outcomes h list.one_each ∙ sym (counted_in_table (λ (e : Entry). is_unfit (outcome e.0)) old h);
+      },
+    )
 
 -- what was done to sorted entries is done to their table
 pub replaces_table : (checked : Checked) (arg : Option (List ℕ)) (old new : List Entry) (counts : Counts) → T (is_sorted by_bytes old) → ReplacesList checked arg old new counts
     → T (is_sorted by_bytes new) × ReplacesEach checked arg (from_sorted old) (from_sorted new) counts
 replaces_table checked arg old new counts h list =
-    let outcome = outcome_at old list.outcomes in
     let after : T (is_sorted by_bytes (entries_after old list.outcomes)) = subst T (sym (sorted-entries_after old list.outcomes)) h in
     let sorted = subst (λ (xs : List Entry). T (is_sorted by_bytes xs)) (sym list.entered) after in
-    let listed = sym (entries-from_sorted by_bytes old h) in (
+    let each = (replaces_entries checked arg old new counts (Distinct-sorted old h) list).2 in (
       sorted,
-      record {
-        outcome = outcome;
-        comes_to = λ k v found. comes_to_at checked arg old list.outcomes k v list.one_each list.are_outcomes (sym (get-from_sorted by_bytes old k h) ∙ found);
-        values = λ k. get-from_sorted by_bytes new k sorted ∙ ap (find by_bytes k) list.entered ∙ find-entries_after old list.outcomes k list.one_each
-            ∙ ap (option_map (value_after (outcome k))) (sym (get-from_sorted by_bytes old k h));
-        scanned = list.scanned ∙ ap length listed ∙ sym (len-entries _);
-        given = list.given ∙ count_by-outcome_at is_given old list.outcomes h list.one_each ∙ ap (count_by (λ (e : Entry). is_given (outcome e.0))) listed;
-        unfit = list.unfit ∙ count_by-outcome_at is_unfit old list.outcomes h list.one_each ∙ ap (count_by (λ (e : Entry). is_unfit (outcome e.0))) listed;
-      },
+      subst (λ (t : Table). ReplacesEach checked arg t (from_sorted new) counts) (from_entries-sorted old h)
+          (subst (λ (t : Table). ReplacesEach checked arg (from_entries old) t counts) (from_entries-sorted new sorted) each),
     )

@@ -1,4 +1,5 @@
 pub mod Table
+pub mod Entries
 pub mod Places
 pub mod Lending
 pub mod Replacements

@@ -4,6 +4,7 @@ ghost use Rattle.std.specs.Option.{option_copied_mut};
 ghost use Rattle.std.specs.Borrow.{sem};
 ghost use Rattle.std.specs.FinMap as map;
 ghost use Rattle.bins.specs.Lending.{LendsValue};
+ghost use Rattle.bins.specs.Hashes.{hash as hash_of};
 ghost use Rattle.bins.specs.Replacements.{ReplacesEach};
 
 use crate::counts::Counts;
@@ -11,7 +12,8 @@ use bpf_model::{Key, NoMemory, Value};
 use std::alloc::Global;
 use verifier::Verified;
 
-/// A finite map from keys to values. `find_mut` serves a read and the write that follows it by one search.
+/// A finite map from keys to values. `find_mut` serves a read and the write that follows it by one search. A call on one
+/// key takes the key's hash with it, so that whoever calls computes it once (`hash_of`).
 pub trait Bins {
     ghost use Rattle.std.specs.Prelude.{◌≡◌, List, ℕ};
     ghost use Rattle.std.specs.FinMap as map;
@@ -32,23 +34,27 @@ pub trait Bins {
         ensures ok { IfOk result (λ bins. table bins ≡ map.empty) };
 
     /// The value of a key. Takes no memory.
-    fn find(&self, key: &Key) -> Option<&Value>
+    fn find(&self, key: &Key, hash: u32) -> Option<&Value>
+        requires hash { hash ≡ hash_of key.now }
         ensures value { option_copied result ≡ map.get (table self.now) key.now };
 
     /// The value of a key, to be changed in place: what is left behind it is the key's value then. Takes no memory.
-    fn find_mut(&mut self, key: &Key) -> Option<&mut Value>
+    fn find_mut(&mut self, key: &Key, hash: u32) -> Option<&mut Value>
+        requires hash { hash ≡ hash_of key.now }
         ensures* writes_back { sem 𝓛 (LendsValue Self.row entered self.entry key.now result) }
         ensures value { option_copied_mut result ≡ map.get (table self.old) key.now };
 
     /// Sets the value of a key. `NoMemory` where the key is new and the room for it was refused; the entries are as
     /// before. Takes no memory where the key is present.
-    fn put(&mut self, key: Key, value: Value) -> Result<(), NoMemory>
+    fn put(&mut self, key: Key, value: Value, hash: u32) -> Result<(), NoMemory>
+        requires hash { hash ≡ hash_of key }
         ensures ok { OnOk result (table self.new ≡ map.insert (table self.old) key value) }
         ensures err { OnErr result (table self.new ≡ table self.old) }
         ensures memory { OnErr result (map.get (table self.old) key ≡ None) };
 
     /// Removes a key, and gives the value that it had. Takes no memory.
-    fn remove(&mut self, key: &Key) -> Option<Value>
+    fn remove(&mut self, key: &Key, hash: u32) -> Option<Value>
+        requires hash { hash ≡ hash_of key.now }
         ensures value { result ≡ map.get (table self.old) key.now }
         ensures others { table self.new ≡ map.remove (table self.old) key.now };
 

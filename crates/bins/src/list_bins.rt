@@ -6,10 +6,11 @@ ghost use Rattle.bins.specs.Table.{by_bytes};
 ghost use Rattle.bins.specs.Places.{IsAt, IsGapFor};
 
 use crate::bins::Bins;
+use crate::copies::copies_of;
 use crate::counts::Counts;
 use crate::replacement::replace_values;
 use bpf_model::{Key, NoMemory, Value};
-use std::alloc::{AllocError, Global};
+use std::alloc::Global;
 use std::marker::Model;
 use verifier::Verified;
 
@@ -57,16 +58,6 @@ fn add_entry(
     Ok(entries.insert(place, entry)?)
 }
 
-// The entries once more, in room for just these.
-fn copies_of(alloc: Global, entries: &[(Key, Value)]) -> Result<Vec<(Key, Value)>, AllocError>
-    ensures { IfOk result (λ copies. copies.items ≡ entries.now) }
-{
-    let copies = entries
-        .iter()
-        .map(|(key, value)| (key.copied(), value.copied()));
-    copies.collect(alloc)
-}
-
 impl Bins for ListBins {
     ghost use Rattle.std.proofs.Common.{refl};
     ghost use Rattle.std.specs.FinMap as map;
@@ -83,21 +74,21 @@ impl Bins for ListBins {
         })
     }
 
-    fn find(&self, key: &Key) -> Option<&Value> {
+    fn find(&self, key: &Key, _hash: u32) -> Option<&Value> {
         match place_of(&self.entries, key) {
             Ok(place) => Some(&self.entries[place].1),
             Err(_) => None,
         }
     }
 
-    fn find_mut(&mut self, key: &Key) -> Option<&mut Value> {
+    fn find_mut(&mut self, key: &Key, _hash: u32) -> Option<&mut Value> {
         match place_of(&self.entries, key) {
             Ok(place) => Some(&mut self.entries[place].1),
             Err(_) => None,
         }
     }
 
-    fn put(&mut self, key: Key, value: Value) -> Result<(), NoMemory> {
+    fn put(&mut self, key: Key, value: Value, _hash: u32) -> Result<(), NoMemory> {
         match place_of(&self.entries, &key) {
             Ok(place) => {
                 self.entries[place].1 = value;
@@ -110,7 +101,7 @@ impl Bins for ListBins {
         }
     }
 
-    fn remove(&mut self, key: &Key) -> Option<Value> {
+    fn remove(&mut self, key: &Key, _hash: u32) -> Option<Value> {
         match place_of(&self.entries, key) {
             Ok(place) => Some(self.entries.remove(place).1),
             Err(_) => None,
@@ -125,6 +116,3 @@ impl Bins for ListBins {
         replace_values(&mut self.entries, program, arg)
     }
 }
-
-#[cfg(test)]
-mod tests;

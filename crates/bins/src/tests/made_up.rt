@@ -1,0 +1,99 @@
+//! Made-up calls over 2,000 keys, beside a plain list of what each key should have.
+ghost use Rattle.std.specs.Prelude.{◌<◌};
+
+use super::*;
+
+const KEYS: u32 = 2_000;
+
+// A linear congruential generator, with Knuth's multiplier and increment for 64 bits.
+#[derive(Drop)]
+struct MadeUp {
+    state: u64,
+}
+
+impl MadeUp {
+    // The next number below a bound.
+    fn below(&mut self, bound: u32) -> u32
+        requires { 0 < bound }
+        ensures { result < bound }
+    {
+        self.state = self
+            .state
+            .wrapping_mul(6_364_136_223_846_793_005)
+            .wrapping_add(1_442_695_040_888_963_407);
+        (self.state >> 33) as u32 % bound
+    }
+}
+
+// The value after a change: one byte longer, and empty after eight.
+fn changed(old: &Value) -> Result<Value, Fail> {
+    let bytes = [7; 8];
+    let long = (old.as_slice().len() + 1) % 9;
+    Ok(Value::from_slice(&bytes[..long])?)
+}
+
+// One call on a made-up key, in the bins and in the list; whether they agree on what it found.
+fn step<B: Bins>(
+    bins: &mut B,
+    list: &mut [Option<Value>],
+    made_up: &mut MadeUp,
+) -> Result<bool, Fail> {
+    let number = made_up.below(KEYS);
+    let key = Key::from_slice(&number.to_be_bytes())?;
+    let hash = hash_of(&key);
+    let Some(entry) = list.get_mut(number as usize) else {
+        return Ok(false);
+    };
+    match made_up.below(4) {
+        0 => {
+            let value = Value::from_slice(&made_up.below(KEYS).to_be_bytes())?;
+            *entry = Some(value.copied());
+            bins.put(key, value, hash)?;
+            Ok(true)
+        }
+        1 => Ok(bins.find(&key, hash) == entry.as_ref()),
+        2 => Ok(bins.remove(&key, hash) == entry.take()),
+        _ => match (bins.find_mut(&key, hash), entry) {
+            (Some(found), Some(value)) => {
+                let same = *found == *value;
+                *found = changed(value)?;
+                *value = found.copied();
+                Ok(same)
+            }
+            (found, wanted) => Ok(found.is_none() && wanted.is_none()),
+        },
+    }
+}
+
+// The entries that the list has, in key order.
+fn listed(alloc: Global, list: &[Option<Value>]) -> Result<Vec<(Key, Value)>, Fail> {
+    let mut entries = Vec::new(alloc);
+    for (number, value) in (0..KEYS).zip(list) {
+        if let Some(value) = value {
+            entries.push((Key::from_slice(&number.to_be_bytes())?, value.copied()))?;
+        }
+    }
+    Ok(entries)
+}
+
+// So many calls; whether bins and list agreed on each, and have the same entries in the end.
+fn agree<B: Bins + Drop>(alloc: Global, calls: u32) -> Result<bool, Fail> {
+    let mut bins = B::open(alloc, 1)?;
+    let mut list = Vec::new(alloc);
+    for _ in 0..KEYS {
+        list.push(None)?;
+    }
+    let mut made_up = MadeUp { state: 1 };
+    let mut same = true;
+    for _ in 0..calls {
+        same &= step(&mut bins, &mut list, &mut made_up)?;
+    }
+    Ok(same && bins.entries(alloc)?.as_slice() == listed(alloc, &list)?.as_slice())
+}
+
+#[test]
+fn made_up_calls_agree_with_a_list(rt: HostRuntime) -> Result<(), Fail> {
+    assert!(rt; agree::<HashedBins>(rt.alloc(), 100_000)?);
+    assert!(rt; agree::<ListBins>(rt.alloc(), 20_000)?);
+    Ok(())
+}
