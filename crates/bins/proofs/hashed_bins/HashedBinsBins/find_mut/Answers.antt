@@ -1,4 +1,4 @@
-use Rattle.std.proofs.Common.{◌≡◌, get_or, sym, ap, ◌∙◌, inl, inr}
+use Rattle.std.proofs.Common.{◌≡◌, sym, ap, ◌∙◌, inl, inr}
 use Rattle.std.specs.FinMap as map
 use Rattle.bins.specs.Table.{Table}
 use Rattle.bins.proofs.DistinctEntries.{get_here, get_none, written_hashes, written_distinct, written_table}
@@ -16,10 +16,9 @@ pub returns-in-Some : goal.returns-in-Some
 returns-in-Some c =
     let bound = rw c.deref.ensures.value at c.in-Some.ensures.bound in
     let found = rw c.deref.ensures.value at c.in-Some.ensures.found in
-    let here : c.index_mut.result.now ≡ get_or c.self.inside.entries.items c.in-Some.place c.index_mut.result.now = cc c.index_mut.ensures.value in
     let value = get_here _ _ _ c.index_mut.result.now c.self.invariant.1 bound found in (
-      λ i. inl (c.self-in-Some-1.given, λ w. (written_table _ _ w _ here _ c.self.invariant.1 bound found ∙ ap (λ (t : Table). map.insert t c.args.key.now w) c.self.view_is) i),
-      record { writes_back = tt; value = rw (← c.self.view_is) (cc (here, value)) },
+      λ i. inl (c.self-in-Some-1.given, λ w. (written_table _ _ w _ c.index_mut.ensures.value _ c.self.invariant.1 bound found ∙ ap (λ (t : Table). map.insert t c.args.key.now w) c.self.view_is) i),
+      record { writes_back = tt; value = rw (← c.self.view_is) (cc (c.index_mut.ensures.value, value)) },
     )
 
 -- the key has no value
