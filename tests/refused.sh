@@ -33,7 +33,8 @@ refuse_each() {
     echo "$1, $2: $requests requests"
 }
 
-refuse_each bins list_bins::tests::a_refused_put_leaves_the_entries
+refuse_each bins tests::a_refused_put_leaves_the_list
+refuse_each bins tests::a_refused_put_leaves_the_bins
 refuse_each atomic_methods tests::stripes::a_refused_call_leaves_the_table
 refuse_each atomic_methods tests::stripes::a_stopped_run_made_the_calls_that_were_replied_to
 refuse_each atomic_methods tests::stripes::a_refused_scan_leaves_the_table
