@@ -41,6 +41,9 @@ refuse_each atomic_methods tests::stripes::a_refused_scan_leaves_the_table
 refuse_each program_registry registry::tests::a_refused_program_comes_back
 refuse_each bin_stripes tests::rows::a_refused_call_changes_nothing
 refuse_each bulk_walks tests::refused::a_refused_walk_changes_nothing
+refuse_each client_protocol tests::streams::a_refused_piece_can_be_fed_again
+refuse_each map_server bpfmap::tests::refused_memory::a_refused_request_is_told
+refuse_each map_server bpfmap::tests::refused_memory::a_refused_request_leaves_the_table
 
 echo "refused: $passed passed, $failed failed"
 [ "$failed" = 0 ]
