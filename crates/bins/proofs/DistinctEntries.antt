@@ -272,11 +272,19 @@ module _ (es : List Entry) (i : ℕ) (d : Entry) (k : List ℕ) (h : Distinct es
       get-from_entries total _ q ∙ left_find which q ∙ ap (λ (xs : List Entry). cond (same_key q k) None (find by_bytes q xs)) (sym split)
       ∙ ap (cond (same_key q k) None) (sym (get-from_entries total es q)) ∙ sym (get-remove total (table_of es) k q))
 
--- the hashes lose the one of the entry that goes
-pub removed_hashes : (es : List Entry) (i : ℕ) (d : Entry) (n : ℕ) → i < length es → hashes_of (swap_remove es i d) ≡ swap_remove (hashes_of es) i n
-removed_hashes es i d n lt =
+-- the hashes lose the one of the entry that goes, where that is at the same place
+pub removed_hashes : (es : List Entry) (i j n : ℕ) (d : Entry) (hs new : List ℕ) → new ≡ swap_remove hs j n → hs ≡ hashes_of es → j ≡ i → i < length es → new ≡ hashes_of (swap_remove es i d)
+removed_hashes es i j n d hs new removed are same lt =
     let size : length (hashes_of es) ≡ length es = length-map es (λ (e : Entry). hash e.0) in
     let last : get_or (hashes_of es) (length es - 1) n ≡ hash (get_or es (length es - 1) d).0 = get_or-map (λ (e : Entry). hash e.0) es (length es - 1) d n (omega (arith, lt)) in
-    sym (take-map (λ (e : Entry). hash e.0) (length es - 1) (set es i (get_or es (length es - 1) d)))
-    ∙ ap (take (length es - 1)) (map-set (λ (e : Entry). hash e.0) es i (get_or es (length es - 1) d) ∙ ap (set (hashes_of es) i) (sym last))
-    ∙ ap (λ (m : ℕ). take (m - 1) (set (hashes_of es) i (get_or (hashes_of es) (m - 1) n))) (sym size)
+    removed ∙ ap (λ (xs : List ℕ). swap_remove xs j n) are ∙ ap (λ (m : ℕ). swap_remove (hashes_of es) m n) same
+    ∙ ap (λ (m : ℕ). take (m - 1) (set (hashes_of es) i (get_or (hashes_of es) (m - 1) n))) size
+    ∙ ap (take (length es - 1)) (ap (set (hashes_of es) i) last ∙ sym (map-set (λ (e : Entry). hash e.0) es i (get_or es (length es - 1) d)))
+    ∙ take-map (λ (e : Entry). hash e.0) (length es - 1) (set es i (get_or es (length es - 1) d))
+
+-- what holds at a place holds at the same place
+pub below_same : (i j n : ℕ) → i ≡ j → i < n → j < n
+below_same i j n same lt = omega (arith, same, lt)
+
+pub key_same : (es : List Entry) (k : List ℕ) (i j : ℕ) → i ≡ j → HasKey k es i → HasKey k es j
+key_same es k i j same = subst (HasKey k es) same

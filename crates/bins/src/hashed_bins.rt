@@ -3,6 +3,7 @@ ghost use Rattle.std.specs.Prelude.{◌≡◌, ◌≢◌, ◌<◌, length, Holds
 ghost use Rattle.std.specs.List.{AllWithin};
 ghost use Rattle.bins.specs.Hashes.{hash as hash_of};
 ghost use Rattle.bins.specs.Entries.{hashes_of};
+ghost use Rattle.bins.specs.Chains.{IsBinCount};
 
 use crate::bins::Bins;
 use crate::copies::copies_of;
@@ -57,8 +58,10 @@ fn place_of(index: &Index, entries: &[(Key, Value)], key: &Key, hash: u32) -> Op
 }
 
 impl HashedBins {
-    /// How many bins the index has. Takes no memory.
-    pub fn bins(&self) -> u64 {
+    /// How many bins the index has: a power of two from 8 to 65,536. Takes no memory.
+    pub fn bins(&self) -> u64
+        ensures count { IsBinCount result }
+    {
         self.index.bins()
     }
 }

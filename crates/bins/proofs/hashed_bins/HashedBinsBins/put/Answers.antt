@@ -1,10 +1,10 @@
-use Rattle.std.proofs.Common.{◌≡◌, ◌++◌, ◌∷◌, [], List, ℕ, sym, ap, ◌∙◌, subst}
+use Rattle.std.proofs.Common.{◌≡◌, ◌++◌, ◌∷◌, [], List, ℕ, arith, sym, ap, ◌∙◌, subst}
 use Rattle.std.specs.FinMap as map
 use Rattle.bins.specs.Hashes.{hash}
 use Rattle.bins.specs.Table.{Entry, Table}
 use Rattle.bins.specs.Entries.{Distinct, hashes_of}
 use Rattle.bins.proofs.MapEdits.{on_err_anyway}
-use Rattle.bins.proofs.DistinctEntries.{table_of, get_none, written_hashes, written_distinct, written_table, pushed_hashes, pushed_distinct, pushed_table}
+use Rattle.bins.proofs.DistinctEntries.{table_of, get_none, written_hashes, written_distinct, written_table, pushed_hashes, pushed_distinct, pushed_table, below_same, key_same}
 use Rattle.bins.proofs.hashed_bins.HashedBinsBins.put.Goals as goal
 
 -- the key was there, and its value is written over
@@ -18,7 +18,8 @@ pub returns-in-Some-clause-ok : goal.returns-in-Some-clause-ok
 returns-in-Some-clause-ok c =
     let bound = rw c.deref.ensures.value at c.in-Some.ensures.bound in
     let found = rw c.deref.ensures.value at c.in-Some.ensures.found in
-    let written = written_table _ _ c.set_from.new.self _ c.index_mut.ensures.value _ c.self.invariant.1 bound found in
+    let written = written_table _ _ c.set_from.new.self _ c.index_mut.ensures.value _ c.self.invariant.1
+    (below_same c.in-Some.place _ _ (omega arith) bound) (key_same _ _ c.in-Some.place _ (omega arith) found) in
     rw (← c.self.view_is) (written ∙ ap (λ (v : List ℕ). map.insert (table_of c.self.inside.entries.items) c.args.key v) (c.set_from.ensures ∙ c.as_slice.ensures.value))
 
 -- memory fails only for a key that was not there

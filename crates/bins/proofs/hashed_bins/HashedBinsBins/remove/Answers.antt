@@ -1,5 +1,4 @@
-use Rattle.std.proofs.Common.{◌≡◌, sym, ap, subst, ◌∙◌}
-use Rattle.std.specs.List.{swap_remove}
+use Rattle.std.proofs.Common.{arith, sym, ap, subst, ◌∙◌}
 use Rattle.std.specs.FinMap as map
 use Rattle.bins.specs.Entries.{Distinct, hashes_of}
 use Rattle.bins.proofs.MapEdits.{remove_absent}
@@ -12,8 +11,7 @@ invariant_of-self c =
     let bound = rw c.deref.ensures.value at c.in-Some.ensures.bound in
     let found = rw c.deref.ensures.value at c.in-Some.ensures.found in
     let items = c.swap_remove-in-Some.ensures.items in
-    let kept : c.swap_remove.new.self.hashes ≡ swap_remove (hashes_of c.self.inside.entries.items) c.in-Some.place 0 = cc (c.swap_remove.ensures.hashes, c.self.invariant.0) in
-    let hashes = kept ∙ sym (removed_hashes c.self.inside.entries.items c.in-Some.place c.swap_remove-in-Some.result 0 bound) ∙ ap hashes_of (sym items) in
+    let hashes = removed_hashes c.self.inside.entries.items c.in-Some.place _ _ c.swap_remove-in-Some.result _ _ c.swap_remove.ensures.hashes c.self.invariant.0 (omega arith) bound ∙ ap hashes_of (sym items) in
     (hashes, subst Distinct (sym items) (removed_distinct _ _ c.swap_remove-in-Some.result _ c.self.invariant.1 bound found))
 
 pub returns-in-Some-clause-value : goal.returns-in-Some-clause-value
