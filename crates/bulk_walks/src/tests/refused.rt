@@ -47,7 +47,8 @@ fn are_replies(
     counts: (u64, u64, u64),
 ) -> bool {
     match (first, second) {
-        (Ok(first), Ok(second)) => is_reply(first, items, counts) && is_reply(second, items, counts),
+        (Ok(first), Ok(second)) => is_reply(first, items, counts)
+            && is_reply(second, items, counts),
         (Ok(reply), Err(_)) | (Err(_), Ok(reply)) => is_reply(reply, items, counts),
         (Err(_), Err(_)) => false,
     }
@@ -64,17 +65,29 @@ fn a_refused_walk_changes_nothing(rt: HostRuntime) -> Result<(), Fail> {
     let items: [(&[u8], &[u8]); 2] = [(b"a", &TWO), (b"b", &THREE)];
     let (team, first) = for_each(&rt, alloc, &map, team, &program, &arg, 0, &OpenGate);
     let (team, second) = for_each(&rt, alloc, &map, team, &program, &arg, 0, &OpenGate);
-    assert!(rt; are_replies(&first, &second, &items, (3, 2, 1)), "a wrong list");
+    assert!(rt;
+        are_replies(&first, &second, &items, (3, 2, 1)),
+        "a wrong list"
+    );
     let (team, first) = search(&rt, alloc, &map, team, &program, &arg, 0, &OpenGate);
     let (team, second) = search(&rt, alloc, &map, team, &program, &arg, 0, &OpenGate);
-    assert!(rt; are_replies(&first, &second, &items[..1], (3, 1, 1)), "a wrong search");
+    assert!(rt;
+        are_replies(&first, &second, &items[..1], (3, 1, 1)),
+        "a wrong search"
+    );
     let (team, first) = mapping_count(&rt, alloc, &map, team, &OpenGate);
     let (team, second) = mapping_count(&rt, alloc, &map, team, &OpenGate);
-    assert!(rt; are_replies(&first, &second, &[], (3, 0, 0)), "a wrong count");
+    assert!(rt;
+        are_replies(&first, &second, &[], (3, 0, 0)),
+        "a wrong count"
+    );
     assert!(rt; have(&rt, &map, &mut pass, &ONE, &TWO), "changed entries");
     let (team, reply) = replace_all(&rt, alloc, &map, team, &program, &arg, &OpenGate);
     let (_, reply) = if reply.is_err() {
-        assert!(rt; have(&rt, &map, &mut pass, &ONE, &TWO), "a half replacement");
+        assert!(rt;
+            have(&rt, &map, &mut pass, &ONE, &TWO),
+            "a half replacement"
+        );
         replace_all(&rt, alloc, &map, team, &program, &arg, &OpenGate)
     } else {
         (team, reply)
