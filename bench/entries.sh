@@ -1,0 +1,27 @@
+#!/usr/bin/env bash
+# Times what is done to bins of many entries: nanoseconds a call, the median of five, the making of the key and its hash among
+# them ('nothing' is that alone). Then bytes an entry, where GNU time is there. By hand, not by the gate. It takes two minutes.
+source "$(dirname "$0")/common.sh" entries_bench
+
+side() { "$bench" "$@"; }
+
+# nanoseconds a call: the work, entries
+a_call() {
+    local rounds=$((2000000 / $2)) times
+    times=$(for _ in 1 2 3 4 5; do elapsed "$rounds" "$1" "$2"; done | sort -n)
+    echo $(($(sed -n 3p <<< "$times") / (rounds * $2)))
+}
+
+# the greatest number of KiB that the program had, with so many entries
+resident() { command time -f %M "$bench" nothing "$1" 0 2>&1 > "$work/out"; }
+
+for entries in 1000 100000 1000000; do
+    for name in nothing find change put remove; do
+        echo "$entries entries, $name: $(a_call $name $entries) ns"
+    done
+done
+if type -P time > /dev/null; then
+    for entries in 100000 1000000; do
+        echo "$entries entries: $((($(resident $entries) - $(resident 1)) * 1024 / entries)) bytes an entry"
+    done
+fi
