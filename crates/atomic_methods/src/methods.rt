@@ -30,9 +30,9 @@ pub fn apply<B: Bins>(bins: &mut B, call: &Call) -> Result<Reply, NoMemory>
     Ok(kind.with(bytes))
 }
 
-/// Makes one call, whose key has this hash, as `apply` does. Leaves the bytes of the replied value in `bytes`, so that no value is moved, and runs
-/// programs in `machine`, so that none is cleared; what both held is lost. One search serves a present key; a program runs
-/// before room is asked for.
+/// Makes one call, whose key has this hash, as `apply` does. Leaves the bytes of the replied value in `bytes`, so that no
+/// value is moved, and runs programs in `machine`, so that none is cleared; what both held is lost. One search serves a
+/// present key; a program runs before room is asked for.
 pub fn apply_into<B: Bins>(
     bins: &mut B,
     call: &Call,

@@ -9,8 +9,8 @@ use bpf_machine::{Machine, run_into};
 use bpf_model::{Key, Value, Window, fits_parts};
 use verifier::Verified;
 
-/// Runs the program on the key, its value and the argument, in a machine that is lent: whether it answers bytes, which are then in `answer`; an
-/// answer of nothing is `false`. The first window that is too small, where one is. Takes no memory.
+/// Runs the program on the key, its value and the argument, in a machine that is lent: whether it answers bytes, which are
+/// then in `answer`; an answer of nothing is `false`. The first window that is too small, where one is. Takes no memory.
 pub fn answer_into(
     program: &Verified,
     key: &Key,
