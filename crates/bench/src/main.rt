@@ -1,7 +1,8 @@
 //! Runs and verifies programs as often as it is told, to be timed from outside.
 //!
-//! `run NAME COUNT` and `into NAME COUNT` (the same into a kept value), `verify NAME COUNT` and `shape NAME COUNT` (what `verify` is handed, without `verify`); `call NAME
-//! COUNT` makes a call on a table; `hex NAME` prints a program's bytes. Without words it prints what each program answers.
+//! `run NAME COUNT` and `into NAME COUNT` (the same into a kept value), `verify NAME COUNT` and `shape NAME COUNT` (what
+//! `verify` is handed, without `verify`); `call NAME COUNT` makes a call on a table; `hex NAME` prints a program's bytes.
+//! Without words it prints what each program answers.
 #![tactic(auto)]
 
 mod calls;
