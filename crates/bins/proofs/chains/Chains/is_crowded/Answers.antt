@@ -6,5 +6,5 @@ use Rattle.bins.proofs.chains.Chains.is_crowded.Goals as goal
 pub returns-then-len : goal.returns-then-len
 returns-then-len c =
     let many : 2 * length c.args.self.now.heads.items < length c.args.self.now.hashes.items =
-        omega (arith, c.if-len.true, c.len.ensures, c.len-2.ensures, c.args.self.now.heads.ok.0, c.args.self.now.hashes.ok.0) in
+    omega (arith, c.if-len.true, c.len.ensures, c.len-2.ensures, c.args.self.now.heads.ok.0, c.args.self.now.hashes.ok.0) in
     first_of (search (rules, many), grind (arith, common_steps, many))
