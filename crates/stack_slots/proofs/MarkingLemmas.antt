@@ -18,7 +18,7 @@ use Rattle.stack_slots.specs.declared.reg_value.RegValue.{RegValue}
 use Rattle.stack_slots.specs.declared.reg_value.RegValue.TheVariants.{Unwritten}
 use Rattle.stack_slots.specs.Marks.{is_marked}
 use Rattle.stack_slots.specs.Accesses.{touches, touches_slot, fills_slot, is_stack}
-use Rattle.stack_slots.specs.Frames.{is_written, spilled_in, DescribesMemory, NoneUnwritten, Marks, MeetsMarks, IsSlotJoin, JoinsSlots, spilled_after}
+use Rattle.stack_slots.specs.Frames.{is_written, slot_in, spilled_in, DescribesMemory, NoneUnwritten, Marks, MeetsMarks, IsSlotJoin, JoinsSlots, spilled_after}
 use Rattle.stack_slots.proofs.MarkLemmas.{none_in_zeros}
 
 get_or-nones : (n k : ℕ) → ◌≡◌ {A = Option RegValue} (get_or (replicate n None) k None) None
@@ -26,8 +26,20 @@ get_or-nones zero k = refl
 get_or-nones (suc n) zero = refl
 get_or-nones (suc n) (suc k) = get_or-nones n k
 
+-- the first value that is kept stands alone
+pub kept_alone : (s : ℕ) (x : RegValue) → s < SLOTS → (i : ℕ) → slice_index_or (set (replicate SLOTS None) s (Some x)) i None ≡ (if nat_eq i s then Some x else None)
+kept_alone s x inside i =
+    elim (cases_eq i s) [
+      | inl here ↦ let same : nat_eq i s ≡ true = eq-eqb i s here in rw same (get_or-set_at (replicate SLOTS None) s i (Some x) None here inside)
+      | inr other ↦ let apart : nat_eq i s ≡ false = ne_eqb i s other in rw apart (get_or-set_other (replicate SLOTS None) s i (Some x) None other ∙ get_or-nones SLOTS i)
+    ]
+
+-- the values of a list
+abbrev pub Values : Type 0
+Values = Option (List (Option RegValue))
+
 abbrev pub empty_frame : Frame
-empty_frame = record { result = replicate RESULT_WORDS 0; stack = replicate STACK_WORDS 0; slots = replicate SLOTS None }
+empty_frame = record { result = replicate RESULT_WORDS 0; stack = replicate STACK_WORDS 0; slots = None }
 
 -- an empty frame has no byte as written
 pub empty_written : (r : Region) (i : ℕ) → is_written empty_frame r i ≡ false
@@ -41,7 +53,7 @@ empty_written Stack i = none_in_zeros STACK_WORDS i
 -- and no value
 empty_slots : (slot : ℕ) → spilled_in empty_frame slot ≡ None
 unfolding spilled_in
-empty_slots slot = get_or-nones SLOTS slot
+empty_slots slot = refl
 
 -- so it describes every memory
 pub empty_describes : (memory : Partial) → DescribesMemory empty_frame memory
@@ -83,7 +95,7 @@ meets_marks f g h result stack Arg i = refl
 meets_marks f g h result stack Result i = result i
 meets_marks f g h result stack Stack i = stack i
 
-pub joins_slots : (f g h : Frame) → ((i : ℕ) → IsSlotJoin (slice_index_or f.slots i None) (slice_index_or g.slots i None) (slice_index_or h.slots i None)) → JoinsSlots f g h
+pub joins_slots : (f g h : Frame) → ((i : ℕ) → IsSlotJoin (slot_in f.slots i) (slot_in g.slots i) (slot_in h.slots i)) → JoinsSlots f g h
 unfolding spilled_in
 joins_slots f g h each slot = each slot
 
@@ -98,33 +110,35 @@ touched_slots : (a : Access) (end slot : ℕ) → is_stack a.region ≡ true →
 touched_slots a end slot stack is =
     rw (stack, is) (ap (λ (t : Bool). t && nat_lt (8 * slot) (a.greatest + byte_count a.size)) (first_slot a.least slot) ∙ ap (λ (t : Bool). nat_le (a.least / 8) slot && t) (last_slot (a.greatest + byte_count a.size) slot))
 
--- a list of slots in which those that the access may touch are forgotten
-abbrev pub Forgets : Frame → Access → List (Option RegValue) → ℕ → Type 0
-Forgets f a slots end = (i : ℕ) → slice_index_or slots i None ≡ (if nat_le (a.least / 8) i && nat_lt i end then None else slice_index_or f.slots i None)
+-- slots in which those that the access may touch are forgotten
+abbrev pub Forgets : Frame → Access → Values → ℕ → Type 0
+Forgets f a slots end = (i : ℕ) → slot_in slots i ≡ (if nat_le (a.least / 8) i && nat_lt i end then None else slot_in f.slots i)
 
 -- what is left where the access fills no slot
-pub forgotten : (f : Frame) (a : Access) (x : RegValue) (slots : List (Option RegValue)) (end : ℕ) → is_stack a.region ≡ true → end ≡ div_ceil (a.greatest + byte_count a.size) 8 → Forgets f a slots end
-    → (slot : ℕ) → fills_slot a slot ≡ false → slice_index_or slots slot None ≡ spilled_after f a x slot
+pub forgotten : (f : Frame) (a : Access) (x : RegValue) (slots : Values) (end : ℕ) → is_stack a.region ≡ true → end ≡ div_ceil (a.greatest + byte_count a.size) 8 → Forgets f a slots end
+    → (slot : ℕ) → fills_slot a slot ≡ false → slot_in slots slot ≡ spilled_after f a x slot
 unfolding spilled_in
 forgotten f a x slots end stack is each slot none =
     let touched = touched_slots a end slot stack is in
     rw (none, touched) (each slot)
 
 -- and where it fills one
-pub stored : (f : Frame) (a : Access) (x : RegValue) (slots : List (Option RegValue)) (end s : ℕ) → is_stack a.region ≡ true → end ≡ div_ceil (a.greatest + byte_count a.size) 8 → Forgets f a slots end
-    → s < length slots → ((i : ℕ) → fills_slot a i ≡ nat_eq i s) → (slot : ℕ) → slice_index_or (set slots s (Some x)) slot None ≡ spilled_after f a x slot
-stored f a x slots end s stack is each inside fills slot =
+pub stored : (f : Frame) (a : Access) (x : RegValue) (slots after : Values) (end s : ℕ) → is_stack a.region ≡ true → end ≡ div_ceil (a.greatest + byte_count a.size) 8 → Forgets f a slots end
+    → ((i : ℕ) → slot_in after i ≡ (if nat_eq i s then Some x else slot_in slots i)) → ((i : ℕ) → fills_slot a i ≡ nat_eq i s) → (slot : ℕ) → slot_in after slot ≡ spilled_after f a x slot
+stored f a x slots after end s stack is each kept fills slot =
     elim (cases_eq slot s) [
       | inl here ↦
           let all : fills_slot a slot ≡ true = fills slot ∙ eq-eqb slot s here in
-          rw all (get_or-set_at slots s slot (Some x) None here inside)
+          let same : nat_eq slot s ≡ true = eq-eqb slot s here in
+          rw all (kept slot ∙ ap (λ (t : Bool). if t then Some x else slot_in slots slot) same)
       | inr other ↦
           let not_all : fills_slot a slot ≡ false = fills slot ∙ ne_eqb slot s other in
-          get_or-set_other slots s slot (Some x) None other ∙ forgotten f a x slots end stack is each slot not_all
+          let apart : nat_eq slot s ≡ false = ne_eqb slot s other in
+          kept slot ∙ ap (λ (t : Bool). if t then Some x else slot_in slots slot) apart ∙ forgotten f a x slots end stack is each slot not_all
     ]
 
 -- slots do not matter to marks
-pub marks_alone : (f : Frame) (slots : List (Option RegValue)) (r : Region) (i : ℕ) → is_written (record { result = f.result; stack = f.stack; slots = slots }) r i ≡ is_written f r i
+pub marks_alone : (f : Frame) (slots : Values) (r : Region) (i : ℕ) → is_written (record { result = f.result; stack = f.stack; slots = slots }) r i ≡ is_written f r i
 unfolding is_written
 marks_alone f slots Key i = refl
 marks_alone f slots Old i = refl
@@ -140,11 +154,6 @@ value_found f a s (Some x) fills e = (s, (fills s ∙ eq-eqb s s refl, e))
 pub value_missing : (f : Frame) (a : Access) (s : ℕ) (o : Option RegValue) → ((i : ℕ) → fills_slot a i ≡ nat_eq i s) → spilled_in f s ≡ o → IfNone o ((slot : ℕ) → fills_slot a slot ≡ true → spilled_in f slot ≡ None)
 value_missing f a s None fills e = λ slot all. let here : slot ≡ s = eqb-true slot s (sym (fills slot) ∙ all) in rw here e
 value_missing f a s (Some x) fills e = search rules
-
--- the value of a slot of a frame
-pub spilled_at : (f : Frame) (s : ℕ) (d : Option RegValue) → s < length f.slots → spilled_in f s ≡ get_or f.slots s d
-unfolding spilled_in
-spilled_at f s d inside = get_or_default f.slots s None d inside
 
 -- marks that are set after slots were
 pub marks_after : (f g h : Frame) (a : Access) → ((r : Region) (i : ℕ) → is_written g r i ≡ is_written f r i) → Marks g a h → Marks f a h

@@ -1,5 +1,5 @@
 -- What a frame knows, and which memories it describes. This verifier's own.
-use Rattle.std.specs.Prelude.{◌≡◌, ◌≢◌, ℕ, ◌+◌, ◌*◌, ◌<◌, ◌≤◌, Bool, true, false, ◌&&◌, ◌||◌, Option, Some, None, IsSome, nat_eq, slice_index_or, if◌then◌else◌}
+use Rattle.std.specs.Prelude.{◌≡◌, ◌≢◌, ℕ, ◌+◌, ◌*◌, ◌<◌, ◌≤◌, Bool, true, false, ◌&&◌, ◌||◌, List, Option, Some, None, IsSome, nat_eq, slice_index_or, if◌then◌else◌}
 use Rattle.std.specs.Option.{option_map}
 use Rattle.bpf_model.specs.declared.region.Region.{Region}
 use Rattle.bpf_model.specs.declared.region.Region.TheVariants.{Key, Old, Arg, Result, Stack}
@@ -24,9 +24,14 @@ is_written f Arg i = false
 is_written f Result i = is_marked f.result i
 is_written f Stack i = is_marked f.stack i
 
+-- the value of a slot; none where no value was spilled to any
+abbrev pub slot_in : Option (List (Option RegValue)) → ℕ → Option RegValue
+slot_in None slot = None
+slot_in (Some values) slot = slice_index_or values slot None
+
 -- the value that was spilled to the stack's slot and is there still
 unfoldable pub spilled_in : Frame → ℕ → Option RegValue
-spilled_in f slot = slice_index_or f.slots slot None
+spilled_in f slot = slot_in f.slots slot
 
 -- the word of the eight bytes of the stack's slot, where each is present
 abbrev pub slot_word : Partial → ℕ → Option ℕ

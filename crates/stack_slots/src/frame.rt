@@ -6,11 +6,11 @@ ghost use Rattle.bpf_model.specs.Memory.{Partial};
 ghost use Rattle.stack_slots.specs.Accesses.{fills_slot};
 ghost use Rattle.stack_slots.specs.Frames.{is_written, spilled_in, DescribesMemory, NoneUnwritten, AreWritten, KeepsMarks, Marks, Spills, DescribesStore, FindsLoaded, Reloads, LoadsNumber, MeetsMarks, JoinsSlots, DescribesMore};
 
-use crate::access::{Access, SLOT_BYTES, SLOTS};
+use crate::access::{Access, SLOT_BYTES};
 use crate::loads::loadable;
 use crate::marks::{WORD_BITS, are_marked, keep_common, mark, prefix};
 use crate::reg_value::RegValue;
-use crate::slots::{forget, join_each};
+use crate::slots::{Slots, copy, forget, join_slots, keep, value_of};
 use bpf_model::Region;
 use bpf_model::limits::{STACK_BYTES, VALUE_BYTES};
 
@@ -26,7 +26,7 @@ const STACK_WORDS: usize = STACK_BYTES / WORD_BITS;
 pub struct Frame {
     result: [u64; RESULT_WORDS],
     stack: [u64; STACK_WORDS],
-    slots: [Option<RegValue>; SLOTS],
+    slots: Slots,
 }
 
 // A frame with a value for each of the eleven registers fits in four pages of 1,024 bytes.
@@ -42,7 +42,7 @@ impl Frame {
         Frame {
             result: [0; RESULT_WORDS],
             stack: [0; STACK_WORDS],
-            slots: [None; SLOTS],
+            slots: None,
         }
     }
 
@@ -63,7 +63,7 @@ impl Frame {
     {
         self.result = other.result;
         self.stack = other.stack;
-        self.slots = other.slots;
+        copy(&mut self.slots, &other.slots);
     }
 
     /// The frame after a store of a word for which the value stands. The bytes become written where their place is one
@@ -95,7 +95,7 @@ impl Frame {
         let past = (access.greatest + access.size.bytes()).div_ceil(SLOT_BYTES);
         forget(&mut self.slots, first, past);
         if let Some(slot) = access.filled_slot() {
-            self.slots[slot] = Some(*value);
+            keep(&mut self.slots, slot, *value);
         }
     }
 
@@ -138,7 +138,7 @@ impl Frame {
             → spilled_in self.now slot ≡ None) }
     {
         let slot = access.filled_slot()?;
-        self.slots[slot]
+        value_of(&self.slots, slot)
     }
 
     fn are_written(&self, access: &Access) -> bool
@@ -176,7 +176,7 @@ impl Frame {
     {
         keep_common(&mut self.result, &other.result);
         keep_common(&mut self.stack, &other.stack);
-        join_each(&mut self.slots, &other.slots);
+        join_slots(&mut self.slots, &other.slots);
     }
 
     /// The greatest n such that the first n bytes of the result were written. Takes no memory.

@@ -1,11 +1,38 @@
 //! Values that were spilled to the stack's slots.
-ghost use Rattle.std.specs.Prelude.{◌≡◌, ◌≤◌, ◌<◌, ◌&&◌, ℕ, None, length, nat_le, nat_lt, slice_index_or, if◌then◌else◌};
-ghost use Rattle.stack_slots.specs.Frames.{IsSlotJoin};
+ghost use Rattle.std.specs.Prelude.{◌≡◌, ◌≤◌, ◌<◌, ◌&&◌, ℕ, Some, None, length, nat_eq, nat_le, nat_lt, slice_index_or, if◌then◌else◌};
+ghost use Rattle.stack_slots.specs.declared.access.TheConstants.{SLOTS as SlotCount};
+ghost use Rattle.stack_slots.specs.Frames.{IsSlotJoin, slot_in};
 
+use crate::access::SLOTS;
 use crate::reg_value::RegValue;
 
+/// For each slot of the stack the value that was spilled to it. There are none while no value was spilled, so that a copy
+/// or a join of such slots costs nothing.
+pub(crate) type Slots = Option<[Option<RegValue>; SLOTS]>;
+
+/// Becomes a copy of other slots, in place.
+pub(crate) fn copy(slots: &mut Slots, other: &Slots)
+    ensures value { slots.new ≡ other.now }
+{
+    match other {
+        Some(values) => *slots = Some(*values),
+        None => *slots = None,
+    }
+}
+
 /// Forgets the values of the slots from `first` to below `end`.
-pub(crate) fn forget(slots: &mut [Option<RegValue>], first: usize, end: usize)
+pub(crate) fn forget(slots: &mut Slots, first: usize, end: usize)
+    requires order { first ≤ end }
+    requires inside { end ≤ SlotCount }
+    ensures exact { (i : ℕ) → slot_in slots.new i
+        ≡ (if nat_le first i && nat_lt i end then None else slot_in slots.old i) }
+{
+    if let Some(values) = slots {
+        forget_each(values, first, end);
+    }
+}
+
+fn forget_each(slots: &mut [Option<RegValue>], first: usize, end: usize)
     requires order { first ≤ end }
     requires inside { end ≤ length slots.old }
     ensures exact { (i : ℕ) → slice_index_or slots.new i None
@@ -14,8 +41,49 @@ pub(crate) fn forget(slots: &mut [Option<RegValue>], first: usize, end: usize)
     slots[first..end].fill(None);
 }
 
+/// Keeps a value in a slot.
+pub(crate) fn keep(slots: &mut Slots, slot: usize, value: RegValue)
+    requires inside { slot < SlotCount }
+    ensures exact { (i : ℕ) → slot_in slots.new i
+        ≡ (if nat_eq i slot then Some value else slot_in slots.old i) }
+{
+    match slots {
+        Some(values) => values[slot] = Some(value),
+        None => {
+            let mut values = [None; SLOTS];
+            values[slot] = Some(value);
+            *slots = Some(values);
+        }
+    }
+}
+
+/// The value of a slot.
+pub(crate) fn value_of(slots: &Slots, slot: usize) -> Option<RegValue>
+    requires inside { slot < SlotCount }
+    ensures value { result ≡ slot_in slots.now slot }
+{
+    match slots {
+        Some(values) => values[slot],
+        None => None,
+    }
+}
+
 /// Joins the values of each slot; none is left where one side has none.
-pub(crate) fn join_each(slots: &mut [Option<RegValue>], other: &[Option<RegValue>])
+pub(crate) fn join_slots(slots: &mut Slots, other: &Slots)
+    ensures exact { (i : ℕ) → IsSlotJoin (slot_in slots.old i) (slot_in other.now i)
+        (slot_in slots.new i) }
+{
+    match other {
+        Some(others) => {
+            if let Some(values) = slots {
+                join_each(values, others);
+            }
+        }
+        None => *slots = None,
+    }
+}
+
+fn join_each(slots: &mut [Option<RegValue>], other: &[Option<RegValue>])
     requires same { length slots.old ≡ length other.now }
     ensures exact { (i : ℕ) → IsSlotJoin (slice_index_or slots.old i None)
         (slice_index_or other.now i None) (slice_index_or slots.new i None) }

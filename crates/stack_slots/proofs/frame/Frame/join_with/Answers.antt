@@ -6,7 +6,7 @@ pub returns-clause-marks : goal.returns-clause-marks
 returns-clause-marks c = meets_marks c.args.self.now c.args.other.now _ c.keep_common.ensures.exact c.keep_common-2.ensures.exact
 
 pub returns-clause-slots : goal.returns-clause-slots
-returns-clause-slots c = joins_slots c.args.self.now c.args.other.now _ c.join_each.ensures.exact
+returns-clause-slots c = joins_slots c.args.self.now c.args.other.now _ c.join_slots.ensures.exact
 
 pub returns-clause-first : goal.returns-clause-first
 returns-clause-first c = join_describes_first c.args.self.now c.args.other.now _ (returns-clause-marks c) (returns-clause-slots c)

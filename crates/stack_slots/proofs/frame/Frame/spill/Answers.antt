@@ -1,4 +1,4 @@
-use Rattle.std.proofs.Common.{◌≡◌, ◌<◌, length, true, ap, arith}
+use Rattle.std.proofs.Common.{◌≡◌, true, ap, arith}
 use Rattle.stack_slots.specs.Accesses.{is_stack}
 use Rattle.stack_slots.specs.Frames.{spilled_in}
 use Rattle.stack_slots.proofs.MarkingLemmas.{marks_alone, forgotten, stored}
@@ -13,8 +13,7 @@ unfolding spilled_in
 returns-in-Some-clause-slots c =
     let a = c.args.access.now in
     let stack : is_stack a.region ≡ true = elim c.match-matches.branch [ in-Stack w ↦ ap is_stack w.in-Stack.is | in_default w ↦ absurd cc ] in
-    let inside : c.in-Some.slot < length c.forget.new.slots = omega (arith, c.in-Some.ensures.inside) in
-    stored c.args.self.now a c.args.value.now c.forget.new.slots c.div_ceil-past.result c.in-Some.slot stack (omega arith) c.forget.ensures.exact inside c.in-Some.ensures.fills
+    stored c.args.self.now a c.args.value.now c.forget.new.slots c.keep.new.slots c.div_ceil-past.result c.in-Some.slot stack (omega arith) c.forget.ensures.exact c.keep.ensures.exact c.in-Some.ensures.fills
 
 pub returns-in_default-filled_slot-clause-written : goal.returns-in_default-filled_slot-clause-written
 returns-in_default-filled_slot-clause-written c = marks_alone c.args.self.now _
