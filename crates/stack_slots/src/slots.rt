@@ -16,7 +16,16 @@ pub(crate) fn copy(slots: &mut Slots, other: &Slots)
 {
     match other {
         Some(values) => *slots = Some(*values),
-        None => *slots = None,
+        None => forget_all(slots),
+    }
+}
+
+// Writing None writes all the room of the values, so it is done only where there are some.
+fn forget_all(slots: &mut Slots)
+    ensures value { slots.new ≡ None }
+{
+    if slots.is_some() {
+        *slots = None;
     }
 }
 
@@ -79,7 +88,7 @@ pub(crate) fn join_slots(slots: &mut Slots, other: &Slots)
                 join_each(values, others);
             }
         }
-        None => *slots = None,
+        None => forget_all(slots),
     }
 }
 
