@@ -13,6 +13,8 @@ mod entry;
 mod place;
 mod registers;
 
+pub use branches::Side;
+
 use crate::arithmetic::{moved, operate};
 use crate::fault::StepFault;
 use bpf_model::{AluOp, ByteOrder, Insn, Operand, Reg, SignExtension, Sizes, SwapWidth, Width};

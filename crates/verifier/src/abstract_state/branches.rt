@@ -2,7 +2,8 @@
 ghost use Rattle.std.specs.Prelude.{◌≡◌, ◌≢◌, ℕ, IsOk, IfOk, length, slice_index_or};
 ghost use Rattle.bpf_model.specs.declared.instruction.Operand.TheVariants.{Register as TheRegister};
 ghost use Rattle.stack_slots.specs.declared.reg_value.RegValue.TheVariants.{Unwritten};
-ghost use Rattle.verifier.specs.Describes.{Assumes, Narrows, Includes};
+ghost use Rattle.value_ranges.specs.In.{AreInSome, KeepsPairs};
+ghost use Rattle.verifier.specs.Describes.{lies_on, Assumes, Narrows, Includes};
 ghost use Rattle.stack_slots.specs.Values.{IsJoin};
 ghost use Rattle.verifier.specs.Joins.{register as known, JoinsStates, KeepsCommon};
 ghost use Rattle.verifier.specs.Changes.{OnlyNarrows};
@@ -11,18 +12,27 @@ use super::AbstractState;
 use crate::fault::StepFault;
 use bpf_model::{Condition, Operand, Reg, Width};
 use stack_slots::RegValue;
-use value_ranges::{Range, refine};
+use value_ranges::{Range, join, refine};
+
+/// A side of a condition, on which a run may go on.
+#[derive(Clone, Copy, Debug, PartialEq, Eq)]
+pub enum Side {
+    /// Where the condition holds.
+    Holding(Condition),
+    /// Where it holds, and where it does not.
+    Either(Condition),
+}
 
 impl AbstractState {
-    /// Goes on to what is known where a condition holds of two operands; false where it holds in no state.
+    /// Goes on to what is known of two operands on a side of a condition; false where no state is on that side.
     pub fn assume(
         &mut self,
-        condition: Condition,
+        side: Side,
         width: Width,
         dst: Reg,
         src: Operand,
     ) -> Result<bool, StepFault>
-        ensures ok { IfOk result (λ any. Assumes self.old condition width dst src any self.new) }
+        ensures ok { IfOk result (λ any. Assumes self.old side width dst src any self.new) }
         ensures changes { OnlyNarrows self.old self.new }
         ensures enough { known self.old dst ≢ Unwritten
             → ((r : ℕ) → src ≡ TheRegister r → known self.old r ≢ Unwritten) → IsOk result }
@@ -32,7 +42,7 @@ impl AbstractState {
         if src == Operand::Register(dst) {
             return Ok(true);
         }
-        let Some((a, b)) = refine(condition, width, a, b) else {
+        let Some((a, b)) = narrowed(side, width, a, b) else {
             return Ok(false);
         };
         self.narrow(dst, a);
@@ -62,6 +72,31 @@ impl AbstractState {
     {
         join_registers(&mut self.registers, &other.registers);
         self.frame.join_with(&other.frame);
+    }
+}
+
+// the ranges of the words on a side of a condition; none where no pair of words is on it
+fn narrowed(side: Side, width: Width, a: Range, b: Range) -> Option<(Range, Range)>
+    ensures { KeepsPairs (lies_on side width) a b result }
+{
+    match side {
+        Side::Holding(condition) => refine(condition, width, a, b),
+        Side::Either(condition) => either(
+            refine(condition, width, a, b),
+            refine(condition.opposite(), width, a, b),
+        ),
+    }
+}
+
+// the ranges of the words that are in the ones or in the others
+fn either(one: Option<(Range, Range)>, other: Option<(Range, Range)>) -> Option<(Range, Range)>
+    ensures first { (x y : ℕ) → AreInSome x y one → AreInSome x y result }
+    ensures second { (x y : ℕ) → AreInSome x y other → AreInSome x y result }
+{
+    match (one, other) {
+        (Some((a, b)), Some((c, d))) => Some((join(a, c), join(b, d))),
+        (Some(pair), None) => Some(pair),
+        (None, other) => other,
     }
 }
 
