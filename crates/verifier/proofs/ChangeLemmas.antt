@@ -2,7 +2,7 @@
 use Rattle.std.proofs.Common.{◌≡◌, ◌≢◌, ℕ, ◌+◌, ◌<◌, ◌≤◌, ◌^◌, ◌⊎◌, true, List, length, inl, inr, Some, refl, None, sym, subst, ap, ◌∙◌, arith, SFits, ℤ, pos, negsuc}
 use Rattle.std.specs.Prelude.{◌+ℤ◌, slice_index_or, slice_set}
 use Rattle.std.specs.Int.{w32, w64}
-use Rattle.std.proofs.lemmas.List.{get_or-set_same, get_or-set_other}
+use Rattle.std.proofs.lemmas.List.{get_or-set_same, get_or-set_other, length-set, ext_get_or}
 use Rattle.std.proofs.lemmas.Int.{ints, to_z-of_z}
 use Rattle.bpf_model.specs.declared.input.Sizes.{Sizes}
 use Rattle.bpf_model.specs.declared.region.Region.{Region}
@@ -189,3 +189,22 @@ narrows_then a b d first second = record {
   registers = λ r. narrowed_then (register a r) (register b r) (register d r) (first.registers r) (second.registers r);
   frame = second.frame ∙ first.frame;
 }
+
+-- a state whose narrowed registers are put back
+pub put_back : (before a : AbstractState) (d p : ℕ) (x y : RegValue) → length a.registers ≡ length before.registers → d < length a.registers → p < length a.registers → x ≡ register before d → y ≡ register before p → a.frame ≡ before.frame → ((r : ℕ) → r ≢ d → r ≢ p → register a r ≡ register before r)
+    → ◌≡◌ {A = AbstractState} (record { registers = slice_set (slice_set a.registers p y) d x; frame = a.frame }) before
+put_back before a d p x y long in_d in_p is_x is_y frame others =
+    let once = slice_set a.registers p y in
+    let lengths : length once ≡ length a.registers = length-set a.registers p y in
+    let lengths_too : length (slice_set once d x) ≡ length once = length-set once d x in
+    let same : slice_set once d x ≡ before.registers = ext_get_or Unwritten (slice_set once d x) before.registers (lengths_too ∙ lengths ∙ long) (λ r inside. elim (decide r d) [
+      | inl is ↦ rw is (get_or-set_same once d x Unwritten (omega (arith, lengths, in_d)) ∙ is_x)
+      | inr apart ↦ get_or-set_other once d r x Unwritten apart ∙ (elim (decide r p) [
+        | inl is ↦ rw is (get_or-set_same a.registers p y Unwritten in_p ∙ is_y)
+        | inr apart_too ↦ get_or-set_other a.registers p r y Unwritten apart_too ∙ others r apart apart_too
+      ])
+    ]) in
+    rw (same, frame) refl
+  where
+    decide : (r n : ℕ) → (r ≡ n) ⊎ (r ≢ n)
+    decide r n = grind arith

@@ -7,6 +7,7 @@ use Rattle.bpf_model.specs.declared.region.Region.TheVariants.{Key, Old, Arg, Re
 use Rattle.bpf_model.specs.declared.operations.AluOp.TheVariants.{Add, And}
 use Rattle.bpf_model.specs.declared.operations.Width.TheVariants.{W64}
 use Rattle.bpf_model.specs.declared.accesses.AccessSize.{AccessSize}
+use Rattle.bpf_model.specs.declared.instruction.Operand.{Operand}
 use Rattle.bpf_model.specs.declared.instruction.Operand.TheVariants.{Register, Immediate}
 use Rattle.bpf_model.specs.declared.instruction.Insn.{Insn}
 use Rattle.bpf_model.specs.declared.instruction.Insn.TheVariants.{Alu, Mov, Exit}
@@ -64,6 +65,15 @@ IsNarrowed (PointerInto p) y = y ≡ PointerInto p
 pub record OnlyNarrows (a b : AbstractState) : Type 0 where
   pub registers : (r : ℕ) → IsNarrowed (register a r) (register b r)
   pub frame : b.frame ≡ a.frame
+
+-- the register of a condition's second operand; that of the first where it is none
+abbrev pub source_of : ℕ → Operand → ℕ
+source_of dst (Register r) = r
+source_of dst (Immediate k) = dst
+
+-- of all registers but those of the operands the same is known
+abbrev pub KeepsOthers : AbstractState → ℕ → Operand → AbstractState → Type 0
+KeepsOthers a dst src b = (r : ℕ) → r ≢ dst → r ≢ source_of dst src → register b r ≡ register a r
 
 -- what is known at entry: where the registers point, and what the lengths may be
 pub record IsEntry (sizes : Sizes) (a : AbstractState) : Type 0 where

@@ -4,7 +4,7 @@ ghost use Rattle.bpf_model.specs.declared.input.Sizes.{Sizes as DeclaredSizes};
 ghost use Rattle.bpf_model.specs.declared.instruction.Insn.TheVariants.{Alu, Negate, Mov, SignExtend, Reorder};
 ghost use Rattle.bpf_model.specs.Fits.{AreWithinLimits};
 ghost use Rattle.verifier.specs.Describes.{Leads, goes_straight};
-ghost use Rattle.verifier.specs.Changes.{Changes, OnlyNarrows, Suffices};
+ghost use Rattle.verifier.specs.Changes.{Changes, Suffices};
 ghost use Rattle.verifier.specs.Windows.{LiesIn, window_of};
 
 mod accesses;
@@ -13,7 +13,7 @@ mod entry;
 mod place;
 mod registers;
 
-pub use branches::Side;
+pub use branches::{Operands, Side};
 
 use crate::arithmetic::{moved, operate};
 use crate::fault::StepFault;
@@ -45,21 +45,6 @@ impl AbstractState {
     {
         self.registers = other.registers;
         self.frame.copy_from(&other.frame);
-    }
-
-    /// What is known of the registers.
-    pub fn registers(&self) -> [RegValue; 11]
-        ensures value { result ≡ self.now.registers }
-    {
-        self.registers
-    }
-
-    /// Goes back to what was known before conditions narrowed it, which leave all but the registers as it was.
-    pub fn put_back(&mut self, registers: [RegValue; 11])
-        ensures back { (before : AbstractState) → registers ≡ before.registers
-            → OnlyNarrows before self.old → self.new ≡ before }
-    {
-        self.registers = registers;
     }
 
     /// Tests an instruction after which a run goes on at the next one, and goes on to what is known there. Faults are

@@ -6,7 +6,7 @@ ghost use Rattle.value_ranges.specs.In.{AreInSome, KeepsPairs};
 ghost use Rattle.verifier.specs.Describes.{lies_on, Assumes, Narrows, Includes};
 ghost use Rattle.stack_slots.specs.Values.{IsJoin};
 ghost use Rattle.verifier.specs.Joins.{register as known, JoinsStates, KeepsCommon};
-ghost use Rattle.verifier.specs.Changes.{OnlyNarrows};
+ghost use Rattle.verifier.specs.Changes.{source_of, KeepsOthers, OnlyNarrows};
 
 use super::AbstractState;
 use crate::fault::StepFault;
@@ -23,7 +23,36 @@ pub enum Side {
     Either(Condition),
 }
 
+/// What is known of the registers of a condition's operands; of the first one twice where the second is no register.
+#[derive(Clone, Copy, Debug, PartialEq, Eq)]
+pub struct Operands {
+    dst: RegValue,
+    src: RegValue,
+}
+
 impl AbstractState {
+    /// What is known of the only registers that a condition of these operands narrows.
+    pub fn operands(&self, dst: Reg, src: Operand) -> Operands
+        ensures dst { result.dst ≡ known self.now dst }
+        ensures src { result.src ≡ known self.now (source_of dst src) }
+    {
+        Operands {
+            dst: self.registers[dst.number() as usize],
+            src: self.registers[source(dst, src).number() as usize],
+        }
+    }
+
+    /// Goes back to what was known before a condition of these operands narrowed it.
+    pub fn put_back(&mut self, dst: Reg, src: Operand, operands: Operands)
+        ensures back { (before : AbstractState) → length before.registers ≡ 11
+            → operands.dst ≡ known before dst → operands.src ≡ known before (source_of dst src)
+            → OnlyNarrows before self.old → KeepsOthers before dst src self.old
+            → self.new ≡ before }
+    {
+        self.registers[source(dst, src).number() as usize] = operands.src;
+        self.registers[dst.number() as usize] = operands.dst;
+    }
+
     /// Goes on to what is known of two operands on a side of a condition; false where no state is on that side.
     pub fn assume(
         &mut self,
@@ -34,6 +63,7 @@ impl AbstractState {
     ) -> Result<bool, StepFault>
         ensures ok { IfOk result (λ any. Assumes self.old side width dst src any self.new) }
         ensures changes { OnlyNarrows self.old self.new }
+        ensures others { KeepsOthers self.old dst src self.new }
         ensures enough { known self.old dst ≢ Unwritten
             → ((r : ℕ) → src ≡ TheRegister r → known self.old r ≢ Unwritten) → IsOk result }
     {
@@ -56,6 +86,7 @@ impl AbstractState {
     fn narrow(&mut self, register: Reg, range: Range)
         ensures narrows { Narrows self.old register range self.new }
         ensures changes { OnlyNarrows self.old self.new }
+        ensures others { (r : ℕ) → r ≢ register → known self.new r ≡ known self.old r }
     {
         let value = &mut self.registers[register.number() as usize];
         if let RegValue::Number(_) = value {
@@ -72,6 +103,16 @@ impl AbstractState {
     {
         join_registers(&mut self.registers, &other.registers);
         self.frame.join_with(&other.frame);
+    }
+}
+
+// the register of the second operand; that of the first where it is none
+fn source(dst: Reg, src: Operand) -> Reg
+    ensures value { result ≡ source_of dst src }
+{
+    match src {
+        Operand::Register(register) => register,
+        Operand::Immediate(_) => dst,
     }
 }
 
