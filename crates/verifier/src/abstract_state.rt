@@ -13,11 +13,10 @@ mod entry;
 mod place;
 mod registers;
 
-pub use branches::{Operands, Side};
-
 use crate::arithmetic::{moved, operate};
 use crate::fault::StepFault;
 use bpf_model::{AluOp, ByteOrder, Insn, Operand, Reg, SignExtension, Sizes, SwapWidth, Width};
+pub use branches::{Operands, Side};
 use stack_slots::{Frame, RegValue};
 use value_ranges::{Range, negate, reorder, sign_extend};
 
