@@ -58,7 +58,7 @@ impl StripedMap {
     }
 }
 
-// The seat comes to carry what both carried, and the other is spent.
+// Gives the seat what both carried, and spends the other.
 fn unite<B: Bins + Drop>(table: &Stripes<B>, seat: &mut Stand<B>, other: Stand<B>)
     requires table { (seat.old.table_id ≡ table.now.table_id) × (other.table_id ≡ table.now.table_id)
         × (0 < table.now.table_id.words) }

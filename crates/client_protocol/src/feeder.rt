@@ -29,7 +29,7 @@ struct Taken {
     fault: Option<ProtocolFault>,
 }
 
-// The bytes become these. Asks for memory where there is no room for them.
+// Copies these bytes over the others. Asks for memory where there is no room for them.
 fn replace(bytes: &mut BytesMut, by: &[u8]) -> Result<(), NoMemory>
     ensures ok { IfOk result (λ _. bytes.new.items ≡ by.now) }
     ensures err { OnErr result (bytes.new.items ≡ bytes.old.items) }
