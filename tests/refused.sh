@@ -38,17 +38,17 @@ refuse_each() {
     echo "$1, $2: $((number - 1)) requests"
 }
 
-refuse_each bins tests::a_refused_put_leaves_the_list
-refuse_each bins tests::a_refused_put_leaves_the_bins
-refuse_each atomic_methods tests::stripes::a_refused_call_leaves_the_table
-refuse_each atomic_methods tests::stripes::a_stopped_run_made_the_calls_that_were_replied_to
-refuse_each atomic_methods tests::stripes::a_refused_scan_leaves_the_table
-refuse_each program_registry registry::tests::a_refused_program_comes_back
-refuse_each bin_stripes tests::rows::a_refused_call_changes_nothing
-refuse_each bulk_walks tests::refused::a_refused_walk_changes_nothing
-refuse_each client_protocol tests::streams::a_refused_piece_can_be_fed_again
-refuse_each map_server bpfmap::tests::refused_memory::a_refused_request_is_told
-refuse_each map_server bpfmap::tests::refused_memory::a_refused_request_leaves_the_table
+refuse_each map_tests entries::a_refused_put_leaves_the_list
+refuse_each map_tests entries::a_refused_put_leaves_the_bins
+refuse_each map_tests calls::stripes::a_refused_call_leaves_the_table
+refuse_each map_tests calls::stripes::a_stopped_run_made_the_calls_that_were_replied_to
+refuse_each map_tests calls::stripes::a_refused_scan_leaves_the_table
+refuse_each map_tests registry::a_refused_program_comes_back
+refuse_each map_tests passes::rows::a_refused_call_changes_nothing
+refuse_each map_tests walks::refused::a_refused_walk_changes_nothing
+refuse_each session_tests frames::streams::a_refused_piece_can_be_fed_again
+refuse_each session_tests bpfmap::refused_memory::a_refused_request_is_told
+refuse_each session_tests bpfmap::refused_memory::a_refused_request_leaves_the_table
 
 echo "refused: $passed passed, $failed failed"
 [ "$failed" = 0 ]

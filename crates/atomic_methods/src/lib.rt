@@ -22,6 +22,3 @@ pub use methods::{apply, apply_into, replace_each, scan};
 pub use reply::{Reply, ReplyKind};
 pub use striped::{Stopped, Striped};
 pub use stripes::{MAX_STRIPES, is_stripe_count, stripe_of, stripe_of_hash};
-
-#[cfg(test)]
-mod tests;

@@ -5,5 +5,4 @@ pub mod OpenedLemmas
 pub mod TellingLemmas
 pub mod PassLemmas
 pub mod ClosingLemmas
-pub mod PassLists
 pub mod StripeContent

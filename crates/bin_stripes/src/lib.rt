@@ -41,6 +41,3 @@ pub use gate::{Gate, OpenGate, Place};
 pub use map::StripedMap;
 pub use open::MAX_PASSES;
 pub use pass::Pass;
-
-#[cfg(test)]
-mod tests;

@@ -9,3 +9,4 @@ pub mod ChainLemmas
 pub mod ChainMoves
 pub mod ChainBins
 pub mod ChainEdits
+pub mod Examples

@@ -294,23 +294,3 @@ impl Chains {
         }
     }
 }
-
-#[cfg(test)]
-mod tests {
-    use super::{FIRST_BINS, bin_of, shift_of};
-
-    // The first bin of a hash, in one of so many stripes.
-    fn first_bin(stripes: u64, hash: u32) -> usize {
-        bin_of(shift_of(stripes), FIRST_BINS, hash)
-    }
-
-    // The hash of the empty key, and that of `61 62`.
-    #[test]
-    fn what_told_the_stripe_is_taken_off(rt: HostRuntime) {
-        assert!(rt; first_bin(4, 1) == 0);
-        assert!(rt; first_bin(4, 4066) == 0);
-        assert!(rt; first_bin(1, 1) == 1);
-        assert!(rt; first_bin(1, 4066) == 2);
-        assert!(rt; first_bin(64, 4066) == 7);
-    }
-}

@@ -24,6 +24,3 @@ pub use counts::Counts;
 pub use hashed_bins::HashedBins;
 pub use hashes::hash_of;
 pub use list_bins::ListBins;
-
-#[cfg(test)]
-mod tests;

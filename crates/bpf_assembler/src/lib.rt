@@ -22,6 +22,3 @@ mod tables;
 pub use assembler::assemble;
 pub use fault::AsmFault;
 pub use printer::{disassemble, instruction_text};
-
-#[cfg(test)]
-mod tests;

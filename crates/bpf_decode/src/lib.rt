@@ -20,6 +20,3 @@ mod unit;
 pub use decoder::decode;
 pub use encoder::encode;
 pub use fault::DecodeFault;
-
-#[cfg(test)]
-mod tests;

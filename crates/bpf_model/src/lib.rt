@@ -30,6 +30,3 @@ pub use memory::NoMemory;
 pub use operations::{AluOp, ByteOrder, SignExtension, SwapWidth, Width};
 pub use program::Program;
 pub use region::Region;
-
-#[cfg(test)]
-mod tests;

@@ -7,5 +7,4 @@ pub mod Order
 pub mod FoundLemmas
 pub mod RunLemmas
 pub mod ReplaceLemmas
-pub mod PassLemmas
 pub mod SameScans

@@ -21,6 +21,3 @@ pub use replace::replace_all;
 pub use team::{EmptyTeam, Team};
 pub use walk_replies::WalkReply;
 pub use walks::{for_each, search};
-
-#[cfg(test)]
-mod tests;

@@ -26,6 +26,3 @@ pub use feeder::{Fed, Feeder};
 pub use limits::{Limits, Version};
 pub use request::Request;
 pub use response::{FRAME_BYTES, Response};
-
-#[cfg(test)]
-mod tests;

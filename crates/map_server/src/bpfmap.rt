@@ -7,8 +7,6 @@ mod meaning;
 mod program;
 mod refusal;
 mod report;
-#[cfg(test)]
-mod tests;
 mod words;
 
 pub use commands::report_of;

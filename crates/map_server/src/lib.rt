@@ -21,6 +21,3 @@ pub use bpfmap::{
 };
 pub use devices::{Failed, ReadFault, Sink, Source, StreamSink, StreamSource, read_all, write_all};
 pub use session::{Answer, Service, SessionEnd, run_session};
-
-#[cfg(test)]
-mod tests;

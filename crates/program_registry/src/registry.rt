@@ -78,6 +78,3 @@ impl ProgramToken {
         self.place.index() as u64
     }
 }
-
-#[cfg(test)]
-mod tests;

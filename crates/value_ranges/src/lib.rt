@@ -29,6 +29,3 @@ pub use range::Range;
 pub use refinement::refine;
 pub use results::{alu, negate};
 pub use unions::join;
-
-#[cfg(test)]
-mod tests;

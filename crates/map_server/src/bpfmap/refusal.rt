@@ -2,9 +2,6 @@
 ghost use Rattle.std.specs.Prelude.{◌≡◌};
 ghost use Rattle.map_server.specs.Refusals.{number_of, place_of};
 
-#[cfg(test)]
-mod tests;
-
 use crate::admission::AdmissionFault;
 use crate::bpfmap::hex::HexFault;
 use bpf_assembler::AsmFault;

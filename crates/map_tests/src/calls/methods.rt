@@ -1,0 +1,225 @@
+//! Each method on a present and on an absent key.
+use super::Method::{
+    Compute, Get, IfAbsent, IfPresent, Merge, Put, PutIfAbsent, Remove, RemoveIf, Replace,
+    ReplaceIf,
+};
+use super::Wanted::{Bytes, Done, Unfit};
+use super::Which::{NoKey, Nothing, Sum};
+use super::*;
+use atomic_methods::apply;
+use bins::{Bins, HashedBins, ListBins};
+use std::process::Abort;
+
+// Values of calls without programs.
+const OLD: Wanted = Bytes(b"x");
+
+const NEW: Wanted = Bytes(b"y");
+
+const EMPTY: Wanted = Bytes(b"");
+
+const NONE: Wanted = Wanted::Nothing;
+
+const YES: Wanted = Done(true);
+
+const NO: Wanted = Done(false);
+
+// Values of calls with programs: of 8 bytes, and one of 9.
+const WAS: Wanted = Bytes(&ONE);
+
+const ARG: Wanted = Bytes(&TWO);
+
+const SUM: Wanted = Bytes(&THREE);
+
+const LONG: Wanted = Bytes(&NINE);
+
+const NO_KEY: Wanted = Unfit(Window::Key);
+
+const NO_OLD: Wanted = Unfit(Window::Old);
+
+const NO_ARG: Wanted = Unfit(Window::Arg);
+
+// What the key has before, the method, the reply, and what the key has after.
+type Row = (Wanted, Method, Wanted, Wanted);
+
+const PLAIN: [Row; 19] = [
+    (OLD, Get, OLD, OLD),
+    (EMPTY, Get, EMPTY, EMPTY),
+    (NONE, Get, NONE, NONE),
+    (OLD, Put(b"y"), OLD, NEW),
+    (NONE, Put(b""), NONE, EMPTY),
+    (OLD, PutIfAbsent(b"y"), OLD, OLD),
+    (NONE, PutIfAbsent(b"y"), NONE, NEW),
+    (OLD, Remove, OLD, NONE),
+    (NONE, Remove, NONE, NONE),
+    (OLD, Replace(b"y"), OLD, NEW),
+    (NONE, Replace(b"y"), NONE, NONE),
+    (OLD, RemoveIf(b"x"), YES, NONE),
+    (OLD, RemoveIf(b"y"), NO, OLD),
+    (OLD, RemoveIf(b"xx"), NO, OLD),
+    (EMPTY, RemoveIf(b""), YES, NONE),
+    (NONE, RemoveIf(b""), NO, NONE),
+    (OLD, ReplaceIf(b"x", b"y"), YES, NEW),
+    (OLD, ReplaceIf(b"y", b""), NO, OLD),
+    (NONE, ReplaceIf(b"", b"y"), NO, NONE),
+];
+
+const COMPUTING: [Row; 18] = [
+    (WAS, Compute(Sum, &TWO), SUM, SUM),
+    (NONE, Compute(Sum, &TWO), ARG, ARG),
+    (WAS, Compute(Nothing, &TWO), NONE, NONE),
+    (NONE, Compute(Nothing, b""), NONE, NONE),
+    (LONG, Compute(NoKey, &NINE), NO_KEY, LONG),
+    (LONG, Compute(Sum, &NINE), NO_OLD, LONG),
+    (WAS, Compute(Sum, &NINE), NO_ARG, WAS),
+    (NONE, Compute(Sum, &NINE), NO_ARG, NONE),
+    (WAS, IfAbsent(NoKey, &TWO), WAS, WAS),
+    (NONE, IfAbsent(Sum, &TWO), ARG, ARG),
+    (WAS, IfPresent(Sum, &TWO), SUM, SUM),
+    (WAS, IfPresent(Nothing, b""), NONE, NONE),
+    (NONE, IfPresent(NoKey, b""), NONE, NONE),
+    (WAS, Merge(&TWO, Sum), SUM, SUM),
+    (NONE, Merge(&TWO, Sum), ARG, ARG),
+    (WAS, Merge(&TWO, Nothing), NONE, NONE),
+    (NONE, Merge(&NINE, Sum), LONG, LONG),
+    (WAS, Merge(&NINE, Sum), NO_ARG, WAS),
+];
+
+// What rows are tried on: a whole table, or bins of either kind alone.
+trait Tried: Sized {
+    fn opened(alloc: Global) -> Result<Self, Fail>;
+
+    fn made(&mut self, call: &Call) -> Result<Reply, NoMemory>;
+}
+
+impl Tried for Striped {
+    fn opened(alloc: Global) -> Result<Striped, Fail> {
+        Ok(Striped::open(alloc, 4)?)
+    }
+
+    fn made(&mut self, call: &Call) -> Result<Reply, NoMemory> {
+        self.apply(call)
+    }
+}
+
+impl Tried for ListBins {
+    fn opened(alloc: Global) -> Result<ListBins, Fail> {
+        Ok(ListBins::open(alloc, 1)?)
+    }
+
+    fn made(&mut self, call: &Call) -> Result<Reply, NoMemory> {
+        apply(self, call)
+    }
+}
+
+impl Tried for HashedBins {
+    fn opened(alloc: Global) -> Result<HashedBins, Fail> {
+        Ok(HashedBins::open(alloc, 1)?)
+    }
+
+    fn made(&mut self, call: &Call) -> Result<Reply, NoMemory> {
+        apply(self, call)
+    }
+}
+
+// Each row on the key `a` of a table of its own, in which the key has a neighbour.
+fn try_rows<T: Tried + Drop>(rt: &impl Abort, alloc: Global, rows: &[Row]) -> Result<(), Fail> {
+    let programs = Programs::new(alloc)?;
+    for (number, (before, method, reply, after)) in rows.iter().enumerate() {
+        let mut table = T::opened(alloc)?;
+        table.made(&programs.call(b"ab", Put(b"other"))?)?;
+        if let Bytes(bytes) = before {
+            table.made(&programs.call(b"a", Put(bytes))?)?;
+        }
+        let given = table.made(&programs.call(b"a", *method)?)?;
+        assert!(rt; is_wanted(&given, *reply), "row {number}");
+        let found = table.made(&programs.call(b"a", Get)?)?;
+        assert!(rt; is_wanted(&found, *after), "row {number}, after");
+        let beside = table.made(&programs.call(b"ab", Get)?)?;
+        assert!(rt; is_wanted(&beside, Bytes(b"other")), "row {number}, beside");
+    }
+    Ok(())
+}
+
+// The rows on a table in stripes, and on bins of both kinds.
+fn try_everywhere(rt: &impl Abort, alloc: Global, rows: &[Row]) -> Result<(), Fail> {
+    try_rows::<Striped>(rt, alloc, rows)?;
+    try_rows::<ListBins>(rt, alloc, rows)?;
+    try_rows::<HashedBins>(rt, alloc, rows)
+}
+
+#[test]
+fn methods_without_programs(rt: HostRuntime) -> Result<(), Fail> {
+    try_everywhere(&rt, rt.alloc(), &PLAIN)
+}
+
+#[test]
+fn methods_with_programs(rt: HostRuntime) -> Result<(), Fail> {
+    try_everywhere(&rt, rt.alloc(), &COMPUTING)
+}
+
+#[test]
+fn a_longest_value_is_unfit_where_one_byte_is_missing(rt: HostRuntime) -> Result<(), Fail> {
+    let program = verified(rt.alloc(), NOTHING, sizes(64, 255, 256, 256))?;
+    let long = value(&[7; 256])?;
+    let mut table = Striped::open(rt.alloc(), 1)?;
+    let key = key(b"a")?;
+    let value = long.copied();
+    table.apply(&Call::Put { key, value })?;
+    let call = Call::Compute {
+        key: Key::from_slice(b"a")?,
+        program: &program,
+        arg: None,
+    };
+    assert_eq!(rt; table.apply(&call)?, Reply::Unfit(Window::Old));
+    let key = Key::from_slice(b"a")?;
+    assert_eq!(rt; table.apply(&Call::Get { key })?, Reply::Value(Some(long)));
+    Ok(())
+}
+
+// Answers two numbers of 8 bytes: the length of the old value and that of the argument, -1 where there is none.
+const LENGTHS_TOLD: &str = "stxd [r4+0], r7\nstxd [r4+8], r8\nmov64 r0, 16\nexit\n";
+
+// Eight bytes each: the length -1, 0 and 1.
+const ABSENT: [u8; 8] = [255; 8];
+
+const EMPTY_LENGTH: [u8; 8] = [0; 8];
+
+// The old value, the argument, and the two lengths that a program is told.
+const LENGTHS: [(Option<&[u8]>, Option<&[u8]>, [u8; 8], [u8; 8]); 6] = [
+    (None, None, ABSENT, ABSENT),
+    (None, Some(b""), ABSENT, EMPTY_LENGTH),
+    (Some(b""), None, EMPTY_LENGTH, ABSENT),
+    (Some(b""), Some(b""), EMPTY_LENGTH, EMPTY_LENGTH),
+    (Some(b"x"), None, ONE, ABSENT),
+    (None, Some(b"x"), ABSENT, ONE),
+];
+
+fn is_pair(value: &Value, first: &[u8; 8], second: &[u8; 8]) -> bool {
+    let bytes = value.as_slice();
+    bytes.starts_with(first) && bytes.ends_with(second) && bytes.len() == 16
+}
+
+#[test]
+fn an_absent_argument_is_no_empty_one(rt: HostRuntime) -> Result<(), Fail> {
+    let program = verified(rt.alloc(), LENGTHS_TOLD, sizes(64, 8, 8, 16))?;
+    for (number, (old, arg, first, second)) in LENGTHS.iter().enumerate() {
+        let mut table = Striped::open(rt.alloc(), 1)?;
+        if let Some(bytes) = old {
+            let (key, value) = (key(b"a")?, value(bytes)?);
+            table.apply(&Call::Put { key, value })?;
+        }
+        let call = Call::Compute {
+            key: key(b"a")?,
+            program: &program,
+            arg: match arg {
+                Some(bytes) => Some(value(bytes)?),
+                None => None,
+            },
+        };
+        let Reply::Value(Some(told)) = table.apply(&call)? else {
+            return Err("no answer".into());
+        };
+        assert!(rt; is_pair(&told, first, second), "row {number}");
+    }
+    Ok(())
+}

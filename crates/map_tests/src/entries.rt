@@ -1,0 +1,263 @@
+//! Puts, changes, removals and replacements in both bodies of the trait, and what is copied out of them.
+ghost use Rattle.std.specs.Prelude.{◌≤◌, ◌<◌};
+
+use bins::{Bins, HashedBins, ListBins, hash_of};
+use bpf_model::{Key, NoMemory, Value};
+use std::alloc::Global;
+use std::test::Fail;
+
+mod made_up;
+mod replaced;
+
+// Puts bytes under a name.
+fn put<B: Bins>(bins: &mut B, name: &[u8], bytes: &[u8]) -> Result<(), Fail> {
+    let key = Key::from_slice(name)?;
+    let hash = hash_of(&key);
+    bins.put(key, Value::from_slice(bytes)?, hash)?;
+    Ok(())
+}
+
+// Puts each of these bytes under the name before it.
+fn put_all<B: Bins>(bins: &mut B, rows: &[(&[u8], &[u8])]) -> Result<(), Fail> {
+    for (name, bytes) in rows {
+        put(bins, name, bytes)?;
+    }
+    Ok(())
+}
+
+// Whether these are all entries, in this order.
+fn holds<B: Bins>(bins: &B, alloc: Global, wanted: &[(&[u8], &[u8])]) -> Result<bool, NoMemory> {
+    let found = bins.entries(alloc)?;
+    let mut same = found.len() == wanted.len();
+    for (entry, (name, bytes)) in found.iter().zip(wanted) {
+        same &= entry.0.as_slice() == *name && entry.1.as_slice() == *bytes;
+    }
+    Ok(same)
+}
+
+// Keys that begin one another, put in mixed order, one of them twice.
+fn stand_in_order<B: Bins + Drop>(alloc: Global) -> Result<bool, Fail> {
+    let mut bins = B::open(alloc, 1)?;
+    put_all(
+        &mut bins,
+        &[
+            (b"b", b"1"),
+            (b"ab", b"3"),
+            (b"a", b"2"),
+            (b"", b"4"),
+            (b"a", b""),
+        ],
+    )?;
+    let wanted: [(&[u8], &[u8]); 4] = [(b"", b"4"), (b"a", b""), (b"ab", b"3"), (b"b", b"1")];
+    Ok(holds(&bins, alloc, &wanted)?)
+}
+
+#[test]
+fn keys_that_begin_one_another_stand_in_order(rt: HostRuntime) -> Result<(), Fail> {
+    assert!(rt; stand_in_order::<ListBins>(rt.alloc())?);
+    assert!(rt; stand_in_order::<HashedBins>(rt.alloc())?);
+    Ok(())
+}
+
+// So many keys of two bytes in mixed order, each with itself as its value.
+fn fill<B: Bins>(bins: &mut B, count: u16) -> Result<(), Fail>
+    requires { count ≤ 300 }
+{
+    for i in 0..count {
+        let number = (i * 7 % 300).to_be_bytes();
+        put(bins, &number, &number)?;
+    }
+    Ok(())
+}
+
+// Empties each value in another order, and removes it; whether each was there, and then was not.
+fn remove_all<B: Bins>(bins: &mut B) -> Result<bool, Fail> {
+    let mut there = true;
+    for i in 0..300u16 {
+        let number = (i * 11 % 300).to_be_bytes();
+        let key = Key::from_slice(&number)?;
+        let hash = hash_of(&key);
+        there &= bins.find(&key, hash).map(Value::as_slice) == Some(number.as_slice());
+        if let Some(value) = bins.find_mut(&key, hash) {
+            *value = Value::new();
+        }
+        there &= bins.remove(&key, hash) == Some(Value::new());
+        there &= bins.find_mut(&key, hash).is_none();
+    }
+    Ok(there)
+}
+
+// Whether the entry at each place has that number.
+fn are_in_order(entries: &[(Key, Value)]) -> bool {
+    let mut same = entries.len() == 300;
+    for (number, entry) in (0..300u16).zip(entries) {
+        same &= entry.0.as_slice() == number.to_be_bytes().as_slice();
+    }
+    same
+}
+
+fn come_and_go<B: Bins + Drop>(alloc: Global) -> Result<bool, Fail> {
+    let mut bins = B::open(alloc, 1)?;
+    fill(&mut bins, 300)?;
+    let in_order = are_in_order(&bins.entries(alloc)?);
+    Ok(in_order && remove_all(&mut bins)? && bins.entries(alloc)?.is_empty())
+}
+
+#[test]
+fn three_hundred_keys_come_and_go(rt: HostRuntime) -> Result<(), Fail> {
+    assert!(rt; come_and_go::<ListBins>(rt.alloc())?);
+    assert!(rt; come_and_go::<HashedBins>(rt.alloc())?);
+    Ok(())
+}
+
+// 40 keys are put, and every other one of them is removed.
+fn half_removed<B: Bins + Drop>(alloc: Global) -> Result<Vec<(Key, Value)>, Fail> {
+    let mut bins = B::open(alloc, 4)?;
+    fill(&mut bins, 40)?;
+    for i in 0..20u16 {
+        let key = Key::from_slice(&(i * 14 % 300).to_be_bytes())?;
+        bins.remove(&key, hash_of(&key));
+    }
+    Ok(bins.entries(alloc)?)
+}
+
+#[test]
+fn both_bodies_are_scanned_alike(rt: HostRuntime) -> Result<(), Fail> {
+    let listed = half_removed::<ListBins>(rt.alloc())?;
+    let hashed = half_removed::<HashedBins>(rt.alloc())?;
+    assert_eq!(rt; listed.len(), 20);
+    assert_eq!(rt; hashed.len(), 20);
+    for (one, other) in listed.iter().zip(&hashed) {
+        assert_eq!(rt; one, other);
+    }
+    Ok(())
+}
+
+// One of 32 keys of five pairs, each `41 61` or `42 42`: all have one hash.
+fn key_of_pairs(number: u8) -> Result<Key, Fail> {
+    let mut bytes = [0; 10];
+    for pair in 0..5usize {
+        let second = number & (1 << pair) != 0;
+        bytes[2 * pair] = if second { 0x42 } else { 0x41 };
+        bytes[2 * pair + 1] = if second { 0x42 } else { 0x61 };
+    }
+    Ok(Key::from_slice(&bytes)?)
+}
+
+// Puts the keys of one hash, removes every third, and finds just the others; whether it went so.
+fn stand_apart<B: Bins + Drop>(alloc: Global) -> Result<bool, Fail> {
+    let mut bins = B::open(alloc, 1)?;
+    let hash = hash_of(&key_of_pairs(0)?);
+    let mut apart = true;
+    for number in 0..32u8 {
+        let key = key_of_pairs(number)?;
+        apart &= hash_of(&key) == hash;
+        put(&mut bins, key.as_slice(), &[number])?;
+    }
+    for number in 0..32u8 {
+        if number % 3 == 0 {
+            let key = key_of_pairs(number)?;
+            let hash = hash_of(&key);
+            apart &= bins.remove(&key, hash).is_some();
+        }
+    }
+    for number in 0..32u8 {
+        let key = key_of_pairs(number)?;
+        let found = bins.find(&key, hash_of(&key)).map(Value::as_slice);
+        let wanted = [number];
+        apart &= found == (number % 3 != 0).then_some(wanted.as_slice());
+    }
+    Ok(apart)
+}
+
+#[test]
+fn keys_of_one_hash_stand_apart(rt: HostRuntime) -> Result<(), Fail> {
+    assert!(rt; stand_apart::<ListBins>(rt.alloc())?);
+    assert!(rt; stand_apart::<HashedBins>(rt.alloc())?);
+    Ok(())
+}
+
+#[test]
+fn hashes_are_as_in_java(rt: HostRuntime) -> Result<(), Fail> {
+    for (name, hash) in [
+        (b"".as_slice(), 1),
+        (b"ab".as_slice(), 4066),
+        (b"\xff".as_slice(), 286),
+        (b"0123456789".as_slice(), 4_082_890_950),
+    ] {
+        assert_eq!(rt; hash_of(&Key::from_slice(name)?), hash);
+    }
+    Ok(())
+}
+
+// How many bins so many entries have.
+fn wanted_bins(entries: u8) -> u64 {
+    match entries {
+        0..=16 => 8,
+        17..=32 => 16,
+        33..=64 => 32,
+        _ => 64,
+    }
+}
+
+// Opens, and once more where that was refused.
+fn opened<B: Bins>(alloc: Global) -> Result<B, NoMemory> {
+    match B::open(alloc, 1) {
+        Ok(bins) => Ok(bins),
+        Err(NoMemory) => B::open(alloc, 1),
+    }
+}
+
+// Puts one byte's key, and once more where that was refused; whether the key was then not there.
+fn put_twice<B: Bins>(bins: &mut B, number: u8) -> Result<bool, Fail> {
+    let key = Key::from_slice(&[number])?;
+    let hash = hash_of(&key);
+    if bins.put(key.copied(), Value::new(), hash).is_ok() {
+        return Ok(true);
+    }
+    let absent = bins.find(&key, hash).is_none();
+    bins.put(key, Value::new(), hash)?;
+    Ok(absent)
+}
+
+// Whether these keys of one byte are there, and not the next.
+fn has_first<B: Bins>(bins: &B, count: u8) -> Result<bool, Fail>
+    requires { count < 255 }
+{
+    let mut there = true;
+    for number in 0..count {
+        let key = Key::from_slice(&[number])?;
+        there &= bins.find(&key, hash_of(&key)).is_some();
+    }
+    let next = Key::from_slice(&[count])?;
+    Ok(there && bins.find(&next, hash_of(&next)).is_none())
+}
+
+/// Also where one request for memory is refused: that put leaves the entries, and the next one enters.
+#[test]
+fn a_refused_put_leaves_the_list(rt: HostRuntime) -> Result<(), Fail> {
+    let mut bins = opened::<ListBins>(rt.alloc())?;
+    for number in 0..40u8 {
+        assert!(rt; put_twice(&mut bins, number)?);
+        assert!(rt; has_first(&bins, number + 1)?);
+    }
+    Ok(())
+}
+
+/// The 17th entry makes 16 bins of 8, the 33rd 32 and the 65th 64. Also where one request for memory is refused: a put
+/// leaves the entries, and the next one enters; a doubling leaves the bins, is no refusal, and comes with the next key.
+#[test]
+fn a_refused_put_leaves_the_bins(rt: HostRuntime) -> Result<(), Fail> {
+    let mut bins = opened::<HashedBins>(rt.alloc())?;
+    let mut late = false;
+    for number in 0..70u8 {
+        assert!(rt; put_twice(&mut bins, number)?);
+        assert!(rt; has_first(&bins, number + 1)?);
+        if bins.bins() != wanted_bins(number + 1) {
+            assert!(rt; !late);
+            late = true;
+        }
+    }
+    assert_eq!(rt; bins.bins(), 64);
+    Ok(())
+}

@@ -1,0 +1,9 @@
+//! Tests of what is read and answered: frames of the protocol, and `bpfmap` with its sessions, over memory.
+#![tactic(auto)]
+
+#[cfg(test)]
+mod bpfmap;
+#[cfg(test)]
+mod frames;
+#[cfg(test)]
+mod refusals;
