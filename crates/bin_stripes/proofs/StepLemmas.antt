@@ -7,6 +7,7 @@ use Rattle.atomic_table.specs.Seated.{TableId}
 use Rattle.stripe_rule.specs.declared.view.View.{View}
 use Rattle.stripe_rule.specs.History.{AreUnder}
 use Rattle.stripe_rule.specs.Gains.{least, Carries, held_at, seen_of, mine_of, own_event, part_of, Adds}
+use Rattle.stripe_rule.specs.Words.{word_at}
 use Rattle.stripe_rule.specs.Rule.{Kept}
 use Rattle.stripe_rule.specs.Steps.{Sets, Extends, Looks, Takes, Releases, grown}
 use Rattle.stripe_rule.proofs.TakeLemmas.{takes_it, looks}
@@ -45,27 +46,27 @@ module _ {B : Type 0} (content : B → Table) (table : TableId) (shape : Shape) 
 
   -- a take of a stripe, won or lost
   pub takes_stripe : (id k : ℕ) (me : Me (Option B) (View Deed)) → k < table.slots → Carries me.0 (least me.0.numbers) → held_at me.0 k ≡ false
-      → Allows Rule table.slots id me k (λ n. either (eqb n 0) 1 n) (took content (step table.slots k 0 1 maybe.none) me)
+      → Allows Rule table.slots id me (word_at k) (λ n. either (eqb n 0) 1 n) (took content (step table.slots (word_at k) 0 1 maybe.none) me)
   takes_stripe id k me inside c idle =
-      subst (λ n. Allows (Kept (does n) empty content n shape.passes) table.slots id me k (λ x. either (eqb x 0) 1 x) (took content (step table.slots k 0 1 maybe.none) me)) (sym laid.stripes)
+      subst (λ n. Allows (Kept (does n) empty content n shape.passes) table.slots id me (word_at k) (λ x. either (eqb x 0) 1 x) (took content (step table.slots (word_at k) 0 1 maybe.none) me)) (sym laid.stripes)
       (takes_it (does table.slots) empty content table.slots shape.passes table.slots id k me (least me.0.numbers) inside c idle)
 
   -- a look at a stripe
   pub looks_at : (id k : ℕ) (me : Me (Option B) (View Deed)) → k < table.slots → Carries me.0 (least me.0.numbers)
-      → Allows Rule table.slots id me k (λ n. n) (looked (step table.slots k 0 0 maybe.none) me)
+      → Allows Rule table.slots id me (word_at k) (λ n. n) (looked (step table.slots (word_at k) 0 0 maybe.none) me)
   looks_at id k me inside c =
-      subst (λ n. Allows (Kept (does n) empty content n shape.passes) table.slots id me k (λ x. x) (looked (step table.slots k 0 0 maybe.none) me)) (sym laid.stripes)
+      subst (λ n. Allows (Kept (does n) empty content n shape.passes) table.slots id me (word_at k) (λ x. x) (looked (step table.slots (word_at k) 0 0 maybe.none) me)) (sym laid.stripes)
       (looks (does table.slots) empty content table.slots shape.passes table.slots id k me (least me.0.numbers) inside c)
 
   -- a release that adds these actions
   pub releases_stripe : (may : List Action → Type 0) (id k : ℕ) (me : Me (Option B) (View Deed)) → k < table.slots → Carries me.0 (least me.0.numbers) → held_at me.0 k ≡ true
       → (bins : B) (others : List (ℕ × Option B)) → me.1 ≡ (k, Some bins) ∷ others
       → (actions : List Action) → may actions → Leaves table.slots k (seen_of me.0 k ++ own_events me.0 actions) (content bins)
-      → Allows Rule table.slots id me k (λ _. 0) (released may (step table.slots k 0 0 maybe.none) me)
+      → Allows Rule table.slots id me (word_at k) (λ _. 0) (released may (step table.slots (word_at k) 0 0 maybe.none) me)
   releases_stripe may id k me inside c held bins others out actions may_be leaves s r wide at small =
-      let t = subst (λ n. Allows (Kept (does n) empty content n shape.passes) table.slots id me k (λ _. 0) (Rattle.stripe_rule.specs.Steps.released (does table.slots) empty (own_events me.0 actions) (step table.slots k 0 0 maybe.none) me)) (sym laid.stripes)
+      let t = subst (λ n. Allows (Kept (does n) empty content n shape.passes) table.slots id me (word_at k) (λ _. 0) (Rattle.stripe_rule.specs.Steps.released (does table.slots) empty (own_events me.0 actions) (step table.slots (word_at k) 0 0 maybe.none) me)) (sym laid.stripes)
       (releases (does table.slots) empty content table.slots shape.passes table.slots id k me others bins (own_events me.0 actions) (least me.0.numbers) inside c held out leaves (events_under me.0 actions c)) s r wide at small in
-      (t.0, t.1, t.2, t.3, record { actions = actions; may_be = may_be; releases = t.4 })
+      (t.0, t.1, t.2, t.3, λ j e. record { actions = actions; may_be = may_be; releases = t.4 j e })
 
 module _ {B : Type 0} (content : B → Table) (stripes k : ℕ) where
   -- a take after looks

@@ -1,9 +1,10 @@
 -- A seat of the table beside one stripe: at rest, holding the stripe, and after a call.
-use Rattle.std.specs.Prelude.{◌≡◌, ℕ, true, List, [], ◌∷◌, ◌++◌, length, Option, Some}
+use Rattle.std.specs.Prelude.{◌≡◌, ℕ, ◌≤◌, true, List, [], ◌∷◌, ◌++◌, length, Option, Some}
 use Rattle.std.specs.FinMap as finmap
 use Rattle.atomic_table.specs.Seated.{TableId}
 use Rattle.atomic_table.specs.Table.{Me}
 use Rattle.stripe_rule.specs.declared.view.View.{View}
+use Rattle.stripe_rule.specs.Words.{words_of}
 use Rattle.stripe_rule.specs.Gains.{least, Carries, IsIdle, held_at, seen_of, Adds}
 use Rattle.verifier.specs.Checked.{Checked}
 use Rattle.bins.specs.declared.counts.Counts.{Counts}
@@ -17,9 +18,10 @@ use Rattle.bin_stripes.specs.Actions.{Action, scanned}
 use Rattle.bin_stripes.specs.Histories.{empty, own_events, Leaves, Sound}
 use Rattle.bin_stripes.specs.Invoked.{AreOf, AreReplacements}
 
--- the table has a word and a slot for each stripe
+-- the table has words and a slot for each stripe, and few stripes
 pub record IsLaid (id : TableId) (shape : Shape) : Type 0 where
-  pub words : id.words ≡ id.slots
+  pub words : id.words ≡ words_of id.slots
+  pub few : id.slots ≤ 64
   pub stripes : shape.stripes ≡ id.slots
 
 -- what always holds of a map's table

@@ -1,8 +1,9 @@
 -- A release of a stripe that adds some events, of which a fact is known.
-use Rattle.std.specs.Prelude.{ℕ, List, Option}
+use Rattle.std.specs.Prelude.{◌≡◌, ℕ, List, Option}
 use Rattle.atomic_table.specs.Table.{Me, Step}
 use Rattle.stripe_rule.specs.declared.view.Event.{Event}
 use Rattle.stripe_rule.specs.declared.view.View.{View}
+use Rattle.stripe_rule.specs.Words.{word_at}
 use Rattle.stripe_rule.specs.Steps.{Looks, Releases, took as takes_or_looks}
 use Rattle.bins.specs.Table.{Table}
 use Rattle.bin_stripes.specs.declared.deed.Deed.{Deed}
@@ -13,9 +14,9 @@ abbrev pub Events : Type 0
 Events = List (Event Deed)
 
 module _ {S : Type 0} where
-  -- a load of the word, as a table with so many slots tells it
+  -- a load of a stripe's word, as a table with so many slots tells it
   abbrev pub looked : Step S → Me S (View Deed) → ℕ → Me S (View Deed) → Type 0
-  looked st me found me' = Looks (does st.slots) empty st.word me me'
+  looked st me found me' = (k : ℕ) → st.word ≡ word_at k → Looks (does st.slots) empty k me me'
 
   -- the actions that the release adds, of which `may` holds
   pub record Lets (may : List Action → Type 0) (stripes k : ℕ) (me me' : Me S (View Deed)) : Type 0 where
@@ -25,7 +26,7 @@ module _ {S : Type 0} where
 
   -- the swap of the word to 0, as a table with so many slots tells it
   abbrev pub released : (List Action → Type 0) → Step S → Me S (View Deed) → ℕ → Me S (View Deed) → Type 0
-  released may st me found me' = Lets may st.slots st.word me me'
+  released may st me found me' = (k : ℕ) → st.word ≡ word_at k → Lets may st.slots k me me'
 
 -- the compare-exchange of the word from 0 to 1, as a table with so many slots tells it
 abbrev pub took : {B : Type 0} → (B → Table) → Step (Option B) → Me (Option B) (View Deed) → ℕ → Me (Option B) (View Deed) → Type 0

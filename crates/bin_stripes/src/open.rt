@@ -1,6 +1,7 @@
 //! A new map and its passes.
-ghost use Rattle.std.specs.Prelude.{◌≡◌, ℕ, ◌<◌, ◌↔◌, [], ◌∷◌, All, IfOk, IsErrOf, length, map, replicate};
+ghost use Rattle.std.specs.Prelude.{◌≡◌, ℕ, ◌<◌, ◌≤◌, ◌↔◌, [], ◌∷◌, All, IfOk, IsErrOf, length, map, replicate};
 ghost use Rattle.atomic_methods.specs.Hashes.{IsStripeCount};
+ghost use Rattle.stripe_rule.specs.Words.{words_of};
 ghost use Rattle.stripe_rule.specs.Rule.{from_on, newcomer, opener};
 ghost use Rattle.bin_stripes.specs.Holding.{IsLaid, IsEmptyBins};
 ghost use Rattle.bin_stripes.specs.Opened.{IsPassCount, IsOpened, pass_of};
@@ -9,7 +10,7 @@ use crate::fault::OpenFault;
 use crate::map::{StripeBins, StripedMap};
 use crate::pass::Pass;
 use crate::rule::{Deal, Shape};
-use crate::steps::{Stand, Stripes};
+use crate::steps::{LINE_WORDS, Stand, Stripes};
 use atomic_methods::is_stripe_count;
 use atomic_table::Table;
 use bins::Bins;
@@ -58,22 +59,33 @@ fn opened(alloc: Global, stripes: u64, passes: u64) -> Result<(StripedMap, Vec<P
     Ok((StripedMap { table }, all))
 }
 
-// The word and the bins of each stripe of a new map.
+// The words and the bins of the stripes of a new map.
 fn free_stripes<B: Bins + Drop>(
     alloc: Global,
     stripes: u64,
 ) -> Result<(Vec<u64>, Vec<Option<B>>), NoMemory>
-    ensures words { IfOk result (λ made. made.0.items ≡ replicate stripes 0) }
+    requires few { stripes ≤ 64 }
+    ensures words { IfOk result (λ made. made.0.items ≡ replicate (words_of stripes) 0) }
     ensures count { IfOk result (λ made. length made.1.items ≡ stripes) }
     ensures empty { IfOk result (λ made. All (IsEmptyBins B.table) made.1.items) }
 {
-    let mut words = Vec::new(alloc);
+    let words = zero_words(alloc, stripes * LINE_WORDS as u64)?;
     let mut slots = Vec::new(alloc);
     for _ in 0..stripes {
-        words.push(0)?;
         slots.push(Some(B::open(alloc, stripes)?))?;
     }
     Ok((words, slots))
+}
+
+// So many words of 0.
+fn zero_words(alloc: Global, count: u64) -> Result<Vec<u64>, NoMemory>
+    ensures words { IfOk result (λ words. words.items ≡ replicate count 0) }
+{
+    let mut words = Vec::new(alloc);
+    for _ in 0..count {
+        words.push(0)?;
+    }
+    Ok(words)
 }
 
 // A pass for each number that the seat carries.

@@ -1,5 +1,5 @@
-//! The steps on one stripe: take, bins out, bins home, release. A word is 1 while its stripe is held, else 0; the bins of
-//! a stripe lie in the slot of its number, and are out with the seat that holds it.
+//! The steps on one stripe: take, bins out, bins home, release. Its word is 1 while it is held, else 0, and stands on a line
+//! of its own; its bins lie in the slot of its number, and are out with the seat that holds it.
 ghost use Rattle.std.specs.Prelude.{◌≡◌, ℕ, ◌<◌, true, false, Option, List, [], ◌∷◌, ◌++◌, Some, None, MatchBool};
 ghost use Rattle.stripe_rule.specs.Gains.{held_at, seen_of, Carries, least};
 ghost use Rattle.stripe_rule.specs.Steps.{Takes, Looks};
@@ -9,7 +9,7 @@ ghost use Rattle.bin_stripes.specs.Releasing.{Lets};
 ghost use Rattle.bin_stripes.specs.Holding.{IsLaid, Rests, Settles, Holds};
 
 use crate::deed::Deed;
-use crate::rule::{May, Release, Shape, Striping, Take};
+use crate::rule::{Look, May, Release, Shape, Striping, Take};
 use atomic_table::{Seat, Shared};
 use bins::Bins;
 use std::marker::Brand;
@@ -17,11 +17,26 @@ use std::sync::Wait;
 use std::thread;
 use stripe_rule::View;
 
+/// How many words a line of the cache has, of 64 bytes. A stripe's word is the first of so many, so threads on two stripes
+/// write to no line of each other's.
+pub(crate) const LINE_WORDS: usize = 8;
+
 /// The words and slots of all stripes.
 pub(crate) type Stripes<B> = Shared<Option<B>, View<Deed>, Shape, Striping<B>>;
 
 /// What a pass steps with.
 pub(crate) type Stand<B> = Seat<Option<B>, View<Deed>>;
+
+/// Looks at the stripe: the seat has then seen all that it was told of. Never waits.
+pub(crate) fn look<B: Bins + Drop>(table: &Stripes<B>, seat: &mut Stand<B>, stripe: usize)
+    requires table { IsLaid table.now.table_id table.now.key × (seat.old.table_id ≡ table.now.table_id) }
+    requires stripe { stripe < table.now.table_id.slots }
+    requires pass { Carries seat.old.me.0 (least seat.old.me.0.numbers) }
+    ensures same { (seat.new.table_id ≡ seat.old.table_id) × (seat.new.id ≡ seat.old.id) }
+    ensures looked { Looks (does table.now.table_id.slots) empty stripe seat.old.me seat.new.me }
+{
+    table.load::<Look>(seat, stripe * LINE_WORDS);
+}
 
 /// Tries once to take the stripe: whether it was free. Never waits.
 pub(crate) fn try_take<B: Bins + Drop>(
@@ -37,7 +52,7 @@ pub(crate) fn try_take<B: Bins + Drop>(
         (Takes (does table.now.table_id.slots) empty B.table stripe seat.old.me seat.new.me)
         (Looks (does table.now.table_id.slots) empty stripe seat.old.me seat.new.me) }
 {
-    table.compare_exchange::<Take<B>>(seat, stripe, 0, 1) == 0
+    table.compare_exchange::<Take<B>>(seat, stripe * LINE_WORDS, 0, 1) == 0
 }
 
 /// Takes the stripe. Waits until it is free.
@@ -124,5 +139,5 @@ fn release<B: Bins + Drop, T, J: May>(
     ensures made { Lets J.may table.now.table_id.slots stripe seat.old.me seat.new.me }
 {
     let _ = what;
-    table.swap::<Release<J>>(seat, stripe, 0);
+    table.swap::<Release<J>>(seat, stripe * LINE_WORDS, 0);
 }

@@ -9,8 +9,8 @@ ghost use Rattle.bin_stripes.specs.Passes.{IsPass, Serves, stripes_of};
 use crate::deed::Deed;
 use crate::map::StripedMap;
 use crate::pass::Pass;
-use crate::rule::{Heed, Look, Unite};
-use crate::steps::{Stand, Stripes};
+use crate::rule::{Heed, Unite};
+use crate::steps::{Stand, Stripes, look};
 use bins::Bins;
 use known_seat::{Known, learn};
 use stripe_rule::View;
@@ -50,7 +50,7 @@ impl StripedMap {
         let mut seat = one.take();
         hear(table, &other, &mut seat, stripes);
         unite(table, &mut seat, other.take());
-        table.load::<Look>(&mut seat, 0);
+        look(table, &mut seat, 0);
         Pass {
             known: Known::of(seat),
             machine,
@@ -86,6 +86,6 @@ fn hear<B: Bins + Drop>(
 {
     learn::<_, _, _, _, Heed>(table, seat, from);
     for stripe in 0..stripes {
-        table.load::<Look>(seat, stripe);
+        look(table, seat, stripe);
     }
 }

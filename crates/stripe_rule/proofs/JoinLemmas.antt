@@ -10,6 +10,7 @@ use Rattle.stripe_rule.specs.declared.view.Part.{Part}
 use Rattle.stripe_rule.specs.declared.view.View.{View}
 use Rattle.stripe_rule.specs.History.{has, made_by, AreUnder, AreOthers, StartsWith}
 use Rattle.stripe_rule.specs.Gains.{blank, part_of, seen_of, mine_of, held_at, IsIdle, Carries, Hears, IsJoined}
+use Rattle.stripe_rule.specs.Words.{word_at}
 use Rattle.stripe_rule.specs.Rule.{Home, At, AreApart, IsCounted, Fits, IsFree, IsHeld, Kept}
 use Rattle.stripe_rule.specs.Steps.{Extends, longer, united_part, united_parts, united, spent}
 use Rattle.stripe_rule.proofs.HistoryLemmas.{IsUnder, IsOther, not_true, has-append, has-left, has-right, All-front, All-back, made_by-append, made_by-others, under_none, under_more}
@@ -173,6 +174,7 @@ module _ {D T B : Type 0} (does : ℕ → T → D → T → Type 0) (empty : T) 
       let wide : length v.parts ≡ length w.parts = one.wide q c ∙ sym (its.wide r c') in
       let clash : (n : ℕ) → Carries v n → Carries w n → ⊥ = λ n a b. two (kept.apart other id w v n there at b a) in record {
         words = kept.words;
+        between = kept.between;
         apart = united_apart s.views id v other w u at there (λ n. has-append n v.numbers w.numbers) kept.apart;
         counted = every s.views id v other w u at there (IsCounted stripes passes)
             record { wide = λ n h. absurd (true≢false (sym h)); count = λ n h. absurd (true≢false (sym h)); small = λ n h. absurd (true≢false (sym h)) }
@@ -187,7 +189,7 @@ module _ {D T B : Type 0} (does : ℕ → T → D → T → Type 0) (empty : T) 
               legal = t.legal;
               below = t.below;
               fits = every s.views id v other w u at there (Fits k t.log) (spent_fits k t.log) (both_fit k t.log v w wide clash (t.fits id v at) (t.fits other w there)) t.fits;
-              place = united_place s.views id v other w u at there two k t.log (get_or s.words k 0) old.0 (idle k) (idle' k) (ap (λ (p : Part D). p.held) (part_united v w k wide) ∙ idle k) t.place;
+              place = united_place s.views id v other w u at there two k t.log (get_or s.words (word_at k) 0) old.0 (idle k) (idle' k) (ap (λ (p : Part D). p.held) (part_united v w k wide) ∙ idle k) t.place;
             },
           ),
         );

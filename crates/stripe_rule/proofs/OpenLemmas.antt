@@ -13,6 +13,7 @@ use Rattle.stripe_rule.specs.declared.view.Part.{Part}
 use Rattle.stripe_rule.specs.declared.view.View.{View}
 use Rattle.stripe_rule.specs.History.{has, made_by, AreUnder, AreOthers}
 use Rattle.stripe_rule.specs.Gains.{blank, part_of, held_at, Carries}
+use Rattle.stripe_rule.specs.Words.{words_of, word_at}
 use Rattle.stripe_rule.specs.Rule.{from_on, Home, newcomer, opener, At, AreApart, IsCounted, Fits, IsFree, IsHeld, Kept}
 use Rattle.stripe_rule.specs.Steps.{with_numbers, head_of, tail_of}
 use Rattle.stripe_rule.proofs.HistoryLemmas.{IsUnder, IsOther, IsBelow, bool_cases, eq_of, others_fewer}
@@ -83,10 +84,11 @@ module _ {D T B : Type 0} (does : ℕ → T → D → T → Type 0) (empty : T) 
   abbrev pub HasEmptyBins : Option B → Type 0
   HasEmptyBins x = (b : B) × ((x ≡ Some b) × (content b ≡ empty))
 
-  pub opens : (words : List ℕ) (homes : List (Option B)) → length words ≡ stripes → length homes ≡ stripes → ((k : ℕ) → k < stripes → get_or words k 0 ≡ 0) → All HasEmptyBins homes
+  pub opens : (words : List ℕ) (homes : List (Option B)) → length words ≡ words_of stripes → length homes ≡ stripes → ((i : ℕ) → i < words_of stripes → get_or words i 0 ≡ 0) → All HasEmptyBins homes
       → Rule (opening words homes (opener stripes passes))
   opens words homes long wide zeros bins = let first : View D = opener stripes passes in record {
     words = long;
+    between = λ k i inside low high. zeros (word_at k + i) (omega arith);
     apart = λ i j x y q ex ey cx cy. (one first i x ex).0 ∙ sym (one first j y ey).0;
     counted = every_one (IsCounted stripes passes) first (new_counted D stripes passes (from_on 0 passes) (λ q c. let l = below 0 passes q c in omega arith));
     stripe = λ k inside. let b = at_all HasEmptyBins homes k (omega arith) bins in (
@@ -99,7 +101,7 @@ module _ {D T B : Type 0} (does : ℕ → T → D → T → Type 0) (empty : T) 
           below = All-nil (IsBelow passes);
           fits = every_one (Fits k []) first (new_fits D stripes passes k (from_on 0 passes) [] (All-nil (IsOther (from_on 0 passes))));
           place = inl record {
-            word_is = zeros k inside;
+            word_is = zeros (word_at k) (omega arith);
             bins = b.1.1.0;
             home_is = ap maybe.some b.1.1.1.0;
             content_is = b.1.1.1.1;
@@ -174,6 +176,7 @@ module _ {D T B : Type 0} (does : ℕ → T → D → T → Type 0) (empty : T) 
       let sub_w : (q : ℕ) → has q (from_on (i + 1) count) ≡ true → has q (from_on i (suc count)) ≡ true = λ q c. ap (λ b. eqb q i || b) c ∙ or_true (eqb q i) in
       let small = (r.counted id v at).small in record {
         words = r.words;
+        between = r.between;
         apart = fork_apart s id v l w at sub_l sub_w (λ q c d. let is = only_head q i c in let a = above (i + 1) count q d in absurd (omega arith)) r.apart;
         counted = every_both s id v l w at (IsCounted stripes passes) (new_counted D stripes passes (i ∷ []) (λ q c. small q (sub_l q c))) (new_counted D stripes passes (from_on (i + 1) count) (λ q c. small q (sub_w q c))) r.counted;
         stripe = λ k inside. let old = r.stripe k inside in let t = old.1.1 in let f = t.fits id v at in
@@ -187,7 +190,7 @@ module _ {D T B : Type 0} (does : ℕ → T → D → T → Type 0) (empty : T) 
                   below = t.below;
                   fits = every_both s id v l w at (Fits k t.log) (new_fits D stripes passes k (i ∷ []) t.log (others_fewer v.numbers (i ∷ []) t.log sub_l others))
                       (new_fits D stripes passes k (from_on (i + 1) count) t.log (others_fewer v.numbers (from_on (i + 1) count) t.log sub_w others)) t.fits;
-                  place = fork_place s id v l w at k t.log (get_or s.words k 0) old.0 (new_idle D stripes passes k v.numbers) (new_idle D stripes passes k l.numbers) (new_idle D stripes passes k w.numbers) t.place;
+                  place = fork_place s id v l w at k t.log (get_or s.words (word_at k) 0) old.0 (new_idle D stripes passes k v.numbers) (new_idle D stripes passes k l.numbers) (new_idle D stripes passes k w.numbers) t.place;
                 },
               ),
             );

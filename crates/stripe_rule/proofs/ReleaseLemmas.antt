@@ -9,8 +9,9 @@ use Rattle.stripe_rule.specs.declared.view.Part.{Part}
 use Rattle.stripe_rule.specs.declared.view.View.{View}
 use Rattle.stripe_rule.specs.History.{has, made_by, AreUnder, AreOthers, Replays}
 use Rattle.stripe_rule.specs.Gains.{part_of, seen_of, mine_of, held_at, Carries}
+use Rattle.stripe_rule.specs.Words.{word_at}
 use Rattle.stripe_rule.specs.Rule.{At, Fits, IsFree, IsHeld, Stripe, Kept}
-use Rattle.stripe_rule.specs.Steps.{Sets, grown, released}
+use Rattle.stripe_rule.specs.Steps.{Sets, Releases, grown, released}
 use Rattle.stripe_rule.proofs.HistoryLemmas.{IsUnder, IsOther, IsBelow, not_true, made_by-append, under_others, under_below}
 use Rattle.stripe_rule.proofs.ViewLemmas.{set_at, same_view, put_part, sets_put}
 use Rattle.stripe_rule.proofs.StripeLemmas.{kept_set, sound_of}
@@ -48,8 +49,8 @@ module _ {D T B : Type 0} (does : ℕ → T → D → T → Type 0) (empty : T) 
       → Replays (does k) empty (seen_of v k ++ more) (content b) → AreUnder v.numbers more → Sets v k (grown (part_of v k) more) w
       → Stripe does empty content passes k 0 (maybe.some (Some b)) (set s.views id w)
   release_stripe s id k v w b more r at inside held content_is under sets = let t = (r.stripe k inside).1.1 in ⊎_elim
-      (λ (free : IsFree does empty content k t.log (get_or s.words k 0) (r.stripe k inside).0 s.views). absurd (true≢false (sym held ∙ free.nobody id v at)))
-      (λ (busy : IsHeld does empty content k t.log (get_or s.words k 0) (r.stripe k inside).0 s.views).
+      (λ (free : IsFree does empty content k t.log (get_or s.words (word_at k) 0) (r.stripe k inside).0 s.views). absurd (true≢false (sym held ∙ free.nobody id v at)))
+      (λ (busy : IsHeld does empty content k t.log (get_or s.words (word_at k) 0) (r.stripe k inside).0 s.views).
       let here : id ≡ busy.who = busy.alone id v at held in
       let whole : seen_of v k ≡ t.log = ap (λ (z : View D). seen_of z k) (same_view s.views busy.who v busy.view (subst (λ i. At s.views i v) here at) busy.at) ∙ busy.whole in
       let log : List (Event D) = t.log ++ more in
@@ -78,21 +79,22 @@ module _ {D T B : Type 0} (does : ℕ → T → D → T → Type 0) (empty : T) 
   module _ (slots id k : ℕ) where
     releases_at : (v : View D) (others : List (ℕ × Option B)) (b : B) (more : List (Event D)) (q : ℕ) → k < stripes → Carries v q → held_at v k ≡ true
         → Replays (does k) empty (seen_of v k ++ more) (content b) → AreUnder v.numbers more
-        → Allows Rule slots id (v, (k, Some b) ∷ others) k (λ _. 0) (released does empty more (step slots k 0 0 maybe.none) (v, (k, Some b) ∷ others))
+        → Allows Rule slots id (v, (k, Some b) ∷ others) (word_at k) (λ _. 0) (released does empty more (step slots (word_at k) 0 0 maybe.none) (v, (k, Some b) ∷ others))
     releases_at v others b more q inside c held content_is under s r _ at small = let home = r.stripe k inside in
         let part = grown (part_of v k) more in let w = put_part v k part in let sets = sets_put v k part (let l = (r.counted id v at).wide q c in omega arith) in
         let homes = set s.homes k (maybe.some (Some b)) in
-        let kept : Rule record { words = set s.words k 0; homes = homes; views = set s.views id w } = kept_set does empty content stripes passes s id v w k 0 part (maybe.some (Some b)) homes r at inside sets
+        let kept : Rule record { words = set s.words (word_at k) 0; homes = homes; views = set s.views id w } = kept_set does empty content stripes passes s id v w k 0 part (maybe.some (Some b)) homes r at inside sets
         (release_stripe s id k v w b more r at inside held content_is under sets) (set_at s.homes k home.0 (maybe.some (Some b)) home.1.0) (λ j other. set_else s.homes k j (maybe.some (Some b)) other) in (
           w,
           gives,
           tt,
           kept,
-          record { sets = sets; sound = sound_of does empty content stripes passes record { words = set s.words k 0; homes = homes; views = set s.views id w } id w q kept (set_at s.views id v w at) c; out = refl },
+          λ j e. let same : k ≡ j = omega arith in subst (λ i. Releases does empty more i (v, (k, Some b) ∷ others) (w, others)) same
+              record { sets = sets; sound = sound_of does empty content stripes passes record { words = set s.words (word_at k) 0; homes = homes; views = set s.views id w } id w q kept (set_at s.views id v w at) c; out = refl },
         )
 
     pub releases : (me : Me (Option B) (View D)) (others : List (ℕ × Option B)) (b : B) (more : List (Event D)) (q : ℕ) → k < stripes → Carries me.0 q → held_at me.0 k ≡ true → me.1 ≡ (k, Some b) ∷ others
         → Replays (does k) empty (seen_of me.0 k ++ more) (content b) → AreUnder me.0.numbers more
-        → Allows Rule slots id me k (λ _. 0) (released does empty more (step slots k 0 0 maybe.none) me)
-    releases me others b more q inside c held is content_is under = subst (λ (x : List (ℕ × Option B)). Allows Rule slots id (me.0, x) k (λ _. 0) (released does empty more (step slots k 0 0 maybe.none) (me.0, x))) (sym is)
+        → Allows Rule slots id me (word_at k) (λ _. 0) (released does empty more (step slots (word_at k) 0 0 maybe.none) me)
+    releases me others b more q inside c held is content_is under = subst (λ (x : List (ℕ × Option B)). Allows Rule slots id (me.0, x) (word_at k) (λ _. 0) (released does empty more (step slots (word_at k) 0 0 maybe.none) (me.0, x))) (sym is)
         (releases_at me.0 others b more q inside c held content_is under)

@@ -1,5 +1,5 @@
 -- One view changes: what that asks for at the stripe where it changes, and that the other stripes stay.
-use Rattle.std.proofs.Common.{◌≡◌, ◌≢◌, ◌⊎◌, ℕ, suc, ◌<◌, Bool, true, false, List, [], ◌++◌, get_or, set, Option, refl, sym, ap, ◌∙◌, subst, inl, inr, ⊎_elim, arith, append-nil, length-set, get_or-set_same, get_or-set_other}
+use Rattle.std.proofs.Common.{◌≡◌, ◌≢◌, ◌⊎◌, ℕ, suc, ◌+◌, ◌<◌, Bool, true, false, List, [], ◌++◌, get_or, set, Option, refl, sym, ap, ◌∙◌, subst, inl, inr, ⊎_elim, arith, append-nil, length-set, get_or-set_same, get_or-set_other}
 use Rattle.std.proofs.lemmas.List.Elements.{All-nil}
 use mathlib.Core.Logic.{dite}
 use mathlib.Core.Option as maybe
@@ -12,6 +12,7 @@ use Rattle.stripe_rule.specs.declared.view.Part.{Part}
 use Rattle.stripe_rule.specs.declared.view.View.{View}
 use Rattle.stripe_rule.specs.History.{has, made_by, AreUnder, AreOthers, AreBelow, IsLegal}
 use Rattle.stripe_rule.specs.Gains.{blank, part_of, seen_of, mine_of, held_at, Carries, IsSound}
+use Rattle.stripe_rule.specs.Words.{word_at}
 use Rattle.stripe_rule.specs.Rule.{Home, At, IsCounted, Fits, IsFree, IsHeld, Stripe, Kept}
 use Rattle.stripe_rule.specs.Steps.{Sets, lengthened}
 use Rattle.stripe_rule.proofs.HistoryLemmas.{IsBelow, All-front, legal_front, made_by-others}
@@ -104,20 +105,21 @@ module _ {D T B : Type 0} (does : ℕ → T → D → T → Type 0) (empty : T) 
   pub kept_set : (stripes passes : ℕ) (s : State (Option B) (View D)) (id : ℕ) (v w : View D) (k word : ℕ) (part : Part D) (home : Home B) (homes : List (Home B))
       → Kept does empty content stripes passes s → At s.views id v → k < stripes → Sets v k part w → Stripe does empty content passes k word home (set s.views id w)
       → get_elem? homes k ≡ maybe.some home → ((j : ℕ) → j ≢ k → get_elem? homes j ≡ get_elem? s.homes j)
-      → Kept does empty content stripes passes record { words = set s.words k word; homes = homes; views = set s.views id w }
+      → Kept does empty content stripes passes record { words = set s.words (word_at k) word; homes = homes; views = set s.views id w }
   kept_set stripes passes s id v w k word part home homes r at inside sets stripe here else = record {
-    words = length-set s.words k word ∙ r.words;
+    words = length-set s.words (word_at k) word ∙ r.words;
+    between = λ j i l low high. get_or-set_other s.words (word_at k) (word_at j + i) word 0 (λ e. omega (arith, e, low, high)) ∙ r.between j i l low high;
     apart = apart_set s.views id v w at sets.numbers r.apart;
     counted = every_set (IsCounted stripes passes) s.views id w (counted_same stripes passes v w sets.numbers sets.passes sets.wide (r.counted id v at)) r.counted;
     stripe = λ j l. dite (ℕ_discrete j k)
-        (λ is. subst (λ (m : ℕ). (h : Home B) × ((get_elem? homes m ≡ maybe.some h) × Stripe does empty content passes m (get_or (set s.words k word) m 0) h (set s.views id w))) (sym is)
-        (home, (here, subst (λ n. Stripe does empty content passes k n home (set s.views id w)) (sym (get_or-set_same s.words k word 0 (let n = r.words in omega arith))) stripe)))
+        (λ is. subst (λ (m : ℕ). (h : Home B) × ((get_elem? homes m ≡ maybe.some h) × Stripe does empty content passes m (get_or (set s.words (word_at k) word) (word_at m) 0) h (set s.views id w))) (sym is)
+        (home, (here, subst (λ n. Stripe does empty content passes k n home (set s.views id w)) (sym (get_or-set_same s.words (word_at k) word 0 (let n = r.words in omega arith))) stripe)))
         (λ other. let old = r.stripe j l in (
           old.0,
           (
             else j other ∙ old.1.0,
-            subst (λ n. Stripe does empty content passes j n old.0 (set s.views id w)) (sym (get_or-set_other s.words k j word 0 (λ e. other e)))
-                (stripe_else passes j (get_or s.words j 0) old.0 s.views id v w old.1.1 at sets.numbers (sets.elsewhere j other)),
+            subst (λ n. Stripe does empty content passes j n old.0 (set s.views id w)) (sym (get_or-set_other s.words (word_at k) (word_at j) word 0 (λ e. other (omega arith))))
+                (stripe_else passes j (get_or s.words (word_at j) 0) old.0 s.views id v w old.1.1 at sets.numbers (sets.elsewhere j other)),
           ),
         ));
   }

@@ -8,6 +8,7 @@ use Rattle.stripe_rule.specs.declared.view.Part.{Part}
 use Rattle.stripe_rule.specs.declared.view.View.{View}
 use Rattle.stripe_rule.specs.History.{has, made_by, AreUnder, AreOthers, StartsWith}
 use Rattle.stripe_rule.specs.Gains.{blank, part_of, seen_of, told_of, held_at, Carries, Hears}
+use Rattle.stripe_rule.specs.Words.{word_at}
 use Rattle.stripe_rule.specs.Rule.{At, IsCounted, Fits, Kept}
 use Rattle.stripe_rule.specs.Steps.{Extends, told_part, IsTold, HasHeard}
 use Rattle.stripe_rule.proofs.ViewLemmas.{every_set, apart_set, counted_same}
@@ -65,13 +66,14 @@ module _ {D T B : Type 0} (does : ℕ → T → D → T → Type 0) (empty : T) 
         (
           record {
             words = kept.words;
+            between = kept.between;
             apart = apart_set s.views id v u at refl kept.apart;
             counted = every_set (IsCounted stripes passes) s.views id u (counted_same stripes passes v u refl refl told.wide (kept.counted id v at)) kept.counted;
             stripe = λ k inside. let old = kept.stripe k inside in let t = old.1.1 in (
               old.0,
               (
                 old.1.0,
-                stripe_set does empty content passes k (get_or s.words k 0) old.0 s.views id v u t at (told_fits k t.log v from u (t.fits id v at) (t.fits other from there) refl (told.parts k))
+                stripe_set does empty content passes k (get_or s.words (word_at k) 0) old.0 s.views id v u t at (told_fits k t.log v from u (t.fits id v at) (t.fits other from there) refl (told.parts k))
                     (ap (λ (p : Part D). p.held) (told.parts k)) (λ whole. ap (λ (p : Part D). p.seen) (told.parts k) ∙ whole),
               ),
             );

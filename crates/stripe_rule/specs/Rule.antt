@@ -1,4 +1,4 @@
--- The rule of the table: its words, the values at home and what all passes know. A word is 1 while its stripe is held.
+-- The rule of the table: its words, the values at home and what all passes know. A stripe's word is 1 while it is held.
 use Rattle.std.specs.Prelude.{◌≡◌, ℕ, zero, suc, ◌+◌, ◌<◌, ◌⊎◌, true, false, List, [], ◌∷◌, ◌++◌, length, replicate, slice_index, Option, Some}
 use mathlib.Core.Option as maybe
 use lib.ListN.{get_elem?}
@@ -6,6 +6,7 @@ use Rattle.atomic_table.specs.Table.{State}
 use Rattle.stripe_rule.specs.declared.view.Event.{Event}
 use Rattle.stripe_rule.specs.declared.view.View.{View}
 use Rattle.stripe_rule.specs.History.{made_by, AreUnder, AreOthers, AreBelow, StartsWith, Replays, IsLegal}
+use Rattle.stripe_rule.specs.Words.{words_of, word_at}
 use Rattle.stripe_rule.specs.Gains.{blank, seen_of, mine_of, told_of, held_at, Carries}
 
 -- so many numbers from n on
@@ -83,8 +84,9 @@ module _ {D T B : Type 0} (does : ℕ → T → D → T → Type 0) (empty : T) 
 
   -- the rule
   pub record Kept (stripes passes : ℕ) (s : State (Option B) (View D)) : Type 0 where
-    pub words : length s.words ≡ stripes
+    pub words : length s.words ≡ words_of stripes
+    pub between : (k i : ℕ) → k < stripes → 0 < i → i < 8 → slice_index s.words (word_at k + i) ≡ 0
     pub apart : AreApart s.views
     pub counted : (id : ℕ) (v : View D) → At s.views id v → IsCounted stripes passes v
     pub stripe : (k : ℕ) → k < stripes → (home : Home B)
-        × ((get_elem? s.homes k ≡ maybe.some home) × Stripe passes k (slice_index s.words k) home s.views)
+        × ((get_elem? s.homes k ≡ maybe.some home) × Stripe passes k (slice_index s.words (word_at k)) home s.views)

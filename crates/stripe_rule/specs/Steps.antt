@@ -6,6 +6,7 @@ use Rattle.stripe_rule.specs.declared.view.Part.{Part}
 use Rattle.stripe_rule.specs.declared.view.View.{View}
 use Rattle.stripe_rule.specs.History.{AreOthers, StartsWith, Replays}
 use Rattle.stripe_rule.specs.Gains.{part_of, seen_of, told_of, held_at, Gains, IsSound}
+use Rattle.stripe_rule.specs.Words.{word_at}
 
 module _ {D : Type 0} where
   -- only what is known of the stripe k is new: it is this part
@@ -75,13 +76,13 @@ module _ {D T : Type 0} (does : ℕ → T → D → T → Type 0) (empty : T) wh
     pub gains : (k : ℕ) → Gains v w k []
     pub left : (k : ℕ) (d : T) → k < n → Replays (does k) empty (seen_of w k) (slice_index_or tables k d)
 
-  -- a load of the word, as a table tells it
+  -- a load of a stripe's word, as a table tells it
   abbrev pub looked : {S : Type 0} → Step S → Me S (View D) → ℕ → Me S (View D) → Type 0
-  looked st me found me' = Looks st.word me me'
+  looked st me found me' = (k : ℕ) → st.word ≡ word_at k → Looks k me me'
 
   -- the swap of the word to 0, as a table tells it
   abbrev pub released : {S : Type 0} → List (Event D) → Step S → Me S (View D) → ℕ → Me S (View D) → Type 0
-  released more st me found me' = Releases more st.word me me'
+  released more st me found me' = (k : ℕ) → st.word ≡ word_at k → Releases more k me me'
 
   module _ {B : Type 0} (content : B → T) where
     -- the place of the stripe k is out with the pass, which has seen all that was done there
@@ -98,7 +99,7 @@ module _ {D T : Type 0} (does : ℕ → T → D → T → Type 0) (empty : T) wh
 
     -- the compare-exchange of the word from 0 to 1, as a table tells it
     abbrev pub took : Step (Option B) → Me (Option B) (View D) → ℕ → Me (Option B) (View D) → Type 0
-    took st me found me' = (found ≡ 0 → Takes st.word me me') × (found ≢ 0 → Looks st.word me me')
+    took st me found me' = (k : ℕ) → st.word ≡ word_at k → (found ≡ 0 → Takes k me me') × (found ≢ 0 → Looks k me me')
 
 abbrev pub head_of : List ℕ → List ℕ
 head_of [] = []

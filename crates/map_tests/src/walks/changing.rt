@@ -20,6 +20,31 @@ fn key_of(byte: u8) -> Key {
     Key::from_slice(&[byte]).unwrap()
 }
 
+fn put_turn<R: Wait>(
+    rt: &R,
+    map: &StripedMap,
+    pass: &mut Pass,
+    key: u8,
+    turn: u64,
+) -> Result<(), NoMemory>
+    requires { pass.old.map ≡ map.now }
+    ensures { pass.new.map ≡ map.now }
+{
+    let key = key_of(key);
+    let value = Value::from_slice(&turn.to_le_bytes()).unwrap();
+    map.call(rt, pass, &Call::Put { key, value })?;
+    Ok(())
+}
+
+fn remove<R: Wait>(rt: &R, map: &StripedMap, pass: &mut Pass, key: u8) -> Result<(), NoMemory>
+    requires { pass.old.map ≡ map.now }
+    ensures { pass.new.map ≡ map.now }
+{
+    let key = key_of(key);
+    map.call(rt, pass, &Call::Remove { key })?;
+    Ok(())
+}
+
 // One turn of the thread with this lower key.
 fn take_turn<R: Wait>(
     rt: &R,
@@ -32,16 +57,10 @@ fn take_turn<R: Wait>(
     ensures { pass.new.map ≡ map.now }
 {
     let high = low.wrapping_add(THREADS);
-    for key in [low, high] {
-        let value = Value::from_slice(&turn.to_le_bytes()).unwrap();
-        let key = key_of(key);
-        map.call(rt, pass, &Call::Put { key, value })?;
-    }
-    for key in [low, high] {
-        let key = key_of(key);
-        map.call(rt, pass, &Call::Remove { key })?;
-    }
-    Ok(())
+    put_turn(rt, map, pass, low, turn)?;
+    put_turn(rt, map, pass, high, turn)?;
+    remove(rt, map, pass, low)?;
+    remove(rt, map, pass, high)
 }
 
 // All turns of the thread with this lower key.

@@ -17,7 +17,7 @@ split_seat-next-requires g c = let table = c.args.table.now in let i = c.loop-nu
     let n : p - i ≡ suc (p - i - 1) = (let t = c.loop-number-test.true in omega arith) in
     let is : v ≡ newcomer table.table_id.slots p (from_on i (suc (p - i - 1))) = ap (λ m. m.0) inv.1 ∙ ap (λ k. newcomer table.table_id.slots p (from_on i k)) n in (
       inv.0,
-      subst (λ n. 0 < n) (sym c.requires.table.0.words) c.requires.some,
+      subst (λ n. 0 < n) (sym c.requires.table.0.words) (let some = c.requires.some in omega arith),
       subst (λ (q : ℕ × ℕ). Splits (Kept (does q.0) empty g.B.Bins.table q.0 q.1) c.loop-number.rest.id v (with_numbers v (head_of v.numbers)) (with_numbers v (tail_of v.numbers)))
           (λ j. (sym c.requires.table.0.stripes j, sym c.requires.passes.0 j))
           (deals_as (does table.table_id.slots) empty g.B.Bins.table table.table_id.slots p c.loop-number.rest.id i (p - i - 1) v is),

@@ -2,7 +2,6 @@ use Rattle.std.proofs.Common.{◌≡◌, ◌<◌, refl, sym, ◌∙◌, subst, a
 use Rattle.stripe_rule.specs.Steps.{view_of, HasHeard}
 use Rattle.stripe_rule.proofs.TellLemmas.{heard_none, heard_more}
 use Rattle.bin_stripes.specs.Histories.{Sound}
-use Rattle.bin_stripes.proofs.StepLemmas.{looks_at}
 use Rattle.bin_stripes.proofs.TellingLemmas.{learns_of, told_sound, told_again, told_rests, heard_since, told_is, told_looks}
 use Rattle.bin_stripes.proofs.tell.hear.Goals as goal
 
@@ -21,17 +20,19 @@ pub loop-stripe-init : goal.loop-stripe-init
 loop-stripe-init g c = let from = view_of c.args.from.now.views in let v = c.args.seat.now.me.0 in let u = c.learn.new.seat.me in let t = told_is from v u.0 c.learn.ensures.3.0 c.args.from.now.views c.learn.ensures.3.1 refl c.learn.ensures.3.2 in
     (refl, refl, heard_none from u.0 u.0 (told_again from v u.0 t), told_rests from c.args.seat.now.me u c.requires.rests.0 t (c.learn.ensures.2 ∙ c.requires.rests.0.none_out), told_sound c.args.stripes from v u.0 t c.requires.rests.1)
 
-pub load-requires : goal.load-requires
-load-requires g c = let inv = c.loop-stripe.invariant in let table = c.args.table.now in let inside = subst (λ n. c.loop-stripe.stripe < n) c.requires.table.1 c.loop-stripe-test.true in (
-  inv.0 ∙ (c.learn.ensures.0 ∙ c.requires.seats.0),
-  subst (λ n. c.loop-stripe.stripe < n) (sym c.requires.table.0.words) inside,
-  looks_at g.B.Bins.table table.table_id table.key c.requires.table.0 c.loop-stripe.seat.id c.loop-stripe.stripe c.loop-stripe.seat.me inside inv.3.some,
-)
+pub look-requires-clause-table : goal.look-requires-clause-table
+look-requires-clause-table g c = (c.requires.table.0, c.loop-stripe.invariant.0 ∙ (c.learn.ensures.0 ∙ c.requires.seats.0))
+
+pub look-requires-clause-stripe : goal.look-requires-clause-stripe
+look-requires-clause-stripe g c = subst (λ n. c.loop-stripe.stripe < n) c.requires.table.1 c.loop-stripe-test.true
+
+pub look-requires-clause-pass : goal.look-requires-clause-pass
+look-requires-clause-pass g c = c.loop-stripe.invariant.3.some
 
 pub loop-stripe-preserved : goal.loop-stripe-preserved
-loop-stripe-preserved g c = let inv = c.loop-stripe.invariant in let l = c.load.ensures in let from = view_of c.args.from.now.views in let u = c.learn.new.seat.me.0 in let w = c.loop-stripe.seat.me in let x = c.load.new.seat.me in
-    let h = heard_more from u w.0 x.0 c.loop-stripe.stripe inv.2 l.2.extends l.2.heard in
-    (l.0 ∙ inv.0, l.1 ∙ inv.1, h, told_looks c.args.table.now.table_id.slots g.B.Bins.table c.loop-stripe.stripe w x inv.3 l.2, subst (λ n. Sound n x.0) (sym c.requires.table.1) l.2.sound)
+loop-stripe-preserved g c = let inv = c.loop-stripe.invariant in let l = c.look.ensures in let from = view_of c.args.from.now.views in let u = c.learn.new.seat.me.0 in let w = c.loop-stripe.seat.me in let x = c.look.new.seat.me in
+    let h = heard_more from u w.0 x.0 c.loop-stripe.stripe inv.2 l.looked.extends l.looked.heard in
+    (l.same.0 ∙ inv.0, l.same.1 ∙ inv.1, h, told_looks c.args.table.now.table_id.slots g.B.Bins.table c.loop-stripe.stripe w x inv.3 l.looked, subst (λ n. Sound n x.0) (sym c.requires.table.1) l.looked.sound)
 
 pub returns-clause-heard : goal.returns-clause-heard
 returns-clause-heard g c = let from = view_of c.args.from.now.views in let v = c.args.seat.now.me.0 in let u = c.learn.new.seat.me.0 in let w = c.loop-stripe.seat.me.0 in

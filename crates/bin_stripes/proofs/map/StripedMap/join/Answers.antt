@@ -1,4 +1,4 @@
-use Rattle.std.proofs.Common.{◌≡◌, ℕ, ◌<◌, List, length, refl, sym, ap, ◌∙◌, subst}
+use Rattle.std.proofs.Common.{◌≡◌, ℕ, ◌<◌, List, length, refl, sym, ap, ◌∙◌, subst, arith}
 use Rattle.atomic_table.specs.Seated.{TableId}
 use Rattle.stripe_rule.specs.declared.view.View.{View}
 use Rattle.stripe_rule.specs.Gains.{Hears, IsJoined, least, held_at}
@@ -9,7 +9,7 @@ use Rattle.atomic_methods.proofs.StripeLemmas.{some_stripe}
 use Rattle.bin_stripes.specs.declared.deed.Deed.{Deed}
 use Rattle.bin_stripes.specs.Histories.{empty, does}
 use Rattle.bin_stripes.specs.Passes.{IsPass, stripes_of}
-use Rattle.bin_stripes.proofs.StepLemmas.{looks_at, settles_lost}
+use Rattle.bin_stripes.proofs.StepLemmas.{settles_lost}
 use Rattle.bin_stripes.proofs.PassLemmas.{rests_of, joined_rests, wide_united}
 use Rattle.bin_stripes.proofs.StripeContent.{content}
 use Rattle.bin_stripes.proofs.map.StripedMap.join.Goals as goal
@@ -18,25 +18,29 @@ pub unite-requires-clause-table : goal.unite-requires-clause-table
 unite-requires-clause-table c = let shared = c.self.inside.table.shared in (
   c.hear.ensures.same.0 ∙ (c.take-seat.ensures.0 ∙ (ap (λ p. p.map) c.one.view_is ∙ (c.requires.one ∙ sym c.self.view_is))),
   c.take.ensures.0 ∙ (ap (λ p. p.map) c.other.view_is ∙ (c.requires.other ∙ sym c.self.view_is)),
-  subst (λ n. 0 < n) (sym c.self.invariant.laid.words) (some_stripe shared.table_id.slots c.self.invariant.count),
+  subst (λ n. 0 < n) (sym c.self.invariant.laid.words) (let some = some_stripe shared.table_id.slots c.self.invariant.count in omega arith),
 )
 
 pub unite-requires-clause-rests : goal.unite-requires-clause-rests
 unite-requires-clause-rests c = let second = c.other.inside.known in
     (c.hear.ensures.rests.0, rests_of second.table_id second.views c.take.result.me c.other.invariant c.take.ensures.2 c.take.ensures.3)
 
-pub load-requires : goal.load-requires
-load-requires c = let shared = c.self.inside.table.shared in let first = c.one.inside.known in let second = c.other.inside.known in
-    let v = c.hear.new.seat.me in let w = c.take.result.me in let r = c.hear.ensures.rests.0 in
+pub look-requires-clause-table : goal.look-requires-clause-table
+look-requires-clause-table c = (
+  c.self.invariant.laid,
+  c.unite.ensures.same.0 ∙ (c.hear.ensures.same.0 ∙ (c.take-seat.ensures.0 ∙ (ap (λ p. p.map) c.one.view_is ∙ (c.requires.one ∙ sym c.self.view_is)))),
+)
+
+pub look-requires-clause-stripe : goal.look-requires-clause-stripe
+look-requires-clause-stripe c = some_stripe c.self.inside.table.shared.table_id.slots c.self.invariant.count
+
+pub look-requires-clause-pass : goal.look-requires-clause-pass
+look-requires-clause-pass c = let first = c.one.inside.known in let second = c.other.inside.known in
+    let v = c.hear.new.seat.me in let w = c.take.result.me in
     let s = rests_of second.table_id second.views w c.other.invariant c.take.ensures.2 c.take.ensures.3 in
-    let some = some_stripe shared.table_id.slots c.self.invariant.count in
     let same : first.table_id ≡ second.table_id = ap (λ p. p.map) c.one.view_is ∙ (c.requires.one ∙ (sym c.requires.other ∙ sym (ap (λ p. p.map) c.other.view_is))) in
     let wide : length v.0.parts ≡ length w.0.parts = c.hear.ensures.heard.wide ∙ (ap (λ (x : View Deed). length x.parts) (sym (ap view_of c.take-seat.ensures.2)) ∙ (c.one.invariant.wide ∙ (ap stripes_of same ∙ (sym c.other.invariant.wide ∙ ap (λ (x : View Deed). length x.parts) (ap view_of c.take.ensures.2))))) in
-    let now = c.unite.new.seat in let rests = joined_rests v w now.me r s wide c.unite.ensures.both in (
-      c.unite.ensures.same.0 ∙ (c.hear.ensures.same.0 ∙ (c.take-seat.ensures.0 ∙ (ap (λ p. p.map) c.one.view_is ∙ (c.requires.one ∙ sym c.self.view_is)))),
-      subst (λ n. 0 < n) (sym c.self.invariant.laid.words) some,
-      looks_at _ shared.table_id shared.key c.self.invariant.laid now.id 0 now.me some rests.some,
-    )
+    (joined_rests v w c.unite.new.seat.me c.hear.ensures.rests.0 s wide c.unite.ensures.both).some
 
 pub invariant_of-result : goal.invariant_of-result
 invariant_of-result c = let shared = c.self.inside.table.shared in let first = c.one.inside.known in let second = c.other.inside.known in
@@ -45,10 +49,10 @@ invariant_of-result c = let shared = c.self.inside.table.shared in let first = c
     let same : first.table_id ≡ second.table_id = ap (λ p. p.map) c.one.view_is ∙ (c.requires.one ∙ (sym c.requires.other ∙ sym (ap (λ p. p.map) c.other.view_is))) in
     let mine : length v.0.parts ≡ stripes_of first.table_id = c.hear.ensures.heard.wide ∙ (ap (λ (x : View Deed). length x.parts) (sym (ap view_of c.take-seat.ensures.2)) ∙ c.one.invariant.wide) in
     let wide : length v.0.parts ≡ length w.0.parts = mine ∙ (ap stripes_of same ∙ (sym c.other.invariant.wide ∙ ap (λ (x : View Deed). length x.parts) (ap view_of c.take.ensures.2))) in
-    let now = c.unite.new.seat.me in let end = c.load.new.seat.me in let rests = joined_rests v w now r s wide c.unite.ensures.both in
+    let now = c.unite.new.seat.me in let end = c.look.new.seat.me in let rests = joined_rests v w now r s wide c.unite.ensures.both in
     let e : first.table_id ≡ shared.table_id = ap (λ p. p.map) c.one.view_is ∙ (c.requires.one ∙ sym c.self.view_is) in
-    let l = settles_lost content shared.table_id.slots 0 now end rests c.load.ensures.2 in
-    let id : c.of.result.table_id ≡ first.table_id = c.of.ensures.0 ∙ (c.load.ensures.0 ∙ (c.unite.ensures.same.0 ∙ (c.hear.ensures.same.0 ∙ c.take-seat.ensures.0))) in
+    let l = settles_lost content shared.table_id.slots 0 now end rests c.look.ensures.looked in
+    let id : c.of.result.table_id ≡ first.table_id = c.of.ensures.0 ∙ (c.look.ensures.same.0 ∙ (c.unite.ensures.same.0 ∙ (c.hear.ensures.same.0 ∙ c.take-seat.ensures.0))) in
     subst (λ (z : TableId × List (View Deed)). IsPass z.0 z.1) (λ i. (sym id i, sym c.of.ensures.2 i)) (record {
       one = refl;
       idle = l.rests.idle;
@@ -67,8 +71,8 @@ returns-clause-joined c = let shared = c.self.inside.table.shared in let first =
     let there : view_of second.views ≡ w.0 = ap view_of c.take.ensures.2 in
     let heard' : Hears n w.0 c.take-seat.result.me.0 v.0 = subst (λ x. Hears n x c.take-seat.result.me.0 v.0) there heard in
     let some : 0 < n = subst (λ m. 0 < m) (sym c.slot_count-stripes.ensures) (some_stripe shared.table_id.slots c.self.invariant.count) in
-    let now = c.unite.new.seat.me.0 in let end = c.load.new.seat.me.0 in
-    let look : Extends (united v.0 w.0) 0 (held_at now 0) end = subst (λ x. Extends x 0 (held_at now 0) end) (ap (λ m. m.0) c.unite.ensures.both) c.load.ensures.2.extends in
+    let now = c.unite.new.seat.me.0 in let end = c.look.new.seat.me.0 in
+    let look : Extends (united v.0 w.0) 0 (held_at now 0) end = subst (λ x. Extends x 0 (held_at now 0) end) (ap (λ m. m.0) c.unite.ensures.both) c.look.ensures.looked.extends in
     subst (λ (z : ℕ × View Deed × View Deed × View Deed). IsJoined z.0 z.1 z.2 z.3)
     (λ i. ((c.slot_count-stripes.ensures ∙ ap (λ t. t.slots) c.self.view_is) i, (sym (ap view_of c.take-seat.ensures.2) ∙ ap (λ p. p.view) c.one.view_is) i, (sym there ∙ ap (λ p. p.view) c.other.view_is) i, sym (ap view_of c.of.ensures.2) i))
     (joined n 0 c.take-seat.result.me.0 w.0 v.0 end (held_at now 0) wide heard' some look)
