@@ -15,6 +15,7 @@ use bpf_model::{Condition, Width};
 ///
 /// At 32 bits the bounds count where all words of both ranges are below 2 to the 31, where low parts and words have
 /// the same readings. Elsewhere the ranges stay, and none is answered only where both have one word.
+#[inline(always)]
 pub fn refine(condition: Condition, width: Width, a: Range, b: Range) -> Option<(Range, Range)>
     ensures { KeepsPairs (holds condition width) a b result }
 {
@@ -30,7 +31,8 @@ pub fn refine(condition: Condition, width: Width, a: Range, b: Range) -> Option<
     }
 }
 
-// by the whole words
+// By the whole words. Inlined with its caller: else each range, of four words, is copied at each call.
+#[inline(always)]
 fn refine_words(condition: Condition, a: Range, b: Range) -> Option<(Range, Range)>
     ensures { KeepsPairs (λ x y. compare condition x y (signed x) (signed y)) a b result }
 {
