@@ -1,5 +1,5 @@
 -- Entries in no order, no key twice: what a search finds among them, and what a write, a push and a removal leave.
-use Rattle.std.proofs.Common.{◌≡◌, ◌≢◌, ℕ, zero, suc, ◌+◌, ◌-◌, ◌<◌, ◌≤◌, Bool, true, false, T, cond, List, [], ◌∷◌, ◌++◌, length, get_or, set, take, Some, None, Option, Ordering, Less, Equal, Greater, is_eq, refl, sym, ap, subst, ◌∙◌, arith, HoldsAt, ◌⊎◌, inl, inr}
+use Rattle.std.proofs.Common.{◌≡◌, ◌≢◌, ℕ, zero, suc, ◌+◌, ◌-◌, ◌<◌, Bool, true, false, T, cond, List, [], ◌∷◌, ◌++◌, length, get_or, set, take, Some, None, Option, Ordering, Less, Equal, Greater, is_eq, refl, sym, ap, subst, ◌∙◌, arith, HoldsAt, ◌⊎◌, inl, inr}
 use Rattle.std.specs.List.{AllWithin, swap_remove}
 use Rattle.std.specs.Ordering.{eq_by_cmp}
 use Rattle.std.specs.Cmp.{tied_itself, eq_by_cmp_equiv}
@@ -7,7 +7,7 @@ use Rattle.std.specs.FinMap as map
 use Rattle.std.specs.FinMap.{find, from_entries, from_entries_push, same_map, get-from_entries, get-insert, get-remove}
 use Rattle.std.specs.FinMap.Entries.{find-append}
 use Rattle.std.proofs.lemmas.Bool.{cases_lt}
-use Rattle.std.proofs.lemmas.List.{take_more, take_all, take-set-le, take-map, map-set, map_push, get_or-map, get_or-take, get_or_default, length-take-le, length-map}
+use Rattle.std.proofs.lemmas.List.{take_more, take_all, take-set-le, take-map, map-set, map_push, get_or-map, get_or-take, length-take-le, length-map}
 use Rattle.bins.specs.Hashes.{hash}
 use Rattle.bins.specs.Table.{Entry, Table, by_bytes}
 use Rattle.bins.specs.Entries.{Distinct, hashes_of}

@@ -1,5 +1,5 @@
 -- A search by hash among entries whose hashes stand beside them.
-use Rattle.std.proofs.Common.{◌≡◌, ◌≢◌, ℕ, ◌<◌, ◌≤◌, List, [], ◌∷◌, Bool, true, false, T, length, get_or, slice_index, Some, None, refl, sym, ap, subst, ◌∙◌, arith, inl, inr}
+use Rattle.std.proofs.Common.{◌≡◌, ◌≢◌, ℕ, ◌<◌, List, [], ◌∷◌, true, false, T, length, get_or, slice_index, Some, None, refl, sym, ap, subst, ◌∙◌, arith, inl, inr}
 use lib.Dec.{eqb}
 use lib.Pointwise.{pointwise}
 use Rattle.std.specs.List.{AllWithin}

@@ -1,7 +1,6 @@
-use Rattle.std.proofs.Common.{◌≡◌, ◌≢◌, ◌<◌, ◌≤◌, ◌-◌, ℕ, Option, Some, None, length, get_or, sym, ap, subst, ◌∙◌, arith, rules}
+use Rattle.std.proofs.Common.{◌≢◌, ◌<◌, length, get_or, ap, ◌∙◌, arith, rules}
 use Rattle.std.proofs.lemmas.List.{get_or_default}
 use Rattle.bins.specs.Table.{Entry}
-use Rattle.bins.specs.Chains.{IsLastOf}
 use Rattle.bins.proofs.HashSearch.{unlike, as_many, past, past_all}
 use Rattle.bins.proofs.hashed_bins.place_of.Goals as goal
 

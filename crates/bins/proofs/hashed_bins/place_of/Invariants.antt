@@ -1,4 +1,4 @@
-use Rattle.std.proofs.Common.{◌≡◌, ◌≢◌, ◌≤◌, ◌<◌, ℕ, suc, Option, Some, None, length}
+use Rattle.std.proofs.Common.{◌≢◌, ◌≤◌, ℕ, suc, Option, Some, None, length}
 use Rattle.std.specs.List.{AllWithin}
 use Rattle.bins.specs.Chains.{IsLastOf}
 use Rattle.bins.proofs.hashed_bins.place_of.Given as goal

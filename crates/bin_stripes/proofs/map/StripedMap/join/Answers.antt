@@ -1,10 +1,10 @@
 use Rattle.std.proofs.Common.{◌≡◌, ℕ, ◌<◌, List, length, refl, sym, ap, ◌∙◌, subst, arith}
 use Rattle.atomic_table.specs.Seated.{TableId}
 use Rattle.stripe_rule.specs.declared.view.View.{View}
-use Rattle.stripe_rule.specs.Gains.{Hears, IsJoined, least, held_at}
+use Rattle.stripe_rule.specs.Gains.{Hears, IsJoined, held_at}
 use Rattle.stripe_rule.specs.Steps.{Extends, view_of, united}
 use Rattle.stripe_rule.proofs.TellLemmas.{hears}
-use Rattle.stripe_rule.proofs.JoinLemmas.{unites, joined}
+use Rattle.stripe_rule.proofs.JoinLemmas.{joined}
 use Rattle.atomic_methods.proofs.StripeLemmas.{some_stripe}
 use Rattle.bin_stripes.specs.declared.deed.Deed.{Deed}
 use Rattle.bin_stripes.specs.Histories.{empty, does}

@@ -1,4 +1,4 @@
-use Rattle.std.proofs.Common.{◌≡◌, sym, ap, ◌∙◌, inl, inr}
+use Rattle.std.proofs.Common.{sym, ap, ◌∙◌, inl, inr}
 use Rattle.std.specs.FinMap as map
 use Rattle.bins.specs.Table.{Table}
 use Rattle.bins.proofs.DistinctEntries.{get_here, get_none, written_hashes, written_distinct, written_table}

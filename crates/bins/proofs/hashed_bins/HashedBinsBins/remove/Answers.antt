@@ -1,5 +1,4 @@
 use Rattle.std.proofs.Common.{arith, sym, ap, subst, ◌∙◌}
-use Rattle.std.specs.FinMap as map
 use Rattle.bins.specs.Entries.{Distinct, hashes_of}
 use Rattle.bins.proofs.MapEdits.{remove_absent}
 use Rattle.bins.proofs.DistinctEntries.{get_here, get_none, removed_hashes, removed_distinct, removed_table}
