@@ -17,8 +17,8 @@ use std::sync::Wait;
 use std::thread;
 use stripe_rule::View;
 
-/// How many words a line of the cache has, of 64 bytes. A stripe's word is the first of so many, so threads on two stripes
-/// write to no line of each other's.
+/// How many words a line of the cache has, of 64 bytes. A stripe's word is the first of so many, so the words of two stripes
+/// share no line.
 pub(crate) const LINE_WORDS: usize = 8;
 
 /// The words and slots of all stripes.

@@ -1,5 +1,5 @@
 //! Rows of calls by several passes, in one thread and in many.
-ghost use Rattle.std.specs.Prelude.{◌≡◌, ◌≤◌, All, IfOk};
+ghost use Rattle.std.specs.Prelude.{◌≡◌, All, IfOk};
 
 use crate::programs::{ONE, summing};
 use atomic_methods::{Call, Reply};
