@@ -4,37 +4,14 @@
 # program; by hand after `rt run` in crates/bpfmap.
 set -euo pipefail
 cd "$(dirname "$0")/.."
-program=crates/bpfmap/out/bpfmap
-[ -x "$program" ] || { echo "process: $program is not built; run the gate first" >&2; exit 1; }
-work=$(mktemp -d)
-trap 'rm -rf "$work"' EXIT
-passed=0
-failed=0
+# shellcheck source=tests/common.sh
+. tests/common.sh
 
 # The six instructions that add the argument to the old value, as bytes and as text.
 sum=792000000000000079390000000000000f900000000000007b04000000000000b7000000080000009500000000000000
 sum_text='ldd r0, [r2+0]\nldd r9, [r3+0]\nadd64 r0, r9\nstxd [r4+0], r0\nmov64 r0, 8\nexit\n'
 sizes=(--key 64 --old 8 --arg 8 --result 8)
 values=(--with-key 61 --with-old 0100000000000000 --with-arg 0200000000000000)
-
-# Says whether the case of this name holds.
-judge() {
-    local name=$1
-    shift
-    if "$@"; then
-        passed=$((passed + 1))
-    else
-        failed=$((failed + 1))
-        echo "FAILED: $name: status $got, output '$(cat "$work/out")', errors '$(cat "$work/err")'"
-    fi
-}
-
-# Runs the program on the words; $input and $sink may name other streams.
-run() {
-    got=0
-    : > "$work/out"
-    "$program" "$@" < "${input:-$work/in}" > "${sink:-$work/out}" 2> "$work/err" || got=$?
-}
 
 # Whether the last run had this status and output, and errors of this pattern.
 ended() {

@@ -1,5 +1,4 @@
-//! Instructions with their bytes, and bytes with their fault. The values were worked out from RFC 9669, apart from
-//! this program.
+//! Instructions with their bytes, which were worked out from RFC 9669 apart from this program.
 use bpf_decode::{decode, encode};
 use bpf_model::{
     AluOp, ByteOrder, Insn, JumpOp, LoadKind, Operand, Reg, SignExtension, SwapWidth, Width,
@@ -118,59 +117,5 @@ fn instructions_are_spelled_so(rt: HostRuntime) {
         ),
     ] {
         assert!(rt; spells(rt.alloc(), bytes, insn), "{text}");
-    }
-}
-
-// the fault's number and unit, where there is one
-fn fault_of(alloc: Global, bytes: &[u8]) -> Option<(u8, usize)> {
-    match decode(alloc, bytes) {
-        Ok(_) => None,
-        Err(fault) => Some((fault.number(), fault.unit())),
-    }
-}
-
-#[test]
-fn first_fault_is_named(rt: HostRuntime) {
-    for (name, bytes, fault) in [
-        ("no byte", [].as_slice(), (10, 0)),
-        ("12 bytes", [0; 12].as_slice(), (11, 0)),
-        ("call", [0x85, 0, 0, 0, 1, 0, 0, 0].as_slice(), (13, 0)),
-        (
-            "a swap with a direction",
-            [0xdf, 0, 0, 0, 16, 0, 0, 0].as_slice(),
-            (13, 0),
-        ),
-        (
-            "add to register 11",
-            [0x07, 0x0b, 0, 0, 1, 0, 0, 0].as_slice(),
-            (14, 0),
-        ),
-        (
-            "exit with imm",
-            [0x95, 0, 0, 0, 1, 0, 0, 0].as_slice(),
-            (15, 0),
-        ),
-        (
-            "add32 of an immediate with src",
-            [0x04, 0x10, 0, 0, 1, 0, 0, 0].as_slice(),
-            (15, 0),
-        ),
-        (
-            "swap of 8 bits",
-            [0xd7, 0x03, 0, 0, 8, 0, 0, 0].as_slice(),
-            (16, 0),
-        ),
-        (
-            "half a wide",
-            [0x18, 0, 0, 0, 8, 0, 0, 0].as_slice(),
-            (17, 0),
-        ),
-        (
-            "exit and half a wide",
-            [0x95, 0, 0, 0, 0, 0, 0, 0, 0x18, 0, 0, 0, 8, 0, 0, 0].as_slice(),
-            (17, 1),
-        ),
-    ] {
-        assert_eq!(rt; fault_of(rt.alloc(), bytes), Some(fault), "{name}");
     }
 }

@@ -1,10 +1,6 @@
-//! Tests of programs, from their bytes or their text to their answers, by the public calls of the crates below.
+//! Tests of values that no command prints: words, ranges, instructions and operations, by the public calls of the crates below.
 #![tactic(auto)]
 
-#[cfg(test)]
-mod answers;
-#[cfg(test)]
-mod assembling;
 #[cfg(test)]
 mod decoding;
 #[cfg(test)]

@@ -1,22 +1,15 @@
-//! Small programs, each with the number and the unit of its refusal, and the offsets at which windows and pointers end.
+//! The operations that bind a program's instructions, and what each fault is printed as.
 ghost use Rattle.std.specs.Prelude.{◌≤◌};
 
-use bpf_model::{
-    AccessSize, AluOp, ByteOrder, Insn, LoadKind, Operand, Program, Reg, SignExtension, Sizes,
-    SwapWidth, Width,
-};
+use bound_operations::Operation;
+use bpf_model::{AccessSize, Insn, JumpOp, LoadKind, Operand, Program, Reg, Sizes, Width};
 use flow_shape::shape;
-use std::alloc::Global;
-use std::process::Abort;
 use std::test::Fail;
+use verifier::VerifyFault::{
+    BadExitValue, NoMemory, NotAWindow, OutOfWindow, ReadOnly, SizesTooLarge, UnwrittenBytes,
+    UnwrittenRegister, WriteToR10,
+};
 use verifier::verify;
-
-mod frames;
-mod numbers;
-mod operations;
-mod pointers;
-mod refusals;
-mod windows;
 
 const SIZES: Sizes = Sizes {
     key: 64,
@@ -25,106 +18,12 @@ const SIZES: Sizes = Sizes {
     result: 16,
 };
 
-const NO_BYTES: Sizes = Sizes {
-    key: 0,
-    old: 0,
-    arg: 0,
-    result: 0,
-};
-
-const EXIT: Insn = Insn::Exit;
-
 fn reg(number: u8) -> Reg
     requires { number ≤ 10 }
 {
     match Reg::new(number) {
         Some(register) => register,
         None => unreachable!(),
-    }
-}
-
-fn mov(dst: u8, imm: i32) -> Insn
-    requires { dst ≤ 10 }
-{
-    Insn::Mov {
-        width: Width::W64,
-        dst: reg(dst),
-        src: Operand::Immediate(imm),
-    }
-}
-
-/// The 64 bits of a register, into another one.
-fn copy(dst: u8, src: u8) -> Insn
-    requires dst { dst ≤ 10 }
-    requires src { src ≤ 10 }
-{
-    Insn::Mov {
-        width: Width::W64,
-        dst: reg(dst),
-        src: Operand::Register(reg(src)),
-    }
-}
-
-/// With a number, at 64 bits.
-fn alu(op: AluOp, dst: u8, imm: i32) -> Insn
-    requires { dst ≤ 10 }
-{
-    Insn::Alu {
-        op,
-        width: Width::W64,
-        dst: reg(dst),
-        src: Operand::Immediate(imm),
-    }
-}
-
-/// Of two registers, at 64 bits.
-fn combine(op: AluOp, dst: u8, src: u8) -> Insn
-    requires dst { dst ≤ 10 }
-    requires src { src ≤ 10 }
-{
-    Insn::Alu {
-        op,
-        width: Width::W64,
-        dst: reg(dst),
-        src: Operand::Register(reg(src)),
-    }
-}
-
-fn add(dst: u8, src: u8) -> Insn
-    requires dst { dst ≤ 10 }
-    requires src { src ≤ 10 }
-{
-    combine(AluOp::Add, dst, src)
-}
-
-fn negate(dst: u8) -> Insn
-    requires { dst ≤ 10 }
-{
-    Insn::Negate {
-        width: Width::W64,
-        dst: reg(dst),
-    }
-}
-
-fn sign_extend(dst: u8, src: u8) -> Insn
-    requires dst { dst ≤ 10 }
-    requires src { src ≤ 10 }
-{
-    Insn::SignExtend {
-        extension: SignExtension::From8To64,
-        dst: reg(dst),
-        src: reg(src),
-    }
-}
-
-/// The low 16 bits.
-fn low_half(dst: u8) -> Insn
-    requires { dst ≤ 10 }
-{
-    Insn::Reorder {
-        order: ByteOrder::Little,
-        size: SwapWidth::S16,
-        dst: reg(dst),
     }
 }
 
@@ -161,63 +60,98 @@ fn store(dst: u8, offset: i16, src: u8) -> Insn
     }
 }
 
-fn store_byte(dst: u8, offset: i16, imm: i32) -> Insn
-    requires { dst ≤ 10 }
-{
-    Insn::Store {
-        size: AccessSize::Byte,
-        dst: reg(dst),
-        src: Operand::Immediate(imm),
-        offset,
-    }
+/// A jump passes over a wide instruction, and no run comes to the last two.
+fn code() -> [Insn; 9] {
+    let jump = Insn::Branch {
+        test: JumpOp::Eq,
+        width: Width::W64,
+        dst: reg(1),
+        src: Operand::Immediate(5),
+        distance: 2,
+    };
+    let nothing = Insn::Mov {
+        width: Width::W64,
+        dst: reg(0),
+        src: Operand::Immediate(-1),
+    };
+    [
+        load(1, 2, 0),
+        wide(6, 7),
+        jump,
+        wide(7, 9),
+        store(10, -8, 6),
+        nothing,
+        Insn::Exit,
+        load(0, 5, 0),
+        Insn::Exit,
+    ]
 }
 
-/// Number and unit of the refusal, if the program is refused.
-fn refusal(alloc: Global, code: &[Insn], sizes: Sizes) -> Result<Option<(u8, usize)>, Fail> {
-    let mut instructions = Vec::new(alloc);
-    instructions.extend_from_slice(code)?;
+#[test]
+fn operations_have_windows_and_targets(rt: HostRuntime) -> Result<(), Fail> {
+    let mut instructions = Vec::new(rt.alloc());
+    instructions.extend_from_slice(&code())?;
     let program = Program::new(instructions).ok_or("a program has 1 to 512 units")?;
-    Ok(match shape(program) {
-        Err(fault) => Some((fault.number(), fault.unit())),
-        Ok(shaped) => match verify(alloc, shaped, sizes) {
-            Err(fault) => Some((fault.number(), fault.unit())),
-            Ok(_) => None,
-        },
-    })
-}
-
-/// A program, and number and unit of its refusal, if it is refused.
-type Row<'a> = (&'a str, &'a [Insn], Option<(u8, usize)>);
-
-fn check(rt: &impl Abort, alloc: Global, sizes: Sizes, rows: &[Row]) -> Result<(), Fail> {
-    for (name, code, expected) in rows {
-        assert_eq!(rt; refusal(alloc, code, sizes)?, *expected, "{name}");
-    }
+    let shaped = shape(program).map_err(|_| "its flow has no fault")?;
+    let verified = verify(rt.alloc(), shaped, SIZES).map_err(|_| "it is safe")?;
+    let operations = verified.operations();
+    let old_word = matches!(
+        operations.first(),
+        Some(Operation::LoadDoubleWordOld { .. })
+    );
+    assert!(rt; old_word, "where the register pointed before the load");
+    let fourth = matches!(
+        operations.get(2),
+        Some(Operation::JumpEq64Immediate { target: 4, .. })
+    );
+    assert!(rt; fourth, "the place of the target");
+    let stack_word = matches!(
+        operations.get(4),
+        Some(Operation::StoreDoubleWordStackRegister { .. })
+    );
+    assert!(rt; stack_word, "the stack");
+    let nothing = matches!(
+        operations.get(5),
+        Some(Operation::MovImmediate { imm: u64::MAX, .. })
+    );
+    assert!(rt; nothing, "the sign is extended");
+    let never = matches!(operations.get(7), Some(Operation::Exit));
+    assert!(rt; never, "an instruction that no run comes to");
+    assert_eq!(rt; operations.len(), 9);
     Ok(())
 }
 
 #[test]
-fn safe_programs_are_accepted(rt: HostRuntime) -> Result<(), Fail> {
-    let rows: [Row; 4] = [
-        ("nothing", &[mov(0, -1), EXIT], None),
-        ("no byte", &[mov(0, 0), EXIT], None),
+fn refusals_print_their_reason_and_unit(rt: HostRuntime) -> Result<(), Fail> {
+    let alloc = rt.alloc();
+    let rows = [
         (
-            "the sum",
-            &[
-                load(0, 2, 0),
-                load(9, 3, 0),
-                add(0, 9),
-                store(4, 0, 0),
-                mov(0, 8),
-                EXIT,
-            ],
-            None,
+            UnwrittenRegister(0),
+            "a register is read that was not written at unit 0",
+        ),
+        (WriteToR10(1), "r10 is written at unit 1"),
+        (
+            NotAWindow(2),
+            "the address does not point into a window at unit 2",
         ),
         (
-            "after the exit nothing runs",
-            &[mov(0, -1), EXIT, load(0, 5, 0), EXIT],
-            None,
+            OutOfWindow(3),
+            "the access does not lie in the window at unit 3",
         ),
+        (ReadOnly(10), "the window may only be read at unit 10"),
+        (
+            UnwrittenBytes(5),
+            "bytes are read that were not all written at unit 5",
+        ),
+        (
+            BadExitValue(511),
+            "r0 may be neither -1 nor a number of written bytes at unit 511",
+        ),
+        (SizesTooLarge, "a declared size is above its limit"),
+        (NoMemory, "no memory"),
     ];
-    check(&rt, rt.alloc(), SIZES, &rows)
+    for (fault, message) in rows {
+        assert_eq!(rt; format!(in alloc; "{fault}")?.as_str(), message);
+    }
+    Ok(())
 }

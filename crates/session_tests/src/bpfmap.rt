@@ -1,10 +1,5 @@
-//! Tests of `bpfmap_on` over memory.
-mod answers;
-mod arithmetic;
+//! Tests of `bpfmap_on` over memory: devices that fail, and sessions.
 mod faults;
-mod meanings;
 mod memory;
-mod programs;
 mod refused_memory;
 mod sessions;
-mod texts;

@@ -1,5 +1,5 @@
-//! Faults of the command line and of devices.
-use super::memory::{Interrupted, Pieces, ROOM, Room, call, run_words};
+//! Faults of devices, and words that are not there.
+use super::memory::{Interrupted, Pieces, ROOM, Room, call};
 use map_server::{StreamSink, StreamSource, bpfmap_on, tell_unread_words};
 use std::io::{self, ErrorKind};
 use std::test::Fail;
@@ -11,80 +11,12 @@ fn pieces(rest: &[u8], size: usize, fails: bool) -> Pieces<'_> {
 }
 
 #[test]
-fn faults_of_the_words_are_told(rt: HostRuntime) -> Result<(), Fail> {
-    for words in [
-        "verify",
-        "",
-        "check run",
-        "asm exit",
-        "asm --key 1",
-        "disasm --with-key 00",
-        "check --keys 1",
-        "check --key",
-        "check --key ",
-        "check --key 65536",
-        "check --key -1",
-        "check --key ten",
-        "check --key 1 --key 1",
-        "check --old 65536",
-        "check --old -1",
-        "check --old 0x10",
-        "check --old 1 --old 2",
-        "check --arg 65536",
-        "check --arg -1",
-        "check --arg 1.5",
-        "check --arg 0 --arg 0",
-        "check --result 65536",
-        "check --result -1",
-        "check --result 1a",
-        "check --result 1 --result 1",
-        "check --with-key 00",
-        "check 00",
-        "run --with-key 00 --with-key 00",
-        "run --with-old 00 --with-old 00",
-        "run --with-arg 00 --with-arg 00",
-        "run --with-old",
-        "run 61",
-        "--stripes 1",
-        "help",
-        "help run",
-        "run --with-key -1",
-        "run --with-old -00",
-    ] {
-        let found = run_words(&rt, words, "")?;
-        assert!(rt; found.status == 2, "{words}");
-        assert!(rt; found.output.is_empty(), "{words}");
-        assert!(rt; found.errors.starts_with(b"error: "), "{words}");
-        assert!(rt; found.errors.ends_with(b"\n"), "{words}");
-    }
-    Ok(())
-}
-
-#[test]
 fn no_command_shows_the_help(rt: HostRuntime) -> Result<(), Fail> {
     let alone = call(&rt, &["bpfmap"], pieces(b"", 1, false), ROOM, ROOM);
     assert!(rt; alone.status == 2 && alone.output.is_empty());
     assert!(rt; alone.errors.starts_with(b"Assembles BPF programs"));
     let none = call(&rt, &[], pieces(b"", 1, false), ROOM, ROOM);
     assert!(rt; none.status == 2 && none.output.is_empty() && !none.errors.is_empty());
-    Ok(())
-}
-
-#[test]
-fn help_and_version_are_no_faults(rt: HostRuntime) -> Result<(), Fail> {
-    for (words, start) in [
-        ("--help", "Assembles BPF programs"),
-        ("--version", "bpfmap 0.1.0\n"),
-        ("-V", "bpfmap 0.1.0\n"),
-        ("-h", "Assembles BPF programs"),
-        ("asm --help", "Prints in hex"),
-        ("check --help", "Verifies the program"),
-    ] {
-        let found = run_words(&rt, words, "")?;
-        assert!(rt; found.status == 0, "{words}");
-        assert!(rt; found.output.starts_with(start.as_bytes()), "{words}");
-        assert!(rt; found.errors.is_empty(), "{words}");
-    }
     Ok(())
 }
 
@@ -131,6 +63,34 @@ fn failed_writes_end_with_status_3(rt: HostRuntime) -> Result<(), Fail> {
     let words = call(&rt, &["bpfmap", "walk"], pieces(NOTHING, 5, false), 8, 0);
     assert!(rt; words.status == 2 && words.output.is_empty());
     Ok(())
+}
+
+#[test]
+fn what_is_told_of_a_failed_write_is_that_alone(rt: HostRuntime) {
+    for (room, errors_room, status, told) in [
+        (0, ROOM, 3, "failed write\n"),
+        (15, ROOM, 3, "failed write\n"),
+        (16, ROOM, 1, "no byte\n"),
+        (16, 3, 1, "no "),
+        (16, 0, 1, ""),
+        (3, 0, 3, ""),
+    ] {
+        let input = Pieces {
+            rest: b"",
+            size: 1,
+            fails: false,
+        };
+        let found = call(&rt, &["bpfmap", "check"], input, room, errors_room);
+        assert!(rt; found.status == status, "room for {room} and {errors_room}");
+        assert!(rt;
+            found.output.len() == room,
+            "room for {room} and {errors_room}"
+        );
+        assert!(rt;
+            found.errors.as_slice() == told.as_bytes(),
+            "room for {room} and {errors_room}"
+        );
+    }
 }
 
 #[test]

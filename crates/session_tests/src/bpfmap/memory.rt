@@ -1,6 +1,6 @@
 //! Readers and writers over memory, which may fail.
 use map_server::{StreamSink, StreamSource, bpfmap_on};
-use std::alloc::{AllocError, Global};
+use std::alloc::Global;
 use std::io::{self, ErrorKind, Read, Write};
 use std::sync::Wait;
 
@@ -130,22 +130,4 @@ pub fn call<R: AllocGlobal + Wait>(
         output: writer.into_inner().bytes,
         errors: errors.into_inner().bytes,
     }
-}
-
-/// One call of `bpfmap` with these words, which single blanks separate: a blank at the end is followed by an empty word.
-pub fn run_words<R: AllocGlobal + Wait>(
-    rt: &R,
-    words: &str,
-    input: &str,
-) -> Result<Outcome, AllocError> {
-    let mut all = vec![in rt.alloc(); "bpfmap"]?;
-    for word in words.split(' ') {
-        all.push(word)?;
-    }
-    let input = Pieces {
-        rest: input.as_bytes(),
-        size: 7,
-        fails: false,
-    };
-    Ok(call(rt, all.as_slice(), input, ROOM, ROOM))
 }
