@@ -1,8 +1,6 @@
 -- Passes of a new map.
-use Rattle.std.proofs.Common.{◌≡◌, ℕ, ◌<◌, List, ◌++◌, Option, length, map, get_or, All, sym, ap, ◌∙◌, subst, arith}
-use Rattle.std.specs.Option.{option_to_list}
+use Rattle.std.proofs.Common.{◌≡◌, ℕ, List, All, sym, ap, subst, arith}
 use Rattle.std.proofs.lemmas.List.{get_or-map, length-map}
-use Rattle.std.proofs.lemmas.List.Elements.{All-take}
 use Rattle.atomic_table.specs.Seated.{TableId}
 use Rattle.stripe_rule.specs.Rule.{from_on}
 use Rattle.bin_stripes.specs.Opened.{IsOpened, pass_of}

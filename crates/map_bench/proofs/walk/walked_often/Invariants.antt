@@ -1,4 +1,4 @@
-use Rattle.std.proofs.Common.{◌≡◌, All}
+use Rattle.std.proofs.Common.{All}
 use Rattle.map_bench.proofs.PassLemmas.{IsOf}
 use Rattle.map_bench.proofs.walk.walked_often.Given as goal
 
