@@ -53,12 +53,13 @@ try() {
     done <<< "${1// ; /$'\n'}"
 }
 
+cat tests/commands.txt tests/programs.txt > "$work/rows"
 while IFS='|' read -r commands text status output errors name; do
     case $commands in
         "" | "#"*) ;;
         *) try "$(field "$commands")" "$(field "$text")" "$(field "$status")" "$(field "$output")" "$(field "$errors")" "$(field "$name")" ;;
     esac
-done < <(cat tests/commands.txt tests/programs.txt)
+done < "$work/rows"
 
 # All instructions as one program, and back.
 grep -v '^#' tests/instructions.txt | sed 's/ | .*//' > "$work/text"
