@@ -1,14 +1,14 @@
-# For the scripts here that time a program. Sourced with the name of a crate: $bench is its program, built where it is not or
-# where a source is newer; $work is a folder for files. A script says by `side` how a run is made of words.
+# For the scripts here that time a program. $bench is the program of crates/bench, built where it is not or where a source is
+# newer; $work is a folder for files. A script says by `side` how a run is made of words.
 set -euo pipefail
 shopt -s inherit_errexit
 cd "$(dirname "${BASH_SOURCE[0]}")/.."
-bench=crates/$1/out/$1
+bench=crates/bench/out/bench
 work=$(mktemp -d)
 trap 'rm -rf "$work"' EXIT
 
 if [ ! -e "$bench" ] || [ -n "$(find crates.txt crates/*/src crates/*/specs crates/*/proofs -newer "$bench" -print -quit 2>/dev/null)" ]; then
-    (cd "crates/$1" && rt run > "$work/build.log" 2>&1) || { cat "$work/build.log"; exit 1; }
+    (cd crates/bench && rt run > "$work/build.log" 2>&1) || { cat "$work/build.log"; exit 1; }
     touch "$bench"
 fi
 

@@ -1,9 +1,9 @@
 #!/usr/bin/env bash
 # Times what is done to bins of many entries: nanoseconds a call, the median of five, the making of the key and its hash among
 # them ('nothing' is that alone). Then bytes an entry, where GNU time is there. By hand, not by the gate. It takes two minutes.
-source "$(dirname "$0")/common.sh" entries_bench
+source "$(dirname "$0")/common.sh"
 
-side() { "$bench" "$@"; }
+side() { "$bench" entries "$@"; }
 
 # nanoseconds a call: the work, entries
 a_call() {
@@ -13,7 +13,7 @@ a_call() {
 }
 
 # the greatest number of KiB that the program had, with so many entries
-resident() { command time -f %M "$bench" nothing "$1" 0 2>&1 > "$work/out"; }
+resident() { command time -f %M "$bench" entries nothing "$1" 0 2>&1 > "$work/out"; }
 
 for entries in 1000 100000 1000000; do
     for name in nothing find change put remove; do

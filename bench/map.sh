@@ -3,7 +3,7 @@
 # session over memory, and walks by teams: five times in turn, and prints the medians. By hand, not by the gate. It takes
 # one to three minutes, and stops after four, where a program is built; to build it takes longer, since all below it is
 # proved first.
-source "$(dirname "$0")/common.sh" map_bench
+source "$(dirname "$0")/common.sh"
 rounds=5
 SECONDS=0
 # seconds that all may take, and one run

@@ -3,7 +3,7 @@
 # units and windows; direct threading; each by gcc and by clang), `verify` of verifier, and calls on a table: seven times in
 # turn, and prints the medians. Where valgrind is installed, instructions a run too. By hand, not by the gate. It takes some
 # seconds; a first time takes minutes, since a program is built only when all below it is proved.
-source "$(dirname "$0")/common.sh" bench
+source "$(dirname "$0")/common.sh"
 
 loops=()
 for compiler in gcc clang; do
@@ -54,7 +54,7 @@ counted() {
 # a program, its answer, how often, how often for callgrind
 measure() {
     local answer name
-    answer=$($bench | sed -n "s/^$1 answers //p")
+    answer=$($bench answer "$1")
     [ "$answer" = "$2" ] || { echo "$1: run answers '$answer', not '$2'" >&2; exit 1; }
     for name in "${loops[@]}"; do
         answer=$(side $name "$1" 0)

@@ -1,6 +1,6 @@
 /* A table of buckets, each guarded by a mutex, to compare the shared map with. Keys, values, hash and number of buckets are
-   those of crates/map_bench; a bucket is a list sorted by key, and merging adds the numbers, without a program.
-   table KIND KEYS THREADS COUNT does what `map_bench calls` does with these words, and prints the same. */
+   those of crates/bench; a bucket is a list sorted by key, and merging adds the numbers, without a program.
+   table KIND KEYS THREADS COUNT does what `bench calls` does with these words, and prints the same. */
 #include <pthread.h>
 #include <stdint.h>
 #include <stdio.h>

@@ -1,6 +1,6 @@
 #!/usr/bin/env bash
-# Runs the rows of commands.txt, which says how they read, of programs.txt and of instructions.txt: what the built bpfmap prints,
-# and its status.
+# Runs the rows of commands.txt, which says how they read, of programs.txt, instructions.txt and words.txt: what the built bpfmap
+# prints, and its status.
 # Behind the gate, which builds the program; by hand after `rt run` in crates/bpfmap.
 set -euo pipefail
 cd "$(dirname "$0")/.."
@@ -68,6 +68,58 @@ input=$work/text run asm
 judge "the hex of each instruction" cmp -s "$work/out" "$work/hex"
 input=$work/hex run disasm
 judge "the text of each instruction" cmp -s "$work/out" "$work/text"
+
+# The text of a program that enters both words, and has each of the lines behind that.
+compute() {
+    local a b line
+    read -r a b <<< "$1"
+    shift
+    printf '%s\n' "wide r1, $(printf %u "0x$a")" "wide r9, $(printf %u "0x$b")" "mov64 r0, 0" "stxd [r10-8], r9"
+    for line in "$@"; do
+        printf '%s\n' "${line# }"
+    done
+    printf 'exit\n'
+}
+
+# Whether the program of the text answers these bytes.
+answers() {
+    input=$work/text run asm
+    cp "$work/out" "$work/in"
+    run run --result 16
+    [ "$got" = 0 ] && [ "$(cat "$work/out")" = "bytes $1" ]
+}
+
+# The bytes of a word in hex, the least first.
+bytes_of() {
+    local word
+    word=$(printf '%016x' "0x$1")
+    printf '%s' "${word:14:2} ${word:12:2} ${word:10:2} ${word:8:2} ${word:6:2} ${word:4:2} ${word:2:2} ${word:0:2}"
+}
+
+# Of a width and two words, whether each of the eleven tests of a jump holds just where it is named.
+try_jumps() {
+    local jump wanted= place=0 lines=()
+    for jump in jeq jgt jge jset jne jsgt jsge jlt jle jslt jsle; do
+        lines+=("mov64 r0, 1" "$jump$1 r1, r9, +1" "mov64 r0, 0" "stxb [r4+$place], r0")
+        place=$((place + 1))
+        case " $3 " in *" $jump "*) wanted+=" 01" ;; *) wanted+=" 00" ;; esac
+    done
+    compute "$2" "${lines[@]}" "mov64 r0, 11" > "$work/text"
+    judge "jumps of $1 bits on $2" answers "${wanted# }"
+}
+
+# What each instruction gives on words.
+grep -v '^#' tests/words.txt | grep . | sed 's/ | /|/g' > "$work/words"
+while IFS='|' read -r instructions words wanted; do
+    case $instructions in
+        32 | 64) try_jumps "$instructions" "$words" "$wanted" ;;
+        *)
+            IFS=';' read -ra lines <<< "$instructions"
+            compute "$words" "${lines[@]}" "stxd [r4+0], r1" "mov64 r0, 8" > "$work/text"
+            judge "$instructions on $words" answers "$(bytes_of "$wanted")"
+            ;;
+    esac
+done < "$work/words"
 
 echo "commands: $passed passed, $failed failed"
 [ "$failed" = 0 ]

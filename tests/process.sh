@@ -101,11 +101,15 @@ expect "a check" 0 "accepted" "" check "${sizes[@]}"
 expect "the version" 0 "bpfmap 0.1.0" "" --version
 expect "an option that there is not" 2 "" "*--nothing*" run --nothing
 expect "a text that begins with a hyphen" 2 "" "?*" run --with-key -1
-expect "no command" 2 "" "?*"
+expect "no command" 2 "" "Assembles BPF programs*"
 expect "words that are no UTF-8" 2 "" "error: the command line is not UTF-8" run --with-key $'\xff'
 input=/ expect "an input that can't be read" 3 "" "failed read" check
 sink=/dev/full expect "an output that can't be written" 3 "" "failed write" check
 sink=/dev/full expect "a refusal that can't be written" 3 "" "failed write" check --old 0
+
+blank=$(printf '%50000s' '')
+printf '%s' "$blank b7000000ffffffff $blank 9500000000000000 $blank" > "$work/in"
+expect "an input of more than 64 KiB" 0 "nothing" "" run
 
 hello='00000002 0001'
 welcome='00000002 8001'

@@ -99,30 +99,52 @@ DEFINE_ACCESS(64)
 /* The value is used here, and may be any from here on: what the compiler knew of it is forgotten. */
 #define OPAQUE(value) asm volatile("" : "+r"(value))
 
-/* Makes an unsigned variable of 64 bits at most this constant. The test and what it bounds are one register. */
+/* BOUND and MASK take a variable of 64 bits and a constant from 0 to 0x7fffffff, or do not compile, neither for BPF nor for the
+ * host: the instructions take the whole register, and extend the sign of a constant of 32 bits. */
+#define HAS_64_BITS(value)                                                                                             \
+    (sizeof(value) == 8 && _Generic((value), u64: 1, s64: 1, unsigned long: 1, long: 1, default: 0))
+#define CHECK_OPERANDS(name, value, constant)                                                                          \
+    _Static_assert(HAS_64_BITS(value), name " needs a number of 64 bits");                                             \
+    _Static_assert((u64)(constant) <= 0x7fffffff, name " needs a constant from 0 to 0x7fffffff")
+
+/* Makes a variable at most this constant, as an unsigned number. The test and what it bounds are one register. */
 #ifdef __bpf__
-#define BOUND(value, most) asm volatile("if %0 <= %1 goto +1\n\t%0 = %1" : "+r"(value) : "i"(most))
+#define BOUND(value, most)                                                                                             \
+    do {                                                                                                               \
+        CHECK_OPERANDS("BOUND", value, most);                                                                          \
+        asm volatile("if %0 <= %1 goto +1\n\t%0 = %1" : "+r"(value) : "i"((u64)(most)));                               \
+    } while (0)
 #else
 #define BOUND(value, most)                                                                                             \
     do {                                                                                                               \
-        if ((value) > (most))                                                                                          \
-            (value) = (most);                                                                                          \
+        CHECK_OPERANDS("BOUND", value, most);                                                                          \
+        __typeof__(value) *const bounded_by_header = &(value);                                                         \
+        if ((u64)*bounded_by_header > (u64)(most))                                                                     \
+            *bounded_by_header = (u64)(most);                                                                          \
     } while (0)
 #endif
 
-/* Keeps the low bits of a variable of 64 bits that this constant has, even where the compiler knows that there are no
- * others. */
+/* Keeps the bits of a variable that this constant has, even where the compiler knows that there are no others. */
 #ifdef __bpf__
-#define MASK(value, bits) asm volatile("%0 &= %1" : "+r"(value) : "i"(bits))
+#define MASK(value, bits)                                                                                              \
+    do {                                                                                                               \
+        CHECK_OPERANDS("MASK", value, bits);                                                                           \
+        asm volatile("%0 &= %1" : "+r"(value) : "i"((u64)(bits)));                                                     \
+    } while (0)
 #else
-#define MASK(value, bits) ((value) &= (bits))
+#define MASK(value, bits)                                                                                              \
+    do {                                                                                                               \
+        CHECK_OPERANDS("MASK", value, bits);                                                                           \
+        (value) &= (u64)(bits);                                                                                        \
+    } while (0)
 #endif
 
 /* Returns this number from an EXIT of its own, so that what was written on this way counts for this answer alone. */
 #ifdef __bpf__
 #define ANSWER(length)                                                                                                 \
     do {                                                                                                               \
-        asm volatile("r0 = %0\n\texit" : : "ri"((s64)(length)) : "r0", "memory");                                      \
+        register s64 answer_of_header asm("r0") = (length);                                                            \
+        asm volatile("exit" : : "r"(answer_of_header) : "memory");                                                     \
         __builtin_unreachable();                                                                                       \
     } while (0)
 #else

@@ -3,5 +3,6 @@ pub mod StripeLemmas
 pub mod EntryLemmas
 pub mod WholeLemmas
 pub mod RunLemmas
-pub mod SortLemmas
 pub mod ReplaceLemmas
+pub mod RowLemmas
+pub mod OneReply

@@ -1,5 +1,5 @@
 -- The replacement of each value, stripe by stripe and in the whole table.
-use Rattle.std.proofs.Common.{◌≡◌, ℕ, zero, suc, ◌+◌, ◌<◌, ◌≤◌, Bool, true, false, cond, List, [], ◌∷◌, ◌++◌, length, get_or, set, take, drop, Option, Some, None, Result, Ok, refl, sym, ap, subst, ◌∙◌, arith}
+use Rattle.std.proofs.Common.{◌≡◌, ℕ, zero, suc, ◌+◌, ◌<◌, ◌≤◌, Bool, true, false, cond, List, [], ◌∷◌, ◌++◌, length, get_or, set, take, drop, Option, Some, None, Ok, refl, sym, ap, subst, ◌∙◌, arith}
 use Rattle.std.specs.Prelude.{count_by}
 use Rattle.std.specs.Option.{option_map}
 use Rattle.std.specs.Ordering.{eq_by_cmp}
@@ -8,21 +8,17 @@ use Rattle.std.specs.FinMap as map
 use Rattle.std.specs.FinMap.{find, get-empty, get-entries, get-from_entries, len-entries, len-empty}
 use Rattle.std.proofs.lemmas.List.{take_more, take_more_set, drop_more, drop-set-lt, length-drop}
 use Rattle.std.proofs.lemmas.List.Sums.{sum_by-cons, sum_by-append, count_by-le-length}
-use Rattle.bpf_model.specs.declared.input.Answer.{Answer}
 use Rattle.bpf_model.specs.declared.input.Answer.TheVariants.{Nothing}
-use Rattle.bpf_model.specs.declared.input.Window.{Window}
 use Rattle.bpf_model.specs.Fits.{input_of}
 use Rattle.verifier.specs.Checked.{Checked}
 use Rattle.bins.specs.declared.counts.Counts.{Counts}
-use Rattle.bins.specs.Table.{Table, by_bytes}
-use Rattle.bins.specs.Replacements.{ComesTo, value_after, is_given, is_unfit, ReplacesEach}
+use Rattle.bins.specs.Table.{Entry, Table, by_bytes}
+use Rattle.bins.specs.Replacements.{Outcome, ComesTo, value_after, is_given, is_unfit, ReplacesEach}
+use Rattle.bins.proofs.MapEdits.{total}
+use Rattle.bins.proofs.EntryCounts.{count_all, counted_in_table}
 use Rattle.atomic_methods.specs.Whole.{all_entries, whole, stripe_at, AreStripes, IsSum, ReplacesStripes}
-use Rattle.atomic_methods.proofs.TableLemmas.{total}
-use Rattle.atomic_methods.proofs.EntryLemmas.{Entry, first_some, find-append, counted_in_table}
-use Rattle.atomic_methods.proofs.WholeLemmas.{none_anywhere, Apart, Distinct_all}
-
-abbrev Outcome : Type 0
-Outcome = Result Answer Window
+use Rattle.atomic_methods.proofs.EntryLemmas.{first_some, find-append}
+use Rattle.atomic_methods.proofs.WholeLemmas.{none_anywhere, some_of_none, Apart, Distinct_all}
 
 -- the outcome of a key that the first stripe has, or else another one
 abbrev in_first : Option (List ℕ) → Outcome → Outcome → Outcome
@@ -57,22 +53,12 @@ count_same p r (e ∷ es) alike =
     let later : count_by (λ (f : Entry). p f.0) es ≡ count_by (λ (f : Entry). r f.0) es = count_same p r es (λ q v found. either_key p r e es alike q v found (eq_by_cmp by_bytes q e.0) refl) in
     sum_by-cons _ e es ∙ ap (λ (b : Bool). cond b 1 0 + count_by (λ (f : Entry). p f.0) es) here ∙ ap (λ (n : ℕ). cond (r e.0) 1 0 + n) later ∙ sym (sum_by-cons _ e es)
 
-count_all : (es : List Entry) → count_by (λ (e : Entry). true) es ≡ length es
-count_all [] = refl
-count_all (e ∷ es) = sum_by-cons _ e es ∙ one_more (count_all es)
-  where
-    one_more : {n m : ℕ} → n ≡ m → 1 + n ≡ suc m
-    one_more e = omega (arith, e)
-
 in_first_of : (o : Option (List ℕ)) (v : List ℕ) (a b : Outcome) → o ≡ Some v → in_first o a b ≡ a
 in_first_of o v a b e = rw e refl
 
 in_rest_of : (o : Option (List ℕ)) (a b : Outcome) → (((w : List ℕ) → o ≡ Some w → ⊥)) → in_first o a b ≡ b
 in_rest_of None a b none = refl
 in_rest_of (Some w) a b none = absurd (none w refl)
-
-some_of_none : (x : Option (List ℕ)) (v : List ℕ) → x ≡ None → x ≡ Some v → ⊥
-some_of_none x v e f = cc
 
 module _ (t : Table) (ts : List Table) (apart : Apart (t ∷ ts)) where
   -- no key of the first stripe is in another
@@ -189,8 +175,8 @@ module _ (checked : Checked) (arg : Option (List ℕ)) where
       )
 
   -- what is given or unfit was scanned
-  pub few_counts : (old new : Table) (counts : Counts) → ReplacesEach checked arg old new counts → (counts.given ≤ counts.scanned) × (counts.unfit ≤ counts.scanned)
-  few_counts old new counts each = (
+  pub bounded_counts : (old new : Table) (counts : Counts) → ReplacesEach checked arg old new counts → (counts.given ≤ counts.scanned) × (counts.unfit ≤ counts.scanned)
+  bounded_counts old new counts each = (
     omega (arith, each.given, each.scanned, len-entries old, count_by-le-length (λ (e : Entry). is_given (each.outcome e.0)) (map.entries old)),
     omega (arith, each.unfit, each.scanned, len-entries old, count_by-le-length (λ (e : Entry). is_unfit (each.outcome e.0)) (map.entries old)),
   )

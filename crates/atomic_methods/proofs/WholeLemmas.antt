@@ -1,5 +1,5 @@
 -- A table in stripes: where a key is found, and what an edit of one stripe is to the whole.
-use Rattle.std.proofs.Common.{◌≡◌, ◌≢◌, ℕ, zero, suc, ◌<◌, Bool, true, false, cond, List, [], ◌∷◌, ◌++◌, length, get_or, set, take, ◌+◌, Option, Some, None, Result, Ok, Err, IfOk, OnErr, Ordering, Less, Equal, Greater, is_eq, refl, sym, ap, subst, ◌∙◌, arith, inl, inr}
+use Rattle.std.proofs.Common.{◌≡◌, ◌≢◌, ℕ, zero, suc, ◌<◌, Bool, true, false, cond, List, [], ◌∷◌, ◌++◌, length, get_or, set, take, ◌+◌, Option, Some, None, Result, Ok, Err, IfOk, OnErr, refl, sym, ap, subst, ◌∙◌, arith, inl, inr}
 use Rattle.std.specs.Ordering.{eq_by_cmp}
 use Rattle.std.specs.FinMap as map
 use Rattle.std.specs.FinMap.{find, get-empty, get-insert, get-remove, get-entries, get-from_entries, same_map, entries_sorted}
@@ -8,13 +8,16 @@ use Rattle.std.proofs.lemmas.List.{length-set, get_or-set_same, get_or-set_other
 use Rattle.std.proofs.lemmas.Grind.{flat_map-append}
 use Rattle.bpf_model.specs.declared.memory.NoMemory.{NoMemory}
 use Rattle.bins.specs.Table.{Table, by_bytes}
+use Rattle.bins.specs.Entries.{Distinct}
+use Rattle.bins.proofs.MapEdits.{total, antisymmetric}
+use Rattle.bins.proofs.DistinctEntries.{alike}
+use Rattle.bins.proofs.EntryCounts.{Distinct-sorted}
 use Rattle.atomic_methods.specs.declared.reply.Reply.{Reply}
 use Rattle.atomic_methods.specs.Hashes.{stripe_of, IsStripeCount}
 use Rattle.atomic_methods.specs.Invocations.{Invocation}
-use Rattle.atomic_methods.specs.Methods.{rule_of, Follows, Leaves, Answers, WouldAdd, with_value}
+use Rattle.atomic_methods.specs.Methods.{rule_of, Follows, LeavesAtKey, Answers, WouldAdd, with_value}
 use Rattle.atomic_methods.specs.Whole.{all_entries, whole, stripe_at, AreStripes}
-use Rattle.atomic_methods.proofs.TableLemmas.{total, antisymmetric}
-use Rattle.atomic_methods.proofs.EntryLemmas.{first_some, find-append, none_of_both, Distinct, Distinct-append, Distinct-sorted}
+use Rattle.atomic_methods.proofs.EntryLemmas.{first_some, find-append, none_of_both, Distinct-append}
 
 pub first_some-None : (x : Option (List ℕ)) → first_some x None ≡ x
 first_some-None None = refl
@@ -48,21 +51,12 @@ Distinct_all (t ∷ ts) h =
 pub some_of_none : (x : Option (List ℕ)) (v : List ℕ) → x ≡ None → x ≡ Some v → ⊥
 some_of_none x v e f = cc
 
--- a test of keys and what it tells
-pub tied_same : (q k : List ℕ) → eq_by_cmp by_bytes q k ≡ true → q ≡ k
-tied_same q k e = antisymmetric q k (equal _ e)
-  where
-    equal : (r : Ordering) → is_eq r ≡ true → r ≡ Equal
-    equal Less h = cc
-    equal Equal h = refl
-    equal Greater h = cc
-
 get-with_value : (t : Table) (k q : List ℕ) (v : Option (List ℕ)) → map.get (with_value t k v) q ≡ cond (eq_by_cmp by_bytes q k) v (map.get t q)
 get-with_value t k q (Some v) = get-insert total t k v q
 get-with_value t k q None = get-remove total t k q
 
 not_tied : (q k : List ℕ) (b : Bool) (x y : Option (List ℕ)) → eq_by_cmp by_bytes q k ≡ b → q ≢ k → cond b x y ≡ y
-not_tied q k true x y e other = absurd (other (tied_same q k e))
+not_tied q k true x y e other = absurd (other (alike q k e))
 not_tied q k false x y e other = refl
 
 module _ (ts : List Table) (is : AreStripes ts) where
@@ -119,7 +113,7 @@ module _ (ts : List Table) (is : AreStripes ts) where
     same_value : map.get (stripe_at ts i) invocation.key ≡ map.get (whole ts) invocation.key
     same_value = ap (λ (n : ℕ). map.get (stripe_at ts n) invocation.key) at ∙ sym (get-whole invocation.key)
 
-    leaves_whole : (v : Option (List ℕ)) (reply : Reply) → Leaves (stripe_at ts i) invocation v reply → Leaves (whole ts) invocation v reply
+    leaves_whole : (v : Option (List ℕ)) (reply : Reply) → LeavesAtKey (stripe_at ts i) invocation v reply → LeavesAtKey (whole ts) invocation v reply
     leaves_whole v reply leaves = subst (λ (old : Option (List ℕ)). Follows (rule_of invocation.method old) invocation.key old v reply) same_value leaves
 
     -- a call on its key's stripe is a call on the whole

@@ -5,3 +5,5 @@ pub mod Whole
 pub mod Runs
 pub mod Faults
 pub mod Plans
+pub mod Replies
+pub mod Rows

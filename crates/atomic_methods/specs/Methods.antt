@@ -5,7 +5,7 @@ use Rattle.std.specs.Str.{bytes_eq}
 use Rattle.std.specs.FinMap as map
 use Rattle.bpf_model.specs.declared.input.Answer.{Answer}
 use Rattle.bpf_model.specs.declared.input.Answer.TheVariants.{Nothing, Bytes}
-use Rattle.bpf_model.specs.declared.input.Window.{Window}
+use Rattle.bpf_model.specs.declared.input.InputPart.{InputPart}
 use Rattle.verifier.specs.Checked.{Checked}
 use Rattle.bins.specs.Table.{Table}
 use Rattle.bins.specs.Replacements.{ComesTo}
@@ -46,16 +46,16 @@ rule_of (merge given program) (Some value) = runs program (Some given)
 rule_of (merge given program) None = leaves (Some given) (Value (Some given))
 
 -- what the program comes to becomes the key's value and is the reply; nothing is no value, and unfit keeps the old one
-abbrev pub Enters : Result Answer Window → Option (List ℕ) → Option (List ℕ) → Reply → Type 0
+abbrev pub Enters : Result Answer InputPart → Option (List ℕ) → Option (List ℕ) → Reply → Type 0
 Enters (Ok (Bytes value)) old new reply = (new ≡ Some value) × (reply ≡ Value (Some value))
 Enters (Ok Nothing) old new reply = (new ≡ None) × (reply ≡ Value None)
-Enters (Err window) old new reply = (new ≡ old) × (reply ≡ Unfit window)
+Enters (Err part) old new reply = (new ≡ old) × (reply ≡ Unfit part)
 
 -- by the rule, a key with the old value has the new one then, and the reply is this
 abbrev pub Follows : Rule → List ℕ → Option (List ℕ) → Option (List ℕ) → Reply → Type 0
 Follows (leaves value told) key old new reply = (new ≡ value) × (reply ≡ told)
 Follows (runs program arg) key old new reply =
-    (outcome : Result Answer Window)
+    (outcome : Result Answer InputPart)
     × (ComesTo program (record { key = key; old = old; arg = arg }) outcome × Enters outcome old new reply)
 
 -- the table with this value at the key, or without the key
@@ -64,17 +64,17 @@ with_value table key (Some value) = map.insert table key value
 with_value table key None = map.remove table key
 
 -- the invocation may leave its key with this value, and get this reply
-abbrev pub Leaves : Table → Invocation → Option (List ℕ) → Reply → Type 0
-Leaves table invocation new reply =
+abbrev pub LeavesAtKey : Table → Invocation → Option (List ℕ) → Reply → Type 0
+LeavesAtKey table invocation new reply =
     let old = map.get table invocation.key in Follows (rule_of invocation.method old) invocation.key old new reply
 
 -- the invocation, made on the table, leaves the new one and gets the reply; no other key changes
 abbrev pub Answers : Table → Invocation → Table → Reply → Type 0
 Answers table invocation new reply =
-    (value : Option (List ℕ)) × (Leaves table invocation value reply × (new ≡ with_value table invocation.key value))
+    (value : Option (List ℕ)) × (LeavesAtKey table invocation value reply × (new ≡ with_value table invocation.key value))
 
 -- the invocation, made on the table, would add its key
 abbrev pub WouldAdd : Table → Invocation → Type 0
 WouldAdd table invocation =
     (map.get table invocation.key ≡ None)
-    × ((value : List ℕ) × ((reply : Reply) × Leaves table invocation (Some value) reply))
+    × ((value : List ℕ) × ((reply : Reply) × LeavesAtKey table invocation (Some value) reply))

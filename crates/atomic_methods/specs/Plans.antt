@@ -2,13 +2,13 @@
 use Rattle.std.specs.Prelude.{ℕ, Bool, true, false, List, Option, Some, None, Result, Ok, Err, option_copied}
 use Rattle.bpf_model.specs.declared.input.Answer.{Answer}
 use Rattle.bpf_model.specs.declared.input.Answer.TheVariants.{Nothing, Bytes}
-use Rattle.bpf_model.specs.declared.input.Window.{Window}
+use Rattle.bpf_model.specs.declared.input.InputPart.{InputPart}
 use Rattle.atomic_methods.specs.declared.plan.Change.{Change}
 use Rattle.atomic_methods.specs.declared.plan.Change.TheVariants.{Keep, Remove, Enter}
-use Rattle.atomic_methods.specs.declared.plan.Told.{Told}
-use Rattle.atomic_methods.specs.declared.plan.Told.TheVariants.{Old, Done as Tells}
+use Rattle.atomic_methods.specs.declared.plan.PlannedReply.{PlannedReply}
+use Rattle.atomic_methods.specs.declared.plan.PlannedReply.TheVariants.{Old, Done as Tells}
 use Rattle.atomic_methods.specs.declared.plan.Plan.{Plan}
-use Rattle.atomic_methods.specs.declared.plan.Plan.TheVariants.{Settled, Give, Run}
+use Rattle.atomic_methods.specs.declared.plan.Plan.TheVariants.{Apply, Give, Run}
 use Rattle.atomic_methods.specs.declared.reply.Reply.{Reply}
 use Rattle.atomic_methods.specs.declared.reply.Reply.TheVariants.{Value, Done, Unfit}
 use Rattle.atomic_methods.specs.declared.reply.ReplyKind.{ReplyKind}
@@ -22,27 +22,27 @@ changed Remove old = None
 changed (Enter value) old = Some value.now
 
 -- the reply, where the key had the old value
-abbrev pub told_of : Told → Option (List ℕ) → Reply
-told_of Old old = Value old
-told_of (Tells done) old = Done done
+abbrev pub reply_planned : PlannedReply → Option (List ℕ) → Reply
+reply_planned Old old = Value old
+reply_planned (Tells done) old = Done done
 
 abbrev pub rule_by : Plan → Option (List ℕ) → Rule
-rule_by (Settled change told) old = leaves (changed change old) (told_of told old)
+rule_by (Apply change told) old = leaves (changed change old) (reply_planned told old)
 rule_by (Give value) old = leaves (Some value.now) (Value (Some value.now))
 rule_by (Run program arg) old = runs program.now (option_copied arg)
 
 -- what a program came to, where an answer of bytes was left here
-abbrev pub outcome_by : Result Bool Window → List ℕ → Result Answer Window
+abbrev pub outcome_by : Result Bool InputPart → List ℕ → Result Answer InputPart
 outcome_by (Ok true) bytes = Ok (Bytes bytes)
 outcome_by (Ok false) bytes = Ok Nothing
-outcome_by (Err window) bytes = Err window
+outcome_by (Err part) bytes = Err part
 
 -- the reply, where the bytes of its value were left here
 abbrev pub reply_by : ReplyKind → List ℕ → Reply
 reply_by NoValue bytes = Value None
 reply_by SomeValue bytes = Value (Some bytes)
 reply_by (IsDone done) bytes = Done done
-reply_by (IsUnfit window) bytes = Unfit window
+reply_by (IsUnfit part) bytes = Unfit part
 
 -- the value, where there is one
 abbrev pub where_true : Bool → List ℕ → Option (List ℕ)

@@ -4,11 +4,11 @@ ghost use Rattle.std.specs.FinMap as map;
 ghost use Rattle.bins.specs.Hashes.{hash as hash_is};
 ghost use Rattle.bins.specs.Replacements.{ReplacesEach};
 ghost use Rattle.atomic_methods.specs.Invocations.{invocation_of};
-ghost use Rattle.atomic_methods.specs.Methods.{rule_of, Follows, Leaves, Answers, WouldAdd};
+ghost use Rattle.atomic_methods.specs.Methods.{rule_of, Follows, LeavesAtKey, Answers, WouldAdd};
 ghost use Rattle.atomic_methods.specs.Plans.{reply_by, where_true};
 
 use crate::call::Call;
-use crate::plan::{Change, Plan, Told, plan_of};
+use crate::plan::{Change, Plan, PlannedReply, plan_of};
 use crate::program::answer_into;
 use crate::reply::{Reply, ReplyKind};
 use bins::{Bins, Counts, hash_of};
@@ -102,7 +102,7 @@ pub fn scan<B: Bins>(alloc: Global, bins: &B) -> Result<Vec<(Key, Value)>, NoMem
 /// nothing keeps the entry, and one that is too long for a window stays. Takes no memory. Never waits.
 pub fn replace_each<B: Bins>(bins: &mut B, program: &Verified, arg: &Option<Value>) -> Counts
     ensures each { ReplacesEach program.now arg.now (B.table bins.old) (B.table bins.new) result }
-    ensures few { result.scanned < 2 ^ 57 }
+    ensures bounded { result.scanned < 2 ^ 57 }
 {
     bins.replace_each(program, arg)
 }
@@ -119,10 +119,10 @@ fn change_value(
         (where_true result.0 value.new) (reply_by result.1 bytes.new) }
 {
     match plan_of(call, Some(value)) {
-        Plan::Settled(change, told) => {
+        Plan::Apply(change, told) => {
             let kind = match told {
-                Told::Done(done) => ReplyKind::Done(done),
-                Told::Old => ReplyKind::Some,
+                PlannedReply::Done(done) => ReplyKind::Done(done),
+                PlannedReply::Old => ReplyKind::Some,
             };
             bytes.set_from(value.as_slice());
             match change {
@@ -152,7 +152,7 @@ fn change_value(
                 (true, ReplyKind::Some)
             }
             Ok(false) => (false, ReplyKind::None),
-            Err(window) => (true, ReplyKind::Unfit(window)),
+            Err(part) => (true, ReplyKind::Unfit(part)),
         },
     }
 }
@@ -164,15 +164,15 @@ fn new_value(call: &Call, machine: &mut Machine, bytes: &mut Value) -> (bool, Re
         (where_true result.0 bytes.new) (reply_by result.1 bytes.new) }
 {
     match plan_of(call, None) {
-        Plan::Settled(Change::Enter(new), told) => {
+        Plan::Apply(Change::Enter(new), told) => {
             bytes.set_from(new.as_slice());
             match told {
-                Told::Old => (true, ReplyKind::None),
-                Told::Done(done) => (true, ReplyKind::Done(done)),
+                PlannedReply::Old => (true, ReplyKind::None),
+                PlannedReply::Done(done) => (true, ReplyKind::Done(done)),
             }
         }
-        Plan::Settled(_, Told::Done(done)) => (false, ReplyKind::Done(done)),
-        Plan::Settled(_, Told::Old) => (false, ReplyKind::None),
+        Plan::Apply(_, PlannedReply::Done(done)) => (false, ReplyKind::Done(done)),
+        Plan::Apply(_, PlannedReply::Old) => (false, ReplyKind::None),
         Plan::Give(new) => {
             bytes.set_from(new.as_slice());
             (true, ReplyKind::Some)
@@ -187,7 +187,7 @@ fn new_value(call: &Call, machine: &mut Machine, bytes: &mut Value) -> (bool, Re
         ) {
             Ok(true) => (true, ReplyKind::Some),
             Ok(false) => (false, ReplyKind::None),
-            Err(window) => (false, ReplyKind::Unfit(window)),
+            Err(part) => (false, ReplyKind::Unfit(part)),
         },
     }
 }

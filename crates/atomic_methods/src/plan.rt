@@ -22,7 +22,7 @@ pub enum Change<'c> {
 
 /// What is replied.
 #[derive(Clone, Copy)]
-pub enum Told {
+pub enum PlannedReply {
     /// The value that the key had, if any.
     Old,
     /// Whether the value was the expected one.
@@ -33,7 +33,7 @@ pub enum Told {
 #[derive(Clone, Copy)]
 pub enum Plan<'c> {
     /// The change and what is replied.
-    Settled(Change<'c>, Told),
+    Apply(Change<'c>, PlannedReply),
     /// The key has this value then, which is replied.
     Give(&'c Value),
     /// The program is run with this argument; what it answers becomes the key's value and is replied.
@@ -46,40 +46,40 @@ pub fn plan_of<'c>(call: &'c Call, old: Option<&Value>) -> Plan<'c>
         rule_by result value ≡ rule_of (invocation_of call.now).method value }
 {
     use Change::{Enter, Keep, Remove};
-    use Plan::{Give, Run, Settled};
-    use Told::{Done, Old};
+    use Plan::{Give, Run, Apply};
+    use PlannedReply::{Done, Old};
     match call {
-        Call::Get { .. } => Settled(Keep, Old),
-        Call::Put { value, .. } => Settled(Enter(value), Old),
+        Call::Get { .. } => Apply(Keep, Old),
+        Call::Put { value, .. } => Apply(Enter(value), Old),
         Call::PutIfAbsent { value, .. } => match old {
-            Some(_) => Settled(Keep, Old),
-            None => Settled(Enter(value), Old),
+            Some(_) => Apply(Keep, Old),
+            None => Apply(Enter(value), Old),
         },
-        Call::Remove { .. } => Settled(Remove, Old),
+        Call::Remove { .. } => Apply(Remove, Old),
         Call::RemoveIf { expected, .. } => match old {
-            Some(old) if *old == *expected => Settled(Remove, Done(true)),
-            _ => Settled(Keep, Done(false)),
+            Some(old) if *old == *expected => Apply(Remove, Done(true)),
+            _ => Apply(Keep, Done(false)),
         },
         Call::Replace { value, .. } => match old {
-            Some(_) => Settled(Enter(value), Old),
-            None => Settled(Keep, Old),
+            Some(_) => Apply(Enter(value), Old),
+            None => Apply(Keep, Old),
         },
         Call::ReplaceIf {
             expected,
             value,
             ..
         } => match old {
-            Some(old) if *old == *expected => Settled(Enter(value), Done(true)),
-            _ => Settled(Keep, Done(false)),
+            Some(old) if *old == *expected => Apply(Enter(value), Done(true)),
+            _ => Apply(Keep, Done(false)),
         },
         Call::Compute { program, arg, .. } => Run(program, arg.as_ref()),
         Call::ComputeIfAbsent { program, arg, .. } => match old {
-            Some(_) => Settled(Keep, Old),
+            Some(_) => Apply(Keep, Old),
             None => Run(program, arg.as_ref()),
         },
         Call::ComputeIfPresent { program, arg, .. } => match old {
             Some(_) => Run(program, arg.as_ref()),
-            None => Settled(Keep, Old),
+            None => Apply(Keep, Old),
         },
         Call::Merge { value, program, .. } => match old {
             Some(_) => Run(program, Some(value)),

@@ -6,7 +6,7 @@ ghost use Rattle.bins.specs.Replacements.{ComesTo};
 ghost use Rattle.atomic_methods.specs.Plans.{outcome_by};
 
 use bpf_machine::{Machine, run_into};
-use bpf_model::{Key, Value, Window, fits_parts};
+use bpf_model::{InputPart, Key, Value, fits_parts};
 use verifier::Verified;
 
 /// Runs the program on the key, its value and the argument, in a machine that is lent: whether it answers bytes, which are
@@ -18,7 +18,7 @@ pub fn answer_into(
     arg: Option<&Value>,
     machine: &mut Machine,
     answer: &mut Value,
-) -> Result<bool, Window>
+) -> Result<bool, InputPart>
     ensures outcome { let input = input_of key.now (option_copied old.entry) (option_copied arg.entry) in
         ComesTo program.now input (outcome_by result answer.new) }
 {

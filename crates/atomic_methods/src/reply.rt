@@ -2,7 +2,7 @@
 ghost use Rattle.std.specs.Prelude.{◌≡◌};
 ghost use Rattle.atomic_methods.specs.Plans.{reply_by};
 
-use bpf_model::{Value, Window};
+use bpf_model::{InputPart, Value};
 
 /// What a call replies.
 #[derive(Debug, PartialEq, Eq, Drop)]
@@ -12,7 +12,7 @@ pub enum Reply {
     /// Whether the key's value was the expected one.
     Done(bool),
     /// The first window that is too small for its bytes. The program did not run, and the table is as before.
-    Unfit(Window),
+    Unfit(InputPart),
 }
 
 /// A reply without the bytes of its value, which stand in a place of the caller's.
@@ -25,7 +25,7 @@ pub enum ReplyKind {
     /// Whether the key's value was the expected one.
     Done(bool),
     /// The first window that is too small for its bytes.
-    Unfit(Window),
+    Unfit(InputPart),
 }
 
 impl ReplyKind {
@@ -37,7 +37,7 @@ impl ReplyKind {
             ReplyKind::None => Reply::Value(None),
             ReplyKind::Some => Reply::Value(Some(value)),
             ReplyKind::Done(done) => Reply::Done(done),
-            ReplyKind::Unfit(window) => Reply::Unfit(window),
+            ReplyKind::Unfit(part) => Reply::Unfit(part),
         }
     }
 }

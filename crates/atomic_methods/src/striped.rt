@@ -6,7 +6,7 @@ ghost use Rattle.atomic_methods.specs.Hashes.{IsStripeCount};
 ghost use Rattle.atomic_methods.specs.Invocations.{invocation_of};
 ghost use Rattle.atomic_methods.specs.Methods.{Answers, WouldAdd};
 ghost use Rattle.atomic_methods.specs.Plans.{reply_by};
-ghost use Rattle.atomic_methods.specs.Runs.{AnswersInTurn, first_of, IsRefused};
+ghost use Rattle.atomic_methods.specs.Runs.{AnswersInTurn, first_of, IsCallRefused};
 ghost use Rattle.atomic_methods.specs.Whole.{stripe_at, all_entries, whole, AreStripes, ReplacesStripes};
 
 use crate::call::Call;
@@ -99,7 +99,7 @@ impl Striped {
             let made = first_of calls.now (length stopped.replies.items) in
             AnswersInTurn self.old made self.new stopped.replies.items) }
         ensures memory { IfErr result (λ stopped. (stopped.replies.items ≡ [])
-            ⊎ IsRefused self.new calls.now (length stopped.replies.items)) }
+            ⊎ IsCallRefused self.new calls.now (length stopped.replies.items)) }
     {
         let Ok(mut replies) = Vec::with_capacity(alloc, calls.len()) else {
             return Err(Stopped {
@@ -122,6 +122,13 @@ impl Striped {
         sorted_entries(alloc, &self.stripes)
     }
 
+    /// How many entries there are. Takes no memory. Never waits.
+    pub fn count(&self) -> u64
+        ensures value { result ≡ length (finmap.entries self.now) }
+    {
+        count_of(&self.stripes)
+    }
+
     /// Replaces the value of each key of the table once by what the program answers on the key, its value and the
     /// argument. An answer of nothing keeps the entry, and one that is too long for a window stays. Takes no memory. Never
     /// waits.
@@ -134,7 +141,7 @@ impl Striped {
 
 // Replaces the values of each stripe, and counts them together.
 fn replace_stripes(stripes: &mut Vec<HashedBins>, program: &Verified, arg: &Option<Value>) -> Counts
-    requires few { length stripes.old.items ≤ MAX_STRIPES }
+    requires bounded { length stripes.old.items ≤ MAX_STRIPES }
     ensures each { ReplacesStripes program.now arg.now stripes.old.items stripes.new.items result }
 {
     let mut scanned = 0;
@@ -163,6 +170,18 @@ fn empty_stripes(alloc: Global, count: u64) -> Result<Vec<HashedBins>, NoMemory>
         stripes.push(HashedBins::open(alloc, count)?)?;
     }
     Ok(stripes)
+}
+
+// How many entries the stripes have together.
+fn count_of(stripes: &[HashedBins]) -> u64
+    requires { length stripes.now ≤ MAX_STRIPES }
+    ensures { result ≡ length (all_entries stripes.now) }
+{
+    let mut sum = 0;
+    for stripe in stripes {
+        sum += stripe.count();
+    }
+    sum
 }
 
 // Copies of the entries of each stripe in turn.

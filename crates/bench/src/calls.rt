@@ -1,53 +1,209 @@
-//! Calls on a table of one entry, made as often as is told.
+//! Calls on a map that threads share.
+ghost use Rattle.std.specs.Prelude.{◌≡◌, All};
 
+use crate::opening::{last_pass, numbered_key, numbered_value, opened, put_one};
+use crate::programs::{Sample, verified};
 use anyhow::{Result, bail};
-use atomic_methods::{Call, Striped};
-use bpf_model::{Key, Value};
+use atomic_methods::{Call, Reply};
+use bin_stripes::{Pass, StripedMap};
+use bpf_model::Key;
 use std::alloc::Global;
+use std::sync::Wait;
+use std::thread::{self, Threads};
 use verifier::Verified;
 
-fn value() -> Result<Value> {
-    Ok(Value::from_slice(&1u64.to_le_bytes())?)
+/// What each call is.
+#[derive(Clone, Copy, Debug, PartialEq, Eq)]
+pub enum Method {
+    Get,
+    /// Of the value 1.
+    Put,
+    /// Of the value 1, by the sum.
+    Merge,
 }
 
-/// The call of this name, on the entry's key, with values of 8 bytes.
-fn named<'a>(name: &str, key: Key, program: &'a Verified) -> Result<Call<'a>> {
-    Ok(match name {
-        "get" => Call::Get { key },
-        "put" => Call::Put {
-            key,
-            value: value()?,
-        },
-        "replace" => Call::Replace {
-            key,
-            value: value()?,
-        },
-        "compute" => Call::Compute {
-            key,
-            program,
-            arg: Some(value()?),
-        },
-        "merge" => Call::Merge {
-            key,
-            value: value()?,
-            program,
-        },
-        _ => bail!("no call is named so"),
-    })
+impl Method {
+    /// The method of this name; none where there is no such one.
+    pub fn named(name: &str) -> Option<Method> {
+        match name {
+            "get" => Some(Method::Get),
+            "put" => Some(Method::Put),
+            "merge" => Some(Method::Merge),
+            _ => None,
+        }
+    }
+
+    fn call(self, key: Key, program: &Verified) -> Result<Call> {
+        Ok(match self {
+            Method::Get => Call::Get { key },
+            Method::Put => put_one(key)?,
+            Method::Merge => Call::Merge {
+                key,
+                value: numbered_value(1)?,
+                program,
+            },
+        })
+    }
 }
 
-/// Makes the call of this name as often as that, on a key of 8 bytes that is present.
-pub fn call_often(alloc: Global, program: &Verified, name: &str, count: u64) -> Result<()> {
-    let key = Key::from_slice(b"an entry")?;
-    let mut striped = Striped::open(alloc, 1)?;
-    striped.apply(&Call::Put {
-        key: key.copied(),
-        value: value()?,
-    })?;
-    let call = named(name, key, program)?;
-    let mut bytes = Value::new();
-    for _ in 0..count {
-        striped.apply_into(&call, &mut bytes)?;
+/// Which keys the threads call.
+#[derive(Clone, Copy, Debug, PartialEq, Eq)]
+pub enum Keys {
+    /// All threads so many keys, each from a place of its own on.
+    Shared(u64),
+    /// Each thread one key of its own, in stripes whose words lie so many words apart.
+    Own(u64),
+}
+
+/// Eight words fill a cache line.
+const LINE_WORDS: u64 = 8;
+
+// The key of one byte in this stripe of 64: its hash is 31 and the byte.
+fn key_in_stripe(stripe: u64) -> Result<Key> {
+    let byte = stripe.wrapping_add(33) % 64;
+    Ok(Key::from_slice(&[byte as u8])?)
+}
+
+impl Keys {
+    /// `near` is a key for each thread, in stripes side by side, and `apart` in stripes whose words share no cache line;
+    /// else the word is how many keys all threads share.
+    pub fn named(word: &str) -> Result<Keys> {
+        Ok(match word {
+            "near" => Keys::Own(1),
+            "apart" => Keys::Own(LINE_WORDS),
+            _ => Keys::Shared(word.parse()?),
+        })
+    }
+
+    // How many keys so many threads call.
+    fn count(self, threads: u64) -> u64 {
+        match self {
+            Keys::Shared(count) => count,
+            Keys::Own(_) => threads,
+        }
+    }
+
+    // The key of this number.
+    fn key(self, number: u64) -> Result<Key> {
+        match self {
+            Keys::Shared(_) => Ok(numbered_key(number)?),
+            Keys::Own(apart) => key_in_stripe(number.wrapping_mul(apart)),
+        }
+    }
+
+    // The number of the key that the worker calls at this turn.
+    fn number(self, worker: u64, turn: u64) -> u64 {
+        match self {
+            Keys::Shared(count) => worker.wrapping_mul(count / 4).wrapping_add(turn) % count.max(1),
+            Keys::Own(_) => worker,
+        }
+    }
+}
+
+// What the threads do.
+#[derive(Drop)]
+struct Plan<'a> {
+    method: Method,
+    keys: Keys,
+    program: &'a Verified,
+    count: u64,
+}
+
+// Puts the value 1 under each of the keys.
+fn fill<R: Wait>(rt: &R, map: &StripedMap, pass: &mut Pass, keys: Keys, count: u64) -> Result<()>
+    requires { pass.old.map ≡ map.now }
+    ensures { pass.new.map ≡ map.now }
+{
+    for number in 0..count {
+        map.call(rt, pass, &put_one(keys.key(number)?)?)?;
     }
     Ok(())
+}
+
+// Makes the calls of one worker.
+fn make_calls<R: Wait>(
+    rt: &R,
+    map: &StripedMap,
+    pass: &mut Pass,
+    plan: &Plan,
+    worker: u64,
+) -> Result<()>
+    requires { pass.old.map ≡ map.now }
+    ensures { pass.new.map ≡ map.now }
+{
+    for turn in 0..plan.count {
+        let key = plan.keys.key(plan.keys.number(worker, turn))?;
+        map.call(rt, pass, &plan.method.call(key, plan.program)?)?;
+    }
+    Ok(())
+}
+
+// Makes the calls of all workers, each in a thread of its own where one can be made.
+fn make_all_calls<R: Threads + Wait + Sync>(
+    rt: &R,
+    map: &StripedMap,
+    passes: &mut [Pass],
+    plan: &Plan,
+)
+    requires { All (λ pass. pass.map ≡ map.now) passes.old }
+{
+    let threads = passes.len().max(1);
+    let call = move |worker: usize, pass: &mut Pass|
+        requires { pass.old.map ≡ map.now }
+        ensures { pass.new.map ≡ map.entry.now }
+    {
+        let _ = make_calls(rt, map, pass, plan, worker as u64);
+    };
+    thread::for_each_mut(rt, passes, threads, &call);
+}
+
+// The value's number; 0 where there is no value of eight bytes.
+fn number_of(reply: &Reply) -> u64 {
+    let Reply::Value(Some(value)) = reply else {
+        return 0;
+    };
+    match value.as_slice() {
+        [a, b, c, d, e, f, g, h] => u64::from_le_bytes([*a, *b, *c, *d, *e, *f, *g, *h]),
+        _ => 0,
+    }
+}
+
+// The sum of the values of the keys.
+fn sum_of<R: Wait>(rt: &R, map: &StripedMap, pass: &mut Pass, keys: Keys, count: u64) -> Result<u64>
+    requires { pass.old.map ≡ map.now }
+{
+    let mut sum = 0u64;
+    for number in 0..count {
+        let key = keys.key(number)?;
+        let reply = map.call(rt, pass, &Call::Get { key })?;
+        sum = sum.wrapping_add(number_of(&reply));
+    }
+    Ok(sum)
+}
+
+/// The sum of the values, after as many threads made as many calls each on keys that had the value 1. A call that was
+/// refused for memory shows in the sum.
+pub fn calls_sum<R: Threads + Wait + Sync>(
+    rt: &R,
+    alloc: Global,
+    method: Method,
+    keys: Keys,
+    threads: u64,
+    count: u64,
+) -> Result<u64> {
+    if threads == 0 || threads > 63 {
+        bail!("from 1 to 63 threads");
+    }
+    let program = verified(alloc, Sample::Sum)?;
+    let plan = Plan {
+        method,
+        keys,
+        program: &program,
+        count,
+    };
+    let (map, mut passes) = opened(alloc, threads + 1)?;
+    let mut pass = last_pass(&map, &mut passes)?;
+    fill(rt, &map, &mut pass, keys, keys.count(threads))?;
+    make_all_calls(rt, &map, &mut passes, &plan);
+    sum_of(rt, &map, &mut pass, keys, keys.count(threads))
 }

@@ -1,184 +1,170 @@
-//! Runs and verifies programs as often as it is told, to be timed from outside.
+//! Runs and verifies programs, makes calls, requests and walks as often as it is told, to be timed from outside.
 //!
-//! `run NAME COUNT` and `into NAME COUNT` (the same into a kept value), `verify NAME COUNT` and `shape NAME COUNT` (what
-//! `verify` is handed, without `verify`); `call NAME COUNT` makes a call on a table; `hex NAME` prints a program's bytes.
-//! Without words it prints what each program answers.
+//! What the words mean is in the README. Each mode prints what came of it; without words some small ones of each are
+//! printed.
 #![tactic(auto)]
 
 mod calls;
+mod entries;
 mod made_up;
+mod memory;
+mod opening;
 mod programs;
+mod runs;
+mod session;
+mod tables;
+mod walk;
 
-use anyhow::{Result, bail, ensure};
-use bpf_assembler::assemble;
-use bpf_decode::encode;
-use bpf_machine::{Machine, run, run_into};
-use bpf_model::{Answer, Input, Insn, Key, Program, Sizes, Value, fits};
-use calls::call_often;
-use flow_shape::{Shaped, shape};
+use anyhow::{Result, bail};
+use calls::{Keys, Method, calls_sum};
+use entries::work_often;
 use made_up::checksum;
 use programs::Sample;
+use runs::{Mode, answer_of, bytes_of, run_often};
+use session::{Ask, serve};
 use std::alloc::Global;
-use std::{env, io};
-use verifier::{Verified, verify};
+use std::env;
+use std::sync::Wait;
+use std::thread::Threads;
+use tables::call_often;
+use walk::{Walk, walk_often};
 
-const SIZES: Sizes = Sizes {
-    key: 64,
-    old: 8,
-    arg: 8,
-    result: 8,
-};
+/// What is printed where there are no words.
+const ROWS: [(&str, &[&str]); 26] = [
+    ("answer", &["sum"]),
+    ("answer", &["alu"]),
+    ("answer", &["eight"]),
+    ("answer", &["mix"]),
+    ("answer", &["straight"]),
+    ("answer", &["jumps"]),
+    ("answer", &["ladder"]),
+    ("answer", &["spills"]),
+    ("made_up", &["2000"]),
+    ("entries", &["find", "1000", "1"]),
+    ("entries", &["change", "1000", "1"]),
+    ("entries", &["put", "1000", "1"]),
+    ("entries", &["remove", "1000", "1"]),
+    ("calls", &["get", "1", "4", "500"]),
+    ("calls", &["get", "1000", "4", "500"]),
+    ("calls", &["put", "1", "4", "500"]),
+    ("calls", &["put", "1000", "4", "500"]),
+    ("calls", &["merge", "1", "4", "500"]),
+    ("calls", &["merge", "1000", "4", "500"]),
+    ("calls", &["merge", "near", "4", "500"]),
+    ("calls", &["merge", "apart", "4", "500"]),
+    ("session", &["get", "2"]),
+    ("session", &["put", "2"]),
+    ("session", &["merge", "2"]),
+    ("walk", &["for_each", "2", "1000", "1"]),
+    ("walk", &["mapping_count", "2", "1000", "1"]),
+];
 
-/// How many old values runs are made on, in turn.
-const INPUTS: u64 = 256;
-
-fn program(alloc: Global, sample: Sample) -> Result<Program> {
-    let text = sample.text(alloc)?;
-    Ok(assemble(alloc, &text)?)
+fn sample(name: &str) -> Result<Sample> {
+    match Sample::named(name) {
+        Some(sample) => Ok(sample),
+        None => bail!("no program is named so"),
+    }
 }
 
-fn shaped(alloc: Global, instructions: &[Insn]) -> Result<Shaped> {
-    let mut copy = Vec::new(alloc);
-    copy.extend_from_slice(instructions)?;
-    let Some(program) = Program::new(copy) else {
-        bail!("no program");
+fn made_up_text(alloc: Global, count: u64) -> Result<String> {
+    let (safe, sum) = checksum(alloc, count)?;
+    Ok(format!(in alloc; "{safe} of them safe, {sum:016x}")?)
+}
+
+fn calls_text<R: Threads + Wait + Sync>(
+    rt: &R,
+    alloc: Global,
+    words: &[&str; 4],
+) -> Result<String> {
+    let [method, keys, threads, count] = words;
+    let Some(method) = Method::named(method) else {
+        bail!("the calls are get, put and merge");
     };
-    Ok(shape(program)?)
+    let keys = Keys::named(keys)?;
+    let sum = calls_sum(rt, alloc, method, keys, threads.parse()?, count.parse()?)?;
+    Ok(format!(in alloc; "the sum of the values is {sum}")?)
 }
 
-fn verified(alloc: Global, sample: Sample) -> Result<Verified> {
-    Ok(verify(alloc, shape(program(alloc, sample)?)?, SIZES)?)
-}
-
-/// The empty key, an old value and the argument 2, each number of 8 bytes.
-fn input(old: u64) -> Result<Input> {
-    Ok(Input {
-        key: Key::from_slice(b"")?,
-        old: Some(Value::from_slice(&old.to_le_bytes())?),
-        arg: Some(Value::from_slice(&2u64.to_le_bytes())?),
-    })
-}
-
-/// `INPUTS` of them.
-fn inputs(alloc: Global) -> Result<Vec<Input>> {
-    let mut inputs = Vec::new(alloc);
-    for number in 0..INPUTS {
-        inputs.push(input((number + 1).wrapping_mul(0x9e37_79b9_7f4a_7c15))?)?;
-    }
-    Ok(inputs)
-}
-
-fn run_often(alloc: Global, sample: Sample, count: u64) -> Result<()> {
-    let verified = verified(alloc, sample)?;
-    let inputs = inputs(alloc)?;
-    ensure!(inputs.len() as u64 == INPUTS, "inputs");
-    for turn in 0..count {
-        let input = &inputs[(turn % INPUTS) as usize];
-        ensure!(fits(&verified.sizes(), input).is_ok(), "unfit");
-        if let Answer::Nothing = run(&verified, input) {
-            bail!("no bytes");
-        }
-    }
-    Ok(())
-}
-
-fn run_into_often(alloc: Global, sample: Sample, count: u64) -> Result<()> {
-    let verified = verified(alloc, sample)?;
-    let inputs = inputs(alloc)?;
-    ensure!(inputs.len() as u64 == INPUTS, "inputs");
-    let mut machine = Machine::new();
-    let mut answer = Value::new();
-    for turn in 0..count {
-        let input = &inputs[(turn % INPUTS) as usize];
-        ensure!(fits(&verified.sizes(), input).is_ok(), "unfit");
-        let (old, arg) = (input.old.as_ref(), input.arg.as_ref());
-        ensure!(
-            run_into(&verified, &input.key, old, arg, &mut machine, &mut answer),
-            "no bytes"
-        );
-    }
-    Ok(())
-}
-
-fn shape_often(alloc: Global, sample: Sample, count: u64) -> Result<()> {
-    let program = program(alloc, sample)?;
-    for _ in 0..count {
-        shaped(alloc, program.instructions())?;
-    }
-    Ok(())
-}
-
-fn verify_often(alloc: Global, sample: Sample, count: u64) -> Result<()> {
-    let program = program(alloc, sample)?;
-    for _ in 0..count {
-        verify(alloc, shaped(alloc, program.instructions())?, SIZES)?;
-    }
-    Ok(())
-}
-
-fn print_bytes(rt: &impl Print, bytes: &[u8]) -> io::Result<()> {
-    for byte in bytes {
-        print!(rt; "{byte:02x}")?;
-    }
-    println!(rt; "")
-}
-
-fn print_answer(rt: &HostRuntime, name: &str, sample: Sample) -> Result<()> {
-    let verified = verified(rt.alloc(), sample)?;
-    let input = input(1)?;
-    ensure!(fits(&verified.sizes(), &input).is_ok(), "unfit");
-    print!(rt; "{name} answers ")?;
-    match run(&verified, &input) {
-        Answer::Bytes(value) => print_bytes(rt, value.as_slice())?,
-        Answer::Nothing => println!(rt; "nothing")?,
-    }
-    Ok(())
-}
-
-fn print_checksum(rt: &HostRuntime, count: u64) -> Result<()> {
-    let (safe, sum) = checksum(rt.alloc(), count)?;
-    Ok(println!(rt; "{count} made-up programs, {safe} of them safe: {sum:016x}")?)
-}
-
-fn print_answers(rt: &HostRuntime) -> Result<()> {
-    print_answer(rt, "sum", Sample::Sum)?;
-    print_answer(rt, "alu", Sample::Arithmetic)?;
-    print_answer(rt, "eight", Sample::Registers)?;
-    print_answer(rt, "mix", Sample::Mixed)?;
-    print_answer(rt, "straight", Sample::Straight)?;
-    print_answer(rt, "jumps", Sample::Jumps)?;
-    print_answer(rt, "ladder", Sample::Ladder)?;
-    print_answer(rt, "spills", Sample::Spills)?;
-    print_checksum(rt, 2000)
-}
-
-fn bench(rt: &HostRuntime, word: &str, name: &str, count: &str) -> Result<()> {
-    let alloc = rt.alloc();
-    if word == "call" {
-        let program = verified(alloc, Sample::Sum)?;
-        return call_often(alloc, &program, name, count.parse()?);
-    }
-    let Some(sample) = Sample::named(name) else {
-        bail!("no program is named so");
+fn session_text<R: Wait>(rt: &R, alloc: Global, ask: &str, count: &str) -> Result<String> {
+    let Some(ask) = Ask::named(ask) else {
+        bail!("the requests are get, put and merge");
     };
-    match word {
-        "run" => run_often(alloc, sample, count.parse()?),
-        "into" => run_into_often(alloc, sample, count.parse()?),
-        "shape" => shape_often(alloc, sample, count.parse()?),
-        "verify" => verify_often(alloc, sample, count.parse()?),
-        "hex" => {
-            let bytes = encode(alloc, &program(alloc, sample)?)?;
-            Ok(print_bytes(rt, bytes.as_slice())?)
+    let bytes = serve(rt, alloc, ask, count.parse()?)?;
+    Ok(format!(in alloc; "{bytes} bytes are answered")?)
+}
+
+fn walk_text<R: Threads + Wait + Sync>(rt: &R, alloc: Global, words: &[&str; 4]) -> Result<String> {
+    let [walk, workers, entries, count] = words;
+    let (workers, entries, count) = (workers.parse()?, entries.parse()?, count.parse()?);
+    let Some(walk) = Walk::named(walk) else {
+        bail!("the walks are for_each and mapping_count");
+    };
+    let (scanned, given) = walk_often(rt, alloc, walk, workers, entries, count)?;
+    Ok(format!(in alloc; "{scanned} scanned, {given} given")?)
+}
+
+// What one thread does without a shared map.
+fn alone_text(alloc: Global, mode: &str, words: &[&str]) -> Result<String> {
+    match (mode, words) {
+        ("answer", [name]) => answer_of(alloc, sample(name)?),
+        ("hex", [name]) => bytes_of(alloc, sample(name)?),
+        ("made_up", [count]) => made_up_text(alloc, count.parse()?),
+        ("call", [name, count]) => {
+            call_often(alloc, name, count.parse()?)?;
+            Ok(String::new(alloc))
         }
-        _ => bail!("the first word is run, into, shape, verify, call or hex"),
+        ("entries", [name, entries, rounds]) => {
+            let seen = work_often(alloc, name, entries.parse()?, rounds.parse()?)?;
+            Ok(format!(in alloc; "{seen} bytes are seen")?)
+        }
+        (mode, [name, count]) => {
+            let Some(mode) = Mode::named(mode) else {
+                bail!("no mode is named so");
+            };
+            run_often(alloc, mode, sample(name)?, count.parse()?)?;
+            Ok(String::new(alloc))
+        }
+        _ => bail!("the words are those of the README"),
     }
+}
+
+fn text<R: Threads + Wait + Sync>(
+    rt: &R,
+    alloc: Global,
+    mode: &str,
+    words: &[&str],
+) -> Result<String> {
+    match (mode, words) {
+        ("calls", [method, keys, threads, count]) => {
+            calls_text(rt, alloc, &[method, keys, threads, count])
+        }
+        ("session", [ask, count]) => session_text(rt, alloc, ask, count),
+        ("walk", [kind, workers, entries, count]) => {
+            walk_text(rt, alloc, &[kind, workers, entries, count])
+        }
+        _ => alone_text(alloc, mode, words),
+    }
+}
+
+fn print_row(rt: &impl Print, mode: &str, words: &[&str], text: &str) -> Result<()> {
+    print!(rt; "{mode}")?;
+    for word in words {
+        print!(rt; " {word}")?;
+    }
+    Ok(println!(rt; ": {text}")?)
 }
 
 fn main(rt: HostRuntime) -> Result<()> {
-    let words: Vec<String> = env::args(&rt)?.collect(rt.alloc())?;
-    match words.as_slice() {
-        [_, word, name] => bench(&rt, word, name, "1"),
-        [_, word, name, count] => bench(&rt, word, name, count),
-        _ => print_answers(&rt),
+    let alloc = rt.alloc();
+    let words: Vec<String> = env::args(&rt)?.collect(alloc)?;
+    let words: Vec<&str> = words.iter().map(|word| word.as_str()).collect(alloc)?;
+    if let [_, mode, words @ ..] = words.as_slice() {
+        let text = text(&rt, alloc, mode, words)?;
+        return Ok(println!(rt; "{text}")?);
     }
+    for (mode, words) in ROWS {
+        let text = text(&rt, alloc, mode, words)?;
+        print_row(&rt, mode, words, &text)?;
+    }
+    Ok(())
 }

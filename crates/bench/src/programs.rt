@@ -1,8 +1,21 @@
 //! The programs that are measured, as texts of the assembler. They stand here alone: `bench/run.sh` has their bytes from
 //! here for the C loop too.
 
+use anyhow::Result;
+use bpf_assembler::assemble;
 use bpf_model::limits::{PROGRAM_UNITS, STACK_BYTES};
+use bpf_model::{Program, Sizes};
+use flow_shape::shape;
 use std::alloc::{AllocError, Global};
+use verifier::{Verified, verify};
+
+/// The windows that each program is verified and registered with.
+pub const SIZES: Sizes = Sizes {
+    key: 64,
+    old: 8,
+    arg: 8,
+    result: 8,
+};
 
 /// A program that is measured.
 #[derive(Clone, Copy, Debug, PartialEq, Eq)]
@@ -189,4 +202,15 @@ fn joined(alloc: Global, parts: &[(&str, usize)]) -> Result<String, AllocError> 
         }
     }
     Ok(text)
+}
+
+/// The program, read from its text.
+pub fn program(alloc: Global, sample: Sample) -> Result<Program> {
+    let text = sample.text(alloc)?;
+    Ok(assemble(alloc, &text)?)
+}
+
+/// The program, found safe.
+pub fn verified(alloc: Global, sample: Sample) -> Result<Verified> {
+    Ok(verify(alloc, shape(program(alloc, sample)?)?, SIZES)?)
 }

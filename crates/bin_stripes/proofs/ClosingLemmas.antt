@@ -15,7 +15,7 @@ use Rattle.stripe_rule.proofs.CloseLemmas.{taken_more, left_behind, none_between
 use Rattle.bins.specs.Table.{Entry, Table, by_bytes}
 use Rattle.atomic_methods.specs.Hashes.{stripe_of, IsStripeCount}
 use Rattle.atomic_methods.specs.Whole.{all_entries, whole, stripe_at, AreStripes}
-use Rattle.bin_stripes.specs.declared.deed.Deed.{Deed}
+use Rattle.bin_stripes.specs.declared.ghost_action.GhostAction.{GhostAction}
 use Rattle.bin_stripes.specs.Histories.{empty, does, Leaves, Sound}
 use Rattle.bin_stripes.specs.Passes.{PassState, stripes_of}
 use Rattle.bin_stripes.specs.Closed.{Closes}
@@ -26,13 +26,13 @@ pub all_entries-push : (tables : List Table) (table : Table) → all_entries (ta
 all_entries-push tables table = flat_map-append map.entries tables (table ∷ []) ∙ ap (λ (es : List Entry). all_entries tables ++ es) (append-nil (map.entries table))
 
 -- the view carries its least number after a take
-pub carries_next : (w u x : View Deed) (k : ℕ) → x ≡ u → Extends w k true u → Carries w (least w.numbers) → Carries x (least x.numbers)
-carries_next w u x k is e c = subst (λ (z : View Deed). Carries z (least z.numbers)) (sym is) (least_has (least w.numbers) u.numbers (carries_same w u (least w.numbers) e.sets.numbers c))
+pub carries_next : (w u x : View GhostAction) (k : ℕ) → x ≡ u → Extends w k true u → Carries w (least w.numbers) → Carries x (least x.numbers)
+carries_next w u x k is e c = subst (λ (z : View GhostAction). Carries z (least z.numbers)) (sym is) (least_has (least w.numbers) u.numbers (carries_same w u (least w.numbers) e.sets.numbers c))
 
 -- one stripe more is taken
-pub taken_next : {B : Type 0} (content : B → Table) (n k : ℕ) (v : View Deed) (me me' : Me (Option B) (View Deed)) (x : View Deed) (tables : List Table) (bins : B) → HasTaken (does n) empty v k tables me.0
+pub taken_next : {B : Type 0} (content : B → Table) (n k : ℕ) (v : View GhostAction) (me me' : Me (Option B) (View GhostAction)) (x : View GhostAction) (tables : List Table) (bins : B) → HasTaken (does n) empty v k tables me.0
     → Takes (does n) empty content k me me' → x ≡ me'.0 → Leaves n k (seen_of me'.0 k) (content bins) → HasTaken (does n) empty v (k + 1) (tables ++ content bins ∷ []) x
-taken_next content n k v me me' x tables bins h t is found = subst (λ (z : View Deed). HasTaken (does n) empty v (k + 1) (tables ++ content bins ∷ []) z) (sym is)
+taken_next content n k v me me' x tables bins h t is found = subst (λ (z : View GhostAction). HasTaken (does n) empty v (k + 1) (tables ++ content bins ∷ []) z) (sym is)
     (taken_more (does n) empty v me.0 me'.0 k tables (content bins) h t.extends found)
 
 none_unless : (x : Option (List ℕ)) → ((value : List ℕ) → x ≡ Some value → ⊥) → x ≡ None
@@ -40,7 +40,7 @@ none_unless None f = refl
 none_unless (Some value) f = absurd (f value refl)
 
 -- the tables of the stripes taken are the stripes of one table
-pub are_stripes : (n : ℕ) (v w : View Deed) (tables : List Table) → IsStripeCount n → HasTaken (does n) empty v n tables w → AreStripes tables
+pub are_stripes : (n : ℕ) (v w : View GhostAction) (tables : List Table) → IsStripeCount n → HasTaken (does n) empty v n tables w → AreStripes tables
 are_stripes n v w tables count h = record {
   count = subst IsStripeCount (sym h.count) count;
   apart = λ i key other. dite (dec_le (suc i) n)
@@ -49,7 +49,7 @@ are_stripes n v w tables count h = record {
 }
 
 -- what a pass gets that has taken every stripe
-pub closes_with : (pass : PassState) (w : View Deed) (tables : List Table) (found : List Entry) → HasTaken (does (stripes_of pass.map)) empty pass.view (stripes_of pass.map) tables w → Sound (stripes_of pass.map) w
+pub closes_with : (pass : PassState) (w : View GhostAction) (tables : List Table) (found : List Entry) → HasTaken (does (stripes_of pass.map)) empty pass.view (stripes_of pass.map) tables w → Sound (stripes_of pass.map) w
     → found ≡ map.entries (whole tables) → Closes pass found
 closes_with pass w tables found h sound is = let n = stripes_of pass.map in record {
   tables = tables;

@@ -13,43 +13,45 @@ use Rattle.bpf_model.specs.Fits.{input_of}
 use Rattle.verifier.specs.Checked.{Checked}
 use Rattle.bins.specs.declared.counts.Counts.{Counts}
 use Rattle.bins.specs.Table.{Entry, Table, by_bytes}
+use Rattle.bins.specs.Entries.{Distinct}
+use Rattle.bins.proofs.MapEdits.{total, antisymmetric}
+use Rattle.bins.proofs.DistinctEntries.{alike}
+use Rattle.bins.proofs.EntryCounts.{Distinct-sorted}
 use Rattle.bins.specs.Replacements.{Outcome, ComesTo, value_after, ReplacesEach}
 use Rattle.atomic_methods.specs.declared.reply.Reply.{Reply}
 use Rattle.atomic_methods.specs.Hashes.{stripe_of}
 use Rattle.atomic_methods.specs.Invocations.{Invocation}
 use Rattle.atomic_methods.specs.Methods.{Answers}
-use Rattle.atomic_methods.proofs.TableLemmas.{total, antisymmetric}
-use Rattle.atomic_methods.proofs.EntryLemmas.{Distinct, Distinct-sorted}
-use Rattle.atomic_methods.proofs.WholeLemmas.{tied_same, some_of_none}
-use Rattle.bin_stripes.specs.declared.deed.Deed.{Deed}
+use Rattle.atomic_methods.proofs.WholeLemmas.{some_of_none}
+use Rattle.bin_stripes.specs.declared.ghost_action.GhostAction.{GhostAction}
 use Rattle.bin_stripes.specs.Actions.{Action, called, scanned, replaced, Does}
 use Rattle.bin_stripes.specs.Histories.{does, empty, own_events, Leaves}
 use Rattle.bin_stripes.specs.Invoked.{AreReplacements}
 use Rattle.bin_stripes.proofs.StripeTables.{IsWithin, leaves_within}
 
 module _ (n k : ℕ) where
-  leaves_more : (v : View Deed) (t u : Table) (actions : List Action) → Leaves n k (seen_of v k) t
+  leaves_more : (v : View GhostAction) (t u : Table) (actions : List Action) → Leaves n k (seen_of v k) t
       → Replays (does n k) t (own_events v actions) u → Leaves n k (seen_of v k ++ own_events v actions) u
   leaves_more v t u actions l r = Replays-append (does n k) empty t u (seen_of v k) (own_events v actions) l r
 
   -- nothing was done; w is the view then
-  pub nothing_made : (v w : View Deed) (t u : Table) → w ≡ v → u ≡ t → Leaves n k (seen_of v k) t
+  pub nothing_made : (v w : View GhostAction) (t u : Table) → w ≡ v → u ≡ t → Leaves n k (seen_of v k) t
       → (actions : List Action) × ((actions ≡ []) × Leaves n k (seen_of w k ++ own_events w actions) u)
-  nothing_made v w t u is same l = subst (λ (x : View Deed × Table). (actions : List Action) × ((actions ≡ []) × Leaves n k (seen_of x.0 k ++ own_events x.0 actions) x.1)) (λ i. (sym is i, sym same i))
+  nothing_made v w t u is same l = subst (λ (x : View GhostAction × Table). (actions : List Action) × ((actions ≡ []) × Leaves n k (seen_of x.0 k ++ own_events x.0 actions) x.1)) (λ i. (sym is i, sym same i))
       ([], (refl, leaves_more v t t [] l refl))
 
   -- one action was done
-  one_made : (v w : View Deed) (t u : Table) (action : Action) → w ≡ v → Leaves n k (seen_of v k) t → Does n k t action u
+  one_made : (v w : View GhostAction) (t u : Table) (action : Action) → w ≡ v → Leaves n k (seen_of v k) t → Does n k t action u
       → (actions : List Action) × ((actions ≡ action ∷ []) × Leaves n k (seen_of w k ++ own_events w actions) u)
-  one_made v w t u action is l d = subst (λ (x : View Deed). (actions : List Action) × ((actions ≡ action ∷ []) × Leaves n k (seen_of x k ++ own_events x actions) u)) (sym is)
+  one_made v w t u action is l d = subst (λ (x : View GhostAction). (actions : List Action) × ((actions ≡ action ∷ []) × Leaves n k (seen_of x k ++ own_events x actions) u)) (sym is)
       (action ∷ [], (refl, leaves_more v t u (action ∷ []) l (u, (d, refl))))
 
-  pub call_made : (v w : View Deed) (t u : Table) (invocation : Invocation) (reply : Reply) → w ≡ v → Leaves n k (seen_of v k) t
+  pub call_made : (v w : View GhostAction) (t u : Table) (invocation : Invocation) (reply : Reply) → w ≡ v → Leaves n k (seen_of v k) t
       → stripe_of n invocation.key ≡ k → Answers t invocation u reply
       → (actions : List Action) × ((actions ≡ called invocation reply ∷ []) × Leaves n k (seen_of w k ++ own_events w actions) u)
   call_made v w t u invocation reply is l here answers = one_made v w t u (called invocation reply) is l (here, answers)
 
-  pub scan_made : (v w : View Deed) (t : Table) (entries : List Entry) → w ≡ v → Leaves n k (seen_of v k) t → entries ≡ finmap.entries t
+  pub scan_made : (v w : View GhostAction) (t : Table) (entries : List Entry) → w ≡ v → Leaves n k (seen_of v k) t → entries ≡ finmap.entries t
       → (actions : List Action) × ((actions ≡ scanned entries ∷ []) × Leaves n k (seen_of w k ++ own_events w actions) t)
   scan_made v w t entries is l found = one_made v w t t (scanned entries) is l (found, refl)
 
@@ -62,7 +64,7 @@ module _ (n k : ℕ) where
     Between old new todo t = (q : List ℕ) → ((find by_bytes q todo ≡ None → finmap.get t q ≡ finmap.get new q)
         × ((v : List ℕ) → find by_bytes q todo ≡ Some v → finmap.get t q ≡ Some v))
 
-    module _ (old new : Table) (v : View Deed)
+    module _ (old new : Table) (v : View GhostAction)
         (values : (q : List ℕ) → finmap.get new q ≡ option_map (value_after (outcome q)) (finmap.get old q))
         (comes : (key value : List ℕ) → finmap.get old key ≡ Some value → ComesTo program (input_of key (Some value) arg) (outcome key))
         (within : IsWithin n k old) where
@@ -76,7 +78,7 @@ module _ (n k : ℕ) where
           → (finmap.get u q ≡ cond x (Some (value_after (outcome e.0) e.1)) (finmap.get t q))
           → ((find by_bytes q rest ≡ None → finmap.get u q ≡ finmap.get new q)
           × ((z : List ℕ) → find by_bytes q rest ≡ Some z → finmap.get u q ≡ Some z))) [
-            | true ↦ λ same here is. let at = tied_same q e.0 same in (
+            | true ↦ λ same here is. let at = alike q e.0 same in (
               (λ none. is ∙ sym (values q ∙ ap (λ (o : Outcome × Option (List ℕ)). option_map (value_after o.0) o.1) (λ i. (outcome (at i), (ap (finmap.get old) at ∙ was) i)))),
               λ z found. absurd (some_of_none (find by_bytes q rest) z (ap (λ x. find by_bytes x rest) at ∙ once) found),
             )
@@ -97,7 +99,7 @@ module _ (n k : ℕ) where
         where
           behind : (e : Entry) (rest : List Entry) (q z : List ℕ) → find by_bytes e.0 rest ≡ None → find by_bytes q rest ≡ Some z → find by_bytes q (e ∷ rest) ≡ Some z
           behind e rest q z once found = elim (eq_by_cmp by_bytes q e.0) as (λ b. eq_by_cmp by_bytes q e.0 ≡ b → cond b (Some e.1) (find by_bytes q rest) ≡ Some z) [
-            | true ↦ λ same. absurd (some_of_none (find by_bytes q rest) z (ap (λ x. find by_bytes x rest) (tied_same q e.0 same) ∙ once) found)
+            | true ↦ λ same. absurd (some_of_none (find by_bytes q rest) z (ap (λ x. find by_bytes x rest) (alike q e.0 same) ∙ once) found)
             | false ↦ λ other. found
           ] refl
 
@@ -106,13 +108,13 @@ module _ (n k : ℕ) where
           (λ q. ((λ none. sym (values q ∙ (ap (option_map (value_after (outcome q))) (get-entries old q ∙ none) ∙ sym (get-entries old q ∙ none)))), λ z found. get-entries old q ∙ found))
 
   -- each key's value was replaced
-  pub replacements_made : (v w : View Deed) (old new : Table) (program : Checked) (arg : Option (List ℕ)) (counts : Counts) → w ≡ v → Leaves n k (seen_of v k) old → ReplacesEach program arg old new counts
+  pub replacements_made : (v w : View GhostAction) (old new : Table) (program : Checked) (arg : Option (List ℕ)) (counts : Counts) → w ≡ v → Leaves n k (seen_of v k) old → ReplacesEach program arg old new counts
       → (actions : List Action) × (AreReplacements program arg (finmap.entries old) actions counts × Leaves n k (seen_of w k ++ own_events w actions) new)
   replacements_made v w old new program arg counts is l r = let actions : List Action = map (action_at program arg r.outcome) (finmap.entries old) in (
     actions,
     (
       record { outcome = r.outcome; actions_are = refl; scanned_are = r.scanned ∙ len-entries old; given_are = r.given; unfit_are = r.unfit },
-      subst (λ (x : View Deed). Leaves n k (seen_of x k ++ own_events x actions) new) (sym is)
+      subst (λ (x : View GhostAction). Leaves n k (seen_of x k ++ own_events x actions) new) (sym is)
           (leaves_more v old new actions l (replays_all program arg r.outcome old new v r.values r.comes_to (leaves_within n k old (seen_of v k) l))),
     ),
   )

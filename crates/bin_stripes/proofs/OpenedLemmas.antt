@@ -10,7 +10,7 @@ use Rattle.stripe_rule.specs.Gains.{blank, part_of}
 use Rattle.stripe_rule.specs.Rule.{from_on, newcomer}
 use Rattle.stripe_rule.proofs.HistoryLemmas.{IsUnder, IsBelow}
 use Rattle.stripe_rule.proofs.OpenLemmas.{part_new}
-use Rattle.bin_stripes.specs.declared.deed.Deed.{Deed}
+use Rattle.bin_stripes.specs.declared.ghost_action.GhostAction.{GhostAction}
 use Rattle.bin_stripes.specs.Histories.{empty, does, Sound}
 use Rattle.bin_stripes.specs.Passes.{IsPass, stripes_of, PassState}
 use Rattle.bin_stripes.specs.Opened.{pass_of}
@@ -33,35 +33,35 @@ dealt_more id passes number all p is new = let same : number ≡ 0 + number = om
     ∙ ap (map (pass_of id passes)) (ap (λ (m : ℕ). from_on 0 number ++ m ∷ []) same ∙ (sym (from_on-more 0 number) ∙ ap (from_on 0) next)))
 
 -- a pass, by the map that it serves and what it knows
-abbrev pub passing : TableId → View Deed → PassState
+abbrev pub passing : TableId → View GhostAction → PassState
 passing z v = record { map = z; view = v }
 
-pub pass_is : (id : TableId) (passes number : ℕ) (z : TableId) (v : View Deed) → z ≡ id → v ≡ newcomer (stripes_of id) passes (number ∷ []) → passing z v ≡ pass_of id passes number
+pub pass_is : (id : TableId) (passes number : ℕ) (z : TableId) (v : View GhostAction) → z ≡ id → v ≡ newcomer (stripes_of id) passes (number ∷ []) → passing z v ≡ pass_of id passes number
 pass_is id passes number z v same is = λ i. passing (same i) (is i)
 
 module _ (stripes passes number : ℕ) where
-  abbrev Newcomer : View Deed
+  abbrev Newcomer : View GhostAction
   Newcomer = newcomer stripes passes (number ∷ [])
 
   abbrev new_part : (k : ℕ) → part_of Newcomer k ≡ blank
-  new_part k = part_new Deed stripes passes (number ∷ []) k
+  new_part k = part_new GhostAction stripes passes (number ∷ []) k
 
   pub newcomer_sound : (n : ℕ) → Sound n Newcomer
   newcomer_sound n = record {
-    legal = λ k. subst (λ (p : Part Deed). IsLegal (does n k) empty p.seen) (sym (new_part k)) (empty, refl);
-    below = λ k. subst (λ (p : Part Deed). AreBelow passes p.seen) (sym (new_part k)) (All-nil (IsBelow passes));
-    under = λ k. subst (λ (p : Part Deed). AreUnder (number ∷ []) p.mine) (sym (new_part k)) (All-nil (IsUnder (number ∷ [])));
-    own = λ k q c. ap (λ (p : Part Deed). made_by q p.seen) (new_part k) ∙ sym (ap (λ (p : Part Deed). made_by q p.mine) (new_part k));
+    legal = λ k. subst (λ (p : Part GhostAction). IsLegal (does n k) empty p.seen) (sym (new_part k)) (empty, refl);
+    below = λ k. subst (λ (p : Part GhostAction). AreBelow passes p.seen) (sym (new_part k)) (All-nil (IsBelow passes));
+    under = λ k. subst (λ (p : Part GhostAction). AreUnder (number ∷ []) p.mine) (sym (new_part k)) (All-nil (IsUnder (number ∷ [])));
+    own = λ k q c. ap (λ (p : Part GhostAction). made_by q p.seen) (new_part k) ∙ sym (ap (λ (p : Part GhostAction). made_by q p.mine) (new_part k));
   }
 
   -- what a new pass has
   pub new_pass : (id : TableId) → stripes_of id ≡ stripes → IsPass id (Newcomer ∷ [])
   new_pass id is = record {
     one = refl;
-    idle = λ k. ap (λ (p : Part Deed). p.held) (new_part k);
+    idle = λ k. ap (λ (p : Part GhostAction). p.held) (new_part k);
     some = ap (λ b. b || false) (eq-eqb number number refl);
     sound = newcomer_sound (stripes_of id);
-    wide = (let none : Part Deed = blank in length-replicate stripes none) ∙ sym is;
+    wide = (let none : Part GhostAction = blank in length-replicate stripes none) ∙ sym is;
   }
 
 abbrev pub zeros : ℕ → List ℕ

@@ -9,60 +9,60 @@ use Rattle.stripe_rule.specs.History.{AreUnder}
 use Rattle.stripe_rule.specs.Gains.{least, Carries, held_at, seen_of, mine_of, own_event, part_of, Adds}
 use Rattle.stripe_rule.specs.Words.{word_at}
 use Rattle.stripe_rule.specs.Rule.{Kept}
-use Rattle.stripe_rule.specs.Steps.{Sets, Extends, Looks, Takes, Releases, grown}
+use Rattle.stripe_rule.specs.Steps.{SetsPart, Extends, Looks, Takes, Releases, grown}
 use Rattle.stripe_rule.proofs.TakeLemmas.{takes_it, looks}
 use Rattle.stripe_rule.proofs.ReleaseLemmas.{releases}
 use Rattle.stripe_rule.proofs.CallLemmas.{least_has, own_under, own_same, carries_same, extends_again, adds_none, adds_after, idle_after, idle_released}
 use Rattle.bins.specs.Table.{Table}
-use Rattle.bin_stripes.specs.declared.deed.Deed.{Deed}
+use Rattle.bin_stripes.specs.declared.ghost_action.GhostAction.{GhostAction}
 use Rattle.bin_stripes.specs.declared.rule.Shape.{Shape}
 use Rattle.bin_stripes.specs.Actions.{Action}
 use Rattle.bin_stripes.specs.Histories.{empty, does, own_events, Leaves}
-use Rattle.bin_stripes.specs.Releasing.{looked, took, released, Lets}
-use Rattle.bin_stripes.specs.Holding.{IsLaid, Rests, Settles, Holds, Refuses, Replaces}
+use Rattle.bin_stripes.specs.Releasing.{stripe_looked, stripe_took, stripe_released, Lets}
+use Rattle.bin_stripes.specs.Holding.{IsLaid, Rests, Settles, SeatHolds, SeatRefuses, SeatReplaces}
 use Rattle.bin_stripes.specs.Invoked.{AreReplacements}
 use Rattle.verifier.specs.Checked.{Checked}
 use Rattle.bins.specs.declared.counts.Counts.{Counts}
 use Rattle.std.specs.FinMap as finmap
 
--- the deed of an action
-abbrev pub deed_of : Action → Deed
+-- the action of an action
+abbrev pub deed_of : Action → GhostAction
 deed_of action = record { action = action }
 
--- events of one's own as events of deeds
-pub events_are : (v : View Deed) (actions : List Action) → map (own_event v) (map deed_of actions) ≡ own_events v actions
+-- events of one's own as events of actions
+pub events_are : (v : View GhostAction) (actions : List Action) → map (own_event v) (map deed_of actions) ≡ own_events v actions
 events_are v [] = refl
 events_are v (a ∷ rest) = ap (λ es. own_event v (deed_of a) ∷ es) (events_are v rest)
 
-pub events_under : (v : View Deed) (actions : List Action) → Carries v (least v.numbers) → AreUnder v.numbers (own_events v actions)
+pub events_under : (v : View GhostAction) (actions : List Action) → Carries v (least v.numbers) → AreUnder v.numbers (own_events v actions)
 events_under v actions c = subst (λ es. AreUnder v.numbers es) (events_are v actions) (own_under v (map deed_of actions) c)
 
-pub events_same : (v w : View Deed) (actions : List Action) → w.numbers ≡ v.numbers → own_events w actions ≡ own_events v actions
+pub events_same : (v w : View GhostAction) (actions : List Action) → w.numbers ≡ v.numbers → own_events w actions ≡ own_events v actions
 events_same v w actions e = sym (events_are w actions) ∙ (own_same v w (map deed_of actions) e ∙ events_are v actions)
 
 module _ {B : Type 0} (content : B → Table) (table : TableId) (shape : Shape) (laid : IsLaid table shape) where
-  abbrev pub Rule : State (Option B) (View Deed) → Type 0
+  abbrev pub Rule : State (Option B) (View GhostAction) → Type 0
   Rule = Kept (does shape.stripes) empty content shape.stripes shape.passes
 
   -- a take of a stripe, won or lost
-  pub takes_stripe : (id k : ℕ) (me : Me (Option B) (View Deed)) → k < table.slots → Carries me.0 (least me.0.numbers) → held_at me.0 k ≡ false
-      → Allows Rule table.slots id me (word_at k) (λ n. either (eqb n 0) 1 n) (took content (step table.slots (word_at k) 0 1 maybe.none) me)
+  pub takes_stripe : (id k : ℕ) (me : Me (Option B) (View GhostAction)) → k < table.slots → Carries me.0 (least me.0.numbers) → held_at me.0 k ≡ false
+      → Allows Rule table.slots id me (word_at k) (λ n. either (eqb n 0) 1 n) (stripe_took content (step table.slots (word_at k) 0 1 maybe.none) me)
   takes_stripe id k me inside c idle =
-      subst (λ n. Allows (Kept (does n) empty content n shape.passes) table.slots id me (word_at k) (λ x. either (eqb x 0) 1 x) (took content (step table.slots (word_at k) 0 1 maybe.none) me)) (sym laid.stripes)
+      subst (λ n. Allows (Kept (does n) empty content n shape.passes) table.slots id me (word_at k) (λ x. either (eqb x 0) 1 x) (stripe_took content (step table.slots (word_at k) 0 1 maybe.none) me)) (sym laid.stripes)
       (takes_it (does table.slots) empty content table.slots shape.passes table.slots id k me (least me.0.numbers) inside c idle)
 
   -- a look at a stripe
-  pub looks_at : (id k : ℕ) (me : Me (Option B) (View Deed)) → k < table.slots → Carries me.0 (least me.0.numbers)
-      → Allows Rule table.slots id me (word_at k) (λ n. n) (looked (step table.slots (word_at k) 0 0 maybe.none) me)
+  pub looks_at : (id k : ℕ) (me : Me (Option B) (View GhostAction)) → k < table.slots → Carries me.0 (least me.0.numbers)
+      → Allows Rule table.slots id me (word_at k) (λ n. n) (stripe_looked (step table.slots (word_at k) 0 0 maybe.none) me)
   looks_at id k me inside c =
-      subst (λ n. Allows (Kept (does n) empty content n shape.passes) table.slots id me (word_at k) (λ x. x) (looked (step table.slots (word_at k) 0 0 maybe.none) me)) (sym laid.stripes)
+      subst (λ n. Allows (Kept (does n) empty content n shape.passes) table.slots id me (word_at k) (λ x. x) (stripe_looked (step table.slots (word_at k) 0 0 maybe.none) me)) (sym laid.stripes)
       (looks (does table.slots) empty content table.slots shape.passes table.slots id k me (least me.0.numbers) inside c)
 
   -- a release that adds these actions
-  pub releases_stripe : (may : List Action → Type 0) (id k : ℕ) (me : Me (Option B) (View Deed)) → k < table.slots → Carries me.0 (least me.0.numbers) → held_at me.0 k ≡ true
+  pub releases_stripe : (may : List Action → Type 0) (id k : ℕ) (me : Me (Option B) (View GhostAction)) → k < table.slots → Carries me.0 (least me.0.numbers) → held_at me.0 k ≡ true
       → (bins : B) (others : List (ℕ × Option B)) → me.1 ≡ (k, Some bins) ∷ others
       → (actions : List Action) → may actions → Leaves table.slots k (seen_of me.0 k ++ own_events me.0 actions) (content bins)
-      → Allows Rule table.slots id me (word_at k) (λ _. 0) (released may (step table.slots (word_at k) 0 0 maybe.none) me)
+      → Allows Rule table.slots id me (word_at k) (λ _. 0) (stripe_released may (step table.slots (word_at k) 0 0 maybe.none) me)
   releases_stripe may id k me inside c held bins others out actions may_be leaves s r wide at small =
       let t = subst (λ n. Allows (Kept (does n) empty content n shape.passes) table.slots id me (word_at k) (λ _. 0) (Rattle.stripe_rule.specs.Steps.released (does table.slots) empty (own_events me.0 actions) (step table.slots (word_at k) 0 0 maybe.none) me)) (sym laid.stripes)
       (releases (does table.slots) empty content table.slots shape.passes table.slots id k me others bins (own_events me.0 actions) (least me.0.numbers) inside c held out leaves (events_under me.0 actions c)) s r wide at small in
@@ -70,7 +70,7 @@ module _ {B : Type 0} (content : B → Table) (table : TableId) (shape : Shape) 
 
 module _ {B : Type 0} (content : B → Table) (stripes k : ℕ) where
   -- a take after looks
-  pub takes_since : (v : View Deed) (me me' : Me (Option B) (View Deed)) (out : List (ℕ × Option B)) → me.1 ≡ out → Extends v k false me.0
+  pub takes_since : (v : View GhostAction) (me me' : Me (Option B) (View GhostAction)) (out : List (ℕ × Option B)) → me.1 ≡ out → Extends v k false me.0
       → Takes (does stripes) empty content k me me' → Takes (does stripes) empty content k (v, out) me'
   takes_since v me me' out is e t = record {
     extends = extends_again v me.0 me'.0 k false true e t.extends;
@@ -79,7 +79,7 @@ module _ {B : Type 0} (content : B → Table) (stripes k : ℕ) where
   }
 
   -- a lost take after looks
-  pub looks_since : (v : View Deed) (me me' : Me (Option B) (View Deed)) (out : List (ℕ × Option B)) → me.1 ≡ out → Extends v k false me.0
+  pub looks_since : (v : View GhostAction) (me me' : Me (Option B) (View GhostAction)) (out : List (ℕ × Option B)) → me.1 ≡ out → Extends v k false me.0
       → Looks (does stripes) empty k me me' → (me'.1 ≡ out) × Extends v k false me'.0
   looks_since v me me' out is e l = (
     l.out ∙ is,
@@ -87,7 +87,7 @@ module _ {B : Type 0} (content : B → Table) (stripes k : ℕ) where
   )
 
   -- after a take the seat holds the stripe
-  pub holds_after : (me me' : Me (Option B) (View Deed)) → Carries me.0 (least me.0.numbers) → Takes (does stripes) empty content k me me' → Holds content stripes k me'
+  pub holds_after : (me me' : Me (Option B) (View GhostAction)) → Carries me.0 (least me.0.numbers) → Takes (does stripes) empty content k me me' → SeatHolds content stripes k me'
   holds_after me me' c t = record {
     held = ap (λ p. p.held) t.extends.sets.here;
     some = least_has (least me.0.numbers) me'.0.numbers (carries_same me.0 me'.0 (least me.0.numbers) t.extends.sets.numbers c);
@@ -98,7 +98,7 @@ module _ {B : Type 0} (content : B → Table) (stripes k : ℕ) where
   }
 
   -- a lost take of a seat at rest
-  pub settles_lost : (me me' : Me (Option B) (View Deed)) → Rests me → Looks (does stripes) empty k me me' → Settles stripes k me [] me'
+  pub settles_lost : (me me' : Me (Option B) (View GhostAction)) → Rests me → Looks (does stripes) empty k me me' → Settles stripes k me [] me'
   settles_lost me me' r l = let e : Extends me.0 k false me'.0 = subst (λ b. Extends me.0 k b me'.0) (r.idle k) l.extends in record {
     adds = adds_none me.0 me'.0 k false e;
     passes = e.sets.passes;
@@ -111,7 +111,7 @@ module _ {B : Type 0} (content : B → Table) (stripes k : ℕ) where
     };
   }
 
-  pub rests_after : (me held me' : Me (Option B) (View Deed)) (actions : List Action) → Rests me → Takes (does stripes) empty content k me held
+  pub rests_after : (me held me' : Me (Option B) (View GhostAction)) (actions : List Action) → Rests me → Takes (does stripes) empty content k me held
       → Releases (does stripes) empty (own_events held.0 actions) k held me' → Rests me'
   rests_after me held me' actions r t l = record {
     idle = idle_released me.0 held.0 me'.0 k true (own_events held.0 actions) r.idle t.extends l.sets;
@@ -120,7 +120,7 @@ module _ {B : Type 0} (content : B → Table) (stripes k : ℕ) where
   }
 
   -- what a take and the release after it add, under one's least number
-  abbrev pub adds_own : (me held me' : Me (Option B) (View Deed)) (actions : List Action) → Takes (does stripes) empty content k me held
+  abbrev pub adds_own : (me held me' : Me (Option B) (View GhostAction)) (actions : List Action) → Takes (does stripes) empty content k me held
       → Releases (does stripes) empty (own_events held.0 actions) k held me' → Adds me.0 k (own_events me.0 actions) me'.0
   adds_own me held me' actions t l = let a = adds_after me.0 held.0 me'.0 k true (own_events held.0 actions) t.extends l.sets in
       let same = events_same me.0 held.0 actions t.extends.sets.numbers in record {
@@ -135,7 +135,7 @@ module _ {B : Type 0} (content : B → Table) (stripes k : ℕ) where
       }
 
   -- a take, and the release after it
-  abbrev pub settles_after : (me held me' : Me (Option B) (View Deed)) (actions : List Action) → Rests me → Takes (does stripes) empty content k me held
+  abbrev pub settles_after : (me held me' : Me (Option B) (View GhostAction)) (actions : List Action) → Rests me → Takes (does stripes) empty content k me held
       → Releases (does stripes) empty (own_events held.0 actions) k held me' → Settles stripes k me actions me'
   settles_after me held me' actions r t l = record {
     adds = adds_own me held me' actions t l;
@@ -146,14 +146,14 @@ module _ {B : Type 0} (content : B → Table) (stripes k : ℕ) where
   }
 
   -- the same, where it is known which actions were added
-  pub settles_as : (me held me' : Me (Option B) (View Deed)) (actions : List Action) → Rests me → Takes (does stripes) empty content k me held
+  pub settles_as : (me held me' : Me (Option B) (View GhostAction)) (actions : List Action) → Rests me → Takes (does stripes) empty content k me held
       → Lets (λ made. made ≡ actions) stripes k held me' → Settles stripes k me actions me'
   settles_as me held me' actions r t l = settles_after me held me' actions r t
       (subst (λ a. Releases (does stripes) empty (own_events held.0 a) k held me') l.may_be l.releases)
 
   -- what was refused after a take is refused after the release that adds nothing
-  pub refuses_after : (held me' : Me (Option B) (View Deed)) (invocation : Rattle.atomic_methods.specs.Invocations.Invocation) → Lets (λ made. made ≡ []) stripes k held me'
-      → Refuses stripes k held invocation → Refuses stripes k me' invocation
+  pub refuses_after : (held me' : Me (Option B) (View GhostAction)) (invocation : Rattle.atomic_methods.specs.Invocations.Invocation) → Lets (λ made. made ≡ []) stripes k held me'
+      → SeatRefuses stripes k held invocation → SeatRefuses stripes k me' invocation
   refuses_after held me' invocation l r = record {
     table = r.table;
     left = subst (λ es. Leaves stripes k es r.table)
@@ -162,9 +162,9 @@ module _ {B : Type 0} (content : B → Table) (stripes k : ℕ) where
   }
 
   -- replacements after a take
-  pub replaces_after : (me held me' : Me (Option B) (View Deed)) (program : Checked) (arg : Option (List ℕ)) (counts : Counts) → Rests me → Takes (does stripes) empty content k me held
+  pub replaces_after : (me held me' : Me (Option B) (View GhostAction)) (program : Checked) (arg : Option (List ℕ)) (counts : Counts) → Rests me → Takes (does stripes) empty content k me held
       → (table : Table) → Leaves stripes k (seen_of held.0 k) table → Lets (λ made. AreReplacements program arg (finmap.entries table) made counts) stripes k held me'
-      → Replaces stripes k me program arg counts me'
+      → SeatReplaces stripes k me program arg counts me'
   replaces_after me held me' program arg counts r t table found l = record {
     actions = l.actions;
     settles = settles_after me held me' l.actions r t l.releases;
@@ -179,27 +179,27 @@ module _ {B : Type 0} (content : B → Table) (stripes k : ℕ) where
   first_bins d ((j, Some b) ∷ xs) = b
 
   -- what the bins that are out contain
-  pub found_is : (me : Me (Option B) (View Deed)) (b : B) (others : List (ℕ × Option B)) → Holds content stripes k me → me.1 ≡ (k, Some b) ∷ others → Leaves stripes k (seen_of me.0 k) (content b)
+  pub found_is : (me : Me (Option B) (View GhostAction)) (b : B) (others : List (ℕ × Option B)) → SeatHolds content stripes k me → me.1 ≡ (k, Some b) ∷ others → Leaves stripes k (seen_of me.0 k) (content b)
   found_is me b others h out = subst (λ (x : B). Leaves stripes k (seen_of me.0 k) (content x)) (ap (first_bins b) (sym h.out ∙ out)) h.content_is
 
   -- a seat that holds the stripe still holds it while the bins are out
-  pub held_still : (me : Me (Option B) (View Deed)) (v : View Deed) (xs others : List (ℕ × Option B)) → Holds content stripes k me → v ≡ me.0 → xs ≡ (k, None) ∷ others
+  pub held_still : (me : Me (Option B) (View GhostAction)) (v : View GhostAction) (xs others : List (ℕ × Option B)) → SeatHolds content stripes k me → v ≡ me.0 → xs ≡ (k, None) ∷ others
       → (held_at v k ≡ true) × Carries v (least v.numbers) × ((others : List (ℕ × Option B)) × (xs ≡ (k, None) ∷ others))
-  held_still me v xs others h is out = (ap (λ (x : View Deed). held_at x k) is ∙ h.held, subst (λ (x : View Deed). Carries x (least x.numbers)) (sym is) h.some, (others, out))
+  held_still me v xs others h is out = (ap (λ (x : View GhostAction). held_at x k) is ∙ h.held, subst (λ (x : View GhostAction). Carries x (least x.numbers)) (sym is) h.some, (others, out))
 
 module _ {B : Type 0} (stripes k : ℕ) where
   -- what a release lets, from the seat as it was while the bins were out, or before
-  pub lets_from : (may : List Action → Type 0) (me mid me' : Me (Option B) (View Deed)) (others : List (ℕ × Option B)) (x y : Option B) → mid.0 ≡ me.0 → me.1 ≡ (k, x) ∷ others → mid.1 ≡ (k, y) ∷ others
+  pub lets_from : (may : List Action → Type 0) (me mid me' : Me (Option B) (View GhostAction)) (others : List (ℕ × Option B)) (x y : Option B) → mid.0 ≡ me.0 → me.1 ≡ (k, x) ∷ others → mid.1 ≡ (k, y) ∷ others
       → Lets may stripes k mid me' → Lets may stripes k me me'
   lets_from may me mid me' others x y is before after l = record {
     actions = l.actions;
     may_be = l.may_be;
     releases = record {
-      sets = subst (λ (v : View Deed). Sets v k (grown (part_of v k) (own_events v l.actions)) me'.0) is l.releases.sets;
+      sets = subst (λ (v : View GhostAction). SetsPart v k (grown (part_of v k) (own_events v l.actions)) me'.0) is l.releases.sets;
       sound = l.releases.sound;
       out = l.releases.out ∙ (ap rest after ∙ sym (ap rest before));
     };
   }
 
-  pub lets_as : (may may' : List Action → Type 0) (me me' : Me (Option B) (View Deed)) → ((actions : List Action) → may actions → may' actions) → Lets may stripes k me me' → Lets may' stripes k me me'
+  pub lets_as : (may may' : List Action → Type 0) (me me' : Me (Option B) (View GhostAction)) → ((actions : List Action) → may actions → may' actions) → Lets may stripes k me me' → Lets may' stripes k me me'
   lets_as may may' me me' f l = record { actions = l.actions; may_be = f l.actions l.may_be; releases = l.releases }

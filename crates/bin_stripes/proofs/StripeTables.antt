@@ -7,12 +7,14 @@ use Rattle.std.specs.FinMap as map
 use Rattle.std.specs.FinMap.{find, get-entries, get-empty, get-insert, get-remove, entries_sorted}
 use Rattle.stripe_rule.specs.declared.view.Event.{Event}
 use Rattle.bins.specs.Table.{Entry, Table, by_bytes}
+use Rattle.bins.specs.Entries.{Distinct}
+use Rattle.bins.proofs.MapEdits.{total}
+use Rattle.bins.proofs.DistinctEntries.{alike}
+use Rattle.bins.proofs.EntryCounts.{Distinct-sorted}
 use Rattle.atomic_methods.specs.Hashes.{stripe_of}
 use Rattle.atomic_methods.specs.Methods.{with_value}
-use Rattle.atomic_methods.proofs.TableLemmas.{total}
-use Rattle.atomic_methods.proofs.EntryLemmas.{Distinct, Distinct-sorted}
-use Rattle.atomic_methods.proofs.WholeLemmas.{tied_same, some_of_none}
-use Rattle.bin_stripes.specs.declared.deed.Deed.{Deed}
+use Rattle.atomic_methods.proofs.WholeLemmas.{some_of_none}
+use Rattle.bin_stripes.specs.declared.ghost_action.GhostAction.{GhostAction}
 use Rattle.bin_stripes.specs.Actions.{Action, called, scanned, replaced, Does}
 use Rattle.bin_stripes.specs.Histories.{does, empty, Leaves}
 use Rattle.bin_stripes.specs.Invoked.{AreOf}
@@ -28,7 +30,7 @@ module _ (n k : ℕ) where
   insert_within : (t : Table) (key value : List ℕ) → stripe_of n key ≡ k → Within t → Within (map.insert t key value)
   insert_within t key value here all q v found =
       elim (eq_by_cmp by_bytes q key) as (λ b. eq_by_cmp by_bytes q key ≡ b → cond b (Some value) (map.get t q) ≡ Some v → stripe_of n q ≡ k) [
-        | true ↦ λ same is. ap (stripe_of n) (tied_same q key same) ∙ here
+        | true ↦ λ same is. ap (stripe_of n) (alike q key same) ∙ here
         | false ↦ λ other is. all q v is
       ] refl (sym (get-insert total t key value q) ∙ found)
 
@@ -48,12 +50,12 @@ module _ (n k : ℕ) where
   does_within t u (scanned entries) d all = subst Within (sym d.1) all
   does_within t u (replaced key program arg outcome) d all = subst Within (sym d.1.1.1.1) (insert_within t key _ d.0 all)
 
-  replays_within : (t u : Table) (es : List (Event Deed)) → Rattle.stripe_rule.specs.History.Replays (does n k) t es u → Within t → Within u
+  replays_within : (t u : Table) (es : List (Event GhostAction)) → Rattle.stripe_rule.specs.History.Replays (does n k) t es u → Within t → Within u
   replays_within t u [] r all = subst Within (sym r) all
-  replays_within t u (e ∷ es) r all = replays_within r.0 u es r.1.1 (does_within t r.0 e.deed.action r.1.0 all)
+  replays_within t u (e ∷ es) r all = replays_within r.0 u es r.1.1 (does_within t r.0 e.action.action r.1.0 all)
 
   -- the keys that a list of events leaves lie in the stripe
-  pub leaves_within : (t : Table) (es : List (Event Deed)) → Leaves n k es t → Within t
+  pub leaves_within : (t : Table) (es : List (Event GhostAction)) → Leaves n k es t → Within t
   leaves_within t es l = replays_within empty t es l (λ q v found. absurd (some_of_none (map.get empty q) v (get-empty by_bytes q) found))
 
   all_within : (es : List Entry) → Distinct es → ((key value : List ℕ) → find by_bytes key es ≡ Some value → stripe_of n key ≡ k) → All (λ e. stripe_of n e.0 ≡ k) es
@@ -64,12 +66,12 @@ module _ (n k : ℕ) where
     where
       behind : (q v : List ℕ) → find by_bytes q es ≡ Some v → find by_bytes q (e ∷ es) ≡ Some v
       behind q v found = elim (eq_by_cmp by_bytes q e.0) as (λ b. eq_by_cmp by_bytes q e.0 ≡ b → cond b (Some e.1) (find by_bytes q es) ≡ Some v) [
-        | true ↦ λ same. absurd (some_of_none (find by_bytes q es) v (ap (λ x. find by_bytes x es) (tied_same q e.0 same) ∙ d.0) found)
+        | true ↦ λ same. absurd (some_of_none (find by_bytes q es) v (ap (λ x. find by_bytes x es) (alike q e.0 same) ∙ d.0) found)
         | false ↦ λ other. found
       ] refl
 
   -- the entries that a list of events leaves
-  pub entries_are_of : (t : Table) (es : List (Event Deed)) → Leaves n k es t → AreOf n k (map.entries t)
+  pub entries_are_of : (t : Table) (es : List (Event GhostAction)) → Leaves n k es t → AreOf n k (map.entries t)
   entries_are_of t es l = record {
     order = entries_sorted t;
     stripe = all_within (map.entries t) (Distinct-sorted (map.entries t) (entries_sorted t)) (λ q v found. leaves_within t es l q v (get-entries t q ∙ found));

@@ -5,7 +5,7 @@ use base.Stored.{coded_unit}
 use mathlib.Core.Path.{refl}
 use mathlib.Core.Logic.{inl, inr}
 use Rattle.bpf_model.specs.contracts.input.Answer.{the_row as answer_row}
-use Rattle.bpf_model.specs.contracts.input.Window.{the_row as window_row}
+use Rattle.bpf_model.specs.contracts.input.InputPart.{the_row as part_row}
 use Rattle.verifier.specs.Checked.{Checked}
 use Rattle.verifier.specs.contracts.verified.Verified.{the_row as verified_row}
 use Rattle.bins.specs.Table.{Entry}
@@ -108,5 +108,5 @@ abbrev pub action_code : Coded Action
 action_code = code_by Actions
     (coded⊎ (coded× invocation_code reply_row.coded)
     (coded⊎ (coded_list (coded× bytes_code bytes_code))
-    (coded× (coded× bytes_code program_code) (coded_result answer_row.coded window_row.coded))))
+    (coded× (coded× bytes_code program_code) (coded_result answer_row.coded part_row.coded))))
     to_actions from_actions again

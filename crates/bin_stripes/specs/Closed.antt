@@ -6,7 +6,7 @@ use Rattle.stripe_rule.specs.History.{AreOthers}
 use Rattle.stripe_rule.specs.Gains.{Carries, seen_of}
 use Rattle.bins.specs.Table.{Entry, Table}
 use Rattle.atomic_methods.specs.Whole.{whole, stripe_at}
-use Rattle.bin_stripes.specs.declared.deed.Deed.{Deed}
+use Rattle.bin_stripes.specs.declared.ghost_action.GhostAction.{GhostAction}
 use Rattle.bin_stripes.specs.Histories.{Leaves}
 use Rattle.bin_stripes.specs.Passes.{PassState, stripes_of}
 
@@ -15,7 +15,7 @@ use Rattle.bin_stripes.specs.Passes.{PassState, stripes_of}
 pub record Closes (pass : PassState) (entries : List Entry) : Type 0 where
   pub tables : List Table
   pub one_each : length tables ≡ stripes_of pass.map
-  pub between : ℕ → List (Event Deed)
+  pub between : ℕ → List (Event GhostAction)
   pub others : (k : ℕ) → k < stripes_of pass.map → AreOthers pass.view.numbers (between k)
   pub left : (k : ℕ) → k < stripes_of pass.map
       → Leaves (stripes_of pass.map) k (seen_of pass.view k ++ between k) (stripe_at tables k)

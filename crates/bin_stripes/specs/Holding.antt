@@ -10,7 +10,7 @@ use Rattle.verifier.specs.Checked.{Checked}
 use Rattle.bins.specs.declared.counts.Counts.{Counts}
 use Rattle.bins.specs.Table.{Entry, Table}
 use Rattle.atomic_methods.specs.Hashes.{IsStripeCount}
-use Rattle.bin_stripes.specs.declared.deed.Deed.{Deed}
+use Rattle.bin_stripes.specs.declared.ghost_action.GhostAction.{GhostAction}
 use Rattle.bin_stripes.specs.declared.rule.Shape.{Shape}
 use Rattle.atomic_methods.specs.Invocations.{Invocation}
 use Rattle.atomic_methods.specs.Methods.{WouldAdd}
@@ -21,7 +21,7 @@ use Rattle.bin_stripes.specs.Invoked.{AreOf, AreReplacements}
 -- the table has words and a slot for each stripe, and few stripes
 pub record IsLaid (id : TableId) (shape : Shape) : Type 0 where
   pub words : id.words ≡ words_of id.slots
-  pub few : id.slots ≤ 64
+  pub bounded : id.slots ≤ 64
   pub stripes : shape.stripes ≡ id.slots
 
 -- what always holds of a map's table
@@ -31,14 +31,14 @@ pub record IsMap (id : TableId) (shape : Shape) : Type 0 where
 
 module _ {B : Type 0} where
   -- the seat holds nothing, and carries its least number
-  pub record Rests (me : Me (Option B) (View Deed)) : Type 0 where
+  pub record Rests (me : Me (Option B) (View GhostAction)) : Type 0 where
     pub idle : IsIdle me.0
     pub some : Carries me.0 (least me.0.numbers)
     pub none_out : me.1 ≡ []
 
   -- behind all that it had seen of the stripe k, the seat saw others' events and made these actions, and rests
-  pub record Settles (stripes k : ℕ) (me : Me (Option B) (View Deed)) (actions : List Action)
-      (me' : Me (Option B) (View Deed)) : Type 0 where
+  pub record Settles (stripes k : ℕ) (me : Me (Option B) (View GhostAction)) (actions : List Action)
+      (me' : Me (Option B) (View GhostAction)) : Type 0 where
     pub adds : Adds me.0 k (own_events me.0 actions) me'.0
     pub passes : me'.0.passes ≡ me.0.passes
     pub wide : length me'.0.parts ≡ length me.0.parts
@@ -46,14 +46,14 @@ module _ {B : Type 0} where
     pub rests : Rests me'
 
   -- a scan of the stripe k found these entries
-  pub record Finds (stripes k : ℕ) (me : Me (Option B) (View Deed)) (entries : List Entry)
-      (me' : Me (Option B) (View Deed)) : Type 0 where
+  pub record SeatFinds (stripes k : ℕ) (me : Me (Option B) (View GhostAction)) (entries : List Entry)
+      (me' : Me (Option B) (View GhostAction)) : Type 0 where
     pub settles : Settles stripes k me (scanned entries ∷ []) me'
     pub are : AreOf stripes k entries
 
   -- the value of each key of the stripe k was replaced once, in key order
-  pub record Replaces (stripes k : ℕ) (me : Me (Option B) (View Deed)) (program : Checked) (arg : Option (List ℕ))
-      (counts : Counts) (me' : Me (Option B) (View Deed)) : Type 0 where
+  pub record SeatReplaces (stripes k : ℕ) (me : Me (Option B) (View GhostAction)) (program : Checked) (arg : Option (List ℕ))
+      (counts : Counts) (me' : Me (Option B) (View GhostAction)) : Type 0 where
     pub actions : List Action
     pub settles : Settles stripes k me actions me'
     pub table : Table
@@ -61,7 +61,7 @@ module _ {B : Type 0} where
     pub are : AreReplacements program arg (finmap.entries table) actions counts
 
   -- the seat holds the stripe k, whose bins are out with it and contain what was done there, all of which it has seen
-  pub record Holds (content : B → Table) (stripes k : ℕ) (me : Me (Option B) (View Deed)) : Type 0 where
+  pub record SeatHolds (content : B → Table) (stripes k : ℕ) (me : Me (Option B) (View GhostAction)) : Type 0 where
     pub held : held_at me.0 k ≡ true
     pub some : Carries me.0 (least me.0.numbers)
     pub bins : B
@@ -70,7 +70,7 @@ module _ {B : Type 0} where
     pub content_is : Leaves stripes k (seen_of me.0 k) (content bins)
 
   -- what the seat has seen of the stripe k leaves a table to which the invocation would add its key
-  pub record Refuses (stripes k : ℕ) (me : Me (Option B) (View Deed)) (invocation : Invocation) : Type 0 where
+  pub record SeatRefuses (stripes k : ℕ) (me : Me (Option B) (View GhostAction)) (invocation : Invocation) : Type 0 where
     pub table : Table
     pub left : Leaves stripes k (seen_of me.0 k) table
     pub adds : WouldAdd table invocation

@@ -28,7 +28,7 @@ abbrev pub Calls : PassState → Invocation → Reply → PassState → Type 0
 Calls old invocation reply new = Makes old (stripe_for old invocation) (called invocation reply ∷ []) new
 
 -- the pass made nothing; what it has seen then leaves a table to which the invocation would add its key
-pub record IsRefused (old : PassState) (invocation : Invocation) (new : PassState) : Type 0 where
+pub record RefusesCall (old : PassState) (invocation : Invocation) (new : PassState) : Type 0 where
   pub nothing : Makes old (stripe_for old invocation) [] new
   pub table : Table
   pub left : Leaves (stripes_of old.map) (stripe_for old invocation) (seen_of new.view (stripe_for old invocation)) table
@@ -37,6 +37,12 @@ pub record IsRefused (old : PassState) (invocation : Invocation) (new : PassStat
 -- the pass made one scan of the stripe k, which found these entries
 abbrev pub Scans : PassState → ℕ → List Entry → PassState → Type 0
 Scans old k entries new = Makes old k (scanned entries ∷ []) new
+
+-- the pass made one scan of the stripe k, which found so many entries; which they were, its event says
+pub record CountsStripe (old : PassState) (k count : ℕ) (new : PassState) : Type 0 where
+  pub entries : List Entry
+  pub scans : Scans old k entries new
+  pub count_is : count ≡ length entries
 
 -- entries in key order, each once, and each of the stripe k of so many
 pub record AreOf (stripes k : ℕ) (entries : List Entry) : Type 0 where
@@ -54,7 +60,7 @@ pub record AreReplacements (program : Checked) (arg : Option (List ℕ)) (entrie
 
 -- the pass replaced the value of each key of the stripe k once, in key order, by the program with the argument; nothing
 -- stands between these events
-pub record ReplacesEach (old : PassState) (k : ℕ) (program : Checked) (arg : Option (List ℕ)) (counts : Counts)
+pub record ReplacesInStripe (old : PassState) (k : ℕ) (program : Checked) (arg : Option (List ℕ)) (counts : Counts)
     (new : PassState) : Type 0 where
   pub actions : List Action
   pub makes : Makes old k actions new

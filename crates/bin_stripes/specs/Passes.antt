@@ -7,16 +7,16 @@ use Rattle.stripe_rule.specs.declared.view.View.{View}
 use Rattle.stripe_rule.specs.contracts.view.View.{the_row as view_row}
 use Rattle.stripe_rule.specs.Gains.{least, Carries, IsIdle}
 use Rattle.stripe_rule.specs.Steps.{view_of}
-use Rattle.bin_stripes.specs.declared.deed.Deed.{Deed}
-use Rattle.bin_stripes.specs.contracts.deed.Deed.{the_row as deed_row}
+use Rattle.bin_stripes.specs.declared.ghost_action.GhostAction.{GhostAction}
+use Rattle.bin_stripes.specs.contracts.ghost_action.GhostAction.{the_row as action_row}
 use Rattle.bin_stripes.specs.Histories.{Sound}
 
 pub record PassState : Type 0 where
   pub map : TableId
-  pub view : View Deed
+  pub view : View GhostAction
 
 abbrev pub pass_code : Coded PassState
-pass_code = code_by (TableId × View Deed) (coded× table_id_coded (view_row deed_row).coded)
+pass_code = code_by (TableId × View GhostAction) (coded× table_id_coded (view_row action_row).coded)
     (λ p. (p.map, p.view)) (λ x. record { map = x.0; view = x.1 }) (λ _. refl)
 
 -- how many stripes a map has
@@ -25,7 +25,7 @@ stripes_of map = map.slots
 
 -- what a pass that serves this map, with these views at rest, always has: one view, which holds no stripe, carries its
 -- least number, and knows of each stripe a legal history
-pub record IsPass (map : TableId) (views : List (View Deed)) : Type 0 where
+pub record IsPass (map : TableId) (views : List (View GhostAction)) : Type 0 where
   pub one : views ≡ view_of views ∷ []
   pub idle : IsIdle (view_of views)
   pub some : Carries (view_of views) (least (view_of views).numbers)
@@ -33,6 +33,6 @@ pub record IsPass (map : TableId) (views : List (View Deed)) : Type 0 where
   pub wide : length (view_of views).parts ≡ stripes_of map
 
 -- the pass serves the same map, which was opened with as many passes
-pub record Serves (old new : PassState) : Type 0 where
+pub record ServesSameMap (old new : PassState) : Type 0 where
   pub map : new.map ≡ old.map
   pub passes : new.view.passes ≡ old.view.passes

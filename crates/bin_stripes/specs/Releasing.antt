@@ -6,28 +6,28 @@ use Rattle.stripe_rule.specs.declared.view.View.{View}
 use Rattle.stripe_rule.specs.Words.{word_at}
 use Rattle.stripe_rule.specs.Steps.{Looks, Releases, took as takes_or_looks}
 use Rattle.bins.specs.Table.{Table}
-use Rattle.bin_stripes.specs.declared.deed.Deed.{Deed}
+use Rattle.bin_stripes.specs.declared.ghost_action.GhostAction.{GhostAction}
 use Rattle.bin_stripes.specs.Actions.{Action}
 use Rattle.bin_stripes.specs.Histories.{empty, does, own_events}
 
 abbrev pub Events : Type 0
-Events = List (Event Deed)
+Events = List (Event GhostAction)
 
 module _ {S : Type 0} where
   -- a load of a stripe's word, as a table with so many slots tells it
-  abbrev pub looked : Step S → Me S (View Deed) → ℕ → Me S (View Deed) → Type 0
-  looked st me found me' = (k : ℕ) → st.word ≡ word_at k → Looks (does st.slots) empty k me me'
+  abbrev pub stripe_looked : Step S → Me S (View GhostAction) → ℕ → Me S (View GhostAction) → Type 0
+  stripe_looked st me found me' = (k : ℕ) → st.word ≡ word_at k → Looks (does st.slots) empty k me me'
 
   -- the actions that the release adds, of which `may` holds
-  pub record Lets (may : List Action → Type 0) (stripes k : ℕ) (me me' : Me S (View Deed)) : Type 0 where
+  pub record Lets (may : List Action → Type 0) (stripes k : ℕ) (me me' : Me S (View GhostAction)) : Type 0 where
     pub actions : List Action
     pub may_be : may actions
     pub releases : Releases (does stripes) empty (own_events me.0 actions) k me me'
 
   -- the swap of the word to 0, as a table with so many slots tells it
-  abbrev pub released : (List Action → Type 0) → Step S → Me S (View Deed) → ℕ → Me S (View Deed) → Type 0
-  released may st me found me' = (k : ℕ) → st.word ≡ word_at k → Lets may st.slots k me me'
+  abbrev pub stripe_released : (List Action → Type 0) → Step S → Me S (View GhostAction) → ℕ → Me S (View GhostAction) → Type 0
+  stripe_released may st me found me' = (k : ℕ) → st.word ≡ word_at k → Lets may st.slots k me me'
 
 -- the compare-exchange of the word from 0 to 1, as a table with so many slots tells it
-abbrev pub took : {B : Type 0} → (B → Table) → Step (Option B) → Me (Option B) (View Deed) → ℕ → Me (Option B) (View Deed) → Type 0
-took content st me found me' = takes_or_looks (does st.slots) empty content st me found me'
+abbrev pub stripe_took : {B : Type 0} → (B → Table) → Step (Option B) → Me (Option B) (View GhostAction) → ℕ → Me (Option B) (View GhostAction) → Type 0
+stripe_took content st me found me' = takes_or_looks (does st.slots) empty content st me found me'

@@ -9,7 +9,7 @@ ghost use Rattle.bin_stripes.specs.Closed.{Closes};
 
 use crate::map::StripedMap;
 use crate::pass::Pass;
-use crate::steps::{Stand, Stripes, bins_out, take};
+use crate::steps::{PassSeat, Stripes, bins_out, take_stripe};
 use bins::Bins;
 use bpf_model::{Key, NoMemory, Value};
 use std::alloc::Global;
@@ -41,7 +41,7 @@ fn entries_out<B: Bins + Drop, R: Wait>(
     rt: &R,
     alloc: Global,
     table: &Stripes<B>,
-    seat: &mut Stand<B>,
+    seat: &mut PassSeat<B>,
     stripes: usize,
 ) -> Result<Vec<(Key, Value)>, NoMemory>
     requires table { IsLaid table.now.table_id table.now.key × (seat.old.table_id ≡ table.now.table_id) }
@@ -52,7 +52,7 @@ fn entries_out<B: Bins + Drop, R: Wait>(
 {
     let mut found = Vec::new(alloc);
     for stripe in 0..stripes {
-        take(rt, table, seat, stripe);
+        take_stripe(rt, table, seat, stripe);
         let bins = bins_out(table, seat, stripe);
         let mut entries = bins.entries(alloc)?;
         found.append(&mut entries)?;

@@ -1,6 +1,6 @@
 //! What is done with the bins of a stripe that is held: a call, a scan or the replacement of its values. Each takes the
 //! bins out, works on them, brings them home and lets the stripe go.
-ghost use Rattle.std.specs.Prelude.{◌≡◌, ◌<◌, ◌^◌, List, [], ◌∷◌, IfOk, OnErr};
+ghost use Rattle.std.specs.Prelude.{◌≡◌, ◌<◌, ◌^◌, List, [], ◌∷◌, length, IfOk, OnErr};
 ghost use Rattle.std.specs.FinMap as map;
 ghost use Rattle.bins.specs.Hashes.{hash as hash_is};
 ghost use Rattle.atomic_methods.specs.Hashes.{stripe_of};
@@ -12,10 +12,10 @@ ghost use Rattle.bin_stripes.specs.Actions.{called, scanned};
 ghost use Rattle.bin_stripes.specs.Histories.{Leaves};
 ghost use Rattle.bin_stripes.specs.Invoked.{AreReplacements};
 ghost use Rattle.bin_stripes.specs.Releasing.{Lets};
-ghost use Rattle.bin_stripes.specs.Holding.{IsLaid, Holds, Refuses};
+ghost use Rattle.bin_stripes.specs.Holding.{IsLaid, SeatHolds, SeatRefuses};
 
 use crate::gate::{Gate, Place};
-use crate::steps::{Shows, Stand, Stripes, bins_home, bins_out};
+use crate::steps::{PassSeat, Shows, Stripes, bins_home, bins_out};
 use atomic_methods::{Call, Reply, apply_into, replace_each, scan};
 use bins::{Bins, Counts};
 use bpf_machine::Machine;
@@ -50,6 +50,13 @@ struct Scanning;
 
 impl Shows<Vec<(Key, Value)>> for Scanning {
     ghost shows = { λ found actions. actions ≡ scanned found.items ∷ [] };
+}
+
+// The entries were counted.
+struct Counting;
+
+impl<B: Bins> Shows<Snapshot<B>> for Counting {
+    ghost shows = { λ found actions. actions ≡ scanned (map.entries (B.table found.value)) ∷ [] };
 }
 
 // What was replaced, by what, and how many.
@@ -89,7 +96,7 @@ fn apply_hashed<B: Bins>(
 /// Makes the call on the stripe of its key, which has this hash. `NoMemory` as `apply_into` has it; then nothing was done.
 pub(crate) fn make_call<B: Bins + Drop>(
     table: &Stripes<B>,
-    seat: &mut Stand<B>,
+    seat: &mut PassSeat<B>,
     stripe: usize,
     call: &Call,
     hash: u32,
@@ -97,7 +104,7 @@ pub(crate) fn make_call<B: Bins + Drop>(
 ) -> Result<Reply, NoMemory>
     requires table { IsLaid table.now.table_id table.now.key × (seat.old.table_id ≡ table.now.table_id) }
     requires stripe { stripe < table.now.table_id.slots }
-    requires held { Holds B.table table.now.table_id.slots stripe seat.old.me }
+    requires held { SeatHolds B.table table.now.table_id.slots stripe seat.old.me }
     requires key { stripe_of table.now.table_id.slots (invocation_of call.now).key ≡ stripe }
     requires hash { hash ≡ hash_is (invocation_of call.now).key }
     ensures same { (seat.new.table_id ≡ seat.old.table_id) × (seat.new.id ≡ seat.old.id) }
@@ -106,7 +113,7 @@ pub(crate) fn make_call<B: Bins + Drop>(
         seat.old.me seat.new.me) }
     ensures err { OnErr result
         (Lets (λ actions. actions ≡ []) table.now.table_id.slots stripe seat.old.me seat.new.me
-        × Refuses table.now.table_id.slots stripe seat.old.me (invocation_of call.now)) }
+        × SeatRefuses table.now.table_id.slots stripe seat.old.me (invocation_of call.now)) }
 {
     let mut bins = bins_out(table, seat, stripe);
     match apply_hashed(&mut bins, call, hash, machine) {
@@ -129,12 +136,12 @@ pub(crate) fn make_call<B: Bins + Drop>(
 pub(crate) fn make_scan<B: Bins + Drop>(
     alloc: Global,
     table: &Stripes<B>,
-    seat: &mut Stand<B>,
+    seat: &mut PassSeat<B>,
     stripe: usize,
 ) -> Result<Vec<(Key, Value)>, NoMemory>
     requires table { IsLaid table.now.table_id table.now.key × (seat.old.table_id ≡ table.now.table_id) }
     requires stripe { stripe < table.now.table_id.slots }
-    requires held { Holds B.table table.now.table_id.slots stripe seat.old.me }
+    requires held { SeatHolds B.table table.now.table_id.slots stripe seat.old.me }
     ensures same { (seat.new.table_id ≡ seat.old.table_id) × (seat.new.id ≡ seat.old.id) }
     ensures ok { IfOk result (λ found.
         Lets (λ actions. actions ≡ scanned found.items ∷ []) table.now.table_id.slots stripe seat.old.me seat.new.me) }
@@ -157,10 +164,31 @@ pub(crate) fn make_scan<B: Bins + Drop>(
     }
 }
 
+/// How many entries the stripe has. Takes no memory.
+pub(crate) fn make_count<B: Bins + Drop>(
+    table: &Stripes<B>,
+    seat: &mut PassSeat<B>,
+    stripe: usize,
+) -> u64
+    requires table { IsLaid table.now.table_id table.now.key × (seat.old.table_id ≡ table.now.table_id) }
+    requires stripe { stripe < table.now.table_id.slots }
+    requires held { SeatHolds B.table table.now.table_id.slots stripe seat.old.me }
+    ensures same { (seat.new.table_id ≡ seat.old.table_id) × (seat.new.id ≡ seat.old.id) }
+    ensures made { (there : Table) × (Lets (λ actions. actions ≡ scanned (map.entries there) ∷ [])
+        table.now.table_id.slots stripe seat.old.me seat.new.me × (result ≡ length (map.entries there))) }
+    ensures bounded { result < 2 ^ 57 }
+{
+    let bins = bins_out(table, seat, stripe);
+    let count = bins.count();
+    let found = Snapshot::of(&bins);
+    bins_home::<_, _, Counting>(table, seat, stripe, bins, &found);
+    count
+}
+
 /// Replaces the value of each of the stripe's keys once. The gate is passed before, with the stripe held. Takes no memory.
 pub(crate) fn make_replacements<B: Bins + Drop, G: Gate>(
     table: &Stripes<B>,
-    seat: &mut Stand<B>,
+    seat: &mut PassSeat<B>,
     stripe: usize,
     by: (&Verified, &Option<Value>),
     gate: &G,
@@ -168,12 +196,12 @@ pub(crate) fn make_replacements<B: Bins + Drop, G: Gate>(
 ) -> Counts
     requires table { IsLaid table.now.table_id table.now.key × (seat.old.table_id ≡ table.now.table_id) }
     requires stripe { stripe < table.now.table_id.slots }
-    requires held { Holds B.table table.now.table_id.slots stripe seat.old.me }
+    requires held { SeatHolds B.table table.now.table_id.slots stripe seat.old.me }
     ensures same { (seat.new.table_id ≡ seat.old.table_id) × (seat.new.id ≡ seat.old.id) }
     ensures made { (there : Table) × (Leaves table.now.table_id.slots stripe (seen_of seat.old.me.0 stripe) there
         × Lets (λ actions. AreReplacements by.entry.0.now by.entry.1.now (map.entries there) actions result)
         table.now.table_id.slots stripe seat.old.me seat.new.me) }
-    ensures few { result.scanned < 2 ^ 57 }
+    ensures bounded { result.scanned < 2 ^ 57 }
 {
     let mut bins = bins_out(table, seat, stripe);
     gate.pass(Place::Held, worker);

@@ -23,9 +23,9 @@
 #![tactic(auto)]
 
 mod close;
-mod deed;
 mod fault;
 mod gate;
+mod ghost_action;
 mod held;
 mod map;
 mod open;
@@ -35,9 +35,9 @@ mod seats;
 mod steps;
 mod tell;
 
-pub use deed::Deed;
 pub use fault::{CallFault, OpenFault};
 pub use gate::{Gate, OpenGate, Place};
+pub use ghost_action::GhostAction;
 pub use map::StripedMap;
 pub use open::MAX_PASSES;
 pub use pass::Pass;

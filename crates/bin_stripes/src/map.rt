@@ -3,17 +3,17 @@ ghost use Rattle.std.specs.Prelude.{◌≡◌, ◌<◌, ◌^◌, [], length, IfO
 ghost use Rattle.bins.specs.Hashes.{hash as hash_is};
 ghost use Rattle.atomic_methods.specs.Hashes.{stripe_of, IsStripeCount};
 ghost use Rattle.atomic_methods.specs.Invocations.{invocation_of};
-ghost use Rattle.bin_stripes.specs.Invoked.{Makes, Calls, IsRefused, Scans, AreOf, ReplacesEach, stripe_for};
-ghost use Rattle.bin_stripes.specs.Passes.{Serves, stripes_of};
+ghost use Rattle.bin_stripes.specs.Invoked.{Makes, Calls, RefusesCall, Scans, CountsStripe, AreOf, ReplacesInStripe, stripe_for};
+ghost use Rattle.bin_stripes.specs.Passes.{ServesSameMap, stripes_of};
 
-use crate::deed::Deed;
 use crate::fault::CallFault;
 use crate::gate::Gate;
-use crate::held::{make_call, make_replacements, make_scan};
+use crate::ghost_action::GhostAction;
+use crate::held::{make_call, make_count, make_replacements, make_scan};
 use crate::pass::Pass;
 use crate::rule::{Shape, Striping};
 use crate::seats::{try_call, try_replace, try_scan};
-use crate::steps::take;
+use crate::steps::take_stripe;
 use atomic_methods::{Call, Reply, stripe_of_hash};
 use atomic_table::Table;
 use bins::{Counts, HashedBins, hash_of};
@@ -31,7 +31,13 @@ pub(crate) type StripeBins = HashedBins;
 /// and a slot for its bins.
 #[derive(Drop)]
 pub struct StripedMap {
-    pub(crate) table: Table<Option<StripeBins>, View<Deed>, Shape, Striping<StripeBins>, Global>,
+    pub(crate) table: Table<
+        Option<StripeBins>,
+        View<GhostAction>,
+        Shape,
+        Striping<StripeBins>,
+        Global,
+    >,
 }
 
 impl Model for StripedMap {
@@ -78,14 +84,14 @@ impl StripedMap {
     /// made then. Waits until the stripe of the key is free.
     pub fn call<R: Wait>(&self, rt: &R, pass: &mut Pass, call: &Call) -> Result<Reply, NoMemory>
         requires map { pass.old.map ≡ self.now }
-        ensures same { Serves pass.old pass.new }
+        ensures same { ServesSameMap pass.old pass.new }
         ensures ok { IfOk result (λ reply. Calls pass.old (invocation_of call.now) reply pass.new) }
-        ensures err { OnErr result (IsRefused pass.old (invocation_of call.now) pass.new) }
+        ensures err { OnErr result (RefusesCall pass.old (invocation_of call.now) pass.new) }
     {
         let (stripe, hash) = self.stripe_and_hash(call);
         let table = &self.table.shared;
         let mut seat = pass.known.take();
-        take(rt, table, &mut seat, stripe);
+        take_stripe(rt, table, &mut seat, stripe);
         let answer = make_call(table, &mut seat, stripe, call, hash, &mut pass.machine);
         pass.known.put(seat);
         answer
@@ -95,10 +101,10 @@ impl StripedMap {
     /// made. Never waits.
     pub fn try_call(&self, pass: &mut Pass, call: &Call) -> Result<Reply, CallFault>
         requires map { pass.old.map ≡ self.now }
-        ensures same { Serves pass.old pass.new }
+        ensures same { ServesSameMap pass.old pass.new }
         ensures ok { IfOk result (λ reply. Calls pass.old (invocation_of call.now) reply pass.new) }
         ensures err { OnErr result (Makes pass.old (stripe_for pass.old (invocation_of call.now)) [] pass.new) }
-        ensures memory { IsErrOf result CallFault.NoMemory → IsRefused pass.old (invocation_of call.now) pass.new }
+        ensures memory { IsErrOf result CallFault.NoMemory → RefusesCall pass.old (invocation_of call.now) pass.new }
     {
         let (stripe, hash) = self.stripe_and_hash(call);
         let table = &self.table.shared;
@@ -119,16 +125,16 @@ impl StripedMap {
     ) -> Result<Vec<(Key, Value)>, NoMemory>
         requires map { pass.old.map ≡ self.now }
         requires stripe { stripe < stripes_of self.now }
-        ensures same { Serves pass.old pass.new }
+        ensures same { ServesSameMap pass.old pass.new }
         ensures ok { IfOk result (λ found. Scans pass.old stripe found.items pass.new) }
         ensures err { OnErr result (Makes pass.old stripe [] pass.new) }
         ensures entries { IfOk result (λ found. AreOf (stripes_of self.now) stripe found.items) }
-        ensures few { IfOk result (λ found. length found.items < 2 ^ 55) }
+        ensures bounded { IfOk result (λ found. length found.items < 2 ^ 55) }
     {
         let place = stripe as usize;
         let table = &self.table.shared;
         let mut seat = pass.known.take();
-        take(rt, table, &mut seat, place);
+        take_stripe(rt, table, &mut seat, place);
         let answer = make_scan(alloc, table, &mut seat, place);
         pass.known.put(seat);
         answer
@@ -143,16 +149,34 @@ impl StripedMap {
     ) -> Result<Vec<(Key, Value)>, CallFault>
         requires map { pass.old.map ≡ self.now }
         requires stripe { stripe < stripes_of self.now }
-        ensures same { Serves pass.old pass.new }
+        ensures same { ServesSameMap pass.old pass.new }
         ensures ok { IfOk result (λ found. Scans pass.old stripe found.items pass.new) }
         ensures err { OnErr result (Makes pass.old stripe [] pass.new) }
         ensures entries { IfOk result (λ found. AreOf (stripes_of self.now) stripe found.items) }
-        ensures few { IfOk result (λ found. length found.items < 2 ^ 55) }
+        ensures bounded { IfOk result (λ found. length found.items < 2 ^ 55) }
     {
         let mut seat = pass.known.take();
         let answer = try_scan(alloc, &self.table.shared, &mut seat, stripe as usize);
         pass.known.put(seat);
         answer
+    }
+
+    /// How many entries one stripe has, which is below `stripes()`: a scan whose entries are not handed out. Takes no
+    /// memory. Waits until the stripe is free.
+    pub fn count_stripe<R: Wait>(&self, rt: &R, pass: &mut Pass, stripe: u64) -> u64
+        requires map { pass.old.map ≡ self.now }
+        requires stripe { stripe < stripes_of self.now }
+        ensures same { ServesSameMap pass.old pass.new }
+        ensures counts { CountsStripe pass.old stripe result pass.new }
+        ensures bounded { result < 2 ^ 57 }
+    {
+        let place = stripe as usize;
+        let table = &self.table.shared;
+        let mut seat = pass.known.take();
+        take_stripe(rt, table, &mut seat, place);
+        let count = make_count(table, &mut seat, place);
+        pass.known.put(seat);
+        count
     }
 
     /// Replaces the value of each key of one stripe, which is below `stripes()`, once by what the program answers on the key,
@@ -170,14 +194,14 @@ impl StripedMap {
     ) -> Counts
         requires map { pass.old.map ≡ self.now }
         requires stripe { stripe < stripes_of self.now }
-        ensures same { Serves pass.old pass.new }
-        ensures each { ReplacesEach pass.old stripe program.now arg.now result pass.new }
-        ensures few { result.scanned < 2 ^ 57 }
+        ensures same { ServesSameMap pass.old pass.new }
+        ensures each { ReplacesInStripe pass.old stripe program.now arg.now result pass.new }
+        ensures bounded { result.scanned < 2 ^ 57 }
     {
         let place = stripe as usize;
         let table = &self.table.shared;
         let mut seat = pass.known.take();
-        take(rt, table, &mut seat, place);
+        take_stripe(rt, table, &mut seat, place);
         let counts = make_replacements(table, &mut seat, place, (program, arg), gate, worker);
         pass.known.put(seat);
         counts
@@ -193,11 +217,11 @@ impl StripedMap {
     ) -> Result<Counts, CallFault>
         requires map { pass.old.map ≡ self.now }
         requires stripe { stripe < stripes_of self.now }
-        ensures same { Serves pass.old pass.new }
-        ensures ok { IfOk result (λ counts. ReplacesEach pass.old stripe program.now arg.now counts pass.new) }
+        ensures same { ServesSameMap pass.old pass.new }
+        ensures ok { IfOk result (λ counts. ReplacesInStripe pass.old stripe program.now arg.now counts pass.new) }
         ensures err { OnErr result (Makes pass.old stripe [] pass.new) }
         ensures busy { IfErr result (λ fault. fault ≡ CallFault.Busy) }
-        ensures few { IfOk result (λ counts. counts.scanned < 2 ^ 57) }
+        ensures bounded { IfOk result (λ counts. counts.scanned < 2 ^ 57) }
     {
         let mut seat = pass.known.take();
         let answer = try_replace(

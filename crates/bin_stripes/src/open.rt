@@ -10,7 +10,7 @@ use crate::fault::OpenFault;
 use crate::map::{StripeBins, StripedMap};
 use crate::pass::Pass;
 use crate::rule::{Deal, Shape};
-use crate::steps::{LINE_WORDS, Stand, Stripes};
+use crate::steps::{LINE_WORDS, PassSeat, Stripes};
 use atomic_methods::is_stripe_count;
 use atomic_table::Table;
 use bins::Bins;
@@ -64,7 +64,7 @@ fn free_stripes<B: Bins + Drop>(
     alloc: Global,
     stripes: u64,
 ) -> Result<(Vec<u64>, Vec<Option<B>>), NoMemory>
-    requires few { stripes ≤ 64 }
+    requires bounded { stripes ≤ 64 }
     ensures words { IfOk result (λ made. made.0.items ≡ replicate (words_of stripes) 0) }
     ensures count { IfOk result (λ made. length made.1.items ≡ stripes) }
     ensures empty { IfOk result (λ made. All (IsEmptyBins B.table) made.1.items) }
@@ -92,7 +92,7 @@ fn zero_words(alloc: Global, count: u64) -> Result<Vec<u64>, NoMemory>
 fn dealt<B: Bins>(
     alloc: Global,
     table: &Stripes<B>,
-    mut rest: Stand<B>,
+    mut rest: PassSeat<B>,
     passes: u64,
 ) -> Result<Vec<Pass>, NoMemory>
     requires table { IsLaid table.now.table_id table.now.key × (rest.table_id ≡ table.now.table_id) }
@@ -103,6 +103,7 @@ fn dealt<B: Bins>(
 {
     let mut all = Vec::new(alloc);
     for number in 0..passes - 1 {
+        // For the proof alone, which counts the passes that were dealt.
         let _ = number;
         let next = table.split_seat::<Deal>(&mut rest);
         all.push(dealt_pass(rest))?;
@@ -113,7 +114,7 @@ fn dealt<B: Bins>(
 }
 
 // The pass of a seat that carries one number and knows nothing.
-fn dealt_pass<B: Bins>(seat: Stand<B>) -> Pass
+fn dealt_pass<B: Bins>(seat: PassSeat<B>) -> Pass
     requires new { (passes : ℕ) × ((number : ℕ) × (seat.me ≡ (newcomer seat.table_id.slots passes (number ∷ []), []))) }
     ensures pass { result ≡ record { map = seat.table_id; view = seat.me.0 } }
 {

@@ -1,6 +1,6 @@
 //! What a thread makes its calls with.
 
-use crate::deed::Deed;
+use crate::ghost_action::GhostAction;
 use bpf_machine::Machine;
 use known_seat::Known;
 use std::marker::Model;
@@ -10,7 +10,7 @@ use stripe_rule::View;
 /// Contracts see what it carries and knows: of each stripe the events that it has seen, and those of them that it made.
 #[derive(Drop)]
 pub struct Pass {
-    pub(crate) known: Known<View<Deed>>,
+    pub(crate) known: Known<View<GhostAction>>,
     pub(crate) machine: Machine,
 }
 
@@ -28,14 +28,18 @@ impl Model for Pass {
 }
 
 impl Pass {
+    ghost use Rattle.stripe_rule.specs.Gains.{Carries, least};
     ghost use Rattle.bin_stripes.specs.Histories.{Sound};
     ghost use Rattle.bin_stripes.specs.Passes.{stripes_of};
 
     /// What always holds of a pass: what it has seen of each stripe is a legal history, whose events are under numbers of
-    /// passes that were opened, and of those under its numbers it has just the ones that it made. Does nothing.
+    /// passes that were opened, and of those under its numbers it has just the ones that it made. It carries the least of
+    /// its numbers, under which its calls are made. Does nothing.
     pub fn vouch(&self)
         ensures sound { Sound (stripes_of self.now.map) self.now.view }
+        ensures least { Carries self.now.view (least self.now.view.numbers) }
     {
+        // For the proof alone: from what is at rest here it learns what always holds of a pass.
         let _ = &self.known;
     }
 }

@@ -2,7 +2,7 @@
 ghost use Rattle.std.specs.Prelude.{◌≡◌, List, []};
 ghost use Rattle.bin_stripes.specs.Actions.{Action};
 
-use crate::deed::Deed;
+use crate::ghost_action::GhostAction;
 use atomic_table::{Join, Play, Split, TableRule};
 use bins::Bins;
 use known_seat::Lesson;
@@ -21,7 +21,7 @@ pub struct Striping<B> {
     bins: PhantomData<B>,
 }
 
-impl<B: Bins> TableRule<Option<B>, View<Deed>, Shape> for Striping<B> {
+impl<B: Bins> TableRule<Option<B>, View<GhostAction>, Shape> for Striping<B> {
     ghost use Rattle.stripe_rule.specs.Rule.{Kept, opener};
     ghost use Rattle.bin_stripes.specs.Histories.{empty, does};
 
@@ -33,10 +33,10 @@ impl<B: Bins> TableRule<Option<B>, View<Deed>, Shape> for Striping<B> {
 /// A load of a stripe's word.
 pub struct Look;
 
-impl<B> Play<Option<B>, View<Deed>> for Look {
-    ghost use Rattle.bin_stripes.specs.Releasing.{looked};
+impl<B> Play<Option<B>, View<GhostAction>> for Look {
+    ghost use Rattle.bin_stripes.specs.Releasing.{stripe_looked};
 
-    ghost then = { looked };
+    ghost then = { stripe_looked };
 }
 
 /// The compare-exchange of a stripe's word from 0 to 1.
@@ -44,10 +44,10 @@ pub struct Take<B> {
     bins: PhantomData<B>,
 }
 
-impl<B: Bins> Play<Option<B>, View<Deed>> for Take<B> {
-    ghost use Rattle.bin_stripes.specs.Releasing.{took};
+impl<B: Bins> Play<Option<B>, View<GhostAction>> for Take<B> {
+    ghost use Rattle.bin_stripes.specs.Releasing.{stripe_took};
 
-    ghost then = { took B.table };
+    ghost then = { stripe_took B.table };
 }
 
 /// What is known of the actions that a release adds. It is picked where the release is made.
@@ -64,16 +64,16 @@ pub struct Release<J> {
     may: PhantomData<J>,
 }
 
-impl<B, J: May> Play<Option<B>, View<Deed>> for Release<J> {
-    ghost use Rattle.bin_stripes.specs.Releasing.{released};
+impl<B, J: May> Play<Option<B>, View<GhostAction>> for Release<J> {
+    ghost use Rattle.bin_stripes.specs.Releasing.{stripe_released};
 
-    ghost then = { released J.may };
+    ghost then = { stripe_released J.may };
 }
 
 /// Each pass is dealt the first number that is left.
 pub struct Deal;
 
-impl Split<View<Deed>> for Deal {
+impl Split<View<GhostAction>> for Deal {
     ghost use Rattle.stripe_rule.specs.Steps.{with_numbers, head_of, tail_of};
 
     ghost left = { λ v. with_numbers v (head_of v.numbers) };
@@ -82,9 +82,9 @@ impl Split<View<Deed>> for Deal {
 }
 
 /// A pass is told what another has seen.
-pub struct Heed;
+pub struct Inform;
 
-impl Lesson<View<Deed>> for Heed {
+impl Lesson<View<GhostAction>> for Inform {
     ghost use Rattle.stripe_rule.specs.Steps.{IsTold};
 
     ghost then = { λ v from u. IsTold from v u };
@@ -93,7 +93,7 @@ impl Lesson<View<Deed>> for Heed {
 /// Two passes become one.
 pub struct Unite;
 
-impl Join<View<Deed>> for Unite {
+impl Join<View<GhostAction>> for Unite {
     ghost use Rattle.stripe_rule.specs.Steps.{united, spent};
 
     ghost both = { united };

@@ -5,12 +5,12 @@ ghost use Rattle.bins.specs.Hashes.{hash as hash_is};
 ghost use Rattle.atomic_methods.specs.Hashes.{stripe_of};
 ghost use Rattle.atomic_methods.specs.Invocations.{invocation_of};
 ghost use Rattle.bin_stripes.specs.Actions.{called, scanned};
-ghost use Rattle.bin_stripes.specs.Holding.{IsLaid, Rests, Settles, Refuses, Finds, Replaces};
+ghost use Rattle.bin_stripes.specs.Holding.{IsLaid, Rests, Settles, SeatRefuses, SeatFinds, SeatReplaces};
 
 use crate::fault::CallFault;
 use crate::gate::OpenGate;
 use crate::held::{make_call, make_replacements, make_scan};
-use crate::steps::{Stand, Stripes, try_take};
+use crate::steps::{PassSeat, Stripes, try_take_stripe};
 use atomic_methods::{Call, Reply};
 use bins::{Bins, Counts};
 use bpf_machine::Machine;
@@ -21,7 +21,7 @@ use verifier::Verified;
 /// Makes the call on the stripe of its key, where that is free. The hash is the key's; a program runs in the machine.
 pub(crate) fn try_call<B: Bins + Drop>(
     table: &Stripes<B>,
-    seat: &mut Stand<B>,
+    seat: &mut PassSeat<B>,
     stripe: usize,
     call: &Call,
     hash: u32,
@@ -37,9 +37,9 @@ pub(crate) fn try_call<B: Bins + Drop>(
         (called (invocation_of call.now) reply ∷ []) seat.new.me) }
     ensures err { OnErr result (Settles table.now.table_id.slots stripe seat.old.me [] seat.new.me) }
     ensures memory { IsErrOf result CallFault.NoMemory →
-        Refuses table.now.table_id.slots stripe seat.new.me (invocation_of call.now) }
+        SeatRefuses table.now.table_id.slots stripe seat.new.me (invocation_of call.now) }
 {
-    if !try_take(table, seat, stripe) {
+    if !try_take_stripe(table, seat, stripe) {
         return Err(CallFault::Busy);
     }
     Ok(make_call(table, seat, stripe, call, hash, machine)?)
@@ -49,7 +49,7 @@ pub(crate) fn try_call<B: Bins + Drop>(
 pub(crate) fn try_scan<B: Bins + Drop>(
     alloc: Global,
     table: &Stripes<B>,
-    seat: &mut Stand<B>,
+    seat: &mut PassSeat<B>,
     stripe: usize,
 ) -> Result<Vec<(Key, Value)>, CallFault>
     requires table { IsLaid table.now.table_id table.now.key × (seat.old.table_id ≡ table.now.table_id) }
@@ -57,10 +57,10 @@ pub(crate) fn try_scan<B: Bins + Drop>(
     requires rests { Rests seat.old.me }
     ensures same { (seat.new.table_id ≡ seat.old.table_id) × (seat.new.id ≡ seat.old.id) }
     ensures ok { IfOk result (λ found.
-        Finds table.now.table_id.slots stripe seat.old.me found.items seat.new.me) }
+        SeatFinds table.now.table_id.slots stripe seat.old.me found.items seat.new.me) }
     ensures err { OnErr result (Settles table.now.table_id.slots stripe seat.old.me [] seat.new.me) }
 {
-    if !try_take(table, seat, stripe) {
+    if !try_take_stripe(table, seat, stripe) {
         return Err(CallFault::Busy);
     }
     Ok(make_scan(alloc, table, seat, stripe)?)
@@ -69,7 +69,7 @@ pub(crate) fn try_scan<B: Bins + Drop>(
 /// Replaces the value of each of the stripe's keys once, where it is free.
 pub(crate) fn try_replace<B: Bins + Drop>(
     table: &Stripes<B>,
-    seat: &mut Stand<B>,
+    seat: &mut PassSeat<B>,
     stripe: usize,
     by: (&Verified, &Option<Value>),
 ) -> Result<Counts, CallFault>
@@ -78,12 +78,12 @@ pub(crate) fn try_replace<B: Bins + Drop>(
     requires rests { Rests seat.old.me }
     ensures same { (seat.new.table_id ≡ seat.old.table_id) × (seat.new.id ≡ seat.old.id) }
     ensures ok { IfOk result (λ counts.
-        Replaces table.now.table_id.slots stripe seat.old.me by.entry.0.now by.entry.1.now counts seat.new.me) }
+        SeatReplaces table.now.table_id.slots stripe seat.old.me by.entry.0.now by.entry.1.now counts seat.new.me) }
     ensures err { OnErr result (Settles table.now.table_id.slots stripe seat.old.me [] seat.new.me) }
     ensures busy { IfErr result (λ fault. fault ≡ CallFault.Busy) }
-    ensures few { IfOk result (λ counts. counts.scanned < 2 ^ 57) }
+    ensures bounded { IfOk result (λ counts. counts.scanned < 2 ^ 57) }
 {
-    if !try_take(table, seat, stripe) {
+    if !try_take_stripe(table, seat, stripe) {
         return Err(CallFault::Busy);
     }
     Ok(make_replacements(table, seat, stripe, by, &OpenGate, 0))

@@ -6,9 +6,9 @@ ghost use Rattle.stripe_rule.specs.Steps.{Takes, Looks};
 ghost use Rattle.bin_stripes.specs.Actions.{Action};
 ghost use Rattle.bin_stripes.specs.Histories.{empty, does, own_events, Leaves};
 ghost use Rattle.bin_stripes.specs.Releasing.{Lets};
-ghost use Rattle.bin_stripes.specs.Holding.{IsLaid, Rests, Settles, Holds};
+ghost use Rattle.bin_stripes.specs.Holding.{IsLaid, Rests, Settles, SeatHolds};
 
-use crate::deed::Deed;
+use crate::ghost_action::GhostAction;
 use crate::rule::{Look, May, Release, Shape, Striping, Take};
 use atomic_table::{Seat, Shared};
 use bins::Bins;
@@ -22,13 +22,13 @@ use stripe_rule::View;
 pub(crate) const LINE_WORDS: usize = 8;
 
 /// The words and slots of all stripes.
-pub(crate) type Stripes<B> = Shared<Option<B>, View<Deed>, Shape, Striping<B>>;
+pub(crate) type Stripes<B> = Shared<Option<B>, View<GhostAction>, Shape, Striping<B>>;
 
 /// What a pass steps with.
-pub(crate) type Stand<B> = Seat<Option<B>, View<Deed>>;
+pub(crate) type PassSeat<B> = Seat<Option<B>, View<GhostAction>>;
 
 /// Looks at the stripe: the seat has then seen all that it was told of. Never waits.
-pub(crate) fn look<B: Bins + Drop>(table: &Stripes<B>, seat: &mut Stand<B>, stripe: usize)
+pub(crate) fn look<B: Bins + Drop>(table: &Stripes<B>, seat: &mut PassSeat<B>, stripe: usize)
     requires table { IsLaid table.now.table_id table.now.key × (seat.old.table_id ≡ table.now.table_id) }
     requires stripe { stripe < table.now.table_id.slots }
     requires pass { Carries seat.old.me.0 (least seat.old.me.0.numbers) }
@@ -39,9 +39,9 @@ pub(crate) fn look<B: Bins + Drop>(table: &Stripes<B>, seat: &mut Stand<B>, stri
 }
 
 /// Tries once to take the stripe: whether it was free. Never waits.
-pub(crate) fn try_take<B: Bins + Drop>(
+pub(crate) fn try_take_stripe<B: Bins + Drop>(
     table: &Stripes<B>,
-    seat: &mut Stand<B>,
+    seat: &mut PassSeat<B>,
     stripe: usize,
 ) -> bool
     requires table { IsLaid table.now.table_id table.now.key × (seat.old.table_id ≡ table.now.table_id) }
@@ -56,10 +56,10 @@ pub(crate) fn try_take<B: Bins + Drop>(
 }
 
 /// Takes the stripe. Waits until it is free.
-pub(crate) fn take<B: Bins + Drop, R: Wait>(
+pub(crate) fn take_stripe<B: Bins + Drop, R: Wait>(
     rt: &R,
     table: &Stripes<B>,
-    seat: &mut Stand<B>,
+    seat: &mut PassSeat<B>,
     stripe: usize,
 )
     requires table { IsLaid table.now.table_id table.now.key × (seat.old.table_id ≡ table.now.table_id) }
@@ -69,7 +69,7 @@ pub(crate) fn take<B: Bins + Drop, R: Wait>(
     ensures took { Takes (does table.now.table_id.slots) empty B.table stripe seat.old.me seat.new.me }
 {
     for _ in rt.forever() {
-        if try_take(table, seat, stripe) {
+        if try_take_stripe(table, seat, stripe) {
             return;
         }
         thread::yield_now();
@@ -78,9 +78,13 @@ pub(crate) fn take<B: Bins + Drop, R: Wait>(
 }
 
 /// The first exchange of the slot: the bins of a stripe that the seat holds.
-pub(crate) fn bins_out<B: Bins + Drop>(table: &Stripes<B>, seat: &mut Stand<B>, stripe: usize) -> B
+pub(crate) fn bins_out<B: Bins + Drop>(
+    table: &Stripes<B>,
+    seat: &mut PassSeat<B>,
+    stripe: usize,
+) -> B
     requires table { seat.old.table_id ≡ table.now.table_id }
-    requires held { Holds B.table table.now.table_id.slots stripe seat.old.me }
+    requires held { SeatHolds B.table table.now.table_id.slots stripe seat.old.me }
     ensures same { (seat.new.table_id ≡ seat.old.table_id) × (seat.new.id ≡ seat.old.id)
         × (seat.new.me.0 ≡ seat.old.me.0) }
     ensures out { (others : List (ℕ × Option B))
@@ -100,7 +104,7 @@ pub(crate) trait Shows<T> {
 /// The second exchange of the slot, and the release: the bins go home after these actions.
 pub(crate) fn bins_home<B: Bins + Drop, T, M: Shows<T>>(
     table: &Stripes<B>,
-    seat: &mut Stand<B>,
+    seat: &mut PassSeat<B>,
     stripe: usize,
     bins: B,
     what: &T,
@@ -124,7 +128,7 @@ pub(crate) fn bins_home<B: Bins + Drop, T, M: Shows<T>>(
 // The swap of the word to 0. The actions that it adds are those of which `J` says something, and `what` tells it.
 fn release<B: Bins + Drop, T, J: May>(
     table: &Stripes<B>,
-    seat: &mut Stand<B>,
+    seat: &mut PassSeat<B>,
     stripe: usize,
     what: &T,
 )
@@ -138,6 +142,7 @@ fn release<B: Bins + Drop, T, J: May>(
     ensures same { (seat.new.table_id ≡ seat.old.table_id) × (seat.new.id ≡ seat.old.id) }
     ensures made { Lets J.may table.now.table_id.slots stripe seat.old.me seat.new.me }
 {
+    // For the proof alone: what `J` says of the actions it says by this value.
     let _ = what;
     table.swap::<Release<J>>(seat, stripe * LINE_WORDS, 0);
 }

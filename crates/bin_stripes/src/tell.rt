@@ -4,13 +4,13 @@ ghost use Rattle.stripe_rule.specs.Gains.{Hears, IsJoined, Carries, least};
 ghost use Rattle.stripe_rule.specs.Steps.{HasHeard, united, view_of};
 ghost use Rattle.bin_stripes.specs.Histories.{Sound};
 ghost use Rattle.bin_stripes.specs.Holding.{IsLaid, Rests};
-ghost use Rattle.bin_stripes.specs.Passes.{IsPass, Serves, stripes_of};
+ghost use Rattle.bin_stripes.specs.Passes.{IsPass, ServesSameMap, stripes_of};
 
-use crate::deed::Deed;
+use crate::ghost_action::GhostAction;
 use crate::map::StripedMap;
 use crate::pass::Pass;
-use crate::rule::{Heed, Unite};
-use crate::steps::{Stand, Stripes, look};
+use crate::rule::{Inform, Unite};
+use crate::steps::{PassSeat, Stripes, look};
 use bins::Bins;
 use known_seat::{Known, learn};
 use stripe_rule::View;
@@ -20,7 +20,7 @@ impl StripedMap {
     pub fn tell(&self, from: &Pass, to: &mut Pass)
         requires from { from.now.map ≡ self.now }
         requires to { to.old.map ≡ self.now }
-        ensures same { Serves to.old to.new }
+        ensures same { ServesSameMap to.old to.new }
         ensures told { Hears (stripes_of self.now) from.now.view to.old.view to.new.view }
     {
         let stripes = self.table.slot_count();
@@ -34,7 +34,7 @@ impl StripedMap {
     pub fn join(&self, one: Pass, other: Pass) -> Pass
         requires one { one.map ≡ self.now }
         requires other { other.map ≡ self.now }
-        ensures same { Serves one result }
+        ensures same { ServesSameMap one result }
         ensures joined { IsJoined (stripes_of self.now) one.view other.view result.view }
     {
         let stripes = self.table.slot_count();
@@ -59,7 +59,7 @@ impl StripedMap {
 }
 
 // Gives the seat what both carried, and spends the other.
-fn unite<B: Bins + Drop>(table: &Stripes<B>, seat: &mut Stand<B>, other: Stand<B>)
+fn unite<B: Bins + Drop>(table: &Stripes<B>, seat: &mut PassSeat<B>, other: PassSeat<B>)
     requires table { (seat.old.table_id ≡ table.now.table_id) × (other.table_id ≡ table.now.table_id)
         × (0 < table.now.table_id.words) }
     requires rests { Rests seat.old.me × Rests other.me }
@@ -72,8 +72,8 @@ fn unite<B: Bins + Drop>(table: &Stripes<B>, seat: &mut Stand<B>, other: Stand<B
 // The seat hears of all that the one at rest has seen: it learns of it, and a look at each word shows it.
 fn hear<B: Bins + Drop>(
     table: &Stripes<B>,
-    from: &Known<View<Deed>>,
-    seat: &mut Stand<B>,
+    from: &Known<View<GhostAction>>,
+    seat: &mut PassSeat<B>,
     stripes: usize,
 )
     requires table { IsLaid table.now.table_id table.now.key × (stripes ≡ table.now.table_id.slots) }
@@ -84,7 +84,7 @@ fn hear<B: Bins + Drop>(
     ensures heard { HasHeard (view_of from.now.views) seat.old.me.0 stripes seat.new.me.0 }
     ensures rests { Rests seat.new.me × Sound stripes seat.new.me.0 }
 {
-    learn::<_, _, _, _, Heed>(table, seat, from);
+    learn::<_, _, _, _, Inform>(table, seat, from);
     for stripe in 0..stripes {
         look(table, seat, stripe);
     }

@@ -1,32 +1,12 @@
--- Which bin a hash goes to: masks and shifts, of numbers that are powers of two.
-use Rattle.std.proofs.Common.{◌≡◌, ℕ, zero, suc, ◌+◌, ◌-◌, ◌*◌, ◌%◌, ◌^◌, ◌<◌, ◌≤◌, Bool, true, false, T, ◌&&◌, refl, sym, ap, subst, ◌∙◌, arith, inl, inr}
-use Rattle.std.specs.Prelude.{bit_and, nat_eq, min}
+-- Which bin a hash goes to: shifts by powers of two, and numbers of bins.
+use Rattle.std.proofs.Common.{◌≡◌, ℕ, ◌+◌, ◌-◌, ◌*◌, ◌^◌, ◌<◌, ◌≤◌, Bool, T, sym, ap, ◌∙◌, arith, inl, inr}
+use Rattle.std.specs.Prelude.{nat_eq, min}
 use Rattle.std.specs.Int.{IsPowerOfTwo, trailing_zeros, w64}
-use Rattle.std.proofs.lemmas.Bool.{cases_eq, cases_lt, eqb-true}
+use Rattle.std.proofs.lemmas.Bool.{cases_lt, eqb-true}
 use Rattle.std.proofs.Math.Nat.{pow-le-pow_right}
-use Rattle.std.proofs.lemmas.Nat.{and_mask, pow-add}
+use Rattle.std.proofs.lemmas.Nat.{pow-add}
 use Rattle.bins.specs.Chains.{IsBinCount, bin_of}
-
--- the lowest bits of a number are its remainder
-pub masked : (n h : ℕ) → IsPowerOfTwo n → bit_and h (n - 1) ≡ h % n
-masked n h is = rw is.1 (and_mask h is.0)
-
--- a test that holds of each number below a bound
-all_below : (ℕ → Bool) → ℕ → Bool
-all_below test zero = true
-all_below test (suc n) = test n && all_below test n
-
-both_hold : (a b : Bool) → T (a && b) → T a × T b
-both_hold true b h = (tt, h)
-both_hold false b h = absurd h
-
-below : (test : ℕ → Bool) (m n : ℕ) → T (all_below test m) → n < m → T (test n)
-unfolding all_below
-below test zero n h lt = absurd (omega (arith, lt))
-below test (suc m) n h lt = elim (cases_eq n m) [
-  | inl same ↦ subst (λ (k : ℕ). T (test k)) (sym same) (both_hold _ _ h).0
-  | inr other ↦ below test m n (both_hold _ _ h).1 (omega (arith, lt, other))
-]
+use Rattle.bins.proofs.PowersOfTwo.{all_below, below, is_true}
 
 abbrev shift : ℕ → ℕ
 shift n = min (trailing_zeros w64 n) 31
@@ -37,10 +17,6 @@ shift_agrees k = nat_eq (2 ^ shift (2 ^ k)) (2 ^ k)
 agreed : T (all_below shift_agrees 32)
 unfolding all_below shift_agrees lib.Count.count_trailing_zeros
 agreed = tt
-
-is_true : (b : Bool) → T b → b ≡ true
-is_true true h = refl
-is_true false h = absurd h
 
 by_power : (k : ℕ) → k < 32 → 2 ^ shift (2 ^ k) ≡ 2 ^ k
 unfolding shift_agrees
@@ -60,11 +36,11 @@ bin_within stripes bins hash is = omega (arith, is.1)
 
 -- twice the bins, where they are fewer than the most
 pub twice_bins : (bins : ℕ) → IsBinCount bins → bins < 65536 → IsBinCount (2 * bins)
-twice_bins bins is few = elim (cases_lt is.0.0 16) [
+twice_bins bins is bounded = elim (cases_lt is.0.0 16) [
   | inl small ↦
       let most : 2 ^ is.0.0 ≤ 2 ^ 15 = pow-le-pow_right {n = 2} (omega arith) {i = is.0.0} {j = 15} (omega (arith, small)) in
       ((is.0.0 + 1, ap (λ (n : ℕ). 2 * n) is.0.1 ∙ twice_power is.0.0), omega (arith, is.1), omega (arith, most, is.0.1))
-  | inr ge ↦ let large : 2 ^ 16 ≤ 2 ^ is.0.0 = pow-le-pow_right {n = 2} (omega arith) {i = 16} {j = is.0.0} ge in absurd (omega (arith, large, is.0.1, few))
+  | inr ge ↦ let large : 2 ^ 16 ≤ 2 ^ is.0.0 = pow-le-pow_right {n = 2} (omega arith) {i = 16} {j = is.0.0} ge in absurd (omega (arith, large, is.0.1, bounded))
 ]
   where
     twice_power : (k : ℕ) → 2 * 2 ^ k ≡ 2 ^ (k + 1)

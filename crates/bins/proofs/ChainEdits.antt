@@ -1,4 +1,4 @@
--- Lists of hashes and the links of their places: a hash added, the last one taken out, one replaced.
+-- Lists of hashes and the links of their positions: a hash added, the last one taken out, one replaced.
 use Rattle.std.proofs.Common.{◌≡◌, ◌≢◌, ℕ, ◌+◌, ◌-◌, ◌<◌, ◌≤◌, cond, List, [], ◌∷◌, ◌++◌, length, set, take, slice_index, refl, sym, ap, subst, ◌∙◌, arith}
 use Rattle.std.specs.Prelude.{nat_eq}
 use Rattle.std.specs.List.{swap_remove}
@@ -6,7 +6,7 @@ use Rattle.std.proofs.lemmas.Bool.{eq-eqb, ne_eqb}
 use Rattle.std.proofs.lemmas.List.{length-set, length_push, length-take-le, get_or_append_left, get_or_push, get_or-take, get_or-set_same, get_or-set_other, take_more, take_all, take_at, set_at, set-append_left}
 use Rattle.bins.specs.declared.chains.Link.{Link}
 use Rattle.bins.specs.declared.chains.Link.TheVariants.{Head, Next}
-use Rattle.bins.specs.Chains.{Links, LeadsTo, follow, heads_relinked, nexts_relinked, bin_of, bins_of}
+use Rattle.bins.specs.Chains.{Links, IsLinkTo, follow, heads_relinked, nexts_relinked, bin_of, bins_of}
 use Rattle.bins.proofs.ChainLemmas.{last_at, last_here, last_more, last_fewer, last_alike, links_more, links_fewer, links_hidden, links_alike}
 use Rattle.bins.proofs.ChainMoves.{links_relinked, last_upto}
 
@@ -17,7 +17,7 @@ links_at s m n k l hs heads others nexts bins size same is =
     (subst (λ (x : ℕ). Links (bins_of s m hs) x others nexts) size
     (subst (λ (xs : List ℕ). Links (bins_of s m hs) k xs nexts) same is))
 
--- a hash is added behind the others, and its place becomes the head of its bin
+-- a hash is added behind the others, and its position becomes the head of its bin
 pub links_added : (s h b : ℕ) (heads hs nexts hashes news others : List ℕ) → Links (bins_of s (length heads) hs) (length hs) heads nexts → length nexts ≡ length hs
     → b ≡ bin_of s (length heads) h → b < length heads → hashes ≡ hs ++ h ∷ [] → news ≡ nexts ++ slice_index heads b ∷ [] → others ≡ set heads b (length news)
     → Links (bins_of s (length others) hashes) (length hashes) others news
@@ -34,7 +34,7 @@ links_added s h b heads hs nexts hashes news others is long e lt pushed next_pus
     (λ j high. ap (λ (xs : List ℕ). slice_index xs j) next_pushed ∙ get_or_append_left nexts (slice_index heads b ∷ []) 0 j (omega (arith, high, long)))
     (ap (λ (xs : List ℕ). slice_index xs (length hs)) next_pushed ∙ get_or_push nexts (slice_index heads b) 0 (length hs) long))
 
--- the last hash is taken out, and the place before it in its bin becomes the head
+-- the last hash is taken out, and the position before it in its bin becomes the head
 pub links_taken : (s b n : ℕ) (heads hs nexts hashes news others : List ℕ) → Links (bins_of s (length heads) hs) (length hs) heads nexts → length nexts ≡ length hs
     → n + 1 ≡ length hs → b ≡ bin_of s (length heads) (slice_index hs n) → b < length heads → hashes ≡ take n hs → news ≡ take n nexts → others ≡ set heads b (slice_index nexts n)
     → Links (bins_of s (length others) hashes) (length hashes) others news
@@ -72,7 +72,7 @@ swapped_last hs rest i h split lt ge =
     ∙ ap (take (length rest)) (set_at rest h [] h i here)
     ∙ take_at rest (h ∷ []) (length rest) refl)
 
--- place i is in no bin, and the others are where they were
+-- position i is in no bin, and the others are where they were
 module _ (bin : ℕ → ℕ) (i m : ℕ) where
   abbrev pub hidden : ℕ → ℕ
   hidden j = cond (nat_eq j i) m (bin j)
@@ -91,8 +91,8 @@ pub length-nexts_relinked : (link : Link) (at : ℕ) (nexts : List ℕ) → leng
 length-nexts_relinked (Head b) at nexts = refl
 length-nexts_relinked (Next p) at nexts = length-set nexts p at
 
--- a place is taken out of its chain: the link that leads to it leads past it
-pub links_unlinked : (bin : ℕ → ℕ) (heads nexts : List ℕ) (n i : ℕ) (link : Link) → Links bin n heads nexts → i < n → bin i < length heads → LeadsTo bin n (bin i) i link
+-- a position is taken out of its chain: the link that leads to it leads past it
+pub links_unlinked : (bin : ℕ → ℕ) (heads nexts : List ℕ) (n i : ℕ) (link : Link) → Links bin n heads nexts → i < n → bin i < length heads → IsLinkTo bin n (bin i) i link
     → Links (hidden bin i (length heads)) n (heads_relinked link (slice_index nexts i) heads) (nexts_relinked link (slice_index nexts i) nexts)
 links_unlinked bin heads nexts n i link is within in_bins to =
     let none = hidden_here bin i (length heads) in
@@ -105,9 +105,9 @@ links_unlinked bin heads nexts n i link is within in_bins to =
     (λ j high e. same j (λ eq. omega (arith, eq, high)) ∙ e) (λ j high e. sym (same j (λ eq. omega (arith, eq, high))) ∙ e) (is.at_nexts i within in_bins)))
     (λ in_range. absurd (omega (arith, none, in_range))) link to
 
--- a place that is in no chain is linked in: it leads on to where the link led, and the link leads to it
+-- a position that is in no chain is linked in: it leads on to where the link led, and the link leads to it
 pub links_linked : (bin new : ℕ → ℕ) (heads nexts : List ℕ) (n i : ℕ) (link : Link) → Links bin n heads nexts → i < n → length heads ≤ bin i → new i < length heads
-    → ((j : ℕ) → j ≢ i → new j ≡ bin j) → LeadsTo bin n (new i) i link
+    → ((j : ℕ) → j ≢ i → new j ≡ bin j) → IsLinkTo bin n (new i) i link
     → Links new n (heads_relinked link (i + 1) heads) (nexts_relinked link (i + 1) (set nexts i (follow heads nexts link)))
 links_linked bin new heads nexts n i link is within none in_bins same to =
     let upto = last_upto bin heads nexts n (new i) i is in_bins link within to in
@@ -123,27 +123,27 @@ links_linked bin new heads nexts n i link is within none in_bins same to =
     (last_alike bin new i (new i) (follow heads nexts link) (λ j high e. same j (λ eq. omega (arith, eq, high)) ∙ e) (λ j high e. sym (same j (λ eq. omega (arith, eq, high))) ∙ e) before))
     link to
 
--- the bins of the places but i
+-- the bins of the positions but i
 abbrev pub rest_bins : ℕ → ℕ → List ℕ → List ℕ → ℕ → ℕ
 rest_bins s i heads hs = hidden (bins_of s (length heads) hs) i (length heads)
 
--- a place taken out of the chain of its hash
+-- a position taken out of the chain of its hash
 pub links_out : (s i : ℕ) (heads hs nexts others news : List ℕ) (link : Link) (b at : ℕ) → Links (bins_of s (length heads) hs) (length hs) heads nexts → length nexts ≡ length hs → i < length hs → b < length heads
-    → b ≡ bin_of s (length heads) (slice_index hs i) → at ≡ slice_index nexts i → LeadsTo (bins_of s (length heads) hs) (length nexts) b i link
+    → b ≡ bin_of s (length heads) (slice_index hs i) → at ≡ slice_index nexts i → IsLinkTo (bins_of s (length heads) hs) (length nexts) b i link
     → others ≡ heads_relinked link at heads → news ≡ nexts_relinked link at nexts → Links (rest_bins s i heads hs) (length news) others news
 links_out s i heads hs nexts others news link b at is long within in_bins e read to heads_are nexts_are =
-    let to_bin : LeadsTo (bins_of s (length heads) hs) (length hs) (bins_of s (length heads) hs i) i link =
-    subst (λ (k : ℕ). LeadsTo (bins_of s (length heads) hs) (length hs) k i link) e (subst (λ (k : ℕ). LeadsTo (bins_of s (length heads) hs) k b i link) long to) in
+    let to_bin : IsLinkTo (bins_of s (length heads) hs) (length hs) (bins_of s (length heads) hs i) i link =
+    subst (λ (k : ℕ). IsLinkTo (bins_of s (length heads) hs) (length hs) k i link) e (subst (λ (k : ℕ). IsLinkTo (bins_of s (length heads) hs) k b i link) long to) in
     let out = links_unlinked (bins_of s (length heads) hs) heads nexts (length hs) i link is within (subst (λ (k : ℕ). k < length heads) e in_bins) to_bin in
     let size : length hs ≡ length news = sym (ap length nexts_are ∙ length-nexts_relinked link at nexts ∙ long) in
     subst (λ (k : ℕ). Links (rest_bins s i heads hs) k others news) size
     (subst (λ (xs : List ℕ). Links (rest_bins s i heads hs) (length hs) xs news) (ap (λ (x : ℕ). heads_relinked link x heads) (sym read) ∙ sym heads_are)
     (subst (λ (xs : List ℕ). Links (rest_bins s i heads hs) (length hs) (heads_relinked link (slice_index nexts i) heads) xs) (ap (λ (x : ℕ). nexts_relinked link x nexts) (sym read) ∙ sym nexts_are) out))
 
--- a place linked into the chain of its new hash
+-- a position linked into the chain of its new hash
 pub links_in : (s i h b at : ℕ) (heads hs others news hashes heads_after nexts_after : List ℕ) (link : Link)
     → Links (rest_bins s i heads hs) (length news) others news → length others ≡ length heads → length news ≡ length hs → i < length hs → b < length heads
-    → b ≡ bin_of s (length heads) h → at ≡ follow others news link → LeadsTo (rest_bins s i heads hs) (length news) b i link
+    → b ≡ bin_of s (length heads) h → at ≡ follow others news link → IsLinkTo (rest_bins s i heads hs) (length news) b i link
     → hashes ≡ set hs i h → heads_after ≡ heads_relinked link (i + 1) others → nexts_after ≡ nexts_relinked link (i + 1) (set news i at)
     → Links (bins_of s (length heads_after) hashes) (length hashes) heads_after nexts_after
 links_in s i h b at heads hs others news hashes heads_after nexts_after link is bins long within in_bins e leads to hashes_are heads_are nexts_are =
@@ -152,7 +152,7 @@ links_in s i h b at heads hs others news hashes heads_after nexts_after link is 
     ap (bin_of s (length heads)) (ap (λ (xs : List ℕ). slice_index xs j) hashes_are ∙ get_or-set_other hs i j h 0 other) ∙ sym (hidden_other (bins_of s (length heads) hs) i (length heads) j other) in
     let none = hidden_here (bins_of s (length heads) hs) i (length heads) in
     let linked = links_linked (rest_bins s i heads hs) (bins_of s (length heads) hashes) others news (length news) i link is (omega (arith, long, within)) (omega (arith, none, bins)) (omega (arith, new_here, in_bins, bins)) new_other
-    (subst (λ (k : ℕ). LeadsTo (rest_bins s i heads hs) (length news) k i link) (sym new_here) to) in
+    (subst (λ (k : ℕ). IsLinkTo (rest_bins s i heads hs) (length news) k i link) (sym new_here) to) in
     let size : length news ≡ length hashes = long ∙ sym (ap length hashes_are ∙ length-set hs i h) in
     let count : length heads ≡ length heads_after = sym (ap length heads_are ∙ length-heads_relinked link (i + 1) others ∙ bins) in
     links_at s (length heads) (length heads_after) (length news) (length hashes) hashes (heads_relinked link (i + 1) others) heads_after nexts_after count size (sym heads_are)

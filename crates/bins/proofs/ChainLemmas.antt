@@ -1,4 +1,4 @@
--- Chains of places: a further place, the last one taken out, and a link that is made to lead elsewhere.
+-- Chains of positions: a further position, the last one taken out, and a link that is made to lead elsewhere.
 use Rattle.std.proofs.Common.{◌≡◌, ◌≢◌, ℕ, ◌+◌, ◌-◌, ◌<◌, ◌≤◌, List, length, set, slice_index, sym, ap, subst, ◌∙◌, arith, inl, inr}
 use Rattle.std.proofs.lemmas.Bool.{cases_eq, cases_lt}
 use Rattle.std.proofs.lemmas.List.{length-set, get_or-set_same, get_or-set_other}
@@ -12,7 +12,7 @@ pub last_at : (bin : ℕ → ℕ) (n b p q : ℕ) → p ≡ q → IsLast bin n b
 last_at bin n b p q e is = subst (IsLast bin n b) e is
 
 module _ (bin : ℕ → ℕ) where
-  -- place n itself is the last
+  -- position n itself is the last
   pub last_here : (n b : ℕ) → bin n ≡ b → IsLast bin (n + 1) b (n + 1)
   last_here n b e = record {
     range = omega arith;
@@ -20,7 +20,7 @@ module _ (bin : ℕ → ℕ) where
     there = λ _. let same : n ≡ n + 1 - 1 = omega arith in subst (λ (k : ℕ). bin k ≡ b) same e;
   }
 
-  -- places of other bins change nothing
+  -- positions of other bins change nothing
   pub last_more : (n m b p : ℕ) → n ≤ m → ((j : ℕ) → n ≤ j → j < m → bin j ≢ b) → IsLast bin n b p → IsLast bin m b p
   last_more n m b p le none is = record {
     range = omega (arith, is.range);
@@ -38,11 +38,11 @@ module _ (bin : ℕ → ℕ) where
     there = is.there;
   }
 
-  -- a place in the bin stands before the last one
+  -- a position in the bin stands before the last one
   pub last_behind : (n b p j : ℕ) → IsLast bin n b p → j < n → bin j ≡ b → j < p
   last_behind n b p j is high e = elim (cases_lt j p) [ inl lt ↦ lt | inr ge ↦ absurd (is.later j ge high e) ]
 
-  -- a further place is chained
+  -- a further position is chained
   pub links_more : (n b : ℕ) (heads nexts news : List ℕ) → Links bin n heads nexts → b ≡ bin n → b < length heads → n + 1 ≤ length news
       → ((j : ℕ) → j < n → slice_index news j ≡ slice_index nexts j) → slice_index news n ≡ slice_index heads b → Links bin (n + 1) (set heads b (n + 1)) news
   links_more n b heads nexts news is e lt long same here = record {
@@ -64,7 +64,7 @@ module _ (bin : ℕ → ℕ) where
     ];
   }
 
-  -- the last place is taken out
+  -- the last position is taken out
   pub links_fewer : (n b : ℕ) (heads nexts news : List ℕ) → Links bin (n + 1) heads nexts → b ≡ bin n → b < length heads → n ≤ length news
       → ((j : ℕ) → j < n → slice_index news j ≡ slice_index nexts j) → Links bin n (set heads b (slice_index nexts n)) news
   links_fewer n b heads nexts news is e lt long same = record {
@@ -81,7 +81,7 @@ module _ (bin : ℕ → ℕ) where
         (is.at_nexts i (omega (arith, high)) (subst (λ (k : ℕ). bin i < k) (length-set heads b (slice_index nexts n)) in_range));
   }
 
-  -- a place that is in no bin may have any next
+  -- a position that is in no bin may have any next
   pub links_hidden : (n i v : ℕ) (heads nexts : List ℕ) → Links bin n heads nexts → length heads ≤ bin i → v ≤ i → Links bin n heads (set nexts i v)
   links_hidden n i v heads nexts is hidden le = record {
     long = omega (arith, is.long, length-set nexts i v);
@@ -96,7 +96,7 @@ module _ (bin : ℕ → ℕ) where
     at_nexts = λ k high in_range. last_at bin k (bin k) _ _ (sym (get_or-set_other nexts i k v 0 (λ eq. let same = ap bin eq in absurd (omega (arith, same, hidden, in_range))))) (is.at_nexts k high in_range);
   }
 
--- two ways to spread places over bins that agree about a bin
+-- two ways to spread positions over bins that agree about a bin
 pub last_alike : (bin new : ℕ → ℕ) (n b p : ℕ) → ((j : ℕ) → j < n → bin j ≡ b → new j ≡ b) → ((j : ℕ) → j < n → new j ≡ b → bin j ≡ b) → IsLast bin n b p → IsLast new n b p
 last_alike bin new n b p to from is = record {
   range = is.range;
@@ -115,11 +115,11 @@ links_alike bin new n heads nexts same is = record {
       (is.at_nexts i high (subst (λ (k : ℕ). k < length heads) (same i high) in_range)));
 }
 
--- what a search along a chain has passed: no place from `at` on has the hash, and the one that `at` leads to is in its bin
+-- what a search along a chain has passed: no position from `at` on has the hash, and the one that `at` leads to is in its bin
 abbrev pub Passed : (ℕ → ℕ) → List ℕ → ℕ → ℕ → ℕ → ℕ → Type 0
 Passed bin hs hash b n at = (at ≤ n) × ((j : ℕ) → at ≤ j → j < n → slice_index hs j ≢ hash) × (0 < at → bin (at - 1) ≡ b)
 
--- past a place that has another hash
+-- past a position that has another hash
 pub passed_on : (bin : ℕ → ℕ) (hs : List ℕ) (hash b n at p : ℕ) → ((j : ℕ) → slice_index hs j ≡ hash → bin j ≡ b) → 0 < at → slice_index hs (at - 1) ≢ hash
     → IsLast bin (at - 1) (bin (at - 1)) p → Passed bin hs hash b n at → Passed bin hs hash b n p
 passed_on bin hs hash b n at p binned pos differs last is = (
@@ -134,7 +134,7 @@ passed_on bin hs hash b n at p binned pos differs last is = (
   λ more. last.there more ∙ is.2 pos,
 )
 
--- where there is no place, no head leads anywhere
+-- where there is no position, no head leads anywhere
 pub links_none : (bin : ℕ → ℕ) (n : ℕ) (heads nexts : List ℕ) → n ≡ 0 → ((b : ℕ) → slice_index heads b ≡ 0) → Links bin n heads nexts
 links_none bin n heads nexts none zeros = record {
   long = omega (arith, none);

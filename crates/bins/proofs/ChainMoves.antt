@@ -1,19 +1,19 @@
--- A place that changes its bin: one link is made to lead elsewhere.
+-- A position that changes its bin: one link is made to lead elsewhere.
 use Rattle.std.proofs.Common.{◌≡◌, ◌≢◌, ℕ, ◌+◌, ◌-◌, ◌<◌, ◌≤◌, List, length, set, slice_index, sym, ap, subst, ◌∙◌, arith, inl, inr}
 use Rattle.std.proofs.lemmas.Bool.{cases_eq, cases_lt}
 use Rattle.std.proofs.lemmas.List.{length-set, get_or-set_same, get_or-set_other}
 use Rattle.bins.specs.declared.chains.Link.{Link}
 use Rattle.bins.specs.declared.chains.Link.TheVariants.{Head, Next}
-use Rattle.bins.specs.Chains.{IsLast, Links, LeadsTo, follow, heads_relinked, nexts_relinked}
+use Rattle.bins.specs.Chains.{IsLast, Links, IsLinkTo, follow, heads_relinked, nexts_relinked}
 use Rattle.bins.proofs.ChainLemmas.{last_in, last_at, last_more, last_fewer, last_behind, last_alike}
 
--- place i goes from one way to spread places over bins to another, for which bin b alone matters
+-- position i goes from one way to spread positions over bins to another, for which bin b alone matters
 module _ (bin new : ℕ → ℕ) (heads nexts : List ℕ) (n i b v : ℕ) (is : Links bin n heads nexts) (within : i < n) (in_bins : b < length heads)
     (same : (j : ℕ) → j ≢ i → new j ≡ bin j)
     (others : (c : ℕ) → c < length heads → c ≢ b → (bin i ≢ c) × (new i ≢ c))
     (last : IsLast new (i + 1) b v)
     (here : new i < length heads → IsLast new i (new i) (slice_index nexts i)) where
-  -- the last place stands behind i
+  -- the last position stands behind i
   behind : (m p : ℕ) → i + 1 < p → IsLast bin m b p → IsLast new m b p
   behind m p lt was = record {
     range = was.range;
@@ -21,7 +21,7 @@ module _ (bin new : ℕ → ℕ) (heads nexts : List ℕ) (n i b v : ℕ) (is : 
     there = λ pos. same (p - 1) (λ eq. omega (arith, eq, lt)) ∙ was.there pos;
   }
 
-  -- no place stands between i and m
+  -- no position stands between i and m
   upto : (m : ℕ) → i < m → ((j : ℕ) → i < j → j < m → bin j ≢ b) → IsLast new m b v
   upto m lt none = last_more new (i + 1) m b v (omega (arith, lt)) (λ j low high e. none j (omega (arith, low)) high (sym (same j (λ eq. omega (arith, eq, low))) ∙ e)) last
 
@@ -31,7 +31,7 @@ module _ (bin new : ℕ → ℕ) (heads nexts : List ℕ) (n i b v : ℕ) (is : 
       (λ j high e. same j (λ eq. (others c in_range other).0 (sym (ap bin eq) ∙ e)) ∙ e)
       (λ j high e. sym (same j (λ eq. (others c in_range other).1 (sym (ap new eq) ∙ e))) ∙ e) was
 
-  -- places before i
+  -- positions before i
   earlier : (m c p : ℕ) → m ≤ i → IsLast bin m c p → IsLast new m c p
   earlier m c p le was = last_alike bin new m c p
       (λ j high e. same j (λ eq. omega (arith, eq, high, le)) ∙ e) (λ j high e. sym (same j (λ eq. omega (arith, eq, high, le))) ∙ e) was
@@ -63,7 +63,7 @@ module _ (bin new : ℕ → ℕ) (heads nexts : List ℕ) (n i b v : ℕ) (is : 
           ];
     }
 
-  -- the next of place p leads to i
+  -- the next of position p leads to i
   module _ (p : ℕ) (low : i < p) (high : p < n) (in_b : bin p ≡ b) (none : (j : ℕ) → i < j → j < p → bin j ≢ b) where
     in_nexts : p < length nexts
     in_nexts = omega (arith, high, is.long)
@@ -103,11 +103,11 @@ module _ (bin new : ℕ → ℕ) (heads nexts : List ℕ) (n i b v : ℕ) (is : 
         ]
 
   -- by whichever link leads to i
-  pub links_relinked : (link : Link) → LeadsTo bin n b i link → Links new n (heads_relinked link v heads) (nexts_relinked link v nexts)
+  pub links_relinked : (link : Link) → IsLinkTo bin n b i link → Links new n (heads_relinked link v heads) (nexts_relinked link v nexts)
   links_relinked (Head c) to = subst (λ (k : ℕ). Links new n (set heads k v) nexts) (sym to.0) (by_head to.1)
   links_relinked (Next p) to = by_next p to.0 to.1 to.2 to.3
 
--- a link of bin b that stands behind place i, or the bin's head
+-- a link of bin b that stands behind position i, or the bin's head
 abbrev pub Reaches : (ℕ → ℕ) → ℕ → ℕ → ℕ → Link → Type 0
 Reaches bin n b i (Head c) = c ≡ b
 Reaches bin n b i (Next p) = (i < p) × (p < n) × (bin p ≡ b)
@@ -118,7 +118,7 @@ module _ (bin : ℕ → ℕ) (heads nexts : List ℕ) (n b i : ℕ) (is : Links 
   above (Head c) = n
   above (Next p) = p
 
-  -- what a link leads to is the last place below it in the bin
+  -- what a link leads to is the last position below it in the bin
   pub last_of_link : (link : Link) → Reaches bin n b i link → IsLast bin (above link) b (follow heads nexts link)
   last_of_link (Head c) e = subst (λ (k : ℕ). IsLast bin n b (slice_index heads k)) (sym e) (is.at_heads b in_bins)
   last_of_link (Next p) to = last_in bin p (bin p) b _ to.2 (is.at_nexts p to.1 (subst (λ (k : ℕ). k < length heads) (sym to.2) in_bins))
@@ -137,12 +137,12 @@ module _ (bin : ℕ → ℕ) (heads nexts : List ℕ) (n b i : ℕ) (is : Links 
       let within = above_within link to in
       (omega (arith, lt), omega (arith, lt, last.range, within), last.there (omega (arith, lt)))
 
-  -- where it is not, no place of the bin stands between
-  pub reach_end : (link : Link) (at : ℕ) → at ≡ follow heads nexts link → Reaches bin n b i link → at ≤ i + 1 → LeadsTo bin n b i link
+  -- where it is not, no position of the bin stands between
+  pub reach_end : (link : Link) (at : ℕ) → at ≡ follow heads nexts link → Reaches bin n b i link → at ≤ i + 1 → IsLinkTo bin n b i link
   reach_end (Head c) at e to le = let last = last_at_link (Head c) at e to in (to, λ j low high. last.later j (omega (arith, low, le)) high)
   reach_end (Next p) at e to le = let last = last_at_link (Next p) at e to in (to.0, to.1, to.2, λ j low high. last.later j (omega (arith, low, le)) high)
 
-  -- a link that leads to i gives the last place of the bin up to i
-  pub last_upto : (link : Link) → i < n → LeadsTo bin n b i link → IsLast bin (i + 1) b (follow heads nexts link)
+  -- a link that leads to i gives the last position of the bin up to i
+  pub last_upto : (link : Link) → i < n → IsLinkTo bin n b i link → IsLast bin (i + 1) b (follow heads nexts link)
   last_upto (Head c) within to = last_fewer bin (i + 1) n b _ (omega (arith, within)) (λ j low high. to.1 j (omega (arith, low)) high) (last_of_link (Head c) to.0)
   last_upto (Next p) within to = last_fewer bin (i + 1) p b _ (omega (arith, to.0)) (λ j low high. to.3 j (omega (arith, low)) high) (last_of_link (Next p) (to.0, to.1, to.2))

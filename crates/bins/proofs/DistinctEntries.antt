@@ -1,5 +1,5 @@
 -- Entries in no order, no key twice: what a search finds among them, and what a write, a push and a removal leave.
-use Rattle.std.proofs.Common.{◌≡◌, ◌≢◌, ℕ, zero, suc, ◌+◌, ◌-◌, ◌<◌, Bool, true, false, T, cond, List, [], ◌∷◌, ◌++◌, length, get_or, set, take, Some, None, Option, Ordering, Less, Equal, Greater, is_eq, refl, sym, ap, subst, ◌∙◌, arith, HoldsAt, ◌⊎◌, inl, inr}
+use Rattle.std.proofs.Common.{◌≡◌, ◌≢◌, ℕ, zero, suc, ◌+◌, ◌-◌, ◌<◌, Bool, true, false, cond, List, [], ◌∷◌, ◌++◌, length, get_or, set, take, Some, None, Option, is_eq, refl, sym, ap, subst, ◌∙◌, arith, HoldsAt, ◌⊎◌, inl, inr}
 use Rattle.std.specs.List.{AllWithin, swap_remove}
 use Rattle.std.specs.Ordering.{eq_by_cmp}
 use Rattle.std.specs.Cmp.{tied_itself, eq_by_cmp_equiv}
@@ -11,6 +11,7 @@ use Rattle.std.proofs.lemmas.List.{take_more, take_all, take-set-le, take-map, m
 use Rattle.bins.specs.Hashes.{hash}
 use Rattle.bins.specs.Table.{Entry, Table, by_bytes}
 use Rattle.bins.specs.Entries.{Distinct, hashes_of}
+use Rattle.bins.proofs.SortedEntries.{is_equal}
 use Rattle.bins.proofs.MapEdits.{total, antisymmetric}
 
 -- whether two keys are one
@@ -22,11 +23,6 @@ same_itself k = ap is_eq (tied_itself total k)
 
 pub turned : (x y : List ℕ) → same_key x y ≡ same_key y x
 turned x y = (eq_by_cmp_equiv total).symm x y
-
-is_equal : (r : Ordering) → is_eq r ≡ true → r ≡ Equal
-is_equal Less e = absurd (subst T (sym e) tt)
-is_equal Equal e = refl
-is_equal Greater e = absurd (subst T (sym e) tt)
 
 pub alike : (x y : List ℕ) → same_key x y ≡ true → x ≡ y
 alike x y e = antisymmetric x y (is_equal (by_bytes x y) e)
@@ -54,7 +50,7 @@ pub none_by : {X : Type 0} (b : Bool) (x : X) (o : Option X) → b ≡ false →
 none_by true x o t e = absurd cc
 none_by false x o t e = e
 
--- two tests of which one at most holds may change places
+-- two tests of which one at most holds may change positions
 swapped : {X : Type 0} (a b : Bool) (x y z : X) → (a ≡ true → b ≡ true → ⊥) → cond a x (cond b y z) ≡ cond b y (cond a x z)
 swapped true true x y z never = absurd (never refl refl)
 swapped true false x y z never = refl
@@ -64,7 +60,7 @@ swapped false b x y z never = refl
 not_two : (q x y : List ℕ) → same_key x y ≡ false → same_key q x ≡ true → same_key q y ≡ true → ⊥
 not_two q x y other e f = not_both _ (ap (λ (k : List ℕ). same_key k y) (sym (alike q x e)) ∙ f) other
 
--- the entry at a place has the key
+-- the entry at a position has the key
 abbrev pub HasKey : List ℕ → List Entry → ℕ → Type 0
 HasKey k es i = HoldsAt (λ e. e.0 ≡ k) es i
 
@@ -206,7 +202,7 @@ take_over (suc n) [] i x lt = refl
 take_over (suc n) (y ∷ ys) zero x lt = refl
 take_over (suc n) (y ∷ ys) (suc i) x lt = ap (λ (zs : List _). y ∷ zs) (take_over n ys i x (omega (arith, lt)))
 
--- the front that is left: the last entry goes to the place, or is the one taken out
+-- the front that is left: the last entry goes to the position, or is the one taken out
 module _ (front : List Entry) (x : Entry) (k : List ℕ) (h : Distinct (front ++ x ∷ [])) where
   found_in : (q : List ℕ) → find by_bytes q (front ++ x ∷ []) ≡ cond (same_key q x.0) (Some x.1) (find by_bytes q front)
   found_in q = find-append by_bytes total front x.0 x.1 q (Distinct-front front x h).1
@@ -246,7 +242,7 @@ module _ (es : List Entry) (i : ℕ) (d : Entry) (k : List ℕ) (h : Distinct es
   abbrev left : List Entry
   left = swap_remove es i d
 
-  -- the place is the last, or before it
+  -- the position is the last, or before it
   abbrev Case : Type 0
   Case = ((last.0 ≡ k) × (left ≡ front)) ⊎ ((i < length front) × HasKey k front i × (left ≡ set front i last))
 
@@ -272,7 +268,7 @@ module _ (es : List Entry) (i : ℕ) (d : Entry) (k : List ℕ) (h : Distinct es
       get-from_entries total _ q ∙ left_find which q ∙ ap (λ (xs : List Entry). cond (same_key q k) None (find by_bytes q xs)) (sym split)
       ∙ ap (cond (same_key q k) None) (sym (get-from_entries total es q)) ∙ sym (get-remove total (table_of es) k q))
 
--- the hashes lose the one of the entry that goes, where that is at the same place
+-- the hashes lose the one of the entry that goes, where that is at the same position
 pub removed_hashes : (es : List Entry) (i j n : ℕ) (d : Entry) (hs new : List ℕ) → new ≡ swap_remove hs j n → hs ≡ hashes_of es → j ≡ i → i < length es → new ≡ hashes_of (swap_remove es i d)
 removed_hashes es i j n d hs new removed are same lt =
     let size : length (hashes_of es) ≡ length es = length-map es (λ (e : Entry). hash e.0) in
@@ -282,7 +278,7 @@ removed_hashes es i j n d hs new removed are same lt =
     ∙ ap (take (length es - 1)) (ap (set (hashes_of es) i) last ∙ sym (map-set (λ (e : Entry). hash e.0) es i (get_or es (length es - 1) d)))
     ∙ take-map (λ (e : Entry). hash e.0) (length es - 1) (set es i (get_or es (length es - 1) d))
 
--- what holds at a place holds at the same place
+-- what holds at a position holds at the same position
 pub below_same : (i j n : ℕ) → i ≡ j → i < n → j < n
 below_same i j n same lt = omega (arith, same, lt)
 

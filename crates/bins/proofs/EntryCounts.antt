@@ -1,5 +1,5 @@
 -- Counts of entries without a key twice, and of the table that they make.
-use Rattle.std.proofs.Common.{◌≡◌, ℕ, suc, ◌+◌, Bool, true, T, cond, List, [], ◌∷◌, length, Option, Some, None, Ordering, Less, Equal, Greater, is_eq, is_lt, refl, sym, ap, ◌∙◌, arith}
+use Rattle.std.proofs.Common.{◌≡◌, ℕ, suc, ◌+◌, Bool, true, T, cond, List, [], ◌∷◌, length, Option, Some, None, Ordering, Less, Equal, Greater, is_eq, refl, sym, ap, ◌∙◌, arith}
 use Rattle.std.specs.Prelude.{count_by}
 use Rattle.std.specs.FinMap as map
 use Rattle.std.specs.FinMap.{find, put, is_sorted, from_sorted, from_entries, same_map, entries-insert, get-entries, get-from_entries, get-from_sorted, len-entries, len-empty}
@@ -7,13 +7,8 @@ use Rattle.std.specs.FinMap.Entries.{below_all}
 use Rattle.std.proofs.lemmas.List.Sums.{sum_by-cons}
 use Rattle.bins.specs.Table.{Entry, by_bytes}
 use Rattle.bins.specs.Entries.{Distinct}
-use Rattle.bins.proofs.SortedEntries.{both_hold}
+use Rattle.bins.proofs.SortedEntries.{both_hold, is_less}
 use Rattle.bins.proofs.MapEdits.{total, antisymmetric}
-
-is_less : (r : Ordering) → T (is_lt r) → r ≡ Less
-is_less Less h = refl
-is_less Equal h = absurd h
-is_less Greater h = absurd h
 
 -- a key below all entries is not among them
 find_below : (q : List ℕ) (es : List Entry) → T (below_all by_bytes q es) → find by_bytes q es ≡ None
@@ -62,7 +57,8 @@ counted_in_table test (e ∷ es) h =
     ap (count_by test) (entries-insert total (from_entries es) e.0 e.1) ∙ count_by-put test e.0 e.1 (map.entries (from_entries es)) none
     ∙ sum_by-cons _ e (map.entries (from_entries es)) ∙ ap (λ (n : ℕ). cond (test e) 1 0 + n) (counted_in_table test es h.1) ∙ sym (sum_by-cons _ e es)
 
-count_all : (es : List Entry) → count_by (λ (e : Entry). true) es ≡ length es
+-- all entries count
+pub count_all : (es : List Entry) → count_by (λ (e : Entry). true) es ≡ length es
 count_all [] = refl
 count_all (e ∷ es) = sum_by-cons _ e es ∙ one_more (count_all es)
   where

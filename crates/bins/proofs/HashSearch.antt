@@ -26,7 +26,7 @@ module _ (hs : List ℕ) (es : List Entry) (are : hs ≡ hashes_of es) where
   hash_at j d lt = ap (λ (xs : List ℕ). slice_index xs j) are ∙ get_or-map (λ (e : Entry). hash e.0) es j d 0 lt
 
   module _ (key : List ℕ) (h : ℕ) (is : h ≡ hash key) where
-    -- no entry from a place on has the key
+    -- no entry from a position on has the key
     abbrev pub LacksFrom : ℕ → Type 0
     LacksFrom n = AllWithin (λ e. e.0 ≢ key) es n (length es)
 
@@ -34,12 +34,12 @@ module _ (hs : List ℕ) (es : List Entry) (are : hs ≡ hashes_of es) where
     by_hash : (j : ℕ) (d : Entry) → j < length es → slice_index hs j ≢ h → (get_or es j d).0 ≢ key
     by_hash j d lt other same = other (hash_at j d lt ∙ ap hash same ∙ sym is)
 
-    -- past the last place of the hash, whose entry has another key
-    pub past : (end place : ℕ) → LacksFrom end → IsLastOf hs end h (Some place) → ((d : Entry) → (get_or es place d).0 ≢ key) → LacksFrom place
-    past end place behind last other j d low high = elim (cases_lt j end) [
-      | inl lt ↦ elim (cases_lt place j) [
+    -- past the last position of the hash, whose entry has another key
+    pub past : (end position : ℕ) → LacksFrom end → IsLastOf hs end h (Some position) → ((d : Entry) → (get_or es position d).0 ≢ key) → LacksFrom position
+    past end position behind last other j d low high = elim (cases_lt j end) [
+      | inl lt ↦ elim (cases_lt position j) [
         | inl above ↦ by_hash j d high (last.2 j above lt)
-        | inr le ↦ let here : place ≡ j = omega (arith, le, low) in subst (λ (n : ℕ). (get_or es n d).0 ≢ key) here (other d)
+        | inr le ↦ let here : position ≡ j = omega (arith, le, low) in subst (λ (n : ℕ). (get_or es n d).0 ≢ key) here (other d)
       ]
       | inr ge ↦ behind j d ge high
     ]

@@ -7,6 +7,7 @@ pub mod HashSearch
 pub mod ReplacementLemmas
 pub mod ChainLemmas
 pub mod ChainMoves
+pub mod PowersOfTwo
 pub mod ChainBins
 pub mod ChainEdits
 pub mod Examples

@@ -1,4 +1,4 @@
--- A table that is kept as sorted entries: what a read or an edit at a key's place is for the table.
+-- A table that is kept as sorted entries: what a read or an edit at a key's position is for the table.
 use Rattle.std.proofs.Common.{◌≡◌, ℕ, zero, suc, ◌<◌, ◌≤◌, Bool, true, false, T, cond, not, ◌&&◌, is_lt, List, [], ◌∷◌, length, get_or, set, Some, None, Result, Ok, Err, OnErr, Ordering, Less, Equal, Greater, is_eq, refl, sym, ap, subst, ◌∙◌}
 use Rattle.std.specs.List.{insert, remove}
 use Rattle.std.specs.Ordering.{eq_by_cmp}
@@ -8,8 +8,8 @@ use Rattle.std.specs.FinMap as map
 use Rattle.std.specs.FinMap.{IsAntisymmetric, nat_cmp-IsAntisymmetric, slice_cmp-IsAntisymmetric, find, put, is_sorted, from_sorted, same_map, same_entries_map, entries-insert, entries-from_sorted, get-remove, get-from_sorted, get_tied, empty_of_len, len-entries}
 use Rattle.std.specs.FinMap.Entries.{below_all, where_key, is_sorted-put, is_sorted-where_key, find-where_key}
 use Rattle.bins.specs.Table.{Entry, Table, by_bytes}
-use Rattle.bins.specs.Places.{IsAt, IsGapFor}
-use Rattle.bins.proofs.SortedEntries.{both_hold, find_found, put_found, without_found, find_gap, put_gap}
+use Rattle.bins.specs.Positions.{IsAt, IsGapFor}
+use Rattle.bins.proofs.SortedEntries.{both_hold, together, find_found, put_found, without_found, find_gap, put_gap}
 
 -- keys are ordered, and only equal keys tie
 pub total : IsTotalOrder by_bytes
@@ -59,10 +59,6 @@ pub sorted_write : (es : List Entry) (i : ℕ) (e : Entry) (v : List ℕ) → T 
 sorted_write es i e v h is = subst T (sym (ap (λ (x : Entry). is_sorted by_bytes (set es i (x.0, v))) is ∙ is_sorted-set es i v e)) h
 
 -- so do they where an entry is taken out
-together : (a b : Bool) → T a → T b → T (a && b)
-together true b p q = q
-together false b p q = p
-
 below_all-remove : (x : List ℕ) (es : List Entry) (i : ℕ) → T (below_all by_bytes x es) → T (below_all by_bytes x (remove es i))
 below_all-remove x [] zero h = tt
 below_all-remove x [] (suc i) h = tt
@@ -97,7 +93,7 @@ module _ (es : List Entry) (h : T (is_sorted by_bytes es)) (k : List ℕ) where
       found q = get-from_sorted by_bytes new q (sorted_without new e) ∙ ap (find by_bytes q) (sym e) ∙ find-where_key by_bytes other q (λ x t. ap (λ r. not (is_eq r)) (sym (alike_right total q x k t))) es
 
   module _ (i : ℕ) (lt : i < length es) (at : IsAt es k i) where
-    -- at the key's place: the value is read, written over, and taken out
+    -- at the key's position: the value is read, written over, and taken out
     pub get_at : (d : Entry) → map.get (table_of es) k ≡ Some (get_or es i d).1
     get_at d = get-from_sorted by_bytes es k h ∙ find_found total es i k d h lt at
 

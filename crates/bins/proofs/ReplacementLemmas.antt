@@ -8,8 +8,8 @@ use Rattle.std.specs.Cmp.{tied_itself}
 use Rattle.std.specs.FinMap.{find, is_sorted, from_sorted, from_entries, get-from_entries}
 use Rattle.std.specs.FinMap.Entries.{below_all}
 use Rattle.bpf_model.specs.declared.input.Answer.TheVariants.{Nothing, Bytes}
-use Rattle.bpf_model.specs.declared.input.Window.{Window}
-use Rattle.bpf_model.specs.declared.input.Window.TheVariants.{Key}
+use Rattle.bpf_model.specs.declared.input.InputPart.{InputPart}
+use Rattle.bpf_model.specs.declared.input.InputPart.TheVariants.{Key}
 use Rattle.bpf_model.specs.Fits.{input_of}
 use Rattle.verifier.specs.Checked.{Checked}
 use Rattle.bins.specs.declared.counts.Counts.{Counts}
@@ -17,7 +17,7 @@ use Rattle.bins.specs.Hashes.{hash}
 use Rattle.bins.specs.Table.{Entry, Table, by_bytes}
 use Rattle.bins.specs.Entries.{Distinct, hashes_of}
 use Rattle.bins.specs.Replacements.{Outcome, ComesTo, value_after, is_given, is_unfit, ReplacesEach}
-use Rattle.bins.specs.Passes.{told_of, AreOutcomes, entries_after, ReplacesList}
+use Rattle.bins.specs.Passes.{entered_of, AreOutcomes, entries_after, ReplacesList}
 use Rattle.bins.proofs.MapEdits.{total}
 use Rattle.bins.proofs.DistinctEntries.{same_key, turned, alike, none_after}
 use Rattle.bins.proofs.EntryCounts.{Distinct-sorted, from_entries-sorted, counted_in_table, len-table}
@@ -47,7 +47,7 @@ AreOutcomes-push checked arg [] os o d lt are is = absurd (omega (arith, lt))
 AreOutcomes-push checked arg (e ∷ es) [] o d lt are is = (is, tt)
 AreOutcomes-push checked arg (e ∷ es) (x ∷ os) o d lt are is = (are.0, AreOutcomes-push checked arg es os o d (omega (arith, lt)) are.1 is)
 
--- the entry at place i is replaced, after the ones before it
+-- the entry at position i is replaced, after the ones before it
 module _ (checked : Checked) (arg : Option (List ℕ)) (es here : List Entry) (os : List Outcome) (is : here ≡ entries_after es os) (i : ℕ) (at : length os ≡ i) (lt : i < length here) (d : Entry) where
   not_yet : length os < length es
   not_yet = omega (arith, ap length is, length-entries_after es os, lt)
@@ -67,15 +67,15 @@ module _ (checked : Checked) (arg : Option (List ℕ)) (es here : List Entry) (o
       ∙ sym (entries_after-push es os o d not_yet)
 
 -- what is told of an outcome tells how it counts
-pub told_answer : (o : Outcome) (b : Bool) → Ok b ≡ told_of o → (is_given o ≡ b) × (is_unfit o ≡ false)
+pub told_answer : (o : Outcome) (b : Bool) → Ok b ≡ entered_of o → (is_given o ≡ b) × (is_unfit o ≡ false)
 told_answer (Ok (Bytes new)) b told = ((cc), refl)
 told_answer (Ok Nothing) b told = ((cc), refl)
-told_answer (Err window) b told = cc
+told_answer (Err part) b told = cc
 
-pub told_window : (o : Outcome) (window : Window) → Err window ≡ told_of o → (is_given o ≡ false) × (is_unfit o ≡ true)
-told_window (Ok (Bytes new)) window told = cc
-told_window (Ok Nothing) window told = cc
-told_window (Err w) window told = (refl, refl)
+pub told_part : (o : Outcome) (part : InputPart) → Err part ≡ entered_of o → (is_given o ≡ false) × (is_unfit o ≡ true)
+told_part (Ok (Bytes new)) part told = cc
+told_part (Ok Nothing) part told = cc
+told_part (Err w) part told = (refl, refl)
 
 -- one more counts where it passes
 pub count_one_more : (p : Outcome → Bool) (os : List Outcome) (o : Outcome) (b : Bool) → p o ≡ b → count_by p (os ++ o ∷ []) ≡ count_by p os + cond b 1 0

@@ -9,6 +9,7 @@ use Rattle.std.specs.FinMap.{find, is_sorted, get-from_entries, get-from_sorted,
 use Rattle.std.specs.FinMap.Entries.{below_all}
 use Rattle.std.proofs.lemmas.List.Sorted.{sorted_far, ranks_by}
 use Rattle.bins.specs.Table.{Entry, by_bytes}
+use Rattle.bins.proofs.SortedEntries.{together, is_equal}
 use Rattle.bins.proofs.MapEdits.{total, antisymmetric}
 use Rattle.bins.specs.Entries.{Distinct}
 
@@ -54,11 +55,6 @@ unfolding first_value
 no_value [] e = refl
 no_value (f ∷ fs) e = absurd cc
 
-is_equal : (r : Ordering) → is_eq r ≡ true → r ≡ Equal
-is_equal Less h = cc
-is_equal Equal h = refl
-is_equal Greater h = cc
-
 -- a key that ties with an absent one is absent
 absent_too : (x e : Entry) (es : List Entry) → ties smaller x e ≡ true → find by_bytes e.0 es ≡ None → find by_bytes x.0 es ≡ None
 absent_too x e es tie none =
@@ -66,8 +62,8 @@ absent_too x e es tie none =
     rw same none
 
 single_more : (b : Bool) (e : Entry) (es : List Entry) → (b ≡ true → es ≡ []) → length es ≤ 1 → length (cond b (e ∷ es) es) ≤ 1
-single_more true e es none few = let is : es ≡ [] = none refl in rw is (omega arith)
-single_more false e es none few = few
+single_more true e es none bounded = let is : es ≡ [] = none refl in rw is (omega arith)
+single_more false e es none bounded = bounded
 
 Single-Distinct : (es : List Entry) → Distinct es → Single es
 Single-Distinct [] h x = omega arith
@@ -101,25 +97,21 @@ is_below Greater s e up other = absurd (wrong s e up)
     wrong Equal e h = cc
     wrong Greater e h = cc
 
-both : (a b : Bool) → T a → T b → T (a && b)
-both true b p q = q
-both false b p q = absurd p
-
 below_rest : (e : Entry) (es : List Entry) → ((j : ℕ) (d : Entry) → j < length es → smaller (get_or es j d) e ≡ false) → same_key e es ≡ [] → T (below_all by_bytes e.0 es)
 below_rest e [] up none = tt
 below_rest e (x ∷ xs) up none =
     let apart = not_chosen (ties smaller e x) x (same_key e xs) none in
-    both _ _ (is_below (by_bytes e.0 x.0) (by_bytes x.0 e.0) (total.antisymm x.0 e.0) (up 0 x (omega arith)) (sym (ties_is e x) ∙ apart.0))
+    together _ _ (is_below (by_bytes e.0 x.0) (by_bytes x.0 e.0) (total.antisymm x.0 e.0) (up 0 x (omega arith)) (sym (ties_is e x) ∙ apart.0))
     (below_rest e xs (λ j d lt. up (suc j) d (omega (arith, lt))) apart.1)
 
 itself_ties : (e : Entry) → ties smaller e e ≡ true
 itself_ties e = ties_is e e ∙ (let same = tied_itself total e.0 in rw same refl)
 
 strictly : (es : List Entry) → Rises es → Single es → T (is_sorted by_bytes es)
-strictly [] up few = tt
-strictly (e ∷ es) up few =
-    both _ _ (below_rest e es (λ j d lt. up 0 (suc j) d (omega arith) (omega (arith, lt))) (none_left (ties smaller e e) e (same_key e es) (itself_ties e) (few e)))
-    (strictly es (λ i j d le lt. up (suc i) (suc j) d (omega (arith, le)) (omega (arith, lt))) (λ x. rest_single (ties smaller x e) e (same_key x es) (few x)))
+strictly [] up bounded = tt
+strictly (e ∷ es) up bounded =
+    together _ _ (below_rest e es (λ j d lt. up 0 (suc j) d (omega arith) (omega (arith, lt))) (none_left (ties smaller e e) e (same_key e es) (itself_ties e) (bounded e)))
+    (strictly es (λ i j d le lt. up (suc i) (suc j) d (omega (arith, le)) (omega (arith, lt))) (λ x. rest_single (ties smaller x e) e (same_key x es) (bounded x)))
 
 -- a stable sort by key gives the entries of the table
 pub sorted_entries : (before after : List Entry) → Distinct before → IsSortedBy smaller after → IsStableBy smaller before after → after ≡ map.entries (map.from_entries {R = by_bytes} before)

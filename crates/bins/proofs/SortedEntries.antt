@@ -1,5 +1,5 @@
--- Entries sorted by key: what a search finds among them, and what an edit at that place does to the map.
-use Rattle.std.proofs.Common.{◌≡◌, ℕ, zero, suc, ◌<◌, ◌≤◌, Bool, true, false, T, ◌&&◌, not, List, [], ◌∷◌, length, get_or, set, Some, None, Result, Ok, Err, IfOk, IfErr, Ordering, Less, Equal, Greater, is_lt, refl, sym, ap, ◌∙◌, arith, inl, inr, HoldsAt}
+-- Entries sorted by key: what a search finds among them, and what an edit at that position does to the map.
+use Rattle.std.proofs.Common.{◌≡◌, ℕ, zero, suc, ◌<◌, ◌≤◌, Bool, true, false, T, ◌&&◌, not, List, [], ◌∷◌, length, get_or, set, Some, None, Result, Ok, Err, IfOk, IfErr, Ordering, Less, Equal, Greater, is_eq, is_lt, refl, sym, ap, ◌∙◌, arith, inl, inr, HoldsAt}
 use Rattle.std.specs.List.{insert, remove}
 use Rattle.std.specs.List.Sorted.{IsNonDecreasingBy, IsPartitionPoint, IsSearchInRange, IsBinarySearchResult}
 use Rattle.std.specs.Ordering.{ordering_index, ordering_reverse, eq_by_cmp}
@@ -13,10 +13,21 @@ pub both_hold : (a b : Bool) → T (a && b) → T a × T b
 both_hold true b h = (tt, h)
 both_hold false b h = absurd h
 
-is_less : (r : Ordering) → T (is_lt r) → r ≡ Less
+-- and the other way round
+pub together : (a b : Bool) → T a → T b → T (a && b)
+together true b p q = q
+together false b p q = absurd p
+
+-- what a comparison gave, by the test of it
+pub is_less : (r : Ordering) → T (is_lt r) → r ≡ Less
 is_less Less h = refl
 is_less Equal h = absurd h
 is_less Greater h = absurd h
+
+pub is_equal : (r : Ordering) → is_eq r ≡ true → r ≡ Equal
+is_equal Less h = cc
+is_equal Equal h = refl
+is_equal Greater h = cc
 
 index_small : (r : Ordering) → ordering_index r ≤ 2
 index_small Less = omega arith
@@ -73,11 +84,11 @@ module _ {K X : Type 0} {R : K → K → Ordering} (o : IsTotalOrder R) where
   before_found : (e : K × X) (es : List (K × X)) (i : ℕ) (k : K) → T (is_sorted R (e ∷ es)) → i < length es → HoldsAt (λ x. R x.0 k ≡ Equal) es i → R k e.0 ≡ Greater
   before_found e es i k h lt found = turned_less o e.0 k (sym (alike_right o _ k e.0 (found e)) ∙ below_at e.0 es i e (both_hold _ _ h).0 lt)
 
-  -- a place that has the key, or has smaller keys before it and greater ones from it on, seen from one entry further
+  -- a position that has the key, or has smaller keys before it and greater ones from it on, seen from one entry further
   after_first : (e : K × X) (es : List (K × X)) (i : ℕ) (k : K) → IsPartitionPoint (λ x. R x.0 k ≡ Less) (λ x. R x.0 k ≡ Greater) (e ∷ es) (suc i) → IsPartitionPoint (λ x. R x.0 k ≡ Less) (λ x. R x.0 k ≡ Greater) es i
   after_first e es i k gap = (λ j d low high. gap.0 (suc j) d (omega arith) (omega (arith, high)), λ j d low high. gap.1 (suc j) d (omega (arith, low)) (omega (arith, high)))
 
-  -- the entry at the key's place has the key's value
+  -- the entry at the key's position has the key's value
   pub find_found : (es : List (K × X)) (i : ℕ) (k : K) (d : K × X) → T (is_sorted R es) → i < length es → HoldsAt (λ x. R x.0 k ≡ Equal) es i → find R k es ≡ Some (get_or es i d).1
   find_found [] i k d h lt found = absurd (omega (arith, lt))
   find_found (e ∷ es) zero k d h lt found = let is = tied_back o e.0 k (found e) in rw is refl

@@ -1,4 +1,4 @@
--- Chains of places among a list of hashes: each place leads to the last one before it in the same bin.
+-- Chains of positions among a list of hashes: each position leads to the last one before it in the same bin.
 -- Which bin a hash goes to, and when the bins double, is our profile.
 use Rattle.std.specs.Prelude.{◌≡◌, ◌≢◌, ℕ, ◌-◌, ◌*◌, ◌/◌, ◌%◌, ◌^◌, ◌<◌, ◌≤◌, ◌⊎◌, List, Option, Some, None, length, set, slice_index}
 use Rattle.std.specs.Int.{IsPowerOfTwo}
@@ -15,7 +15,7 @@ bin_of stripes bins hash = (hash / stripes) % bins
 abbrev pub IsBinCount : ℕ → Type 0
 IsBinCount bins = IsPowerOfTwo bins × (FIRST_BINS ≤ bins) × (bins ≤ MOST_BINS)
 
--- what stands at places: the hashes in their order, and the bins that they are spread over
+-- what stands at positions: the hashes in their order, and the bins that they are spread over
 pub record PlacedHashes : Type 0 where
   pub stripes : ℕ
   pub bins : ℕ
@@ -32,39 +32,39 @@ IsCrowded bins hashes = (2 * bins < length hashes) × (bins < MOST_BINS)
 -- among the first n hashes the last that is this one
 abbrev pub IsLastOf : List ℕ → ℕ → ℕ → Option ℕ → Type 0
 IsLastOf hashes n hash None = (j : ℕ) → j < n → slice_index hashes j ≢ hash
-IsLastOf hashes n hash (Some place) =
-    (place < n) × (slice_index hashes place ≡ hash)
-    × ((j : ℕ) → place < j → j < n → slice_index hashes j ≢ hash)
+IsLastOf hashes n hash (Some position) =
+    (position < n) × (slice_index hashes position ≡ hash)
+    × ((j : ℕ) → position < j → j < n → slice_index hashes j ≢ hash)
 
--- p counts from 1, and is the last of the first n places that are in bin b; 0: none is
+-- p counts from 1, and is the last of the first n positions that are in bin b; 0: none is
 pub record IsLast (bin : ℕ → ℕ) (n b p : ℕ) : Type 0 where
   pub range : p ≤ n
   pub later : (j : ℕ) → p ≤ j → j < n → bin j ≢ b
   pub there : 0 < p → bin (p - 1) ≡ b
 
--- the first n places are chained: a head is a bin's last place, and a next is the one before in the same bin
+-- the first n positions are chained: a head is a bin's last position, and a next is the one before in the same bin
 pub record Links (bin : ℕ → ℕ) (n : ℕ) (heads nexts : List ℕ) : Type 0 where
   pub long : n ≤ length nexts
   pub falls : (i : ℕ) → i < n → slice_index nexts i ≤ i
   pub at_heads : (b : ℕ) → b < length heads → IsLast bin n b (slice_index heads b)
   pub at_nexts : (i : ℕ) → i < n → bin i < length heads → IsLast bin i (bin i) (slice_index nexts i)
 
--- the bin of each place
+-- the bin of each position
 abbrev pub bins_of : ℕ → ℕ → List ℕ → ℕ → ℕ
-bins_of stripes bins hashes place = bin_of stripes bins (slice_index hashes place)
+bins_of stripes bins hashes position = bin_of stripes bins (slice_index hashes position)
 
--- the bin of a hash among these chains, and that of a place
+-- the bin of a hash among these chains, and that of a position
 abbrev pub bin_in : Chains → ℕ → ℕ
 bin_in chains hash = bin_of (2 ^ chains.shift) (length chains.heads.items) hash
 
-abbrev pub place_bin : Chains → ℕ → ℕ
-place_bin chains place = bin_in chains (slice_index chains.hashes.items place)
+abbrev pub position_bin : Chains → ℕ → ℕ
+position_bin chains position = bin_in chains (slice_index chains.hashes.items position)
 
--- all places are chained by these bins
+-- all positions are chained by these bins
 abbrev pub AreLinkedBy : (ℕ → ℕ) → Chains → Type 0
 AreLinkedBy bin chains = Links bin (length chains.nexts.items) chains.heads.items chains.nexts.items
 
--- all places are chained by their hashes
+-- all positions are chained by their hashes
 pub record AreChained (chains : Chains) : Type 0 where
   pub shift : chains.shift < 32
   pub bins : IsBinCount (length chains.heads.items)
@@ -72,34 +72,34 @@ pub record AreChained (chains : Chains) : Type 0 where
   pub links : Links (bins_of (2 ^ chains.shift) (length chains.heads.items) chains.hashes.items)
       (length chains.hashes.items) chains.heads.items chains.nexts.items
 
--- all places are chained by some bins
+-- all positions are chained by some bins
 abbrev pub AreLinked : Chains → Type 0
 AreLinked chains = (bin : ℕ → ℕ) × AreLinkedBy bin chains
 
--- the link of a bin's chain that leads, or would lead, to this place: no place of the bin stands between them
-abbrev pub LeadsTo : (ℕ → ℕ) → ℕ → ℕ → ℕ → Link → Type 0
-LeadsTo bin n b place (Head c) = (c ≡ b) × ((j : ℕ) → place < j → j < n → bin j ≢ b)
-LeadsTo bin n b place (Next next) =
-    (place < next) × (next < n) × (bin next ≡ b) × ((j : ℕ) → place < j → j < next → bin j ≢ b)
+-- the link of a bin's chain that leads, or would lead, to this position: no position of the bin stands between them
+abbrev pub IsLinkTo : (ℕ → ℕ) → ℕ → ℕ → ℕ → Link → Type 0
+IsLinkTo bin n b position (Head c) = (c ≡ b) × ((j : ℕ) → position < j → j < n → bin j ≢ b)
+IsLinkTo bin n b position (Next next) =
+    (position < next) × (next < n) × (bin next ≡ b) × ((j : ℕ) → position < j → j < next → bin j ≢ b)
 
--- the place that a link leads to, counted from 1
+-- the position that a link leads to, counted from 1
 abbrev pub follow : List ℕ → List ℕ → Link → ℕ
 follow heads nexts (Head bin) = slice_index heads bin
-follow heads nexts (Next place) = slice_index nexts place
+follow heads nexts (Next position) = slice_index nexts position
 
 -- the chains have this link
 abbrev pub IsLink : Chains → Link → Type 0
 IsLink chains (Head bin) = bin < length chains.heads.items
-IsLink chains (Next place) = place < length chains.nexts.items
+IsLink chains (Next position) = position < length chains.nexts.items
 
 -- the heads, and the nexts, after one link was made to lead elsewhere
 abbrev pub heads_relinked : Link → ℕ → List ℕ → List ℕ
 heads_relinked (Head bin) at heads = set heads bin at
-heads_relinked (Next place) at heads = heads
+heads_relinked (Next position) at heads = heads
 
 abbrev pub nexts_relinked : Link → ℕ → List ℕ → List ℕ
 nexts_relinked (Head bin) at nexts = nexts
-nexts_relinked (Next place) at nexts = set nexts place at
+nexts_relinked (Next position) at nexts = set nexts position at
 
 -- one link leads elsewhere, and nothing else has changed
 pub record Relinked (link : Link) (at : ℕ) (old new : Chains) : Type 0 where

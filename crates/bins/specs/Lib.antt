@@ -1,6 +1,6 @@
 pub mod Table
 pub mod Entries
-pub mod Places
+pub mod Positions
 pub mod Lending
 pub mod Replacements
 pub mod Passes

@@ -2,7 +2,7 @@
 use Rattle.std.specs.Prelude.{◌≡◌, ℕ, ⊤, Bool, true, false, List, [], ◌∷◌, length, Option, Some, Result, Ok, Err}
 use Rattle.std.specs.Prelude.{count_by}
 use Rattle.bpf_model.specs.declared.input.Answer.TheVariants.{Nothing, Bytes}
-use Rattle.bpf_model.specs.declared.input.Window.{Window}
+use Rattle.bpf_model.specs.declared.input.InputPart.{InputPart}
 use Rattle.bpf_model.specs.Fits.{input_of}
 use Rattle.verifier.specs.Checked.{Checked}
 use Rattle.bins.specs.declared.counts.Counts.{Counts}
@@ -10,20 +10,20 @@ use Rattle.bins.specs.Replacements.{Outcome, ComesTo, value_after, is_given, is_
 use Rattle.bins.specs.Table.{Entry}
 
 -- what is told of a replacement: whether a value was entered, or the window
-abbrev pub told_of : Outcome → Result Bool Window
-told_of (Ok (Bytes new)) = Ok true
-told_of (Ok Nothing) = Ok false
-told_of (Err window) = Err window
+abbrev pub entered_of : Outcome → Result Bool InputPart
+entered_of (Ok (Bytes new)) = Ok true
+entered_of (Ok Nothing) = Ok false
+entered_of (Err part) = Err part
 
 -- one key's value was replaced by what the program comes to on it, and this was told
 pub record Replaces (checked : Checked) (key : List ℕ) (arg : Option (List ℕ)) (value new : List ℕ)
-    (told : Result Bool Window) : Type 0 where
+    (told : Result Bool InputPart) : Type 0 where
   pub outcome : Outcome
   pub comes_to : ComesTo checked (input_of key (Some value) arg) outcome
   pub entered : new ≡ value_after outcome value
-  pub is_told : told ≡ told_of outcome
+  pub is_told : told ≡ entered_of outcome
 
--- each outcome is the program's at the entry in its place; there may be fewer outcomes
+-- each outcome is the program's at the entry in its position; there may be fewer outcomes
 abbrev pub AreOutcomes : Checked → Option (List ℕ) → List Entry → List Outcome → Type 0
 AreOutcomes checked arg entries [] = ⊤
 AreOutcomes checked arg [] (outcome ∷ outcomes) = ⊥

@@ -6,7 +6,7 @@ use Rattle.std.specs.FinMap as map
 use Rattle.bpf_model.specs.declared.input.Input.{Input}
 use Rattle.bpf_model.specs.declared.input.Answer.{Answer}
 use Rattle.bpf_model.specs.declared.input.Answer.TheVariants.{Nothing, Bytes}
-use Rattle.bpf_model.specs.declared.input.Window.{Window}
+use Rattle.bpf_model.specs.declared.input.InputPart.{InputPart}
 use Rattle.bpf_model.specs.Fits.{input_of, first_unfit}
 use Rattle.bpf_model.specs.Meaning.{Means}
 use Rattle.verifier.specs.Checked.{Checked}
@@ -15,29 +15,29 @@ use Rattle.bins.specs.Table.{Table}
 
 -- what a program comes to: its answer, or the first window that is too small
 abbrev pub Outcome : Type 0
-Outcome = Result Answer Window
+Outcome = Result Answer InputPart
 
 -- the program comes to this on the input
 abbrev pub ComesTo : Checked → Input → Outcome → Type 0
 ComesTo checked input (Ok answer) =
     (first_unfit input checked.sizes ≡ Ok tt) × Means checked.program checked.sizes input answer
-ComesTo checked input (Err window) = first_unfit input checked.sizes ≡ Err window
+ComesTo checked input (Err part) = first_unfit input checked.sizes ≡ Err part
 
 -- the value after a replacement: bytes are entered; nothing and an unfit input keep it
 abbrev pub value_after : Outcome → List ℕ → List ℕ
 value_after (Ok (Bytes new)) value = new
 value_after (Ok Nothing) value = value
-value_after (Err window) value = value
+value_after (Err part) value = value
 
 -- whether a value was entered, equal to the one before or not
 abbrev pub is_given : Outcome → Bool
 is_given (Ok (Bytes new)) = true
 is_given (Ok Nothing) = false
-is_given (Err window) = false
+is_given (Err part) = false
 
 abbrev pub is_unfit : Outcome → Bool
 is_unfit (Ok answer) = false
-is_unfit (Err window) = true
+is_unfit (Err part) = true
 
 -- each key's value was replaced once, by what the program comes to on it
 pub record ReplacesEach (checked : Checked) (arg : Option (List ℕ)) (old new : Table) (counts : Counts) : Type 0 where

@@ -1,5 +1,5 @@
 //! What keeps a table: a finite map from keys to values, however it is kept.
-ghost use Rattle.std.specs.Prelude.{◌≡◌, ◌<◌, ◌^◌, None, IfOk, OnOk, OnErr, option_copied};
+ghost use Rattle.std.specs.Prelude.{◌≡◌, ◌<◌, ◌^◌, None, length, IfOk, OnOk, OnErr, option_copied};
 ghost use Rattle.std.specs.Option.{option_copied_mut};
 ghost use Rattle.std.specs.Borrow.{sem};
 ghost use Rattle.std.specs.FinMap as map;
@@ -62,10 +62,15 @@ pub trait Bins {
     fn entries(&self, alloc: Global) -> Result<Vec<(Key, Value)>, NoMemory>
         ensures ok { IfOk result (λ found. found.items ≡ map.entries (table self.now)) };
 
+    /// How many entries there are. Takes no memory.
+    fn count(&self) -> u64
+        ensures value { result ≡ length (map.entries (table self.now)) }
+        // An entry takes more than 2^6 bytes, of fewer than 2^63; so the counts of many bins add up.
+        ensures bounded { result < 2 ^ 57 };
+
     /// Replaces the value of each key once, in an order of its own, by what the program answers on the key, its value
     /// and the argument. An answer of nothing keeps the entry, and one that does not fit stays. Takes no memory.
     fn replace_each(&mut self, program: &Verified, arg: &Option<Value>) -> Counts
         ensures each { ReplacesEach program.now arg.now (table self.old) (table self.new) result }
-        // An entry takes more than 2^6 bytes, of fewer than 2^63; so the counts of many bins add up.
-        ensures few { result.scanned < 2 ^ 57 };
+        ensures bounded { result.scanned < 2 ^ 57 };
 }

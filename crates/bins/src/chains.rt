@@ -1,12 +1,12 @@
-//! Chains of places, a chain for each bin of hashes.
+//! Chains of positions, a chain for each bin of hashes.
 //!
-//! A bin's head is its last place, and a place's next is the one before it in the same bin; both count from 1, and 0
+//! A bin's head is its last position, and a position's next is the one before it in the same bin; both count from 1, and 0
 //! ends a chain. So a chain falls, and the hashes alone determine the heads and the nexts (`AreChained` of
 //! `specs/Chains.antt`). A doubling of the bins makes the links anew, and touches nothing else.
 ghost use Rattle.std.specs.Prelude.{◌≡◌, ◌<◌, ◌≤◌, ◌^◌, ◌*◌, ◌↔◌, ℕ, ◌++◌, [], ◌∷◌, length, set, slice_index, IfOk, OnOk, OnErr, IsTrue};
 ghost use Rattle.std.specs.List.{swap_remove};
 ghost use Rattle.std.specs.Int.{IsPowerOfTwo};
-ghost use Rattle.bins.specs.Chains.{AreChained, AreLinked, AreLinkedBy, IsBinCount, IsCrowded, IsLast, IsLastOf, IsLink, LeadsTo, Links, MayDouble, Relinked, bin_in, bin_of, bins_of, follow, place_bin, placed};
+ghost use Rattle.bins.specs.Chains.{AreChained, AreLinked, AreLinkedBy, IsBinCount, IsCrowded, IsLast, IsLastOf, IsLink, IsLinkTo, Links, MayDouble, Relinked, bin_in, bin_of, bins_of, follow, position_bin, placed};
 
 use bpf_model::NoMemory;
 use std::alloc::Global;
@@ -16,7 +16,7 @@ pub const FIRST_BINS: usize = 8;
 /// The greatest number of bins.
 pub const MOST_BINS: usize = 65_536;
 
-/// The hashes in the order of their places, and the links of their chains. `1 << shift` is the number of stripes.
+/// The hashes in the order of their positions, and the links of their chains. `1 << shift` is the number of stripes.
 #[derive(Drop)]
 pub struct Chains {
     shift: u32,
@@ -25,12 +25,12 @@ pub struct Chains {
     nexts: Vec<usize>,
 }
 
-/// A link of a chain: the head of a bin, or the next of a place.
+/// A link of a chain: the head of a bin, or the next of a position.
 #[derive(Clone, Copy)]
 pub enum Link {
     /// The head of this bin.
     Head(usize),
-    /// The next of this place.
+    /// The next of this position.
     Next(usize),
 }
 
@@ -53,7 +53,7 @@ fn bin_of(shift: u32, bins: usize, hash: u32) -> usize
     (hash >> shift) as usize & (bins - 1)
 }
 
-// Chains all places, from heads that lead nowhere.
+// Chains all positions, from heads that lead nowhere.
 fn chain_all(shift: u32, heads: &mut Vec<usize>, hashes: &[u32], nexts: &mut Vec<usize>)
     requires shift { shift < 32 }
     requires bins { IsBinCount (length heads.old.items) }
@@ -65,15 +65,15 @@ fn chain_all(shift: u32, heads: &mut Vec<usize>, hashes: &[u32], nexts: &mut Vec
     ensures long { length nexts.new.items ≡ length nexts.old.items }
 {
     let bins = heads.len();
-    for place in 0..hashes.len() {
-        let bin = bin_of(shift, bins, hashes[place]);
-        nexts[place] = heads[bin];
-        heads[bin] = place + 1;
+    for position in 0..hashes.len() {
+        let bin = bin_of(shift, bins, hashes[position]);
+        nexts[position] = heads[bin];
+        heads[bin] = position + 1;
     }
 }
 
 impl Chains {
-    /// No places, in 8 bins. `NoMemory` where a request for memory was refused.
+    /// No positions, in 8 bins. `NoMemory` where a request for memory was refused.
     pub fn open(alloc: Global, stripes: u64) -> Result<Chains, NoMemory>
         ensures chained { IfOk result AreChained }
         ensures empty { IfOk result (λ chains. chains.hashes.items ≡ []) }
@@ -98,27 +98,27 @@ impl Chains {
         self.heads.len()
     }
 
-    // The first place with this hash along a chain.
+    // The first position with this hash along a chain.
     #[inline(always)]
     fn find_from(&self, first: usize, hash: u32) -> Option<usize>
         requires chained { AreChained self.now }
         requires range { first ≤ length self.now.hashes.items }
         ensures value { (n : ℕ) → n ≤ length self.now.hashes.items
-            → IsLast (place_bin self.now) n (bin_in self.now hash) first
+            → IsLast (position_bin self.now) n (bin_in self.now hash) first
             → IsLastOf self.now.hashes.items n hash result }
     {
         let mut at = first;
         while at != 0 {
-            let place = at - 1;
-            if self.hashes[place] == hash {
-                return Some(place);
+            let position = at - 1;
+            if self.hashes[position] == hash {
+                return Some(position);
             }
-            at = self.nexts[place];
+            at = self.nexts[position];
         }
         None
     }
 
-    /// The last place of a hash. Takes no memory.
+    /// The last position of a hash. Takes no memory.
     #[inline(always)]
     pub fn last(&self, hash: u32) -> Option<usize>
         requires chained { AreChained self.now }
@@ -128,18 +128,18 @@ impl Chains {
         self.find_from(self.heads[bin], hash)
     }
 
-    /// The last place before this one that has the same hash. Takes no memory.
+    /// The last position before this one that has the same hash. Takes no memory.
     #[inline(always)]
-    pub fn before(&self, place: usize, hash: u32) -> Option<usize>
+    pub fn before(&self, position: usize, hash: u32) -> Option<usize>
         requires chained { AreChained self.now }
-        requires range { place < length self.now.hashes.items }
-        requires same { slice_index self.now.hashes.items place ≡ hash }
-        ensures value { IsLastOf self.now.hashes.items place hash result }
+        requires range { position < length self.now.hashes.items }
+        requires same { slice_index self.now.hashes.items position ≡ hash }
+        ensures value { IsLastOf self.now.hashes.items position hash result }
     {
-        self.find_from(self.nexts[place], hash)
+        self.find_from(self.nexts[position], hash)
     }
 
-    // A further place, for this hash.
+    // A further position, for this hash.
     fn add(&mut self, hash: u32) -> Result<(), NoMemory>
         requires chained { AreChained self.old }
         ensures chained { AreChained self.new }
@@ -167,7 +167,7 @@ impl Chains {
     // Twice the bins, where there is memory.
     fn double(&mut self) -> Result<(), NoMemory>
         requires chained { AreChained self.old }
-        requires few { length self.old.heads.items < MOST_BINS }
+        requires bounded { length self.old.heads.items < MOST_BINS }
         ensures chained { AreChained self.new }
         ensures hashes { self.new.hashes.items ≡ self.old.hashes.items }
         ensures ok { OnOk result (length self.new.heads.items ≡ 2 * length self.old.heads.items) }
@@ -182,7 +182,7 @@ impl Chains {
         Ok(())
     }
 
-    /// Adds a hash, at the place behind the others, and doubles the bins where the hashes are more than twice as many
+    /// Adds a hash, at the position behind the others, and doubles the bins where the hashes are more than twice as many
     /// then and the memory for it is granted. `NoMemory` where the room for the hash was refused.
     pub fn push(&mut self, hash: u32) -> Result<(), NoMemory>
         requires chained { AreChained self.old }
@@ -200,7 +200,7 @@ impl Chains {
         Ok(())
     }
 
-    // Takes the last place out of its chain, of which it is the head, and gives its hash.
+    // Takes the last position out of its chain, of which it is the head, and gives its hash.
     fn take_last(&mut self) -> u32
         requires chained { AreChained self.old }
         requires some { 0 < length self.old.hashes.items }
@@ -209,41 +209,41 @@ impl Chains {
         ensures bins { length self.new.heads.items ≡ length self.old.heads.items }
         ensures shift { self.new.shift ≡ self.old.shift }
     {
-        let place = self.hashes.len() - 1;
-        let hash = self.hashes[place];
+        let position = self.hashes.len() - 1;
+        let hash = self.hashes[position];
         let bin = bin_of(self.shift, self.heads.len(), hash);
-        self.heads[bin] = self.nexts[place];
-        self.hashes.truncate(place);
-        self.nexts.truncate(place);
+        self.heads[bin] = self.nexts[position];
+        self.hashes.truncate(position);
+        self.nexts.truncate(position);
         hash
     }
 
-    // The link of a bin that leads, or would lead, to a place.
-    fn link_to(&self, bin: usize, place: usize) -> Link
+    // The link of a bin that leads, or would lead, to a position.
+    fn link_to(&self, bin: usize, position: usize) -> Link
         requires linked { AreLinked self.now }
         requires bin { bin < length self.now.heads.items }
-        requires place { place < length self.now.nexts.items }
+        requires position { position < length self.now.nexts.items }
         ensures is_link { IsLink self.now result }
         ensures leads { (bins : ℕ → ℕ) → AreLinkedBy bins self.now
-            → LeadsTo bins (length self.now.nexts.items) bin place result }
+            → IsLinkTo bins (length self.now.nexts.items) bin position result }
     {
         let mut link = Link::Head(bin);
         let mut at = self.heads[bin];
-        while at > place + 1 {
+        while at > position + 1 {
             link = Link::Next(at - 1);
             at = self.nexts[at - 1];
         }
         link
     }
 
-    // The place that a link leads to, counted from 1.
+    // The position that a link leads to, counted from 1.
     fn follow(&self, link: Link) -> usize
         requires { IsLink self.now link }
         ensures value { result ≡ follow self.now.heads.items self.now.nexts.items link }
     {
         match link {
             Link::Head(bin) => self.heads[bin],
-            Link::Next(place) => self.nexts[place],
+            Link::Next(position) => self.nexts[position],
         }
     }
 
@@ -254,43 +254,43 @@ impl Chains {
     {
         match link {
             Link::Head(bin) => self.heads[bin] = at,
-            Link::Next(place) => self.nexts[place] = at,
+            Link::Next(position) => self.nexts[position] = at,
         }
     }
 
-    // Gives a place another hash: takes it out of the one's chain, and links it in the other's.
-    fn rehash(&mut self, place: usize, hash: u32)
+    // Gives a position another hash: takes it out of the one's chain, and links it in the other's.
+    fn rehash(&mut self, position: usize, hash: u32)
         requires chained { AreChained self.old }
-        requires range { place < length self.old.hashes.items }
+        requires range { position < length self.old.hashes.items }
         ensures chained { AreChained self.new }
-        ensures hashes { self.new.hashes.items ≡ set self.old.hashes.items place hash }
+        ensures hashes { self.new.hashes.items ≡ set self.old.hashes.items position hash }
         ensures bins { length self.new.heads.items ≡ length self.old.heads.items }
         ensures shift { self.new.shift ≡ self.old.shift }
     {
         let bins = self.heads.len();
-        let old_bin = bin_of(self.shift, bins, self.hashes[place]);
-        let old_link = self.link_to(old_bin, place);
-        let next = self.nexts[place];
+        let old_bin = bin_of(self.shift, bins, self.hashes[position]);
+        let old_link = self.link_to(old_bin, position);
+        let next = self.nexts[position];
         self.relink(old_link, next);
         let new_bin = bin_of(self.shift, bins, hash);
-        let new_link = self.link_to(new_bin, place);
-        self.nexts[place] = self.follow(new_link);
-        self.relink(new_link, place + 1);
-        self.hashes[place] = hash;
+        let new_link = self.link_to(new_bin, position);
+        self.nexts[position] = self.follow(new_link);
+        self.relink(new_link, position + 1);
+        self.hashes[position] = hash;
     }
 
-    /// Removes the hash at a place; the last hash takes that place. Takes no memory.
-    pub fn swap_remove(&mut self, place: usize)
+    /// Removes the hash at a position; the last hash takes that place. Takes no memory.
+    pub fn swap_remove(&mut self, position: usize)
         requires chained { AreChained self.old }
-        requires range { place < length self.old.hashes.items }
+        requires range { position < length self.old.hashes.items }
         ensures chained { AreChained self.new }
-        ensures hashes { self.new.hashes.items ≡ swap_remove self.old.hashes.items place 0 }
+        ensures hashes { self.new.hashes.items ≡ swap_remove self.old.hashes.items position 0 }
         ensures bins { length self.new.heads.items ≡ length self.old.heads.items }
         ensures shift { self.new.shift ≡ self.old.shift }
     {
         let hash = self.take_last();
-        if place < self.hashes.len() {
-            self.rehash(place, hash);
+        if position < self.hashes.len() {
+            self.rehash(position, hash);
         }
     }
 }

@@ -9,7 +9,7 @@ use crate::bins::Bins;
 use crate::copies::copies_of;
 use crate::counts::Counts;
 use crate::index::Index;
-use crate::replacement::replace_values;
+use crate::replacement::{count_of, replace_values};
 use bpf_model::{Key, NoMemory, Value};
 use std::alloc::Global;
 use std::marker::Model;
@@ -38,21 +38,21 @@ impl Model for HashedBins {
     ghost invariant = { λ b. (b.index.hashes ≡ hashes_of b.entries.items) × Distinct b.entries.items };
 }
 
-// The place of the key among the entries.
+// The position of the key among the entries.
 #[inline(always)]
-fn place_of(index: &Index, entries: &[(Key, Value)], key: &Key, hash: u32) -> Option<usize>
+fn position_of(index: &Index, entries: &[(Key, Value)], key: &Key, hash: u32) -> Option<usize>
     requires index { index.now.hashes ≡ hashes_of entries.now }
     requires hash { hash ≡ hash_of key.now }
-    ensures bound { IfSome result (λ place. place < length entries.now) }
+    ensures bound { IfSome result (λ position. position < length entries.now) }
     ensures found { IfSome result (HoldsAt (λ entry. entry.0 ≡ key.now) entries.now) }
     ensures absent { IfNone result (AllWithin (λ entry. entry.0 ≢ key.now) entries.now 0 (length entries.now)) }
 {
     let mut next = index.last(hash);
-    while let Some(place) = next {
-        if entries[place].0 == *key {
-            return Some(place);
+    while let Some(position) = next {
+        if entries[position].0 == *key {
+            return Some(position);
         }
-        next = index.before(place, hash);
+        next = index.before(position, hash);
     }
     None
 }
@@ -84,23 +84,23 @@ impl Bins for HashedBins {
     }
 
     fn find(&self, key: &Key, hash: u32) -> Option<&Value> {
-        match place_of(&self.index, &self.entries, key, hash) {
-            Some(place) => Some(&self.entries[place].1),
+        match position_of(&self.index, &self.entries, key, hash) {
+            Some(position) => Some(&self.entries[position].1),
             None => None,
         }
     }
 
     fn find_mut(&mut self, key: &Key, hash: u32) -> Option<&mut Value> {
-        match place_of(&self.index, &self.entries, key, hash) {
-            Some(place) => Some(&mut self.entries[place].1),
+        match position_of(&self.index, &self.entries, key, hash) {
+            Some(position) => Some(&mut self.entries[position].1),
             None => None,
         }
     }
 
     fn put(&mut self, key: Key, value: Value, hash: u32) -> Result<(), NoMemory> {
-        match place_of(&self.index, &self.entries, &key, hash) {
-            Some(place) => {
-                self.entries[place].1.set_from(value.as_slice());
+        match position_of(&self.index, &self.entries, &key, hash) {
+            Some(position) => {
+                self.entries[position].1.set_from(value.as_slice());
                 Ok(())
             }
             None => {
@@ -113,10 +113,10 @@ impl Bins for HashedBins {
     }
 
     fn remove(&mut self, key: &Key, hash: u32) -> Option<Value> {
-        match place_of(&self.index, &self.entries, key, hash) {
-            Some(place) => {
-                self.index.swap_remove(place);
-                Some(self.entries.swap_remove(place).1)
+        match position_of(&self.index, &self.entries, key, hash) {
+            Some(position) => {
+                self.index.swap_remove(position);
+                Some(self.entries.swap_remove(position).1)
             }
             None => None,
         }
@@ -126,6 +126,10 @@ impl Bins for HashedBins {
         let mut found = copies_of(alloc, &self.entries)?;
         found.sort_by(|a, b| a.0.cmp(&b.0))?;
         Ok(found)
+    }
+
+    fn count(&self) -> u64 {
+        count_of(&self.entries)
     }
 
     fn replace_each(&mut self, program: &Verified, arg: &Option<Value>) -> Counts {

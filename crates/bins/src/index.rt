@@ -1,4 +1,4 @@
-//! Places of entries, found by the hashes of their keys.
+//! Positions of entries, found by the hashes of their keys.
 ghost use Rattle.std.specs.Prelude.{◌≡◌, ◌<◌, ◌^◌, ◌++◌, [], ◌∷◌, length, slice_index, IfOk, OnOk, OnErr};
 ghost use Rattle.std.specs.List.{swap_remove};
 ghost use Rattle.std.specs.Int.{IsPowerOfTwo};
@@ -9,7 +9,7 @@ use bpf_model::NoMemory;
 use std::alloc::Global;
 use std::marker::Model;
 
-/// A list of hashes, each found again by the chain of its bin. A place in the list is that of an entry, which stands
+/// A list of hashes, each found again by the chain of its bin. A position in the list is that of an entry, which stands
 /// elsewhere. 12 bytes a hash, and 8 bytes a bin.
 #[derive(Drop)]
 pub struct Index {
@@ -47,7 +47,7 @@ impl Index {
         self.chains.bins() as u64
     }
 
-    /// The last place of a hash. Takes no memory.
+    /// The last position of a hash. Takes no memory.
     #[inline(always)]
     pub fn last(&self, hash: u32) -> Option<usize>
         ensures value { IsLastOf self.now.hashes (length self.now.hashes) hash result }
@@ -55,17 +55,17 @@ impl Index {
         self.chains.last(hash)
     }
 
-    /// The last place before this one that has the same hash. Takes no memory.
+    /// The last position before this one that has the same hash. Takes no memory.
     #[inline(always)]
-    pub fn before(&self, place: usize, hash: u32) -> Option<usize>
-        requires range { place < length self.now.hashes }
-        requires same { slice_index self.now.hashes place ≡ hash }
-        ensures value { IsLastOf self.now.hashes place hash result }
+    pub fn before(&self, position: usize, hash: u32) -> Option<usize>
+        requires range { position < length self.now.hashes }
+        requires same { slice_index self.now.hashes position ≡ hash }
+        ensures value { IsLastOf self.now.hashes position hash result }
     {
-        self.chains.before(place, hash)
+        self.chains.before(position, hash)
     }
 
-    /// Adds a hash, at the place behind the others; the bins double where the hashes are more than twice as many then,
+    /// Adds a hash, at the position behind the others; the bins double where the hashes are more than twice as many then,
     /// and the memory for it is granted. `NoMemory` where the room for the hash was refused: all is as before.
     pub fn push(&mut self, hash: u32) -> Result<(), NoMemory>
         ensures ok { OnOk result (self.new.hashes ≡ self.old.hashes ++ hash ∷ []) }
@@ -76,13 +76,13 @@ impl Index {
         self.chains.push(hash)
     }
 
-    /// Removes the hash at a place; the last hash takes that place. Takes no memory.
-    pub fn swap_remove(&mut self, place: usize)
-        requires { place < length self.old.hashes }
-        ensures hashes { self.new.hashes ≡ swap_remove self.old.hashes place 0 }
+    /// Removes the hash at a position; the last hash takes that place. Takes no memory.
+    pub fn swap_remove(&mut self, position: usize)
+        requires { position < length self.old.hashes }
+        ensures hashes { self.new.hashes ≡ swap_remove self.old.hashes position 0 }
         ensures bins { self.new.bins ≡ self.old.bins }
         ensures stripes { self.new.stripes ≡ self.old.stripes }
     {
-        self.chains.swap_remove(place);
+        self.chains.swap_remove(position);
     }
 }

@@ -3,12 +3,12 @@ ghost use Rattle.std.specs.Prelude.{◌≡◌, ◌≤◌, T, length, insert, IfO
 ghost use Rattle.std.specs.List.Sorted.{IsSearchInRange};
 ghost use Rattle.std.specs.FinMap.{is_sorted};
 ghost use Rattle.bins.specs.Table.{by_bytes};
-ghost use Rattle.bins.specs.Places.{IsAt, IsGapFor};
+ghost use Rattle.bins.specs.Positions.{IsAt, IsGapFor};
 
 use crate::bins::Bins;
 use crate::copies::copies_of;
 use crate::counts::Counts;
-use crate::replacement::replace_values;
+use crate::replacement::{count_of, replace_values};
 use bpf_model::{Key, NoMemory, Value};
 use std::alloc::Global;
 use std::marker::Model;
@@ -35,7 +35,7 @@ impl Model for ListBins {
 }
 
 // Where the key stands, or where it would go.
-fn place_of(entries: &[(Key, Value)], key: &Key) -> Result<usize, usize>
+fn position_of(entries: &[(Key, Value)], key: &Key) -> Result<usize, usize>
     requires { T (is_sorted by_bytes entries.now) }
     ensures bound { IsSearchInRange result (length entries.now) }
     ensures found { IfOk result (IsAt entries.now key.now) }
@@ -44,18 +44,18 @@ fn place_of(entries: &[(Key, Value)], key: &Key) -> Result<usize, usize>
     entries.binary_search_by(|entry| entry.0.cmp(key))
 }
 
-// Adds an entry at a place; the ones from there on move.
+// Adds an entry at a position; the ones from there on move.
 #[inline(always)]
 fn add_entry(
     entries: &mut Vec<(Key, Value)>,
-    place: usize,
+    position: usize,
     entry: (Key, Value),
 ) -> Result<(), NoMemory>
-    requires { place ≤ length entries.old.items }
-    ensures ok { OnOk result (entries.new.items ≡ insert entries.old.items place entry) }
+    requires { position ≤ length entries.old.items }
+    ensures ok { OnOk result (entries.new.items ≡ insert entries.old.items position entry) }
     ensures err { OnErr result (entries.new.items ≡ entries.old.items) }
 {
-    Ok(entries.insert(place, entry)?)
+    Ok(entries.insert(position, entry)?)
 }
 
 impl Bins for ListBins {
@@ -75,41 +75,45 @@ impl Bins for ListBins {
     }
 
     fn find(&self, key: &Key, _hash: u32) -> Option<&Value> {
-        match place_of(&self.entries, key) {
-            Ok(place) => Some(&self.entries[place].1),
+        match position_of(&self.entries, key) {
+            Ok(position) => Some(&self.entries[position].1),
             Err(_) => None,
         }
     }
 
     fn find_mut(&mut self, key: &Key, _hash: u32) -> Option<&mut Value> {
-        match place_of(&self.entries, key) {
-            Ok(place) => Some(&mut self.entries[place].1),
+        match position_of(&self.entries, key) {
+            Ok(position) => Some(&mut self.entries[position].1),
             Err(_) => None,
         }
     }
 
     fn put(&mut self, key: Key, value: Value, _hash: u32) -> Result<(), NoMemory> {
-        match place_of(&self.entries, &key) {
-            Ok(place) => {
-                self.entries[place].1 = value;
+        match position_of(&self.entries, &key) {
+            Ok(position) => {
+                self.entries[position].1 = value;
                 Ok(())
             }
-            Err(place) => {
-                add_entry(&mut self.entries, place, (key, value))?;
+            Err(position) => {
+                add_entry(&mut self.entries, position, (key, value))?;
                 Ok(())
             }
         }
     }
 
     fn remove(&mut self, key: &Key, _hash: u32) -> Option<Value> {
-        match place_of(&self.entries, key) {
-            Ok(place) => Some(self.entries.remove(place).1),
+        match position_of(&self.entries, key) {
+            Ok(position) => Some(self.entries.remove(position).1),
             Err(_) => None,
         }
     }
 
     fn entries(&self, alloc: Global) -> Result<Vec<(Key, Value)>, NoMemory> {
         Ok(copies_of(alloc, &self.entries)?)
+    }
+
+    fn count(&self) -> u64 {
+        count_of(&self.entries)
     }
 
     fn replace_each(&mut self, program: &Verified, arg: &Option<Value>) -> Counts {

@@ -4,7 +4,7 @@ ghost use Rattle.bins.specs.Passes.{Replaces, ReplacesList};
 
 use crate::counts::Counts;
 use bpf_machine::{Machine, run_into};
-use bpf_model::{Key, Value, Window, fits_parts};
+use bpf_model::{InputPart, Key, Value, fits_parts};
 use verifier::Verified;
 
 // Enters what the program answers on the key, its value and the argument; whether it answered bytes. The value stays
@@ -16,7 +16,7 @@ fn replace_value(
     arg: &Option<Value>,
     machine: &mut Machine,
     answer: &mut Value,
-) -> Result<bool, Window>
+) -> Result<bool, InputPart>
     ensures by_outcome { Replaces program.now key.now arg.now value.old value.new result }
 {
     fits_parts(&program.sizes(), key, Some(value), arg.as_ref())?;
@@ -34,7 +34,7 @@ pub fn replace_values(
     arg: &Option<Value>,
 ) -> Counts
     ensures each { ReplacesList program.now arg.now entries.old.items entries.new.items result }
-    ensures few { result.scanned < 2 ^ 57 }
+    ensures bounded { result.scanned < 2 ^ 57 }
 {
     let mut machine = Machine::new();
     let mut answer = Value::new();
@@ -55,10 +55,10 @@ pub fn replace_values(
     }
 }
 
-// How many entries there are.
-fn count_of(entries: &[(Key, Value)]) -> u64
+/// How many entries there are. Takes no memory.
+pub fn count_of(entries: &[(Key, Value)]) -> u64
     ensures value { result ≡ length entries.now }
-    ensures few { result < 2 ^ 57 }
+    ensures bounded { result < 2 ^ 57 }
 {
     entries.len() as u64
 }

@@ -15,7 +15,7 @@ use Rattle.bpf_assembler.specs.declared.fault.LineFault.{LineFault}
 use Rattle.bpf_assembler.specs.declared.fault.LineFault.TheVariants.{UnknownName, BadOperand, OutOfRange, Trailing}
 use Rattle.bpf_assembler.specs.Reading.{line_at}
 use Rattle.bpf_assembler.specs.Text.{line_of, text_of, IsTextOf, BeginsWithLine}
-use Rattle.bpf_assembler.specs.Faults.{line_number, at_line, fault_in, IsFaultyLine, IsFirstFault, GivesUnlessNoMemory}
+use Rattle.bpf_assembler.specs.Faults.{line_number, at_line, fault_in, IsFaultyLine, IsFirstAsmFault, GivesUnlessNoMemory}
 use Rattle.bpf_assembler.proofs.OperandLaws.{line-first, line_again, line_some}
 
 -- ---- texts of lists
@@ -27,10 +27,6 @@ text_of-cons i is rest = ap (λ x. x ++ rest) (flat_map-cons line_of i is) ∙ a
 pub text_of-push : (is : List Insn) (i : Insn) → text_of (is ++ i ∷ []) ≡ text_of is ++ line_of i
 unfolding text_of
 text_of-push is i = flat_map-append line_of is (i ∷ []) ∙ ap (λ x. text_of is ++ x) (flat_map-cons line_of i [] ∙ append-nil (line_of i))
-
-pub AreInstructions-push : (is : List Insn) (i : Insn) → AreInstructions is → IsInstruction i → AreInstructions (is ++ i ∷ [])
-AreInstructions-push [] i h g = (g, tt)
-AreInstructions-push (x ∷ is) i h g = (h.0, AreInstructions-push is i h.1 g)
 
 text_some : (i : Insn) (is : List Insn) (rest : List ℕ) → 0 < length (text_of (i ∷ is) ++ rest)
 text_some i is rest =
@@ -54,18 +50,18 @@ text_of-injective (i ∷ p) (j ∷ q) a b hp hq ea eb e =
 faultless : (k : ℕ) (p q : List Insn) (rest : List ℕ) → AreInstructions p → AreInstructions q → text_of p ++ [] ≡ text_of q ++ rest → 0 < length rest
     → ((i : Insn) (more : List ℕ) → IsInstruction i → rest ≡ line_of i ++ more → PROGRAM_UNITS < k + unit_count q + units_of i) → k + unit_count p ≤ PROGRAM_UNITS → ⊥
 unfolding text_of unit_count
-faultless k [] q rest hp hq e some faulty few =
+faultless k [] q rest hp hq e some faulty bounded =
     let none : 0 ≡ length (text_of q ++ rest) = ap length e in
     omega (arith, none, some, length-append (text_of q) rest)
-faultless k (i ∷ p) [] rest hp hq e some faulty few =
+faultless k (i ∷ p) [] rest hp hq e some faulty bounded =
     let past = faulty i (text_of p ++ []) hp.0 (sym e ∙ text_of-cons i p []) in
-    omega (arith, past, few)
-faultless k (i ∷ p) (j ∷ q) rest hp hq e some faulty few =
+    omega (arith, past, bounded)
+faultless k (i ∷ p) (j ∷ q) rest hp hq e some faulty bounded =
     let (head, behind) = line-first i j (text_of p ++ []) (text_of q ++ rest) hp.0 hq.0 (sym (text_of-cons i p []) ∙ e ∙ text_of-cons j q rest) in
     let same : units_of i ≡ units_of j = ap units_of head in
-    faultless (k + units_of i) p q rest hp.1 hq.1 behind some (λ x more h g. omega (arith, same, faulty x more h g)) (omega (arith, few))
+    faultless (k + units_of i) p q rest hp.1 hq.1 behind some (λ x more h g. omega (arith, same, faulty x more h g)) (omega (arith, bounded))
 
-pub no_faulty_line : (text : List ℕ) (p : List Insn) (fault : AsmFault) → IsTextOf text p → IsFirstFault text fault → ⊥
+pub no_faulty_line : (text : List ℕ) (p : List Insn) (fault : AsmFault) → IsTextOf text p → IsFirstAsmFault text fault → ⊥
 unfolding text_of
 no_faulty_line text [] e h fault = omega (arith, h.program.some)
 no_faulty_line text (i ∷ p) e h (inl empty) =
@@ -73,7 +69,7 @@ no_faulty_line text (i ∷ p) e h (inl empty) =
     omega (arith, none, text_some i p [])
 no_faulty_line text (i ∷ p) e h (inr fault) =
     faultless 0 (i ∷ p) fault.front fault.rest h.fits fault.fits (append-nil (text_of (i ∷ p)) ∙ sym h.lines ∙ fault.lines) fault.some
-    (λ x more g e. omega (arith, fault.faulty x more g e)) (omega (arith, h.program.few))
+    (λ x more g e. omega (arith, fault.faulty x more g e)) (omega (arith, h.program.bounded))
 
 -- ---- one first fault
 
@@ -83,20 +79,20 @@ fronts_agree : (k : ℕ) (p q : List Insn) (r s : List ℕ) → AreInstructions 
     → ((i : Insn) (more : List ℕ) → IsInstruction i → s ≡ line_of i ++ more → PROGRAM_UNITS < k + unit_count q + units_of i)
     → k + unit_count p ≤ PROGRAM_UNITS → k + unit_count q ≤ PROGRAM_UNITS → (p ≡ q) × (r ≡ s)
 unfolding text_of unit_count
-fronts_agree k [] [] r s hp hq e past_r past_s few_p few_q = (refl, e)
-fronts_agree k [] (j ∷ q) r s hp hq e past_r past_s few_p few_q =
+fronts_agree k [] [] r s hp hq e past_r past_s bounded_p bounded_q = (refl, e)
+fronts_agree k [] (j ∷ q) r s hp hq e past_r past_s bounded_p bounded_q =
     let past = past_r j (text_of q ++ s) hq.0 (e ∙ text_of-cons j q s) in
-    absurd (omega (arith, past, few_q))
-fronts_agree k (i ∷ p) [] r s hp hq e past_r past_s few_p few_q =
+    absurd (omega (arith, past, bounded_q))
+fronts_agree k (i ∷ p) [] r s hp hq e past_r past_s bounded_p bounded_q =
     let past = past_s i (text_of p ++ r) hp.0 (sym e ∙ text_of-cons i p r) in
-    absurd (omega (arith, past, few_p))
-fronts_agree k (i ∷ p) (j ∷ q) r s hp hq e past_r past_s few_p few_q =
+    absurd (omega (arith, past, bounded_p))
+fronts_agree k (i ∷ p) (j ∷ q) r s hp hq e past_r past_s bounded_p bounded_q =
     let (head, behind) = line-first i j (text_of p ++ r) (text_of q ++ s) hp.0 hq.0 (sym (text_of-cons i p r) ∙ e ∙ text_of-cons j q s) in
     let same : units_of i ≡ units_of j = ap units_of head in
-    let (tail, rest) = fronts_agree (k + units_of i) p q r s hp.1 hq.1 behind (λ x more h g. omega (arith, past_r x more h g)) (λ x more h g. omega (arith, same, past_s x more h g)) (omega (arith, few_p)) (omega (arith, same, few_q)) in
+    let (tail, rest) = fronts_agree (k + units_of i) p q r s hp.1 hq.1 behind (λ x more h g. omega (arith, past_r x more h g)) (λ x more h g. omega (arith, same, past_s x more h g)) (omega (arith, bounded_p)) (omega (arith, same, bounded_q)) in
     (cc (head, tail), rest)
 
-first_fault_is_one : (text : List ℕ) (a b : AsmFault) → IsFirstFault text a → IsFirstFault text b → a ≡ b
+first_fault_is_one : (text : List ℕ) (a b : AsmFault) → IsFirstAsmFault text a → IsFirstAsmFault text b → a ≡ b
 first_fault_is_one text a b (inl x) (inl y) = x.1 ∙ sym y.1
 first_fault_is_one text a b (inl x) (inr y) =
     let none : length (text_of y.front ++ y.rest) ≡ 0 = ap length (sym y.lines ∙ x.0) in
@@ -106,7 +102,7 @@ first_fault_is_one text a b (inr x) (inl y) =
     absurd (omega (arith, none, x.some, length-append (text_of x.front) x.rest))
 first_fault_is_one text a b (inr x) (inr y) =
     let (front, rest) = fronts_agree 0 x.front y.front x.rest y.rest x.fits y.fits (sym x.lines ∙ y.lines)
-    (λ i more h e. omega (arith, x.faulty i more h e)) (λ i more h e. omega (arith, y.faulty i more h e)) (omega (arith, x.few)) (omega (arith, y.few)) in
+    (λ i more h e. omega (arith, x.faulty i more h e)) (λ i more h e. omega (arith, y.faulty i more h e)) (omega (arith, x.bounded)) (omega (arith, y.bounded)) in
     x.first ∙ ap (λ r. fault_in (line_at r) (length x.front + 1)) rest ∙ ap (λ (is : List Insn). fault_in (line_at y.rest) (length is + 1)) front ∙ sym y.first
 
 -- ---- answers
@@ -114,10 +110,10 @@ first_fault_is_one text a b (inr x) (inr y) =
 -- an answer that is the text's program, or its first faulty line, or a refusal of memory
 pub record IsTrueOf (text : List ℕ) (result : Result (List Insn) AsmFault) : Type 0 where
   pub found : IfOk result (IsTextOf text)
-  pub first_fault : IfErr result (λ e. (e ≡ NoMemory) ⊎ IsFirstFault text e)
+  pub first_fault : IfErr result (λ e. (e ≡ NoMemory) ⊎ IsFirstAsmFault text e)
 
 -- an error that was passed on
-pub IsTrueOf-passed : (text : List ℕ) (e : AsmFault) (result : Result (List Insn) AsmFault) → IsErrAnd result (λ x. x ≡ e) → (e ≡ NoMemory) ⊎ IsFirstFault text e → IsTrueOf text result
+pub IsTrueOf-passed : (text : List ℕ) (e : AsmFault) (result : Result (List Insn) AsmFault) → IsErrAnd result (λ x. x ≡ e) → (e ≡ NoMemory) ⊎ IsFirstAsmFault text e → IsTrueOf text result
 IsTrueOf-passed text e (Ok q) passed h = absurd passed
 IsTrueOf-passed text e (Err x) passed h = record { found = tt; first_fault = rw passed h }
 
@@ -132,7 +128,7 @@ only_program text p (Err e) h is_text = elim h.first_fault [
 ]
 
 -- where there is a first fault no other answer is true
-pub only_fault : (text : List ℕ) (fault : AsmFault) (result : Result (List Insn) AsmFault) → IsTrueOf text result → IsFirstFault text fault → GivesUnlessNoMemory result (Err fault)
+pub only_fault : (text : List ℕ) (fault : AsmFault) (result : Result (List Insn) AsmFault) → IsTrueOf text result → IsFirstAsmFault text fault → GivesUnlessNoMemory result (Err fault)
 only_fault text fault (Ok q) h first = absurd (no_faulty_line text q fault h.found first)
 only_fault text fault (Err e) h first = elim h.first_fault [
   | inl refused ↦ inl (ap (λ x. Err x) refused)
@@ -156,11 +152,11 @@ not_empty rest done is more = let test : nat_eq (length rest) 0 ≡ false = sym 
 
 pub unread_line : (text rest : List ℕ) (is : List Insn) (units : ℕ) (done : Bool) (fault : LineFault) (e : AsmFault) → AreInstructions is → units ≡ unit_count is → units ≤ PROGRAM_UNITS → text ≡ text_of is ++ rest
     → done ≡ nat_eq (length rest) 0 → done ≡ false → line_at rest ≡ Err fault → e ≡ at_line (length is + 1) fault → IsFaultyLine text e
-unread_line text rest is units done fault e fits counted few lines is_done more unread named = record {
+unread_line text rest is units done fault e fits counted bounded lines is_done more unread named = record {
   front = is;
   rest = rest;
   fits = fits;
-  few = omega (arith, counted, few);
+  bounded = omega (arith, counted, bounded);
   lines = lines;
   some = not_empty rest done is_done more;
   faulty = λ i behind h begins. absurd (no_line rest fault i behind unread h begins);
@@ -170,11 +166,11 @@ unread_line text rest is units done fault e fits counted few lines is_done more 
 
 pub line_past_units : (text rest new : List ℕ) (is : List Insn) (units : ℕ) (done : Bool) (i : Insn) → AreInstructions is → units ≡ unit_count is → units ≤ PROGRAM_UNITS → text ≡ text_of is ++ rest
     → done ≡ nat_eq (length rest) 0 → done ≡ false → rest ≡ line_of i ++ new → IsInstruction i → PROGRAM_UNITS < units + units_of i → IsFaultyLine text (BadCount (length is + 1))
-line_past_units text rest new is units done i fits counted few lines is_done more read h past = record {
+line_past_units text rest new is units done i fits counted bounded lines is_done more read h past = record {
   front = is;
   rest = rest;
   fits = fits;
-  few = omega (arith, counted, few);
+  bounded = omega (arith, counted, bounded);
   lines = lines;
   some = not_empty rest done is_done more;
   faulty = λ j behind g begins.
@@ -215,5 +211,5 @@ line_shortens rest new i read =
 -- instructions that are no program, though few enough, are none, and so is their text
 pub empty_text : (text : List ℕ) (is : List Insn) → (IsProgram is → ⊥) → unit_count is ≤ PROGRAM_UNITS → text ≡ text_of is → text ≡ []
 unfolding text_of
-empty_text text [] none few lines = lines
-empty_text text (i ∷ is) none few lines = absurd (none (record { some = omega arith; few = few }))
+empty_text text [] none bounded lines = lines
+empty_text text (i ∷ is) none bounded lines = absurd (none (record { some = omega arith; bounded = bounded }))

@@ -7,7 +7,7 @@ use Rattle.bpf_model.proofs.Options.{test_of}
 use Rattle.bpf_model.specs.declared.instruction.Operand.{Operand}
 use Rattle.bpf_model.specs.declared.instruction.Operand.TheVariants.{Register, Immediate}
 use Rattle.bpf_model.specs.Spelling.{IsImmediate, IsOffset, IsOperand}
-use Rattle.bpf_assembler.specs.Text.{immediate, offset, register, operand}
+use Rattle.bpf_assembler.specs.Text.{immediate, offset, register_text, operand}
 use Rattle.bpf_assembler.specs.Operands.{run, is_digit, begins_with, byte_at, register_at, positive_at, negative_at, FitsBelow, immediate_at, offset_at, operand_at, comma_at, dst_at, base_at, displacement_at}
 use Rattle.bpf_assembler.proofs.NumberLemmas.{AreDigits, own, number_again}
 
@@ -32,7 +32,7 @@ decimal_begins b n rest small e = digits_begin b (decimal n) rest (digits_decima
 
 -- ---- numbers
 
-pub register_again : (r : ℕ) (rest : List ℕ) → r ≤ 10 → Stops rest → register_at (register r ++ rest) ≡ Ok (r, rest)
+pub register_again : (r : ℕ) (rest : List ℕ) → r ≤ 10 → Stops rest → register_at (register_text r ++ rest) ≡ Ok (r, rest)
 unfolding register_at byte_at
 register_again r rest h stops = number_again 10 r rest h (omega arith) stops
 
@@ -85,7 +85,7 @@ pub comma_again : (rest : List ℕ) → comma_at (44 ∷ 32 ∷ rest) ≡ Ok (tt
 unfolding comma_at byte_at
 comma_again rest = refl
 
-pub dst_again : (r : ℕ) (rest : List ℕ) → r ≤ 10 → Stops rest → dst_at (32 ∷ (register r ++ rest)) ≡ Ok (r, rest)
+pub dst_again : (r : ℕ) (rest : List ℕ) → r ≤ 10 → Stops rest → dst_at (32 ∷ (register_text r ++ rest)) ≡ Ok (r, rest)
 unfolding dst_at byte_at
 dst_again r rest h stops = register_again r rest h stops
 
@@ -93,7 +93,7 @@ pub blank_again : (rest : List ℕ) → byte_at 32 (32 ∷ rest) ≡ Ok (tt, res
 unfolding byte_at
 blank_again rest = refl
 
-pub base_again : (r : ℕ) (z : ℤ) (rest : List ℕ) → r ≤ 10 → base_at (91 ∷ (register r ++ (offset z ++ rest))) ≡ Ok (r, offset z ++ rest)
+pub base_again : (r : ℕ) (z : ℤ) (rest : List ℕ) → r ≤ 10 → base_at (91 ∷ (register_text r ++ (offset z ++ rest))) ≡ Ok (r, offset z ++ rest)
 unfolding base_at byte_at
 base_again r z rest h = register_again r (offset z ++ rest) h (offset_stops z rest)
 

@@ -28,7 +28,7 @@ use Rattle.bpf_assembler.specs.declared.mnemonic.Stem.TheVariants as stem
 use Rattle.bpf_assembler.specs.declared.mnemonic.Mnemonic.{Mnemonic}
 use Rattle.bpf_assembler.specs.declared.mnemonic.Mnemonic.TheVariants.{Alu, Negate, Mov, SignExtend, Reorder, Wide, Load, Store, StoreImmediate, Jump, JumpLong, Branch, Exit}
 use Rattle.bpf_assembler.specs.Names.{alu_word, test_word, stem_word, stem_of, suffix_of, name_of, stems, width_word, widths, extension_word, extensions, swap_word, swap_widths, kind_word, kinds, size_word, sizes}
-use Rattle.bpf_assembler.specs.Reading.{after, named_at, suffixed_at, mnemonic_at, is_name_byte}
+use Rattle.bpf_assembler.specs.Reading.{rest_after, named_at, suffixed_at, mnemonic_at, is_name_byte}
 use Rattle.bpf_assembler.proofs.NameLemmas.{with_stem}
 
 both : (a b : Bool) → a && b ≡ true → (a ≡ true) × (b ≡ true)
@@ -37,28 +37,22 @@ both false b e = absurd cc
 
 -- ---- a name is read as its instruction
 
-alu_again_32 : (op : AluOp) → mnemonic_at stems (name_of (Alu op W32)) ≡ Some (Alu op W32)
-unfolding mnemonic_at name_of after
-alu_again_32 Add = refl
-alu_again_32 op = refl
+alu_again : (width : Width) (op : AluOp) → mnemonic_at stems (name_of (Alu op width)) ≡ Some (Alu op width)
+unfolding mnemonic_at name_of rest_after
+alu_again W32 Add = refl
+alu_again W32 op = refl
+alu_again W64 Add = refl
+alu_again W64 op = refl
 
-alu_again_64 : (op : AluOp) → mnemonic_at stems (name_of (Alu op W64)) ≡ Some (Alu op W64)
-unfolding mnemonic_at name_of after
-alu_again_64 Add = refl
-alu_again_64 op = refl
-
-branch_again_32 : (test : JumpOp) → mnemonic_at stems (name_of (Branch test W32)) ≡ Some (Branch test W32)
-unfolding mnemonic_at name_of after
-branch_again_32 Eq = refl
-branch_again_32 test = refl
-
-branch_again_64 : (test : JumpOp) → mnemonic_at stems (name_of (Branch test W64)) ≡ Some (Branch test W64)
-unfolding mnemonic_at name_of after
-branch_again_64 Eq = refl
-branch_again_64 test = refl
+branch_again : (width : Width) (test : JumpOp) → mnemonic_at stems (name_of (Branch test width)) ≡ Some (Branch test width)
+unfolding mnemonic_at name_of rest_after
+branch_again W32 Eq = refl
+branch_again W32 test = refl
+branch_again W64 Eq = refl
+branch_again W64 test = refl
 
 reorder_again : (size : SwapWidth) (order : ByteOrder) → mnemonic_at stems (name_of (Reorder order size)) ≡ Some (Reorder order size)
-unfolding mnemonic_at name_of after
+unfolding mnemonic_at name_of rest_after
 reorder_again S16 Little = refl
 reorder_again S16 order = refl
 reorder_again S32 Little = refl
@@ -67,29 +61,28 @@ reorder_again S64 Little = refl
 reorder_again S64 order = refl
 
 extension_again : (extension : SignExtension) → mnemonic_at stems (name_of (SignExtend extension)) ≡ Some (SignExtend extension)
-unfolding mnemonic_at name_of after
+unfolding mnemonic_at name_of rest_after
 extension_again From8To32 = refl
 extension_again extension = refl
 
 load_again : (kind : LoadKind) → mnemonic_at stems (name_of (Load kind)) ≡ Some (Load kind)
-unfolding mnemonic_at name_of after
+unfolding mnemonic_at name_of rest_after
 load_again LoadByte = refl
 load_again kind = refl
 
 store_again : (size : AccessSize) → mnemonic_at stems (name_of (Store size)) ≡ Some (Store size)
-unfolding mnemonic_at name_of after
+unfolding mnemonic_at name_of rest_after
 store_again Byte = refl
 store_again size = refl
 
 store_immediate_again : (size : AccessSize) → mnemonic_at stems (name_of (StoreImmediate size)) ≡ Some (StoreImmediate size)
-unfolding mnemonic_at name_of after
+unfolding mnemonic_at name_of rest_after
 store_immediate_again Byte = refl
 store_immediate_again size = refl
 
 pub mnemonic_again : (m : Mnemonic) → mnemonic_at stems (name_of m) ≡ Some m
-unfolding mnemonic_at name_of after
-mnemonic_again (Alu op W32) = alu_again_32 op
-mnemonic_again (Alu op W64) = alu_again_64 op
+unfolding mnemonic_at name_of rest_after
+mnemonic_again (Alu op width) = alu_again width op
 mnemonic_again (Negate W32) = refl
 mnemonic_again (Negate W64) = refl
 mnemonic_again (Mov W32) = refl
@@ -102,14 +95,13 @@ mnemonic_again (Store size) = store_again size
 mnemonic_again (StoreImmediate size) = store_immediate_again size
 mnemonic_again Jump = refl
 mnemonic_again JumpLong = refl
-mnemonic_again (Branch test W32) = branch_again_32 test
-mnemonic_again (Branch test W64) = branch_again_64 test
+mnemonic_again (Branch test width) = branch_again width test
 mnemonic_again Exit = refl
 
 -- ---- what is read has the name
 
-after_found : (front text rest : List ℕ) → after front text ≡ Some rest → text ≡ front ++ rest
-unfolding after
+after_found : (front text rest : List ℕ) → rest_after front text ≡ Some rest → text ≡ front ++ rest
+unfolding rest_after
 after_found front text rest e =
     let (same, behind) = guard_some (bytes_eq (take (length front) text) front) (Some (drop (length front) text)) rest e in
     let first : take (length front) text ≡ front = (bytes_eq-Decides (take (length front) text) front).0 same in
@@ -162,7 +154,7 @@ suffixed_found stem.Exit text m e = alone_by Exit stem.Exit text m (refl, refl) 
 stem_makes : (s : Stem) (name : List ℕ) (m : Mnemonic) → with_stem s name ≡ Some m → name ≡ name_of m
 unfolding name_of
 stem_makes s name m e =
-    let (suffix, behind, made) = chain_some (suffixed_at s) (after (stem_word s) name) m e in
+    let (suffix, behind, made) = chain_some (suffixed_at s) (rest_after (stem_word s) name) m e in
     let (of_stem, of_suffix) = suffixed_found s suffix m made in
     after_found (stem_word s) name suffix behind ∙ ap (λ x. stem_word x ++ suffix) (sym of_stem) ∙ ap (λ x. stem_word (stem_of m) ++ x) (sym of_suffix)
 

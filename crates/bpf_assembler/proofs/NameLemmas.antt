@@ -6,11 +6,11 @@ use Rattle.std.specs.Option.{option_or}
 use Rattle.bpf_assembler.specs.declared.mnemonic.Stem.{Stem}
 use Rattle.bpf_assembler.specs.declared.mnemonic.Mnemonic.{Mnemonic}
 use Rattle.bpf_assembler.specs.Names.{stem_word}
-use Rattle.bpf_assembler.specs.Reading.{after, suffixed_at, mnemonic_at}
+use Rattle.bpf_assembler.specs.Reading.{rest_after, suffixed_at, mnemonic_at}
 
 -- what one stem makes of a name
 abbrev pub with_stem : Stem → List ℕ → Option Mnemonic
-with_stem s name = option_and_then (suffixed_at s) (after (stem_word s) name)
+with_stem s name = option_and_then (suffixed_at s) (rest_after (stem_word s) name)
 
 -- a stem that makes a name ends the search, and one that makes none is passed over
 option_or-some : {A : Type 0} (o p : Option A) → is_some o ≡ true → option_or o p ≡ o

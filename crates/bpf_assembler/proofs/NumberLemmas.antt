@@ -113,7 +113,7 @@ numeral_is_decimal ds all numeral small =
 -- and a number is read again
 pub number_again : (limit n : ℕ) (rest : List ℕ) → n ≤ limit → n < 2 ^ 64 → run is_digit rest ≡ 0 → number_at limit (decimal n ++ rest) ≡ Ok (n, rest)
 unfolding number_at
-number_again limit n rest few small stops =
+number_again limit n rest bounded small stops =
     let len = run-front is_digit (decimal n) rest (digits_decimal own n small) stops in
     let value = digits_value-decimal own n small in
     let within : nat_le n limit ≡ true = grind (arith, nat_tests) in

@@ -9,7 +9,7 @@ use Rattle.bpf_model.specs.Spelling.{IsInstruction}
 use Rattle.bpf_assembler.specs.declared.mnemonic.Mnemonic.{Mnemonic}
 use Rattle.bpf_assembler.specs.declared.fault.LineFault.{LineFault}
 use Rattle.bpf_assembler.specs.Names.{name_of}
-use Rattle.bpf_assembler.specs.Text.{immediate, offset, register, operand, mnemonic_of, operands_of, line_of}
+use Rattle.bpf_assembler.specs.Text.{immediate, offset, register_text, operand, mnemonic_of, operands_of, line_of}
 use Rattle.bpf_assembler.specs.Operands.{run}
 use Rattle.bpf_assembler.specs.Reading.{is_name_byte, operands_at, name_at, newline_at, line_at}
 use Rattle.bpf_assembler.proofs.RunLemmas.{run-front}
@@ -36,49 +36,49 @@ place_first a b c d e f g rest = simp append_assoc
 pub operands_again : (i : Insn) (rest : List ℕ) → IsInstruction i → Stops rest → operands_at (mnemonic_of i) (operands_of i ++ rest) ≡ Ok (i, rest)
 unfolding operands_at operands_of
 operands_again (Alu op width dst src) rest h stops =
-    let parts : operands_of (Alu op width dst src) ++ rest ≡ 32 ∷ (register dst ++ 44 ∷ 32 ∷ (operand src ++ rest)) = four (codes " ") (register dst) (codes ", ") (operand src) rest in
+    let parts : operands_of (Alu op width dst src) ++ rest ≡ 32 ∷ (register_text dst ++ 44 ∷ 32 ∷ (operand src ++ rest)) = four (codes " ") (register_text dst) (codes ", ") (operand src) rest in
     rw (parts, dst_again dst (44 ∷ 32 ∷ (operand src ++ rest)) h.0 (comma_stops _), comma_again (operand src ++ rest), operand_again src rest h.1 stops) refl
 operands_again (Negate width dst) rest h stops =
-    let parts : operands_of (Negate width dst) ++ rest ≡ 32 ∷ (register dst ++ rest) = append_assoc (codes " ") (register dst) rest in
+    let parts : operands_of (Negate width dst) ++ rest ≡ 32 ∷ (register_text dst ++ rest) = append_assoc (codes " ") (register_text dst) rest in
     rw (parts, dst_again dst rest h stops) refl
 operands_again (Mov width dst src) rest h stops =
-    let parts : operands_of (Mov width dst src) ++ rest ≡ 32 ∷ (register dst ++ 44 ∷ 32 ∷ (operand src ++ rest)) = four (codes " ") (register dst) (codes ", ") (operand src) rest in
+    let parts : operands_of (Mov width dst src) ++ rest ≡ 32 ∷ (register_text dst ++ 44 ∷ 32 ∷ (operand src ++ rest)) = four (codes " ") (register_text dst) (codes ", ") (operand src) rest in
     rw (parts, dst_again dst (44 ∷ 32 ∷ (operand src ++ rest)) h.0 (comma_stops _), comma_again (operand src ++ rest), operand_again src rest h.1 stops) refl
 operands_again (SignExtend extension dst src) rest h stops =
-    let parts : operands_of (SignExtend extension dst src) ++ rest ≡ 32 ∷ (register dst ++ 44 ∷ 32 ∷ (register src ++ rest)) = four (codes " ") (register dst) (codes ", ") (register src) rest in
-    rw (parts, dst_again dst (44 ∷ 32 ∷ (register src ++ rest)) h.0 (comma_stops _), comma_again (register src ++ rest), register_again src rest h.1 stops) refl
+    let parts : operands_of (SignExtend extension dst src) ++ rest ≡ 32 ∷ (register_text dst ++ 44 ∷ 32 ∷ (register_text src ++ rest)) = four (codes " ") (register_text dst) (codes ", ") (register_text src) rest in
+    rw (parts, dst_again dst (44 ∷ 32 ∷ (register_text src ++ rest)) h.0 (comma_stops _), comma_again (register_text src ++ rest), register_again src rest h.1 stops) refl
 operands_again (Reorder order size dst) rest h stops =
-    let parts : operands_of (Reorder order size dst) ++ rest ≡ 32 ∷ (register dst ++ rest) = append_assoc (codes " ") (register dst) rest in
+    let parts : operands_of (Reorder order size dst) ++ rest ≡ 32 ∷ (register_text dst ++ rest) = append_assoc (codes " ") (register_text dst) rest in
     rw (parts, dst_again dst rest h stops) refl
 operands_again (Wide dst value) rest h stops =
-    let parts : operands_of (Wide dst value) ++ rest ≡ 32 ∷ (register dst ++ 44 ∷ 32 ∷ (decimal value ++ rest)) = four (codes " ") (register dst) (codes ", ") (decimal value) rest in
+    let parts : operands_of (Wide dst value) ++ rest ≡ 32 ∷ (register_text dst ++ 44 ∷ 32 ∷ (decimal value ++ rest)) = four (codes " ") (register_text dst) (codes ", ") (decimal value) rest in
     rw (parts, dst_again dst (44 ∷ 32 ∷ (decimal value ++ rest)) h.0 (comma_stops _), comma_again (decimal value ++ rest), number_again (2 ^ 64 - 1) value rest (omega (arith, h.1)) h.1 stops) refl
 operands_again (Load kind dst src z) rest h stops =
-    let parts : operands_of (Load kind dst src z) ++ rest ≡ 32 ∷ (register dst ++ 44 ∷ 32 ∷ 91 ∷ (register src ++ (offset z ++ 93 ∷ rest))) = place_last (codes " ") (register dst) (codes ", ") (codes "[") (register src) (offset z) (codes "]") rest in
+    let parts : operands_of (Load kind dst src z) ++ rest ≡ 32 ∷ (register_text dst ++ 44 ∷ 32 ∷ 91 ∷ (register_text src ++ (offset z ++ 93 ∷ rest))) = place_last (codes " ") (register_text dst) (codes ", ") (codes "[") (register_text src) (offset z) (codes "]") rest in
     rw (
       parts,
-      dst_again dst (44 ∷ 32 ∷ 91 ∷ (register src ++ (offset z ++ 93 ∷ rest))) h.0 (comma_stops _),
-      comma_again (91 ∷ (register src ++ (offset z ++ 93 ∷ rest))),
+      dst_again dst (44 ∷ 32 ∷ 91 ∷ (register_text src ++ (offset z ++ 93 ∷ rest))) h.0 (comma_stops _),
+      comma_again (91 ∷ (register_text src ++ (offset z ++ 93 ∷ rest))),
       base_again src z (93 ∷ rest) h.1,
       displacement_again z rest h.2,
     )
     refl
 operands_again (Store size dst (Register src) z) rest h stops =
-    let parts : operands_of (Store size dst (Register src) z) ++ rest ≡ 32 ∷ 91 ∷ (register dst ++ (offset z ++ 93 ∷ 44 ∷ 32 ∷ (register src ++ rest))) = place_first (codes " ") (codes "[") (register dst) (offset z) (codes "]") (codes ", ") (register src) rest in
+    let parts : operands_of (Store size dst (Register src) z) ++ rest ≡ 32 ∷ 91 ∷ (register_text dst ++ (offset z ++ 93 ∷ 44 ∷ 32 ∷ (register_text src ++ rest))) = place_first (codes " ") (codes "[") (register_text dst) (offset z) (codes "]") (codes ", ") (register_text src) rest in
     rw (
       parts,
-      blank_again (91 ∷ (register dst ++ (offset z ++ 93 ∷ 44 ∷ 32 ∷ (register src ++ rest)))),
-      base_again dst z (93 ∷ 44 ∷ 32 ∷ (register src ++ rest)) h.0,
-      displacement_again z (44 ∷ 32 ∷ (register src ++ rest)) h.2,
-      comma_again (register src ++ rest),
+      blank_again (91 ∷ (register_text dst ++ (offset z ++ 93 ∷ 44 ∷ 32 ∷ (register_text src ++ rest)))),
+      base_again dst z (93 ∷ 44 ∷ 32 ∷ (register_text src ++ rest)) h.0,
+      displacement_again z (44 ∷ 32 ∷ (register_text src ++ rest)) h.2,
+      comma_again (register_text src ++ rest),
       register_again src rest h.1 stops,
     )
     refl
 operands_again (Store size dst (Immediate imm) z) rest h stops =
-    let parts : operands_of (Store size dst (Immediate imm) z) ++ rest ≡ 32 ∷ 91 ∷ (register dst ++ (offset z ++ 93 ∷ 44 ∷ 32 ∷ (immediate imm ++ rest))) = place_first (codes " ") (codes "[") (register dst) (offset z) (codes "]") (codes ", ") (immediate imm) rest in
+    let parts : operands_of (Store size dst (Immediate imm) z) ++ rest ≡ 32 ∷ 91 ∷ (register_text dst ++ (offset z ++ 93 ∷ 44 ∷ 32 ∷ (immediate imm ++ rest))) = place_first (codes " ") (codes "[") (register_text dst) (offset z) (codes "]") (codes ", ") (immediate imm) rest in
     rw (
       parts,
-      blank_again (91 ∷ (register dst ++ (offset z ++ 93 ∷ 44 ∷ 32 ∷ (immediate imm ++ rest)))),
+      blank_again (91 ∷ (register_text dst ++ (offset z ++ 93 ∷ 44 ∷ 32 ∷ (immediate imm ++ rest)))),
       base_again dst z (93 ∷ 44 ∷ 32 ∷ (immediate imm ++ rest)) h.0,
       displacement_again z (44 ∷ 32 ∷ (immediate imm ++ rest)) h.2,
       comma_again (immediate imm ++ rest),
@@ -90,7 +90,7 @@ operands_again (Jump z) rest h stops =
 operands_again (JumpLong z) rest h stops =
     rw (blank_again (offset z ++ rest), offset_again (2 ^ 31) z rest (below_immediate z h) (omega arith) stops) refl
 operands_again (Branch test width dst src z) rest h stops =
-    let parts : operands_of (Branch test width dst src z) ++ rest ≡ 32 ∷ (register dst ++ 44 ∷ 32 ∷ (operand src ++ 44 ∷ 32 ∷ (offset z ++ rest))) = six (codes " ") (register dst) (codes ", ") (operand src) (codes ", ") (offset z) rest in
+    let parts : operands_of (Branch test width dst src z) ++ rest ≡ 32 ∷ (register_text dst ++ 44 ∷ 32 ∷ (operand src ++ 44 ∷ 32 ∷ (offset z ++ rest))) = six (codes " ") (register_text dst) (codes ", ") (operand src) (codes ", ") (offset z) rest in
     rw (
       parts,
       dst_again dst (44 ∷ 32 ∷ (operand src ++ 44 ∷ 32 ∷ (offset z ++ rest))) h.0 (comma_stops _),

@@ -13,13 +13,13 @@ use Rattle.bpf_assembler.specs.Operands.{Read}
 use Rattle.bpf_assembler.specs.Reading.{line_at}
 
 -- the number under which a fault is printed
-abbrev pub number_of : AsmFault → ℕ
-number_of NoMemory = 9
-number_of (UnknownName line) = 20
-number_of (BadOperand line) = 21
-number_of (OutOfRange line) = 22
-number_of (Trailing line) = 23
-number_of (BadCount line) = 24
+abbrev pub asm_fault_number : AsmFault → ℕ
+asm_fault_number NoMemory = 9
+asm_fault_number (UnknownName line) = 20
+asm_fault_number (BadOperand line) = 21
+asm_fault_number (OutOfRange line) = 22
+asm_fault_number (Trailing line) = 23
+asm_fault_number (BadCount line) = 24
 
 -- the line that it names
 abbrev pub line_number : AsmFault → ℕ
@@ -31,14 +31,14 @@ line_number (Trailing line) = line
 line_number (BadCount line) = line
 
 -- what is printed of it
-abbrev pub message_of : AsmFault → List ℕ
-message_of NoMemory = codes "no memory"
-message_of (UnknownName line) = codes "unknown name in line " ++ decimal line
-message_of (BadOperand line) = codes "bad operand in line " ++ decimal line
-message_of (OutOfRange line) = codes "number out of range in line " ++ decimal line
-message_of (Trailing line) = codes "no newline after the last operand in line " ++ decimal line
-message_of (BadCount zero) = codes "no line"
-message_of (BadCount (suc n)) = codes "more than " ++ decimal PROGRAM_UNITS ++ codes " units in line " ++ decimal (suc n)
+abbrev pub asm_fault_message : AsmFault → List ℕ
+asm_fault_message NoMemory = codes "no memory"
+asm_fault_message (UnknownName line) = codes "unknown name in line " ++ decimal line
+asm_fault_message (BadOperand line) = codes "bad operand in line " ++ decimal line
+asm_fault_message (OutOfRange line) = codes "number out of range in line " ++ decimal line
+asm_fault_message (Trailing line) = codes "no newline after the last operand in line " ++ decimal line
+asm_fault_message (BadCount zero) = codes "no line"
+asm_fault_message (BadCount (suc n)) = codes "more than " ++ decimal PROGRAM_UNITS ++ codes " units in line " ++ decimal (suc n)
 
 -- a fault of this line
 abbrev pub at_line : ℕ → LineFault → AsmFault
@@ -58,7 +58,7 @@ pub record IsFaultyLine (text : List ℕ) (fault : AsmFault) : Type 0 where
   pub front : List Insn
   pub rest : List ℕ
   pub fits : AreInstructions front
-  pub few : unit_count front ≤ PROGRAM_UNITS
+  pub bounded : unit_count front ≤ PROGRAM_UNITS
   pub lines : text ≡ text_of front ++ rest
   pub some : 0 < length rest
   pub faulty : (i : Insn) (more : List ℕ) → IsInstruction i → rest ≡ line_of i ++ more → PROGRAM_UNITS < unit_count front + units_of i
@@ -66,8 +66,8 @@ pub record IsFaultyLine (text : List ℕ) (fault : AsmFault) : Type 0 where
   pub first : fault ≡ fault_in (line_at rest) (length front + 1)
 
 -- the fault of the first faulty line; an empty text has its fault in line 0
-abbrev pub IsFirstFault : List ℕ → AsmFault → Type 0
-IsFirstFault text fault = ((text ≡ []) × (fault ≡ BadCount 0)) ⊎ IsFaultyLine text fault
+abbrev pub IsFirstAsmFault : List ℕ → AsmFault → Type 0
+IsFirstAsmFault text fault = ((text ≡ []) × (fault ≡ BadCount 0)) ⊎ IsFaultyLine text fault
 
 -- the call answers so, unless memory was refused to it
 abbrev pub GivesUnlessNoMemory : {A : Type 0} → Result A AsmFault → Result A AsmFault → Type 0

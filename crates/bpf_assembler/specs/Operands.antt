@@ -21,8 +21,8 @@ Gives rest (Ok x) read = read ≡ Ok (x, rest)
 Gives rest (Err e) read = read ≡ Err e
 
 -- a call that returned what fits took its text
-abbrev pub Takes : {A : Type 0} → (A → List ℕ) → (A → Type 0) → List ℕ → List ℕ → Result A LineFault → Type 0
-Takes text fits old new result = IfOk result (λ x. (old ≡ text x ++ new) × fits x)
+abbrev pub TakesText : {A : Type 0} → (A → List ℕ) → (A → Type 0) → List ℕ → List ℕ → Result A LineFault → Type 0
+TakesText text fits old new result = IfOk result (λ x. (old ≡ text x ++ new) × fits x)
 
 -- how many bytes at the front have the property
 unfoldable pub run : (ℕ → Bool) → List ℕ → ℕ

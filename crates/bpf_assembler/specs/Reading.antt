@@ -25,8 +25,8 @@ abbrev pub is_name_byte : ℕ → Bool
 is_name_byte c = not (nat_eq c 32) && not (nat_eq c 10)
 
 -- what stands behind the front
-unfoldable pub after : List ℕ → List ℕ → Option (List ℕ)
-after front text = if bytes_eq (take (length front) text) front then Some (drop (length front) text) else None
+unfoldable pub rest_after : List ℕ → List ℕ → Option (List ℕ)
+rest_after front text = if bytes_eq (take (length front) text) front then Some (drop (length front) text) else None
 
 -- the first that has this word
 abbrev pub named_at : {A : Type 0} → (A → List ℕ) → List A → List ℕ → Option A
@@ -51,7 +51,7 @@ suffixed_at stem.Exit text = if nat_eq (length text) 0 then Some Exit else None
 -- the instruction of the first word for what is done that its name begins with
 unfoldable pub mnemonic_at : List Stem → List ℕ → Option Mnemonic
 mnemonic_at [] name = None
-mnemonic_at (s ∷ others) name = option_or (option_and_then (suffixed_at s) (after (stem_word s) name)) (mnemonic_at others name)
+mnemonic_at (s ∷ others) name = option_or (option_and_then (suffixed_at s) (rest_after (stem_word s) name)) (mnemonic_at others name)
 
 abbrev pub or_unknown : Option Mnemonic → List ℕ → Read Mnemonic
 or_unknown None rest = Err UnknownName

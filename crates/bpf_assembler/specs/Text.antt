@@ -22,16 +22,16 @@ abbrev pub offset : ℤ → List ℕ
 offset (pos n) = codes "+" ++ decimal n
 offset (negsuc n) = codes "-" ++ decimal (suc n)
 
-abbrev pub register : ℕ → List ℕ
-register r = codes "r" ++ decimal r
+abbrev pub register_text : ℕ → List ℕ
+register_text r = codes "r" ++ decimal r
 
 abbrev pub operand : Operand → List ℕ
-operand (Register r) = register r
+operand (Register r) = register_text r
 operand (Immediate imm) = immediate imm
 
 -- the place in memory at an offset from a register
-abbrev pub place : ℕ → ℤ → List ℕ
-place r z = codes "[" ++ register r ++ offset z ++ codes "]"
+abbrev pub address_text : ℕ → ℤ → List ℕ
+address_text r z = codes "[" ++ register_text r ++ offset z ++ codes "]"
 
 -- an instruction without its operands
 abbrev pub mnemonic_of : Insn → Mnemonic
@@ -51,17 +51,17 @@ mnemonic_of insn.Exit = Exit
 
 -- the operands, with the blank before them
 unfoldable pub operands_of : Insn → List ℕ
-operands_of (insn.Alu op width dst src) = codes " " ++ register dst ++ codes ", " ++ operand src
-operands_of (insn.Negate width dst) = codes " " ++ register dst
-operands_of (insn.Mov width dst src) = codes " " ++ register dst ++ codes ", " ++ operand src
-operands_of (insn.SignExtend extension dst src) = codes " " ++ register dst ++ codes ", " ++ register src
-operands_of (insn.Reorder order size dst) = codes " " ++ register dst
-operands_of (insn.Wide dst value) = codes " " ++ register dst ++ codes ", " ++ decimal value
-operands_of (insn.Load kind dst src z) = codes " " ++ register dst ++ codes ", " ++ place src z
-operands_of (insn.Store size dst src z) = codes " " ++ place dst z ++ codes ", " ++ operand src
+operands_of (insn.Alu op width dst src) = codes " " ++ register_text dst ++ codes ", " ++ operand src
+operands_of (insn.Negate width dst) = codes " " ++ register_text dst
+operands_of (insn.Mov width dst src) = codes " " ++ register_text dst ++ codes ", " ++ operand src
+operands_of (insn.SignExtend extension dst src) = codes " " ++ register_text dst ++ codes ", " ++ register_text src
+operands_of (insn.Reorder order size dst) = codes " " ++ register_text dst
+operands_of (insn.Wide dst value) = codes " " ++ register_text dst ++ codes ", " ++ decimal value
+operands_of (insn.Load kind dst src z) = codes " " ++ register_text dst ++ codes ", " ++ address_text src z
+operands_of (insn.Store size dst src z) = codes " " ++ address_text dst z ++ codes ", " ++ operand src
 operands_of (insn.Jump distance) = codes " " ++ offset distance
 operands_of (insn.JumpLong distance) = codes " " ++ offset distance
-operands_of (insn.Branch test width dst src distance) = codes " " ++ register dst ++ codes ", " ++ operand src ++ codes ", " ++ offset distance
+operands_of (insn.Branch test width dst src distance) = codes " " ++ register_text dst ++ codes ", " ++ operand src ++ codes ", " ++ offset distance
 operands_of insn.Exit = []
 
 -- an instruction's text: its line without the newline

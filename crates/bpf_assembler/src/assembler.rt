@@ -6,7 +6,7 @@ ghost use Rattle.bpf_model.specs.Spelling.{AreInstructions};
 ghost use Rattle.bpf_assembler.specs.declared.fault.AsmFault.{AsmFault};
 ghost use Rattle.bpf_assembler.specs.declared.fault.AsmFault.TheVariants.{NoMemory};
 ghost use Rattle.bpf_assembler.specs.Text.{text_of, IsTextOf, BeginsWithLine};
-ghost use Rattle.bpf_assembler.specs.Faults.{IsFaultyLine, IsFirstFault, GivesUnlessNoMemory};
+ghost use Rattle.bpf_assembler.specs.Faults.{IsFaultyLine, IsFirstAsmFault, GivesUnlessNoMemory};
 
 use crate::cursor::Cursor;
 use crate::fault::AsmFault;
@@ -22,7 +22,7 @@ fn append(instructions: &mut Vec<Insn>, insn: &Insn) -> Result<(), AllocError>
 
 fn instructions(alloc: Global, text: &[u8]) -> Result<Vec<Insn>, AsmFault>
     ensures fits { IfOk result (λ v. AreInstructions v.items) }
-    ensures few { IfOk result (λ v. unit_count v.items ≤ PROGRAM_UNITS) }
+    ensures bounded { IfOk result (λ v. unit_count v.items ≤ PROGRAM_UNITS) }
     ensures lines { IfOk result (λ v. text.now ≡ text_of v.items) }
     ensures first_fault { IfErr result (λ e. (e ≡ NoMemory) ⊎ IsFaultyLine text.now e) }
     ensures memory { result ≡ Err NoMemory → BeginsWithLine text.now }
@@ -53,11 +53,11 @@ pub fn assemble(alloc: Global, text: &str) -> Result<Program, AsmFault>
     // A program that has this text is read, unless memory is refused.
     ensures only { (p : List Insn) → IsTextOf text.now p → GivesUnlessNoMemory result (Ok p) }
     // Which line is refused, and why.
-    ensures first_fault { IfErr result (λ e. (e ≡ NoMemory) ⊎ IsFirstFault text.now e) }
+    ensures first_fault { IfErr result (λ e. (e ≡ NoMemory) ⊎ IsFirstAsmFault text.now e) }
     // Memory can be refused only where a line was read.
     ensures memory { result ≡ Err NoMemory → BeginsWithLine text.now }
     // A text with a faulty line is refused.
-    ensures refused { (e : AsmFault) → IsFirstFault text.now e
+    ensures refused { (e : AsmFault) → IsFirstAsmFault text.now e
         → GivesUnlessNoMemory result (Err e) }
 {
     let instructions = instructions(alloc, text.as_bytes())?;

@@ -1,7 +1,7 @@
 //! Why a text is no program.
 ghost use Rattle.std.specs.Prelude.{◌≡◌, Some};
 ghost use Rattle.bpf_assembler.specs.declared.fault.AsmFault.TheVariants.{NoMemory as OutOfMemory};
-ghost use Rattle.bpf_assembler.specs.Faults.{number_of, line_number, message_of, at_line};
+ghost use Rattle.bpf_assembler.specs.Faults.{asm_fault_number, line_number, asm_fault_message, at_line};
 
 use bpf_model::NoMemory;
 use bpf_model::limits::PROGRAM_UNITS;
@@ -30,7 +30,7 @@ pub enum AsmFault {
 impl AsmFault {
     /// The number under which the fault is printed, 9 or 20 to 24.
     pub fn number(&self) -> u8
-        ensures { result ≡ number_of self.now }
+        ensures { result ≡ asm_fault_number self.now }
     {
         match self {
             AsmFault::NoMemory => NoMemory::NUMBER,
@@ -58,7 +58,7 @@ impl AsmFault {
 }
 
 impl fmt::Display for AsmFault {
-    ghost output = { λ fault. Some (message_of fault) };
+    ghost output = { λ fault. Some (asm_fault_message fault) };
 
     fn fmt<W: fmt::Write>(&self, f: &mut fmt::Formatter<W>) -> fmt::Result {
         match self {

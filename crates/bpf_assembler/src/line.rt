@@ -2,8 +2,8 @@
 ghost use Rattle.std.specs.Prelude.{◌≡◌, ◌++◌, codes, IfOk, OnOk};
 ghost use Rattle.bpf_model.specs.Spelling.{IsRegister, IsOffset, IsOperand, IsInstruction};
 ghost use Rattle.bpf_assembler.specs.Names.{name_of};
-ghost use Rattle.bpf_assembler.specs.Text.{register, operand, offset, mnemonic_of, operands_of, line_of};
-ghost use Rattle.bpf_assembler.specs.Operands.{Gives, Takes, comma_at, operand_at, base_at, displacement_at};
+ghost use Rattle.bpf_assembler.specs.Text.{register_text, operand, offset, mnemonic_of, operands_of, line_of};
+ghost use Rattle.bpf_assembler.specs.Operands.{Gives, TakesText, comma_at, operand_at, base_at, displacement_at};
 ghost use Rattle.bpf_assembler.specs.Reading.{operands_at, name_at, line_at};
 
 use crate::cursor::Cursor;
@@ -26,7 +26,7 @@ impl<'a> Cursor<'a> {
     #[tactic(auto, unfolding(crate::specs::Operands::operand_at))]
     pub(crate) fn operand(&mut self) -> Result<Operand, LineFault>
         ensures exact { Gives self.new.rest.now result (operand_at self.old.rest.now) }
-        ensures found { Takes operand IsOperand self.old.rest.now self.new.rest.now result }
+        ensures found { TakesText operand IsOperand self.old.rest.now self.new.rest.now result }
     {
         if self.begins_with(b'r') {
             let register = self.register()?;
@@ -41,7 +41,7 @@ impl<'a> Cursor<'a> {
     #[tactic(auto, unfolding(crate::specs::Operands::base_at))]
     pub(crate) fn base(&mut self) -> Result<Reg, LineFault>
         ensures exact { Gives self.new.rest.now result (base_at self.old.rest.now) }
-        ensures found { Takes (λ r. codes "[" ++ register r) IsRegister
+        ensures found { TakesText (λ r. codes "[" ++ register_text r) IsRegister
             self.old.rest.now self.new.rest.now result }
     {
         self.byte(b'[')?;
@@ -52,7 +52,7 @@ impl<'a> Cursor<'a> {
     #[tactic(auto, unfolding(crate::specs::Operands::displacement_at))]
     pub(crate) fn displacement(&mut self) -> Result<i16, LineFault>
         ensures exact { Gives self.new.rest.now result (displacement_at self.old.rest.now) }
-        ensures found { Takes (λ z. offset z ++ codes "]") IsOffset
+        ensures found { TakesText (λ z. offset z ++ codes "]") IsOffset
             self.old.rest.now self.new.rest.now result }
     {
         let offset = self.offset()?;
@@ -76,7 +76,7 @@ impl<'a> Cursor<'a> {
     #[tactic(auto, unfolding(crate::specs::Reading::line_at, crate::specs::Text::line_of))]
     pub(crate) fn line(&mut self) -> Result<Insn, LineFault>
         ensures exact { Gives self.new.rest.now result (line_at self.old.rest.now) }
-        ensures found { Takes line_of IsInstruction self.old.rest.now self.new.rest.now result }
+        ensures found { TakesText line_of IsInstruction self.old.rest.now self.new.rest.now result }
     {
         let mnemonic = self.mnemonic()?;
         let insn = self.operands(mnemonic)?;

@@ -2,7 +2,7 @@
 ghost use Rattle.std.specs.Prelude.{◌≡◌, option_and_then};
 ghost use Rattle.bpf_assembler.specs.Names.{stem_word, stem_of, suffix_of, stems};
 ghost use Rattle.bpf_assembler.specs.Text.{mnemonic_of};
-ghost use Rattle.bpf_assembler.specs.Reading.{after, suffixed_at, mnemonic_at};
+ghost use Rattle.bpf_assembler.specs.Reading.{rest_after, suffixed_at, mnemonic_at};
 
 use crate::tables::{Named, with_word};
 use bpf_model::{
@@ -112,9 +112,9 @@ impl Named for Stem {
 
 impl Stem {
     /// The instruction of this name, where the name begins with the stem's word.
-    #[tactic(auto, unfolding(crate::specs::Reading::after))]
+    #[tactic(auto, unfolding(crate::specs::Reading::rest_after))]
     fn named_in(self, name: &[u8]) -> Option<Mnemonic>
-        ensures { result ≡ option_and_then (suffixed_at self) (after (stem_word self) name.now) }
+        ensures { result ≡ option_and_then (suffixed_at self) (rest_after (stem_word self) name.now) }
     {
         self.with_suffix(name.strip_prefix(self.word().as_bytes())?)
     }

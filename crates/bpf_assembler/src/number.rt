@@ -1,8 +1,8 @@
 //! Numbers of a text: registers, immediates, offsets and distances.
 ghost use Rattle.std.specs.Prelude.{◌≡◌, ◌≤◌, ◌<◌, ◌^◌, ◌++◌, ℕ, suc, pos, negsuc, length, decimal, All, IfOk, IfSome, IfNone};
 ghost use Rattle.bpf_model.specs.Spelling.{IsRegister, IsImmediate, IsOffset};
-ghost use Rattle.bpf_assembler.specs.Text.{register, immediate, offset};
-ghost use Rattle.bpf_assembler.specs.Operands.{Gives, Takes, value_from, is_digit, is_numeral, number_at, register_at, positive_at, negative_at, immediate_at, offset_at, FitsBelow};
+ghost use Rattle.bpf_assembler.specs.Text.{register_text, immediate, offset};
+ghost use Rattle.bpf_assembler.specs.Operands.{Gives, TakesText, value_from, is_digit, is_numeral, number_at, register_at, positive_at, negative_at, immediate_at, offset_at, FitsBelow};
 
 use crate::cursor::Cursor;
 use crate::fault::LineFault;
@@ -37,7 +37,7 @@ impl<'a> Cursor<'a> {
     #[tactic(auto, unfolding(crate::specs::Operands::number_at))]
     pub(crate) fn number(&mut self, limit: u64) -> Result<u64, LineFault>
         ensures exact { Gives self.new.rest.now result (number_at limit self.old.rest.now) }
-        ensures found { Takes decimal (λ n. n ≤ limit) self.old.rest.now self.new.rest.now result }
+        ensures found { TakesText decimal (λ n. n ≤ limit) self.old.rest.now self.new.rest.now result }
     {
         let digits = self.digits();
         if !is_numeral(digits) {
@@ -53,7 +53,7 @@ impl<'a> Cursor<'a> {
     #[tactic(auto, unfolding(crate::specs::Operands::register_at))]
     pub(crate) fn register(&mut self) -> Result<Reg, LineFault>
         ensures exact { Gives self.new.rest.now result (register_at self.old.rest.now) }
-        ensures found { Takes register IsRegister self.old.rest.now self.new.rest.now result }
+        ensures found { TakesText register_text IsRegister self.old.rest.now self.new.rest.now result }
     {
         self.byte(b'r')?;
         let number = self.number(10)?;
@@ -64,7 +64,7 @@ impl<'a> Cursor<'a> {
     #[tactic(auto, unfolding(crate::specs::Operands::positive_at))]
     fn positive(&mut self, half: u32) -> Result<i32, LineFault>
         requires some { 1 ≤ half }
-        requires few { half ≤ 2 ^ 31 }
+        requires bounded { half ≤ 2 ^ 31 }
         ensures exact { Gives self.new.rest.now result (positive_at half self.old.rest.now) }
         ensures found { IfOk result (λ z. (n : ℕ) × ((z ≡ pos n)
             × (self.old.rest.now ≡ decimal n ++ self.new.rest.now) × (n < half))) }
@@ -76,7 +76,7 @@ impl<'a> Cursor<'a> {
     /// Takes the rest of a negative number, behind its sign.
     #[tactic(auto, unfolding(crate::specs::Operands::negative_at))]
     fn negative(&mut self, half: u32) -> Result<i32, LineFault>
-        requires few { half ≤ 2 ^ 31 }
+        requires bounded { half ≤ 2 ^ 31 }
         ensures exact { Gives self.new.rest.now result (negative_at half self.old.rest.now) }
         ensures found { IfOk result (λ z. (n : ℕ) × ((z ≡ negsuc n)
             × (self.old.rest.now ≡ decimal (suc n) ++ self.new.rest.now) × (n < half))) }
@@ -106,7 +106,7 @@ impl<'a> Cursor<'a> {
     #[tactic(auto, unfolding(crate::specs::Operands::offset_at))]
     fn signed(&mut self, half: u32) -> Result<i32, LineFault>
         requires some { 1 ≤ half }
-        requires few { half ≤ 2 ^ 31 }
+        requires bounded { half ≤ 2 ^ 31 }
         ensures exact { Gives self.new.rest.now result (offset_at half self.old.rest.now) }
         ensures found { IfOk result (λ z. self.old.rest.now ≡ offset z ++ self.new.rest.now) }
         ensures fits { IfOk result (FitsBelow half) }

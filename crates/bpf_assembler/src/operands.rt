@@ -2,8 +2,8 @@
 ghost use Rattle.std.specs.Prelude.{◌≡◌, ◌++◌, codes, IfOk};
 ghost use Rattle.bpf_model.specs.Spelling.{IsRegister, IsInstruction};
 ghost use Rattle.bpf_assembler.specs.declared.mnemonic.Mnemonic.TheVariants.{Alu, Negate, Mov, SignExtend, Reorder, Wide, Load, Store, StoreImmediate, Jump, JumpLong, Branch};
-ghost use Rattle.bpf_assembler.specs.Text.{register, mnemonic_of, operands_of};
-ghost use Rattle.bpf_assembler.specs.Operands.{Gives, Takes, dst_at};
+ghost use Rattle.bpf_assembler.specs.Text.{register_text, mnemonic_of, operands_of};
+ghost use Rattle.bpf_assembler.specs.Operands.{Gives, TakesText, dst_at};
 ghost use Rattle.bpf_assembler.specs.Reading.{TakesOperands, operands_at};
 
 use crate::cursor::Cursor;
@@ -18,7 +18,7 @@ impl<'a> Cursor<'a> {
     #[tactic(auto, unfolding(crate::specs::Operands::dst_at))]
     fn dst(&mut self) -> Result<Reg, LineFault>
         ensures exact { Gives self.new.rest.now result (dst_at self.old.rest.now) }
-        ensures found { Takes (λ r. codes " " ++ register r) IsRegister
+        ensures found { TakesText (λ r. codes " " ++ register_text r) IsRegister
             self.old.rest.now self.new.rest.now result }
     {
         self.byte(b' ')?;

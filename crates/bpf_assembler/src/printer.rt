@@ -2,7 +2,7 @@
 ghost use Rattle.std.specs.Prelude.{◌≡◌, ◌≤◌, ◌++◌, codes, IfOk, OnOk, string_bytes};
 ghost use Rattle.bpf_model.specs.Spelling.{IsRegister, IsOperand, IsInstruction};
 ghost use Rattle.bpf_assembler.specs.Names.{name_of};
-ghost use Rattle.bpf_assembler.specs.Text.{register, operand, offset, place, mnemonic_of, operands_of, instruction_text, line_of, text_of, IsTextOf};
+ghost use Rattle.bpf_assembler.specs.Text.{register_text, operand, offset, address_text, mnemonic_of, operands_of, instruction_text, line_of, text_of, IsTextOf};
 
 use crate::mnemonic::Mnemonic;
 use crate::tables::Named;
@@ -36,7 +36,7 @@ fn write_signed(text: &mut String, number: i32) -> Result<(), AllocError>
 
 fn write_place(text: &mut String, base: Reg, displacement: i16) -> Result<(), AllocError>
     ensures text { OnOk result
-        (string_bytes text.new ≡ string_bytes text.old ++ place base displacement) }
+        (string_bytes text.new ≡ string_bytes text.old ++ address_text base displacement) }
     ensures fits { OnOk result (IsRegister base) }
 {
     write!(text, "[r{}", base.number())?;
@@ -46,7 +46,7 @@ fn write_place(text: &mut String, base: Reg, displacement: i16) -> Result<(), Al
 
 fn write_pair(text: &mut String, dst: Reg, src: Operand) -> Result<(), AllocError>
     ensures text { OnOk result (string_bytes text.new
-        ≡ string_bytes text.old ++ codes " " ++ register dst ++ codes ", " ++ operand src) }
+        ≡ string_bytes text.old ++ codes " " ++ register_text dst ++ codes ", " ++ operand src) }
     ensures fits { OnOk result (IsRegister dst × IsOperand src) }
 {
     write!(text, " r{}, ", dst.number())?;
@@ -68,7 +68,7 @@ fn write_store(
     src: Operand,
 ) -> Result<(), AllocError>
     ensures text { OnOk result (string_bytes text.new
-        ≡ string_bytes text.old ++ codes " " ++ place base displacement ++ codes ", " ++ operand src) }
+        ≡ string_bytes text.old ++ codes " " ++ address_text base displacement ++ codes ", " ++ operand src) }
     ensures fits { OnOk result (IsRegister base × IsOperand src) }
 {
     text.push_str(" ")?;

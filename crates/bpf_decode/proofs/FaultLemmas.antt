@@ -15,8 +15,8 @@ use Rattle.std.proofs.lemmas.List.{append-nil, nil_from_length}
 use Rattle.bpf_decode.specs.declared.fault.DecodeFault.{DecodeFault}
 use Rattle.bpf_decode.specs.declared.fault.DecodeFault.TheVariants.{NoMemory}
 use Rattle.bpf_decode.specs.declared.fault.UnitFault.{UnitFault}
-use Rattle.bpf_decode.specs.UnitFaults.{FitUnit, fault_of, has_imm_alone, HasSecondFault, HasFault}
-use Rattle.bpf_decode.specs.Faults.{length_fault, at_unit, IsFirstFault, GivesUnlessNoMemory}
+use Rattle.bpf_decode.specs.UnitFaults.{FitUnit, unit_fault, has_imm_alone, HasSecondFault, UnitHas}
+use Rattle.bpf_decode.specs.Faults.{length_fault, decode_fault_at, IsFirstDecodeFault, GivesUnlessNoMemory}
 use Rattle.bpf_decode.proofs.UnitLemmas.{length-unit_bytes, unit_bytes-first}
 use Rattle.bpf_decode.proofs.FieldLemmas.{fit-fields_of, fit-second_unit, fault_of-fields_of}
 use Rattle.bpf_decode.proofs.WideLemmas.{is_wide}
@@ -42,11 +42,11 @@ second_is_faultless value xs ys fault word (inr (unused, more)) e =
     absurd cc
 
 -- a unit with a fault begins no instruction
-begins_none : (i : Insn) (f : Fields) (xs ys : List ℕ) (fault : UnitFault) → IsInstruction i → FitUnit f → HasFault f ys fault → spelling i ++ xs ≡ unit_bytes f ++ ys → ⊥
+begins_none : (i : Insn) (f : Fields) (xs ys : List ℕ) (fault : UnitFault) → IsInstruction i → FitUnit f → UnitHas f ys fault → spelling i ++ xs ≡ unit_bytes f ++ ys → ⊥
 begins_none i f xs ys fault is-i fit faulty e =
     let first = unit_bytes-first (fields_of i) f (second_bytes i ++ xs) ys (fit-fields_of i is-i) fit (sym (spelling-first_unit i xs) ∙ e) in
     elim faulty [
-      | inl own ↦ is_both (fault_of f) fault (ap fault_of (sym first.0) ∙ fault_of-fields_of i is-i) own
+      | inl own ↦ is_both (unit_fault f) fault (ap unit_fault (sym first.0) ∙ fault_of-fields_of i is-i) own
       | inr (half, second) ↦
           let wide = is_wide i is-i (ap Fields.opcode first.0 ∙ half.opcode) in
           second_is_faultless wide.0 xs ys fault wide.1 second (ap (λ (x : List ℕ). x ++ xs) (sym wide.2) ∙ first.1)
@@ -60,19 +60,19 @@ second_fault_is_one xs a b (inr (unused, more)) (inl (cut, none)) = absurd (is_a
 second_fault_is_one xs a b (inr (unused, more)) (inr (too, other)) = unused ∙ sym too
 
 -- a unit has one fault at most
-fault_is_one : (f : Fields) (xs : List ℕ) (a b : UnitFault) → HasFault f xs a → HasFault f xs b → a ≡ b
+fault_is_one : (f : Fields) (xs : List ℕ) (a b : UnitFault) → UnitHas f xs a → UnitHas f xs b → a ≡ b
 fault_is_one f xs a b (inl own) (inl too) = let both : Some a ≡ Some b = sym own ∙ too in cc
-fault_is_one f xs a b (inl own) (inr (half, second)) = absurd (is_both (fault_of f) a half.faultless own)
-fault_is_one f xs a b (inr (half, second)) (inl own) = absurd (is_both (fault_of f) b half.faultless own)
+fault_is_one f xs a b (inl own) (inr (half, second)) = absurd (is_both (unit_fault f) a half.faultless own)
+fault_is_one f xs a b (inr (half, second)) (inl own) = absurd (is_both (unit_fault f) b half.faultless own)
 fault_is_one f xs a b (inr (half, second)) (inr (too, other)) = second_fault_is_one xs a b second other
 
 -- after the same instructions comes the same fault
 unit_faults_agree : (p q : List Insn) (f g : Fields) (xs ys : List ℕ) (a b : UnitFault)
-    → AreInstructions p → AreInstructions q → FitUnit f → FitUnit g → HasFault f xs a → HasFault g ys b
+    → AreInstructions p → AreInstructions q → FitUnit f → FitUnit g → UnitHas f xs a → UnitHas g ys b
     → spelling_of_all p ++ (unit_bytes f ++ xs) ≡ spelling_of_all q ++ (unit_bytes g ++ ys) → (p ≡ q) × (a ≡ b)
 unit_faults_agree [] [] f g xs ys a b is-p is-q fit-f fit-g has-f has-g e =
     let same = unit_bytes-first f g xs ys fit-f fit-g e in
-    (refl, fault_is_one g ys a b (subst (λ (h : Fields). HasFault h ys a) same.0 (subst (λ (zs : List ℕ). HasFault f zs a) same.1 has-f)) has-g)
+    (refl, fault_is_one g ys a b (subst (λ (h : Fields). UnitHas h ys a) same.0 (subst (λ (zs : List ℕ). UnitHas f zs a) same.1 has-f)) has-g)
 unit_faults_agree [] (j ∷ q) f g xs ys a b is-p is-q fit-f fit-g has-f has-g e =
     absurd (begins_none j f (spelling_of_all q ++ (unit_bytes g ++ ys)) xs a is-q.0 fit-f has-f (sym (spelling_of_all-cons j q _) ∙ sym e))
 unit_faults_agree (i ∷ p) [] f g xs ys a b is-p is-q fit-f fit-g has-f has-g e =
@@ -87,7 +87,7 @@ unit_faults_agree (i ∷ p) (j ∷ q) f g xs ys a b is-p is-q fit-f fit-g has-f 
 
 -- no unit of instructions has a fault
 spelled_is_faultless : (p q : List Insn) (f : Fields) (xs : List ℕ) (fault : UnitFault)
-    → AreInstructions p → AreInstructions q → FitUnit f → HasFault f xs fault → spelling_of_all p ≡ spelling_of_all q ++ (unit_bytes f ++ xs) → ⊥
+    → AreInstructions p → AreInstructions q → FitUnit f → UnitHas f xs fault → spelling_of_all p ≡ spelling_of_all q ++ (unit_bytes f ++ xs) → ⊥
 spelled_is_faultless [] q f xs fault is-p is-q fit faulty e =
     let none : 0 ≡ length (spelling_of_all q ++ (unit_bytes f ++ xs)) = ap length e in
     omega (arith, none, length-append (spelling_of_all q) (unit_bytes f ++ xs), length-append (unit_bytes f) xs, length-unit_bytes f)
@@ -123,23 +123,23 @@ length_fault-spelled bytes p h =
     let more : 0 < count = omega (arith, h.program.some, length-unit_count p) in
     let some : nat_eq (length bytes) 0 ≡ false = grind (arith, nat_tests) in
     let whole : nat_eq (length bytes % 8) 0 ≡ true = grind (arith, nat_tests) in
-    let few : nat_lt PROGRAM_UNITS (length bytes / 8) ≡ false = grind (arith, nat_tests, h.program.few) in
-    rw (some, whole, few) refl
+    let bounded : nat_lt PROGRAM_UNITS (length bytes / 8) ≡ false = grind (arith, nat_tests, h.program.bounded) in
+    rw (some, whole, bounded) refl
 
 -- bytes that spell a program have no fault
-pub spelled_has_no_fault : (bytes : List ℕ) (p : List Insn) (fault : DecodeFault) → Spells bytes p → IsFirstFault bytes fault → ⊥
+pub spelled_has_no_fault : (bytes : List ℕ) (p : List Insn) (fault : DecodeFault) → Spells bytes p → IsFirstDecodeFault bytes fault → ⊥
 spelled_has_no_fault bytes p fault h (inl e) = let none = length_fault-spelled bytes p h in absurd cc
 spelled_has_no_fault bytes p fault h (inr (e, u)) =
     spelled_is_faultless p u.front u.fields u.rest u.of_unit h.fits u.instructions u.fit u.faulty (sym h.bytes ∙ u.spelled)
 
 -- bytes have one first fault at most
-pub first_fault_is_one : (bytes : List ℕ) (a b : DecodeFault) → IsFirstFault bytes a → IsFirstFault bytes b → a ≡ b
+pub first_fault_is_one : (bytes : List ℕ) (a b : DecodeFault) → IsFirstDecodeFault bytes a → IsFirstDecodeFault bytes b → a ≡ b
 first_fault_is_one bytes a b (inl e) (inl d) = cc
 first_fault_is_one bytes a b (inl e) (inr (d, v)) = absurd cc
 first_fault_is_one bytes a b (inr (e, u)) (inl d) = absurd cc
 first_fault_is_one bytes a b (inr (e, u)) (inr (d, v)) =
     let same = unit_faults_agree u.front v.front u.fields v.fields u.rest v.rest u.of_unit v.of_unit u.instructions v.instructions u.fit v.fit u.faulty v.faulty (sym u.spelled ∙ v.spelled) in
-    u.named ∙ ap (λ (is : List Insn). at_unit (unit_count is) u.of_unit) same.0 ∙ ap (at_unit (unit_count v.front)) same.1 ∙ sym v.named
+    u.named ∙ ap (λ (is : List Insn). decode_fault_at (unit_count is) u.of_unit) same.0 ∙ ap (decode_fault_at (unit_count v.front)) same.1 ∙ sym v.named
 
 -- instructions with a unit are some
 some_units : (is : List Insn) → 0 < unit_count is → 0 < length is
@@ -154,7 +154,7 @@ Spells-all bytes rest is h fits e short =
     let units = length_fault-none bytes h in
     let nothing : rest ≡ [] = nil_from_length rest (omega (arith, len, units.1)) in
     record {
-      program = record { some = some_units is (omega (arith, len, units.0, ap length nothing)); few = omega (arith, len, units.2) };
+      program = record { some = some_units is (omega (arith, len, units.0, ap length nothing)); bounded = omega (arith, len, units.2) };
       fits = fits;
       bytes = e ∙ ap (λ (x : List ℕ). spelling_of_all is ++ x) nothing ∙ append-nil (spelling_of_all is);
     }
@@ -162,10 +162,10 @@ Spells-all bytes rest is h fits e short =
 -- an answer that is a program that is spelled, or the first fault, or a refusal of memory
 pub record IsTrueOf (bytes : List ℕ) (result : Result (List Insn) DecodeFault) : Type 0 where
   pub found : IfOk result (Spells bytes)
-  pub first_fault : IfErr result (λ e. (e ≡ NoMemory) ⊎ IsFirstFault bytes e)
+  pub first_fault : IfErr result (λ e. (e ≡ NoMemory) ⊎ IsFirstDecodeFault bytes e)
 
 -- an error that was passed on
-pub IsTrueOf-passed : (bytes : List ℕ) (e : DecodeFault) (result : Result (List Insn) DecodeFault) → IsErrAnd result (λ x. x ≡ e) → (e ≡ NoMemory) ⊎ IsFirstFault bytes e → IsTrueOf bytes result
+pub IsTrueOf-passed : (bytes : List ℕ) (e : DecodeFault) (result : Result (List Insn) DecodeFault) → IsErrAnd result (λ x. x ≡ e) → (e ≡ NoMemory) ⊎ IsFirstDecodeFault bytes e → IsTrueOf bytes result
 IsTrueOf-passed bytes e (Ok q) passed h = absurd passed
 IsTrueOf-passed bytes e (Err x) passed h = record { found = tt; first_fault = rw passed h }
 
@@ -178,7 +178,7 @@ only_program bytes p (Err e) h spells = elim h.first_fault [
 ]
 
 -- where there is a first fault no other answer is true
-pub only_fault : (bytes : List ℕ) (fault : DecodeFault) (result : Result (List Insn) DecodeFault) → IsTrueOf bytes result → IsFirstFault bytes fault → GivesUnlessNoMemory result (Err fault)
+pub only_fault : (bytes : List ℕ) (fault : DecodeFault) (result : Result (List Insn) DecodeFault) → IsTrueOf bytes result → IsFirstDecodeFault bytes fault → GivesUnlessNoMemory result (Err fault)
 only_fault bytes fault (Ok q) h first = absurd (spelled_has_no_fault bytes q fault h.found first)
 only_fault bytes fault (Err e) h first = elim h.first_fault [
   | inl refused ↦ inl (ap (λ (x : DecodeFault). Err x) refused)

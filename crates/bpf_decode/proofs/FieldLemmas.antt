@@ -18,7 +18,7 @@ use Rattle.bpf_model.specs.Words.{IsWord}
 use Rattle.bpf_model.specs.Program.{units_of}
 use Rattle.bpf_model.specs.Arithmetic.{swap_bits, extension_width, extension_bits}
 use Rattle.bpf_model.specs.Accesses.{loaded_size}
-use Rattle.bpf_model.specs.Spelling.{Fields, opcode, access_opcode, class_ldx, alu_class, jump_class, store_class, source_k, source_x, source_of, src_of, code_of, neg_code, mov_code, end_code, test_code, size_code, mode_mem, mode_of, order_source, order_width, unit_bytes, fields_of, second_unit, second_bytes, spelling, IsInstruction, IsOperand}
+use Rattle.bpf_model.specs.Spelling.{Fields, opcode, access_opcode, class_ldx, alu_class, jump_class, store_class, source_k, source_x, source_bit, src_of, code_of, neg_code, mov_code, end_code, test_code, size_code, mode_mem, mode_of, order_source, order_width, unit_bytes, fields_of, second_unit, second_bytes, spelling, IsInstruction, IsOperand}
 use Rattle.bpf_model.proofs.UnitLaws as laws
 use Rattle.bpf_model.proofs.UnitLaws.{zero_offset, half_fits}
 use Rattle.bpf_decode.specs.declared.opcode.Source.{Source}
@@ -27,22 +27,22 @@ use Rattle.bpf_decode.specs.declared.opcode.Opcode.{Opcode}
 use Rattle.bpf_decode.specs.declared.opcode.Opcode.TheVariants as op
 use Rattle.bpf_decode.specs.declared.unit.UsedFields.{UsedFields}
 use Rattle.bpf_decode.specs.Opcodes.{used_fields}
-use Rattle.bpf_decode.specs.UnitFaults.{FitUnit, has_bad_register, has_unused_not_zero, has_bad_width, fault_under, fault_of, is_move, is_swap}
-use Rattle.bpf_decode.specs.OpcodeFields.{byte_of, used_by, AreOperands, IsRegisterIfUsed, IsZeroUnlessUsed}
-use Rattle.bpf_decode.proofs.OpcodeLemmas.{order_source-few, alu_class-few, jump_class-few, size_code-few, mode_of-few, AluFacts, alu_facts, test_code-few, class_in-jump, class_in-access, used_fields-byte_of, good_sign, good_move, good_order, good_negation, no_width, no_width_of_jump}
+use Rattle.bpf_decode.specs.UnitFaults.{FitUnit, has_bad_register, has_unused_not_zero, has_bad_width, fault_under, unit_fault, is_move, is_swap}
+use Rattle.bpf_decode.specs.OpcodeFields.{opcode_byte, used_by, AreOperands, IsRegisterIfUsed, IsZeroUnlessUsed}
+use Rattle.bpf_decode.proofs.OpcodeLemmas.{order_source-bounded, alu_class-bounded, jump_class-bounded, size_code-bounded, mode_of-bounded, AluFacts, alu_facts, test_code-bounded, class_in-jump, class_in-access, used_fields-byte_of, good_sign, good_move, good_order, good_negation, no_width, no_width_of_jump}
 
 -- the source and the register of an operand have their bits
-pub source_of-few : (s : Operand) → source_of s < 2
-source_of-few (Register r) = omega arith
-source_of-few (Immediate imm) = omega arith
+pub source_of-bounded : (s : Operand) → source_bit s < 2
+source_of-bounded (Register r) = omega arith
+source_of-bounded (Immediate imm) = omega arith
 
 src_of-register : (s : Operand) → IsOperand s → src_of s ≤ 10
 src_of-register (Register r) h = h
 src_of-register (Immediate imm) h = omega arith
 
-pub store_class-few : (s : Operand) → store_class s < 8
-store_class-few (Register r) = omega arith
-store_class-few (Immediate imm) = omega arith
+pub store_class-bounded : (s : Operand) → store_class s < 8
+store_class-bounded (Register r) = omega arith
+store_class-bounded (Immediate imm) = omega arith
 
 -- an opcode of parts that have their bits has its bits
 opcode-fits : (code source class : ℕ) → code < 16 → source < 2 → class < 8 → opcode code source class < 2 ^ 8
@@ -52,35 +52,35 @@ access_opcode-fits : (mode size class : ℕ) → mode < 8 → size < 4 → class
 access_opcode-fits mode size class h g k = omega (arith, h, g, k)
 
 -- the opcode of an instruction has its bits
-opcode-few : (i : Insn) → (fields_of i).opcode < 2 ^ 8
-opcode-few (Alu op w dst src) = opcode-fits (code_of op) (source_of src) (alu_class w) (AluFacts.few (alu_facts op)) (source_of-few src) (alu_class-few w)
-opcode-few (Negate w dst) = opcode-fits neg_code source_k (alu_class w) (omega arith) (omega arith) (alu_class-few w)
-opcode-few (Mov w dst src) = opcode-fits mov_code (source_of src) (alu_class w) (omega arith) (source_of-few src) (alu_class-few w)
-opcode-few (SignExtend e dst src) = opcode-fits mov_code source_x (alu_class (extension_width e)) (omega arith) (omega arith) (alu_class-few (extension_width e))
-opcode-few (Reorder order size dst) = opcode-fits end_code (order_source order) (alu_class (order_width order)) (omega arith) (order_source-few order) (alu_class-few (order_width order))
-opcode-few (Wide dst value) = omega arith
-opcode-few (Load kind dst src offset) = access_opcode-fits (mode_of kind) (size_code (loaded_size kind)) class_ldx (mode_of-few kind) (size_code-few (loaded_size kind)) (omega arith)
-opcode-few (Store size dst src offset) = access_opcode-fits mode_mem (size_code size) (store_class src) (omega arith) (size_code-few size) (store_class-few src)
-opcode-few (Jump distance) = omega arith
-opcode-few (JumpLong distance) = omega arith
-opcode-few (Branch test w dst src distance) = opcode-fits (test_code test) (source_of src) (jump_class w) (test_code-few test) (source_of-few src) (jump_class-few w)
-opcode-few Exit = omega arith
+opcode-bounded : (i : Insn) → (fields_of i).opcode < 2 ^ 8
+opcode-bounded (Alu op w dst src) = opcode-fits (code_of op) (source_bit src) (alu_class w) (AluFacts.bounded (alu_facts op)) (source_of-bounded src) (alu_class-bounded w)
+opcode-bounded (Negate w dst) = opcode-fits neg_code source_k (alu_class w) (omega arith) (omega arith) (alu_class-bounded w)
+opcode-bounded (Mov w dst src) = opcode-fits mov_code (source_bit src) (alu_class w) (omega arith) (source_of-bounded src) (alu_class-bounded w)
+opcode-bounded (SignExtend e dst src) = opcode-fits mov_code source_x (alu_class (extension_width e)) (omega arith) (omega arith) (alu_class-bounded (extension_width e))
+opcode-bounded (Reorder order size dst) = opcode-fits end_code (order_source order) (alu_class (order_width order)) (omega arith) (order_source-bounded order) (alu_class-bounded (order_width order))
+opcode-bounded (Wide dst value) = omega arith
+opcode-bounded (Load kind dst src offset) = access_opcode-fits (mode_of kind) (size_code (loaded_size kind)) class_ldx (mode_of-bounded kind) (size_code-bounded (loaded_size kind)) (omega arith)
+opcode-bounded (Store size dst src offset) = access_opcode-fits mode_mem (size_code size) (store_class src) (omega arith) (size_code-bounded size) (store_class-bounded src)
+opcode-bounded (Jump distance) = omega arith
+opcode-bounded (JumpLong distance) = omega arith
+opcode-bounded (Branch test w dst src distance) = opcode-fits (test_code test) (source_bit src) (jump_class w) (test_code-bounded test) (source_of-bounded src) (jump_class-bounded w)
+opcode-bounded Exit = omega arith
 
 -- the source field of an instruction has its bits
-src-few : (i : Insn) → IsInstruction i → (fields_of i).src < 2 ^ 4
-src-few (Alu op w dst src) h = omega (arith, src_of-register src h.1)
-src-few (Mov w dst src) h = omega (arith, src_of-register src h.1)
-src-few (SignExtend e dst src) h = omega (arith, h.1)
-src-few (Load kind dst src offset) h = omega (arith, h.1)
-src-few (Store size dst src offset) h = omega (arith, src_of-register src h.1)
-src-few (Branch test w dst src distance) h = omega (arith, src_of-register src h.1)
-src-few i h = omega arith
+src-bounded : (i : Insn) → IsInstruction i → (fields_of i).src < 2 ^ 4
+src-bounded (Alu op w dst src) h = omega (arith, src_of-register src h.1)
+src-bounded (Mov w dst src) h = omega (arith, src_of-register src h.1)
+src-bounded (SignExtend e dst src) h = omega (arith, h.1)
+src-bounded (Load kind dst src offset) h = omega (arith, h.1)
+src-bounded (Store size dst src offset) h = omega (arith, src_of-register src h.1)
+src-bounded (Branch test w dst src distance) h = omega (arith, src_of-register src h.1)
+src-bounded i h = omega arith
 
 -- the fields of an instruction have their bits
 pub fit-fields_of : (i : Insn) → IsInstruction i → FitUnit (fields_of i)
 fit-fields_of i h =
     let fit = laws.fit-fields_of i h in
-    record { opcode = opcode-few i; dst = fit.dst; src = src-few i h; offset = fit.offset; imm = fit.imm }
+    record { opcode = opcode-bounded i; dst = fit.dst; src = src-bounded i h; offset = fit.offset; imm = fit.imm }
 
 -- so does the second unit of a wide instruction
 pub fit-second_unit : (value : ℕ) → IsWord value → FitUnit (second_unit value)
@@ -105,7 +105,7 @@ opcode_of (JumpLong distance) = op.JumpLong
 opcode_of (Branch test w dst src distance) = op.Branch test (source_of_operand src) w
 opcode_of Exit = op.Exit
 
-byte_of-opcode_of : (i : Insn) → byte_of (opcode_of i) ≡ (fields_of i).opcode
+byte_of-opcode_of : (i : Insn) → opcode_byte (opcode_of i) ≡ (fields_of i).opcode
 unfolding opcode_of source_of_operand
 byte_of-opcode_of (Alu o w dst (Register r)) = refl
 byte_of-opcode_of (Alu o w dst (Immediate imm)) = refl
@@ -170,17 +170,17 @@ store_class-low (Immediate imm) = omega arith
 
 -- and their widths are widths
 width-fields_of : (i : Insn) → has_bad_width (fields_of i) ≡ false
-width-fields_of (Alu o w dst src) = good_sign (fields_of (Alu o w dst src)) o (source_of src) w (source_of-few src) refl (AluFacts.signed (alu_facts o))
+width-fields_of (Alu o w dst src) = good_sign (fields_of (Alu o w dst src)) o (source_bit src) w (source_of-bounded src) refl (AluFacts.signed (alu_facts o))
 width-fields_of (Negate w dst) = good_negation (fields_of (Negate w dst)) w refl
-width-fields_of (Mov w dst src) = good_move (fields_of (Mov w dst src)) (source_of src) w (source_of-few src) refl (zero_is_move w)
+width-fields_of (Mov w dst src) = good_move (fields_of (Mov w dst src)) (source_bit src) w (source_of-bounded src) refl (zero_is_move w)
 width-fields_of (SignExtend e dst src) = good_move (fields_of (SignExtend e dst src)) source_x (extension_width e) (omega arith) refl (extension_bits-move e)
-width-fields_of (Reorder order size dst) = good_order (fields_of (Reorder order size dst)) (order_source order) (order_width order) (order_source-few order) refl (swap_bits-swap size)
+width-fields_of (Reorder order size dst) = good_order (fields_of (Reorder order size dst)) (order_source order) (order_width order) (order_source-bounded order) refl (swap_bits-swap size)
 width-fields_of (Wide dst value) = refl
-width-fields_of (Load kind dst src offset) = no_width (fields_of (Load kind dst src offset)) (low_class _ class_ldx (class_in-access (mode_of kind) (size_code (loaded_size kind)) class_ldx (size_code-few (loaded_size kind)) (omega arith)) (omega arith))
-width-fields_of (Store size dst src offset) = no_width (fields_of (Store size dst src offset)) (low_class _ (store_class src) (class_in-access mode_mem (size_code size) (store_class src) (size_code-few size) (store_class-few src)) (store_class-low src))
+width-fields_of (Load kind dst src offset) = no_width (fields_of (Load kind dst src offset)) (low_class _ class_ldx (class_in-access (mode_of kind) (size_code (loaded_size kind)) class_ldx (size_code-bounded (loaded_size kind)) (omega arith)) (omega arith))
+width-fields_of (Store size dst src offset) = no_width (fields_of (Store size dst src offset)) (low_class _ (store_class src) (class_in-access mode_mem (size_code size) (store_class src) (size_code-bounded size) (store_class-bounded src)) (store_class-low src))
 width-fields_of (Jump distance) = refl
 width-fields_of (JumpLong distance) = refl
-width-fields_of (Branch test w dst src distance) = no_width_of_jump (fields_of (Branch test w dst src distance)) w (class_in-jump (test_code test) (source_of src) w (source_of-few src))
+width-fields_of (Branch test w dst src distance) = no_width_of_jump (fields_of (Branch test w dst src distance)) w (class_in-jump (test_code test) (source_bit src) w (source_of-bounded src))
 width-fields_of Exit = refl
 
 -- fields that are operands have no fault but of their width
@@ -199,7 +199,7 @@ operands_have_no_fault used f h =
     zero_test false z h = rw h refl
 
 -- the fields of an instruction have no fault
-pub fault_of-fields_of : (i : Insn) → IsInstruction i → fault_of (fields_of i) ≡ None
+pub fault_of-fields_of : (i : Insn) → IsInstruction i → unit_fault (fields_of i) ≡ None
 fault_of-fields_of i h =
     let used : used_fields (fields_of i).opcode ≡ Some (used_by (opcode_of i)) = ap used_fields (sym (byte_of-opcode_of i)) ∙ used_fields-byte_of (opcode_of i) in
     let clean = operands_have_no_fault (used_by (opcode_of i)) (fields_of i) (operands-fields_of i h) in

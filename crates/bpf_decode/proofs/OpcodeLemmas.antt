@@ -23,8 +23,8 @@ use Rattle.bpf_decode.specs.declared.opcode.Opcode.TheVariants.{Alu, Negate, Mov
 use Rattle.bpf_decode.specs.declared.unit.UsedFields.{UsedFields}
 use Rattle.bpf_decode.specs.declared.fault.UnitFault.{UnitFault}
 use Rattle.bpf_decode.specs.Opcodes.{used_fields, used_by_alu, used_by_jump, used_by_load, used_by_store, is_alu_code, is_test_code, is_division, operands}
-use Rattle.bpf_decode.specs.UnitFaults.{has_bad_width, has_bad_alu_width, is_sign, is_move, is_swap, fault_under, fault_of}
-use Rattle.bpf_decode.specs.OpcodeFields.{source_number, stored_class, byte_of, used_by, IsZeroUnlessUsed}
+use Rattle.bpf_decode.specs.UnitFaults.{has_bad_width, has_bad_alu_width, is_sign, is_move, is_swap, fault_under, unit_fault}
+use Rattle.bpf_decode.specs.OpcodeFields.{source_number, stored_class, opcode_byte, used_by, IsZeroUnlessUsed}
 
 -- the parts of an opcode are those that it was put together of
 pub class_in-alu : (code source : ℕ) (w : Width) → source < 2 → opcode code source (alu_class w) % 8 ≡ alu_class w
@@ -51,34 +51,34 @@ pub mode_in-access : (mode size class : ℕ) → size < 4 → class < 8 → acce
 mode_in-access mode size class h g = omega (arith, h, g)
 
 -- the parts have their bits
-pub source_number-few : (source : Source) → source_number source < 2
-source_number-few Immediate = omega arith
-source_number-few Register = omega arith
+pub source_number-bounded : (source : Source) → source_number source < 2
+source_number-bounded Immediate = omega arith
+source_number-bounded Register = omega arith
 
-pub order_source-few : (order : ByteOrder) → order_source order < 2
-order_source-few Little = omega arith
-order_source-few Big = omega arith
-order_source-few Swap = omega arith
+pub order_source-bounded : (order : ByteOrder) → order_source order < 2
+order_source-bounded Little = omega arith
+order_source-bounded Big = omega arith
+order_source-bounded Swap = omega arith
 
-pub alu_class-few : (w : Width) → alu_class w < 8
-alu_class-few W32 = omega arith
-alu_class-few W64 = omega arith
+pub alu_class-bounded : (w : Width) → alu_class w < 8
+alu_class-bounded W32 = omega arith
+alu_class-bounded W64 = omega arith
 
-pub jump_class-few : (w : Width) → jump_class w < 8
-jump_class-few W32 = omega arith
-jump_class-few W64 = omega arith
+pub jump_class-bounded : (w : Width) → jump_class w < 8
+jump_class-bounded W32 = omega arith
+jump_class-bounded W64 = omega arith
 
-pub size_code-few : (size : AccessSize) → size_code size < 4
-size_code-few Byte = omega arith
-size_code-few size = omega arith
+pub size_code-bounded : (size : AccessSize) → size_code size < 4
+size_code-bounded Byte = omega arith
+size_code-bounded size = omega arith
 
-pub mode_of-few : (kind : LoadKind) → mode_of kind < 8
-mode_of-few LoadByte = omega arith
-mode_of-few kind = omega arith
+pub mode_of-bounded : (kind : LoadKind) → mode_of kind < 8
+mode_of-bounded LoadByte = omega arith
+mode_of-bounded kind = omega arith
 
 -- what holds of each operation's code and offset
 pub record AluFacts (op : AluOp) : Type 0 where
-  pub few : code_of op < 16
+  pub bounded : code_of op < 16
   pub listed : is_alu_code (code_of op) ≡ true
   pub no_negation : nat_eq (code_of op) neg_code ≡ false
   pub no_move : nat_eq (code_of op) mov_code ≡ false
@@ -87,16 +87,16 @@ pub record AluFacts (op : AluOp) : Type 0 where
   pub signed : is_sign (offset_of op) ≡ true
 
 pub alu_facts : (op : AluOp) → AluFacts op
-alu_facts Div = record { few = omega arith; listed = refl; no_negation = refl; no_move = refl; no_order = refl; sign = tt; signed = refl }
-alu_facts SDiv = record { few = omega arith; listed = refl; no_negation = refl; no_move = refl; no_order = refl; sign = tt; signed = refl }
-alu_facts Mod = record { few = omega arith; listed = refl; no_negation = refl; no_move = refl; no_order = refl; sign = tt; signed = refl }
-alu_facts SMod = record { few = omega arith; listed = refl; no_negation = refl; no_move = refl; no_order = refl; sign = tt; signed = refl }
-alu_facts op = record { few = omega arith; listed = refl; no_negation = refl; no_move = refl; no_order = refl; sign = refl; signed = refl }
+alu_facts Div = record { bounded = omega arith; listed = refl; no_negation = refl; no_move = refl; no_order = refl; sign = tt; signed = refl }
+alu_facts SDiv = record { bounded = omega arith; listed = refl; no_negation = refl; no_move = refl; no_order = refl; sign = tt; signed = refl }
+alu_facts Mod = record { bounded = omega arith; listed = refl; no_negation = refl; no_move = refl; no_order = refl; sign = tt; signed = refl }
+alu_facts SMod = record { bounded = omega arith; listed = refl; no_negation = refl; no_move = refl; no_order = refl; sign = tt; signed = refl }
+alu_facts op = record { bounded = omega arith; listed = refl; no_negation = refl; no_move = refl; no_order = refl; sign = refl; signed = refl }
 
 -- what holds of each test's code
-pub test_code-few : (test : JumpOp) → test_code test < 16
-test_code-few Eq = omega arith
-test_code-few test = omega arith
+pub test_code-bounded : (test : JumpOp) → test_code test < 16
+test_code-bounded Eq = omega arith
+test_code-bounded test = omega arith
 
 pub test_code-listed : (test : JumpOp) → is_test_code (test_code test) ≡ true
 test_code-listed Eq = refl
@@ -124,8 +124,8 @@ used_fields-store Immediate mode size h = rw (class_in-access mode size 2 h (ome
 used_fields-store Register mode size h = rw (class_in-access mode size 3 h (omega arith), mode_in-access mode size 3 h (omega arith)) refl
 
 -- each opcode is in the table, with its fields
-pub used_fields-byte_of : (o : Opcode) → used_fields (byte_of o) ≡ Some (used_by o)
-used_fields-byte_of (Alu op source w) = used_fields-alu (code_of op) (source_number source) w (source_number-few source) ∙ rw (AluFacts.listed (alu_facts op)) refl
+pub used_fields-byte_of : (o : Opcode) → used_fields (opcode_byte o) ≡ Some (used_by o)
+used_fields-byte_of (Alu op source w) = used_fields-alu (code_of op) (source_number source) w (source_number-bounded source) ∙ rw (AluFacts.listed (alu_facts op)) refl
 used_fields-byte_of (Negate W32) = refl
 used_fields-byte_of (Negate W64) = refl
 used_fields-byte_of (Mov Immediate W32) = refl
@@ -136,11 +136,11 @@ used_fields-byte_of (Reorder Little) = refl
 used_fields-byte_of (Reorder Big) = refl
 used_fields-byte_of (Reorder Swap) = refl
 used_fields-byte_of Wide = refl
-used_fields-byte_of (Load kind) = used_fields-load (mode_of kind) (size_code (loaded_size kind)) (size_code-few (loaded_size kind)) ∙ load_listed kind
-used_fields-byte_of (Store source size) = used_fields-store source mode_mem (size_code size) (size_code-few size)
+used_fields-byte_of (Load kind) = used_fields-load (mode_of kind) (size_code (loaded_size kind)) (size_code-bounded (loaded_size kind)) ∙ load_listed kind
+used_fields-byte_of (Store source size) = used_fields-store source mode_mem (size_code size) (size_code-bounded size)
 used_fields-byte_of Jump = refl
 used_fields-byte_of JumpLong = refl
-used_fields-byte_of (Branch test source w) = used_fields-jump (test_code test) (source_number source) w (source_number-few source) ∙ rw (test_code-listed test) refl
+used_fields-byte_of (Branch test source w) = used_fields-jump (test_code test) (source_number source) w (source_number-bounded source) ∙ rw (test_code-listed test) refl
 used_fields-byte_of Exit = refl
 
 -- widths of arithmetic, by the parts of the opcode
@@ -168,12 +168,12 @@ no_width_of_jump f W32 h = rw h refl
 no_width_of_jump f W64 h = rw h refl
 
 -- a quotient's or remainder's offset that is no sign
-pub bad_sign : (f : Fields) (op : AluOp) (source : Source) (w : Width) → f.opcode ≡ byte_of (Alu op source w)
+pub bad_sign : (f : Fields) (op : AluOp) (source : Source) (w : Width) → f.opcode ≡ opcode_byte (Alu op source w)
     → is_division (code_of op) ≡ true → is_sign f.offset ≡ false → has_bad_width f ≡ true
-bad_sign f op source w e d s = has_bad_width-alu f (code_of op) (source_number source) w (source_number-few source) e ∙ rw (d, s) refl
+bad_sign f op source w e d s = has_bad_width-alu f (code_of op) (source_number source) w (source_number-bounded source) e ∙ rw (d, s) refl
 
 -- a move's offset that is no width
-pub bad_move : (f : Fields) (source : Source) (w : Width) → f.opcode ≡ byte_of (Mov source w)
+pub bad_move : (f : Fields) (source : Source) (w : Width) → f.opcode ≡ opcode_byte (Mov source w)
     → IsZeroUnlessUsed (nat_eq (source_number source) source_x) f.offset → f.offset ≢ pos 0 → is_move w f.offset ≡ false → has_bad_width f ≡ true
 bad_move f Immediate w e z n m = absurd (n z)
 bad_move f Register w e z n m = has_bad_width-alu f mov_code source_x w (omega arith) e ∙ rw m refl
@@ -207,7 +207,7 @@ good_negation f w e = has_bad_width-alu f neg_code source_k w (omega arith) e
 
 -- a fault of the fields that an opcode uses is the fields' fault
 pub fault_of_use : (f : Fields) (o : Opcode) (used : UsedFields) (fault : Option UnitFault)
-    → byte_of o ≡ f.opcode → used ≡ used_by o → fault_under (Some used) f ≡ fault → fault_of f ≡ fault
+    → opcode_byte o ≡ f.opcode → used ≡ used_by o → fault_under (Some used) f ≡ fault → unit_fault f ≡ fault
 fault_of_use f o used fault e u h =
     let listed : used_fields f.opcode ≡ Some used = ap used_fields (sym e) ∙ used_fields-byte_of o ∙ ap (λ (x : UsedFields). Some x) (sym u) in
     ap (λ (x : Option UsedFields). fault_under x f) listed ∙ h

@@ -6,18 +6,13 @@ use Rattle.std.proofs.lemmas.List.Concat.{flat_map-cons}
 use Rattle.std.proofs.lemmas.Grind.{flat_map-append}
 use Rattle.bpf_model.specs.declared.instruction.Insn.{Insn}
 use Rattle.bpf_model.specs.Program.{units_of, unit_count}
-use Rattle.bpf_model.specs.Spelling.{unit_bytes, fields_of, second_bytes, spelling, spelling_of_all, IsInstruction, AreInstructions}
+use Rattle.bpf_model.specs.Spelling.{unit_bytes, fields_of, second_bytes, spelling, spelling_of_all}
 use Rattle.bpf_model.proofs.ProgramLemmas.{units_of-some, length-unit_count, unit_count-next, unit_count-take}
 use Rattle.bpf_model.proofs.SpellingLaws.{length-spelling, length-spelling_of_all}
 
 -- an instruction more is spelled behind the others
 pub spelling_of_all-push : (is : List Insn) (i : Insn) → spelling_of_all (is ++ i ∷ []) ≡ spelling_of_all is ++ spelling i
 spelling_of_all-push is i = flat_map-append spelling is (i ∷ []) ∙ ap (λ (x : List ℕ). spelling_of_all is ++ x) (flat_map-cons spelling i [] ∙ append-nil (spelling i))
-
--- instructions with an instruction more
-pub AreInstructions-push : (is : List Insn) (i : Insn) → AreInstructions is → IsInstruction i → AreInstructions (is ++ i ∷ [])
-AreInstructions-push [] i h g = (g, tt)
-AreInstructions-push (x ∷ is) i h g = (h.0, AreInstructions-push is i h.1 g)
 
 -- an instruction's first unit comes first
 pub spelling-first_unit : (i : Insn) (xs : List ℕ) → spelling i ++ xs ≡ unit_bytes (fields_of i) ++ (second_bytes i ++ xs)

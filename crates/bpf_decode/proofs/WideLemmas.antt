@@ -14,7 +14,7 @@ use Rattle.bpf_model.specs.declared.instruction.Insn.TheVariants.{Alu, Negate, M
 use Rattle.bpf_model.specs.Words.{IsWord}
 use Rattle.bpf_model.specs.Accesses.{loaded_size}
 use Rattle.bpf_model.specs.Arithmetic.{extension_width}
-use Rattle.bpf_model.specs.Spelling.{Fields, opcode, access_opcode, class_ldx, alu_class, jump_class, store_class, source_x, source_k, source_of, code_of, neg_code, mov_code, end_code, test_code, size_code, mode_mem, mode_of, order_source, order_width, unit_bytes, fields_of, second_unit, second_bytes, spelling, IsInstruction, IsImmediate}
+use Rattle.bpf_model.specs.Spelling.{Fields, opcode, access_opcode, class_ldx, alu_class, jump_class, store_class, source_x, source_k, source_bit, code_of, neg_code, mov_code, end_code, test_code, size_code, mode_mem, mode_of, order_source, order_width, unit_bytes, fields_of, second_unit, second_bytes, spelling, IsInstruction, IsImmediate}
 use Rattle.bpf_decode.specs.Opcodes.{dst_and_imm, wide_opcode}
 use Rattle.bpf_decode.specs.UnitFaults.{FitUnit, has_imm_alone}
 use Rattle.bpf_decode.specs.OpcodeFields.{AreOperands}
@@ -83,9 +83,9 @@ no_store mode size (Register r) e = omega (arith, e)
 no_store mode size (Immediate imm) e = omega (arith, e)
 
 pub is_wide : (i : Insn) → IsInstruction i → (fields_of i).opcode ≡ wide_opcode → (value : ℕ) × IsWord value × (second_bytes i ≡ unit_bytes (second_unit value))
-is_wide (Alu op w dst src) h e = absurd (no_alu (code_of op) (source_of src) w e)
+is_wide (Alu op w dst src) h e = absurd (no_alu (code_of op) (source_bit src) w e)
 is_wide (Negate w dst) h e = absurd (no_alu neg_code source_k w e)
-is_wide (Mov w dst src) h e = absurd (no_alu mov_code (source_of src) w e)
+is_wide (Mov w dst src) h e = absurd (no_alu mov_code (source_bit src) w e)
 is_wide (SignExtend x dst src) h e = absurd (no_alu mov_code source_x (extension_width x) e)
 is_wide (Reorder order size dst) h e = absurd (no_alu end_code (order_source order) (order_width order) e)
 is_wide (Wide dst value) h e = (value, h.1, refl)
@@ -93,5 +93,5 @@ is_wide (Load kind dst src offset) h e = absurd (no_load (mode_of kind) (size_co
 is_wide (Store size dst src offset) h e = absurd (no_store mode_mem (size_code size) src e)
 is_wide (Jump distance) h e = absurd (omega (arith, e))
 is_wide (JumpLong distance) h e = absurd (omega (arith, e))
-is_wide (Branch test w dst src distance) h e = absurd (no_jump (test_code test) (source_of src) w e)
+is_wide (Branch test w dst src distance) h e = absurd (no_jump (test_code test) (source_bit src) w e)
 is_wide Exit h e = absurd (omega (arith, e))

@@ -9,36 +9,36 @@ use Rattle.bpf_decode.specs.declared.fault.DecodeFault.TheVariants.{NoMemory, Em
 use Rattle.bpf_decode.specs.declared.fault.DecodeFault.TheVariants as at
 use Rattle.bpf_decode.specs.declared.fault.UnitFault.{UnitFault}
 use Rattle.bpf_decode.specs.declared.fault.UnitFault.TheVariants.{UnknownOpcode, BadRegister, UnusedNotZero, BadWidth, CutWide}
-use Rattle.bpf_decode.specs.UnitFaults.{FitUnit, HasFault}
+use Rattle.bpf_decode.specs.UnitFaults.{FitUnit, UnitHas}
 
 -- the number under which a fault is printed and sent
-abbrev pub number_of : DecodeFault → ℕ
-number_of NoMemory = 9
-number_of Empty = 10
-number_of NotWholeUnits = 11
-number_of TooManyUnits = 12
-number_of (at.UnknownOpcode unit) = 13
-number_of (at.BadRegister unit) = 14
-number_of (at.UnusedNotZero unit) = 15
-number_of (at.BadWidth unit) = 16
-number_of (at.CutWide unit) = 17
+abbrev pub decode_fault_number : DecodeFault → ℕ
+decode_fault_number NoMemory = 9
+decode_fault_number Empty = 10
+decode_fault_number NotWholeUnits = 11
+decode_fault_number TooManyUnits = 12
+decode_fault_number (at.UnknownOpcode unit) = 13
+decode_fault_number (at.BadRegister unit) = 14
+decode_fault_number (at.UnusedNotZero unit) = 15
+decode_fault_number (at.BadWidth unit) = 16
+decode_fault_number (at.CutWide unit) = 17
 
 -- the unit that it names; 0 where it is of no one unit
-abbrev pub unit_of : DecodeFault → ℕ
-unit_of (at.UnknownOpcode unit) = unit
-unit_of (at.BadRegister unit) = unit
-unit_of (at.UnusedNotZero unit) = unit
-unit_of (at.BadWidth unit) = unit
-unit_of (at.CutWide unit) = unit
-unit_of fault = 0
+abbrev pub decode_fault_unit : DecodeFault → ℕ
+decode_fault_unit (at.UnknownOpcode unit) = unit
+decode_fault_unit (at.BadRegister unit) = unit
+decode_fault_unit (at.UnusedNotZero unit) = unit
+decode_fault_unit (at.BadWidth unit) = unit
+decode_fault_unit (at.CutWide unit) = unit
+decode_fault_unit fault = 0
 
 -- a fault at this unit
-abbrev pub at_unit : ℕ → UnitFault → DecodeFault
-at_unit unit UnknownOpcode = at.UnknownOpcode unit
-at_unit unit BadRegister = at.BadRegister unit
-at_unit unit UnusedNotZero = at.UnusedNotZero unit
-at_unit unit BadWidth = at.BadWidth unit
-at_unit unit CutWide = at.CutWide unit
+abbrev pub decode_fault_at : ℕ → UnitFault → DecodeFault
+decode_fault_at unit UnknownOpcode = at.UnknownOpcode unit
+decode_fault_at unit BadRegister = at.BadRegister unit
+decode_fault_at unit UnusedNotZero = at.UnusedNotZero unit
+decode_fault_at unit BadWidth = at.BadWidth unit
+decode_fault_at unit CutWide = at.CutWide unit
 
 -- the fault of the number of bytes
 abbrev pub length_fault : List ℕ → Option DecodeFault
@@ -56,12 +56,12 @@ pub record HasUnitFault (bytes : List ℕ) (fault : DecodeFault) : Type 0 where
   pub instructions : AreInstructions front
   pub fit : FitUnit fields
   pub spelled : bytes ≡ spelling_of_all front ++ (unit_bytes fields ++ rest)
-  pub faulty : HasFault fields rest of_unit
-  pub named : fault ≡ at_unit (unit_count front) of_unit
+  pub faulty : UnitHas fields rest of_unit
+  pub named : fault ≡ decode_fault_at (unit_count front) of_unit
 
 -- the fault of the number of bytes; where it has none, that of the first unit that is no instruction's
-abbrev pub IsFirstFault : List ℕ → DecodeFault → Type 0
-IsFirstFault bytes fault = (length_fault bytes ≡ Some fault) ⊎ ((length_fault bytes ≡ None) × HasUnitFault bytes fault)
+abbrev pub IsFirstDecodeFault : List ℕ → DecodeFault → Type 0
+IsFirstDecodeFault bytes fault = (length_fault bytes ≡ Some fault) ⊎ ((length_fault bytes ≡ None) × HasUnitFault bytes fault)
 
 -- the call answers so, unless memory was refused to it
 abbrev pub GivesUnlessNoMemory : {A : Type 0} → Result A DecodeFault → Result A DecodeFault → Type 0

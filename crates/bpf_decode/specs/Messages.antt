@@ -5,13 +5,13 @@ use Rattle.bpf_decode.specs.declared.fault.DecodeFault.{DecodeFault}
 use Rattle.bpf_decode.specs.declared.fault.DecodeFault.TheVariants.{NoMemory, Empty, NotWholeUnits, TooManyUnits, UnknownOpcode, BadRegister, UnusedNotZero, BadWidth, CutWide}
 
 -- what is wrong, and where
-abbrev pub message_of : DecodeFault → List ℕ
-message_of NoMemory = codes "no memory"
-message_of Empty = codes "no byte"
-message_of NotWholeUnits = codes "the number of bytes is no multiple of 8"
-message_of TooManyUnits = codes "more than " ++ decimal PROGRAM_UNITS ++ codes " units"
-message_of (UnknownOpcode unit) = codes "unknown opcode at unit " ++ decimal unit
-message_of (BadRegister unit) = codes "register above 10 at unit " ++ decimal unit
-message_of (UnusedNotZero unit) = codes "unused field is not zero at unit " ++ decimal unit
-message_of (BadWidth unit) = codes "no such width at unit " ++ decimal unit
-message_of (CutWide unit) = codes "wide instruction without second half at unit " ++ decimal unit
+abbrev pub decode_fault_message : DecodeFault → List ℕ
+decode_fault_message NoMemory = codes "no memory"
+decode_fault_message Empty = codes "no byte"
+decode_fault_message NotWholeUnits = codes "the number of bytes is no multiple of 8"
+decode_fault_message TooManyUnits = codes "more than " ++ decimal PROGRAM_UNITS ++ codes " units"
+decode_fault_message (UnknownOpcode unit) = codes "unknown opcode at unit " ++ decimal unit
+decode_fault_message (BadRegister unit) = codes "register above 10 at unit " ++ decimal unit
+decode_fault_message (UnusedNotZero unit) = codes "unused field is not zero at unit " ++ decimal unit
+decode_fault_message (BadWidth unit) = codes "no such width at unit " ++ decimal unit
+decode_fault_message (CutWide unit) = codes "wide instruction without second half at unit " ++ decimal unit

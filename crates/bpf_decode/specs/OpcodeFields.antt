@@ -20,18 +20,18 @@ stored_class Immediate = class_st
 stored_class Register = class_stx
 
 -- the byte that stands for an opcode
-abbrev pub byte_of : Opcode → ℕ
-byte_of (Alu op source width) = opcode (code_of op) (source_number source) (alu_class width)
-byte_of (Negate width) = opcode neg_code source_k (alu_class width)
-byte_of (Mov source width) = opcode mov_code (source_number source) (alu_class width)
-byte_of (Reorder order) = opcode end_code (order_source order) (alu_class (order_width order))
-byte_of Wide = wide_opcode
-byte_of (Load kind) = access_opcode (mode_of kind) (size_code (loaded_size kind)) class_ldx
-byte_of (Store source size) = access_opcode mode_mem (size_code size) (stored_class source)
-byte_of Jump = opcode ja_code source_k (jump_class W64)
-byte_of JumpLong = opcode ja_code source_k (jump_class W32)
-byte_of (Branch test source width) = opcode (test_code test) (source_number source) (jump_class width)
-byte_of Exit = opcode exit_code source_k (jump_class W64)
+abbrev pub opcode_byte : Opcode → ℕ
+opcode_byte (Alu op source width) = opcode (code_of op) (source_number source) (alu_class width)
+opcode_byte (Negate width) = opcode neg_code source_k (alu_class width)
+opcode_byte (Mov source width) = opcode mov_code (source_number source) (alu_class width)
+opcode_byte (Reorder order) = opcode end_code (order_source order) (alu_class (order_width order))
+opcode_byte Wide = wide_opcode
+opcode_byte (Load kind) = access_opcode (mode_of kind) (size_code (loaded_size kind)) class_ldx
+opcode_byte (Store source size) = access_opcode mode_mem (size_code size) (stored_class source)
+opcode_byte Jump = opcode ja_code source_k (jump_class W64)
+opcode_byte JumpLong = opcode ja_code source_k (jump_class W32)
+opcode_byte (Branch test source width) = opcode (test_code test) (source_number source) (jump_class width)
+opcode_byte Exit = opcode exit_code source_k (jump_class W64)
 
 -- the fields that its instructions use
 abbrev pub used_by : Opcode → UsedFields

@@ -62,13 +62,13 @@ fault_under (Some used) f =
     else (if has_bad_width f then Some BadWidth else None))
 
 -- the least-numbered fault of a unit's fields
-abbrev pub fault_of : Fields → Option UnitFault
-fault_of f = fault_under (used_fields f.opcode) f
+abbrev pub unit_fault : Fields → Option UnitFault
+unit_fault f = fault_under (used_fields f.opcode) f
 
 -- the first half of a wide instruction, without fault
 pub record IsFirstHalf (f : Fields) : Type 0 where
   pub opcode : f.opcode ≡ wide_opcode
-  pub faultless : fault_of f ≡ None
+  pub faultless : unit_fault f ≡ None
 
 -- the second half of a wide instruction has no field but imm
 abbrev pub has_imm_alone : Fields → Bool
@@ -87,5 +87,5 @@ abbrev pub HasSecondFault : List ℕ → UnitFault → Type 0
 HasSecondFault bytes fault = ((fault ≡ CutWide) × (bytes ≡ [])) ⊎ ((fault ≡ UnusedNotZero) × BeginsWithMore bytes)
 
 -- a unit before these bytes has this fault: in its own fields, or else in its second half
-abbrev pub HasFault : Fields → List ℕ → UnitFault → Type 0
-HasFault f bytes fault = (fault_of f ≡ Some fault) ⊎ (IsFirstHalf f × HasSecondFault bytes fault)
+abbrev pub UnitHas : Fields → List ℕ → UnitFault → Type 0
+UnitHas f bytes fault = (unit_fault f ≡ Some fault) ⊎ (IsFirstHalf f × HasSecondFault bytes fault)

@@ -30,7 +30,7 @@ pub(crate) fn alu_op(code: u8) -> Option<AluOp>
 /// The code of an operation.
 pub(crate) fn alu_code(op: AluOp) -> u8
     ensures value { result ≡ code_of op }
-    ensures few { result < 16 }
+    ensures bounded { result < 16 }
 {
     match op {
         AluOp::Add => 0,
@@ -71,7 +71,7 @@ pub(crate) fn jump_test(code: u8) -> Option<JumpOp>
 /// The code of a test.
 pub(crate) fn test_code(test: JumpOp) -> u8
     ensures value { result ≡ code_of_test test }
-    ensures few { result < 16 }
+    ensures bounded { result < 16 }
 {
     match test {
         JumpOp::Eq => 1,
@@ -104,7 +104,7 @@ pub(crate) fn access_size(code: u8) -> AccessSize
 /// The code of a size.
 pub(crate) fn size_code(size: AccessSize) -> u8
     ensures value { result ≡ code_of_size size }
-    ensures few { result < 4 }
+    ensures bounded { result < 4 }
 {
     match size {
         AccessSize::Word => 0,
@@ -135,7 +135,7 @@ pub(crate) fn load_kind(mode: u8, size: AccessSize) -> Option<LoadKind>
 /// The mode of a load.
 pub(crate) fn mode(kind: LoadKind) -> u8
     ensures value { result ≡ mode_of kind }
-    ensures few { result < 8 }
+    ensures bounded { result < 8 }
 {
     match kind {
         LoadKind::Byte | LoadKind::HalfWord | LoadKind::Word | LoadKind::DoubleWord => 3,

@@ -6,9 +6,9 @@ ghost use Rattle.bpf_model.specs.Spelling.{Spells, unit_bytes, spelling, IsInstr
 ghost use Rattle.bpf_decode.specs.declared.fault.DecodeFault.{DecodeFault};
 ghost use Rattle.bpf_decode.specs.declared.fault.DecodeFault.TheVariants.{NoMemory};
 ghost use Rattle.bpf_decode.specs.Opcodes.{dst_and_imm};
-ghost use Rattle.bpf_decode.specs.UnitFaults.{IsFirstHalf, HasSecondFault, HasFault};
+ghost use Rattle.bpf_decode.specs.UnitFaults.{IsFirstHalf, HasSecondFault, UnitHas};
 ghost use Rattle.bpf_decode.specs.OpcodeFields.{AreOperands};
-ghost use Rattle.bpf_decode.specs.Faults.{length_fault, IsFirstFault, HasUnitFault, GivesUnlessNoMemory};
+ghost use Rattle.bpf_decode.specs.Faults.{length_fault, IsFirstDecodeFault, HasUnitFault, GivesUnlessNoMemory};
 
 use crate::fault::{DecodeFault, UnitFault};
 use crate::opcode::Opcode;
@@ -39,7 +39,7 @@ fn instruction(fields: Fields, after: &[u8]) -> Result<(Insn, &[u8]), UnitFault>
     requires { length after.now % 8 ≡ 0 }
     ensures instruction { IfOk result (λ r. IsInstruction r.0) }
     ensures spelled { IfOk result (λ r. unit_bytes fields ++ after.now ≡ spelling r.0 ++ r.1.now) }
-    ensures fault { IfErr result (λ e. HasFault fields after.now e) }
+    ensures fault { IfErr result (λ e. UnitHas fields after.now e) }
 {
     let Some(opcode) = Opcode::from_byte(fields.opcode) else {
         return Err(UnitFault::UnknownOpcode);
@@ -107,10 +107,10 @@ fn instructions(alloc: Global, bytes: &[u8]) -> Result<Vec<Insn>, DecodeFault>
 pub fn decode(alloc: Global, bytes: &[u8]) -> Result<Program, DecodeFault>
     ensures found { IfOk result (λ p. Spells bytes.now p) }
     ensures only { (p : List Insn) → Spells bytes.now p → GivesUnlessNoMemory result (Ok p) }
-    ensures first_fault { IfErr result (λ e. (e ≡ NoMemory) ⊎ IsFirstFault bytes.now e) }
+    ensures first_fault { IfErr result (λ e. (e ≡ NoMemory) ⊎ IsFirstDecodeFault bytes.now e) }
     ensures memory { result ≡ Err NoMemory → length_fault bytes.now ≡ None }
     ensures refused { (e : DecodeFault) →
-        IsFirstFault bytes.now e → GivesUnlessNoMemory result (Err e) }
+        IsFirstDecodeFault bytes.now e → GivesUnlessNoMemory result (Err e) }
 {
     check_length(bytes)?;
     let instructions = instructions(alloc, bytes)?;

@@ -1,7 +1,7 @@
 //! Why bytes are no program.
 ghost use Rattle.std.specs.Prelude.{◌≡◌};
 ghost use Rattle.bpf_decode.specs.declared.fault.DecodeFault.TheVariants.{NoMemory as OutOfMemory};
-ghost use Rattle.bpf_decode.specs.Faults.{number_of, unit_of, at_unit};
+ghost use Rattle.bpf_decode.specs.Faults.{decode_fault_number, decode_fault_unit, decode_fault_at};
 
 use bpf_model::NoMemory;
 use bpf_model::limits::PROGRAM_UNITS;
@@ -37,7 +37,7 @@ pub enum DecodeFault {
 impl DecodeFault {
     /// The number under which the fault is printed and sent, 9 to 17.
     pub fn number(&self) -> u8
-        ensures { result ≡ number_of self.now }
+        ensures { result ≡ decode_fault_number self.now }
     {
         match self {
             DecodeFault::NoMemory => NoMemory::NUMBER,
@@ -54,7 +54,7 @@ impl DecodeFault {
 
     /// The unit that has the fault; 0 where the fault is of no one unit.
     pub fn unit(&self) -> usize
-        ensures { result ≡ unit_of self.now }
+        ensures { result ≡ decode_fault_unit self.now }
     {
         match self {
             DecodeFault::UnknownOpcode(unit)
@@ -69,9 +69,9 @@ impl DecodeFault {
 
 impl fmt::Display for DecodeFault {
     ghost use Rattle.std.specs.Prelude.{Some};
-    ghost use Rattle.bpf_decode.specs.Messages.{message_of};
+    ghost use Rattle.bpf_decode.specs.Messages.{decode_fault_message};
 
-    ghost output = { λ fault. Some (message_of fault) };
+    ghost output = { λ fault. Some (decode_fault_message fault) };
 
     fn fmt<W: fmt::Write>(&self, f: &mut fmt::Formatter<W>) -> fmt::Result {
         match self {
@@ -117,7 +117,7 @@ pub(crate) enum UnitFault {
 impl UnitFault {
     /// The fault, at this unit.
     pub(crate) fn at(self, unit: usize) -> DecodeFault
-        ensures { result ≡ at_unit unit self }
+        ensures { result ≡ decode_fault_at unit self }
     {
         match self {
             UnitFault::UnknownOpcode => DecodeFault::UnknownOpcode(unit),

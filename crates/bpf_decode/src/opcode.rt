@@ -1,8 +1,8 @@
 //! What an opcode stands for.
 ghost use Rattle.std.specs.Prelude.{◌≡◌, ◌<◌, ◌%◌, IfSome, IfNone, None};
-ghost use Rattle.bpf_model.specs.Spelling.{opcode as opcode_with, source_of, alu_class, jump_class, class_ld, class_ldx};
+ghost use Rattle.bpf_model.specs.Spelling.{opcode as opcode_with, source_bit, alu_class, jump_class, class_ld, class_ldx};
 ghost use Rattle.bpf_decode.specs.Opcodes.{used_fields, operands, class_in, source_in};
-ghost use Rattle.bpf_decode.specs.OpcodeFields.{source_number, stored_class, byte_of, used_by};
+ghost use Rattle.bpf_decode.specs.OpcodeFields.{source_number, stored_class, opcode_byte, used_by};
 
 use crate::codes::{
     access_size, alu_code, alu_op, jump_test, load_kind, mode, size_code, test_code,
@@ -20,7 +20,7 @@ pub(crate) enum Source {
 impl Source {
     /// The source of an operand.
     pub(crate) fn of(operand: Operand) -> Source
-        ensures { source_number result ≡ source_of operand }
+        ensures { source_number result ≡ source_bit operand }
     {
         match operand {
             Operand::Register(_) => Source::Register,
@@ -51,7 +51,7 @@ impl Source {
 
     fn number(self) -> u8
         ensures value { result ≡ source_number self }
-        ensures few { result < 2 }
+        ensures bounded { result < 2 }
     {
         match self {
             Source::Immediate => 0,
@@ -80,7 +80,7 @@ pub(crate) enum Opcode {
 impl Opcode {
     /// What a byte stands for; none where no instruction has it as its opcode.
     pub(crate) fn from_byte(byte: u8) -> Option<Opcode>
-        ensures some { IfSome result (λ o. byte_of o ≡ byte) }
+        ensures some { IfSome result (λ o. opcode_byte o ≡ byte) }
         ensures none { IfNone result (used_fields byte ≡ None) }
     {
         match byte % 8 {
@@ -97,7 +97,7 @@ impl Opcode {
 
     fn load_immediate(byte: u8) -> Option<Opcode>
         requires { class_in byte ≡ class_ld }
-        ensures some { IfSome result (λ o. byte_of o ≡ byte) }
+        ensures some { IfSome result (λ o. opcode_byte o ≡ byte) }
         ensures none { IfNone result (used_fields byte ≡ None) }
     {
         match byte {
@@ -108,7 +108,7 @@ impl Opcode {
 
     fn load(byte: u8) -> Option<Opcode>
         requires { class_in byte ≡ class_ldx }
-        ensures some { IfSome result (λ o. byte_of o ≡ byte) }
+        ensures some { IfSome result (λ o. opcode_byte o ≡ byte) }
         ensures none { IfNone result (used_fields byte ≡ None) }
     {
         let kind = load_kind(byte / 32, access_size(byte / 8 % 4))?;
@@ -117,7 +117,7 @@ impl Opcode {
 
     fn store(byte: u8, source: Source) -> Option<Opcode>
         requires { class_in byte ≡ stored_class source }
-        ensures some { IfSome result (λ o. byte_of o ≡ byte) }
+        ensures some { IfSome result (λ o. opcode_byte o ≡ byte) }
         ensures none { IfNone result (used_fields byte ≡ None) }
     {
         match byte / 32 {
@@ -128,7 +128,7 @@ impl Opcode {
 
     fn arithmetic(byte: u8, width: Width) -> Option<Opcode>
         requires { class_in byte ≡ alu_class width }
-        ensures some { IfSome result (λ o. byte_of o ≡ byte) }
+        ensures some { IfSome result (λ o. opcode_byte o ≡ byte) }
         ensures none { IfNone result (used_fields byte ≡ None) }
     {
         let source = Source::from_byte(byte);
@@ -144,7 +144,7 @@ impl Opcode {
 
     fn jump(byte: u8, width: Width) -> Option<Opcode>
         requires { class_in byte ≡ jump_class width }
-        ensures some { IfSome result (λ o. byte_of o ≡ byte) }
+        ensures some { IfSome result (λ o. opcode_byte o ≡ byte) }
         ensures none { IfNone result (used_fields byte ≡ None) }
     {
         let source = Source::from_byte(byte);
@@ -158,7 +158,7 @@ impl Opcode {
 
     /// The byte that stands for it.
     pub(crate) fn byte(self) -> u8
-        ensures { result ≡ byte_of self }
+        ensures { result ≡ opcode_byte self }
     {
         match self {
             Opcode::Alu(op, source, width) => coded(alu_code(op), source, arithmetic_class(width)),
@@ -218,7 +218,7 @@ impl Opcode {
 
 fn arithmetic_class(width: Width) -> u8
     ensures value { result ≡ alu_class width }
-    ensures few { result < 8 }
+    ensures bounded { result < 8 }
 {
     match width {
         Width::W32 => 4,
@@ -228,7 +228,7 @@ fn arithmetic_class(width: Width) -> u8
 
 fn branch_class(width: Width) -> u8
     ensures value { result ≡ jump_class width }
-    ensures few { result < 8 }
+    ensures bounded { result < 8 }
 {
     match width {
         Width::W32 => 6,

@@ -1,10 +1,10 @@
 //! Instructions from opcodes and fields.
 ghost use Rattle.std.specs.Prelude.{◌≡◌, ◌≢◌, ◌≤◌, true, false, IfSome, IfNone, nat_eq, pos};
 ghost use Rattle.bpf_model.specs.Arithmetic.{swap_bits, extension_width, extension_bits};
-ghost use Rattle.bpf_model.specs.Spelling.{fields_of, IsInstruction, IsOperand, code_of, offset_of, source_of, src_of, imm_of, source_k, source_x};
+ghost use Rattle.bpf_model.specs.Spelling.{fields_of, IsInstruction, IsOperand, code_of, offset_of, source_bit, src_of, imm_of, source_k, source_x};
 ghost use Rattle.bpf_decode.specs.Opcodes.{is_division};
 ghost use Rattle.bpf_decode.specs.UnitFaults.{has_bad_width, is_sign, is_move, is_swap};
-ghost use Rattle.bpf_decode.specs.OpcodeFields.{source_number, byte_of, used_by, AreOperands, IsRegisterIfUsed, IsZeroUnlessUsed};
+ghost use Rattle.bpf_decode.specs.OpcodeFields.{source_number, opcode_byte, used_by, AreOperands, IsRegisterIfUsed, IsZeroUnlessUsed};
 ghost use Rattle.bpf_decode.specs.declared.opcode.Opcode.TheVariants.{Alu, Mov, Wide, Store, Branch};
 
 use crate::opcode::{Opcode, Source};
@@ -14,7 +14,7 @@ use bpf_model::{AccessSize, AluOp, Insn, JumpOp, Operand, Reg, SignExtension, Sw
 impl Opcode {
     /// Its instruction with the operands that these fields have; none where a width among them is none.
     pub(crate) fn with_operands(self, fields: Fields) -> Option<Insn>
-        requires opcode { fields.opcode ≡ byte_of self }
+        requires opcode { fields.opcode ≡ opcode_byte self }
         requires one_unit { self ≢ Wide }
         requires operands { AreOperands (used_by self) fields }
         ensures instruction { IfSome result IsInstruction }
@@ -65,7 +65,7 @@ fn operand(source: Source, fields: Fields) -> Operand
     requires src { IsRegisterIfUsed (nat_eq (source_number source) source_x) fields.src }
     requires imm { IsZeroUnlessUsed (nat_eq (source_number source) source_k) fields.imm }
     ensures operand { IsOperand result }
-    ensures source { source_of result ≡ source_number source }
+    ensures source { source_bit result ≡ source_number source }
     ensures src { src_of result ≡ fields.src }
     ensures imm { imm_of result ≡ fields.imm }
 {
@@ -76,7 +76,7 @@ fn operand(source: Source, fields: Fields) -> Operand
 }
 
 fn read_alu(op: AluOp, source: Source, width: Width, fields: Fields) -> Option<Insn>
-    requires opcode { fields.opcode ≡ byte_of (Alu op source width) }
+    requires opcode { fields.opcode ≡ opcode_byte (Alu op source width) }
     requires operands { AreOperands (used_by (Alu op source width)) fields }
     ensures instruction { IfSome result IsInstruction }
     ensures spelled { IfSome result (λ i. fields_of i ≡ fields) }
@@ -92,7 +92,7 @@ fn read_alu(op: AluOp, source: Source, width: Width, fields: Fields) -> Option<I
 
 // a move of the whole operand, or of its low part with its sign extended
 fn read_move(source: Source, width: Width, fields: Fields) -> Option<Insn>
-    requires opcode { fields.opcode ≡ byte_of (Mov source width) }
+    requires opcode { fields.opcode ≡ opcode_byte (Mov source width) }
     requires operands { AreOperands (used_by (Mov source width)) fields }
     ensures instruction { IfSome result IsInstruction }
     ensures spelled { IfSome result (λ i. fields_of i ≡ fields) }
@@ -111,7 +111,7 @@ fn read_move(source: Source, width: Width, fields: Fields) -> Option<Insn>
 }
 
 fn read_store(source: Source, size: AccessSize, fields: Fields) -> Insn
-    requires opcode { fields.opcode ≡ byte_of (Store source size) }
+    requires opcode { fields.opcode ≡ opcode_byte (Store source size) }
     requires operands { AreOperands (used_by (Store source size)) fields }
     ensures instruction { IsInstruction result }
     ensures spelled { fields_of result ≡ fields }
@@ -125,7 +125,7 @@ fn read_store(source: Source, size: AccessSize, fields: Fields) -> Insn
 }
 
 fn read_branch(test: JumpOp, source: Source, width: Width, fields: Fields) -> Insn
-    requires opcode { fields.opcode ≡ byte_of (Branch test source width) }
+    requires opcode { fields.opcode ≡ opcode_byte (Branch test source width) }
     requires operands { AreOperands (used_by (Branch test source width)) fields }
     ensures instruction { IsInstruction result }
     ensures spelled { fields_of result ≡ fields }

@@ -4,7 +4,7 @@ ghost use Rattle.std.specs.Int.{w32, cast_signed};
 ghost use Rattle.bpf_model.specs.Words.{IsWord};
 ghost use Rattle.bpf_model.specs.Spelling.{fields_of, second_unit, src_of, imm_of, offset_of, IsRegister};
 ghost use Rattle.bpf_decode.specs.UnitFaults.{FitUnit};
-ghost use Rattle.bpf_decode.specs.OpcodeFields.{byte_of};
+ghost use Rattle.bpf_decode.specs.OpcodeFields.{opcode_byte};
 
 use crate::opcode::{Opcode, Source};
 use crate::unit::Fields;
@@ -55,7 +55,7 @@ fn high_half(value: u64) -> i32
 }
 
 fn opcode(insn: &Insn) -> Opcode
-    ensures { byte_of result ≡ (fields_of insn.now).opcode }
+    ensures { opcode_byte result ≡ (fields_of insn.now).opcode }
 {
     match *insn {
         Insn::Alu { op, width, src, .. } => Opcode::Alu(op, Source::of(src), width),

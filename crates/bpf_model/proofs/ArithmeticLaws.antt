@@ -29,7 +29,7 @@ modulus_is W64 = refl
 pub low_below : (width : Width) (n : ℕ) → n % modulus width < modulus width
 low_below width n = mod_below n (modulus width) (modulus_some width)
 
-signed_right_below : (width : Width) (x y : ℕ) → signed_right width x y < modulus width
+pub signed_right_below : (width : Width) (x y : ℕ) → signed_right width x y < modulus width
 unfolding signed_right
 signed_right_below width x y = wrapped_below (modulus width) (int_shr (signed_at width x) (y % bits_of width)) (modulus_some width)
 

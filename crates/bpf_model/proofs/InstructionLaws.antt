@@ -23,7 +23,7 @@ use Rattle.bpf_model.specs.declared.instruction.Operand.{Operand}
 use Rattle.bpf_model.specs.declared.instruction.Operand.TheVariants.{Register, Immediate}
 use Rattle.bpf_model.specs.declared.instruction.Insn.{Insn}
 use Rattle.bpf_model.specs.declared.instruction.Insn.TheVariants.{Alu, Negate, Mov, SignExtend, Reorder, Wide, Load, Store, Jump, JumpLong, Branch, Exit}
-use Rattle.bpf_model.specs.Spelling.{Fields, opcode, alu_class, jump_class, source_of, src_of, imm_of, code_of, offset_of, test_code, fields_of}
+use Rattle.bpf_model.specs.Spelling.{Fields, opcode, alu_class, jump_class, source_bit, src_of, imm_of, code_of, offset_of, test_code, fields_of}
 
 operand_of : ℕ → Fields → Operand
 operand_of source f = if nat_eq source 0 then Immediate f.imm else Register f.src
@@ -104,7 +104,7 @@ upper_half i = 0
 pub opcode_parts : (code source class : ℕ) → source ≤ 1 → class < 8 → (opcode code source class % 8 ≡ class) × (opcode code source class / 16 ≡ code) × (opcode code source class / 8 % 2 ≡ source)
 opcode_parts code source class h k = (omega (arith, h, k), omega (arith, h, k), omega (arith, h, k))
 
-pub source_small : (src : Operand) → source_of src ≤ 1
+pub source_small : (src : Operand) → source_bit src ≤ 1
 source_small (Register r) = omega arith
 source_small (Immediate imm) = omega arith
 
@@ -153,7 +153,7 @@ unfolding jump_insn test_of
 at_test_code Eq width source f = refl
 at_test_code test width source f = refl
 
-operand_again : (src : Operand) (op dst : ℕ) (offset : ℤ) → operand_of (source_of src) (record { opcode = op; dst = dst; src = src_of src; offset = offset; imm = imm_of src }) ≡ src
+operand_again : (src : Operand) (op dst : ℕ) (offset : ℤ) → operand_of (source_bit src) (record { opcode = op; dst = dst; src = src_of src; offset = offset; imm = imm_of src }) ≡ src
 unfolding operand_of
 operand_again (Register r) op dst offset = refl
 operand_again (Immediate imm) op dst offset = refl
@@ -165,17 +165,17 @@ pub insn_of-fields_of : (i : Insn) → insn_of (fields_of i) (upper_half i) ≡ 
 unfolding upper_half insn_of by_parts alu_insn jump_insn ja_insn mov_insn kind_of size_of extension_of order_of swap_of
 insn_of-fields_of (Alu op width dst src) =
     let f = fields_of (Alu op width dst src) in
-    parts_of (code_of op) (source_of src) (alu_class width) f 0 (source_small src) (alu_class_small width) refl
-    ∙ at_alu_class width (code_of op) (source_of src) f
-    ∙ at_code op width (source_of src) f
-    ∙ ap (λ (o : AluOp). Alu o width dst (operand_of (source_of src) f)) (op_again op)
+    parts_of (code_of op) (source_bit src) (alu_class width) f 0 (source_small src) (alu_class_small width) refl
+    ∙ at_alu_class width (code_of op) (source_bit src) f
+    ∙ at_code op width (source_bit src) f
+    ∙ ap (λ (o : AluOp). Alu o width dst (operand_of (source_bit src) f)) (op_again op)
     ∙ ap (Alu op width dst) (operand_again src f.opcode dst (offset_of op))
 insn_of-fields_of (Negate W32 dst) = refl
 insn_of-fields_of (Negate W64 dst) = refl
 insn_of-fields_of (Mov width dst src) =
     let f = fields_of (Mov width dst src) in
-    parts_of 11 (source_of src) (alu_class width) f 0 (source_small src) (alu_class_small width) refl
-    ∙ at_alu_class width 11 (source_of src) f
+    parts_of 11 (source_bit src) (alu_class width) f 0 (source_small src) (alu_class_small width) refl
+    ∙ at_alu_class width 11 (source_bit src) f
     ∙ ap (Mov width dst) (operand_again src f.opcode dst (pos 0))
 insn_of-fields_of (SignExtend From8To32 dst src) = refl
 insn_of-fields_of (SignExtend From16To32 dst src) = refl
@@ -211,8 +211,8 @@ insn_of-fields_of (Jump distance) = refl
 insn_of-fields_of (JumpLong distance) = refl
 insn_of-fields_of (Branch test width dst src distance) =
     let f = fields_of (Branch test width dst src distance) in
-    parts_of (test_code test) (source_of src) (jump_class width) f 0 (source_small src) (jump_class_small width) refl
-    ∙ at_jump_class width (test_code test) (source_of src) f
-    ∙ at_test_code test width (source_of src) f
+    parts_of (test_code test) (source_bit src) (jump_class width) f 0 (source_small src) (jump_class_small width) refl
+    ∙ at_jump_class width (test_code test) (source_bit src) f
+    ∙ at_test_code test width (source_bit src) f
     ∙ ap (λ (o : Operand). Branch test width dst o distance) (operand_again src f.opcode dst distance)
 insn_of-fields_of Exit = refl

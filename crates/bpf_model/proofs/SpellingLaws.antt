@@ -18,9 +18,14 @@ use Rattle.bpf_model.specs.Words.{IsWord, bytes_of}
 use Rattle.bpf_model.specs.Arithmetic.{extension_width}
 use Rattle.bpf_model.specs.Accesses.{loaded_size}
 use Rattle.bpf_model.specs.Program.{units_of, unit_count}
-use Rattle.bpf_model.specs.Spelling.{Fields, unit_bytes, opcode, alu_class, jump_class, source_of, code_of, order_source, order_width, test_code, size_code, mode_of, store_class, fields_of, second_unit, second_bytes, spelling, spelling_of_all, IsInstruction, AreInstructions, Spells}
+use Rattle.bpf_model.specs.Spelling.{Fields, unit_bytes, opcode, alu_class, jump_class, source_bit, code_of, order_source, order_width, test_code, size_code, mode_of, store_class, fields_of, second_unit, second_bytes, spelling, spelling_of_all, IsInstruction, AreInstructions, Spells}
 use Rattle.bpf_model.proofs.UnitLaws.{FitFields, unit_bytes-first, zero_offset, half_fits, fit-fields_of}
 use Rattle.bpf_model.proofs.InstructionLaws.{insn_of, upper_half, opcode_parts, source_small, alu_class_small, jump_class_small, insn_of-fields_of}
+
+-- instructions with an instruction more
+pub AreInstructions-push : (is : List Insn) (i : Insn) → AreInstructions is → IsInstruction i → AreInstructions (is ++ i ∷ [])
+AreInstructions-push [] i h g = (g, tt)
+AreInstructions-push (x ∷ is) i h g = (h.0, AreInstructions-push is i h.1 g)
 
 -- an instruction is wide and has a second unit, or has another class and no second unit
 pub record IsWide (i : Insn) : Type 0 where
@@ -65,9 +70,9 @@ order_source_small Swap = omega arith
 
 wide_or_narrow : (i : Insn) → IsWide i ⊎ IsNarrow i
 unfolding upper_half
-wide_or_narrow (Alu op width dst src) = inr (record { class = class_not_zero (code_of op) (source_of src) (alu_class width) (source_small src) (alu_class_small width) (alu_class_some width); no_second = refl; no_upper = refl })
+wide_or_narrow (Alu op width dst src) = inr (record { class = class_not_zero (code_of op) (source_bit src) (alu_class width) (source_small src) (alu_class_small width) (alu_class_some width); no_second = refl; no_upper = refl })
 wide_or_narrow (Negate width dst) = inr (record { class = class_not_zero 8 0 (alu_class width) (omega arith) (alu_class_small width) (alu_class_some width); no_second = refl; no_upper = refl })
-wide_or_narrow (Mov width dst src) = inr (record { class = class_not_zero 11 (source_of src) (alu_class width) (source_small src) (alu_class_small width) (alu_class_some width); no_second = refl; no_upper = refl })
+wide_or_narrow (Mov width dst src) = inr (record { class = class_not_zero 11 (source_bit src) (alu_class width) (source_small src) (alu_class_small width) (alu_class_some width); no_second = refl; no_upper = refl })
 wide_or_narrow (SignExtend extension dst src) = inr (record { class = class_not_zero 11 1 (alu_class (extension_width extension)) (omega arith) (alu_class_small (extension_width extension)) (alu_class_some (extension_width extension)); no_second = refl; no_upper = refl })
 wide_or_narrow (Reorder order size dst) = inr (record { class = class_not_zero 13 (order_source order) (alu_class (order_width order)) (order_source_small order) (alu_class_small (order_width order)) (alu_class_some (order_width order)); no_second = refl; no_upper = refl })
 wide_or_narrow (Wide dst value) = inl (record { dst = dst; value = value; is = refl })
@@ -75,7 +80,7 @@ wide_or_narrow (Load kind dst src offset) = inr (record { class = access_class_n
 wide_or_narrow (Store size dst src offset) = inr (record { class = access_class_not_zero 3 (size_code size) (store_class src) (class_of_stores src).0 (class_of_stores src).1; no_second = refl; no_upper = refl })
 wide_or_narrow (Jump distance) = inr (record { class = refl; no_second = refl; no_upper = refl })
 wide_or_narrow (JumpLong distance) = inr (record { class = refl; no_second = refl; no_upper = refl })
-wide_or_narrow (Branch test width dst src distance) = inr (record { class = class_not_zero (test_code test) (source_of src) (jump_class width) (source_small src) (jump_class_small width) (jump_class_some width); no_second = refl; no_upper = refl })
+wide_or_narrow (Branch test width dst src distance) = inr (record { class = class_not_zero (test_code test) (source_bit src) (jump_class width) (source_small src) (jump_class_small width) (jump_class_some width); no_second = refl; no_upper = refl })
 wide_or_narrow Exit = inr (record { class = refl; no_second = refl; no_upper = refl })
 
 -- only a wide instruction has the class of wide ones

@@ -20,7 +20,7 @@ use Rattle.bpf_model.specs.Arithmetic.{swap_bits, extension_bits}
 use Rattle.bpf_model.specs.Spelling.{Fields, unit_bytes, imm_of, offset_of, fields_of, IsOffset, IsImmediate, IsOperand, IsInstruction}
 
 -- the word of the bytes of a word is this word
-word_of-bytes_of : (n w : ℕ) → w < 256 ^ n → word_of (bytes_of n w) ≡ w
+pub word_of-bytes_of : (n w : ℕ) → w < 256 ^ n → word_of (bytes_of n w) ≡ w
 unfolding bytes_of word_of
 word_of-bytes_of zero w h = omega arith
 word_of-bytes_of (suc n) w h =

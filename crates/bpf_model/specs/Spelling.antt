@@ -73,9 +73,9 @@ source_k = 0
 abbrev pub source_x : ℕ
 source_x = 1
 
-abbrev pub source_of : Operand → ℕ
-source_of (Register r) = source_x
-source_of (Immediate imm) = source_k
+abbrev pub source_bit : Operand → ℕ
+source_bit (Register r) = source_x
+source_bit (Immediate imm) = source_k
 
 abbrev pub src_of : Operand → ℕ
 src_of (Register r) = r
@@ -180,7 +180,7 @@ store_class (Immediate imm) = class_st
 abbrev pub fields_of : Insn → Fields
 fields_of (Alu op width dst src) =
     record {
-      opcode = opcode (code_of op) (source_of src) (alu_class width);
+      opcode = opcode (code_of op) (source_bit src) (alu_class width);
       dst = dst;
       src = src_of src;
       offset = offset_of op;
@@ -196,7 +196,7 @@ fields_of (Negate width dst) =
     }
 fields_of (Mov width dst src) =
     record {
-      opcode = opcode mov_code (source_of src) (alu_class width);
+      opcode = opcode mov_code (source_bit src) (alu_class width);
       dst = dst;
       src = src_of src;
       offset = pos 0;
@@ -253,7 +253,7 @@ fields_of (JumpLong distance) =
     }
 fields_of (Branch test width dst src distance) =
     record {
-      opcode = opcode (test_code test) (source_of src) (jump_class width);
+      opcode = opcode (test_code test) (source_bit src) (jump_class width);
       dst = dst;
       src = src_of src;
       offset = distance;

@@ -22,7 +22,7 @@ impl AccessSize {
     pub fn bytes(self) -> usize
         ensures value { result ≡ byte_count self }
         ensures some { 1 ≤ result }
-        ensures few { result ≤ 8 }
+        ensures bounded { result ≤ 8 }
     {
         match self {
             AccessSize::Byte => 1,

@@ -141,7 +141,7 @@ impl Insn {
     /// How many units of 64 bits the instruction takes: two where it is wide, else one.
     pub fn units(self) -> usize
         ensures value { result ≡ units_of self }
-        ensures few { result ≤ 2 }
+        ensures bounded { result ≤ 2 }
     {
         match self {
             Insn::Wide { .. } => 2,

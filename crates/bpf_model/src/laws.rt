@@ -23,7 +23,7 @@ use crate::instruction::Insn;
 use crate::limits::PROGRAM_UNITS;
 use crate::operations::{AluOp, ByteOrder, SignExtension, SwapWidth, Width};
 use crate::program::Program;
-use crate::region::Region;
+use crate::window::Window;
 use std::cmp::Ordering;
 
 impl Key {
@@ -101,7 +101,7 @@ impl Condition {
     }
 }
 
-impl Region {
+impl Window {
     /// Whether the window may only be read: no step changes a byte of such a window, nor any byte outside all windows.
     pub fn is_read_only(self) -> bool
         ensures exact { (sizes : DeclaredSizes) (a n : ℕ) → AreWithinLimits sizes →
@@ -111,7 +111,7 @@ impl Region {
         ensures outside { (sizes : DeclaredSizes) (a : ℕ) →
             can_write sizes a 1 ≡ false → StaysAt sizes a }
     {
-        matches!(self, Region::Key | Region::Old | Region::Arg)
+        matches!(self, Window::Key | Window::Old | Window::Arg)
     }
 }
 
@@ -131,7 +131,7 @@ impl Insn {
     /// How many bytes spell the instruction: 8 a unit. No instruction's spelling begins another's.
     pub fn spelled_bytes(self) -> usize
         ensures value { result ≡ length (spelling self) }
-        ensures few { result ≤ 16 }
+        ensures bounded { result ≤ 16 }
         ensures fits { IsInstruction self }
         ensures alone { IsSpelledAlone self }
     {
@@ -143,7 +143,7 @@ impl Program {
     /// How many bytes spell the program. It has one spelling, and bytes spell one program at most.
     pub fn spelled_bytes(&self) -> usize
         ensures value { result ≡ length (spelling_of_all self.now) }
-        ensures few { result ≤ 8 * PROGRAM_UNITS }
+        ensures bounded { result ≤ 8 * PROGRAM_UNITS }
         ensures one_spelling { (text other : List ℕ) →
             Spells text self.now → Spells other self.now → text ≡ other }
         ensures one_program { (text : List ℕ) (other : List AnyInsn) →

@@ -19,14 +19,14 @@ pub mod limits;
 pub mod memory;
 pub mod operations;
 pub mod program;
-pub mod region;
+pub mod window;
 
 pub use accesses::{AccessSize, LoadKind};
 pub use bytes::{Key, TooLong, Value};
 pub use conditions::{Condition, JumpOp};
-pub use input::{Answer, Input, Sizes, Window, fits, fits_parts};
+pub use input::{Answer, Input, InputPart, Sizes, fits, fits_parts};
 pub use instruction::{Insn, Operand, Reg, immediate_word};
 pub use memory::NoMemory;
 pub use operations::{AluOp, ByteOrder, SignExtension, SwapWidth, Width};
 pub use program::Program;
-pub use region::Region;
+pub use window::Window;

@@ -5,26 +5,26 @@ use Rattle.std.proofs.lemmas.List.Sums.{sum_by-append}
 use Rattle.stripe_rule.specs.declared.view.View.{View}
 use Rattle.stripe_rule.specs.Gains.{Adds}
 use Rattle.bins.specs.Table.{Entry}
-use Rattle.bin_stripes.specs.declared.deed.Deed.{Deed}
+use Rattle.bin_stripes.specs.declared.ghost_action.GhostAction.{GhostAction}
 use Rattle.bin_stripes.specs.Actions.{scanned}
 use Rattle.bin_stripes.specs.Histories.{own_events}
 use Rattle.bin_stripes.specs.Invoked.{AreOf}
 use Rattle.bin_stripes.specs.Passes.{PassState}
 use Rattle.bulk_walks.specs.Walks.{Walked, Each, IsScan, MayScan}
-use Rattle.bulk_walks.specs.Turns.{Finds}
+use Rattle.bulk_walks.specs.Turns.{WorkerFinds}
 use Rattle.bulk_walks.proofs.Sums.{with_at, with_at-same, with_at-other, turn_sum-more, turn_sum-past}
 use Rattle.bulk_walks.proofs.TurnLemmas.{walked_none, walked_more, walked_past, walked_stop, walked_as, scanned_more}
 
 -- what was scanned may have been
-pub may_scan : (workers worker : ℕ) (scans : ℕ → List Entry) (v : View Deed) (n : ℕ) (w : View Deed) → Walked n workers worker (Each IsScan scans) v w → Walked n workers worker MayScan v w
+pub may_scan : (workers worker : ℕ) (scans : ℕ → List Entry) (v : View GhostAction) (n : ℕ) (w : View GhostAction) → Walked n workers worker (Each IsScan scans) v w → Walked n workers worker MayScan v w
 may_scan workers worker scans v n w p = walked_as workers worker (Each IsScan scans) MayScan v n w p (λ k found more t e. inr (scans k, e))
 
-module _ (all workers worker : ℕ) (v : View Deed) where
-  pub finds_none : Finds all 0 workers worker v v []
+module _ (all workers worker : ℕ) (v : View GhostAction) where
+  pub finds_none : WorkerFinds all 0 workers worker v v []
   finds_none = record { scans = λ _. []; walked = walked_none workers worker _ v; stripes = λ k t. absurd (omega arith); sum = λ h. refl }
 
-  pub finds_more : (n : ℕ) (u w : View Deed) (found entries : List Entry) → Finds all n workers worker v u found → n % workers ≡ worker → w.passes ≡ u.passes → Adds u n (own_events u (scanned entries ∷ [])) w → AreOf all n entries
-      → Finds all (n + 1) workers worker v w (found ++ entries)
+  pub finds_more : (n : ℕ) (u w : View GhostAction) (found entries : List Entry) → WorkerFinds all n workers worker v u found → n % workers ≡ worker → w.passes ≡ u.passes → Adds u n (own_events u (scanned entries ∷ [])) w → AreOf all n entries
+      → WorkerFinds all (n + 1) workers worker v w (found ++ entries)
   finds_more n u w found entries f turn same a are = record {
     scans = with_at f.scans n entries;
     walked = scanned_more workers worker f.scans v n u w entries f.walked turn same a;
@@ -35,7 +35,7 @@ module _ (all workers worker : ℕ) (v : View Deed) where
     sum = λ h. let m = turn_sum-more workers worker (λ (es : List Entry). sum_by h es) f.scans n entries turn in let s = f.sum h in let b = sum_by-append h found entries in omega (arith, m, s, b);
   }
 
-  pub finds_past : (n : ℕ) (u : View Deed) (found : List Entry) → Finds all n workers worker v u found → n % workers ≢ worker → Finds all (n + 1) workers worker v u found
+  pub finds_past : (n : ℕ) (u : View GhostAction) (found : List Entry) → WorkerFinds all n workers worker v u found → n % workers ≢ worker → WorkerFinds all (n + 1) workers worker v u found
   finds_past n u found f miss = record {
     scans = f.scans;
     walked = walked_past workers worker (Each IsScan f.scans) v n u f.walked miss;
@@ -44,17 +44,17 @@ module _ (all workers worker : ℕ) (v : View Deed) where
   }
 
   -- it ended
-  pub scans_part : (scans : ℕ → List Entry) (n most : ℕ) (u : View Deed) → n ≤ most → Walked n workers worker (Each IsScan scans) v u → Walked most workers worker MayScan v u
+  pub scans_part : (scans : ℕ → List Entry) (n most : ℕ) (u : View GhostAction) → n ≤ most → Walked n workers worker (Each IsScan scans) v u → Walked most workers worker MayScan v u
   scans_part scans n most u le p = walked_stop workers worker MayScan v n most u le (may_scan workers worker scans v n u p) (λ k _. inl refl)
 
-  pub finds_part : (n most : ℕ) (u : View Deed) (found : List Entry) → n ≤ most → Finds all n workers worker v u found → Walked most workers worker MayScan v u
+  pub finds_part : (n most : ℕ) (u : View GhostAction) (found : List Entry) → n ≤ most → WorkerFinds all n workers worker v u found → Walked most workers worker MayScan v u
   finds_part n most u found le f = scans_part f.scans n most u le f.walked
 
   -- the next scan was refused
-  pub scans_cut : (scans : ℕ → List Entry) (n most : ℕ) (u w : View Deed) → n < most → Walked n workers worker (Each IsScan scans) v u → n % workers ≡ worker → w.passes ≡ u.passes → Adds u n [] w → Walked most workers worker MayScan v w
+  pub scans_cut : (scans : ℕ → List Entry) (n most : ℕ) (u w : View GhostAction) → n < most → Walked n workers worker (Each IsScan scans) v u → n % workers ≡ worker → w.passes ≡ u.passes → Adds u n [] w → Walked most workers worker MayScan v w
   scans_cut scans n most u w lt p turn same a =
       walked_stop workers worker MayScan v (n + 1) most w (omega arith) (walked_more workers worker MayScan v n u w [] (may_scan workers worker scans v n u p) turn same a (inl refl)) (λ k _. inl refl)
 
-pub finds_at : (all n workers worker : ℕ) (v : View Deed) (p q : PassState) (es fs : List Entry) → Finds all n workers worker v p.view es → q ≡ p → fs ≡ es → Finds all n workers worker v q.view fs
+pub finds_at : (all n workers worker : ℕ) (v : View GhostAction) (p q : PassState) (es fs : List Entry) → WorkerFinds all n workers worker v p.view es → q ≡ p → fs ≡ es → WorkerFinds all n workers worker v q.view fs
 finds_at all n workers worker v p q es fs f same list =
-    subst (λ (p : PassState). Finds all n workers worker v p.view fs) (sym same) (subst (λ (es : List Entry). Finds all n workers worker v p.view es) (sym list) f)
+    subst (λ (p : PassState). WorkerFinds all n workers worker v p.view fs) (sym same) (subst (λ (es : List Entry). WorkerFinds all n workers worker v p.view es) (sym list) f)

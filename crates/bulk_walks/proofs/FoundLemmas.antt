@@ -8,15 +8,15 @@ use Rattle.std.proofs.lemmas.Bool.{false≢true}
 use Rattle.std.proofs.Math.Nat.{mod-lt}
 use Rattle.stripe_rule.specs.declared.view.View.{View}
 use Rattle.bins.specs.Table.{Entry, by_bytes}
-use Rattle.bin_stripes.specs.declared.deed.Deed.{Deed}
+use Rattle.bin_stripes.specs.declared.ghost_action.GhostAction.{GhostAction}
 use Rattle.bin_stripes.specs.Invoked.{AreOf}
 use Rattle.bin_stripes.specs.Passes.{PassState}
 use Rattle.bpf_model.specs.declared.memory.NoMemory.{NoMemory}
-use Rattle.walk_replies.specs.declared.row.Row.{Row}
-use Rattle.walk_replies.specs.declared.row.Fate.TheVariants.{Waiting}
-use Rattle.walk_replies.specs.Rows.{entry_of}
+use Rattle.atomic_methods.specs.declared.row.Row.{Row}
+use Rattle.atomic_methods.specs.declared.row.Fate.TheVariants.{Waiting}
+use Rattle.atomic_methods.specs.Rows.{entry_of}
 use Rattle.bulk_walks.specs.Walks.{IsTurn, Walked, AllWalked, Each, IsScan, sum_below}
-use Rattle.bulk_walks.specs.Turns.{turn_sum, Finds, EachFinds, FindsAll, found_sum, entries_of, comes_before}
+use Rattle.bulk_walks.specs.Turns.{turn_sum, WorkerFinds, EachFinds, FindsAll, found_sum, entries_of, comes_before}
 use Rattle.bulk_walks.proofs.Sums.{turn_sum-same, sums_of_turns}
 use Rattle.bulk_walks.proofs.TeamLemmas.{Turn, together, all_walked}
 use Rattle.bulk_walks.proofs.Order.{rises, once_in_all}
@@ -26,7 +26,7 @@ record Own (n workers j : ℕ) (r : Result (Vec Entry Global) NoMemory) (scans :
   stripes : (k : ℕ) → IsTurn n workers j k → AreOf n k (scans k)
   sum : (h : Entry → ℕ) → found_sum h r ≡ turn_sum workers j (λ k. sum_by h (scans k)) n
 
-own_of : (n workers j : ℕ) (v w : View Deed) (r : Result (Vec Entry Global) NoMemory) → IsOk r → IfOk r (λ found. Finds n n workers j v w found.items) → (scans : ℕ → List Entry) × (Walked n workers j (Each IsScan scans) v w × Own n workers j r scans)
+own_of : (n workers j : ℕ) (v w : View GhostAction) (r : Result (Vec Entry Global) NoMemory) → IsOk r → IfOk r (λ found. WorkerFinds n n workers j v w found.items) → (scans : ℕ → List Entry) × (Walked n workers j (Each IsScan scans) v w × Own n workers j r scans)
 own_of n workers j v w (Ok found) ok f = (f.scans, (f.walked, record { stripes = f.stripes; sum = f.sum }))
 own_of n workers j v w (Err e) ok f = absurd (false≢true ok)
 

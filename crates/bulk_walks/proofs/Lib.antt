@@ -7,4 +7,5 @@ pub mod Order
 pub mod FoundLemmas
 pub mod RunLemmas
 pub mod ReplaceLemmas
+pub mod CountLemmas
 pub mod SameScans

@@ -7,9 +7,9 @@ use Rattle.verifier.specs.Checked.{Checked}
 use Rattle.bins.specs.declared.counts.Counts.{Counts}
 use Rattle.bins.specs.Replacements.{is_given, is_unfit}
 use Rattle.bins.specs.Table.{Entry}
-use Rattle.bin_stripes.specs.declared.deed.Deed.{Deed}
+use Rattle.bin_stripes.specs.declared.ghost_action.GhostAction.{GhostAction}
 use Rattle.bin_stripes.specs.Histories.{own_events, Leaves}
-use Rattle.bin_stripes.specs.Invoked.{AreReplacements, ReplacesEach}
+use Rattle.bin_stripes.specs.Invoked.{AreReplacements, ReplacesInStripe}
 use Rattle.bin_stripes.specs.Passes.{PassState, stripes_of}
 use Rattle.bulk_walks.specs.Walks.{AllWalked, Each, IsReplaced, sum_below}
 use Rattle.bulk_walks.specs.Turns.{turn_sum, ReplacesTurns, EachReplaces, IsSum}
@@ -29,7 +29,7 @@ at_most_scanned {entries = entries} are =
     let unfit = count_by-le-length (λ (e : Entry). is_unfit (are.outcome e.0)) entries in
     (omega (arith, given, are.given_are, are.scanned_are), omega (arith, unfit, are.unfit_are, are.scanned_are))
 
-module _ (all : ℕ) (checked : Checked) (arg : Option (List ℕ)) (workers worker : ℕ) (v : View Deed) where
+module _ (all : ℕ) (checked : Checked) (arg : Option (List ℕ)) (workers worker : ℕ) (v : View GhostAction) where
   pub replaces_none : (total : Counts) → total.scanned ≡ 0 → total.given ≡ 0 → total.unfit ≡ 0 → ReplacesTurns all checked arg 0 workers worker v v total
   replaces_none total s g u = record {
     counts = λ _. total;
@@ -37,14 +37,14 @@ module _ (all : ℕ) (checked : Checked) (arg : Option (List ℕ)) (workers work
     scanned = s;
     given = g;
     unfit = u;
-    few_scanned = omega (arith, s);
-    few_given = omega (arith, g);
-    few_unfit = omega (arith, u);
+    bounded_scanned = omega (arith, s);
+    bounded_given = omega (arith, g);
+    bounded_unfit = omega (arith, u);
   }
 
   pub replaces_more : (n : ℕ) (p q : PassState) (before more total : Counts) → ReplacesTurns all checked arg n workers worker v p.view before → n % workers ≡ worker → q.view.passes ≡ p.view.passes
-      → stripes_of p.map ≡ all → ReplacesEach p n checked arg more q → more.scanned < 2 ^ 57 → IsSum total before more → ReplacesTurns all checked arg (n + 1) workers worker v q.view total
-  replaces_more n p q before more total r turn same stripes e few sum =
+      → stripes_of p.map ≡ all → ReplacesInStripe p n checked arg more q → more.scanned < 2 ^ 57 → IsSum total before more → ReplacesTurns all checked arg (n + 1) workers worker v q.view total
+  replaces_more n p q before more total r turn same stripes e bounded sum =
       let counts = with_at r.counts n more in
       let here : IsReplaced all checked arg n more v (seen_of p.view n ++ e.makes.here.between) (own_events p.view e.actions) =
       record { actions = e.actions; events = own_again p.view v e.actions r.walked.numbers; table = e.table; left = subst (λ (m : ℕ). Leaves m n (seen_of p.view n ++ e.makes.here.between) e.table) stripes e.found; are = e.are } in
@@ -61,12 +61,12 @@ module _ (all : ℕ) (checked : Checked) (arg : Option (List ℕ)) (workers work
         scanned = omega (arith, s, r.scanned, sum.scanned);
         given = omega (arith, g, r.given, sum.given);
         unfit = omega (arith, u, r.unfit, sum.unfit);
-        few_scanned = omega (arith, most, r.few_scanned, sum.scanned, few);
-        few_given = omega (arith, most, r.few_given, sum.given, few, bound.0);
-        few_unfit = omega (arith, most, r.few_unfit, sum.unfit, few, bound.1);
+        bounded_scanned = omega (arith, most, r.bounded_scanned, sum.scanned, bounded);
+        bounded_given = omega (arith, most, r.bounded_given, sum.given, bounded, bound.0);
+        bounded_unfit = omega (arith, most, r.bounded_unfit, sum.unfit, bounded, bound.1);
       }
 
-  pub replaces_past : (n : ℕ) (u : View Deed) (total : Counts) → ReplacesTurns all checked arg n workers worker v u total → n % workers ≢ worker → ReplacesTurns all checked arg (n + 1) workers worker v u total
+  pub replaces_past : (n : ℕ) (u : View GhostAction) (total : Counts) → ReplacesTurns all checked arg n workers worker v u total → n % workers ≢ worker → ReplacesTurns all checked arg (n + 1) workers worker v u total
   replaces_past n u total r miss =
       let past : (f : ℕ → ℕ) → turn_sum workers worker f (n + 1) ≡ turn_sum workers worker f n = λ f. turn_sum-past workers worker f n miss in
       let most = past (λ _. 2 ^ 57) in
@@ -76,12 +76,12 @@ module _ (all : ℕ) (checked : Checked) (arg : Option (List ℕ)) (workers work
         scanned = r.scanned ∙ sym (past (λ k. (r.counts k).scanned));
         given = r.given ∙ sym (past (λ k. (r.counts k).given));
         unfit = r.unfit ∙ sym (past (λ k. (r.counts k).unfit));
-        few_scanned = omega (arith, most, r.few_scanned);
-        few_given = omega (arith, most, r.few_given);
-        few_unfit = omega (arith, most, r.few_unfit);
+        bounded_scanned = omega (arith, most, r.bounded_scanned);
+        bounded_given = omega (arith, most, r.bounded_given);
+        bounded_unfit = omega (arith, most, r.bounded_unfit);
       }
 
-pub replaces_at : (all : ℕ) (checked : Checked) (arg : Option (List ℕ)) (n workers worker : ℕ) (v : View Deed) (p q : PassState) (x y : Counts) → ReplacesTurns all checked arg n workers worker v p.view x → q ≡ p → y ≡ x
+pub replaces_at : (all : ℕ) (checked : Checked) (arg : Option (List ℕ)) (n workers worker : ℕ) (v : View GhostAction) (p q : PassState) (x y : Counts) → ReplacesTurns all checked arg n workers worker v p.view x → q ≡ p → y ≡ x
     → ReplacesTurns all checked arg n workers worker v q.view y
 replaces_at all checked arg n workers worker v p q x y r same total =
     subst (λ (p : PassState). ReplacesTurns all checked arg n workers worker v p.view y) (sym same) (subst (λ (x : Counts). ReplacesTurns all checked arg n workers worker v p.view x) (sym total) r)
@@ -90,21 +90,21 @@ replaces_at all checked arg n workers worker v p q x y r same total =
 module _ (n : ℕ) (checked : Checked) (arg : Option (List ℕ)) (before : List PassState) (rs : List Counts) (after : List PassState) (d : PassState) (some : 0 < length before) (did : EachReplaces n checked arg before rs after) where
   -- the sums fit
   pub replaces_fit : (kind : Counts → ℕ) → n ≤ 64 → ((j : ℕ) → j < length before → kind (get_or rs j none_counted) ≤ turn_sum (length before) j (λ _. 2 ^ 57) n) → sum_by kind rs < 2 ^ 64
-  replaces_fit kind most few =
+  replaces_fit kind most bounded =
       let below : (k : ℕ) → k < length rs → kind (get_or rs k none_counted) ≤ turn_sum (length rs) k (λ _. 2 ^ 57) n =
-      λ k low. subst (λ m. kind (get_or rs k none_counted) ≤ turn_sum m k (λ _. 2 ^ 57) n) (sym did.answers) (few k (omega (arith, did.answers))) in
+      λ k low. subst (λ m. kind (get_or rs k none_counted) ≤ turn_sum m k (λ _. 2 ^ 57) n) (sym did.answers) (bounded k (omega (arith, did.answers))) in
       let total = bound_of_turns kind rs (λ _. 2 ^ 57) n none_counted (omega (arith, did.answers)) below in
       let top = sum_below-const n (2 ^ 57) in
       omega arith
 
   pub scanned_fit : n ≤ 64 → sum_by (λ (c : Counts). c.scanned) rs < 2 ^ 64
-  scanned_fit most = replaces_fit (λ c. c.scanned) most (λ j low. (did.each j d none_counted low).few_scanned)
+  scanned_fit most = replaces_fit (λ c. c.scanned) most (λ j low. (did.each j d none_counted low).bounded_scanned)
 
   pub given_fit : n ≤ 64 → sum_by (λ (c : Counts). c.given) rs < 2 ^ 64
-  given_fit most = replaces_fit (λ c. c.given) most (λ j low. (did.each j d none_counted low).few_given)
+  given_fit most = replaces_fit (λ c. c.given) most (λ j low. (did.each j d none_counted low).bounded_given)
 
   pub unfit_fit : n ≤ 64 → sum_by (λ (c : Counts). c.unfit) rs < 2 ^ 64
-  unfit_fit most = replaces_fit (λ c. c.unfit) most (λ j low. (did.each j d none_counted low).few_unfit)
+  unfit_fit most = replaces_fit (λ c. c.unfit) most (λ j low. (did.each j d none_counted low).bounded_unfit)
 
   abbrev G : ℕ → (ℕ → Counts) → Type 0
   G j counts = Turn (IsReplaced n checked arg) n before after d j counts × ((get_or rs j none_counted).scanned ≡ turn_sum (length before) j (λ k. (counts k).scanned) n)

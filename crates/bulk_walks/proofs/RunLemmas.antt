@@ -1,8 +1,8 @@
 -- Rows that were run in their places.
 use Rattle.std.proofs.Common.{◌≡◌, ℕ, suc, ◌<◌, List, [], ◌∷◌, Option, length, slice_index_or, arith}
 use Rattle.verifier.specs.Checked.{Checked}
-use Rattle.walk_replies.specs.declared.row.Row.{Row}
-use Rattle.walk_replies.specs.Rows.{entry_of, Ran, AreRun}
+use Rattle.atomic_methods.specs.declared.row.Row.{Row}
+use Rattle.atomic_methods.specs.Rows.{entry_of, Ran, AreRun}
 use Rattle.bin_stripes.specs.Passes.{PassState}
 use Rattle.bins.specs.Table.{Entry}
 use Rattle.bulk_walks.specs.Walks.{AllWalked, Each, IsScan, MayScan}

@@ -1,29 +1,20 @@
 -- From what each worker did to what the team did.
-use Rattle.std.proofs.Common.{◌≡◌, ℕ, ◌^◌, ◌%◌, ◌<◌, ◌≤◌, ◌⊎◌, inl, inr, List, [], ◌∷◌, length, sum_by, get_or, slice_index_or, Result, Ok, Err, IfOk, IsOk, All, refl, sym, ap, ◌∙◌, subst, arith}
-use Rattle.std.proofs.lemmas.Bool.{cases_lt, false≢true}
+use Rattle.std.proofs.Common.{◌≡◌, ℕ, ◌^◌, ◌%◌, ◌<◌, ◌≤◌, ◌⊎◌, inl, inr, List, [], ◌∷◌, length, sum_by, get_or, slice_index_or, sym, ap, ◌∙◌, subst, arith}
+use Rattle.std.proofs.lemmas.Bool.{cases_lt}
 use Rattle.std.proofs.lemmas.List.{get_or_default}
 use Rattle.stripe_rule.specs.declared.view.View.{View}
-use Rattle.bpf_model.specs.declared.memory.NoMemory.{NoMemory}
 use Rattle.bins.specs.Table.{Entry}
 use Rattle.atomic_methods.specs.Hashes.{IsStripeCount}
-use Rattle.bin_stripes.specs.declared.deed.Deed.{Deed}
+use Rattle.bin_stripes.specs.declared.ghost_action.GhostAction.{GhostAction}
 use Rattle.bin_stripes.specs.Passes.{PassState}
-use Rattle.bulk_walks.specs.Walks.{Events, Walked, AllWalked, Each, IsScan, MayScan, sum_below}
-use Rattle.bulk_walks.specs.Turns.{turn_sum, counted, EachCounts}
+use Rattle.bulk_walks.specs.Walks.{Events, Walked, AllWalked, Each, IsScan, sum_below}
+use Rattle.bulk_walks.specs.Turns.{turn_sum, EachCounts}
 use Rattle.bulk_walks.proofs.TurnLemmas.{walked_as}
 use Rattle.bulk_walks.proofs.Sums.{turn_sum-same, sums_of_turns, bound_of_turns, sum_below-const}
 
 -- a map has at most 64 stripes
 pub at_most_64 : (n : ℕ) → IsStripeCount n → n ≤ 64
 at_most_64 n is = is.1
-
-at_ok : {T E : Type 0} (r : Result T E) (P : T → Type 0) → IsOk r → IfOk r P → (x : T) × ((r ≡ Ok x) × P x)
-at_ok (Ok x) P is p = (x, (refl, p))
-at_ok (Err e) P is p = absurd (false≢true is)
-
-counted-le : (r : Result ℕ NoMemory) (most : ℕ) → IfOk r (λ c. c ≤ most) → counted r ≤ most
-counted-le (Ok c) most le = le
-counted-le (Err e) most le = omega arith
 
 -- where each worker knows its own of each stripe of its turns, one function has all of them
 module _ {X : Type 0} (blank : X) (workers : ℕ) where
@@ -43,7 +34,7 @@ module _ {X : Type 0} (blank : X) (workers : ℕ) where
       (λ k. own (k % workers) k, λ j low. (own j, (good_by G of j (cases_lt j workers) low, λ k turn. ap (λ m. own m k) (sym turn))))
 
 -- where each worker made such events on its stripes, the team made them on all, whichever is whose
-module _ {X : Type 0} (Of : ℕ → X → View Deed → Events → Events → Type 0) (n : ℕ) (before after : List PassState) (d : PassState) where
+module _ {X : Type 0} (Of : ℕ → X → View GhostAction → Events → Events → Type 0) (n : ℕ) (before after : List PassState) (d : PassState) where
   abbrev pub Turn : ℕ → (ℕ → X) → Type 0
   Turn j xs = Walked n (length before) j (Each Of xs) (slice_index_or before j d).view (slice_index_or after j d).view
 
@@ -60,40 +51,32 @@ module _ {X : Type 0} (Of : ℕ → X → View Deed → Events → Events → Ty
         swap _ _ (get_or_default before j d e low) (get_or_default after j d e (omega arith));
   }
 
--- the sums fit
-pub counts_fit : (n : ℕ) (before : List PassState) (rs : List (Result ℕ NoMemory)) (after : List PassState) (d : PassState) → n ≤ 64 → 0 < length before → EachCounts n before rs after → sum_by counted rs < 2 ^ 64
-counts_fit n before rs after d most some did =
-    let below : (k : ℕ) → k < length rs → counted (get_or rs k (Ok 0)) ≤ turn_sum (length rs) k (λ _. 2 ^ 55) n =
-    λ k low. subst (λ m. counted (get_or rs k (Ok 0)) ≤ turn_sum m k (λ _. 2 ^ 55) n) (sym did.answers) (counted-le (get_or rs k (Ok 0)) _ (did.each k d (Ok 0) (omega arith)).few) in
-    let all = bound_of_turns counted rs (λ _. 2 ^ 55) n (Ok 0) (omega arith) below in
-    let top = sum_below-const n (2 ^ 55) in
-    omega arith
+module _ (n : ℕ) (before : List PassState) (counts : List ℕ) (after : List PassState) (d : PassState) (some : 0 < length before) (did : EachCounts n before counts after) where
+  -- the sum fits
+  pub counts_fit : n ≤ 64 → sum_by (λ c. c) counts < 2 ^ 64
+  counts_fit most =
+      let below : (k : ℕ) → k < length counts → get_or counts k 0 ≤ turn_sum (length counts) k (λ _. 2 ^ 57) n =
+      λ k low. subst (λ m. get_or counts k 0 ≤ turn_sum m k (λ _. 2 ^ 57) n) (sym did.answers) (did.each k d 0 (omega (arith, did.answers))).bounded in
+      let all = bound_of_turns (λ c. c) counts (λ _. 2 ^ 57) n 0 (omega (arith, did.answers)) below in
+      let top = sum_below-const n (2 ^ 57) in
+      omega arith
 
--- each stripe has its scan, and the sum is theirs
-pub counts_all : (n : ℕ) (before : List PassState) (rs : List (Result ℕ NoMemory)) (after : List PassState) (d : PassState) → 0 < length before → EachCounts n before rs after → All (λ r. IsOk r) rs
-    → (scans : ℕ → List Entry) × (AllWalked n (Each IsScan scans) before after × (sum_by counted rs ≡ sum_below n (λ k. length (scans k))))
-counts_all n before rs after d some did ok =
-    let r : ℕ → Result ℕ NoMemory = λ j. get_or rs j (Ok 0) in
-    let G : ℕ → (ℕ → List Entry) → Type 0 = λ j scans. Turn IsScan n before after d j scans × (counted (r j) ≡ turn_sum (length before) j (λ k. length (scans k)) n) in
-    let of : (j : ℕ) → j < length before → (scans : ℕ → List Entry) × G j scans =
-    λ j low.
-    let one = at_ok (r j) _ (ok j (Ok 0) (omega (arith, did.answers))) (did.each j d (Ok 0) low).done in
-    (one.1.1.0, (one.1.1.1.0, ap counted one.1.0 ∙ one.1.1.1.1)) in
-    let all = together [] (length before) G of in
-    let scans = all.0 in
-    let sums : (j : ℕ) → j < length rs → counted (get_or rs j (Ok 0)) ≡ turn_sum (length rs) j (λ k. length (scans k)) n =
-    λ j low.
-    let had = all.1 j (omega (arith, did.answers)) in
-    let same = turn_sum-same (length before) j (λ k. length (had.0 k)) (λ k. length (scans k)) n (λ k t. ap (λ (es : List Entry). length es) (had.1.1 k t.1)) in
-    subst (λ m. counted (get_or rs j (Ok 0)) ≡ turn_sum m j (λ k. length (scans k)) n) (sym did.answers) (had.1.0.1 ∙ same) in (
-      scans,
-      (all_walked IsScan n before after d did.left scans (λ j low. let had = all.1 j low in (had.0, (had.1.0.0, had.1.1))), sums_of_turns counted rs (λ k. length (scans k)) n (Ok 0) (omega (arith, did.answers)) sums),
-    )
+  -- each stripe has its scan, and the sum is theirs
+  pub counts_all : (scans : ℕ → List Entry) × (AllWalked n (Each IsScan scans) before after × (sum_by (λ c. c) counts ≡ sum_below n (λ k. length (scans k))))
+  counts_all =
+      let G : ℕ → (ℕ → List Entry) → Type 0 = λ j scans. Turn IsScan n before after d j scans × (get_or counts j 0 ≡ turn_sum (length before) j (λ k. length (scans k)) n) in
+      let of : (j : ℕ) → j < length before → (scans : ℕ → List Entry) × G j scans = λ j low. let one = did.each j d 0 low in (one.scans, (one.walked, one.count_is)) in
+      let all = together [] (length before) G of in
+      let scans = all.0 in
+      let sums : (j : ℕ) → j < length counts → get_or counts j 0 ≡ turn_sum (length counts) j (λ k. length (scans k)) n =
+      λ j low.
+      let had = all.1 j (omega (arith, did.answers)) in
+      let same = turn_sum-same (length before) j (λ k. length (had.0 k)) (λ k. length (scans k)) n (λ k t. ap (λ (es : List Entry). length es) (had.1.1 k t.1)) in
+      subst (λ m. get_or counts j 0 ≡ turn_sum m j (λ k. length (scans k)) n) (sym did.answers) (had.1.0.1 ∙ same) in (
+        scans,
+        (all_walked IsScan n before after d did.left scans (λ j low. let had = all.1 j low in (had.0, (had.1.0.0, had.1.1))), sums_of_turns (λ c. c) counts (λ k. length (scans k)) n 0 (omega (arith, did.answers)) sums),
+      )
 
 pub head_of : {X : Type 0} (xs : List X) → 0 < length xs → X
 head_of [] some = absurd (omega arith)
 head_of (x ∷ xs) some = x
-
--- whatever came, each stripe has its scan or none
-pub counts_part : (n : ℕ) (before : List PassState) (rs : List (Result ℕ NoMemory)) (after : List PassState) → EachCounts n before rs after → AllWalked n MayScan before after
-counts_part n before rs after did = record { order = did.left; each = λ j d low. (did.each j d (Ok 0) low).part }

@@ -7,11 +7,11 @@ use Rattle.verifier.specs.Checked.{Checked}
 use Rattle.bpf_model.specs.declared.memory.NoMemory.{NoMemory}
 use Rattle.bins.specs.declared.counts.Counts.{Counts}
 use Rattle.bins.specs.Table.{Entry, by_bytes}
-use Rattle.bin_stripes.specs.declared.deed.Deed.{Deed}
+use Rattle.bin_stripes.specs.declared.ghost_action.GhostAction.{GhostAction}
 use Rattle.bin_stripes.specs.Invoked.{AreOf}
 use Rattle.bin_stripes.specs.Passes.{PassState}
-use Rattle.walk_replies.specs.declared.row.Row.{Row}
-use Rattle.walk_replies.specs.Rows.{entry_of}
+use Rattle.atomic_methods.specs.declared.row.Row.{Row}
+use Rattle.atomic_methods.specs.Rows.{entry_of}
 use Rattle.bulk_walks.specs.Walks.{IsTurn, Walked, AllWalked, Each, IsScan, MayScan, IsReplaced, IsInOrder}
 
 -- f of each stripe below n whose turn is this worker's, added up
@@ -19,25 +19,21 @@ abbrev pub turn_sum : ℕ → ℕ → (ℕ → ℕ) → ℕ → ℕ
 turn_sum workers worker f zero = 0
 turn_sum workers worker f (suc n) = turn_sum workers worker f n + (if n % workers == worker then f n else 0)
 
--- what a worker's answer counts
-abbrev pub counted : Result ℕ NoMemory → ℕ
-counted (Ok n) = n
-counted (Err e) = 0
+-- what a worker did that counted the entries of those of the first n stripes whose turn is its own
+pub record CountsTurns (n workers worker : ℕ) (v w : View GhostAction) (count : ℕ) : Type 0 where
+  pub scans : ℕ → List Entry
+  pub walked : Walked n workers worker (Each IsScan scans) v w
+  pub count_is : count ≡ turn_sum workers worker (λ k. length (scans k)) n
+  pub bounded : count ≤ turn_sum workers worker (λ _. 2 ^ 57) n
 
--- what a worker answers that counted the entries of its stripes
-pub record CountsTurns (n workers worker : ℕ) (v w : View Deed) (r : Result ℕ NoMemory) : Type 0 where
-  pub done : IfOk r (λ count. (scans : ℕ → List Entry) × (Walked n workers worker (Each IsScan scans) v w × (count ≡ turn_sum workers worker (λ k. length (scans k)) n)))
-  pub part : Walked n workers worker MayScan v w
-  pub few : IfOk r (λ count. count ≤ turn_sum workers worker (λ _. 2 ^ 55) n)
-
--- and what each worker answers
-pub record EachCounts (n : ℕ) (before : List PassState) (rs : List (Result ℕ NoMemory)) (after : List PassState) : Type 0 where
-  pub answers : length rs ≡ length before
+-- and what each worker did
+pub record EachCounts (n : ℕ) (before : List PassState) (counts : List ℕ) (after : List PassState) : Type 0 where
+  pub answers : length counts ≡ length before
   pub left : length after ≡ length before
-  pub each : (i : ℕ) (d : PassState) (e : Result ℕ NoMemory) → i < length before → CountsTurns n (length before) i (slice_index_or before i d).view (slice_index_or after i d).view (slice_index_or rs i e)
+  pub each : (i : ℕ) (d : PassState) (e : ℕ) → i < length before → CountsTurns n (length before) i (slice_index_or before i d).view (slice_index_or after i d).view (slice_index_or counts i e)
 
 -- what a worker found on the first n of all stripes
-pub record Finds (all n workers worker : ℕ) (v w : View Deed) (found : List Entry) : Type 0 where
+pub record WorkerFinds (all n workers worker : ℕ) (v w : View GhostAction) (found : List Entry) : Type 0 where
   pub scans : ℕ → List Entry
   pub walked : Walked n workers worker (Each IsScan scans) v w
   pub stripes : (k : ℕ) → IsTurn n workers worker k → AreOf all k (scans k)
@@ -52,7 +48,7 @@ found_sum weight (Err e) = 0
 pub record EachFinds (n : ℕ) (before : List PassState) (rs : List (Result (Vec Entry Global) NoMemory)) (after : List PassState) : Type 0 where
   pub answers : length rs ≡ length before
   pub left : length after ≡ length before
-  pub done : (i : ℕ) (d : PassState) (e : Result (Vec Entry Global) NoMemory) → i < length before → IfOk (slice_index_or rs i e) (λ found. Finds n n (length before) i (slice_index_or before i d).view (slice_index_or after i d).view found.items)
+  pub done : (i : ℕ) (d : PassState) (e : Result (Vec Entry Global) NoMemory) → i < length before → IfOk (slice_index_or rs i e) (λ found. WorkerFinds n n (length before) i (slice_index_or before i d).view (slice_index_or after i d).view found.items)
   pub part : (i : ℕ) (d : PassState) → i < length before → Walked n (length before) i MayScan (slice_index_or before i d).view (slice_index_or after i d).view
 
 -- all stripes were scanned, and these are the entries of all scans in key order
@@ -69,16 +65,16 @@ abbrev pub comes_before : Row → Row → Bool
 comes_before x y = is_lt (by_bytes x.key y.key)
 
 -- what a worker did that replaced the values of the first n of all stripes, and counted
-pub record ReplacesTurns (all : ℕ) (checked : Checked) (arg : Option (List ℕ)) (n workers worker : ℕ) (v w : View Deed)
+pub record ReplacesTurns (all : ℕ) (checked : Checked) (arg : Option (List ℕ)) (n workers worker : ℕ) (v w : View GhostAction)
     (total : Counts) : Type 0 where
   pub counts : ℕ → Counts
   pub walked : Walked n workers worker (Each (IsReplaced all checked arg) counts) v w
   pub scanned : total.scanned ≡ turn_sum workers worker (λ k. (counts k).scanned) n
   pub given : total.given ≡ turn_sum workers worker (λ k. (counts k).given) n
   pub unfit : total.unfit ≡ turn_sum workers worker (λ k. (counts k).unfit) n
-  pub few_scanned : total.scanned ≤ turn_sum workers worker (λ _. 2 ^ 57) n
-  pub few_given : total.given ≤ turn_sum workers worker (λ _. 2 ^ 57) n
-  pub few_unfit : total.unfit ≤ turn_sum workers worker (λ _. 2 ^ 57) n
+  pub bounded_scanned : total.scanned ≤ turn_sum workers worker (λ _. 2 ^ 57) n
+  pub bounded_given : total.given ≤ turn_sum workers worker (λ _. 2 ^ 57) n
+  pub bounded_unfit : total.unfit ≤ turn_sum workers worker (λ _. 2 ^ 57) n
 
 -- and what each worker did
 pub record EachReplaces (n : ℕ) (checked : Checked) (arg : Option (List ℕ)) (before : List PassState) (rs : List Counts) (after : List PassState) : Type 0 where

@@ -1,25 +1,26 @@
 -- What a walk with a team answers, and what it adds to what the passes have seen. Java SE 17: ConcurrentHashMap.search, forEach,
 -- mappingCount and replaceAll, whose function is a program here. Which worker takes which stripe is this map's profile.
-use Rattle.std.specs.Prelude.{◌≡◌, ℕ, zero, suc, ◌+◌, ◌%◌, ◌<◌, ◌⊎◌, List, [], ◌∷◌, ◌++◌, Option, length, slice_index_or, sum_by, T}
+use Rattle.std.specs.Prelude.{◌≡◌, ℕ, zero, suc, ◌+◌, ◌%◌, ◌<◌, ◌⊎◌, List, [], ◌∷◌, ◌++◌, Option, Result, MatchResult, length, slice_index_or, sum_by, T}
 use Rattle.std.specs.FinMap as finmap
 use Rattle.stripe_rule.specs.declared.view.Event.{Event}
 use Rattle.stripe_rule.specs.declared.view.View.{View}
 use Rattle.stripe_rule.specs.Gains.{Gains, Keeps, seen_of}
+use Rattle.bpf_model.specs.declared.memory.NoMemory.{NoMemory}
 use Rattle.verifier.specs.Checked.{Checked}
 use Rattle.bins.specs.declared.counts.Counts.{Counts}
 use Rattle.bins.specs.Table.{Entry, Table, by_bytes}
-use Rattle.bin_stripes.specs.declared.deed.Deed.{Deed}
+use Rattle.bin_stripes.specs.declared.ghost_action.GhostAction.{GhostAction}
 use Rattle.bin_stripes.specs.Actions.{Action, scanned}
 use Rattle.bin_stripes.specs.Histories.{own_events, Leaves}
 use Rattle.bin_stripes.specs.Invoked.{AreReplacements}
 use Rattle.bin_stripes.specs.Passes.{PassState}
-use Rattle.walk_replies.specs.declared.reply.WalkKind.{WalkKind}
-use Rattle.walk_replies.specs.declared.reply.WalkReply.{WalkReply}
-use Rattle.walk_replies.specs.Replies.{IsReply, IsCount}
+use Rattle.atomic_methods.specs.declared.walk_reply.WalkKind.{WalkKind}
+use Rattle.atomic_methods.specs.declared.walk_reply.WalkReply.{WalkReply}
+use Rattle.atomic_methods.specs.Replies.{IsReply, IsCount}
 
 -- the events of one stripe
 abbrev pub Events : Type 0
-Events = List (Event Deed)
+Events = List (Event GhostAction)
 
 -- f of each number below n, added up
 abbrev pub sum_below : ℕ → (ℕ → ℕ) → ℕ
@@ -32,7 +33,7 @@ IsTurn n workers worker k = (k < n) × (k % workers ≡ worker)
 
 -- on each stripe whose turn is its own the pass made such events, behind all that it had seen and others' events; nothing
 -- else is new to it. `Made k v found more`: a pass that knew v made the events `more` on the stripe k behind `found`
-pub record Walked (n workers worker : ℕ) (Made : ℕ → View Deed → Events → Events → Type 0) (v w : View Deed) : Type 0 where
+pub record Walked (n workers worker : ℕ) (Made : ℕ → View GhostAction → Events → Events → Type 0) (v w : View GhostAction) : Type 0 where
   pub numbers : w.numbers ≡ v.numbers
   pub passes : w.passes ≡ v.passes
   pub turns : (k : ℕ) → IsTurn n workers worker k
@@ -40,25 +41,25 @@ pub record Walked (n workers worker : ℕ) (Made : ℕ → View Deed → Events 
   pub others : (k : ℕ) → ¬ IsTurn n workers worker k → Keeps v w k
 
 -- each pass has walked over the stripes of its turns; the passes are in their order
-pub record AllWalked (n : ℕ) (Made : ℕ → View Deed → Events → Events → Type 0) (before after : List PassState) : Type 0 where
+pub record AllWalked (n : ℕ) (Made : ℕ → View GhostAction → Events → Events → Type 0) (before after : List PassState) : Type 0 where
   pub order : length after ≡ length before
   pub each : (j : ℕ) (d : PassState) → j < length before
       → Walked n (length before) j Made (slice_index_or before j d).view (slice_index_or after j d).view
 
 -- what was made on the stripe k is so by the k-th
-abbrev pub Each : {X : Type 0} → (ℕ → X → View Deed → Events → Events → Type 0) → (ℕ → X) → ℕ → View Deed → Events → Events → Type 0
+abbrev pub Each : {X : Type 0} → (ℕ → X → View GhostAction → Events → Events → Type 0) → (ℕ → X) → ℕ → View GhostAction → Events → Events → Type 0
 Each Of xs k = Of k (xs k)
 
 -- one scan, which found these entries
-abbrev pub IsScan : ℕ → List Entry → View Deed → Events → Events → Type 0
+abbrev pub IsScan : ℕ → List Entry → View GhostAction → Events → Events → Type 0
 IsScan k entries v found more = more ≡ own_events v (scanned entries ∷ [])
 
 -- one scan, or none
-abbrev pub MayScan : ℕ → View Deed → Events → Events → Type 0
+abbrev pub MayScan : ℕ → View GhostAction → Events → Events → Type 0
 MayScan k v found more = (more ≡ []) ⊎ ((entries : List Entry) × IsScan k entries v found more)
 
 -- one replacement for each key of the table that the events found leave, and so many of each kind
-pub record IsReplaced (n : ℕ) (checked : Checked) (arg : Option (List ℕ)) (k : ℕ) (counts : Counts) (v : View Deed)
+pub record IsReplaced (n : ℕ) (checked : Checked) (arg : Option (List ℕ)) (k : ℕ) (counts : Counts) (v : View GhostAction)
     (found more : Events) : Type 0 where
   pub actions : List Action
   pub events : more ≡ own_events v actions
@@ -82,6 +83,11 @@ pub record IsWalk (kind : WalkKind) (n : ℕ) (checked : Checked) (arg : Option 
   pub entries : List Entry
   pub in_order : IsInOrder n scans entries
   pub replies : IsReply kind checked arg entries reply
+
+-- what a team answers that walks so: that reply; or no memory, and each stripe has its scan or none
+abbrev pub Walks : WalkKind → ℕ → Checked → Option (List ℕ) → List PassState → List PassState → Result WalkReply NoMemory → Type 0
+Walks kind n checked arg before after result =
+    MatchResult result (λ reply. IsWalk kind n checked arg before after reply) (λ _. AllWalked n MayScan before after)
 
 -- a walk that counts: one scan of each stripe, and how many entries they found
 pub record CountsAll (n : ℕ) (before after : List PassState) (reply : WalkReply) : Type 0 where

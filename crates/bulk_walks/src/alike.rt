@@ -2,7 +2,7 @@
 ghost use Rattle.std.specs.Prelude.{◌≡◌, ◌↔◌, IsTrue};
 ghost use Rattle.bulk_walks.specs.Walks.{WalksAlike, CountsAlike};
 
-use walk_replies::WalkReply;
+use atomic_methods::WalkReply;
 
 /// Whether two replies are the same. Those to one kind of walk, with one program and one argument, are where its scans
 /// found the same, and so are those to counts: however many workers the teams had, and whatever the thresholds were.

@@ -3,17 +3,17 @@ ghost use Rattle.std.specs.Prelude.{◌≡◌, ℕ, ◌<◌, ◌≤◌, ◌+◌,
 ghost use Rattle.std.specs.List.Sorted.{IsPermutation, IsSortedBy};
 ghost use Rattle.bins.specs.Table.{Entry};
 ghost use Rattle.bin_stripes.specs.Passes.{stripes_of};
-ghost use Rattle.walk_replies.specs.Rows.{entry_of};
+ghost use Rattle.atomic_methods.specs.Rows.{entry_of};
 ghost use Rattle.bulk_walks.specs.Walks.{Walked, AllWalked, MayScan};
-ghost use Rattle.bulk_walks.specs.Turns.{Finds, FindsAll, found_sum, entries_of, comes_before};
+ghost use Rattle.bulk_walks.specs.Turns.{WorkerFinds, FindsAll, found_sum, entries_of, comes_before};
 
 use crate::workers::work;
+use atomic_methods::{Fate, Row};
 use bin_stripes::{Gate, Pass, Place, StripedMap};
 use bpf_model::{Key, NoMemory, Value};
 use std::alloc::Global;
 use std::sync::Wait;
 use std::thread::Threads;
-use walk_replies::{Fate, Row};
 
 // The worker's stripes, one after the other.
 fn scan_turns<R: Wait, G: Gate>(
@@ -28,7 +28,7 @@ fn scan_turns<R: Wait, G: Gate>(
     requires map { pass.old.map ≡ map.now }
     requires worker { worker < workers }
     ensures map { pass.new.map ≡ pass.old.map }
-    ensures done { IfOk result (λ found. Finds (stripes_of map.now) (stripes_of map.now) workers worker pass.old.view pass.new.view found.items) }
+    ensures done { IfOk result (λ found. WorkerFinds (stripes_of map.now) (stripes_of map.now) workers worker pass.old.view pass.new.view found.items) }
     ensures part { Walked (stripes_of map.now) workers worker MayScan pass.old.view pass.new.view }
 {
     let stripes = map.stripes();
@@ -96,7 +96,7 @@ pub(crate) fn find<R: Threads + Wait + Sync, G: Gate + Sync>(
     let workers = passes.len() as u64;
     let call = move |worker: usize, pass: &mut Pass| -> Result<Vec<(Key, Value)>, NoMemory>
         requires { (pass.old.map ≡ map.now) × (worker < workers) }
-        ensures { (pass.new.map ≡ map.entry.now) × IfOk result (λ found. Finds (stripes_of map.entry.now) (stripes_of map.entry.now) workers worker pass.old.view pass.new.view found.items) × Walked (stripes_of map.entry.now) workers worker MayScan pass.old.view pass.new.view }
+        ensures { (pass.new.map ≡ map.entry.now) × IfOk result (λ found. WorkerFinds (stripes_of map.entry.now) (stripes_of map.entry.now) workers worker pass.old.view pass.new.view found.items) × Walked (stripes_of map.entry.now) workers worker MayScan pass.old.view pass.new.view }
     { scan_turns(rt, alloc, map, gate, worker as u64, workers, pass) };
     let (passes, answers) = work(rt, alloc, passes, &call);
     let Ok(answers) = answers else {

@@ -16,8 +16,8 @@ mod walks;
 mod workers;
 
 pub use alike::is_same_reply;
+pub use atomic_methods::{WalkKind, WalkReply};
 pub use count::mapping_count;
 pub use replace::replace_all;
 pub use team::{EmptyTeam, Team};
-pub use walk_replies::WalkReply;
-pub use walks::{for_each, search};
+pub use walks::{for_each, search, walk};

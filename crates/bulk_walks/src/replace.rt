@@ -6,6 +6,7 @@ ghost use Rattle.bulk_walks.specs.Turns.{ReplacesTurns, HasRoom, IsSum, AreSums}
 
 use crate::team::Team;
 use crate::workers::work;
+use atomic_methods::WalkReply;
 use bin_stripes::{Gate, Pass, Place, StripedMap};
 use bins::Counts;
 use bpf_model::{NoMemory, Value};
@@ -13,7 +14,6 @@ use std::alloc::Global;
 use std::sync::Wait;
 use std::thread::Threads;
 use verifier::Verified;
-use walk_replies::WalkReply;
 
 // Adds these counts.
 fn add(total: &mut Counts, more: Counts)

@@ -1,13 +1,13 @@
 //! Rows of a walk, run by threads.
 ghost use Rattle.std.specs.Prelude.{◌≡◌, ℕ, ◌<◌, length, slice_index_or};
-ghost use Rattle.walk_replies.specs.Rows.{entry_of, Ran, AreRun};
+ghost use Rattle.atomic_methods.specs.Rows.{entry_of, Ran, AreRun};
 ghost use Rattle.bulk_walks.specs.Turns.{entries_of};
 
+use atomic_methods::Row;
 use bpf_model::Value;
 use std::thread;
 use std::thread::Threads;
 use verifier::Verified;
-use walk_replies::Row;
 
 // Runs the program on each row, by so many threads.
 fn run_each<R: Threads + Sync>(

@@ -1,23 +1,24 @@
 //! Walks that run a program.
-ghost use Rattle.std.specs.Prelude.{◌≡◌, All, MatchResult};
+ghost use Rattle.std.specs.Prelude.{◌≡◌, All};
 ghost use Rattle.bin_stripes.specs.Passes.{stripes_of};
-ghost use Rattle.walk_replies.specs.declared.reply.WalkKind.TheVariants.{Search, ForEach};
-ghost use Rattle.bulk_walks.specs.Walks.{AllWalked, MayScan, IsWalk};
+ghost use Rattle.atomic_methods.specs.declared.walk_reply.WalkKind.TheVariants.{Search, ForEach};
+ghost use Rattle.bulk_walks.specs.Walks.{Walks};
 
 use crate::finding::find;
 use crate::rows::run_all;
 use crate::team::Team;
+use atomic_methods::{WalkKind, WalkReply, reply_of};
 use bin_stripes::{Gate, StripedMap};
 use bpf_model::{NoMemory, Value};
 use std::alloc::Global;
 use std::sync::Wait;
 use std::thread::Threads;
 use verifier::Verified;
-use walk_replies::{WalkKind, WalkReply, reply_of};
 
-// Scans each stripe once, runs the program on each entry, and gives the answers of this kind of walk. The program runs in
-// the workers where there are at least `threshold` entries, else in the calling thread.
-fn walk<R: Threads + Wait + Sync, G: Gate + Sync>(
+/// Scans each stripe once, runs the program on each entry, and gives the answers of this kind of walk. The program runs in
+/// the workers where there are at least `threshold` entries, else in the calling thread. `NoMemory` where a request for
+/// memory was refused. Waits until each stripe is free.
+pub fn walk<R: Threads + Wait + Sync, G: Gate + Sync>(
     rt: &R,
     alloc: Global,
     kind: WalkKind,
@@ -30,7 +31,7 @@ fn walk<R: Threads + Wait + Sync, G: Gate + Sync>(
 ) -> (Team, Result<WalkReply, NoMemory>)
     requires { All (λ pass. pass.map ≡ map.now) team.passes.items }
     ensures map { All (λ pass. pass.map ≡ map.now) result.0.passes.items }
-    ensures walked { MatchResult result.1 (λ reply. IsWalk kind (stripes_of map.now) program.now arg.now team.passes.items result.0.passes.items reply) (λ _. AllWalked (stripes_of map.now) MayScan team.passes.items result.0.passes.items) }
+    ensures walked { Walks kind (stripes_of map.now) program.now arg.now team.passes.items result.0.passes.items result.1 }
 {
     let Team { passes } = team;
     let workers = passes.len();
@@ -51,8 +52,7 @@ fn walk<R: Threads + Wait + Sync, G: Gate + Sync>(
     (team, Ok(reply))
 }
 
-/// The least key with a present answer, and that answer; or no item. `NoMemory` where a request for memory was refused.
-/// Waits until each stripe is free.
+/// The walk of kind `Search`: the least key with a present answer, and that answer; or no item.
 pub fn search<R: Threads + Wait + Sync, G: Gate + Sync>(
     rt: &R,
     alloc: Global,
@@ -65,7 +65,7 @@ pub fn search<R: Threads + Wait + Sync, G: Gate + Sync>(
 ) -> (Team, Result<WalkReply, NoMemory>)
     requires { All (λ pass. pass.map ≡ map.now) team.passes.items }
     ensures map { All (λ pass. pass.map ≡ map.now) result.0.passes.items }
-    ensures walked { MatchResult result.1 (λ reply. IsWalk Search (stripes_of map.now) program.now arg.now team.passes.items result.0.passes.items reply) (λ _. AllWalked (stripes_of map.now) MayScan team.passes.items result.0.passes.items) }
+    ensures walked { Walks Search (stripes_of map.now) program.now arg.now team.passes.items result.0.passes.items result.1 }
 {
     walk(
         rt,
@@ -80,8 +80,7 @@ pub fn search<R: Threads + Wait + Sync, G: Gate + Sync>(
     )
 }
 
-/// All present answers with their keys, in key order. `NoMemory` where a request for memory was refused. Waits until each
-/// stripe is free.
+/// The walk of kind `ForEach`: all present answers with their keys, in key order.
 pub fn for_each<R: Threads + Wait + Sync, G: Gate + Sync>(
     rt: &R,
     alloc: Global,
@@ -94,7 +93,7 @@ pub fn for_each<R: Threads + Wait + Sync, G: Gate + Sync>(
 ) -> (Team, Result<WalkReply, NoMemory>)
     requires { All (λ pass. pass.map ≡ map.now) team.passes.items }
     ensures map { All (λ pass. pass.map ≡ map.now) result.0.passes.items }
-    ensures walked { MatchResult result.1 (λ reply. IsWalk ForEach (stripes_of map.now) program.now arg.now team.passes.items result.0.passes.items reply) (λ _. AllWalked (stripes_of map.now) MayScan team.passes.items result.0.passes.items) }
+    ensures walked { Walks ForEach (stripes_of map.now) program.now arg.now team.passes.items result.0.passes.items result.1 }
 {
     walk(
         rt,

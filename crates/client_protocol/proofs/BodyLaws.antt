@@ -7,10 +7,10 @@ use Rattle.client_protocol.specs.declared.limits.Limits.{Limits}
 use Rattle.client_protocol.specs.declared.request.Request.{Request}
 use Rattle.client_protocol.specs.declared.request.Request.TheVariants.{Hello, Register}
 use Rattle.client_protocol.specs.declared.fault.ProtocolFault.TheVariants.{BadField, TrailingBytes}
-use Rattle.client_protocol.specs.Bodies.{limits_after, Kind, Field, kinds_of, takes_tail, Body, body_of, whole, sizes_fields, fields_bytes, TakesAll, BodyHas, IsMisplaced, is_hello, is_none, version_number}
+use Rattle.client_protocol.specs.Bodies.{limits_after, Kind, Field, kinds_of, takes_tail, Body, body_of, body_of_fields, sizes_fields, fields_bytes, TakesAll, BodyHas, IsMisplaced, is_hello, is_none, version_number}
 use Rattle.client_protocol.specs.Bodies.Kind.{a_short}
 use Rattle.client_protocol.specs.Bodies.Field.{byte}
-use Rattle.client_protocol.specs.Reading.{NoFields, Spells, TakesSizes}
+use Rattle.client_protocol.specs.Reading.{NoFields, SpellsBody, TakesSizes}
 
 -- the bytes behind a tag do not begin with its fields
 pub bad_fields : (hello : Option Version) (tag : ℕ) (kinds : List Kind) (bytes : List ℕ) → kinds_of tag ≡ Some kinds → NoFields (limits_after hello) kinds bytes → BodyHas hello (tag ∷ bytes) BadField
@@ -38,7 +38,7 @@ pub same_hello : (r q : Request) → body_of r ≡ body_of q → is_hello r ≡ 
 same_hello r q e = hello_tag r ∙ ap (λ (w : Body). nat_eq w.tag 0) e ∙ sym (hello_tag q)
 
 -- a request that may not come
-pub misplaced : (hello : Option Version) (bytes : List ℕ) (request : Request) → Spells (limits_after hello) bytes (body_of request) → is_hello request ≢ is_none hello → IsMisplaced hello bytes
+pub misplaced : (hello : Option Version) (bytes : List ℕ) (request : Request) → SpellsBody (limits_after hello) bytes (body_of request) → is_hello request ≢ is_none hello → IsMisplaced hello bytes
 misplaced hello bytes request spells not =
     record { body = body_of request; is = spells.0; spelled = spells.1; misplaced = λ other comes same. not (same_hello request other (sym same) ∙ comes) }
 
@@ -46,16 +46,16 @@ one_first : (xs ys : List Field) (m n : ℕ) → byte m ∷ xs ≡ byte n ∷ ys
 one_first xs ys m n e = cc
 
 -- a Hello of another version
-pub other_version : (n : ℕ) → ((v : Version) → version_number v ≢ n) → (r : Request) → body_of r ≢ whole 0 (byte n ∷ [])
+pub other_version : (n : ℕ) → ((v : Version) → version_number v ≢ n) → (r : Request) → body_of r ≢ body_of_fields 0 (byte n ∷ [])
 other_version n not (Hello v) e = not v (one_first [] [] (version_number v) n (ap (λ (w : Body). w.fields) e))
 other_version n not r e = let t : (body_of r).tag ≡ 0 = ap (λ (w : Body). w.tag) e in absurd (omega (arith, t))
 
-pub version_misplaced : (hello : Option Version) (rest : List ℕ) (n : ℕ) → ((v : Version) → version_number v ≢ n) → Spells (limits_after hello) (0 ∷ rest) (whole 0 (byte n ∷ [])) → IsMisplaced hello (0 ∷ rest)
+pub version_misplaced : (hello : Option Version) (rest : List ℕ) (n : ℕ) → ((v : Version) → version_number v ≢ n) → SpellsBody (limits_after hello) (0 ∷ rest) (body_of_fields 0 (byte n ∷ [])) → IsMisplaced hello (0 ∷ rest)
 version_misplaced hello rest n not spells =
-    record { body = whole 0 (byte n ∷ []); is = spells.0; spelled = spells.1; misplaced = λ other comes same. other_version n not other same }
+    record { body = body_of_fields 0 (byte n ∷ []); is = spells.0; spelled = spells.1; misplaced = λ other comes same. other_version n not other same }
 
 -- four sizes and a program are a Register
-pub register_found : (limits : Limits) (rest : List ℕ) (sizes : Sizes) (program tail : List ℕ) → TakesSizes limits rest sizes tail → program ≡ tail → Spells limits (1 ∷ rest) (body_of (Register sizes program))
+pub register_found : (limits : Limits) (rest : List ℕ) (sizes : Sizes) (program tail : List ℕ) → TakesSizes limits rest sizes tail → program ≡ tail → SpellsBody limits (1 ∷ rest) (body_of (Register sizes program))
 register_found limits rest sizes program tail takes is = (
   record { kinds = a_short ∷ a_short ∷ a_short ∷ a_short ∷ []; known = refl; fields = takes.0; tail = inl refl },
   ap (λ (t : List ℕ). 1 ∷ t) (takes.1 ∙ ap (λ (t : List ℕ). fields_bytes (sizes_fields sizes) ++ t) (sym is)),

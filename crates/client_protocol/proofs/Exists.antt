@@ -13,7 +13,7 @@ use Rattle.client_protocol.specs.Bodies.Kind.{a_byte, a_short, a_long, a_key, a_
 use Rattle.client_protocol.specs.Bodies.Field.{byte, short, word, long, key, value, opt}
 use Rattle.client_protocol.specs.Frames.{AreBytes, framed, length_bytes, IsLength, IsFaulty, Held, Frames}
 use Rattle.client_protocol.specs.Frames.Held.{open_at, failed}
-use Rattle.client_protocol.specs.Reading.{Takes, NoField, NoFields}
+use Rattle.client_protocol.specs.Reading.{TakesField, NoField, NoFields}
 use Rattle.client_protocol.proofs.FieldLaws.{no_byte, no_short, no_long, no_key-empty, no_key, no_value-short, no_value, no_opt-short, no_opt, value_found, none_first, none_later, takes_more}
 use Rattle.client_protocol.proofs.BodyLaws.{bad_fields, trailing, misplaced}
 use Rattle.client_protocol.proofs.Unique.{request_of, request_again}
@@ -182,7 +182,7 @@ long_at (a ∷ b ∷ c ∷ d ∷ e ∷ f ∷ g ∷ h ∷ bytes) p =
 -- ---- fields
 
 abbrev Found : Limits → Kind → List ℕ → Type 0
-Found limits kind bytes = (field : Field) × (rest : List ℕ) × Takes limits kind bytes field rest × AreBytes rest
+Found limits kind bytes = (field : Field) × (rest : List ℕ) × TakesField limits kind bytes field rest × AreBytes rest
 
 abbrev Reads : Limits → Kind → List ℕ → Type 0
 Reads limits kind bytes = Found limits kind bytes ⊎ NoField limits kind bytes
@@ -190,7 +190,7 @@ Reads limits kind bytes = Found limits kind bytes ⊎ NoField limits kind bytes
 read_key : (limits : Limits) (bytes : List ℕ) → AreBytes bytes → Reads limits a_key bytes
 read_key limits [] p = inr (no_key-empty limits [] refl)
 read_key limits (n ∷ bytes) p = elim (le_or n (length bytes)) [
-  | inr few ↦ inr (no_key limits (n ∷ bytes) n bytes refl (λ fits. few))
+  | inr bounded ↦ inr (no_key limits (n ∷ bytes) n bytes refl (λ fits. bounded))
   | inl enough ↦ elim (le_or n 64) [
     | inr big ↦ inr (no_key limits (n ∷ bytes) n bytes refl (λ fits. absurd (omega (arith, big, fits))))
     | inl small ↦
@@ -205,9 +205,9 @@ read_key limits (n ∷ bytes) p = elim (le_or n (length bytes)) [
 ]
 
 read_value : (hello : Option Version) (bytes : List ℕ) → Short bytes ⊎ (length bytes < 2) → Reads (limits_after hello) a_value bytes
-read_value hello bytes (inr few) = inr (no_value-short (limits_after hello) bytes (no_short (limits_after hello) bytes few))
+read_value hello bytes (inr bounded) = inr (no_value-short (limits_after hello) bytes (no_short (limits_after hello) bytes bounded))
 read_value hello bytes (inl (n, rest, fits, spelled, q)) = elim (le_or n (length rest)) [
-  | inr few ↦ inr (no_value (limits_after hello) bytes n rest (fits, spelled) (λ _. few))
+  | inr bounded ↦ inr (no_value (limits_after hello) bytes n rest (fits, spelled) (λ _. bounded))
   | inl enough ↦ elim (le_or n (limits_after hello).value) [
     | inr big ↦ inr (no_value (limits_after hello) bytes n rest (fits, spelled) (λ small. absurd (omega (arith, big, small))))
     | inl small ↦ inl (
@@ -220,11 +220,11 @@ read_value hello bytes (inl (n, rest, fits, spelled, q)) = elim (le_or n (length
 ]
 
 read_opt : (hello : Option Version) (bytes : List ℕ) → Short bytes ⊎ (length bytes < 2) → Reads (limits_after hello) an_opt bytes
-read_opt hello bytes (inr few) = inr (no_opt-short (limits_after hello) bytes (no_short (limits_after hello) bytes few))
+read_opt hello bytes (inr bounded) = inr (no_opt-short (limits_after hello) bytes (no_short (limits_after hello) bytes bounded))
 read_opt hello bytes (inl (n, rest, fits, spelled, q)) = elim (eq_or n 65535) [
   | inl absent ↦ inl (opt None, rest, (tt, spelled ∙ ap (λ (k : ℕ). to_be_bytes w16 k ++ rest) absent), q)
   | inr present ↦ elim (le_or n (length rest)) [
-    | inr few ↦ inr (no_opt (limits_after hello) bytes n rest (fits, spelled) present (λ _. few))
+    | inr bounded ↦ inr (no_opt (limits_after hello) bytes n rest (fits, spelled) present (λ _. bounded))
     | inl enough ↦ elim (le_or n (limits_after hello).value) [
       | inr big ↦ inr (no_opt (limits_after hello) bytes n rest (fits, spelled) present (λ small. absurd (omega (arith, big, small))))
       | inl small ↦ inl (
@@ -238,11 +238,11 @@ read_opt hello bytes (inl (n, rest, fits, spelled, q)) = elim (eq_or n 65535) [
 ]
 
 of_short : (limits : Limits) (bytes : List ℕ) → Short bytes ⊎ (length bytes < 2) → Reads limits a_short bytes
-of_short limits bytes (inr few) = inr (no_short limits bytes few)
+of_short limits bytes (inr bounded) = inr (no_short limits bytes bounded)
 of_short limits bytes (inl (n, rest, fits, spelled, q)) = inl (short n, rest, (fits, spelled), q)
 
 of_long : (limits : Limits) (bytes : List ℕ) → Long bytes ⊎ (length bytes < 8) → Reads limits a_long bytes
-of_long limits bytes (inr few) = inr (no_long limits bytes few)
+of_long limits bytes (inr bounded) = inr (no_long limits bytes bounded)
 of_long limits bytes (inl (n, rest, fits, spelled, q)) = inl (long n, rest, (fits, spelled), q)
 
 read_byte : (limits : Limits) (bytes : List ℕ) → AreBytes bytes → Reads limits a_byte bytes
@@ -333,13 +333,13 @@ of_frame hello bytes body behind allowed spelled others (inl (request, is)) =
     (request ∷ later.0, later.1, frames_first hello bytes behind request later.0 later.1 (record { allowed = subst (λ (t : List ℕ). IsLength hello (length t)) is.spelled allowed; body = whole }) frame later.2)
 
 of_length : (hello : Option Version) (bytes : List ℕ) → ((behind : List ℕ) → length behind < length bytes → AreBytes behind → (h : Option Version) → Stream h behind) → Word bytes ⊎ (length bytes < 4) → Stream hello bytes
-of_length hello bytes others (inr few) = ([], open_at hello bytes, frames_begun hello bytes bytes refl (inl few))
+of_length hello bytes others (inr bounded) = ([], open_at hello bytes, frames_begun hello bytes bytes refl (inl bounded))
 of_length hello bytes others (inl (n, rest, fits, spelled, q)) = elim (le_or 1 n) [
   | inr less ↦ faulty hello bytes BadLength (inl (refl, record { n = n; more = rest; number = fits; bad = λ is. absurd (omega (arith, less, is.0)); spelled = spelled }))
   | inl some ↦ elim (le_or n (limits_after hello).body) [
     | inr big ↦ faulty hello bytes BadLength (inl (refl, record { n = n; more = rest; number = fits; bad = λ is. absurd (omega (arith, big, is.1)); spelled = spelled }))
     | inl small ↦ elim (le_or n (length rest)) [
-      | inr few ↦ ([], open_at hello bytes, frames_begun hello bytes bytes refl (inr (record { n = n; part = rest; allowed = (some, small); spelled = spelled; short = few })))
+      | inr bounded ↦ ([], open_at hello bytes, frames_begun hello bytes bytes refl (inr (record { n = n; part = rest; allowed = (some, small); spelled = spelled; short = bounded })))
       | inl enough ↦
           let len : length (take n rest) ≡ n = length-take-le n rest enough in
           let whole = spelled ∙ ap (λ (t : List ℕ). length_bytes n ++ t) (sym (take-append-drop n rest)) ∙ sym (append_assoc (length_bytes n) (take n rest) (drop n rest)) in

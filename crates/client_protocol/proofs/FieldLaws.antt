@@ -9,7 +9,7 @@ use Rattle.client_protocol.specs.declared.limits.Limits.{Limits}
 use Rattle.client_protocol.specs.Bodies.{limits_after, Kind, Field, field_bytes, fields_bytes, value_bytes, IsValue, IsField, AreFields, TakesAll}
 use Rattle.client_protocol.specs.Bodies.Kind.{a_byte, a_short, a_long, a_key, a_value, an_opt}
 use Rattle.client_protocol.specs.Bodies.Field.{byte, short, long, key, value, opt}
-use Rattle.client_protocol.specs.Reading.{Takes, NoField, NoFields}
+use Rattle.client_protocol.specs.Reading.{TakesField, NoField, NoFields}
 
 -- fronts of one length
 pub same_split : (a b x y : List ℕ) → length a ≡ length b → a ++ x ≡ b ++ y → (a ≡ b) × (x ≡ y)
@@ -92,7 +92,7 @@ pub none_first : (limits : Limits) (kind : Kind) (kinds : List Kind) (bytes : Li
 none_first limits kind kinds bytes none [] tail (p, e) = p
 none_first limits kind kinds bytes none (f ∷ fs) tail (p, e) = none f (fields_bytes fs ++ tail) (p.0, e ∙ append_assoc (field_bytes f) (fields_bytes fs) tail)
 
-pub none_later : (limits : Limits) (kind : Kind) (kinds : List Kind) (bytes : List ℕ) (field : Field) (rest : List ℕ) → Takes limits kind bytes field rest → NoFields limits kinds rest → NoFields limits (kind ∷ kinds) bytes
+pub none_later : (limits : Limits) (kind : Kind) (kinds : List Kind) (bytes : List ℕ) (field : Field) (rest : List ℕ) → TakesField limits kind bytes field rest → NoFields limits kinds rest → NoFields limits (kind ∷ kinds) bytes
 none_later limits kind kinds bytes field rest takes none [] tail (p, e) = p
 none_later limits kind kinds bytes field rest takes none (f ∷ fs) tail (p, e) =
     let same = field_unique limits kind field f rest (fields_bytes fs ++ tail) takes.0 p.0 (sym takes.1 ∙ e ∙ append_assoc (field_bytes f) (fields_bytes fs) tail) in
@@ -101,17 +101,17 @@ none_later limits kind kinds bytes field rest takes none (f ∷ fs) tail (p, e) 
 pub takes_none : (limits : Limits) (bytes : List ℕ) → TakesAll limits [] bytes [] bytes
 takes_none limits bytes = (tt, refl)
 
-pub takes_more : (limits : Limits) (kind : Kind) (kinds : List Kind) (bytes : List ℕ) (field : Field) (rest : List ℕ) (fields : List Field) (tail : List ℕ) → Takes limits kind bytes field rest → TakesAll limits kinds rest fields tail → TakesAll limits (kind ∷ kinds) bytes (field ∷ fields) tail
+pub takes_more : (limits : Limits) (kind : Kind) (kinds : List Kind) (bytes : List ℕ) (field : Field) (rest : List ℕ) (fields : List Field) (tail : List ℕ) → TakesField limits kind bytes field rest → TakesAll limits kinds rest fields tail → TakesAll limits (kind ∷ kinds) bytes (field ∷ fields) tail
 takes_more limits kind kinds bytes field rest fields tail first later =
     ((first.0, later.0), first.1 ∙ ap (λ (t : List ℕ). field_bytes field ++ t) later.1 ∙ sym (append_assoc (field_bytes field) (fields_bytes fields) tail))
 
-pub takes_one : (limits : Limits) (kind : Kind) (bytes : List ℕ) (field : Field) (tail : List ℕ) → Takes limits kind bytes field tail → TakesAll limits (kind ∷ []) bytes (field ∷ []) tail
+pub takes_one : (limits : Limits) (kind : Kind) (bytes : List ℕ) (field : Field) (tail : List ℕ) → TakesField limits kind bytes field tail → TakesAll limits (kind ∷ []) bytes (field ∷ []) tail
 takes_one limits kind bytes field tail first = takes_more limits kind [] bytes field tail [] tail first (takes_none limits tail)
 
-pub takes_two : (limits : Limits) (kind next : Kind) (bytes : List ℕ) (field second : Field) (rest tail : List ℕ) → Takes limits kind bytes field rest → Takes limits next rest second tail → TakesAll limits (kind ∷ next ∷ []) bytes (field ∷ second ∷ []) tail
+pub takes_two : (limits : Limits) (kind next : Kind) (bytes : List ℕ) (field second : Field) (rest tail : List ℕ) → TakesField limits kind bytes field rest → TakesField limits next rest second tail → TakesAll limits (kind ∷ next ∷ []) bytes (field ∷ second ∷ []) tail
 takes_two limits kind next bytes field second rest tail first later = takes_more limits kind (next ∷ []) bytes field rest (second ∷ []) tail first (takes_one limits next rest second tail later)
 
-pub takes_three : (limits : Limits) (kind next last : Kind) (bytes : List ℕ) (field second third : Field) (rest more tail : List ℕ) → Takes limits kind bytes field rest → Takes limits next rest second more → Takes limits last more third tail → TakesAll limits (kind ∷ next ∷ last ∷ []) bytes (field ∷ second ∷ third ∷ []) tail
+pub takes_three : (limits : Limits) (kind next last : Kind) (bytes : List ℕ) (field second third : Field) (rest more tail : List ℕ) → TakesField limits kind bytes field rest → TakesField limits next rest second more → TakesField limits last more third tail → TakesAll limits (kind ∷ next ∷ last ∷ []) bytes (field ∷ second ∷ third ∷ []) tail
 takes_three limits kind next last bytes field second third rest more tail first later latest = takes_more limits kind (next ∷ last ∷ []) bytes field rest (second ∷ third ∷ []) tail first (takes_two limits next last rest second third more tail later latest)
 
 -- ---- one field
@@ -149,7 +149,7 @@ no_key limits bytes n rest is bad (key k) tail (p, e) =
 no_key limits bytes n rest is bad f tail (p, e) = p
 
 -- a length that no value may have here, or that is longer than what follows
-no_bytes : (limits : Limits) (bytes : List ℕ) (n : ℕ) (rest k tail : List ℕ) → Takes limits a_short bytes (short n) rest → (n ≤ limits.value → length rest < n) → IsValue limits k → bytes ≡ value_bytes k ++ tail → ⊥
+no_bytes : (limits : Limits) (bytes : List ℕ) (n : ℕ) (rest k tail : List ℕ) → TakesField limits a_short bytes (short n) rest → (n ≤ limits.value → length rest < n) → IsValue limits k → bytes ≡ value_bytes k ++ tail → ⊥
 no_bytes limits bytes n rest k tail takes bad p e =
     let (len, rest-is) = same_short n (length k) rest (k ++ tail) takes.0 (omega (arith, p.1)) (sym takes.1 ∙ e) in
     let less = bad (omega (arith, len, p.0)) in
@@ -160,7 +160,7 @@ pub no_value-short : (limits : Limits) (bytes : List ℕ) → NoField limits a_s
 no_value-short limits bytes none (value k) rest (p, e) = none (short (length k)) (k ++ rest) (omega (arith, p.1), e)
 no_value-short limits bytes none f rest (p, e) = p
 
-pub no_value : (limits : Limits) (bytes : List ℕ) (n : ℕ) (rest : List ℕ) → Takes limits a_short bytes (short n) rest → (n ≤ limits.value → length rest < n) → NoField limits a_value bytes
+pub no_value : (limits : Limits) (bytes : List ℕ) (n : ℕ) (rest : List ℕ) → TakesField limits a_short bytes (short n) rest → (n ≤ limits.value → length rest < n) → NoField limits a_value bytes
 no_value limits bytes n rest takes bad (value k) tail (p, e) = no_bytes limits bytes n rest k tail takes bad p e
 no_value limits bytes n rest takes bad f tail (p, e) = p
 
@@ -169,7 +169,7 @@ no_opt-short limits bytes none (opt (Some k)) rest (p, e) = none (short (length 
 no_opt-short limits bytes none (opt None) rest (p, e) = none (short 65535) rest (omega arith, e)
 no_opt-short limits bytes none f rest (p, e) = p
 
-pub no_opt : (limits : Limits) (bytes : List ℕ) (n : ℕ) (rest : List ℕ) → Takes limits a_short bytes (short n) rest → n ≢ 65535 → (n ≤ limits.value → length rest < n) → NoField limits an_opt bytes
+pub no_opt : (limits : Limits) (bytes : List ℕ) (n : ℕ) (rest : List ℕ) → TakesField limits a_short bytes (short n) rest → n ≢ 65535 → (n ≤ limits.value → length rest < n) → NoField limits an_opt bytes
 no_opt limits bytes n rest takes present bad (opt (Some k)) tail (p, e) = no_bytes limits bytes n rest k tail takes bad p e
 no_opt limits bytes n rest takes present bad (opt None) tail (p, e) =
     let (len, rest-is) = same_short n 65535 rest tail takes.0 (omega arith) (sym takes.1 ∙ e) in
@@ -177,7 +177,7 @@ no_opt limits bytes n rest takes present bad (opt None) tail (p, e) =
 no_opt limits bytes n rest takes present bad f tail (p, e) = p
 
 -- a value, found behind its length
-pub value_found : (hello : Option Version) (bytes : List ℕ) (n : ℕ) (rest v x : List ℕ) → Takes (limits_after hello) a_short bytes (short n) rest → (rest ≡ v ++ x) × (length v ≡ n) × (n ≤ (limits_after hello).value) → IsValue (limits_after hello) v × (bytes ≡ value_bytes v ++ x)
+pub value_found : (hello : Option Version) (bytes : List ℕ) (n : ℕ) (rest v x : List ℕ) → TakesField (limits_after hello) a_short bytes (short n) rest → (rest ≡ v ++ x) × (length v ≡ n) × (n ≤ (limits_after hello).value) → IsValue (limits_after hello) v × (bytes ≡ value_bytes v ++ x)
 value_found hello bytes n rest v x takes (is, len, limit) = (
   (omega (arith, len, limit), omega (arith, len, limit, small_value hello)),
   takes.1 ∙ rw (is, len) refl,

@@ -5,7 +5,7 @@ use Rattle.client_protocol.specs.declared.limits.Version.{Version}
 use Rattle.client_protocol.specs.declared.request.Request.{Request}
 use Rattle.client_protocol.specs.declared.fault.ProtocolFault.{ProtocolFault}
 use Rattle.client_protocol.specs.Bodies.{body_of, body_bytes, hello_after}
-use Rattle.client_protocol.specs.Frames.{length_bytes, frame_of, frames_of, IsLength, IsRequest, IsBeginning, IsFaulty, Held, Frames, IsSound}
+use Rattle.client_protocol.specs.Frames.{length_bytes, frame_of, frames_of, IsLength, IsRequest, IsBeginning, IsFaulty, Held, Frames, IsSoundHeld}
 use Rattle.client_protocol.specs.Frames.Held.{open_at, failed}
 use Rattle.client_protocol.specs.declared.reading.ReadFault.{ReadFault}
 use Rattle.client_protocol.specs.declared.reading.ReadFault.TheVariants.{NoMemory, Fault}
@@ -22,10 +22,10 @@ pub lacks_length : (hello : Option Version) (bytes : List ℕ) → length bytes 
 lacks_length hello bytes less =
     record {
       some = omega (arith, less);
-      fewer = λ more few. inl (omega (arith, less, few, length-append bytes more));
-      no_more = λ more r behind few is e.
+      fewer = λ more bounded. inl (omega (arith, less, bounded, length-append bytes more));
+      no_more = λ more r behind bounded is e.
           let len : length (bytes ++ more) ≡ length (frame_of r ++ behind) = ap length e in
-          absurd (omega (arith, less, few, len, length-append bytes more, length-append (frame_of r) behind));
+          absurd (omega (arith, less, bounded, len, length-append bytes more, length-append (frame_of r) behind));
     }
 
 -- the bytes that a body lacks
@@ -33,18 +33,18 @@ pub lacks_body : (hello : Option Version) (bytes : List ℕ) (n : ℕ) (part : L
 lacks_body hello bytes n part allowed spelled short =
     record {
       some = omega (arith, short);
-      fewer = λ more few. inr (record {
+      fewer = λ more bounded. inr (record {
         n = n;
         part = part ++ more;
         allowed = allowed;
         spelled = ap (λ (t : List ℕ). t ++ more) spelled ∙ append_assoc (length_bytes n) part more;
-        short = omega (arith, short, few, length-append part more);
+        short = omega (arith, short, bounded, length-append part more);
       });
-      no_more = λ more r behind few is e.
+      no_more = λ more r behind bounded is e.
           let whole = sym (append_assoc (length_bytes n) part more) ∙ ap (λ (t : List ℕ). t ++ more) (sym spelled) ∙ e ∙ append_assoc (length_bytes (length (body_bytes (body_of r)))) (body_bytes (body_of r)) behind in
           let (len, bytes-is) = same_length n (length (body_bytes (body_of r))) (part ++ more) ((body_bytes (body_of r)) ++ behind) (allowed_small hello n allowed) (allowed_small hello (length (body_bytes (body_of r))) is.allowed) whole in
           let lengths : length (part ++ more) ≡ length ((body_bytes (body_of r)) ++ behind) = ap length bytes-is in
-          nil_of behind (omega (arith, short, few, len, lengths, length-append part more, length-append (body_bytes (body_of r)) behind));
+          nil_of behind (omega (arith, short, bounded, len, lengths, length-append part more, length-append (body_bytes (body_of r)) behind));
     }
 
 -- what a frame lacks that has begun with this length
@@ -110,7 +110,7 @@ pub frames_failed : (hello : Option Version) (bytes : List ℕ) (fault : Protoco
 frames_failed hello bytes fault bad = record { after = hello; rest = bytes; follow = refl; spelled = refl; ends = bad }
 
 -- what is held after reading is sound
-pub sound_after : (hello : Option Version) (bytes : List ℕ) (rs : List Request) (held : Held) → Frames hello bytes rs held → IsSound held
+pub sound_after : (hello : Option Version) (bytes : List ℕ) (rs : List Request) (held : Held) → Frames hello bytes rs held → IsSoundHeld held
 sound_after hello bytes rs (open_at h rest) f =
     let (hello-is, rest-is, begun) = f.ends in
     subst (λ (v : Option Version). IsBeginning v rest) (sym hello-is) (subst (λ (t : List ℕ). IsBeginning f.after t) (sym rest-is) begun)

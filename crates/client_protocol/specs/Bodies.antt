@@ -125,31 +125,31 @@ pub record IsBody (limits : Limits) (body : Body) : Type 0 where
   pub fields : AreFields limits kinds body.fields
   pub tail : (takes_tail body.tag ≡ true) ⊎ (body.tail ≡ [])
 
-abbrev pub whole : ℕ → List Field → Body
-whole tag fields = record { tag = tag; fields = fields; tail = [] }
+abbrev pub body_of_fields : ℕ → List Field → Body
+body_of_fields tag fields = record { tag = tag; fields = fields; tail = [] }
 
 abbrev pub sizes_fields : Sizes → List Field
 sizes_fields sizes = short sizes.key ∷ short sizes.old ∷ short sizes.arg ∷ short sizes.result ∷ []
 
 -- a request's body
 abbrev pub body_of : Request → Body
-body_of (Hello version) = whole 0x00 (byte (version_number version) ∷ [])
+body_of (Hello version) = body_of_fields 0x00 (byte (version_number version) ∷ [])
 body_of (Register sizes program) = record { tag = 0x01; fields = sizes_fields sizes; tail = program }
-body_of (Get k) = whole 0x10 (key k ∷ [])
-body_of (Put k v) = whole 0x11 (key k ∷ value v ∷ [])
-body_of (PutIfAbsent k v) = whole 0x12 (key k ∷ value v ∷ [])
-body_of (Remove k) = whole 0x13 (key k ∷ [])
-body_of (RemoveIf k expected) = whole 0x14 (key k ∷ value expected ∷ [])
-body_of (Replace k v) = whole 0x15 (key k ∷ value v ∷ [])
-body_of (ReplaceIf k expected v) = whole 0x16 (key k ∷ value expected ∷ value v ∷ [])
-body_of (Compute k program arg) = whole 0x17 (key k ∷ long program ∷ opt arg ∷ [])
-body_of (ComputeIfAbsent k program arg) = whole 0x18 (key k ∷ long program ∷ opt arg ∷ [])
-body_of (ComputeIfPresent k program arg) = whole 0x19 (key k ∷ long program ∷ opt arg ∷ [])
-body_of (Merge k v program) = whole 0x1A (key k ∷ value v ∷ long program ∷ [])
-body_of (Search program arg threshold) = whole 0x20 (long program ∷ opt arg ∷ long threshold ∷ [])
-body_of (ForEach program arg threshold) = whole 0x21 (long program ∷ opt arg ∷ long threshold ∷ [])
-body_of (ReplaceAll program arg) = whole 0x22 (long program ∷ opt arg ∷ [])
-body_of Count = whole 0x23 []
+body_of (Get k) = body_of_fields 0x10 (key k ∷ [])
+body_of (Put k v) = body_of_fields 0x11 (key k ∷ value v ∷ [])
+body_of (PutIfAbsent k v) = body_of_fields 0x12 (key k ∷ value v ∷ [])
+body_of (Remove k) = body_of_fields 0x13 (key k ∷ [])
+body_of (RemoveIf k expected) = body_of_fields 0x14 (key k ∷ value expected ∷ [])
+body_of (Replace k v) = body_of_fields 0x15 (key k ∷ value v ∷ [])
+body_of (ReplaceIf k expected v) = body_of_fields 0x16 (key k ∷ value expected ∷ value v ∷ [])
+body_of (Compute k program arg) = body_of_fields 0x17 (key k ∷ long program ∷ opt arg ∷ [])
+body_of (ComputeIfAbsent k program arg) = body_of_fields 0x18 (key k ∷ long program ∷ opt arg ∷ [])
+body_of (ComputeIfPresent k program arg) = body_of_fields 0x19 (key k ∷ long program ∷ opt arg ∷ [])
+body_of (Merge k v program) = body_of_fields 0x1A (key k ∷ value v ∷ long program ∷ [])
+body_of (Search program arg threshold) = body_of_fields 0x20 (long program ∷ opt arg ∷ long threshold ∷ [])
+body_of (ForEach program arg threshold) = body_of_fields 0x21 (long program ∷ opt arg ∷ long threshold ∷ [])
+body_of (ReplaceAll program arg) = body_of_fields 0x22 (long program ∷ opt arg ∷ [])
+body_of Count = body_of_fields 0x23 []
 
 -- ---- whose turn it is
 

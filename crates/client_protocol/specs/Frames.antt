@@ -69,9 +69,9 @@ pub data Held : Type 0 where
   open_at : Option Version → List ℕ → Held
   failed : ProtocolFault → Held
 
-abbrev pub fault_of : Held → Option ProtocolFault
-fault_of (open_at hello rest) = None
-fault_of (failed fault) = Some fault
+abbrev pub held_fault : Held → Option ProtocolFault
+held_fault (open_at hello rest) = None
+held_fault (failed fault) = Some fault
 
 -- what is held where the rest is this
 abbrev pub Ends : Option Version → List ℕ → Held → Type 0
@@ -101,9 +101,9 @@ AreBytes [] = Unit {0}
 AreBytes (b ∷ bytes) = (b < 2 ^ 8) × AreBytes bytes
 
 -- no more is held than the beginning of one frame
-abbrev pub IsSound : Held → Type 0
-IsSound (open_at hello rest) = IsBeginning hello rest
-IsSound (failed fault) = Unit {0}
+abbrev pub IsSoundHeld : Held → Type 0
+IsSoundHeld (open_at hello rest) = IsBeginning hello rest
+IsSoundHeld (failed fault) = Unit {0}
 
 -- inside a frame
 abbrev pub is_inside : Held → Bool

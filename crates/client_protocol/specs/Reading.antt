@@ -12,12 +12,12 @@ use Rattle.client_protocol.specs.Bodies.Kind.{a_short}
 use Rattle.client_protocol.specs.Frames.{frame_of, IsRequest, IsBeginning}
 
 -- bytes that begin with a field of this kind
-abbrev pub Takes : Limits → Kind → List ℕ → Field → List ℕ → Type 0
-Takes limits kind bytes field rest = IsField limits kind field × (bytes ≡ field_bytes field ++ rest)
+abbrev pub TakesField : Limits → Kind → List ℕ → Field → List ℕ → Type 0
+TakesField limits kind bytes field rest = IsField limits kind field × (bytes ≡ field_bytes field ++ rest)
 
 -- no field of this kind begins the bytes, and no fields of these kinds do
 abbrev pub NoField : Limits → Kind → List ℕ → Type 0
-NoField limits kind bytes = (field : Field) (rest : List ℕ) → Takes limits kind bytes field rest → ⊥
+NoField limits kind bytes = (field : Field) (rest : List ℕ) → TakesField limits kind bytes field rest → ⊥
 
 abbrev pub NoFields : Limits → List Kind → List ℕ → Type 0
 NoFields limits kinds bytes = (fields : List Field) (tail : List ℕ) → TakesAll limits kinds bytes fields tail → ⊥
@@ -30,8 +30,8 @@ abbrev pub NoSizes : Limits → List ℕ → Type 0
 NoSizes limits bytes = NoFields limits (a_short ∷ a_short ∷ a_short ∷ a_short ∷ []) bytes
 
 -- the bytes are this body
-abbrev pub Spells : Limits → List ℕ → Body → Type 0
-Spells limits bytes body = IsBody limits body × (bytes ≡ body_bytes body)
+abbrev pub SpellsBody : Limits → List ℕ → Body → Type 0
+SpellsBody limits bytes body = IsBody limits body × (bytes ≡ body_bytes body)
 
 abbrev pub IfFault : ReadFault → (ProtocolFault → Type 0) → Type 0
 IfFault NoMemory P = Unit {0}

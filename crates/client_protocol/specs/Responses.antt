@@ -1,7 +1,7 @@
 -- The bytes of a response's frame.
 use Rattle.std.specs.Prelude.{ℕ, List, [], ◌∷◌, flat_map, Bool, true, false}
-use Rattle.bpf_model.specs.declared.input.Window.{Window}
-use Rattle.bpf_model.specs.declared.input.Window.TheVariants as window
+use Rattle.bpf_model.specs.declared.input.InputPart.{InputPart}
+use Rattle.bpf_model.specs.declared.input.InputPart.TheVariants as part
 use Rattle.client_protocol.specs.declared.response.Response.{Response}
 use Rattle.client_protocol.specs.declared.response.Response.TheVariants.{Hello, Registered, Value, Done, Unfit, Refused, Item, End}
 use Rattle.client_protocol.specs.Bodies.{Field, fields_bytes, version_number}
@@ -14,10 +14,10 @@ flag false = 0
 flag true = 1
 
 -- the number under which a window is sent
-abbrev pub window_number : Window → ℕ
-window_number window.Key = 1
-window_number window.Old = 2
-window_number window.Arg = 3
+abbrev pub part_number : InputPart → ℕ
+part_number part.Key = 1
+part_number part.Old = 2
+part_number part.Arg = 3
 
 -- a response's tag, and its fields behind it
 abbrev pub response_tag : Response → ℕ
@@ -25,7 +25,7 @@ response_tag (Hello version) = 128
 response_tag (Registered program) = 129
 response_tag (Value answer) = 130
 response_tag (Done done) = 131
-response_tag (Unfit window) = 132
+response_tag (Unfit part) = 132
 response_tag (Refused number place) = 133
 response_tag (Item k v) = 134
 response_tag (End scanned given unfit) = 135
@@ -35,7 +35,7 @@ response_fields (Hello version) = byte (version_number version) ∷ []
 response_fields (Registered program) = long program ∷ []
 response_fields (Value answer) = opt answer ∷ []
 response_fields (Done done) = byte (flag done) ∷ []
-response_fields (Unfit window) = byte (window_number window) ∷ []
+response_fields (Unfit part) = byte (part_number part) ∷ []
 response_fields (Refused number place) = byte number ∷ word place ∷ []
 response_fields (Item k v) = key k ∷ value v ∷ []
 response_fields (End scanned given unfit) = long scanned ∷ long given ∷ long unfit ∷ []

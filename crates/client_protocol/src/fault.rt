@@ -1,6 +1,6 @@
 //! Why a stream of requests is refused.
 ghost use Rattle.std.specs.Prelude.{◌≡◌};
-ghost use Rattle.client_protocol.specs.Faults.{fault_number};
+ghost use Rattle.client_protocol.specs.Faults.{protocol_fault_number};
 
 use std::error::Error;
 use std::fmt;
@@ -24,7 +24,7 @@ pub enum ProtocolFault {
 impl ProtocolFault {
     /// The number under which the fault is sent, 60 to 64.
     pub fn number(self) -> u8
-        ensures { result ≡ fault_number self }
+        ensures { result ≡ protocol_fault_number self }
     {
         match self {
             ProtocolFault::BadLength => 60,
@@ -38,9 +38,9 @@ impl ProtocolFault {
 
 impl fmt::Display for ProtocolFault {
     ghost use Rattle.std.specs.Prelude.{Some};
-    ghost use Rattle.client_protocol.specs.Faults.{message_of};
+    ghost use Rattle.client_protocol.specs.Faults.{protocol_fault_message};
 
-    ghost output = { λ fault. Some (message_of fault) };
+    ghost output = { λ fault. Some (protocol_fault_message fault) };
 
     fn fmt<W: fmt::Write>(&self, f: &mut fmt::Formatter<W>) -> fmt::Result {
         match self {

@@ -2,7 +2,7 @@
 ghost use Rattle.std.specs.Prelude.{◌≡◌, ◌<◌, ◌++◌, List, [], length, take, IfOk, IfErr, IfSome, IfNone, IsOk, IsSome, OnErr, None};
 ghost use Rattle.client_protocol.specs.declared.request.Request.{Request as TheRequest};
 ghost use Rattle.client_protocol.specs.Reading.{IfFault};
-ghost use Rattle.client_protocol.specs.Frames.{Frames, Feeds, IsRequest, IsBeginning, IsFaulty, frame_of, held_of, fault_of, is_inside};
+ghost use Rattle.client_protocol.specs.Frames.{Frames, Feeds, IsRequest, IsBeginning, IsFaulty, frame_of, held_of, held_fault, is_inside};
 ghost use Rattle.client_protocol.specs.Frames.Held.{open_at};
 
 use crate::fault::ProtocolFault;
@@ -173,13 +173,13 @@ pub struct Feeder {
 }
 
 impl Model for Feeder {
-    ghost use Rattle.client_protocol.specs.Frames.{Held, held_of, IsSound};
+    ghost use Rattle.client_protocol.specs.Frames.{Held, held_of, IsSoundHeld};
 
     ghost Value = { Held };
 
     ghost view = { λ f. held_of f.hello f.rest.items f.fault };
 
-    ghost invariant = { λ f. IsSound (held_of f.hello f.rest.items f.fault) };
+    ghost invariant = { λ f. IsSoundHeld (held_of f.hello f.rest.items f.fault) };
 }
 
 impl Feeder {
@@ -197,9 +197,9 @@ impl Feeder {
     #[tactic(auto, using(crate::proofs::HeldLaws::sound_after))]
     pub fn feed(&mut self, alloc: Global, piece: &[u8]) -> Result<Fed, NoMemory>
         ensures requests { IfOk result (λ fed. Feeds self.old piece.now fed.requests.items self.new) }
-        ensures fault { IfOk result (λ fed. fed.fault ≡ fault_of self.new) }
+        ensures fault { IfOk result (λ fed. fed.fault ≡ held_fault self.new) }
         ensures err { OnErr result (self.new ≡ self.old) }
-        ensures still { IsSome (fault_of self.old) → IsOk result }
+        ensures still { IsSome (held_fault self.old) → IsOk result }
     {
         if let Some(fault) = self.fault {
             return Ok(Fed {

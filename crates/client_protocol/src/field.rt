@@ -3,7 +3,7 @@ ghost use Rattle.std.specs.Prelude.{◌≡◌, ◌+◌, ◌≤◌, ◌<◌, [], 
 ghost use Rattle.client_protocol.specs.Bodies.{Kind, Field as TheField, limits_after};
 ghost use Rattle.client_protocol.specs.Bodies.Kind.{a_byte, a_short, a_long, a_key, a_value, an_opt};
 ghost use Rattle.client_protocol.specs.Bodies.Field.{byte, short, long, key as the_key, value as the_value, opt};
-ghost use Rattle.client_protocol.specs.Reading.{Takes, NoField};
+ghost use Rattle.client_protocol.specs.Reading.{TakesField, NoField};
 
 use crate::limits::{Limits, Version};
 use bpf_model::{Key, Value};
@@ -21,7 +21,7 @@ pub trait Field: Sized {
     /// its limit.
     fn read(hello: Option<Version>, bytes: &[u8]) -> Option<(Self, &[u8])>
         ensures some { IfSome result (λ r.
-            Takes (limits_after hello) kind bytes.now (field r.0) r.1.now) }
+            TakesField (limits_after hello) kind bytes.now (field r.0) r.1.now) }
         ensures none { IfNone result (NoField (limits_after hello) kind bytes.now) };
 }
 

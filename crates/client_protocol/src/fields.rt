@@ -1,7 +1,7 @@
 //! Lists of fields that are a whole body behind its tag.
 ghost use Rattle.std.specs.Prelude.{◌≡◌, [], ◌∷◌, IfOk, IfErr, Some, false};
-ghost use Rattle.client_protocol.specs.Bodies.{limits_after, kinds_of, takes_tail, whole, BodyHas};
-ghost use Rattle.client_protocol.specs.Reading.{Spells};
+ghost use Rattle.client_protocol.specs.Bodies.{limits_after, kinds_of, takes_tail, body_of_fields, BodyHas};
+ghost use Rattle.client_protocol.specs.Reading.{SpellsBody};
 
 use crate::fault::ProtocolFault;
 use crate::field::Field;
@@ -11,7 +11,7 @@ use crate::limits::Version;
 pub fn no_field(hello: Option<Version>, tag: u8, bytes: &[u8]) -> Result<(), ProtocolFault>
     requires known { kinds_of tag ≡ Some [] }
     requires no_tail { takes_tail tag ≡ false }
-    ensures ok { IfOk result (λ _. Spells (limits_after hello) (tag ∷ bytes.now) (whole tag [])) }
+    ensures ok { IfOk result (λ _. SpellsBody (limits_after hello) (tag ∷ bytes.now) (body_of_fields tag [])) }
     ensures err { IfErr result (BodyHas hello (tag ∷ bytes.now)) }
 {
     if !bytes.is_empty() {
@@ -28,8 +28,8 @@ pub fn one_field<A: Field + Drop>(
 ) -> Result<A, ProtocolFault>
     requires known { kinds_of tag ≡ Some (A.kind ∷ []) }
     requires no_tail { takes_tail tag ≡ false }
-    ensures ok { IfOk result (λ a. Spells (limits_after hello) (tag ∷ bytes.now)
-        (whole tag (A.field a ∷ []))) }
+    ensures ok { IfOk result (λ a. SpellsBody (limits_after hello) (tag ∷ bytes.now)
+        (body_of_fields tag (A.field a ∷ []))) }
     ensures err { IfErr result (BodyHas hello (tag ∷ bytes.now)) }
 {
     let Some((first, tail)) = A::read(hello, bytes) else {
@@ -49,8 +49,8 @@ pub fn two_fields<A: Field + Drop, B: Field + Drop>(
 ) -> Result<(A, B), ProtocolFault>
     requires known { kinds_of tag ≡ Some (A.kind ∷ B.kind ∷ []) }
     requires no_tail { takes_tail tag ≡ false }
-    ensures ok { IfOk result (λ r. Spells (limits_after hello) (tag ∷ bytes.now)
-        (whole tag (A.field r.0 ∷ B.field r.1 ∷ []))) }
+    ensures ok { IfOk result (λ r. SpellsBody (limits_after hello) (tag ∷ bytes.now)
+        (body_of_fields tag (A.field r.0 ∷ B.field r.1 ∷ []))) }
     ensures err { IfErr result (BodyHas hello (tag ∷ bytes.now)) }
 {
     let Some((first, rest)) = A::read(hello, bytes) else {
@@ -73,8 +73,8 @@ pub fn three_fields<A: Field + Drop, B: Field + Drop, C: Field + Drop>(
 ) -> Result<(A, B, C), ProtocolFault>
     requires known { kinds_of tag ≡ Some (A.kind ∷ B.kind ∷ C.kind ∷ []) }
     requires no_tail { takes_tail tag ≡ false }
-    ensures ok { IfOk result (λ r. Spells (limits_after hello) (tag ∷ bytes.now)
-        (whole tag (A.field r.0 ∷ B.field r.1 ∷ C.field r.2 ∷ []))) }
+    ensures ok { IfOk result (λ r. SpellsBody (limits_after hello) (tag ∷ bytes.now)
+        (body_of_fields tag (A.field r.0 ∷ B.field r.1 ∷ C.field r.2 ∷ []))) }
     ensures err { IfErr result (BodyHas hello (tag ∷ bytes.now)) }
 {
     let Some((first, rest)) = A::read(hello, bytes) else {

@@ -1,7 +1,7 @@
 //! A request from the body of a frame.
 ghost use Rattle.std.specs.Prelude.{◌≡◌, ◌≢◌, ◌≤◌, ◌<◌, ◌∷◌, length, IfOk, IfErr, IfSome, IfNone, IsTrue, IsFalse};
 ghost use Rattle.client_protocol.specs.Bodies.{is_hello, is_none, MayCome, body_of, BodyHas, limits_after};
-ghost use Rattle.client_protocol.specs.Reading.{Spells, TakesSizes, NoSizes, ReadsBody, IfFault};
+ghost use Rattle.client_protocol.specs.Reading.{SpellsBody, TakesSizes, NoSizes, ReadsBody, IfFault};
 
 use crate::fault::ProtocolFault;
 use crate::field::Field;
@@ -56,7 +56,7 @@ impl<T: Drop> From<AllocFailed<T>> for ReadFault {
 fn hello_request(hello: Option<Version>, tag: u8, rest: &[u8]) -> Result<Request, ProtocolFault>
     requires { tag ≡ 0x00 }
     ensures ok { IfOk result (λ request.
-        Spells (limits_after hello) (tag ∷ rest.now) (body_of request)) }
+        SpellsBody (limits_after hello) (tag ∷ rest.now) (body_of request)) }
     ensures err { IfErr result (BodyHas hello (tag ∷ rest.now)) }
 {
     let number = one_field(hello, tag, rest)?;
@@ -74,7 +74,7 @@ fn replace_if_request(
 ) -> Result<Request, ProtocolFault>
     requires { tag ≡ 0x16 }
     ensures ok { IfOk result (λ request.
-        Spells (limits_after hello) (tag ∷ rest.now) (body_of request)) }
+        SpellsBody (limits_after hello) (tag ∷ rest.now) (body_of request)) }
     ensures err { IfErr result (BodyHas hello (tag ∷ rest.now)) }
 {
     let (key, expected, value) = three_fields(hello, tag, rest)?;
@@ -90,7 +90,7 @@ fn early_request(hello: Option<Version>, tag: u8, rest: &[u8]) -> Result<Request
     requires below { tag < 0x17 }
     requires no_program { tag ≢ 0x01 }
     ensures ok { IfOk result (λ request.
-        Spells (limits_after hello) (tag ∷ rest.now) (body_of request)) }
+        SpellsBody (limits_after hello) (tag ∷ rest.now) (body_of request)) }
     ensures err { IfErr result (BodyHas hello (tag ∷ rest.now)) }
 {
     Ok(match tag {
@@ -128,7 +128,7 @@ fn early_request(hello: Option<Version>, tag: u8, rest: &[u8]) -> Result<Request
 fn program_request(hello: Option<Version>, tag: u8, rest: &[u8]) -> Result<Request, ProtocolFault>
     requires range { (0x17 ≤ tag) × (tag < 0x20) }
     ensures ok { IfOk result (λ request.
-        Spells (limits_after hello) (tag ∷ rest.now) (body_of request)) }
+        SpellsBody (limits_after hello) (tag ∷ rest.now) (body_of request)) }
     ensures err { IfErr result (BodyHas hello (tag ∷ rest.now)) }
 {
     Ok(match tag {
@@ -160,7 +160,7 @@ fn program_request(hello: Option<Version>, tag: u8, rest: &[u8]) -> Result<Reque
 fn walk_request(hello: Option<Version>, tag: u8, rest: &[u8]) -> Result<Request, ProtocolFault>
     requires above { 0x20 ≤ tag }
     ensures ok { IfOk result (λ request.
-        Spells (limits_after hello) (tag ∷ rest.now) (body_of request)) }
+        SpellsBody (limits_after hello) (tag ∷ rest.now) (body_of request)) }
     ensures err { IfErr result (BodyHas hello (tag ∷ rest.now)) }
 {
     Ok(match tag {
@@ -225,7 +225,7 @@ fn register_request(
     rest: &[u8],
 ) -> Result<Request, ReadFault>
     ensures ok { IfOk result (λ request.
-        Spells (limits_after hello) (0x01 ∷ rest.now) (body_of request)) }
+        SpellsBody (limits_after hello) (0x01 ∷ rest.now) (body_of request)) }
     ensures err { IfErr result (λ e. IfFault e (BodyHas hello (0x01 ∷ rest.now))) }
 {
     let Some((sizes, program)) = sizes_at(hello, rest) else {
@@ -238,7 +238,7 @@ fn register_request(
 // The request of a body, if it were its turn.
 fn request_of(alloc: Global, hello: Option<Version>, body: &[u8]) -> Result<Request, ReadFault>
     requires { 1 ≤ length body.now }
-    ensures ok { IfOk result (λ request. Spells (limits_after hello) body.now (body_of request)) }
+    ensures ok { IfOk result (λ request. SpellsBody (limits_after hello) body.now (body_of request)) }
     ensures err { IfErr result (λ e. IfFault e (BodyHas hello body.now)) }
 {
     let [tag, rest @ ..] = body else {

@@ -2,11 +2,11 @@
 ghost use Rattle.std.specs.Prelude.{◌≡◌, ◌+◌, ◌≤◌, ◌<◌, ◌^◌, ◌++◌, length};
 ghost use Rattle.arrayvec.specs.ArrayVec.{array_vec_len};
 ghost use Rattle.client_protocol.specs.Bodies.{value_bytes};
-ghost use Rattle.client_protocol.specs.Responses.{response_frame, response_body, window_number};
+ghost use Rattle.client_protocol.specs.Responses.{response_frame, response_body, part_number};
 
 use crate::limits::Version;
 use arrayvec::ArrayVec;
-use bpf_model::{Key, Value, Window};
+use bpf_model::{InputPart, Key, Value};
 
 /// The bytes of the longest frame of a response, an `Item`.
 pub const FRAME_BYTES: usize = 328;
@@ -34,7 +34,7 @@ pub enum Response {
     },
     /// The program's first window that is too small for its bytes: tag 84.
     Unfit {
-        window: Window,
+        part: InputPart,
     },
     /// A refusal by its number, at a unit of a program, else at 0: tag 85.
     Refused {
@@ -75,13 +75,13 @@ fn put_value<const N: usize>(out: &mut ArrayVec<u8, N>, bytes: &[u8])
     put(out, bytes);
 }
 
-fn window_number(window: Window) -> u8
-    ensures { result ≡ window_number window }
+fn part_number(part: InputPart) -> u8
+    ensures { result ≡ part_number part }
 {
-    match window {
-        Window::Key => 1,
-        Window::Old => 2,
-        Window::Arg => 3,
+    match part {
+        InputPart::Key => 1,
+        InputPart::Old => 2,
+        InputPart::Arg => 3,
     }
 }
 
@@ -102,7 +102,7 @@ impl Response {
                 put_value(&mut body, value.as_slice());
             }
             Response::Done { done } => put(&mut body, &[0x83, u8::from(*done)]),
-            Response::Unfit { window } => put(&mut body, &[0x84, window_number(*window)]),
+            Response::Unfit { part } => put(&mut body, &[0x84, part_number(*part)]),
             Response::Refused { number, place } => {
                 put(&mut body, &[0x85, *number]);
                 put(&mut body, &place.to_be_bytes());

@@ -11,7 +11,7 @@ use Rattle.bpf_model.proofs.ProgramLemmas.{unit_count-next, none_inside, none_pa
 use Rattle.flow_shape.specs.declared.fault.FlowFault.{FlowFault}
 use Rattle.flow_shape.specs.declared.fault.FlowFault.TheVariants.{BackwardJump, JumpOut, JumpIntoWide, FallsOffEnd}
 use Rattle.flow_shape.specs.Jumps.{distance_of, falls_through, JumpsBy, target_of}
-use Rattle.flow_shape.specs.FlowShape.{JumpsIntoWide, Falls, HasFault, IsWellShaped, Lands, faulty_unit, number_of}
+use Rattle.flow_shape.specs.FlowShape.{JumpsIntoWide, Falls, HasFault, IsWellShaped, Lands, flow_fault_unit, flow_fault_number}
 use Rattle.flow_shape.specs.Layouts.{HasNoFaultAt, IsFirstFaultAt, DoesLand}
 
 -- a whole number that is a unit is this one
@@ -52,7 +52,7 @@ lands_at_start program unit into lands =
     absurd cc
 
 -- an instruction whose jump lands can only fall off the end
-only_falls : (program : List Insn) (unit : ℕ) → DoesLand program unit → (fault : FlowFault) → HasFault program fault → faulty_unit fault ≡ unit → fault ≡ FallsOffEnd unit
+only_falls : (program : List Insn) (unit : ℕ) → DoesLand program unit → (fault : FlowFault) → HasFault program fault → flow_fault_unit fault ≡ unit → fault ≡ FallsOffEnd unit
 only_falls program unit lands (BackwardJump u) has here =
     let jumps = subst (λ (k : ℕ). JumpsBy program k has.0) here has.1.0 in
     absurd (lands_forward program unit has.0 (lands has.0 jumps) has.1.1)
@@ -77,20 +77,20 @@ pub falls_here : (program : List Insn) (unit : ℕ) (i : Insn) → instruction_a
 falls_here program unit i at lands goes_on last = record {
   has = record { instruction = i; at = at; last = last; goes_on = goes_on };
   at = refl;
-  least = λ other has here. omega (arith, ap number_of (only_falls program unit lands other has here));
+  least = λ other has here. omega (arith, ap flow_fault_number (only_falls program unit lands other has here));
 }
 
 -- no unit that the first k instructions take has a fault
 pub record Passed (program : List Insn) (k unit : ℕ) : Type 0 where
   pub counted : unit ≡ unit_count (take k program)
-  pub clear : (fault : FlowFault) → HasFault program fault → unit ≤ faulty_unit fault
+  pub clear : (fault : FlowFault) → HasFault program fault → unit ≤ flow_fault_unit fault
 
 pub none_passed : (program : List Insn) → Passed program 0 0
 unfolding unit_count
 none_passed program = record { counted = refl; clear = λ fault has. omega arith }
 
 -- a fault is one of an instruction that starts at its unit
-fault_stands : (program : List Insn) (fault : FlowFault) → HasFault program fault → (i : Insn) × (instruction_at program (faulty_unit fault) ≡ Some i)
+fault_stands : (program : List Insn) (fault : FlowFault) → HasFault program fault → (i : Insn) × (instruction_at program (flow_fault_unit fault) ≡ Some i)
 fault_stands program (BackwardJump u) has = let j = chain_some distance_of (instruction_at program u) has.0 has.1.0 in (j.0, j.1)
 fault_stands program (JumpOut u) has = let j = chain_some distance_of (instruction_at program u) has.0 has.1.0 in (j.0, j.1)
 fault_stands program (JumpIntoWide u) has = let j = chain_some distance_of (instruction_at program u) has.distance has.jumps in (j.0, j.1)
@@ -99,14 +99,14 @@ fault_stands program (FallsOffEnd u) has = (has.instruction, has.at)
 pub more_passed : (program : List Insn) (k unit : ℕ) (i : Insn) → slice_get program k ≡ Some i → Passed program k unit → HasNoFaultAt program unit → Passed program (suc k) (unit + units_of i)
 more_passed program k unit i here passed none = record { counted = omega (arith, passed.counted, unit_count-next program k i here); clear = clear }
   where
-    clear : (fault : FlowFault) → HasFault program fault → unit + units_of i ≤ faulty_unit fault
+    clear : (fault : FlowFault) → HasFault program fault → unit + units_of i ≤ flow_fault_unit fault
     clear fault has =
-        elim (cases_order (faulty_unit fault) (unit + units_of i)) [
+        elim (cases_order (flow_fault_unit fault) (unit + units_of i)) [
           | inl end ↦ omega (arith, end)
           | inr apart ↦ elim apart [
             | inl inside ↦
-                let later : unit < faulty_unit fault = omega (arith, passed.clear fault has, none fault has) in
-                let nothing = none_inside program k i (faulty_unit fault) here (omega (arith, passed.counted, later)) (omega (arith, passed.counted, inside)) in
+                let later : unit < flow_fault_unit fault = omega (arith, passed.clear fault has, none fault has) in
+                let nothing = none_inside program k i (flow_fault_unit fault) here (omega (arith, passed.counted, later)) (omega (arith, passed.counted, inside)) in
                 let stands = fault_stands program fault has in
                 let e = stands.1 in
                 absurd cc
@@ -120,5 +120,5 @@ all_passed program k unit all passed fault has =
     let end = ap unit_count (take_all k program all) in
     let stands = fault_stands program fault has in
     let e = stands.1 in
-    let nothing = none_past program (faulty_unit fault) (omega (arith, end, passed.counted, passed.clear fault has)) in
+    let nothing = none_past program (flow_fault_unit fault) (omega (arith, end, passed.counted, passed.clear fault has)) in
     cc

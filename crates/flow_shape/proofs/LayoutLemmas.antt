@@ -34,7 +34,7 @@ next_inside program k i total here counted = omega (arith, counted, unit_count-n
 
 -- its start is marked
 pub more_marked : (program : List Insn) (k : ℕ) (i : Insn) (flags : List Bool) (total : ℕ) → unit_count program ≤ PROGRAM_UNITS → slice_get program k ≡ Some i → Marked program k flags total → Marked program (suc k) (set flags total true) (total + units_of i)
-more_marked program k i flags total few here marked = record {
+more_marked program k i flags total bounded here marked = record {
   len = length-set flags total true ∙ marked.len;
   counted = omega (arith, marked.counted, unit_count-next program k i here);
   starts = starts;
@@ -44,7 +44,7 @@ more_marked program k i flags total few here marked = record {
     some = units_of-some i
 
     inside : total < length flags
-    inside = omega (arith, some, few, marked.len, next_inside program k i total here marked.counted)
+    inside = omega (arith, some, bounded, marked.len, next_inside program k i total here marked.counted)
 
     at : instruction_at program total ≡ Some i
     at = ap (instruction_at program) marked.counted ∙ starts_at program k i here
@@ -82,7 +82,7 @@ more_marked program k i flags total few here marked = record {
 
 -- where all instructions are marked, the program is laid out
 pub all_marked : (program : List Insn) (k : ℕ) (flags : List Bool) (total : ℕ) → unit_count program ≤ PROGRAM_UNITS → length program ≤ k → Marked program k flags total → IsLaidOut program flags total
-all_marked program k flags total few all marked = record { starts = starts; counted = counted; few = few }
+all_marked program k flags total bounded all marked = record { starts = starts; counted = counted; bounded = bounded }
   where
     counted : total ≡ unit_count program
     counted = marked.counted ∙ ap unit_count (take_all k program all)

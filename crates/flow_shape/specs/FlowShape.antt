@@ -47,24 +47,24 @@ abbrev pub IsWellShaped : List Insn → Type 0
 IsWellShaped program = (fault : FlowFault) → HasFault program fault → ⊥
 
 -- the unit of the faulty instruction
-abbrev pub faulty_unit : FlowFault → ℕ
-faulty_unit (BackwardJump unit) = unit
-faulty_unit (JumpOut unit) = unit
-faulty_unit (JumpIntoWide unit) = unit
-faulty_unit (FallsOffEnd unit) = unit
+abbrev pub flow_fault_unit : FlowFault → ℕ
+flow_fault_unit (BackwardJump unit) = unit
+flow_fault_unit (JumpOut unit) = unit
+flow_fault_unit (JumpIntoWide unit) = unit
+flow_fault_unit (FallsOffEnd unit) = unit
 
 -- the number under which the fault is printed and sent
-abbrev pub number_of : FlowFault → ℕ
-number_of (BackwardJump unit) = 30
-number_of (JumpOut unit) = 31
-number_of (JumpIntoWide unit) = 32
-number_of (FallsOffEnd unit) = 33
+abbrev pub flow_fault_number : FlowFault → ℕ
+flow_fault_number (BackwardJump unit) = 30
+flow_fault_number (JumpOut unit) = 31
+flow_fault_number (JumpIntoWide unit) = 32
+flow_fault_number (FallsOffEnd unit) = 33
 
 -- the program has this fault, none at a lower unit, and at this unit none of a lesser number
-pub record IsFirstFault (program : List Insn) (fault : FlowFault) : Type 0 where
+pub record IsFirstFlowFault (program : List Insn) (fault : FlowFault) : Type 0 where
   pub has : HasFault program fault
   pub first : (other : FlowFault) → HasFault program other
-      → (faulty_unit fault < faulty_unit other) ⊎ ((faulty_unit fault ≡ faulty_unit other) × (number_of fault ≤ number_of other))
+      → (flow_fault_unit fault < flow_fault_unit other) ⊎ ((flow_fault_unit fault ≡ flow_fault_unit other) × (flow_fault_number fault ≤ flow_fault_number other))
 
 -- a jump at this unit goes forward, to a unit at which an instruction starts
 pub record Lands (program : List Insn) (unit : ℕ) (distance : ℤ) : Type 0 where

@@ -3,15 +3,15 @@ use Rattle.std.specs.Prelude.{ℕ, List, ◌++◌, codes}
 use Rattle.std.specs.Fmt.{decimal}
 use Rattle.flow_shape.specs.declared.fault.FlowFault.{FlowFault}
 use Rattle.flow_shape.specs.declared.fault.FlowFault.TheVariants.{BackwardJump, JumpOut, JumpIntoWide, FallsOffEnd}
-use Rattle.flow_shape.specs.FlowShape.{faulty_unit}
+use Rattle.flow_shape.specs.FlowShape.{flow_fault_unit}
 
 -- what is wrong
-abbrev pub reason_of : FlowFault → List ℕ
-reason_of (BackwardJump unit) = codes "a jump goes backward"
-reason_of (JumpOut unit) = codes "a jump leaves the program"
-reason_of (JumpIntoWide unit) = codes "a jump goes into a wide instruction"
-reason_of (FallsOffEnd unit) = codes "the last instruction is neither an exit nor a jump"
+abbrev pub flow_fault_reason : FlowFault → List ℕ
+flow_fault_reason (BackwardJump unit) = codes "a jump goes backward"
+flow_fault_reason (JumpOut unit) = codes "a jump leaves the program"
+flow_fault_reason (JumpIntoWide unit) = codes "a jump goes into a wide instruction"
+flow_fault_reason (FallsOffEnd unit) = codes "the last instruction is neither an exit nor a jump"
 
 -- and where
-abbrev pub message_of : FlowFault → List ℕ
-message_of fault = reason_of fault ++ codes " at unit " ++ decimal (faulty_unit fault)
+abbrev pub flow_fault_message : FlowFault → List ℕ
+flow_fault_message fault = flow_fault_reason fault ++ codes " at unit " ++ decimal (flow_fault_unit fault)

@@ -1,7 +1,7 @@
 //! Why a program's flow is refused.
 ghost use Rattle.std.specs.Prelude.{◌≡◌};
-ghost use Rattle.flow_shape.specs.FlowShape.{number_of, faulty_unit};
-ghost use Rattle.flow_shape.specs.Messages.{reason_of};
+ghost use Rattle.flow_shape.specs.FlowShape.{flow_fault_number, flow_fault_unit};
+ghost use Rattle.flow_shape.specs.Messages.{flow_fault_reason};
 
 use std::error::Error;
 use std::fmt;
@@ -22,7 +22,7 @@ pub enum FlowFault {
 impl FlowFault {
     /// The number under which this refusal is printed and sent.
     pub fn number(self) -> u8
-        ensures { result ≡ number_of self }
+        ensures { result ≡ flow_fault_number self }
     {
         match self {
             FlowFault::BackwardJump(_) => 30,
@@ -34,7 +34,7 @@ impl FlowFault {
 
     /// The unit of the faulty instruction, counted from 0.
     pub fn unit(self) -> usize
-        ensures { result ≡ faulty_unit self }
+        ensures { result ≡ flow_fault_unit self }
     {
         match self {
             FlowFault::BackwardJump(unit)
@@ -45,7 +45,7 @@ impl FlowFault {
     }
 
     fn reason(self) -> &'static str
-        ensures { result.now ≡ reason_of self }
+        ensures { result.now ≡ flow_fault_reason self }
     {
         match self {
             FlowFault::BackwardJump(_) => "a jump goes backward",
@@ -58,9 +58,9 @@ impl FlowFault {
 
 impl fmt::Display for FlowFault {
     ghost use Rattle.std.specs.Prelude.{Some};
-    ghost use Rattle.flow_shape.specs.Messages.{message_of};
+    ghost use Rattle.flow_shape.specs.Messages.{flow_fault_message};
 
-    ghost output = { λ fault. Some (message_of fault) };
+    ghost output = { λ fault. Some (flow_fault_message fault) };
 
     fn fmt<W: fmt::Write>(&self, f: &mut fmt::Formatter<W>) -> fmt::Result {
         write!(f, "{} at unit {}", self.reason(), self.unit())

@@ -1,7 +1,7 @@
 //! The test of a program's flow.
 ghost use Rattle.std.specs.Prelude.{◌≡◌, ◌↔◌, IsOk, IfOk, OnOk, IfErr};
 ghost use Rattle.bpf_model.specs.Program.{IsProgram};
-ghost use Rattle.flow_shape.specs.FlowShape.{IsWellShaped, IsFirstFault, IsForward};
+ghost use Rattle.flow_shape.specs.FlowShape.{IsWellShaped, IsFirstFlowFault, IsForward};
 
 use crate::fault::FlowFault;
 use crate::layout::Layout;
@@ -49,7 +49,7 @@ impl Shaped {
 fn find_fault(program: &[Insn]) -> Result<(), FlowFault>
     requires { IsProgram program.now }
     ensures ok { OnOk result (IsWellShaped program.now) }
-    ensures err { IfErr result (IsFirstFault program.now) }
+    ensures err { IfErr result (IsFirstFlowFault program.now) }
 {
     let layout = Layout::new(program);
     let mut unit = 0;
@@ -65,7 +65,7 @@ fn find_fault(program: &[Insn]) -> Result<(), FlowFault>
 pub fn shape(program: Program) -> Result<Shaped, FlowFault>
     ensures ok { IsOk result ↔ IsWellShaped program }
     ensures same { IfOk result (λ s. s ≡ program) }
-    ensures first_fault { IfErr result (λ fault. IsFirstFault program fault) }
+    ensures first_fault { IfErr result (λ fault. IsFirstFlowFault program fault) }
 {
     find_fault(program.instructions())?;
     Ok(Shaped { program })

@@ -109,6 +109,3 @@ impl<V> Drop for Known<V> {
 unsafe impl<V> Send for Known<V> {}
 
 unsafe impl<V> Sync for Known<V> {}
-
-#[cfg(test)]
-mod tests;

@@ -4,7 +4,7 @@ use Rattle.std.specs.Prelude.{◌↔◌, IsErrOf}
 use Rattle.atomic_methods.specs.Hashes.{IsStripeCount}
 use Rattle.atomic_methods.specs.declared.fault.OpenFault.{OpenFault}
 use Rattle.atomic_methods.specs.declared.fault.OpenFault.TheVariants.{BadStripes, NoMemory}
-use Rattle.map_server.specs.declared.alone.Alone.{Alone}
+use Rattle.sessions.specs.declared.alone.Alone.{Alone}
 use Rattle.map_server.specs.Executions.{IsBadCount}
 
 pub is_no_bad_count : (stripes count : ℕ) (result : Result Alone OpenFault) → count ≡ stripes → (IsErrOf result BadStripes → ⊥)

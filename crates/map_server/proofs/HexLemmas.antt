@@ -3,7 +3,7 @@ use Rattle.std.proofs.Common.{◌≡◌, ℕ, List, [], ◌∷◌, ◌++◌, Non
 use Rattle.std.specs.Prelude.{IsSome}
 use Rattle.std.specs.List.{flat_map, AllByRecursion}
 use Rattle.std.proofs.lemmas.List.Concat.{flat_map-append}
-use Rattle.map_server.specs.Hex.{Piece, blank, pair, IsPiece, IsBlank, digit_of, text_of, bytes_of, HasNoPiece, SpellsBytes}
+use Rattle.map_server.specs.Hex.{Piece, blank, pair, IsPiece, IsBlank, digit_of, piece_text, piece_bytes, HasNoPiece, SpellsBytes}
 
 ArePieces-push : (pieces : List Piece) (piece : Piece) → AllByRecursion IsPiece pieces → IsPiece piece → AllByRecursion IsPiece (pieces ++ piece ∷ [])
 ArePieces-push [] piece all fits = (fits, tt)
@@ -14,16 +14,16 @@ flat_map-push : (f : Piece → List ℕ) (pieces : List Piece) (piece : Piece) �
 flat_map-push f pieces piece = flat_map-append f pieces (piece ∷ []) ∙ ap (λ l. flat_map f pieces ++ l) (append-nil (f piece))
 
 -- one more piece goes to the front that was read
-pub front_takes_piece : (all front rest after bytes read more : List ℕ) (piece : Piece) → all ≡ front ++ rest → SpellsBytes front bytes → IsPiece piece → rest ≡ text_of piece ++ after
-    → read ≡ bytes_of piece → more ≡ bytes ++ read → (x : List ℕ) × (all ≡ x ++ after) × SpellsBytes x more
+pub front_takes_piece : (all front rest after bytes read more : List ℕ) (piece : Piece) → all ≡ front ++ rest → SpellsBytes front bytes → IsPiece piece → rest ≡ piece_text piece ++ after
+    → read ≡ piece_bytes piece → more ≡ bytes ++ read → (x : List ℕ) × (all ≡ x ++ after) × SpellsBytes x more
 front_takes_piece all front rest after bytes read more piece parts spelled fits e r m = (
-  front ++ text_of piece,
-  parts ∙ ap (λ l. front ++ l) e ∙ sym (append_assoc front (text_of piece) after),
+  front ++ piece_text piece,
+  parts ∙ ap (λ l. front ++ l) e ∙ sym (append_assoc front (piece_text piece) after),
   (
     spelled.0 ++ piece ∷ [],
     ArePieces-push spelled.0 piece spelled.1 fits,
-    ap (λ l. l ++ text_of piece) spelled.2 ∙ sym (flat_map-push text_of spelled.0 piece),
-    m ∙ ap (λ l. bytes ++ l) r ∙ ap (λ l. l ++ bytes_of piece) spelled.3 ∙ sym (flat_map-push bytes_of spelled.0 piece),
+    ap (λ l. l ++ piece_text piece) spelled.2 ∙ sym (flat_map-push piece_text spelled.0 piece),
+    m ∙ ap (λ l. bytes ++ l) r ∙ ap (λ l. l ++ piece_bytes piece) spelled.3 ∙ sym (flat_map-push piece_bytes spelled.0 piece),
   ),
 )
 
@@ -41,11 +41,11 @@ blank_or_digit c d is_blank is_digit e =
     absurd (let wrong = rw none at bad in cc)
 
 -- where no piece begins what is left, the pieces of the whole text are those that were read
-same_pieces : (ps qs : List Piece) (rest : List ℕ) → AllByRecursion IsPiece ps → AllByRecursion IsPiece qs → HasNoPiece rest → flat_map text_of ps ≡ flat_map text_of qs ++ rest → (ps ≡ qs) × (rest ≡ [])
+same_pieces : (ps qs : List Piece) (rest : List ℕ) → AllByRecursion IsPiece ps → AllByRecursion IsPiece qs → HasNoPiece rest → flat_map piece_text ps ≡ flat_map piece_text qs ++ rest → (ps ≡ qs) × (rest ≡ [])
 same_pieces [] [] rest are be none e = (refl, sym e)
 same_pieces [] (blank d ∷ qs) rest are be none e = absurd cc
 same_pieces [] (pair h l ∷ qs) rest are be none e = absurd cc
-same_pieces (p ∷ ps) [] rest are be none e = absurd (none p (flat_map text_of ps) are.0 (sym e))
+same_pieces (p ∷ ps) [] rest are be none e = absurd (none p (flat_map piece_text ps) are.0 (sym e))
 same_pieces (blank c ∷ ps) (blank d ∷ qs) rest are be none e =
     let first : c ≡ d = cc in
     let others = same_pieces ps qs rest are.1 be.1 none (cc) in
@@ -61,6 +61,6 @@ same_pieces (pair h l ∷ ps) (pair h' l' ∷ qs) rest are be none e =
 -- hex text spells what was read of it before the first place where no piece begins, and that is all of it
 pub read_once : (text front rest a b : List ℕ) → SpellsBytes text a → SpellsBytes front b → text ≡ front ++ rest → HasNoPiece rest → (b ≡ a) × (rest ≡ [])
 read_once text front rest a b whole part parts none =
-    let e : flat_map text_of whole.0 ≡ flat_map text_of part.0 ++ rest = sym whole.2 ∙ parts ∙ ap (λ l. l ++ rest) part.2 in
+    let e : flat_map piece_text whole.0 ≡ flat_map piece_text part.0 ++ rest = sym whole.2 ∙ parts ∙ ap (λ l. l ++ rest) part.2 in
     let same = same_pieces whole.0 part.0 rest whole.1 part.1 none e in
-    (part.3 ∙ ap (flat_map bytes_of) (sym same.0) ∙ sym whole.3, same.1)
+    (part.3 ∙ ap (flat_map piece_bytes) (sym same.0) ∙ sym whole.3, same.1)

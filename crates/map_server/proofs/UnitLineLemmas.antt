@@ -3,7 +3,7 @@ use Rattle.std.proofs.Common.{◌≡◌, ℕ, zero, suc, ◌+◌, ◌*◌, ◌/�
 use Rattle.std.specs.Prelude.{Option, IsSome, unwrap_or, if◌then◌else◌, nat_eq}
 use Rattle.std.specs.List.{All, flat_map}
 use Rattle.std.proofs.lemmas.List.Elements.{All-head, All-tail}
-use Rattle.map_server.specs.Hex.{Piece, blank, pair, IsPiece, IsBlank, digit_of, bytes_of, SpellsBytes}
+use Rattle.map_server.specs.Hex.{Piece, blank, pair, IsPiece, IsBlank, digit_of, piece_bytes, SpellsBytes}
 use Rattle.map_server.specs.Reports.{digit, separator, unit_lines_from}
 
 -- the lines of what is left begin with the next byte's
@@ -55,7 +55,7 @@ byte_pair byte = pair (digit (byte / 16)) (digit (byte % 16))
 IsPiece-byte_pair : (byte : ℕ) → byte < 256 → IsPiece (byte_pair byte)
 IsPiece-byte_pair byte small = (is_digit (byte / 16) (omega arith), is_digit (byte % 16) (omega arith))
 
-bytes_of-byte_pair : (byte : ℕ) → byte < 256 → bytes_of (byte_pair byte) ≡ byte ∷ []
+bytes_of-byte_pair : (byte : ℕ) → byte < 256 → piece_bytes (byte_pair byte) ≡ byte ∷ []
 bytes_of-byte_pair byte small =
     let high = digit_value (byte / 16) (omega arith) in
     let low = digit_value (byte % 16) (omega arith) in
@@ -72,5 +72,5 @@ unit_lines_from-spells k (byte ∷ bytes) small =
       byte_pair byte ∷ blank (separator k) ∷ rest.0,
       (IsPiece-byte_pair byte first, (newline_or_blank (nat_eq (k % 8) 7), rest.1)),
       ap (λ (l : List ℕ). digit (byte / 16) ∷ digit (byte % 16) ∷ separator k ∷ l) rest.2,
-      ap (λ (l : List ℕ). byte ∷ l) rest.3 ∙ sym (ap (λ (l : List ℕ). l ++ flat_map bytes_of rest.0) (bytes_of-byte_pair byte first)),
+      ap (λ (l : List ℕ). byte ∷ l) rest.3 ∙ sym (ap (λ (l : List ℕ). l ++ flat_map piece_bytes rest.0) (bytes_of-byte_pair byte first)),
     )

@@ -17,7 +17,7 @@ use Rattle.clap.specs.Walk.{answers_to, finished, nothing_held, settled, walk, w
 use Rattle.clap.specs.declared.ArgMatches.{ArgMatches}
 use Rattle.clap.specs.declared.Error.{Error}
 use Rattle.clap.proofs.OnLiterals.{clap_on_literals}
-use Rattle.map_server.specs.CommandLine.{bpfmap, size_in, IsName, NamesOne}
+use Rattle.map_server.specs.CommandLine.{bpfmap, spelled_size, IsName, NamesOne}
 
 -- the text that is given, or else another
 pub text_or : (o : Option (Bor (List ℕ))) (other : Bor (List ℕ)) → (unwrap_or o other).now ≡ unwrap_or (option_map (λ text. text.now) o) other.now
@@ -44,10 +44,10 @@ digits_are (d ∷ ds) e = let parts = both _ _ e in (ltb-true _ _ parts.0, digit
 
 -- the size in a text is what std reads of it
 size_in-parsed : (text : List ℕ) → IsNumeral 10 (without_leading_plus text) → digits_value 10 (without_leading_plus text) < 2 ^ 16
-    → size_in text ≡ Some (digits_value 10 (without_leading_plus text))
+    → spelled_size text ≡ Some (digits_value 10 (without_leading_plus text))
 size_in-parsed text numeral small = rw (lt-ltb _ _ numeral.0, are_digits _ numeral.1, lt-ltb _ _ small) refl
 
-size_in-unparsed : (text : List ℕ) → (IsNumeral 10 (without_leading_plus text) × (digits_value 10 (without_leading_plus text) < 2 ^ 16) → ⊥) → size_in text ≡ None
+size_in-unparsed : (text : List ℕ) → (IsNumeral 10 (without_leading_plus text) × (digits_value 10 (without_leading_plus text) < 2 ^ 16) → ⊥) → spelled_size text ≡ None
 size_in-unparsed text bad =
     let digits = without_leading_plus text in
     elim (cases_is (is_numeral digits && nat_lt (digits_value 10 digits) (2 ^ 16))) [
@@ -61,11 +61,11 @@ size_in-unparsed text bad =
 module _ {E : Type 0} (gives : List ℕ → Result ℕ E → Type 0) (parses : (text : List ℕ) (r : Result ℕ E) → gives text r → ParsesUnsigned 16 10 text r) where
   -- a getter that reads texts so answers the size
   pub size_read : (o : Option (List ℕ)) (r : Option ℕ) (default : ℕ) → (o ≡ None → r ≡ None) → ((text : List ℕ) → o ≡ Some text → ReadsOne gives text r)
-      → unwrap_or r default ≡ unwrap_or (option_and_then size_in o) default
+      → unwrap_or r default ≡ unwrap_or (option_and_then spelled_size o) default
   size_read None r default none value = ap (λ x. unwrap_or x default) (none refl)
   size_read (Some text) r default none value = go r (value text refl)
     where
-      go : (r : Option ℕ) → ReadsOne gives text r → unwrap_or r default ≡ unwrap_or (size_in text) default
+      go : (r : Option ℕ) → ReadsOne gives text r → unwrap_or r default ≡ unwrap_or (spelled_size text) default
       go (Some size) h =
           let ((numeral, small), is) = parses text (Ok size) h in
           ap (λ x. unwrap_or x default) (sym (size_in-parsed text numeral small ∙ ap Some (sym is)))

@@ -47,21 +47,21 @@ bpfmap = record {
 }
 
 -- the size that a text spells; clap refuses the other texts
-abbrev pub size_in : List ℕ → Option ℕ
-size_in text =
+abbrev pub spelled_size : List ℕ → Option ℕ
+spelled_size text =
     let digits = without_leading_plus text in
     if is_numeral digits && nat_lt (digits_value 10 digits) (2 ^ 16) then Some (digits_value 10 digits) else None
 
 -- the size that an option gives, or its default
-abbrev pub size_of : List Row → List ℕ → ℕ → ℕ
-size_of rows name default = unwrap_or (option_and_then size_in (one_of name rows)) default
+abbrev pub given_size : List Row → List ℕ → ℕ → ℕ
+given_size rows name default = unwrap_or (option_and_then spelled_size (one_of name rows)) default
 
 abbrev pub sizes_of : List Row → Sizes
 sizes_of rows = record {
-  key = size_of rows (codes "key") 64;
-  old = size_of rows (codes "old") 256;
-  arg = size_of rows (codes "arg") 256;
-  result = size_of rows (codes "result") 256;
+  key = given_size rows (codes "key") 64;
+  old = given_size rows (codes "old") 256;
+  arg = given_size rows (codes "arg") 256;
+  result = given_size rows (codes "result") 256;
 }
 
 -- a key that is not given is empty; an old value or an argument that is not given is absent
@@ -80,7 +80,7 @@ IsNamed found (Run sizes texts) = (rows : List Row) × (found ≡ Some (codes "r
 -- the command reports on all of the input; or a session is asked for, over a table of so many stripes
 abbrev pub IsAsked : Option (List ℕ × List Row) → Task → Type 0
 IsAsked found (Report command) = IsNamed found command
-IsAsked found (Exec stripes) = (rows : List Row) × (found ≡ Some (codes "exec", rows)) × (stripes ≡ size_of rows (codes "stripes") 16)
+IsAsked found (Exec stripes) = (rows : List Row) × (found ≡ Some (codes "exec", rows)) × (stripes ≡ given_size rows (codes "stripes") 16)
 
 -- what the words ask for, of which the first is the program's name: clap finds no fault in them, and they name this
 abbrev pub Asks : List (List ℕ) → Task → Type 0

@@ -14,9 +14,9 @@ use Rattle.bpf_assembler.specs.Faults as assemble
 use Rattle.bpf_assembler.specs.declared.fault.AsmFault.TheVariants as asm_faults
 use Rattle.bpf_decode.specs.Faults as decode
 use Rattle.bpf_decode.specs.declared.fault.DecodeFault.TheVariants as decode_faults
-use Rattle.map_server.specs.Admissions.{IsAdmitted, IsRefused}
-use Rattle.map_server.specs.declared.admission.AdmissionFault.{AdmissionFault}
-use Rattle.map_server.specs.declared.admission.AdmissionFault.TheVariants.{Decode, Flow, Verify}
+use Rattle.sessions.specs.Admissions.{IsAdmitted, IsNotAdmitted}
+use Rattle.sessions.specs.declared.admission.AdmissionFault.{AdmissionFault}
+use Rattle.sessions.specs.declared.admission.AdmissionFault.TheVariants.{Decode, Flow, Verify}
 use Rattle.map_server.specs.Hex.{SpellsBytes, IsFault}
 use Rattle.map_server.specs.declared.bpfmap.words.RunTexts.{RunTexts}
 use Rattle.map_server.specs.declared.bpfmap.words.Command.{Command}
@@ -58,7 +58,7 @@ pub record SpellsInput (texts : RunTexts) (input : Input) : Type 0 where
 
 -- why bytes spell no program at all
 abbrev pub IsUndecoded : List ℕ → AdmissionFault → Type 0
-IsUndecoded bytes (Decode fault) = (fault ≡ decode_faults.NoMemory) ⊎ decode.IsFirstFault bytes fault
+IsUndecoded bytes (Decode fault) = (fault ≡ decode_faults.NoMemory) ⊎ decode.IsFirstDecodeFault bytes fault
 IsUndecoded bytes (Flow fault) = ⊥
 IsUndecoded bytes (Verify fault) = ⊥
 
@@ -76,7 +76,7 @@ IsBytesRefused text refusal = IsHexRefused text IsUndecoded refusal
 
 -- why it spells no program that is found safe with these sizes
 abbrev pub IsProgramRefused : List ℕ → Sizes → Refusal → Type 0
-IsProgramRefused text sizes refusal = IsHexRefused text (λ bytes fault. IsRefused bytes sizes fault) refusal
+IsProgramRefused text sizes refusal = IsHexRefused text (λ bytes fault. IsNotAdmitted bytes sizes fault) refusal
 
 -- why the text spells no value of at most this many bytes
 abbrev pub IsTextRefused : List ℕ → ℕ → Refusal → Type 0
@@ -105,9 +105,9 @@ IsRunReport sizes texts text Accepted = ⊥
 IsRunReport sizes texts text (Answered answer) =
     (program : List Insn) × SpellsSafe text sizes program
     × ((input : Input) × SpellsInput texts input × Fits input sizes × Means program sizes input answer)
-IsRunReport sizes texts text (Unfit window) =
+IsRunReport sizes texts text (Unfit part) =
     (program : List Insn) × SpellsSafe text sizes program
-    × ((input : Input) × SpellsInput texts input × (first_unfit input sizes ≡ Err window))
+    × ((input : Input) × SpellsInput texts input × (first_unfit input sizes ≡ Err part))
 IsRunReport sizes texts text (Refused refusal) =
     IsProgramRefused text sizes refusal ⊎ ((program : List Insn) × SpellsSafe text sizes program × IsInputRefused texts refusal)
 
@@ -115,7 +115,7 @@ abbrev pub IsCheckReport : Sizes → List ℕ → Report → Type 0
 IsCheckReport sizes text (Text printed) = ⊥
 IsCheckReport sizes text Accepted = (program : List Insn) × SpellsSafe text sizes program
 IsCheckReport sizes text (Answered answer) = ⊥
-IsCheckReport sizes text (Unfit window) = ⊥
+IsCheckReport sizes text (Unfit part) = ⊥
 IsCheckReport sizes text (Refused refusal) = IsProgramRefused text sizes refusal
 
 -- why a text is no program's
@@ -123,7 +123,7 @@ abbrev pub IsAsmRefused : List ℕ → Refusal → Type 0
 IsAsmRefused text TooLong = ⊥
 IsAsmRefused text NoMemory = Unit {0}
 IsAsmRefused text (NotHex place) = ⊥
-IsAsmRefused text (Assemble fault) = (fault ≡ asm_faults.NoMemory) ⊎ assemble.IsFirstFault text fault
+IsAsmRefused text (Assemble fault) = (fault ≡ asm_faults.NoMemory) ⊎ assemble.IsFirstAsmFault text fault
 IsAsmRefused text (Program fault) = ⊥
 
 -- the bytes of the program whose text it is are printed, in hex that spells the program
@@ -133,7 +133,7 @@ IsAsmReport text (Text printed) =
     × ((bytes : List ℕ) × Spells bytes program × (printed.items ≡ unit_lines bytes))
 IsAsmReport text Accepted = ⊥
 IsAsmReport text (Answered answer) = ⊥
-IsAsmReport text (Unfit window) = ⊥
+IsAsmReport text (Unfit part) = ⊥
 IsAsmReport text (Refused refusal) = IsAsmRefused text refusal
 
 -- the text of the program that hex text spells is printed
@@ -141,7 +141,7 @@ abbrev pub IsDisasmReport : List ℕ → Report → Type 0
 IsDisasmReport text (Text printed) = (program : List Insn) × SpellsProgram text program × IsTextOf printed.items program
 IsDisasmReport text Accepted = ⊥
 IsDisasmReport text (Answered answer) = ⊥
-IsDisasmReport text (Unfit window) = ⊥
+IsDisasmReport text (Unfit part) = ⊥
 IsDisasmReport text (Refused refusal) = IsBytesRefused text refusal
 
 -- the command reads a program's text, and this is no text

@@ -13,9 +13,9 @@ use Rattle.map_server.specs.declared.bpfmap.ending.Ending.{Ending}
 use Rattle.map_server.specs.declared.bpfmap.ending.Ending.TheVariants.{Reported, Refused, NoMemory, BadStripes, Shown, Faulty, Unread, NotUtf8}
 use Rattle.map_server.specs.CommandLine.{Asks, bpfmap}
 use Rattle.map_server.specs.Commands.{IsReport, IsUnreadable}
-use Rattle.map_server.specs.Devices.{SourceState, SinkState, Takes, TakesPart, TakesIfItCan}
+use Rattle.sessions.specs.Devices.{SourceState, SinkState, TakesBytes, TakesPart, TakesIfItCan}
 use Rattle.map_server.specs.Meanings.{IsMeaning}
-use Rattle.map_server.specs.Reports.{IsNoRefusal, text_of, status_of}
+use Rattle.map_server.specs.Reports.{IsNoRefusal, report_text, status_of}
 
 -- ---- what comes of the words and the input
 
@@ -41,14 +41,14 @@ IsRefusalOf text refusal Unread = ⊥
 IsRefusalOf text refusal NotUtf8 = ⊥
 
 -- the report is this refusal, and the line is its meaning
-abbrev pub IsRefused : Command → SourceState → SourceState → Refusal → List ℕ → Type 0
-IsRefused command input input' refusal line =
+abbrev pub ReportsRefusal : Command → SourceState → SourceState → Refusal → List ℕ → Type 0
+ReportsRefusal command input input' refusal line =
     IsReported command input input' (report.Refused refusal) × IfSome input.left (λ text. IsMeaning text refusal line)
 
 -- what the command comes to on this input; memory may be refused to the meaning of another refusal
 abbrev pub EndsCommand : Command → SourceState → SourceState → Ending → Type 0
 EndsCommand command input input' (Reported report) = IsReported command input input' report × IsNoRefusal report
-EndsCommand command input input' (Refused refusal meaning) = IsRefused command input input' refusal (string_bytes meaning)
+EndsCommand command input input' (Refused refusal meaning) = ReportsRefusal command input input' refusal (string_bytes meaning)
 EndsCommand command input input' NoMemory = IsReported command input input' (report.Refused OutOfMemory)
 EndsCommand command input input' BadStripes = ⊥
 EndsCommand command input input' (Shown text) = ⊥
@@ -57,8 +57,8 @@ EndsCommand command input input' Unread = FailsToRead command input input'
 EndsCommand command input input' NotUtf8 = ⊥
 
 -- the kind asks for help or for the version
-abbrev pub IsRequest : ErrorKind → Type 0
-IsRequest kind = (kind ≡ DisplayHelp) ⊎ (kind ≡ DisplayVersion)
+abbrev pub IsHelpOrVersion : ErrorKind → Type 0
+IsHelpOrVersion kind = (kind ≡ DisplayHelp) ⊎ (kind ≡ DisplayVersion)
 
 -- what words come to that ask for no command, by clap's kind of error; memory may be refused to its text
 abbrev pub EndsWords : List (List ℕ) → Ending → Type 0
@@ -66,8 +66,8 @@ EndsWords words (Reported report) = ⊥
 EndsWords words (Refused refusal meaning) = ⊥
 EndsWords words NoMemory = Unit {0}
 EndsWords words BadStripes = ⊥
-EndsWords words (Shown text) = (kind : ErrorKind) × IsAmong kind (fault_of bpfmap words) × IsRequest kind
-EndsWords words (Faulty text) = (kind : ErrorKind) × IsAmong kind (fault_of bpfmap words) × (IsRequest kind → ⊥)
+EndsWords words (Shown text) = (kind : ErrorKind) × IsAmong kind (fault_of bpfmap words) × IsHelpOrVersion kind
+EndsWords words (Faulty text) = (kind : ErrorKind) × IsAmong kind (fault_of bpfmap words) × (IsHelpOrVersion kind → ⊥)
 EndsWords words Unread = ⊥
 EndsWords words NotUtf8 = ⊥
 
@@ -89,26 +89,26 @@ outputs output errors = record { output = output; errors = errors }
 -- the text is on standard output, with this status; or the write failed, of which standard error is told
 abbrev pub Prints : List ℕ → ℕ → Outputs → Outputs → ℕ → Type 0
 Prints text status old new result =
-    ((result ≡ status) × Takes old.output new.output text × (new.errors ≡ old.errors))
+    ((result ≡ status) × TakesBytes old.output new.output text × (new.errors ≡ old.errors))
     ⊎ ((result ≡ 3) × TakesPart old.output new.output text × TakesIfItCan old.errors new.errors (codes "failed write\n"))
 
 -- a refusal's line is on standard output, with status 1, and its meaning on standard error, as far as that can be; or
 -- the write failed, of which alone standard error is told
-abbrev pub Refuses : List ℕ → List ℕ → Outputs → Outputs → ℕ → Type 0
-Refuses line meaning old new result =
-    ((result ≡ 1) × Takes old.output new.output line × TakesIfItCan old.errors new.errors meaning)
+abbrev pub PrintsRefusal : List ℕ → List ℕ → Outputs → Outputs → ℕ → Type 0
+PrintsRefusal line meaning old new result =
+    ((result ≡ 1) × TakesBytes old.output new.output line × TakesIfItCan old.errors new.errors meaning)
     ⊎ ((result ≡ 3) × TakesPart old.output new.output line × TakesIfItCan old.errors new.errors (codes "failed write\n"))
 
 -- the text is on standard error, as far as that can be, and nothing more on standard output
 abbrev pub Warns : List ℕ → ℕ → Outputs → Outputs → ℕ → Type 0
 Warns text status old new result = (result ≡ status) × (new.output ≡ old.output) × TakesIfItCan old.errors new.errors text
 
-abbrev pub Tells : Ending → Outputs → Outputs → ℕ → Type 0
-Tells (Reported report) old new result = Prints (text_of report) (status_of report) old new result
-Tells (Refused refusal meaning) old new result = Refuses (text_of (report.Refused refusal)) (string_bytes meaning) old new result
-Tells NoMemory old new result = Refuses (text_of (report.Refused OutOfMemory)) (codes "no memory\n") old new result
-Tells BadStripes old new result = Refuses (codes "refused 50 at 0\n") (codes "not a number of stripes\n") old new result
-Tells (Shown text) old new result = Prints (string_bytes text) 0 old new result
-Tells (Faulty text) old new result = Warns (string_bytes text) 2 old new result
-Tells Unread old new result = Warns (codes "failed read\n") 3 old new result
-Tells NotUtf8 old new result = Warns (codes "error: the command line is not UTF-8\n") 2 old new result
+abbrev pub TellsEnding : Ending → Outputs → Outputs → ℕ → Type 0
+TellsEnding (Reported report) old new result = Prints (report_text report) (status_of report) old new result
+TellsEnding (Refused refusal meaning) old new result = PrintsRefusal (report_text (report.Refused refusal)) (string_bytes meaning) old new result
+TellsEnding NoMemory old new result = PrintsRefusal (report_text (report.Refused OutOfMemory)) (codes "no memory\n") old new result
+TellsEnding BadStripes old new result = PrintsRefusal (codes "refused 50 at 0\n") (codes "not a number of stripes\n") old new result
+TellsEnding (Shown text) old new result = Prints (string_bytes text) 0 old new result
+TellsEnding (Faulty text) old new result = Warns (string_bytes text) 2 old new result
+TellsEnding Unread old new result = Warns (codes "failed read\n") 3 old new result
+TellsEnding NotUtf8 old new result = Warns (codes "error: the command line is not UTF-8\n") 2 old new result

@@ -23,22 +23,22 @@ abbrev pub IsPiece : Piece → Type 0
 IsPiece (blank c) = IsBlank c
 IsPiece (pair high low) = IsSome (digit_of high) × IsSome (digit_of low)
 
-abbrev pub text_of : Piece → List ℕ
-text_of (blank c) = c ∷ []
-text_of (pair high low) = high ∷ low ∷ []
+abbrev pub piece_text : Piece → List ℕ
+piece_text (blank c) = c ∷ []
+piece_text (pair high low) = high ∷ low ∷ []
 
 -- blank space stands for no byte, a pair for one
-abbrev pub bytes_of : Piece → List ℕ
-bytes_of (blank c) = []
-bytes_of (pair high low) = (16 * unwrap_or (digit_of high) 0 + unwrap_or (digit_of low) 0) ∷ []
+abbrev pub piece_bytes : Piece → List ℕ
+piece_bytes (blank c) = []
+piece_bytes (pair high low) = (16 * unwrap_or (digit_of high) 0 + unwrap_or (digit_of low) 0) ∷ []
 
 -- the text is blank space and pairs, and these are the pairs' bytes
 abbrev pub SpellsBytes : List ℕ → List ℕ → Type 0
-SpellsBytes text bytes = (pieces : List Piece) × AllByRecursion IsPiece pieces × (text ≡ flat_map text_of pieces) × (bytes ≡ flat_map bytes_of pieces)
+SpellsBytes text bytes = (pieces : List Piece) × AllByRecursion IsPiece pieces × (text ≡ flat_map piece_text pieces) × (bytes ≡ flat_map piece_bytes pieces)
 
 -- neither blank space nor a pair begins the text
 abbrev pub HasNoPiece : List ℕ → Type 0
-HasNoPiece text = (piece : Piece) (rest : List ℕ) → IsPiece piece → text ≢ text_of piece ++ rest
+HasNoPiece text = (piece : Piece) (rest : List ℕ) → IsPiece piece → text ≢ piece_text piece ++ rest
 
 -- the place after the longest front that is hex text: bytes are left there, and no piece begins
 pub record IsFault (text : List ℕ) (place : ℕ) : Type 0 where

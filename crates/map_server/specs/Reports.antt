@@ -2,11 +2,11 @@
 use Rattle.std.specs.Prelude.{ℕ, suc, ◌/◌, ◌%◌, List, [], ◌∷◌, ◌++◌, slice_index, codes, decimal, nat_eq, if◌then◌else◌}
 use Rattle.std.specs.List.{flat_map}
 use Rattle.bpf_model.specs.declared.input.Answer.TheVariants.{Nothing, Bytes}
-use Rattle.bpf_model.specs.declared.input.Window.{Window}
-use Rattle.bpf_model.specs.declared.input.Window.TheVariants.{Key, Old, Arg}
+use Rattle.bpf_model.specs.declared.input.InputPart.{InputPart}
+use Rattle.bpf_model.specs.declared.input.InputPart.TheVariants.{Key, Old, Arg}
 use Rattle.map_server.specs.declared.bpfmap.report.Report.{Report}
 use Rattle.map_server.specs.declared.bpfmap.report.Report.TheVariants.{Text, Accepted, Answered, Unfit, Refused}
-use Rattle.map_server.specs.Refusals.{number_of, place_of}
+use Rattle.map_server.specs.Refusals.{refusal_number, place_of}
 
 -- a digit of a byte, in lower case
 abbrev pub digit : ℕ → ℕ
@@ -28,38 +28,38 @@ unit_lines_from index (byte ∷ bytes) = digit (byte / 16) ∷ digit (byte % 16)
 abbrev pub unit_lines : List ℕ → List ℕ
 unit_lines bytes = unit_lines_from 0 bytes
 
-abbrev pub name_of : Window → List ℕ
-name_of Key = codes "key"
-name_of Old = codes "old"
-name_of Arg = codes "arg"
+abbrev pub part_name : InputPart → List ℕ
+part_name Key = codes "key"
+part_name Old = codes "old"
+part_name Arg = codes "arg"
 
 -- what is printed is one line
 abbrev pub IsLine : Report → Type 0
 IsLine (Text text) = ⊥
 IsLine Accepted = Unit {0}
 IsLine (Answered answer) = Unit {0}
-IsLine (Unfit window) = Unit {0}
+IsLine (Unfit part) = Unit {0}
 IsLine (Refused refusal) = Unit {0}
 
 abbrev pub IsNoRefusal : Report → Type 0
 IsNoRefusal (Text text) = Unit {0}
 IsNoRefusal Accepted = Unit {0}
 IsNoRefusal (Answered answer) = Unit {0}
-IsNoRefusal (Unfit window) = Unit {0}
+IsNoRefusal (Unfit part) = Unit {0}
 IsNoRefusal (Refused refusal) = ⊥
 
 -- what is printed, each line with its newline
-abbrev pub text_of : Report → List ℕ
-text_of (Text text) = text.items
-text_of Accepted = codes "accepted\n"
-text_of (Answered Nothing) = codes "nothing\n"
-text_of (Answered (Bytes value)) = codes "bytes" ++ flat_map spaced value ++ codes "\n"
-text_of (Unfit window) = codes "unfit " ++ name_of window ++ codes "\n"
-text_of (Refused refusal) = codes "refused " ++ decimal (number_of refusal) ++ codes " at " ++ decimal (place_of refusal) ++ codes "\n"
+abbrev pub report_text : Report → List ℕ
+report_text (Text text) = text.items
+report_text Accepted = codes "accepted\n"
+report_text (Answered Nothing) = codes "nothing\n"
+report_text (Answered (Bytes value)) = codes "bytes" ++ flat_map spaced value ++ codes "\n"
+report_text (Unfit part) = codes "unfit " ++ part_name part ++ codes "\n"
+report_text (Refused refusal) = codes "refused " ++ decimal (refusal_number refusal) ++ codes " at " ++ decimal (place_of refusal) ++ codes "\n"
 
 abbrev pub status_of : Report → ℕ
 status_of (Text text) = 0
 status_of Accepted = 0
 status_of (Answered answer) = 0
-status_of (Unfit window) = 1
+status_of (Unfit part) = 1
 status_of (Refused refusal) = 1

@@ -2,7 +2,7 @@
 use crate::programs::{NINE, NOTHING, ONE, THREE, TWO, sizes, summing, verified};
 use atomic_methods::{Call, OpenFault, Reply, Striped, is_stripe_count, stripe_of};
 use bins::{Counts, hash_of};
-use bpf_model::{Key, NoMemory, TooLong, Value, Window};
+use bpf_model::{InputPart, Key, NoMemory, TooLong, Value};
 use std::alloc::Global;
 use std::test::Fail;
 use verifier::Verified;
@@ -13,7 +13,7 @@ enum Wanted {
     Nothing,
     Bytes(&'static [u8]),
     Done(bool),
-    Unfit(Window),
+    Unfit(InputPart),
 }
 
 // One of the programs.
@@ -45,7 +45,7 @@ fn is_wanted(reply: &Reply, wanted: Wanted) -> bool {
         (Reply::Value(None), Wanted::Nothing) => true,
         (Reply::Value(Some(value)), Wanted::Bytes(bytes)) => value.as_slice() == bytes,
         (Reply::Done(done), Wanted::Done(wanted)) => *done == wanted,
-        (Reply::Unfit(window), Wanted::Unfit(wanted)) => *window == wanted,
+        (Reply::Unfit(part), Wanted::Unfit(wanted)) => *part == wanted,
         _ => false,
     }
 }

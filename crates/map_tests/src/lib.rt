@@ -12,4 +12,6 @@ mod programs;
 #[cfg(test)]
 mod registry;
 #[cfg(test)]
+mod seats;
+#[cfg(test)]
 mod walks;

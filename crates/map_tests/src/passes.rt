@@ -82,6 +82,7 @@ fn next_pass(map: &StripedMap, passes: &mut Vec<Pass>) -> Result<Pass, Fail>
     ensures pass { IfOk result (λ pass. pass.map ≡ map.now) }
     ensures all { All (λ pass. pass.map ≡ map.now) passes.new.items }
 {
+    // For the clauses alone, which name the map.
     let _ = map;
     match passes.pop() {
         Some(pass) => Ok(pass),

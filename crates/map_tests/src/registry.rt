@@ -14,9 +14,15 @@ fn program_of(alloc: Global, key: u16) -> Option<Verified> {
     accepted(alloc, NOTHING, sizes(key, 0, 0, 0))
 }
 
-// The declared size of the key, of the program under this number.
+// The declared size of the key, of the program under this number, which `get` and `find` lend.
 fn key_size(registry: &Registry, number: u64) -> Option<u16> {
-    registry.get(number).map(|program| program.sizes().key)
+    let key = registry.get(number)?.sizes().key;
+    let (token, program) = registry.find(number)?;
+    if token.number() == number && program.sizes().key == key {
+        Some(key)
+    } else {
+        None
+    }
 }
 
 #[test]

@@ -1,5 +1,5 @@
 -- What a token says: of which registry it is, and which program it stands for, under which number.
-use Rattle.std.specs.Prelude.{◌≡◌, ℕ}
+use Rattle.std.specs.Prelude.{ℕ}
 use Rattle.boxcar.specs.Table.{Shows}
 use Rattle.verifier.specs.Checked.{Checked}
 use Rattle.program_registry.specs.declared.registry.Registry.{Registry}
@@ -12,12 +12,5 @@ IsOf registry token = Shows registry.programs token.place
 abbrev pub program_of : ProgramToken → Checked
 program_of token = token.place.value
 
-abbrev pub number_of : ProgramToken → ℕ
-number_of token = token.place.index
-
--- the registry gave a token with this number for this program
-pub record IsRegistered (registry : Registry) (number : ℕ) (program : Checked) : Type 0 where
-  pub token : ProgramToken
-  pub mine : IsOf registry token
-  pub number_is : number_of token ≡ number
-  pub program_is : program_of token ≡ program
+abbrev pub token_number : ProgramToken → ℕ
+token_number token = token.place.index

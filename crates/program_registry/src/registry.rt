@@ -1,6 +1,6 @@
 //! The registry, and the tokens that it gives for programs.
 ghost use Rattle.std.specs.Prelude.{◌≡◌, IfSome, IfOk, IfErr};
-ghost use Rattle.program_registry.specs.Tokens.{IsOf, IsRegistered, program_of, number_of};
+ghost use Rattle.program_registry.specs.Tokens.{IsOf, program_of, token_number};
 
 use boxcar::{Pushed, Vec};
 use bpf_model::NoMemory;
@@ -44,12 +44,20 @@ impl Registry {
         }
     }
 
-    /// The program under this number, if one was registered. Takes no memory. Never waits.
-    pub fn get(&self, number: u64) -> Option<&Verified>
-        ensures found { IfSome result (λ program. IsRegistered self.now number program.now) }
+    /// The program under this number, if one was registered, with a token of it. Takes no memory. Never waits.
+    pub fn find(&self, number: u64) -> Option<(ProgramToken, &Verified)>
+        ensures token { IfSome result (λ found. IsOf self.now found.0 × (token_number found.0 ≡ number)) }
+        ensures program { IfSome result (λ found. found.1.now ≡ program_of found.0) }
     {
         let place = self.programs.witness(number as usize)?;
-        Some(self.programs.value(&place))
+        let program = self.programs.value(&place);
+        Some((ProgramToken { place }, program))
+    }
+
+    /// The program that `find` lends, without its token: so no clause says which one it is. Takes no memory. Never waits.
+    pub fn get(&self, number: u64) -> Option<&Verified> {
+        let (_, program) = self.find(number)?;
+        Some(program)
     }
 
     /// The program that was registered with the token. Takes no memory. Never waits.
@@ -63,7 +71,7 @@ impl Registry {
     /// Two tokens of one number stand for one program. Takes no memory. Never waits.
     pub fn agrees(&self, first: &ProgramToken, second: &ProgramToken)
         requires mine { IsOf self.now first.now × IsOf self.now second.now }
-        requires same_number { number_of first.now ≡ number_of second.now }
+        requires same_number { token_number first.now ≡ token_number second.now }
         ensures same_program { program_of first.now ≡ program_of second.now }
     {
         self.programs.agrees(&first.place, &second.place);
@@ -73,7 +81,7 @@ impl Registry {
 impl ProgramToken {
     /// The program's number.
     pub fn number(&self) -> u64
-        ensures value { result ≡ number_of self.now }
+        ensures value { result ≡ token_number self.now }
     {
         self.place.index() as u64
     }

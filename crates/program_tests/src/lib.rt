@@ -1,10 +1,9 @@
-//! Tests of values that no command prints: words, ranges, instructions and operations, by the public calls of the crates below.
+//! Tests of values that no command prints: laws of words, ranges and operations, by the public calls of the crates below.
 #![tactic(auto)]
 
 #[cfg(test)]
-mod decoding;
-#[cfg(test)]
 mod model;
+pub mod plain;
 #[cfg(test)]
 mod ranges;
 #[cfg(test)]

@@ -1,14 +1,9 @@
-//! The operations that bind a program's instructions, and what each fault is printed as.
-ghost use Rattle.std.specs.Prelude.{◌≤◌};
-
+//! The operations that bind a program's instructions.
 use bound_operations::Operation;
-use bpf_model::{AccessSize, Insn, JumpOp, LoadKind, Operand, Program, Reg, Sizes, Width};
+use bpf_decode::decode;
+use bpf_model::Sizes;
 use flow_shape::shape;
 use std::test::Fail;
-use verifier::VerifyFault::{
-    BadExitValue, NoMemory, NotAWindow, OutOfWindow, ReadOnly, SizesTooLarge, UnwrittenBytes,
-    UnwrittenRegister, WriteToR10,
-};
 use verifier::verify;
 
 const SIZES: Sizes = Sizes {
@@ -18,140 +13,44 @@ const SIZES: Sizes = Sizes {
     result: 16,
 };
 
-fn reg(number: u8) -> Reg
-    requires { number ≤ 10 }
-{
-    match Reg::new(number) {
-        Some(register) => register,
-        None => unreachable!(),
-    }
-}
-
-fn wide(dst: u8, value: u64) -> Insn
-    requires { dst ≤ 10 }
-{
-    Insn::Wide {
-        dst: reg(dst),
-        value,
-    }
-}
-
-fn load(dst: u8, src: u8, offset: i16) -> Insn
-    requires dst { dst ≤ 10 }
-    requires src { src ≤ 10 }
-{
-    Insn::Load {
-        kind: LoadKind::DoubleWord,
-        dst: reg(dst),
-        src: reg(src),
-        offset,
-    }
-}
-
-fn store(dst: u8, offset: i16, src: u8) -> Insn
-    requires dst { dst ≤ 10 }
-    requires src { src ≤ 10 }
-{
-    Insn::Store {
-        size: AccessSize::DoubleWord,
-        dst: reg(dst),
-        src: Operand::Register(reg(src)),
-        offset,
-    }
-}
-
 /// A jump passes over a wide instruction, and no run comes to the last two.
-fn code() -> [Insn; 9] {
-    let jump = Insn::Branch {
-        test: JumpOp::Eq,
-        width: Width::W64,
-        dst: reg(1),
-        src: Operand::Immediate(5),
-        distance: 2,
-    };
-    let nothing = Insn::Mov {
-        width: Width::W64,
-        dst: reg(0),
-        src: Operand::Immediate(-1),
-    };
-    [
-        load(1, 2, 0),
-        wide(6, 7),
-        jump,
-        wide(7, 9),
-        store(10, -8, 6),
-        nothing,
-        Insn::Exit,
-        load(0, 5, 0),
-        Insn::Exit,
-    ]
-}
+const CODE: [u8; 88] = [
+    0x79, 0x21, 0, 0, 0, 0, 0, 0, // ldd r1, [r2+0]
+    0x18, 0x06, 0, 0, 7, 0, 0, 0, 0, 0, 0, 0, 0, 0, 0, 0, // wide r6, 7
+    0x15, 0x01, 2, 0, 5, 0, 0, 0, // jeq64 r1, 5, +2
+    0x18, 0x07, 0, 0, 9, 0, 0, 0, 0, 0, 0, 0, 0, 0, 0, 0, // wide r7, 9
+    0x7b, 0x6a, 0xf8, 0xff, 0, 0, 0, 0, // stxd [r10-8], r6
+    0xb7, 0, 0, 0, 0xff, 0xff, 0xff, 0xff, // mov64 r0, -1
+    0x95, 0, 0, 0, 0, 0, 0, 0, // exit
+    0x79, 0x50, 0, 0, 0, 0, 0, 0, // ldd r0, [r5+0]
+    0x95, 0, 0, 0, 0, 0, 0, 0, // exit
+];
 
 #[test]
 fn operations_have_windows_and_targets(rt: HostRuntime) -> Result<(), Fail> {
-    let mut instructions = Vec::new(rt.alloc());
-    instructions.extend_from_slice(&code())?;
-    let program = Program::new(instructions).ok_or("a program has 1 to 512 units")?;
+    let program = decode(rt.alloc(), &CODE).map_err(|_| "its bytes have no fault")?;
     let shaped = shape(program).map_err(|_| "its flow has no fault")?;
     let verified = verify(rt.alloc(), shaped, SIZES).map_err(|_| "it is safe")?;
     let operations = verified.operations();
-    let old_word = matches!(
-        operations.first(),
-        Some(Operation::LoadDoubleWordOld { .. })
-    );
+    let old_word = matches!(operations.first(), Some(Operation::LoadDoubleWordOld(..)));
     assert!(rt; old_word, "where the register pointed before the load");
     let fourth = matches!(
         operations.get(2),
-        Some(Operation::JumpEq64Immediate { target: 4, .. })
+        Some(Operation::JumpEq64Immediate(_, 4, _))
     );
     assert!(rt; fourth, "the place of the target");
     let stack_word = matches!(
         operations.get(4),
-        Some(Operation::StoreDoubleWordStackRegister { .. })
+        Some(Operation::StoreDoubleWordStackRegister(..))
     );
     assert!(rt; stack_word, "the stack");
     let nothing = matches!(
         operations.get(5),
-        Some(Operation::MovImmediate { imm: u64::MAX, .. })
+        Some(Operation::MovImmediate(_, u64::MAX))
     );
     assert!(rt; nothing, "the sign is extended");
     let never = matches!(operations.get(7), Some(Operation::Exit));
     assert!(rt; never, "an instruction that no run comes to");
     assert_eq!(rt; operations.len(), 9);
-    Ok(())
-}
-
-#[test]
-fn refusals_print_their_reason_and_unit(rt: HostRuntime) -> Result<(), Fail> {
-    let alloc = rt.alloc();
-    let rows = [
-        (
-            UnwrittenRegister(0),
-            "a register is read that was not written at unit 0",
-        ),
-        (WriteToR10(1), "r10 is written at unit 1"),
-        (
-            NotAWindow(2),
-            "the address does not point into a window at unit 2",
-        ),
-        (
-            OutOfWindow(3),
-            "the access does not lie in the window at unit 3",
-        ),
-        (ReadOnly(10), "the window may only be read at unit 10"),
-        (
-            UnwrittenBytes(5),
-            "bytes are read that were not all written at unit 5",
-        ),
-        (
-            BadExitValue(511),
-            "r0 may be neither -1 nor a number of written bytes at unit 511",
-        ),
-        (SizesTooLarge, "a declared size is above its limit"),
-        (NoMemory, "no memory"),
-    ];
-    for (fault, message) in rows {
-        assert_eq!(rt; format!(in alloc; "{fault}")?.as_str(), message);
-    }
     Ok(())
 }

@@ -3,3 +3,4 @@ mod faults;
 mod memory;
 mod refused_memory;
 mod sessions;
+mod turns;

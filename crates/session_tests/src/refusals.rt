@@ -4,7 +4,10 @@ use bpf_decode::DecodeFault;
 use flow_shape::FlowFault;
 use map_server::{AdmissionFault, Refusal};
 use std::test::Fail;
-use verifier::VerifyFault;
+use verifier::VerifyFault::{
+    self, BadExitValue, NotAWindow, OutOfWindow, ReadOnly, SizesTooLarge, UnwrittenBytes,
+    UnwrittenRegister, WriteToR10,
+};
 
 #[test]
 fn refusals_are_told_in_words(rt: HostRuntime) -> Result<(), Fail> {
@@ -24,11 +27,42 @@ fn refusals_are_told_in_words(rt: HostRuntime) -> Result<(), Fail> {
             Refusal::Program(AdmissionFault::Flow(FlowFault::JumpOut(5))),
             "a jump leaves the program at unit 5",
         ),
-        (
-            Refusal::Program(AdmissionFault::Verify(VerifyFault::WriteToR10(1))),
-            "r10 is written at unit 1",
-        ),
     ] {
+        assert_eq!(rt; format!(in rt.alloc(); "{refusal}")?.as_str(), text);
+    }
+    Ok(())
+}
+
+#[test]
+fn faults_of_the_verifier_are_told_in_words(rt: HostRuntime) -> Result<(), Fail> {
+    for (fault, text) in [
+        (
+            UnwrittenRegister(0),
+            "a register is read that was not written at unit 0",
+        ),
+        (WriteToR10(1), "r10 is written at unit 1"),
+        (
+            NotAWindow(2),
+            "the address does not point into a window at unit 2",
+        ),
+        (
+            OutOfWindow(3),
+            "the access does not lie in the window at unit 3",
+        ),
+        (ReadOnly(10), "the window may only be read at unit 10"),
+        (
+            UnwrittenBytes(5),
+            "bytes are read that were not all written at unit 5",
+        ),
+        (
+            BadExitValue(511),
+            "r0 may be neither -1 nor a number of written bytes at unit 511",
+        ),
+        (SizesTooLarge, "a declared size is above its limit"),
+        (VerifyFault::NoMemory, "no memory"),
+    ] {
+        assert_eq!(rt; format!(in rt.alloc(); "{fault}")?.as_str(), text);
+        let refusal = Refusal::Program(AdmissionFault::Verify(fault));
         assert_eq!(rt; format!(in rt.alloc(); "{refusal}")?.as_str(), text);
     }
     Ok(())

@@ -6,8 +6,8 @@ use Rattle.std.proofs.lemmas.Bool.{cases_Bool, and_parts, and_cases, or_cases, e
 use Rattle.std.proofs.lemmas.Bool.Decides.{nat_tests}
 use Rattle.std.proofs.Math.ListN.{get_or-eq_default}
 use Rattle.std.proofs.Math.Nat.{pow-succ'}
-use Rattle.bpf_model.specs.declared.region.Region.{Region}
-use Rattle.bpf_model.specs.declared.region.Region.TheVariants.{Key, Old, Arg, Result, Stack}
+use Rattle.bpf_model.specs.declared.window.Window.{Window}
+use Rattle.bpf_model.specs.declared.window.Window.TheVariants.{Key, Old, Arg, Result, Stack}
 use Rattle.bpf_model.specs.declared.accesses.AccessSize.{AccessSize}
 use Rattle.bpf_model.specs.declared.accesses.AccessSize.TheVariants.{Byte, HalfWord, Word, DoubleWord}
 use Rattle.bpf_model.specs.Words.{IsWord, word_of, bytes_of}
@@ -91,22 +91,22 @@ word_of-bytes_of (suc n) w small =
     omega (arith, rest)
 
 -- where an access that is at one place touches a byte, its address is one of the access's
-touched : (a : Access) (place : ℕ) (r : Region) (i : ℕ) → MayBeAt a place → a.least ≡ a.greatest → touches a r i ≡ true → (first_address a.region + place ≤ first_address r + i) × (first_address r + i < first_address a.region + place + byte_count a.size)
-touched a place r i at alone e =
-    let window : first_address a.region ≡ first_address r = grind (arith, nat_tests, e) in
+touched : (a : Access) (distance : ℕ) (r : Window) (i : ℕ) → MayBeAt a distance → a.least ≡ a.greatest → touches a r i ≡ true → (first_address a.window + distance ≤ first_address r + i) × (first_address r + i < first_address a.window + distance + byte_count a.size)
+touched a distance r i at alone e =
+    let window : first_address a.window ≡ first_address r = grind (arith, nat_tests, e) in
     let low : a.least ≤ i = grind (arith, nat_tests, e) in
     let high : i < a.greatest + byte_count a.size = grind (arith, nat_tests, e) in
     (omega (arith, at.least, at.greatest), omega (arith, at.least, at.greatest))
 
 -- the stack is behind the other windows
-below_stack : (r : Region) → is_stack r ≡ false → first_address r + kept_bytes r ≤ first_address Stack
+below_stack : (r : Window) → is_stack r ≡ false → first_address r + kept_bytes r ≤ first_address Stack
 below_stack Key e = omega arith
 below_stack Old e = omega arith
 below_stack Arg e = omega arith
 below_stack Result e = omega arith
 below_stack Stack e = absurd cc
 
-stack_first : (r : Region) → is_stack r ≡ true → first_address r ≡ first_address Stack
+stack_first : (r : Window) → is_stack r ≡ true → first_address r ≡ first_address Stack
 stack_first Key e = absurd cc
 stack_first Old e = absurd cc
 stack_first Arg e = absurd cc
@@ -114,77 +114,77 @@ stack_first Result e = absurd cc
 stack_first Stack e = refl
 
 -- an access that touches no byte of a slot is before it or behind it
-apart : (a : Access) (place slot : ℕ) → MayBeAt a place → touches_slot a slot ≡ false → (first_address a.region + place + byte_count a.size ≤ first_address Stack + 8 * slot) ⊎ (first_address Stack + 8 * slot + 8 ≤ first_address a.region + place)
-apart a place slot at e =
-    elim (cases_Bool (is_stack a.region)) [
+apart : (a : Access) (distance slot : ℕ) → MayBeAt a distance → touches_slot a slot ≡ false → (first_address a.window + distance + byte_count a.size ≤ first_address Stack + 8 * slot) ⊎ (first_address Stack + 8 * slot + 8 ≤ first_address a.window + distance)
+apart a distance slot at e =
+    elim (cases_Bool (is_stack a.window)) [
       | inl here ↦
-          let window = stack_first a.region here in
+          let window = stack_first a.window here in
           elim (and_cases (nat_lt a.least (8 * slot + 8)) (nat_lt (8 * slot) (a.greatest + byte_count a.size)) (rw here at e)) [
             | inl first ↦ let behind : 8 * slot + 8 ≤ a.least = ltb-false a.least (8 * slot + 8) first in inr (omega (arith, at.least))
             | inr second ↦ let before : a.greatest + byte_count a.size ≤ 8 * slot = ltb-false (8 * slot) (a.greatest + byte_count a.size) second in inl (omega (arith, at.greatest))
           ]
-      | inr elsewhere ↦ inl (omega (arith, below_stack a.region elsewhere, at.greatest, a.inside))
+      | inr elsewhere ↦ inl (omega (arith, below_stack a.window elsewhere, at.greatest, a.inside))
     ]
 
 -- what is known of an access that fills a slot
 record Fills (a : Access) (slot : ℕ) : Type 0 where
-  window : first_address a.region ≡ first_address Stack
+  window : first_address a.window ≡ first_address Stack
   alone : a.least ≡ a.greatest
   whole : byte_count a.size ≡ 8
   first : a.least ≡ 8 * slot
 
 filled : (a : Access) (slot : ℕ) → fills_slot a slot ≡ true → Fills a slot
 filled a slot e =
-    let stack = and_parts (is_stack a.region) (nat_eq a.least a.greatest && (nat_eq (byte_count a.size) 8 && nat_eq a.least (8 * slot))) e in
+    let stack = and_parts (is_stack a.window) (nat_eq a.least a.greatest && (nat_eq (byte_count a.size) 8 && nat_eq a.least (8 * slot))) e in
     let alone = and_parts (nat_eq a.least a.greatest) (nat_eq (byte_count a.size) 8 && nat_eq a.least (8 * slot)) stack.1 in
     let whole = and_parts (nat_eq (byte_count a.size) 8) (nat_eq a.least (8 * slot)) alone.1 in
     record {
-      window = stack_first a.region stack.0;
+      window = stack_first a.window stack.0;
       alone = eqb-true a.least a.greatest alone.0;
       whole = eqb-true (byte_count a.size) 8 whole.0;
       first = eqb-true a.least (8 * slot) whole.1;
     }
 
 -- a store that fills a slot leaves its word there
-slot_filled : (a : Access) (memory : Partial) (place slot w : ℕ) → MayBeAt a place → Fills a slot → IsWord w → slot_word (with_bytes memory (first_address a.region + place) (bytes_of (byte_count a.size) w)) slot ≡ Some w
-slot_filled a memory place slot w at fills word =
-    let address : first_address a.region + place ≡ first_address Stack + 8 * slot = omega (arith, fills.window, fills.alone, fills.first, at.least, at.greatest) in
+slot_filled : (a : Access) (memory : Partial) (distance slot w : ℕ) → MayBeAt a distance → Fills a slot → IsWord w → slot_word (with_bytes memory (first_address a.window + distance) (bytes_of (byte_count a.size) w)) slot ≡ Some w
+slot_filled a memory distance slot w at fills word =
+    let address : first_address a.window + distance ≡ first_address Stack + 8 * slot = omega (arith, fills.window, fills.alone, fills.first, at.least, at.greatest) in
     let here = first_address Stack + 8 * slot in
     let read : bytes_at (with_bytes memory here (bytes_of 8 w)) here 8 ≡ Some (bytes_of 8 w) = subst (λ (n : ℕ). bytes_at (with_bytes memory here (bytes_of 8 w)) here n ≡ Some (bytes_of 8 w)) (length-bytes_of 8 w) (bytes_at-written memory here (bytes_of 8 w)) in
     let back : word_of (bytes_of 8 w) ≡ w = word_of-bytes_of 8 w word in
     rw (address, fills.whole) (ap (option_map word_of) read ∙ ap Some back)
 
 -- a store that touches no byte of a slot leaves it as it was
-slot_kept : (a : Access) (memory : Partial) (place slot w : ℕ) → MayBeAt a place → touches_slot a slot ≡ false → slot_word (with_bytes memory (first_address a.region + place) (bytes_of (byte_count a.size) w)) slot ≡ slot_word memory slot
-slot_kept a memory place slot w at e =
-    let from = first_address a.region + place in
+slot_kept : (a : Access) (memory : Partial) (distance slot w : ℕ) → MayBeAt a distance → touches_slot a slot ≡ false → slot_word (with_bytes memory (first_address a.window + distance) (bytes_of (byte_count a.size) w)) slot ≡ slot_word memory slot
+slot_kept a memory distance slot w at e =
+    let from = first_address a.window + distance in
     let bs = bytes_of (byte_count a.size) w in
     let len = length-bytes_of (byte_count a.size) w in
     ap (option_map word_of) (bytes_at-agree memory (with_bytes memory from bs) (first_address Stack + 8 * slot) 8 (λ i below.
-    with_bytes-outside memory from bs (first_address Stack + 8 * slot + i) (elim (apart a place slot at e) [ inl before ↦ inr (omega (arith, len, before)) | inr behind ↦ inl (omega (arith, behind)) ])))
+    with_bytes-outside memory from bs (first_address Stack + 8 * slot + i) (elim (apart a distance slot at e) [ inl before ↦ inr (omega (arith, len, before)) | inr behind ↦ inl (omega (arith, behind)) ])))
 
 -- a frame with an access's marks and its value describes the memory after the store
 pub store_describes : (f g : Frame) (a : Access) (x : RegValue) → Marks f a g → Spills f a x g → DescribesStore f a x g
-store_describes f g a x marks spills memory place w at stands d =
+store_describes f g a x marks spills memory distance w at stands d =
     let bs = bytes_of (byte_count a.size) w in
-    let from = first_address a.region + place in
+    let from = first_address a.window + distance in
     let len = length-bytes_of (byte_count a.size) w in
     record {
       written = λ r i e. with_bytes-present memory from bs (first_address r + i) (elim (or_cases (nat_eq a.least a.greatest && touches a r i) (is_written f r i) (sym (marks r i) ∙ e)) [
         | inl new ↦
             let parts = and_parts (nat_eq a.least a.greatest) (touches a r i) new in
-            let h = touched a place r i at (eqb-true a.least a.greatest parts.0) parts.1 in
+            let h = touched a distance r i at (eqb-true a.least a.greatest parts.0) parts.1 in
             inl (h.0, omega (arith, len, h.1))
         | inr old ↦ inr (d.written r i old)
       ]);
       spilled = λ slot y e. elim (chosen (fills_slot a slot) (Some x) (cond (touches_slot a slot) None (spilled_in f slot)) (Some y) (sym (spills slot) ∙ e)) [
         | inl new ↦
             let same : x ≡ y = some_same x y new.1 in
-            let there = slot_filled a memory place slot w at (filled a slot new.0) (stands_word x w stands) in
+            let there = slot_filled a memory distance slot w at (filled a slot new.0) (stands_word x w stands) in
             subst (λ (o : Option ℕ). StandsFor y o) (sym there) (subst (λ (v : RegValue). StandsFor v (Some w)) same stands)
         | inr other ↦ elim (chosen (touches_slot a slot) None (spilled_in f slot) (Some y) other.1) [
           | inl lost ↦ let no : None ≡ Some y = lost.1 in absurd cc
-          | inr kept ↦ subst (λ (o : Option ℕ). StandsFor y o) (sym (slot_kept a memory place slot w at kept.0)) (d.spilled slot y kept.1)
+          | inr kept ↦ subst (λ (o : Option ℕ). StandsFor y o) (sym (slot_kept a memory distance slot w at kept.0)) (d.spilled slot y kept.1)
         ]
       ];
     }
@@ -216,10 +216,10 @@ bytes_small memory a n bs h e i =
     split i n = grind arith
 
 -- bytes that a frame has as written can be loaded
-load_finds : (f : Frame) (a : Access) (memory : Partial) (place : ℕ) → DescribesMemory f memory → AreWritten f a → MayBeAt a place → (bs : List ℕ) × (bytes_at memory (first_address a.region + place) (byte_count a.size) ≡ Some bs)
-load_finds f a memory place d written at = bytes_present memory (first_address a.region + place) (byte_count a.size) (λ i lt.
-    let same : first_address a.region + (place + i) ≡ first_address a.region + place + i = omega arith in
-    value_there (memory (first_address a.region + place + i)) (subst (λ (q : ℕ). IsSome (memory q)) same (d.written a.region (place + i) (written (place + i) (omega (arith, at.least)) (omega (arith, at.greatest))))))
+load_finds : (f : Frame) (a : Access) (memory : Partial) (distance : ℕ) → DescribesMemory f memory → AreWritten f a → MayBeAt a distance → (bs : List ℕ) × (bytes_at memory (first_address a.window + distance) (byte_count a.size) ≡ Some bs)
+load_finds f a memory distance d written at = bytes_present memory (first_address a.window + distance) (byte_count a.size) (λ i lt.
+    let same : first_address a.window + (distance + i) ≡ first_address a.window + distance + i = omega arith in
+    value_there (memory (first_address a.window + distance + i)) (subst (λ (q : ℕ). IsSome (memory q)) same (d.written a.window (distance + i) (written (distance + i) (omega (arith, at.least)) (omega (arith, at.greatest))))))
 
 loaded_whole : (size : AccessSize) (signed : Bool) (n : ℕ) → byte_count size ≡ 8 → loaded_word size signed n ≡ n
 loaded_whole Byte signed n e = absurd (omega arith)
@@ -228,11 +228,11 @@ loaded_whole Word signed n e = absurd (omega arith)
 loaded_whole DoubleWord signed n e = refl
 
 -- a load of all of a slot gives a word for which its value stands
-pub load_slot : (f : Frame) (a : Access) (memory : Partial) (place slot : ℕ) (x : RegValue) → fills_slot a slot ≡ true → spilled_in f slot ≡ Some x → AreWritten f a → DescribesMemory f memory → MayBeAt a place → ReadsAs memory (first_address a.region + place) a.size a.signed x
-load_slot f a memory place slot x e spilled written d at =
+pub load_slot : (f : Frame) (a : Access) (memory : Partial) (distance slot : ℕ) (x : RegValue) → fills_slot a slot ≡ true → spilled_in f slot ≡ Some x → AreWritten f a → DescribesMemory f memory → MayBeAt a distance → ReadsAs memory (first_address a.window + distance) a.size a.signed x
+load_slot f a memory distance slot x e spilled written d at =
     let fills = filled a slot e in
-    let found = load_finds f a memory place d written at in
-    let address : first_address a.region + place ≡ first_address Stack + 8 * slot = omega (arith, fills.window, fills.alone, fills.first, at.least, at.greatest) in
+    let found = load_finds f a memory distance d written at in
+    let address : first_address a.window + distance ≡ first_address Stack + 8 * slot = omega (arith, fills.window, fills.alone, fills.first, at.least, at.greatest) in
     let read : bytes_at memory (first_address Stack + 8 * slot) 8 ≡ Some found.0 = rw (address, fills.whole) at found.1 in
     let word : slot_word memory slot ≡ Some (word_of found.0) = ap (option_map word_of) read in
     let stands : StandsFor x (Some (word_of found.0)) = subst (λ (o : Option ℕ). StandsFor x o) word (d.spilled slot x spilled) in
@@ -243,10 +243,10 @@ load_slot f a memory place slot x e spilled written d at =
     }
 
 -- any load gives a word of a range of all that it may give
-pub load_range : (f : Frame) (a : Access) (memory : Partial) (place : ℕ) (r : Range) → ((n : ℕ) → n < 256 ^ byte_count a.size → IsIn (loaded_word a.size a.signed n) r) → HasBytes memory → AreWritten f a → DescribesMemory f memory → MayBeAt a place → ReadsAs memory (first_address a.region + place) a.size a.signed (Number r)
-load_range f a memory place r holds small written d at =
-    let found = load_finds f a memory place d written at in
-    let from = first_address a.region + place in
+pub load_range : (f : Frame) (a : Access) (memory : Partial) (distance : ℕ) (r : Range) → ((n : ℕ) → n < 256 ^ byte_count a.size → IsIn (loaded_word a.size a.signed n) r) → HasBytes memory → AreWritten f a → DescribesMemory f memory → MayBeAt a distance → ReadsAs memory (first_address a.window + distance) a.size a.signed (Number r)
+load_range f a memory distance r holds small written d at =
+    let found = load_finds f a memory distance d written at in
+    let from = first_address a.window + distance in
     let len = length-bytes_at memory from (byte_count a.size) found.0 found.1 in
     record {
       bytes = found.0;

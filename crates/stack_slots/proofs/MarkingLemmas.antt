@@ -6,8 +6,8 @@ use Rattle.std.proofs.lemmas.Bool.{cases_eq, eq-eqb, eqb-true, ne_eqb}
 use Rattle.std.proofs.lemmas.Bool.Decides.{nat_tests}
 use Rattle.std.proofs.lemmas.List.{get_or-set_other, get_or_default}
 use Rattle.std.proofs.lemmas.Grind.{get_or-set_at}
-use Rattle.bpf_model.specs.declared.region.Region.{Region}
-use Rattle.bpf_model.specs.declared.region.Region.TheVariants.{Key, Old, Arg, Result, Stack}
+use Rattle.bpf_model.specs.declared.window.Window.{Window}
+use Rattle.bpf_model.specs.declared.window.Window.TheVariants.{Key, Old, Arg, Result, Stack}
 use Rattle.bpf_model.specs.Accesses.{byte_count}
 use Rattle.bpf_model.specs.Memory.{Partial}
 use Rattle.stack_slots.specs.declared.access.Access.{Access}
@@ -42,7 +42,7 @@ abbrev pub empty_frame : Frame
 empty_frame = record { result = replicate RESULT_WORDS 0; stack = replicate STACK_WORDS 0; slots = None }
 
 -- an empty frame has no byte as written
-pub empty_written : (r : Region) (i : ℕ) → is_written empty_frame r i ≡ false
+pub empty_written : (r : Window) (i : ℕ) → is_written empty_frame r i ≡ false
 unfolding is_written
 empty_written Key i = refl
 empty_written Old i = refl
@@ -66,24 +66,24 @@ pub empty_values : NoneUnwritten empty_frame
 empty_values slot e = let no : None ≡ Some Unwritten = sym (empty_slots slot) ∙ e in cc
 
 -- marks of the result are set
-pub marks_result : (f : Frame) (words : List ℕ) (a : Access) (end : ℕ) → a.region ≡ Result → a.least ≡ a.greatest → end ≡ a.greatest + byte_count a.size
+pub marks_result : (f : Frame) (words : List ℕ) (a : Access) (end : ℕ) → a.window ≡ Result → a.least ≡ a.greatest → end ≡ a.greatest + byte_count a.size
     → ((i : ℕ) → is_marked words i ≡ ((nat_le a.least i && nat_lt i end) || is_marked f.result i)) → Marks f a (record { result = words; stack = f.stack; slots = f.slots })
 unfolding is_written
-marks_result f words a end region alone is each Key i = let same : nat_eq a.least a.greatest ≡ true = eq-eqb a.least a.greatest alone in rw (same, region) refl
-marks_result f words a end region alone is each Old i = let same : nat_eq a.least a.greatest ≡ true = eq-eqb a.least a.greatest alone in rw (same, region) refl
-marks_result f words a end region alone is each Arg i = let same : nat_eq a.least a.greatest ≡ true = eq-eqb a.least a.greatest alone in rw (same, region) refl
-marks_result f words a end region alone is each Result i = let same : nat_eq a.least a.greatest ≡ true = eq-eqb a.least a.greatest alone in rw (same, region) (rw is at (each i))
-marks_result f words a end region alone is each Stack i = let same : nat_eq a.least a.greatest ≡ true = eq-eqb a.least a.greatest alone in rw (same, region) refl
+marks_result f words a end window alone is each Key i = let same : nat_eq a.least a.greatest ≡ true = eq-eqb a.least a.greatest alone in rw (same, window) refl
+marks_result f words a end window alone is each Old i = let same : nat_eq a.least a.greatest ≡ true = eq-eqb a.least a.greatest alone in rw (same, window) refl
+marks_result f words a end window alone is each Arg i = let same : nat_eq a.least a.greatest ≡ true = eq-eqb a.least a.greatest alone in rw (same, window) refl
+marks_result f words a end window alone is each Result i = let same : nat_eq a.least a.greatest ≡ true = eq-eqb a.least a.greatest alone in rw (same, window) (rw is at (each i))
+marks_result f words a end window alone is each Stack i = let same : nat_eq a.least a.greatest ≡ true = eq-eqb a.least a.greatest alone in rw (same, window) refl
 
 -- marks of the stack are set
-pub marks_stack : (f : Frame) (words : List ℕ) (a : Access) (end : ℕ) → a.region ≡ Stack → a.least ≡ a.greatest → end ≡ a.greatest + byte_count a.size
+pub marks_stack : (f : Frame) (words : List ℕ) (a : Access) (end : ℕ) → a.window ≡ Stack → a.least ≡ a.greatest → end ≡ a.greatest + byte_count a.size
     → ((i : ℕ) → is_marked words i ≡ ((nat_le a.least i && nat_lt i end) || is_marked f.stack i)) → Marks f a (record { result = f.result; stack = words; slots = f.slots })
 unfolding is_written
-marks_stack f words a end region alone is each Key i = let same : nat_eq a.least a.greatest ≡ true = eq-eqb a.least a.greatest alone in rw (same, region) refl
-marks_stack f words a end region alone is each Old i = let same : nat_eq a.least a.greatest ≡ true = eq-eqb a.least a.greatest alone in rw (same, region) refl
-marks_stack f words a end region alone is each Arg i = let same : nat_eq a.least a.greatest ≡ true = eq-eqb a.least a.greatest alone in rw (same, region) refl
-marks_stack f words a end region alone is each Result i = let same : nat_eq a.least a.greatest ≡ true = eq-eqb a.least a.greatest alone in rw (same, region) refl
-marks_stack f words a end region alone is each Stack i = let same : nat_eq a.least a.greatest ≡ true = eq-eqb a.least a.greatest alone in rw (same, region) (rw is at (each i))
+marks_stack f words a end window alone is each Key i = let same : nat_eq a.least a.greatest ≡ true = eq-eqb a.least a.greatest alone in rw (same, window) refl
+marks_stack f words a end window alone is each Old i = let same : nat_eq a.least a.greatest ≡ true = eq-eqb a.least a.greatest alone in rw (same, window) refl
+marks_stack f words a end window alone is each Arg i = let same : nat_eq a.least a.greatest ≡ true = eq-eqb a.least a.greatest alone in rw (same, window) refl
+marks_stack f words a end window alone is each Result i = let same : nat_eq a.least a.greatest ≡ true = eq-eqb a.least a.greatest alone in rw (same, window) refl
+marks_stack f words a end window alone is each Stack i = let same : nat_eq a.least a.greatest ≡ true = eq-eqb a.least a.greatest alone in rw (same, window) (rw is at (each i))
 
 -- marks of both frames are met
 pub meets_marks : (f g h : Frame) → ((i : ℕ) → is_marked h.result i ≡ (is_marked f.result i && is_marked g.result i))
@@ -106,7 +106,7 @@ first_slot least slot = grind (arith, nat_tests)
 last_slot : (end slot : ℕ) → nat_lt (8 * slot) end ≡ nat_lt slot (div_ceil end 8)
 last_slot end slot = grind (arith, nat_tests)
 
-touched_slots : (a : Access) (end slot : ℕ) → is_stack a.region ≡ true → end ≡ div_ceil (a.greatest + byte_count a.size) 8 → touches_slot a slot ≡ (nat_le (a.least / 8) slot && nat_lt slot end)
+touched_slots : (a : Access) (end slot : ℕ) → is_stack a.window ≡ true → end ≡ div_ceil (a.greatest + byte_count a.size) 8 → touches_slot a slot ≡ (nat_le (a.least / 8) slot && nat_lt slot end)
 touched_slots a end slot stack is =
     rw (stack, is) (ap (λ (t : Bool). t && nat_lt (8 * slot) (a.greatest + byte_count a.size)) (first_slot a.least slot) ∙ ap (λ (t : Bool). nat_le (a.least / 8) slot && t) (last_slot (a.greatest + byte_count a.size) slot))
 
@@ -115,7 +115,7 @@ abbrev pub Forgets : Frame → Access → Values → ℕ → Type 0
 Forgets f a slots end = (i : ℕ) → slot_in slots i ≡ (if nat_le (a.least / 8) i && nat_lt i end then None else slot_in f.slots i)
 
 -- what is left where the access fills no slot
-pub forgotten : (f : Frame) (a : Access) (x : RegValue) (slots : Values) (end : ℕ) → is_stack a.region ≡ true → end ≡ div_ceil (a.greatest + byte_count a.size) 8 → Forgets f a slots end
+pub forgotten : (f : Frame) (a : Access) (x : RegValue) (slots : Values) (end : ℕ) → is_stack a.window ≡ true → end ≡ div_ceil (a.greatest + byte_count a.size) 8 → Forgets f a slots end
     → (slot : ℕ) → fills_slot a slot ≡ false → slot_in slots slot ≡ spilled_after f a x slot
 unfolding spilled_in
 forgotten f a x slots end stack is each slot none =
@@ -123,7 +123,7 @@ forgotten f a x slots end stack is each slot none =
     rw (none, touched) (each slot)
 
 -- and where it fills one
-pub stored : (f : Frame) (a : Access) (x : RegValue) (slots after : Values) (end s : ℕ) → is_stack a.region ≡ true → end ≡ div_ceil (a.greatest + byte_count a.size) 8 → Forgets f a slots end
+pub stored : (f : Frame) (a : Access) (x : RegValue) (slots after : Values) (end s : ℕ) → is_stack a.window ≡ true → end ≡ div_ceil (a.greatest + byte_count a.size) 8 → Forgets f a slots end
     → ((i : ℕ) → slot_in after i ≡ (if nat_eq i s then Some x else slot_in slots i)) → ((i : ℕ) → fills_slot a i ≡ nat_eq i s) → (slot : ℕ) → slot_in after slot ≡ spilled_after f a x slot
 stored f a x slots after end s stack is each kept fills slot =
     elim (cases_eq slot s) [
@@ -138,7 +138,7 @@ stored f a x slots after end s stack is each kept fills slot =
     ]
 
 -- slots do not matter to marks
-pub marks_alone : (f : Frame) (slots : Values) (r : Region) (i : ℕ) → is_written (record { result = f.result; stack = f.stack; slots = slots }) r i ≡ is_written f r i
+pub marks_alone : (f : Frame) (slots : Values) (r : Window) (i : ℕ) → is_written (record { result = f.result; stack = f.stack; slots = slots }) r i ≡ is_written f r i
 unfolding is_written
 marks_alone f slots Key i = refl
 marks_alone f slots Old i = refl
@@ -156,11 +156,11 @@ value_missing f a s None fills e = λ slot all. let here : slot ≡ s = eqb-true
 value_missing f a s (Some x) fills e = search rules
 
 -- marks that are set after slots were
-pub marks_after : (f g h : Frame) (a : Access) → ((r : Region) (i : ℕ) → is_written g r i ≡ is_written f r i) → Marks g a h → Marks f a h
+pub marks_after : (f g h : Frame) (a : Access) → ((r : Window) (i : ℕ) → is_written g r i ≡ is_written f r i) → Marks g a h → Marks f a h
 marks_after f g h a same marks r i = marks r i ∙ ap (λ (t : Bool). (nat_eq a.least a.greatest && touches a r i) || t) (same r i)
 
 -- none are set where the access may be at several places
-pub no_marks : (f g : Frame) (a : Access) → (a.least ≡ a.greatest → ⊥) → ((r : Region) (i : ℕ) → is_written g r i ≡ is_written f r i) → Marks f a g
+pub no_marks : (f g : Frame) (a : Access) → (a.least ≡ a.greatest → ⊥) → ((r : Window) (i : ℕ) → is_written g r i ≡ is_written f r i) → Marks f a g
 no_marks f g a several same r i = let apart : nat_eq a.least a.greatest ≡ false = ne_eqb a.least a.greatest several in rw apart (same r i)
 
 -- slots so far are joined

@@ -5,8 +5,8 @@ use Rattle.std.specs.Int.{w64}
 use Rattle.std.proofs.lemmas.Int.{ints, to_z-of_z}
 use Rattle.std.proofs.Math.Facts.{Fits-of_z}
 use Rattle.bpf_model.specs.Words.{IsWord, signed, sign_extended}
-use Rattle.bpf_model.specs.declared.region.Region.{Region}
-use Rattle.bpf_model.specs.declared.region.Region.TheVariants.{Key, Old, Arg, Result, Stack}
+use Rattle.bpf_model.specs.declared.window.Window.{Window}
+use Rattle.bpf_model.specs.declared.window.Window.TheVariants.{Key, Old, Arg, Result, Stack}
 use Rattle.bpf_model.specs.Memory.{first_address}
 use Rattle.bpf_model.specs.Step.{address_of}
 use Rattle.value_ranges.specs.declared.range.Range.{Range}
@@ -67,12 +67,12 @@ pub offset_near : (p : Pointer) (z : ℤ) → p.least ≤ℤ z → z ≤ℤ p.gr
 offset_near p z low high = record { least = omega (arith, ints, p.above, low); most = omega (arith, ints, p.below, high) }
 
 -- a pointer plus a number
-pub points_plus : (p q : Pointer) (r : Range) (x y : ℕ) → q.region ≡ p.region → q.least ≡ p.least +ℤ r.smin → q.greatest ≡ p.greatest +ℤ r.smax → PointsTo p x → IsIn y r → PointsTo q ((x + y) % 2 ^ 64)
+pub points_plus : (p q : Pointer) (r : Range) (x y : ℕ) → q.window ≡ p.window → q.least ≡ p.least +ℤ r.smin → q.greatest ≡ p.greatest +ℤ r.smax → PointsTo p x → IsIn y r → PointsTo q ((x + y) % 2 ^ 64)
 points_plus p q r x y same least greatest at lies = record {
   offset = offset;
   least = low;
   greatest = high;
-  address = sym (address_moved (first_address p.region) y at.offset offset (offset_near p at.offset at.least at.greatest) (offset_near q offset low high) lies.word refl ∙ ap (λ (k : ℕ). (k + y) % 2 ^ 64) (sym at.address)) ∙ ap (λ (w : Region). address_of (first_address w) offset) (sym same);
+  address = sym (address_moved (first_address p.window) y at.offset offset (offset_near p at.offset at.least at.greatest) (offset_near q offset low high) lies.word refl ∙ ap (λ (k : ℕ). (k + y) % 2 ^ 64) (sym at.address)) ∙ ap (λ (w : Window). address_of (first_address w) offset) (sym same);
 }
   where
     offset : ℤ
@@ -85,12 +85,12 @@ points_plus p q r x y same least greatest at lies = record {
     high = omega (arith, ints, greatest, at.greatest, lies.smax)
 
 -- a pointer less a number
-pub points_minus : (p q : Pointer) (r : Range) (x y : ℕ) → q.region ≡ p.region → q.least ≡ p.least -ℤ r.smax → q.greatest ≡ p.greatest -ℤ r.smin → PointsTo p x → IsIn y r → PointsTo q ((x + (2 ^ 64 - y)) % 2 ^ 64)
+pub points_minus : (p q : Pointer) (r : Range) (x y : ℕ) → q.window ≡ p.window → q.least ≡ p.least -ℤ r.smax → q.greatest ≡ p.greatest -ℤ r.smin → PointsTo p x → IsIn y r → PointsTo q ((x + (2 ^ 64 - y)) % 2 ^ 64)
 points_minus p q r x y same least greatest at lies = record {
   offset = offset;
   least = low;
   greatest = high;
-  address = sym (address_back (first_address p.region) y at.offset offset (offset_near p at.offset at.least at.greatest) (offset_near q offset low high) lies.word refl ∙ ap (λ (k : ℕ). (k + (2 ^ 64 - y)) % 2 ^ 64) (sym at.address)) ∙ ap (λ (w : Region). address_of (first_address w) offset) (sym same);
+  address = sym (address_back (first_address p.window) y at.offset offset (offset_near p at.offset at.least at.greatest) (offset_near q offset low high) lies.word refl ∙ ap (λ (k : ℕ). (k + (2 ^ 64 - y)) % 2 ^ 64) (sym at.address)) ∙ ap (λ (w : Window). address_of (first_address w) offset) (sym same);
 }
   where
     offset : ℤ
@@ -103,7 +103,7 @@ points_minus p q r x y same least greatest at lies = record {
     high = omega (arith, ints, greatest, at.greatest, lies.smin)
 
 -- the windows begin low
-pub first_small : (r : Region) → first_address r ≤ 0x50000
+pub first_small : (r : Window) → first_address r ≤ 0x50000
 first_small Key = omega arith
 first_small Old = omega arith
 first_small Arg = omega arith
@@ -119,10 +119,10 @@ signed_address first offset small near =
     omega (arith, ints, near.least, near.most)
 
 -- and lies between those of the least and the greatest
-pub points_within : (p : Pointer) (w : ℕ) (low high : ℤ) → low ≡ pos (first_address p.region) +ℤ p.least → high ≡ pos (first_address p.region) +ℤ p.greatest → PointsTo p w → IsWithinSigned w low high
+pub points_within : (p : Pointer) (w : ℕ) (low high : ℤ) → low ≡ pos (first_address p.window) +ℤ p.least → high ≡ pos (first_address p.window) +ℤ p.greatest → PointsTo p w → IsWithinSigned w low high
 points_within p w low high l h at =
     let near = offset_near p at.offset at.least at.greatest in
-    let reads : signed w ≡ pos (first_address p.region) +ℤ at.offset = ap signed at.address ∙ signed_address (first_address p.region) at.offset (first_small p.region) near in
+    let reads : signed w ≡ pos (first_address p.window) +ℤ at.offset = ap signed at.address ∙ signed_address (first_address p.window) at.offset (first_small p.window) near in
     record {
       word = rw at.address (omega arith);
       smin = omega (arith, ints, reads, l, at.least);

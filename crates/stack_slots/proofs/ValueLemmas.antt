@@ -5,8 +5,8 @@ use Rattle.std.specs.Int.{int_min, int_max}
 use Rattle.std.proofs.lemmas.Int.{ints}
 use Rattle.std.proofs.lemmas.Bool.{cases_Bool, eqb-true, eq-eqb}
 use Rattle.std.proofs.lemmas.Bool.Decides.{when_true, when_false}
-use Rattle.bpf_model.specs.declared.region.Region.{Region}
-use Rattle.bpf_model.specs.declared.region.Region.TheVariants.{Key, Old, Arg, Result, Stack}
+use Rattle.bpf_model.specs.declared.window.Window.{Window}
+use Rattle.bpf_model.specs.declared.window.Window.TheVariants.{Key, Old, Arg, Result, Stack}
 use Rattle.bpf_model.specs.Memory.{first_address}
 use Rattle.bpf_model.specs.Step.{address_of}
 use Rattle.value_ranges.specs.declared.range.Range.{Range}
@@ -70,20 +70,20 @@ range_over_second r s t w a b c d lies = record {
   smax = rw d (omega (arith, ints, max_second r.smax s.smax, lies.smax));
 }
 
-points_over_first : (p q t : Pointer) (w : ℕ) → IsPointer p.region (int_min p.least q.least) (int_max p.greatest q.greatest) t → PointsTo p w → PointsTo t w
+points_over_first : (p q t : Pointer) (w : ℕ) → IsPointer p.window (int_min p.least q.least) (int_max p.greatest q.greatest) t → PointsTo p w → PointsTo t w
 points_over_first p q t w is at = record {
   offset = at.offset;
   least = rw is.least_is (omega (arith, ints, min_first p.least q.least, at.least));
   greatest = rw is.greatest_is (omega (arith, ints, max_first p.greatest q.greatest, at.greatest));
-  address = at.address ∙ ap (λ (r : Region). address_of (first_address r) at.offset) (sym is.region_is);
+  address = at.address ∙ ap (λ (r : Window). address_of (first_address r) at.offset) (sym is.window_is);
 }
 
-points_over_second : (p q t : Pointer) (w : ℕ) → first_address p.region ≡ first_address q.region → IsPointer p.region (int_min p.least q.least) (int_max p.greatest q.greatest) t → PointsTo q w → PointsTo t w
+points_over_second : (p q t : Pointer) (w : ℕ) → first_address p.window ≡ first_address q.window → IsPointer p.window (int_min p.least q.least) (int_max p.greatest q.greatest) t → PointsTo q w → PointsTo t w
 points_over_second p q t w window is at = record {
   offset = at.offset;
   least = rw is.least_is (omega (arith, ints, min_second p.least q.least, at.least));
   greatest = rw is.greatest_is (omega (arith, ints, max_second p.greatest q.greatest, at.greatest));
-  address = at.address ∙ ap (λ (first : ℕ). address_of first at.offset) (sym window) ∙ ap (λ (r : Region). address_of (first_address r) at.offset) (sym is.region_is);
+  address = at.address ∙ ap (λ (first : ℕ). address_of first at.offset) (sym window) ∙ ap (λ (r : Window). address_of (first_address r) at.offset) (sym is.window_is);
 }
 
 -- what the first stands for the join stands for
@@ -116,7 +116,7 @@ join_second (PointerInto p) (PointerInto q) z (Some w) j stands =
     elim (cases_Bool (have_one_window p q)) [
       | inl one ↦
           let over : IsPointerOver p q z = when_true (IsPointerOver p q z) (IsAnyNumber z) one j in
-          let window = eqb-true (first_address p.region) (first_address q.region) one in
+          let window = eqb-true (first_address p.window) (first_address q.window) one in
           subst (λ (v : RegValue). StandsFor v (Some w)) (sym over.is) (points_over_second p q over.pointer w window over.offsets stands)
       | inr two ↦ let any : IsAnyNumber z = when_false (IsPointerOver p q z) (IsAnyNumber z) two j in number_takes (PointerInto q) z (Some w) (λ e. cc) any stands
     ]
@@ -142,17 +142,17 @@ join_value (PointerInto p) (PointerInto q) z j first second =
     ]
 
 -- the join of two pointers into a part of one window points into that part
-pub join_pointer : (a b z : RegValue) (w : Region) (lo hi : ℤ) → IsJoin a b z → IsPointerIn w lo hi a → IsPointerIn w lo hi b → IsPointerIn w lo hi z
+pub join_pointer : (a b z : RegValue) (w : Window) (lo hi : ℤ) → IsJoin a b z → IsPointerIn w lo hi a → IsPointerIn w lo hi b → IsPointerIn w lo hi z
 join_pointer a b z w lo hi j first second =
     let p = first.pointer in
     let q = second.pointer in
     let joins : IsJoin (PointerInto p) (PointerInto q) z = subst (λ (v : RegValue). IsJoin (PointerInto p) v z) second.is (subst (λ (v : RegValue). IsJoin v b z) first.is j) in
-    let window : have_one_window p q ≡ true = eq-eqb (first_address p.region) (first_address q.region) (ap first_address (first.region ∙ sym second.region)) in
+    let window : have_one_window p q ≡ true = eq-eqb (first_address p.window) (first_address q.window) (ap first_address (first.window ∙ sym second.window)) in
     let over : IsPointerOver p q z = when_true (IsPointerOver p q z) (IsAnyNumber z) window joins in
     record {
       pointer = over.pointer;
       is = over.is;
-      region = over.offsets.region_is ∙ first.region;
+      window = over.offsets.window_is ∙ first.window;
       least = rw over.offsets.least_is (min_above p.least q.least lo first.least second.least);
       greatest = rw over.offsets.greatest_is (max_below p.greatest q.greatest hi first.greatest second.greatest);
     }
@@ -171,7 +171,7 @@ join_number a b z lo hi j first second =
     }
 
 -- windows with one first address are one
-pub same_window : (r s : Region) → first_address r ≡ first_address s → r ≡ s
+pub same_window : (r s : Window) → first_address r ≡ first_address s → r ≡ s
 same_window Key Key e = refl
 same_window Old Old e = refl
 same_window Arg Arg e = refl

@@ -1,7 +1,7 @@
 -- Loads and stores of stack and result. Our profile of RFC 9669; what a load gives: RFC 9669, section 5.
 use Rattle.std.specs.Prelude.{◌≡◌, ℕ, ◌+◌, ◌*◌, ◌<◌, ◌≤◌, Bool, true, false, ◌&&◌, List, Some, nat_eq, nat_le, nat_lt, pos, neg_ℤ}
-use Rattle.bpf_model.specs.declared.region.Region.{Region}
-use Rattle.bpf_model.specs.declared.region.Region.TheVariants.{Key, Old, Arg, Result, Stack}
+use Rattle.bpf_model.specs.declared.window.Window.{Window}
+use Rattle.bpf_model.specs.declared.window.Window.TheVariants.{Key, Old, Arg, Result, Stack}
 use Rattle.bpf_model.specs.declared.operations.SignExtension.TheVariants.{From8To64, From16To64, From32To64}
 use Rattle.bpf_model.specs.declared.accesses.AccessSize.{AccessSize}
 use Rattle.bpf_model.specs.declared.accesses.AccessSize.TheVariants.{Byte, HalfWord, Word, DoubleWord}
@@ -17,24 +17,24 @@ use Rattle.stack_slots.specs.declared.reg_value.RegValue.{RegValue}
 use Rattle.stack_slots.specs.Values.{StandsFor}
 
 -- the fields of an access
-pub record IsAccess (region : Region) (least greatest : ℕ) (size : AccessSize) (signed : Bool) (a : Access) : Type 0 where
-  pub region_is : a.region ≡ region
+pub record IsAccess (window : Window) (least greatest : ℕ) (size : AccessSize) (signed : Bool) (a : Access) : Type 0 where
+  pub window_is : a.window ≡ window
   pub least_is : a.least ≡ least
   pub greatest_is : a.greatest ≡ greatest
   pub size_is : a.size ≡ size
   pub signed_is : a.signed ≡ signed
 
 -- the access may be at this distance from the window's first byte
-pub record MayBeAt (a : Access) (place : ℕ) : Type 0 where
-  pub least : a.least ≤ place
-  pub greatest : place ≤ a.greatest
+pub record MayBeAt (a : Access) (distance : ℕ) : Type 0 where
+  pub least : a.least ≤ distance
+  pub greatest : distance ≤ a.greatest
 
 -- whether the access may touch the window's byte at this distance
-abbrev pub touches : Access → Region → ℕ → Bool
+abbrev pub touches : Access → Window → ℕ → Bool
 touches a r i =
-    nat_eq (first_address a.region) (first_address r) && (nat_le a.least i && nat_lt i (a.greatest + byte_count a.size))
+    nat_eq (first_address a.window) (first_address r) && (nat_le a.least i && nat_lt i (a.greatest + byte_count a.size))
 
-abbrev pub is_stack : Region → Bool
+abbrev pub is_stack : Window → Bool
 is_stack Key = false
 is_stack Old = false
 is_stack Arg = false
@@ -44,13 +44,13 @@ is_stack Stack = true
 -- whether the access may touch a byte of the stack's slot
 abbrev pub touches_slot : Access → ℕ → Bool
 touches_slot a slot =
-    is_stack a.region
+    is_stack a.window
     && (nat_lt a.least (SLOT_BYTES * slot + SLOT_BYTES) && nat_lt (SLOT_BYTES * slot) (a.greatest + byte_count a.size))
 
 -- whether the access is to all of the stack's slot and to nothing else
 abbrev pub fills_slot : Access → ℕ → Bool
 fills_slot a slot =
-    is_stack a.region
+    is_stack a.window
     && (nat_eq a.least a.greatest && (nat_eq (byte_count a.size) SLOT_BYTES && nat_eq a.least (SLOT_BYTES * slot)))
 
 -- the word that the number read gives, extended with zeros or with the sign

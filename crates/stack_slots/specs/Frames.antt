@@ -1,8 +1,8 @@
 -- What a frame knows, and which memories it describes. This verifier's own.
 use Rattle.std.specs.Prelude.{◌≡◌, ◌≢◌, ℕ, ◌+◌, ◌*◌, ◌<◌, ◌≤◌, Bool, true, false, ◌&&◌, ◌||◌, List, Option, Some, None, IsSome, nat_eq, slice_index_or, if◌then◌else◌}
 use Rattle.std.specs.Option.{option_map}
-use Rattle.bpf_model.specs.declared.region.Region.{Region}
-use Rattle.bpf_model.specs.declared.region.Region.TheVariants.{Key, Old, Arg, Result, Stack}
+use Rattle.bpf_model.specs.declared.window.Window.{Window}
+use Rattle.bpf_model.specs.declared.window.Window.TheVariants.{Key, Old, Arg, Result, Stack}
 use Rattle.bpf_model.specs.Words.{bytes_of, word_of}
 use Rattle.bpf_model.specs.Accesses.{byte_count}
 use Rattle.bpf_model.specs.Memory.{Partial, first_address, bytes_at, with_bytes}
@@ -17,7 +17,7 @@ use Rattle.stack_slots.specs.Values.{StandsFor, IsJoin}
 use Rattle.stack_slots.specs.Accesses.{MayBeAt, touches, touches_slot, fills_slot, IsLoadRange, HasBytes, ReadsAs}
 
 -- whether the frame has the window's byte at this distance as written
-unfoldable pub is_written : Frame → Region → ℕ → Bool
+unfoldable pub is_written : Frame → Window → ℕ → Bool
 is_written f Key i = false
 is_written f Old i = false
 is_written f Arg i = false
@@ -39,7 +39,7 @@ slot_word memory slot = option_map word_of (bytes_at memory (first_address Stack
 
 -- each byte that was written is present, and each spilled value stands for the word of its slot
 pub record DescribesMemory (f : Frame) (memory : Partial) : Type 0 where
-  pub written : (r : Region) (i : ℕ) → is_written f r i ≡ true → IsSome (memory (first_address r + i))
+  pub written : (r : Window) (i : ℕ) → is_written f r i ≡ true → IsSome (memory (first_address r + i))
   pub spilled : (slot : ℕ) (x : RegValue) → spilled_in f slot ≡ Some x → StandsFor x (slot_word memory slot)
 
 -- no spilled value is Unwritten
@@ -48,16 +48,16 @@ NoneUnwritten f = (slot : ℕ) → spilled_in f slot ≢ Some Unwritten
 
 -- the frame has each byte that the access may touch as written
 abbrev pub AreWritten : Frame → Access → Type 0
-AreWritten f a = (i : ℕ) → a.least ≤ i → i < a.greatest + byte_count a.size → is_written f a.region i ≡ true
+AreWritten f a = (i : ℕ) → a.least ≤ i → i < a.greatest + byte_count a.size → is_written f a.window i ≡ true
 
 -- what the first frame has as written the second has
 abbrev pub KeepsMarks : Frame → Frame → Type 0
-KeepsMarks f g = (r : Region) (i : ℕ) → is_written f r i ≡ true → is_written g r i ≡ true
+KeepsMarks f g = (r : Window) (i : ℕ) → is_written f r i ≡ true → is_written g r i ≡ true
 
 -- the second frame has as written what the first has, and what an access touches whose place is one alone
 abbrev pub Marks : Frame → Access → Frame → Type 0
 Marks f a g =
-    (r : Region) (i : ℕ) → is_written g r i ≡ ((nat_eq a.least a.greatest && touches a r i) || is_written f r i)
+    (r : Window) (i : ℕ) → is_written g r i ≡ ((nat_eq a.least a.greatest && touches a r i) || is_written f r i)
 
 -- a slot's value after a store: the stored one where the store fills the slot, none where it may touch it
 abbrev pub spilled_after : Frame → Access → RegValue → ℕ → Option RegValue
@@ -70,14 +70,14 @@ Spills f a x g = (slot : ℕ) → spilled_in g slot ≡ spilled_after f a x slot
 -- where the first frame describes a memory, the second describes it after a store of a word for which the value stands
 abbrev pub DescribesStore : Frame → Access → RegValue → Frame → Type 0
 DescribesStore f a x g =
-    (memory : Partial) (place w : ℕ) → MayBeAt a place → StandsFor x (Some w) → DescribesMemory f memory
-    → DescribesMemory g (with_bytes memory (first_address a.region + place) (bytes_of (byte_count a.size) w))
+    (memory : Partial) (distance w : ℕ) → MayBeAt a distance → StandsFor x (Some w) → DescribesMemory f memory
+    → DescribesMemory g (with_bytes memory (first_address a.window + distance) (bytes_of (byte_count a.size) w))
 
 -- in each memory that the frame describes the access loads a word for which the value stands
 abbrev pub FindsLoaded : Frame → Access → RegValue → Type 0
 FindsLoaded f a x =
-    (memory : Partial) (place : ℕ) → HasBytes memory → DescribesMemory f memory → MayBeAt a place
-    → ReadsAs memory (first_address a.region + place) a.size a.signed x
+    (memory : Partial) (distance : ℕ) → HasBytes memory → DescribesMemory f memory → MayBeAt a distance
+    → ReadsAs memory (first_address a.window + distance) a.size a.signed x
 
 -- the value of a slot that the access fills, where one was spilled there
 abbrev pub Reloads : Frame → Access → RegValue → Type 0
@@ -95,7 +95,7 @@ LoadsNumber f a x = ((slot : ℕ) → fills_slot a slot ≡ true → spilled_in 
 
 -- the third frame has as written what both have
 abbrev pub MeetsMarks : Frame → Frame → Frame → Type 0
-MeetsMarks f g h = (r : Region) (i : ℕ) → is_written h r i ≡ (is_written f r i && is_written g r i)
+MeetsMarks f g h = (r : Window) (i : ℕ) → is_written h r i ≡ (is_written f r i && is_written g r i)
 
 -- what is left of a slot's value: the join, where both had one
 abbrev pub IsSlotJoin : Option RegValue → Option RegValue → Option RegValue → Type 0

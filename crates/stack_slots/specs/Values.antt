@@ -2,7 +2,7 @@
 use Rattle.std.specs.Prelude.{◌≡◌, ℕ, min, max, Bool, nat_eq, Option, Some, None, ℤ, pos, ◌+ℤ◌, ◌≤ℤ◌}
 use Rattle.std.specs.Bool.{MatchBool}
 use Rattle.std.specs.Int.{int_min, int_max}
-use Rattle.bpf_model.specs.declared.region.Region.{Region}
+use Rattle.bpf_model.specs.declared.window.Window.{Window}
 use Rattle.bpf_model.specs.Words.{IsWord}
 use Rattle.bpf_model.specs.Memory.{first_address}
 use Rattle.bpf_model.specs.Step.{address_of}
@@ -17,7 +17,7 @@ pub record PointsTo (p : Pointer) (w : ℕ) : Type 0 where
   pub offset : ℤ
   pub least : p.least ≤ℤ offset
   pub greatest : offset ≤ℤ p.greatest
-  pub address : w ≡ address_of (first_address p.region) offset
+  pub address : w ≡ address_of (first_address p.window) offset
 
 -- the register may hold this: any word or none, a word of the range, or an address of the pointer
 abbrev pub StandsFor : RegValue → Option ℕ → Type 0
@@ -30,12 +30,12 @@ StandsFor (PointerInto p) (Some w) = PointsTo p w
 
 -- a range whose signed bounds are the least and the greatest address of a pointer
 pub record IsAddressRange (p : Pointer) (r : Range) : Type 0 where
-  pub smin : r.smin ≡ pos (first_address p.region) +ℤ p.least
-  pub smax : r.smax ≡ pos (first_address p.region) +ℤ p.greatest
+  pub smin : r.smin ≡ pos (first_address p.window) +ℤ p.least
+  pub smax : r.smax ≡ pos (first_address p.window) +ℤ p.greatest
 
 -- a pointer with these offsets
-pub record IsPointer (region : Region) (least greatest : ℤ) (p : Pointer) : Type 0 where
-  pub region_is : p.region ≡ region
+pub record IsPointer (window : Window) (least greatest : ℤ) (p : Pointer) : Type 0 where
+  pub window_is : p.window ≡ window
   pub least_is : p.least ≡ least
   pub greatest_is : p.greatest ≡ greatest
 
@@ -58,11 +58,11 @@ pub record IsNumberOver (a b : Range) (x : RegValue) : Type 0 where
 pub record IsPointerOver (p q : Pointer) (x : RegValue) : Type 0 where
   pub pointer : Pointer
   pub is : x ≡ PointerInto pointer
-  pub offsets : IsPointer p.region (int_min p.least q.least) (int_max p.greatest q.greatest) pointer
+  pub offsets : IsPointer p.window (int_min p.least q.least) (int_max p.greatest q.greatest) pointer
 
 -- whether two pointers point into one window
 abbrev pub have_one_window : Pointer → Pointer → Bool
-have_one_window p q = nat_eq (first_address p.region) (first_address q.region)
+have_one_window p q = nat_eq (first_address p.window) (first_address q.window)
 
 -- what is known of a word of which the first or the second was known
 abbrev pub IsJoin : RegValue → RegValue → RegValue → Type 0
@@ -75,10 +75,10 @@ IsJoin (PointerInto p) (Number s) x = IsAnyNumber x
 IsJoin (PointerInto p) (PointerInto q) x = MatchBool (have_one_window p q) (IsPointerOver p q x) (IsAnyNumber x)
 
 -- a pointer into the window, at a distance from lo to hi
-pub record IsPointerIn (w : Region) (lo hi : ℤ) (x : RegValue) : Type 0 where
+pub record IsPointerIn (w : Window) (lo hi : ℤ) (x : RegValue) : Type 0 where
   pub pointer : Pointer
   pub is : x ≡ PointerInto pointer
-  pub region : pointer.region ≡ w
+  pub window : pointer.window ≡ w
   pub least : lo ≤ℤ pointer.least
   pub greatest : pointer.greatest ≤ℤ hi
 

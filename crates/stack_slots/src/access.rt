@@ -4,7 +4,7 @@ ghost use Rattle.bpf_model.specs.Accesses.{byte_count};
 ghost use Rattle.stack_slots.specs.Kept.{kept_bytes};
 
 use bpf_model::limits::STACK_BYTES;
-use bpf_model::{AccessSize, Region};
+use bpf_model::{AccessSize, Window};
 
 /// The bytes of a slot of the stack, which holds one spilled value.
 pub const SLOT_BYTES: usize = 8;
@@ -16,11 +16,11 @@ pub const SLOTS: usize = STACK_BYTES / SLOT_BYTES;
 /// its bytes are in the window. A load extends what it reads with the sign, or with zeros.
 #[derive(Clone, Copy, Debug, PartialEq, Eq)]
 pub struct Access {
-    pub region: Region,
+    pub window: Window,
     pub least: usize,
     pub greatest: usize,
     pub size: AccessSize,
     pub signed: bool,
     pub ghost order: { least ≤ greatest },
-    pub ghost inside: { greatest + byte_count size ≤ kept_bytes region },
+    pub ghost inside: { greatest + byte_count size ≤ kept_bytes window },
 }

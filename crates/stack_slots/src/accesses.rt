@@ -2,17 +2,17 @@
 ghost use Rattle.std.specs.Prelude.{◌≡◌, ◌≤◌, ◌<◌, ◌+◌, ◌*◌, ◌↔◌, ℕ, true, false, IsSome, IfSome, IfNone, nat_eq};
 ghost use Rattle.bpf_model.specs.Accesses.{byte_count};
 ghost use Rattle.bpf_model.specs.Fits.{AreWithinLimits};
-ghost use Rattle.bpf_model.specs.Memory.{size_of};
+ghost use Rattle.bpf_model.specs.Memory.{window_size};
 ghost use Rattle.stack_slots.specs.Kept.{IsKept};
 ghost use Rattle.stack_slots.specs.Accesses.{IsAccess, fills_slot};
 
 use crate::access::{Access, SLOT_BYTES, SLOTS};
-use bpf_model::{AccessSize, Region, Sizes};
+use bpf_model::{AccessSize, Sizes, Window};
 
 impl Access {
     /// The access with these fields; none where the window may only be read, or is declared too short.
     pub fn new(
-        region: Region,
+        window: Window,
         least: usize,
         greatest: usize,
         size: AccessSize,
@@ -22,16 +22,16 @@ impl Access {
         requires order { least ≤ greatest }
         requires limits { AreWithinLimits sizes }
         ensures some { IsSome result
-            ↔ (IsKept region × (greatest + byte_count size ≤ size_of sizes region)) }
-        ensures value { IfSome result (IsAccess region least greatest size signed) }
+            ↔ (IsKept window × (greatest + byte_count size ≤ window_size sizes window)) }
+        ensures value { IfSome result (IsAccess window least greatest size signed) }
     {
-        let declared = match region {
-            Region::Key | Region::Old | Region::Arg => return None,
-            Region::Result | Region::Stack => region.size(sizes),
+        let declared = match window {
+            Window::Key | Window::Old | Window::Arg => return None,
+            Window::Result | Window::Stack => window.size(sizes),
         };
         if greatest <= declared && size.bytes() <= declared - greatest {
             Some(Access {
-                region,
+                window,
                 least,
                 greatest,
                 size,
@@ -49,8 +49,8 @@ impl Access {
         ensures none { IfNone result ((i : ℕ) → fills_slot self.now i ≡ false) }
     {
         let is_alone = self.least == self.greatest && self.least % SLOT_BYTES == 0;
-        match (self.region, self.size) {
-            (Region::Stack, AccessSize::DoubleWord) if is_alone => Some(self.least / SLOT_BYTES),
+        match (self.window, self.size) {
+            (Window::Stack, AccessSize::DoubleWord) if is_alone => Some(self.least / SLOT_BYTES),
             _ => None,
         }
     }

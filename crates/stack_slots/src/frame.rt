@@ -1,7 +1,7 @@
 //! Which bytes of stack and result were written, and which values were spilled to the stack.
 ghost use Rattle.std.specs.Prelude.{◌≡◌, ◌≢◌, ◌≤◌, ◌<◌, ◌↔◌, ℕ, true, false, Some, None, IsTrue, IsSome, IfSome, IfNone};
-ghost use Rattle.bpf_model.specs.declared.region.Region.{Region as Window};
-ghost use Rattle.bpf_model.specs.declared.region.Region.TheVariants.{Result as ResultWindow};
+ghost use Rattle.bpf_model.specs.declared.window.Window.{Window};
+ghost use Rattle.bpf_model.specs.declared.window.Window.TheVariants.{Result as ResultWindow};
 ghost use Rattle.bpf_model.specs.Memory.{Partial};
 ghost use Rattle.stack_slots.specs.Accesses.{fills_slot};
 ghost use Rattle.stack_slots.specs.Frames.{is_written, spilled_in, DescribesMemory, NoneUnwritten, AreWritten, KeepsMarks, Marks, Spills, DescribesStore, FindsLoaded, Reloads, LoadsNumber, MeetsMarks, JoinsSlots, DescribesMore};
@@ -11,7 +11,7 @@ use crate::loads::loadable;
 use crate::marks::{WORD_BITS, are_marked, keep_common, mark, prefix};
 use crate::reg_value::RegValue;
 use crate::slots::{Slots, copy, forget, join_slots, keep, value_of};
-use bpf_model::Region;
+use bpf_model::Window;
 use bpf_model::limits::{STACK_BYTES, VALUE_BYTES};
 
 /// The words of the marks of the result's bytes.
@@ -88,7 +88,7 @@ impl Frame {
         ensures written { (r : Window) (i : ℕ) → is_written self.new r i ≡ is_written self.old r i }
         ensures slots { Spills self.old access.now value.now self.new }
     {
-        if !matches!(access.region, Region::Stack) {
+        if !matches!(access.window, Window::Stack) {
             return;
         }
         let first = access.least / SLOT_BYTES;
@@ -105,10 +105,10 @@ impl Frame {
         ensures slots { (slot : ℕ) → spilled_in self.new slot ≡ spilled_in self.old slot }
     {
         let end = access.greatest + access.size.bytes();
-        match access.region {
-            Region::Result => mark(&mut self.result, access.least, end),
-            Region::Stack => mark(&mut self.stack, access.least, end),
-            Region::Key | Region::Old | Region::Arg => {}
+        match access.window {
+            Window::Result => mark(&mut self.result, access.least, end),
+            Window::Stack => mark(&mut self.stack, access.least, end),
+            Window::Key | Window::Old | Window::Arg => {}
         }
     }
 
@@ -145,10 +145,10 @@ impl Frame {
         ensures exact { IsTrue result ↔ AreWritten self.now access.now }
     {
         let end = access.greatest + access.size.bytes();
-        match access.region {
-            Region::Result => are_marked(&self.result, access.least, end),
-            Region::Stack => are_marked(&self.stack, access.least, end),
-            Region::Key | Region::Old | Region::Arg => false,
+        match access.window {
+            Window::Result => are_marked(&self.result, access.least, end),
+            Window::Stack => are_marked(&self.stack, access.least, end),
+            Window::Key | Window::Old | Window::Arg => false,
         }
     }
 

@@ -6,7 +6,7 @@ ghost use Rattle.stack_slots.specs.Offsets.{AreInReach};
 ghost use Rattle.stack_slots.specs.Values.{PointsTo, IsPointer, IsAddressRange};
 
 use crate::pointer::Pointer;
-use bpf_model::Region;
+use bpf_model::Window;
 use value_ranges::Range;
 
 /// How far a pointer may be from its window's first byte, in either direction.
@@ -14,15 +14,15 @@ const REACH: i64 = 1 << 20;
 
 impl Pointer {
     /// The pointer with these offsets; none where one of them is out of reach, or the least passes the greatest.
-    pub fn new(region: Region, least: i64, greatest: i64) -> Option<Pointer>
+    pub fn new(window: Window, least: i64, greatest: i64) -> Option<Pointer>
         ensures some { IsSome result ↔ (AreInReach least greatest × (least ≤ℤ greatest)) }
-        ensures value { IfSome result (IsPointer region least greatest) }
+        ensures value { IfSome result (IsPointer window least greatest) }
     {
         if least < -REACH || greatest > REACH || least > greatest {
             None
         } else {
             Some(Pointer {
-                region,
+                window,
                 least,
                 greatest,
             })
@@ -34,13 +34,13 @@ impl Pointer {
         ensures some { IsSome result
             ↔ AreInReach (self.least +ℤ number.smin) (self.greatest +ℤ number.smax) }
         ensures value { IfSome result
-            (IsPointer self.region (self.least +ℤ number.smin) (self.greatest +ℤ number.smax)) }
+            (IsPointer self.window (self.least +ℤ number.smin) (self.greatest +ℤ number.smax)) }
         ensures holds { IfSome result (λ p. (x y : ℕ) → PointsTo self x → IsIn y number
             → PointsTo p ((x + y) % 2 ^ 64)) }
     {
         let least = self.least.checked_add(number.smin)?;
         let greatest = self.greatest.checked_add(number.smax)?;
-        Pointer::new(self.region, least, greatest)
+        Pointer::new(self.window, least, greatest)
     }
 
     /// The pointer less a number; none where an offset may be out of reach.
@@ -48,22 +48,22 @@ impl Pointer {
         ensures some { IsSome result
             ↔ AreInReach (self.least -ℤ number.smax) (self.greatest -ℤ number.smin) }
         ensures value { IfSome result
-            (IsPointer self.region (self.least -ℤ number.smax) (self.greatest -ℤ number.smin)) }
+            (IsPointer self.window (self.least -ℤ number.smax) (self.greatest -ℤ number.smin)) }
         ensures holds { IfSome result (λ p. (x y : ℕ) → PointsTo self x → IsIn y number
             → PointsTo p ((x + (2 ^ 64 - y)) % 2 ^ 64)) }
     {
         let least = self.least.checked_sub(number.smax)?;
         let greatest = self.greatest.checked_sub(number.smin)?;
-        Pointer::new(self.region, least, greatest)
+        Pointer::new(self.window, least, greatest)
     }
 
     /// The pointer with the lesser least offset and the greater greatest one of two into one window.
     pub fn over(self, other: Pointer) -> Pointer
-        ensures value { IsPointer self.region (int_min self.least other.least)
+        ensures value { IsPointer self.window (int_min self.least other.least)
             (int_max self.greatest other.greatest) result }
     {
         Pointer {
-            region: self.region,
+            window: self.window,
             least: self.least.min(other.least),
             greatest: self.greatest.max(other.greatest),
         }
@@ -74,7 +74,7 @@ impl Pointer {
         ensures holds { (w : ℕ) → PointsTo self w → IsIn w result }
         ensures bounds { IsAddressRange self result }
     {
-        let first = self.region.first_address().cast_signed();
+        let first = self.window.first_address().cast_signed();
         Range::signed(first + self.least, first + self.greatest)
     }
 }

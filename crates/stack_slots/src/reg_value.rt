@@ -1,6 +1,6 @@
 //! What is known of a register's word: as a number, and of two words what they have in common.
 ghost use Rattle.std.specs.Prelude.{◌≡◌, ◌≢◌, ℕ, ℤ, Option, Some};
-ghost use Rattle.bpf_model.specs.declared.region.Region.{Region as Window};
+ghost use Rattle.bpf_model.specs.declared.window.Window.{Window};
 ghost use Rattle.value_ranges.specs.In.{IsIn};
 ghost use Rattle.stack_slots.specs.Values.{StandsFor, IsAddressRange, IsJoin, IsPointerIn, IsNumberIn};
 
@@ -49,7 +49,7 @@ impl RegValue {
             (RegValue::Number(a), RegValue::Number(b)) => {
                 RegValue::Number(value_ranges::join(*a, *b))
             }
-            (RegValue::Pointer(a), RegValue::Pointer(b)) if a.region == b.region => {
+            (RegValue::Pointer(a), RegValue::Pointer(b)) if a.window == b.window => {
                 RegValue::Pointer(a.over(*b))
             }
             _ => RegValue::Number(Range::full()),

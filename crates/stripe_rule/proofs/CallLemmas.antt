@@ -8,7 +8,7 @@ use Rattle.stripe_rule.specs.declared.view.Part.{Part}
 use Rattle.stripe_rule.specs.declared.view.View.{View}
 use Rattle.stripe_rule.specs.History.{has, AreUnder, AreOthers}
 use Rattle.stripe_rule.specs.Gains.{least, least_of, part_of, seen_of, mine_of, held_at, IsIdle, Carries, own_event, Gains, Keeps, Adds}
-use Rattle.stripe_rule.specs.Steps.{Sets, Extends, lengthened, grown}
+use Rattle.stripe_rule.specs.Steps.{SetsPart, Extends, lengthened, grown}
 use Rattle.stripe_rule.proofs.HistoryLemmas.{IsUnder, IsOther, bool_cases}
 
 -- a list that is not empty has its least
@@ -35,17 +35,17 @@ least_has q (n ∷ ns) c = in_it n ns
 
 module _ {D : Type 0} where
   -- events of one's own are under a carried number
-  pub own_under : (v : View D) (deeds : List D) → Carries v (least v.numbers) → AreUnder v.numbers (map (own_event v) deeds)
+  pub own_under : (v : View D) (actions : List D) → Carries v (least v.numbers) → AreUnder v.numbers (map (own_event v) actions)
   own_under v [] c = All-nil (IsUnder v.numbers)
   own_under v (d ∷ ds) c = All-cons (IsUnder v.numbers) (own_event v d) (map (own_event v) ds) c (own_under v ds c)
 
   -- one who still carries its numbers makes events under the same number
-  pub own_same : (v w : View D) (deeds : List D) → w.numbers ≡ v.numbers → map (own_event w) deeds ≡ map (own_event v) deeds
+  pub own_same : (v w : View D) (actions : List D) → w.numbers ≡ v.numbers → map (own_event w) actions ≡ map (own_event v) actions
   own_same v w [] e = refl
   own_same v w (d ∷ ds) e = λ i. event (e i) d ∷ own_same v w ds e i
     where
       event : List ℕ → D → Event D
-      event ns deed = record { by = least ns; deed = deed }
+      event ns action = record { by = least ns; action = action }
 
   pub carries_same : (v w : View D) (q : ℕ) → w.numbers ≡ v.numbers → Carries v q → Carries w q
   carries_same v w q e c = ap (has q) e ∙ c
@@ -95,7 +95,7 @@ module _ {D : Type 0} where
   }
 
   -- what a take and the release after it add
-  pub adds_after : (v w u : View D) (k : ℕ) (h : Bool) (more : List (Event D)) → Extends v k h w → Sets w k (grown (part_of w k) more) u → Adds v k more u
+  pub adds_after : (v w u : View D) (k : ℕ) (h : Bool) (more : List (Event D)) → Extends v k h w → SetsPart w k (grown (part_of w k) more) u → Adds v k more u
   adds_after v w u k h more e s = record {
     numbers = s.numbers ∙ e.sets.numbers;
     here = record {
@@ -114,7 +114,7 @@ module _ {D : Type 0} where
       (λ other. ap (λ (p : Part D). p.held) (e.sets.elsewhere j other) ∙ idle j)
 
   -- and none after a take and its release
-  pub idle_released : (v w u : View D) (k : ℕ) (h : Bool) (more : List (Event D)) → IsIdle v → Extends v k h w → Sets w k (grown (part_of w k) more) u → IsIdle u
+  pub idle_released : (v w u : View D) (k : ℕ) (h : Bool) (more : List (Event D)) → IsIdle v → Extends v k h w → SetsPart w k (grown (part_of w k) more) u → IsIdle u
   idle_released v w u k h more idle e s j = dite (ℕ_discrete j k)
       (λ is. subst (λ i. held_at u i ≡ false) (sym is) (ap (λ (p : Part D). p.held) s.here))
       (λ other. ap (λ (p : Part D). p.held) (s.elsewhere j other ∙ e.sets.elsewhere j other) ∙ idle j)

@@ -11,7 +11,7 @@ use Rattle.stripe_rule.specs.declared.view.View.{View}
 use Rattle.stripe_rule.specs.History.{has, made_by, AreUnder, AreOthers, StartsWith}
 use Rattle.stripe_rule.specs.Gains.{blank, part_of, seen_of, mine_of, held_at, IsIdle, Carries, Hears, IsJoined}
 use Rattle.stripe_rule.specs.Words.{word_at}
-use Rattle.stripe_rule.specs.Rule.{Home, At, AreApart, IsCounted, Fits, IsFree, IsHeld, Kept}
+use Rattle.stripe_rule.specs.Rule.{Home, At, AreApart, IsCounted, FitsLog, IsFree, IsHeld, Kept}
 use Rattle.stripe_rule.specs.Steps.{Extends, longer, united_part, united_parts, united, spent}
 use Rattle.stripe_rule.proofs.HistoryLemmas.{IsUnder, IsOther, not_true, has-append, has-left, has-right, All-front, All-back, made_by-append, made_by-others, under_none, under_more}
 use Rattle.stripe_rule.proofs.ViewLemmas.{same_view}
@@ -86,7 +86,7 @@ module _ {D : Type 0} where
   mine_right ns q xs ys out under = made_by-append q xs ys ∙ ap (λ l. l ++ made_by q ys) (under_none ns q xs out under)
 
   -- the view that carries both fits
-  both_fit : (k : ℕ) (log : List (Event D)) (v w : View D) → length v.parts ≡ length w.parts → ((q : ℕ) → Carries v q → Carries w q → ⊥) → Fits k log v → Fits k log w → Fits k log (united v w)
+  both_fit : (k : ℕ) (log : List (Event D)) (v w : View D) → length v.parts ≡ length w.parts → ((q : ℕ) → Carries v q → Carries w q → ⊥) → FitsLog k log v → FitsLog k log w → FitsLog k log (united v w)
   both_fit k log v w wide apart f g = let p = part_of v k in let r = part_of w k in let ns = v.numbers ++ w.numbers in
       let m = meets p.seen r.seen f.rest g.rest (sym f.begins ∙ g.begins) in let is = part_united v w k wide in
       let left : AreOthers v.numbers (m.left ++ m.rest) = subst (AreOthers v.numbers) m.rest_left f.others in
@@ -105,7 +105,7 @@ module _ {D : Type 0} where
       }
 
   -- what is left of the other fits any list
-  spent_fits : (k : ℕ) (log : List (Event D)) → Fits k log spent
+  spent_fits : (k : ℕ) (log : List (Event D)) → FitsLog k log spent
   spent_fits k log = record { rest = log; begins = refl; others = (λ j d lt. refl); own = λ q c. refl; under = All-nil (IsUnder []); heard = (log, refl) }
 
 module _ {D T B : Type 0} (does : ℕ → T → D → T → Type 0) (empty : T) (content : B → T) (stripes passes : ℕ) where
@@ -188,7 +188,7 @@ module _ {D T B : Type 0} (does : ℕ → T → D → T → Type 0) (empty : T) 
               log = t.log;
               legal = t.legal;
               below = t.below;
-              fits = every s.views id v other w u at there (Fits k t.log) (spent_fits k t.log) (both_fit k t.log v w wide clash (t.fits id v at) (t.fits other w there)) t.fits;
+              fits = every s.views id v other w u at there (FitsLog k t.log) (spent_fits k t.log) (both_fit k t.log v w wide clash (t.fits id v at) (t.fits other w there)) t.fits;
               place = united_place s.views id v other w u at there two k t.log (get_or s.words (word_at k) 0) old.0 (idle k) (idle' k) (ap (λ (p : Part D). p.held) (part_united v w k wide) ∙ idle k) t.place;
             },
           ),

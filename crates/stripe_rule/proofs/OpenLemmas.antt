@@ -14,7 +14,7 @@ use Rattle.stripe_rule.specs.declared.view.View.{View}
 use Rattle.stripe_rule.specs.History.{has, made_by, AreUnder, AreOthers}
 use Rattle.stripe_rule.specs.Gains.{blank, part_of, held_at, Carries}
 use Rattle.stripe_rule.specs.Words.{words_of, word_at}
-use Rattle.stripe_rule.specs.Rule.{from_on, Home, newcomer, opener, At, AreApart, IsCounted, Fits, IsFree, IsHeld, Kept}
+use Rattle.stripe_rule.specs.Rule.{from_on, Home, newcomer, opener, At, AreApart, IsCounted, FitsLog, IsFree, IsHeld, Kept}
 use Rattle.stripe_rule.specs.Steps.{with_numbers, head_of, tail_of}
 use Rattle.stripe_rule.proofs.HistoryLemmas.{IsUnder, IsOther, IsBelow, bool_cases, eq_of, others_fewer}
 use Rattle.stripe_rule.proofs.ViewLemmas.{at_end, get_or-beyond, same_view}
@@ -48,7 +48,7 @@ module _ (D : Type 0) where
       (λ beyond. let none : Part D = blank in get_or-beyond (replicate stripes none) k none (let l = length-replicate stripes none in omega arith))
 
   -- a newcomer fits a list of others' events
-  pub new_fits : (stripes passes k : ℕ) (ns : List ℕ) (log : List (Event D)) → AreOthers ns log → Fits k log (newcomer stripes passes ns)
+  pub new_fits : (stripes passes k : ℕ) (ns : List ℕ) (log : List (Event D)) → AreOthers ns log → FitsLog k log (newcomer stripes passes ns)
   new_fits stripes passes k ns log others = let is : part_of {D = D} (newcomer stripes passes ns) k ≡ blank = part_new stripes passes ns k in record {
     rest = log;
     begins = ap (λ (p : Part D). p.seen ++ log) (sym is);
@@ -99,7 +99,7 @@ module _ {D T B : Type 0} (does : ℕ → T → D → T → Type 0) (empty : T) 
           log = [];
           legal = (empty, refl);
           below = All-nil (IsBelow passes);
-          fits = every_one (Fits k []) first (new_fits D stripes passes k (from_on 0 passes) [] (All-nil (IsOther (from_on 0 passes))));
+          fits = every_one (FitsLog k []) first (new_fits D stripes passes k (from_on 0 passes) [] (All-nil (IsOther (from_on 0 passes))));
           place = inl record {
             word_is = zeros (word_at k) (omega arith);
             bins = b.1.1.0;
@@ -188,7 +188,7 @@ module _ {D T B : Type 0} (does : ℕ → T → D → T → Type 0) (empty : T) 
                   log = t.log;
                   legal = t.legal;
                   below = t.below;
-                  fits = every_both s id v l w at (Fits k t.log) (new_fits D stripes passes k (i ∷ []) t.log (others_fewer v.numbers (i ∷ []) t.log sub_l others))
+                  fits = every_both s id v l w at (FitsLog k t.log) (new_fits D stripes passes k (i ∷ []) t.log (others_fewer v.numbers (i ∷ []) t.log sub_l others))
                       (new_fits D stripes passes k (from_on (i + 1) count) t.log (others_fewer v.numbers (from_on (i + 1) count) t.log sub_w others)) t.fits;
                   place = fork_place s id v l w at k t.log (get_or s.words (word_at k) 0) old.0 (new_idle D stripes passes k v.numbers) (new_idle D stripes passes k l.numbers) (new_idle D stripes passes k w.numbers) t.place;
                 },

@@ -10,15 +10,15 @@ use Rattle.stripe_rule.specs.declared.view.View.{View}
 use Rattle.stripe_rule.specs.History.{has, made_by, AreUnder, AreOthers, Replays}
 use Rattle.stripe_rule.specs.Gains.{part_of, seen_of, mine_of, held_at, Carries}
 use Rattle.stripe_rule.specs.Words.{word_at}
-use Rattle.stripe_rule.specs.Rule.{At, Fits, IsFree, IsHeld, Stripe, Kept}
-use Rattle.stripe_rule.specs.Steps.{Sets, Releases, grown, released}
+use Rattle.stripe_rule.specs.Rule.{At, FitsLog, IsFree, IsHeld, Stripe, Kept}
+use Rattle.stripe_rule.specs.Steps.{SetsPart, Releases, grown, released}
 use Rattle.stripe_rule.proofs.HistoryLemmas.{IsUnder, IsOther, IsBelow, not_true, made_by-append, under_others, under_below}
 use Rattle.stripe_rule.proofs.ViewLemmas.{set_at, same_view, put_part, sets_put}
 use Rattle.stripe_rule.proofs.StripeLemmas.{kept_set, sound_of}
 
 module _ {D : Type 0} where
   -- the view of the one who made the events, who has seen the whole list before
-  grown_fits : (k : ℕ) (log more : List (Event D)) (v w : View D) → Fits k log v → seen_of v k ≡ log → AreUnder v.numbers more → Sets v k (grown (part_of v k) more) w → Fits k (log ++ more) w
+  grown_fits : (k : ℕ) (log more : List (Event D)) (v w : View D) → FitsLog k log v → seen_of v k ≡ log → AreUnder v.numbers more → SetsPart v k (grown (part_of v k) more) w → FitsLog k (log ++ more) w
   grown_fits k log more v w f whole under sets = let seen : seen_of w k ≡ log ++ more = ap (λ (p : Part D). p.seen) sets.here ∙ ap (λ (l : List (Event D)). l ++ more) whole in record {
     rest = [];
     begins = sym seen ∙ sym (append-nil (seen_of w k));
@@ -30,7 +30,7 @@ module _ {D : Type 0} where
   }
 
   -- the view of another, to whom they are others' events
-  others_fit : (k : ℕ) (log more : List (Event D)) (u : View D) → Fits k log u → AreOthers u.numbers more → Fits k (log ++ more) u
+  others_fit : (k : ℕ) (log more : List (Event D)) (u : View D) → FitsLog k log u → AreOthers u.numbers more → FitsLog k (log ++ more) u
   others_fit k log more u f others = record {
     rest = f.rest ++ more;
     begins = ap (λ (l : List (Event D)). l ++ more) f.begins ∙ append_assoc (seen_of u k) f.rest more;
@@ -46,7 +46,7 @@ module _ {D T B : Type 0} (does : ℕ → T → D → T → Type 0) (empty : T) 
 
   -- the stripe after a release
   release_stripe : (s : State (Option B) (View D)) (id k : ℕ) (v w : View D) (b : B) (more : List (Event D)) (r : Rule s) → At s.views id v → (inside : k < stripes) → held_at v k ≡ true
-      → Replays (does k) empty (seen_of v k ++ more) (content b) → AreUnder v.numbers more → Sets v k (grown (part_of v k) more) w
+      → Replays (does k) empty (seen_of v k ++ more) (content b) → AreUnder v.numbers more → SetsPart v k (grown (part_of v k) more) w
       → Stripe does empty content passes k 0 (maybe.some (Some b)) (set s.views id w)
   release_stripe s id k v w b more r at inside held content_is under sets = let t = (r.stripe k inside).1.1 in ⊎_elim
       (λ (free : IsFree does empty content k t.log (get_or s.words (word_at k) 0) (r.stripe k inside).0 s.views). absurd (true≢false (sym held ∙ free.nobody id v at)))
@@ -60,7 +60,7 @@ module _ {D T B : Type 0} (does : ℕ → T → D → T → Type 0) (empty : T) 
         legal = (content b, replays);
         below = All-append (IsBelow passes) t.log more t.below (under_below v.numbers passes more (r.counted id v at).small under);
         fits = λ j u e. ⊎_elim
-            (λ (x : (j ≡ id) × (w ≡ u)). subst (Fits k log) x.1 (grown_fits k t.log more v w (t.fits id v at) whole under sets))
+            (λ (x : (j ≡ id) × (w ≡ u)). subst (FitsLog k log) x.1 (grown_fits k t.log more v w (t.fits id v at) whole under sets))
             (λ (x : (j ≢ id) × At s.views j u). others_fit k t.log more u (t.fits j u x.1) (under_others v.numbers u.numbers more (λ q mine theirs. x.0 (r.apart j id u v q x.1 at theirs mine)) under))
             (at_set s.views id j w u e);
         place = inl record {

@@ -13,14 +13,14 @@ use Rattle.stripe_rule.specs.declared.view.View.{View}
 use Rattle.stripe_rule.specs.History.{has, made_by, AreUnder, AreOthers, AreBelow, IsLegal}
 use Rattle.stripe_rule.specs.Gains.{blank, part_of, seen_of, mine_of, held_at, Carries, IsSound}
 use Rattle.stripe_rule.specs.Words.{word_at}
-use Rattle.stripe_rule.specs.Rule.{Home, At, IsCounted, Fits, IsFree, IsHeld, Stripe, Kept}
-use Rattle.stripe_rule.specs.Steps.{Sets, lengthened}
+use Rattle.stripe_rule.specs.Rule.{Home, At, IsCounted, FitsLog, IsFree, IsHeld, Stripe, Kept}
+use Rattle.stripe_rule.specs.Steps.{SetsPart, lengthened}
 use Rattle.stripe_rule.proofs.HistoryLemmas.{IsBelow, All-front, legal_front, made_by-others}
 use Rattle.stripe_rule.proofs.ViewLemmas.{set_at, get_or-beyond, every_set, same_view, apart_set, counted_same}
 
 module _ {D : Type 0} where
   -- a view with the same numbers and the same part fits as before
-  pub fits_same : (k : ℕ) (log : List (Event D)) (v w : View D) → w.numbers ≡ v.numbers → part_of w k ≡ part_of v k → Fits k log v → Fits k log w
+  pub fits_same : (k : ℕ) (log : List (Event D)) (v w : View D) → w.numbers ≡ v.numbers → part_of w k ≡ part_of v k → FitsLog k log v → FitsLog k log w
   fits_same k log v w numbers part f = record {
     rest = f.rest;
     begins = f.begins ∙ ap (λ (p : Part D). p.seen ++ f.rest) (sym part);
@@ -31,7 +31,7 @@ module _ {D : Type 0} where
   }
 
   -- a view that has seen the rest of the list fits
-  pub fits_seen : (k : ℕ) (log : List (Event D)) (v w : View D) (held : Bool) (f : Fits k log v) → Sets v k (lengthened (part_of v k) f.rest held) w → Fits k log w
+  pub fits_seen : (k : ℕ) (log : List (Event D)) (v w : View D) (held : Bool) (f : FitsLog k log v) → SetsPart v k (lengthened (part_of v k) f.rest held) w → FitsLog k log w
   fits_seen k log v w held f sets = let seen : seen_of w k ≡ log = ap (λ (p : Part D). p.seen) sets.here ∙ sym f.begins in record {
     rest = [];
     begins = sym (append-nil log) ∙ ap (λ (l : List (Event D)). l ++ []) (sym seen);
@@ -86,12 +86,12 @@ module _ {D T B : Type 0} (does : ℕ → T → D → T → Type 0) (empty : T) 
 
   -- the stripe where one view changes and fits
   pub stripe_set : (passes k word : ℕ) (home : Home B) (views : List (View D)) (id : ℕ) (v w : View D) (r : Stripe does empty content passes k word home views) → At views id v
-      → Fits k r.log w → held_at w k ≡ held_at v k → (seen_of v k ≡ r.log → seen_of w k ≡ r.log) → Stripe does empty content passes k word home (set views id w)
+      → FitsLog k r.log w → held_at w k ≡ held_at v k → (seen_of v k ≡ r.log → seen_of w k ≡ r.log) → Stripe does empty content passes k word home (set views id w)
   stripe_set passes k word home views id v w r at fits held seen = record {
     log = r.log;
     legal = r.legal;
     below = r.below;
-    fits = every_set (Fits k r.log) views id w fits r.fits;
+    fits = every_set (FitsLog k r.log) views id w fits r.fits;
     place = place_set k r.log word home views id v w at held seen r.place;
   }
 
@@ -103,7 +103,7 @@ module _ {D T B : Type 0} (does : ℕ → T → D → T → Type 0) (empty : T) 
 
   -- all is kept where one view changes at the stripe k alone, and the stripe keeps its part of the rule
   pub kept_set : (stripes passes : ℕ) (s : State (Option B) (View D)) (id : ℕ) (v w : View D) (k word : ℕ) (part : Part D) (home : Home B) (homes : List (Home B))
-      → Kept does empty content stripes passes s → At s.views id v → k < stripes → Sets v k part w → Stripe does empty content passes k word home (set s.views id w)
+      → Kept does empty content stripes passes s → At s.views id v → k < stripes → SetsPart v k part w → Stripe does empty content passes k word home (set s.views id w)
       → get_elem? homes k ≡ maybe.some home → ((j : ℕ) → j ≢ k → get_elem? homes j ≡ get_elem? s.homes j)
       → Kept does empty content stripes passes record { words = set s.words (word_at k) word; homes = homes; views = set s.views id w }
   kept_set stripes passes s id v w k word part home homes r at inside sets stripe here else = record {
@@ -127,7 +127,7 @@ module _ {D T B : Type 0} (does : ℕ → T → D → T → Type 0) (empty : T) 
   abbrev SoundAt : View D → ℕ → Type 0
   SoundAt v k = IsLegal (does k) empty (seen_of v k) × (AreBelow v.passes (seen_of v k) × (AreUnder v.numbers (mine_of v k) × ((q : ℕ) → Carries v q → made_by q (seen_of v k) ≡ made_by q (mine_of v k))))
 
-  sound_at : (passes k : ℕ) (log : List (Event D)) (v : View D) → v.passes ≡ passes → IsLegal (does k) empty log → AreBelow passes log → Fits k log v → SoundAt v k
+  sound_at : (passes k : ℕ) (log : List (Event D)) (v : View D) → v.passes ≡ passes → IsLegal (does k) empty log → AreBelow passes log → FitsLog k log v → SoundAt v k
   sound_at passes k log v count legal below f = (
     legal_front (does k) empty (seen_of v k) f.rest (subst (IsLegal (does k) empty) f.begins legal),
     (

@@ -12,7 +12,7 @@ use Rattle.stripe_rule.specs.declared.view.View.{View}
 use Rattle.stripe_rule.specs.History.{Replays}
 use Rattle.stripe_rule.specs.Gains.{part_of, seen_of, held_at, Carries}
 use Rattle.stripe_rule.specs.Words.{word_at}
-use Rattle.stripe_rule.specs.Rule.{At, Fits, IsFree, IsHeld, Stripe, Kept}
+use Rattle.stripe_rule.specs.Rule.{At, FitsLog, IsFree, IsHeld, Stripe, Kept}
 use Rattle.stripe_rule.specs.Steps.{lengthened, Looks, looked, Takes, took}
 use Rattle.stripe_rule.proofs.ViewLemmas.{set_at, every_set, put_part, sets_put}
 use Rattle.stripe_rule.proofs.StripeLemmas.{fits_seen, stripe_set, kept_set, sound_of}
@@ -22,7 +22,7 @@ module _ {D T B : Type 0} (does : ℕ → T → D → T → Type 0) (empty : T) 
   Rule = Kept does empty content stripes passes
 
   -- the view that has seen all of the stripe k
-  abbrev Seeing : (k : ℕ) (log : List (Event D)) (v : View D) → Fits k log v → Bool → View D
+  abbrev Seeing : (k : ℕ) (log : List (Event D)) (v : View D) → FitsLog k log v → Bool → View D
   Seeing k log v f held = put_part v k (lengthened (part_of v k) f.rest held)
 
   -- the state and the view after a look, at a word that stays
@@ -58,7 +58,7 @@ module _ {D T B : Type 0} (does : ℕ → T → D → T → Type 0) (empty : T) 
         log = t.log;
         legal = t.legal;
         below = t.below;
-        fits = every_set (Fits k t.log) s.views id w (fits_seen k t.log v w true f sets) t.fits;
+        fits = every_set (FitsLog k t.log) s.views id w (fits_seen k t.log v w true f sets) t.fits;
         place = inr record {
           word_is = refl;
           home_is = refl;

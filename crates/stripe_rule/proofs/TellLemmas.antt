@@ -9,7 +9,7 @@ use Rattle.stripe_rule.specs.declared.view.View.{View}
 use Rattle.stripe_rule.specs.History.{has, made_by, AreUnder, AreOthers, StartsWith}
 use Rattle.stripe_rule.specs.Gains.{blank, part_of, seen_of, told_of, held_at, Carries, Hears}
 use Rattle.stripe_rule.specs.Words.{word_at}
-use Rattle.stripe_rule.specs.Rule.{At, IsCounted, Fits, Kept}
+use Rattle.stripe_rule.specs.Rule.{At, IsCounted, FitsLog, Kept}
 use Rattle.stripe_rule.specs.Steps.{Extends, told_part, IsTold, HasHeard}
 use Rattle.stripe_rule.proofs.ViewLemmas.{every_set, apart_set, counted_same}
 use Rattle.stripe_rule.proofs.StripeLemmas.{stripe_set}
@@ -42,7 +42,7 @@ module _ {D : Type 0} where
   is_told v from e = record { numbers = refl; passes = refl; wide = length-told_parts v.parts from.parts; parts = λ k. get_or-told_parts v.parts from.parts k e }
 
   -- a view that is told fits as before
-  told_fits : (k : ℕ) (log : List (Event D)) (v from u : View D) → Fits k log v → Fits k log from → u.numbers ≡ v.numbers → part_of u k ≡ told_part (part_of v k) (seen_of from k) → Fits k log u
+  told_fits : (k : ℕ) (log : List (Event D)) (v from u : View D) → FitsLog k log v → FitsLog k log from → u.numbers ≡ v.numbers → part_of u k ≡ told_part (part_of v k) (seen_of from k) → FitsLog k log u
   told_fits k log v from u f g numbers part = record {
     rest = f.rest;
     begins = f.begins ∙ ap (λ (p : Part D). p.seen ++ f.rest) (sym part);

@@ -8,7 +8,7 @@ use Rattle.stripe_rule.specs.declared.view.View.{View}
 use Rattle.stripe_rule.specs.History.{has}
 use Rattle.stripe_rule.specs.Gains.{blank}
 use Rattle.stripe_rule.specs.Rule.{At, AreApart, IsCounted}
-use Rattle.stripe_rule.specs.Steps.{Sets}
+use Rattle.stripe_rule.specs.Steps.{SetsPart}
 
 module _ {A : Type 0} where
   pub set_at : (l : List A) (i : ℕ) (a b : A) → get_elem? l i ≡ maybe.some a → get_elem? (set l i b) i ≡ maybe.some b
@@ -57,7 +57,7 @@ module _ {D : Type 0} where
   abbrev pub put_part : View D → ℕ → Part D → View D
   put_part v k p = record { numbers = v.numbers; passes = v.passes; parts = set v.parts k p }
 
-  pub sets_put : (v : View D) (k : ℕ) (p : Part D) → k < length v.parts → Sets v k p (put_part v k p)
+  pub sets_put : (v : View D) (k : ℕ) (p : Part D) → k < length v.parts → SetsPart v k p (put_part v k p)
   sets_put v k p inside = record {
     numbers = refl;
     passes = refl;

@@ -48,7 +48,7 @@ module _ {D : Type 0} where
 
   -- an event of it, under its least number
   abbrev pub own_event : View D → D → Event D
-  own_event v deed = record { by = least v.numbers; deed = deed }
+  own_event v action = record { by = least v.numbers; action = action }
 
   -- it has of the stripe k, behind all that it had seen, others' events and then these, which are its own
   pub record Gains (v w : View D) (k : ℕ) (more : List (Event D)) : Type 0 where
@@ -82,7 +82,7 @@ module _ {D : Type 0} where
     pub begins : (k : ℕ) → k < stripes → StartsWith (seen_of w k) (seen_of v k)
     pub begins_other : (k : ℕ) → k < stripes → StartsWith (seen_of w k) (seen_of other k)
 
--- `does k table deed new`: the deed, done on the table of the stripe k, leaves the new one, and its answer is the one that
+-- `does k table action new`: the action, done on the table of the stripe k, leaves the new one, and its answer is the one that
 -- it records
 module _ {D T : Type 0} (does : ℕ → T → D → T → Type 0) (empty : T) where
   -- what always holds of a pass: what it has seen of each stripe is a legal list of events under numbers of passes

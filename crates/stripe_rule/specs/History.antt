@@ -29,12 +29,12 @@ module _ {D : Type 0} where
   abbrev pub StartsWith : List (Event D) → List (Event D) → Type 0
   StartsWith es first = (rest : List (Event D)) × (es ≡ first ++ rest)
 
--- `does table deed new`: the deed, done on the table, leaves the new one, and its answer is the one that it records
+-- `does table action new`: the action, done on the table, leaves the new one, and its answer is the one that it records
 module _ {D T : Type 0} (does : T → D → T → Type 0) where
   -- the events, made in turn on the table, leave the new one
   abbrev pub Replays : T → List (Event D) → T → Type 0
   Replays table [] new = new ≡ table
-  Replays table (e ∷ es) new = (next : T) × (does table e.deed next × Replays next es new)
+  Replays table (e ∷ es) new = (next : T) × (does table e.action next × Replays next es new)
 
   -- replayed from the empty table, each event's answer is the one that it records
   abbrev pub IsLegal : T → List (Event D) → Type 0

@@ -44,7 +44,7 @@ module _ {D : Type 0} where
 
   -- what a view knows of the stripe k, beside the one list of all events there: it has seen a beginning of the list, with
   -- all events under its numbers in it, which are those that it made
-  pub record Fits (k : ℕ) (log : List (Event D)) (v : View D) : Type 0 where
+  pub record FitsLog (k : ℕ) (log : List (Event D)) (v : View D) : Type 0 where
     pub rest : List (Event D)
     pub begins : log ≡ seen_of v k ++ rest
     pub others : AreOthers v.numbers rest
@@ -52,7 +52,7 @@ module _ {D : Type 0} where
     pub under : AreUnder v.numbers (mine_of v k)
     pub heard : StartsWith log (told_of v k)
 
--- `does k table deed new`: the deed, done on the table of the stripe k, leaves the new one, and its answer is the one that
+-- `does k table action new`: the action, done on the table of the stripe k, leaves the new one, and its answer is the one that
 -- it records. `content bins`: the table that the bins keep
 module _ {D T B : Type 0} (does : ℕ → T → D → T → Type 0) (empty : T) (content : B → T) where
   -- the stripe is free: the word is 0, the bins are at home with what the list leaves, and no view holds it
@@ -79,7 +79,7 @@ module _ {D T B : Type 0} (does : ℕ → T → D → T → Type 0) (empty : T) 
     pub log : List (Event D)
     pub legal : IsLegal (does k) empty log
     pub below : AreBelow passes log
-    pub fits : (id : ℕ) (v : View D) → At views id v → Fits k log v
+    pub fits : (id : ℕ) (v : View D) → At views id v → FitsLog k log v
     pub place : IsFree k log word home views ⊎ IsHeld k log word home views
 
   -- the rule

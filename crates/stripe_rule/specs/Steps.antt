@@ -10,7 +10,7 @@ use Rattle.stripe_rule.specs.Words.{word_at}
 
 module _ {D : Type 0} where
   -- only what is known of the stripe k is new: it is this part
-  pub record Sets (v : View D) (k : ℕ) (part : Part D) (w : View D) : Type 0 where
+  pub record SetsPart (v : View D) (k : ℕ) (part : Part D) (w : View D) : Type 0 where
     pub numbers : w.numbers ≡ v.numbers
     pub passes : w.passes ≡ v.passes
     pub wide : length w.parts ≡ length v.parts
@@ -33,7 +33,7 @@ module _ {D : Type 0} where
   pub record Extends (v : View D) (k : ℕ) (held : Bool) (w : View D) : Type 0 where
     pub between : List (Event D)
     pub others : AreOthers v.numbers between
-    pub sets : Sets v k (lengthened (part_of v k) between held) w
+    pub sets : SetsPart v k (lengthened (part_of v k) between held) w
 
   -- it was told at each stripe of all that the other has seen
   pub record IsTold (from v w : View D) : Type 0 where
@@ -63,7 +63,7 @@ module _ {D T : Type 0} (does : ℕ → T → D → T → Type 0) (empty : T) wh
 
   -- the swap of the word to 0, which puts the place taken last back home and adds these events
   pub record Releases {S : Type 0} (more : List (Event D)) (k : ℕ) (me me' : Me S (View D)) : Type 0 where
-    pub sets : Sets me.0 k (grown (part_of me.0 k) more) me'.0
+    pub sets : SetsPart me.0 k (grown (part_of me.0 k) more) me'.0
     pub sound : IsSound does empty me'.0
     pub out : me'.1 ≡ rest me.1
 

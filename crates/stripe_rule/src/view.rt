@@ -5,7 +5,7 @@ use std::collections::LinkedList;
 /// Something that was done to a stripe, under the number of a pass. `D` says what was done, and what was answered.
 pub struct Event<D> {
     pub by: u64,
-    pub deed: D,
+    pub action: D,
 }
 
 /// What a pass knows of one stripe.

@@ -4,5 +4,4 @@ pub mod ProductLemmas
 pub mod BitLemmas
 pub mod ShiftLemmas
 pub mod MoveLemmas
-pub mod ValueLemmas
 pub mod ConditionLemmas

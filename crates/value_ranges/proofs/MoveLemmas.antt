@@ -13,11 +13,7 @@ use Rattle.bpf_model.specs.declared.operations.Width.{Width}
 use Rattle.bpf_model.specs.declared.operations.Width.TheVariants.{W64}
 use Rattle.bpf_model.specs.declared.operations.SignExtension.{SignExtension}
 use Rattle.bpf_model.specs.declared.operations.SignExtension.TheVariants.{From8To32, From16To32, From8To64, From16To64, From32To64}
-use Rattle.bpf_model.specs.declared.operations.ByteOrder.{ByteOrder}
-use Rattle.bpf_model.specs.declared.operations.ByteOrder.TheVariants.{Little, Big, Swap}
-use Rattle.bpf_model.specs.declared.operations.SwapWidth.{SwapWidth}
-use Rattle.bpf_model.specs.declared.operations.SwapWidth.TheVariants.{S16, S32, S64}
-use Rattle.bpf_model.specs.Arithmetic.{modulus, wrapped, extended, low_signed, extension_width, extension_bits, swap_modulus, reversed, reordered}
+use Rattle.bpf_model.specs.Arithmetic.{modulus, wrapped, extended, low_signed, extension_width, extension_bits}
 use Rattle.bpf_model.specs.Words.{IsWord}
 use Rattle.value_ranges.specs.In.{IsWithinSigned}
 use Rattle.bpf_model.proofs.SignedLemmas.{modulus_some, wrapped_below, wrapped_signed}
@@ -76,7 +72,7 @@ between (pos n) lo hi h p e f = (omega (arith, ints), omega (arith, ints))
 between (negsuc n) lo hi h p e f = (omega (arith, ints), omega (arith, ints))
 
 -- the word of a number from -h to h - 1 reads so
-word_within : (z lo hi : ℤ) (h : ℕ) → mag z < h → h ≤ 2 ^ 31 → lo +ℤ pos h ≡ pos 0 → hi +ℤ pos 1 ≡ pos h → IsWithinSigned (wrapped (2 ^ 64) z) lo hi
+pub word_within : (z lo hi : ℤ) (h : ℕ) → mag z < h → h ≤ 2 ^ 31 → lo +ℤ pos h ≡ pos 0 → hi +ℤ pos 1 ≡ pos h → IsWithinSigned (wrapped (2 ^ 64) z) lo hi
 word_within z lo hi h p q e f =
     let fits : FitsSigned w64 z = record { sfits = omega (arith, p, q) } in
     let b = between z lo hi h p e f in
@@ -86,20 +82,3 @@ word_within z lo hi h p q e f =
 pub extended_within : (e : SignExtension) (x : ℕ) (lo hi : ℤ) → extension_width e ≡ W64 → lo +ℤ pos (2 ^ (extension_bits e - 1)) ≡ pos 0 → hi +ℤ pos 1 ≡ pos (2 ^ (extension_bits e - 1)) → IsWithinSigned (extended e x) lo hi
 unfolding extended
 extended_within e x lo hi is low high = rw is (word_within (low_signed e x) lo hi (2 ^ (extension_bits e - 1)) (low_fits e x) (half_bound e) low high)
-
-reversed_below : (size : SwapWidth) (n : ℕ) → reversed size n < swap_modulus size
-unfolding reversed
-reversed_below S16 n = omega arith
-reversed_below S32 n = omega arith
-reversed_below S64 n = omega arith
-
-swap_some : (size : SwapWidth) → 0 < swap_modulus size
-swap_some S16 = omega arith
-swap_some S32 = omega arith
-swap_some S64 = omega arith
-
--- reordered bytes are no more bytes
-pub reordered_below : (order : ByteOrder) (size : SwapWidth) (x : ℕ) → reordered order size x < swap_modulus size
-reordered_below Little size x = mod_below x (swap_modulus size) (swap_some size)
-reordered_below Big size x = reversed_below size (x % swap_modulus size)
-reordered_below Swap size x = reversed_below size (x % swap_modulus size)

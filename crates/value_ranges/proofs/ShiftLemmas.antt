@@ -1,18 +1,17 @@
 -- Bounds of shifts.
 use Rattle.std.proofs.Common.{◌≡◌, ℕ, ◌*◌, ◌/◌, ◌%◌, ◌^◌, ◌<◌, ◌≤◌, refl, inl, inr, arith, ℤ, pos, negsuc, SFits, to_z, of_z}
 use Rattle.std.specs.Prelude.{◌⊎◌, ◌≤ℤ◌, FitsSigned}
-use Rattle.std.specs.Int.{w32, w64, int_shr}
+use Rattle.std.specs.Int.{w32, w64}
 use Rattle.std.specs.Int.Signed.{shr_z, mag_shr}
 use Rattle.std.proofs.lemmas.Int.{ints, to_z-of_z, to_z_pos}
 use Rattle.std.proofs.Math.Facts.{sfits_to_z}
 use Rattle.std.proofs.lemmas.Nat.{mul-le, pow_pos}
 use Rattle.std.proofs.Math.Nat.{div-le_self, mod-eq_of_lt}
-use Rattle.bpf_model.specs.declared.operations.Width.{Width}
 use Rattle.bpf_model.specs.declared.operations.Width.TheVariants.{W32, W64}
-use Rattle.bpf_model.specs.Arithmetic.{modulus, bits_of, signed_at, signed_right}
+use Rattle.bpf_model.specs.Arithmetic.{signed_right}
 use Rattle.bpf_model.specs.Words.{IsWord, signed}
 use Rattle.value_ranges.specs.In.{IsWithinUnsigned, IsWithinSigned}
-use Rattle.bpf_model.proofs.SignedLemmas.{modulus_some, wrapped_below, wrapped_signed}
+use Rattle.bpf_model.proofs.SignedLemmas.{wrapped_below, wrapped_signed}
 use Rattle.value_ranges.proofs.ProductLemmas.{quotient_most}
 
 -- to the left, by one factor, where nothing is shifted out
@@ -111,7 +110,3 @@ unfolding signed_right
 right_word x y h =
     let less : x / 2 ^ (y % 32) ≤ x = div-le_self x (2 ^ (y % 32)) in
     rw (to_z_pos w32 x h) (mod-eq_of_lt (omega (arith, h, less)))
-
-pub right_below : (width : Width) (x y : ℕ) → signed_right width x y < modulus width
-unfolding signed_right
-right_below width x y = wrapped_below (modulus width) (int_shr (signed_at width x) (y % bits_of width)) (modulus_some width)

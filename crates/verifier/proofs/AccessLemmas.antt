@@ -2,8 +2,8 @@
 use Rattle.std.proofs.Common.{◌≡◌, ℕ, Some, None, sym, ap, subst, ◌∙◌, arith, ℤ}
 use Rattle.std.specs.Prelude.{true}
 use Rattle.bpf_model.specs.declared.input.Sizes.{Sizes}
-use Rattle.bpf_model.specs.declared.region.Region.{Region}
-use Rattle.bpf_model.specs.declared.region.Region.TheVariants.{Key, Old, Arg, Result, Stack}
+use Rattle.bpf_model.specs.declared.window.Window.{Window}
+use Rattle.bpf_model.specs.declared.window.Window.TheVariants.{Key, Old, Arg, Result, Stack}
 use Rattle.bpf_model.specs.declared.accesses.AccessSize.{AccessSize}
 use Rattle.bpf_model.specs.declared.instruction.Insn.{Insn}
 use Rattle.bpf_model.specs.declared.instruction.Insn.TheVariants.{Load, Store}
@@ -17,10 +17,10 @@ use Rattle.stack_slots.specs.declared.reg_value.RegValue.{RegValue}
 use Rattle.stack_slots.specs.Kept.{IsKept}
 use Rattle.stack_slots.specs.Values.{StandsFor}
 use Rattle.verifier.specs.declared.abstract_state.AbstractState.{AbstractState}
-use Rattle.verifier.specs.declared.abstract_state.place.Place.{Place}
+use Rattle.verifier.specs.declared.abstract_state.span.Span.{Span}
 use Rattle.verifier.specs.Instructions.{load_of, store_of}
 use Rattle.verifier.specs.Joins.{register}
-use Rattle.verifier.specs.Describes.{Describes, Knows, IsAt, LiesInside}
+use Rattle.verifier.specs.Describes.{Describes, Knows, IsInSpan, LiesInside}
 use Rattle.verifier.specs.Windows.{pointed_window, window_of, LiesIn}
 use Rattle.verifier.proofs.WindowLemmas.{lies_inside}
 
@@ -30,20 +30,20 @@ no_access sizes (Load kind dst src offset) a load store = absurd cc
 no_access sizes (Store size dst src offset) a load store = absurd cc
 no_access sizes other a load store = record { can_bind = tt; inside = λ s d. tt }
 
-pub kept_written : (r : Region) → IsKept r → IsWritten r
+pub kept_written : (r : Window) → IsKept r → IsWritten r
 kept_written Key h = h
 kept_written Old h = h
 kept_written Arg h = h
 kept_written Result h = h
 kept_written Stack h = h
 
--- an access at a place inside its window lies in the window that its register points into
-pub access_lies : (sizes : Sizes) (a : AbstractState) (r : ℕ) (base : RegValue) (offset : ℤ) (p : Place) (size : AccessSize) → base ≡ register a r → Knows a r base → p.region ≡ pointed_window base → LiesInside sizes p size → ((w : ℕ) → StandsFor base (Some w) → IsAt p (address_of w offset))
+-- an access at a span inside its window lies in the window that its register points into
+pub access_lies : (sizes : Sizes) (a : AbstractState) (r : ℕ) (base : RegValue) (offset : ℤ) (p : Span) (size : AccessSize) → base ≡ register a r → Knows a r base → p.window ≡ pointed_window base → LiesInside sizes p size → ((w : ℕ) → StandsFor base (Some w) → IsInSpan p (address_of w offset))
     → (s : State) → Describes a sizes s → (w : ℕ) → s.registers r ≡ Some w → lies_in_window sizes (pointed_window (register a r)) (address_of w offset) (byte_count size) ≡ true
-access_lies sizes a r base offset p size is knows region inside at s d w has =
+access_lies sizes a r base offset p size is knows window inside at s d w has =
     let k = knows sizes s d in
     let same : k.word ≡ w = some_is k.word w (sym k.is ∙ has) in
     let there = at w (subst (λ (v : ℕ). StandsFor base (Some v)) same k.stands) in
-    let window : p.region ≡ pointed_window (register a r) = region ∙ ap pointed_window is in
-    let lies : lies_in_window sizes p.region (address_of w offset) (byte_count size) ≡ true = rw there.is (lies_inside sizes p.region there.distance (byte_count size) (omega (arith, there.greatest, inside))) in
-    subst (λ (u : Region). lies_in_window sizes u (address_of w offset) (byte_count size) ≡ true) window lies
+    let window : p.window ≡ pointed_window (register a r) = window ∙ ap pointed_window is in
+    let lies : lies_in_window sizes p.window (address_of w offset) (byte_count size) ≡ true = rw there.is (lies_inside sizes p.window there.distance (byte_count size) (omega (arith, there.greatest, inside))) in
+    subst (λ (u : Window). lies_in_window sizes u (address_of w offset) (byte_count size) ≡ true) window lies

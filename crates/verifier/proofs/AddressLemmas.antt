@@ -7,23 +7,29 @@ use Rattle.bpf_model.specs.Words.{IsWord, sign_extended}
 use Rattle.bpf_model.specs.declared.operations.AluOp.TheVariants.{Add, Sub}
 use Rattle.bpf_model.specs.declared.operations.Width.TheVariants.{W64}
 use Rattle.bpf_model.specs.Arithmetic.{alu_value}
-use Rattle.bpf_model.specs.declared.region.Region.{Region}
+use Rattle.bpf_model.specs.declared.window.Window.{Window}
 use Rattle.bpf_model.specs.Memory.{first_address}
 use Rattle.bpf_model.specs.Step.{address_of}
 use Rattle.stack_slots.specs.declared.pointer.Pointer.{Pointer}
 use Rattle.stack_slots.specs.Values.{PointsTo}
 use Rattle.stack_slots.proofs.PointerLemmas.{IsNear, near_bits, offset_near, first_small}
-use Rattle.verifier.specs.declared.abstract_state.place.Place.{Place}
-use Rattle.verifier.specs.Describes.{IsAt}
+use Rattle.verifier.specs.declared.abstract_state.span.Span.{Span}
+use Rattle.verifier.specs.Describes.{IsInSpan}
+use Rattle.verifier.specs.Instructions.{IsAboveLeastOffset}
 
 -- an offset to an address near a window's first one
-address_at : (first place : ℕ) (z offset : ℤ) → first ≤ 0x50000 → IsNear z → IsNear offset → pos place ≡ z +ℤ offset → address_of (address_of first z) offset ≡ first + place
-address_at first place z offset small near near' is =
+address_at : (first span : ℕ) (z offset : ℤ) → first ≤ 0x50000 → IsNear z → IsNear offset → pos span ≡ z +ℤ offset → address_of (address_of first z) offset ≡ first + span
+address_at first span z offset small near near' is =
     let a = near_bits z near in
     let b = near_bits offset near' in
-    let low : place ≤ 2 ^ 21 = omega (arith, ints, is, near.most, near'.most) in
-    let bits : place ≡ (sign_extended z + sign_extended offset) % 2 ^ 64 = omega (arith, ints) in
+    let low : span ≤ 2 ^ 21 = omega (arith, ints, is, near.most, near'.most) in
+    let bits : span ≡ (sign_extended z + sign_extended offset) % 2 ^ 64 = omega (arith, ints) in
     omega arith
+
+-- the offset of an access has 16 bits
+pub offset_fits : (z : ℤ) → SFits w16 z → IsAboveLeastOffset z
+offset_fits (pos n) fits = omega (arith, ints)
+offset_fits (negsuc n) fits = let small : n < 2 ^ 15 = fits.sfits in omega (arith, ints, small)
 
 -- the offset of an access is small
 pub offset_small : (z : ℤ) → SFits w16 z → IsNear z
@@ -34,9 +40,9 @@ not_negative : (z : ℤ) → pos 0 ≤ℤ z → (n : ℕ) × (z ≡ pos n)
 not_negative (pos n) low = (n, refl)
 not_negative (negsuc n) low = absurd (omega (arith, ints, low))
 
--- an access through a pointer is from its least place to its greatest
-pub access_at : (p : Pointer) (place : Place) (offset : ℤ) (w : ℕ) → IsNear offset → place.region ≡ p.region → pos place.least ≡ p.least +ℤ offset → pos place.greatest ≡ p.greatest +ℤ offset → PointsTo p w → IsAt place (address_of w offset)
-access_at p place offset w near region least greatest at =
+-- an access through a pointer is from its least offset to its greatest
+pub access_at : (p : Pointer) (span : Span) (offset : ℤ) (w : ℕ) → IsNear offset → span.window ≡ p.window → pos span.least ≡ p.least +ℤ offset → pos span.greatest ≡ p.greatest +ℤ offset → PointsTo p w → IsInSpan span (address_of w offset)
+access_at p span offset w near window least greatest at =
     let z = at.offset in
     let there = not_negative (z +ℤ offset) (omega (arith, ints, least, at.least)) in
     let n = there.0 in
@@ -44,7 +50,7 @@ access_at p place offset w near region least greatest at =
       distance = n;
       least = omega (arith, ints, there.1, least, at.least);
       greatest = omega (arith, ints, there.1, greatest, at.greatest);
-      is = ap (λ (v : ℕ). address_of v offset) at.address ∙ (address_at (first_address p.region) n z offset (first_small p.region) (offset_near p z at.least at.greatest) near (sym there.1) ∙ ap (λ (r : Region). first_address r + n) (sym region));
+      is = ap (λ (v : ℕ). address_of v offset) at.address ∙ (address_at (first_address p.window) n z offset (first_small p.window) (offset_near p z at.least at.greatest) near (sym there.1) ∙ ap (λ (r : Window). first_address r + n) (sym window));
     }
 
 -- sums and differences of words, as pointers give them

@@ -8,14 +8,14 @@ use Rattle.bpf_model.specs.declared.instruction.Insn.{Insn}
 use Rattle.bpf_model.specs.Program.{IsProgram, units_of, instruction_at}
 use Rattle.bpf_model.specs.State.{State}
 use Rattle.flow_shape.specs.FlowShape.{IsForward}
-use Rattle.bpf_model.specs.declared.region.Region.{Region}
+use Rattle.bpf_model.specs.declared.window.Window.{Window}
 use Rattle.bound_operations.specs.declared.operation.Operation.{Operation}
 use Rattle.bound_operations.specs.Binding.{Binds, LeadsTo}
 use Rattle.verifier.specs.declared.abstract_state.AbstractState.{AbstractState}
 use Rattle.verifier.specs.declared.walk.pending.Pending.{Pending}
 use Rattle.verifier.specs.Describes.{Describes}
 use Rattle.verifier.specs.Windows.{LiesIn}
-use Rattle.verifier.specs.Walks.{boxed, kept_at, IsDescribed, IncludesSome, IsKnown, Passes, Visits}
+use Rattle.verifier.specs.Walks.{boxed, kept_at, IsDescribed, IncludesSome, IsKnown, Advances, Visits}
 use Rattle.verifier.proofs.WalkLemmas.{LeadsOrEnds, Walked, walked_on}
 
 -- a list of defaults past the end reads as before
@@ -80,8 +80,8 @@ visits_none program sizes i unit before operation = record {
   bound = λ s same d. absurd d;
 }
 
--- an instruction that is passed, and bound to the window of its access and the place of its target
-pub visits_some : (program : List Insn) (sizes : Sizes) (i : Insn) (unit : ℕ) (before after : Pending) (a b : AbstractState) (on : Bool) (later : Option AbstractState) (window : Region) (target : ℕ) (operation : Operation) → Passes sizes i unit before a after on b → later ≡ (if on then Some b else None) → LiesIn sizes i a window → LeadsTo program i unit target → Binds operation i window target → Visits program sizes i unit before (Some a) after later operation
+-- an instruction that is passed, and bound to the window of its access and the index of its target
+pub visits_some : (program : List Insn) (sizes : Sizes) (i : Insn) (unit : ℕ) (before after : Pending) (a b : AbstractState) (on : Bool) (later : Option AbstractState) (window : Window) (target : ℕ) (operation : Operation) → Advances sizes i unit before a after on b → later ≡ (if on then Some b else None) → LiesIn sizes i a window → LeadsTo program i unit target → Binds operation i window target → Visits program sizes i unit before (Some a) after later operation
 visits_some program sizes i unit before after a b on later window target operation passes is lies leads binds = record {
   leads = rw is passes.leads;
   keeps = passes.keeps;

@@ -5,7 +5,7 @@ use Rattle.std.specs.Int.{w32, w64}
 use Rattle.std.proofs.lemmas.List.{get_or-set_same, get_or-set_other, length-set, ext_get_or}
 use Rattle.std.proofs.lemmas.Int.{ints, to_z-of_z}
 use Rattle.bpf_model.specs.declared.input.Sizes.{Sizes}
-use Rattle.bpf_model.specs.declared.region.Region.{Region}
+use Rattle.bpf_model.specs.declared.window.Window.{Window}
 use Rattle.bpf_model.specs.declared.operations.AluOp.{AluOp}
 use Rattle.bpf_model.specs.declared.operations.AluOp.TheVariants.{Add, And}
 use Rattle.bpf_model.specs.declared.operations.Width.{Width}
@@ -26,10 +26,10 @@ use Rattle.stack_slots.specs.Offsets.{AreInReach}
 use Rattle.stack_slots.specs.Values.{IsPointerIn, IsNumberIn}
 use Rattle.stack_slots.specs.Frames.{is_written, NoneUnwritten}
 use Rattle.verifier.specs.declared.abstract_state.AbstractState.{AbstractState}
-use Rattle.verifier.specs.declared.abstract_state.place.Place.{Place}
+use Rattle.verifier.specs.declared.abstract_state.span.Span.{Span}
 use Rattle.verifier.specs.Joins.{register, SetsTo}
 use Rattle.verifier.specs.Instructions.{written_by, store_of, Touch}
-use Rattle.verifier.specs.Changes.{TouchesByte, Changes, IsPlace, WritesAt, CanLoad, AreMarked, IsNarrowed, OnlyNarrows}
+use Rattle.verifier.specs.Changes.{TouchesByte, Changes, IsSpan, WritesAt, CanLoad, AreMarked, IsNarrowed, OnlyNarrows}
 
 fits_more : (z : ℤ) → SFits w32 z → SFits w64 z
 fits_more (pos n) h = record { sfits = omega (arith, h.sfits) }
@@ -76,7 +76,7 @@ mov_changes width dst src a b x sets some moved constant = record {
 -- arithmetic, where a mask gives a small number and a pointer plus a number a pointer
 pub alu_changes : (op : AluOp) (width : Width) (dst : ℕ) (src : Operand) (a b : AbstractState) (x : RegValue) → SetsTo a dst x b → x ≢ Unwritten
     → ((m : ℕ) → op ≡ And → width ≡ W64 → src ≡ Immediate (pos m) → IsNumberIn (pos 0) (pos m) x)
-    → ((s : ℕ) (w : Region) (lo hi from to : ℤ) → op ≡ Add → width ≡ W64 → src ≡ Register s → AreInReach (lo +ℤ from) (hi +ℤ to)
+    → ((s : ℕ) (w : Window) (lo hi from to : ℤ) → op ≡ Add → width ≡ W64 → src ≡ Register s → AreInReach (lo +ℤ from) (hi +ℤ to)
     → IsPointerIn w lo hi (register a dst) → IsNumberIn from to (register a s) → IsPointerIn w (lo +ℤ from) (hi +ℤ to) x)
     → Changes (Alu op width dst src) a b
 alu_changes op width dst src a b x sets some mask sum = record {
@@ -111,17 +111,17 @@ set_changes i dst a b x sets_dst no_store no_mov no_alu sets some = record {
   adds = λ d y w lo hi from to e. absurd (no_alu Add W64 d (Register y) e);
 }
 
--- an access to one place alone touches the bytes from it on
-touched_at : (size : AccessSize) (offset : ℤ) (a : AbstractState) (t : Touch) (place : Place) (x : RegValue) (w : Region) (j : ℕ) → x ≡ register a t.base → t.offset ≡ offset → t.count ≡ byte_count size
-    → ((p : Pointer) → x ≡ PointerInto p → IsPlace p offset place) → TouchesByte a t w j → (place.region ≡ w) × ((place.least ≡ place.greatest) × ((place.least ≤ j) × (j < place.greatest + byte_count size)))
-touched_at size offset a t place x w j is at_offset of_size at touches =
+-- an access at one offset alone touches the bytes from it on
+touched_at : (size : AccessSize) (offset : ℤ) (a : AbstractState) (t : Touch) (span : Span) (x : RegValue) (w : Window) (j : ℕ) → x ≡ register a t.base → t.offset ≡ offset → t.count ≡ byte_count size
+    → ((p : Pointer) → x ≡ PointerInto p → IsSpan p offset span) → TouchesByte a t w j → (span.window ≡ w) × ((span.least ≡ span.greatest) × ((span.least ≤ j) × (j < span.greatest + byte_count size)))
+touched_at size offset a t span x w j is at_offset of_size at touches =
     let p = touches.through.pointer in
     let here = at p (is ∙ touches.through.is) in
     let least = here.least_is in
     let greatest = here.greatest_is in
     let begins = touches.begins in
-    let alone : place.least ≡ place.greatest = omega (arith, ints, least, greatest, p.order, touches.through.least, touches.through.greatest) in (
-      here.region_is ∙ touches.through.region,
+    let alone : span.least ≡ span.greatest = omega (arith, ints, least, greatest, p.order, touches.through.least, touches.through.greatest) in (
+      here.window_is ∙ touches.through.window,
       (
         alone,
         (
@@ -132,9 +132,9 @@ touched_at size offset a t place x w j is at_offset of_size at touches =
     )
 
 -- a store
-pub store_changes : (size : AccessSize) (dst : ℕ) (src : Operand) (offset : ℤ) (a b : AbstractState) (x y : RegValue) (place : Place) → x ≡ register a dst → y ≢ Unwritten
-    → ((p : Pointer) → x ≡ PointerInto p → IsPlace p offset place) → WritesAt a place size y b → Changes (Store size dst src offset) a b
-store_changes size dst src offset a b x y place is some at writes = record {
+pub store_changes : (size : AccessSize) (dst : ℕ) (src : Operand) (offset : ℤ) (a b : AbstractState) (x y : RegValue) (span : Span) → x ≡ register a dst → y ≢ Unwritten
+    → ((p : Pointer) → x ≡ PointerInto p → IsSpan p offset span) → WritesAt a span size y b → Changes (Store size dst src offset) a b
+store_changes size dst src offset a b x y span is some at writes = record {
   others = λ r apart. ap (λ (xs : List RegValue). slice_index_or xs r Unwritten) writes.registers;
   target = λ r none e. absurd cc;
   marks = writes.keeps;
@@ -144,8 +144,8 @@ store_changes size dst src offset a b x y place is some at writes = record {
       let base : t.base ≡ dst = ap (λ (u : Touch). u.base) (sym t_is) in
       let off : t.offset ≡ offset = ap (λ (u : Touch). u.offset) (sym t_is) in
       let count : t.count ≡ byte_count size = ap (λ (u : Touch). u.count) (sym t_is) in
-      let h = touched_at size offset a t place x w j (is ∙ ap (register a) (sym base)) off count at touches in
-      subst (λ (r : Region). is_written b.frame r j ≡ true) h.0 (writes.marks h.1.0 j h.1.1.0 h.1.1.1);
+      let h = touched_at size offset a t span x w j (is ∙ ap (register a) (sym base)) off count at touches in
+      subst (λ (r : Window). is_written b.frame r j ≡ true) h.0 (writes.marks h.1.0 j h.1.1.0 h.1.1.1);
   moves = λ d s e. absurd cc;
   constant = λ d k e. absurd cc;
   masks = λ d m e. absurd cc;
@@ -153,10 +153,10 @@ store_changes size dst src offset a b x y place is some at writes = record {
 }
 
 -- the bytes that a load may touch, where what is enough for it is known
-pub can_read : (sizes : Sizes) (a : AbstractState) (t : Touch) (place : Place) (can : CanLoad sizes a t) → IsPlace can.touch.pointer t.offset place → IsKept place.region → AreMarked a place t.count
-can_read sizes a t place can at kept = λ j least greatest.
-    subst (λ (r : Region). is_written a.frame r j ≡ true) (sym at.region_is)
-    (can.written j (subst IsKept at.region_is kept) (omega (arith, ints, at.least_is, least)) (omega (arith, ints, at.greatest_is, greatest)))
+pub can_read : (sizes : Sizes) (a : AbstractState) (t : Touch) (span : Span) (can : CanLoad sizes a t) → IsSpan can.touch.pointer t.offset span → IsKept span.window → AreMarked a span t.count
+can_read sizes a t span can at kept = λ j least greatest.
+    subst (λ (r : Window). is_written a.frame r j ≡ true) (sym at.window_is)
+    (can.written j (subst IsKept at.window_is kept) (omega (arith, ints, at.least_is, least)) (omega (arith, ints, at.greatest_is, greatest)))
 
 pub narrowed_same : (x : RegValue) → IsNarrowed x x
 narrowed_same Unwritten = refl

@@ -1,8 +1,8 @@
 -- What is known at entry is what holds of the path without an instruction.
 use Rattle.std.proofs.Common.{◌≢◌, ℕ, zero, suc, List, [], refl, sym, ◌∙◌, arith, ℤ}
 use Rattle.bpf_model.specs.declared.input.Sizes.{Sizes}
-use Rattle.bpf_model.specs.declared.region.Region.{Region}
-use Rattle.bpf_model.specs.declared.region.Region.TheVariants.{Key, Old, Arg, Result, Stack}
+use Rattle.bpf_model.specs.declared.window.Window.{Window}
+use Rattle.bpf_model.specs.declared.window.Window.TheVariants.{Key, Old, Arg, Result, Stack}
 use Rattle.bpf_model.specs.declared.instruction.Insn.{Insn}
 use Rattle.stack_slots.specs.declared.reg_value.RegValue.{RegValue}
 use Rattle.stack_slots.specs.declared.reg_value.RegValue.TheVariants.{Unwritten}
@@ -13,7 +13,7 @@ use Rattle.verifier.specs.Changes.{IsEntry}
 use Rattle.verifier.specs.Paths.{base_of, HasValueAtEntry, OnEveryPath}
 use Rattle.verifier.specs.Grants.{PointsPast, Grants}
 
-pointer_there : (w : Region) (lo hi : ℤ) (x : RegValue) → IsPointerIn w lo hi x → x ≢ Unwritten
+pointer_there : (w : Window) (lo hi : ℤ) (x : RegValue) → IsPointerIn w lo hi x → x ≢ Unwritten
 pointer_there w lo hi x p = λ none. absurd (let e = sym p.is ∙ none in cc)
 
 number_there : (lo hi : ℤ) (x : RegValue) → IsNumberIn lo hi x → x ≢ Unwritten
@@ -34,7 +34,7 @@ value_at_entry sizes a e (suc (suc (suc (suc (suc (suc (suc (suc (suc (suc zero)
 value_at_entry sizes a e (suc (suc (suc (suc (suc (suc (suc (suc (suc (suc (suc r))))))))))) h = absurd (omega (arith, h.register))
 
 -- the windows' registers at entry
-base_at_entry : (sizes : Sizes) (a : AbstractState) → IsEntry sizes a → (w : Region) → PointsPast w 0 a (base_of w)
+base_at_entry : (sizes : Sizes) (a : AbstractState) → IsEntry sizes a → (w : Window) → PointsPast w 0 a (base_of w)
 base_at_entry sizes a e Key = e.key
 base_at_entry sizes a e Old = e.old
 base_at_entry sizes a e Arg = e.arg

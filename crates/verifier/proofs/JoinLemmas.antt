@@ -2,7 +2,7 @@
 use Rattle.std.proofs.Common.{◌≡◌, ℕ, ◌≤◌, true, Option, length, subst, arith}
 use Rattle.std.proofs.lemmas.Option.{slice_get-get_or, get_or_from_slice_get, slice_get_within}
 use Rattle.bpf_model.specs.declared.input.Sizes.{Sizes}
-use Rattle.bpf_model.specs.declared.region.Region.TheVariants.{Result}
+use Rattle.bpf_model.specs.declared.window.Window.TheVariants.{Result}
 use Rattle.bpf_model.specs.State.{State}
 use Rattle.stack_slots.specs.declared.reg_value.RegValue.{RegValue}
 use Rattle.stack_slots.specs.declared.reg_value.RegValue.TheVariants.{Unwritten}
@@ -14,11 +14,11 @@ use Rattle.verifier.specs.Joins.{register}
 
 -- a state that stands for no less, with no more bytes of the result as written, describes what the first describes
 pub joins_describes : (a c : AbstractState) (sizes : Sizes) (s : State) → length c.registers ≤ length a.registers → ((r : ℕ) (o : Option ℕ) → StandsFor (register a r) o → StandsFor (register c r) o) → DescribesMore a.frame c.frame → ((i : ℕ) → is_written c.frame Result i ≡ true → is_written a.frame Result i ≡ true) → Describes a sizes s → Describes c sizes s
-joins_describes a c sizes s few more frame marks d = record {
+joins_describes a c sizes s bounded more frame marks d = record {
   registers = λ r x e.
       let within = slice_get_within c.registers r x e in
       let is : register c r ≡ x = get_or_from_slice_get c.registers r x Unwritten e in
-      let there = slice_get-get_or a.registers r Unwritten (omega (arith, within, few)) in
+      let there = slice_get-get_or a.registers r Unwritten (omega (arith, within, bounded)) in
       subst (λ (y : RegValue). StandsFor y (s.registers r)) is (more r (s.registers r) (d.registers r (register a r) there));
   frame = frame s.memory d.frame;
   inside = λ i e. d.inside i (marks i e);

@@ -12,9 +12,10 @@ pub mod ChangeLemmas
 pub mod JoinLemmas
 pub mod FlowLemmas
 pub mod WalkLemmas
-pub mod PassLemmas
+pub mod AdvanceLemmas
 pub mod ArriveLemmas
 pub mod GrantLemmas
 pub mod BoundLemmas
 pub mod FloorLemmas
 pub mod PlainLemmas
+pub mod GrantWalkLemmas

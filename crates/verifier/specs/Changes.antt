@@ -2,8 +2,8 @@
 use Rattle.std.specs.Prelude.{◌≡◌, ◌≢◌, ℕ, ◌+◌, ◌<◌, ◌≤◌, true, false, ◌⊎◌, Some, ◌^◌, ℤ, pos, negsuc, ◌+ℤ◌, ◌≤ℤ◌}
 use Rattle.bpf_model.specs.declared.limits.TheConstants.{STACK_BYTES}
 use Rattle.bpf_model.specs.declared.input.Sizes.{Sizes}
-use Rattle.bpf_model.specs.declared.region.Region.{Region}
-use Rattle.bpf_model.specs.declared.region.Region.TheVariants.{Key, Old, Arg, Result, Stack}
+use Rattle.bpf_model.specs.declared.window.Window.{Window}
+use Rattle.bpf_model.specs.declared.window.Window.TheVariants.{Key, Old, Arg, Result, Stack}
 use Rattle.bpf_model.specs.declared.operations.AluOp.TheVariants.{Add, And}
 use Rattle.bpf_model.specs.declared.operations.Width.TheVariants.{W64}
 use Rattle.bpf_model.specs.declared.accesses.AccessSize.{AccessSize}
@@ -12,7 +12,7 @@ use Rattle.bpf_model.specs.declared.instruction.Operand.TheVariants.{Register, I
 use Rattle.bpf_model.specs.declared.instruction.Insn.{Insn}
 use Rattle.bpf_model.specs.declared.instruction.Insn.TheVariants.{Alu, Mov, Exit}
 use Rattle.bpf_model.specs.Accesses.{byte_count}
-use Rattle.bpf_model.specs.Memory.{size_of}
+use Rattle.bpf_model.specs.Memory.{window_size}
 use Rattle.value_ranges.specs.declared.range.Range.{Range}
 use Rattle.value_ranges.specs.In.{IsSingle}
 use Rattle.stack_slots.specs.declared.pointer.Pointer.{Pointer}
@@ -23,8 +23,8 @@ use Rattle.stack_slots.specs.Offsets.{AreInReach}
 use Rattle.stack_slots.specs.Values.{IsPointerIn, IsNumberIn}
 use Rattle.stack_slots.specs.Frames.{is_written, KeepsMarks, NoneUnwritten}
 use Rattle.verifier.specs.declared.abstract_state.AbstractState.{AbstractState}
-use Rattle.verifier.specs.declared.abstract_state.place.Place.{Place}
-use Rattle.verifier.specs.Instructions.{reads, written_by, Touch, load_of, store_of}
+use Rattle.verifier.specs.declared.abstract_state.span.Span.{Span}
+use Rattle.verifier.specs.Instructions.{reads, written_by, Touch, load_of, store_of, IsAboveLeastOffset}
 use Rattle.verifier.specs.Joins.{register}
 
 -- this word alone, of those that read the same with a sign
@@ -34,8 +34,8 @@ pub record IsSmallWord (m : ℕ) (x : RegValue) : Type 0 where
   pub single : IsSingle range m
   pub small : m < 2 ^ 63
 
--- the access touches the byte at this distance from the window's first one, and is at one place alone
-pub record TouchesByte (a : AbstractState) (t : Touch) (w : Region) (j : ℕ) : Type 0 where
+-- the access touches the byte at this distance from the window's first one, and is at one address alone
+pub record TouchesByte (a : AbstractState) (t : Touch) (w : Window) (j : ℕ) : Type 0 where
   pub distance : ℤ
   pub first : ℕ
   pub through : IsPointerIn w distance distance (register a t.base)
@@ -49,11 +49,11 @@ pub record Changes (i : Insn) (a b : AbstractState) : Type 0 where
   pub target : (r : ℕ) → NoneUnwritten a.frame → written_by i ≡ Some r → register b r ≢ Unwritten
   pub marks : KeepsMarks a.frame b.frame
   pub spills : NoneUnwritten a.frame → NoneUnwritten b.frame
-  pub stores : (t : Touch) (w : Region) (j : ℕ) → store_of i ≡ Some t → TouchesByte a t w j → is_written b.frame w j ≡ true
+  pub stores : (t : Touch) (w : Window) (j : ℕ) → store_of i ≡ Some t → TouchesByte a t w j → is_written b.frame w j ≡ true
   pub moves : (d s : ℕ) → i ≡ Mov W64 d (Register s) → register b d ≡ register a s
   pub constant : (d : ℕ) (k : ℤ) → i ≡ Mov W64 d (Immediate k) → IsNumberIn k k (register b d)
   pub masks : (d m : ℕ) → i ≡ Alu And W64 d (Immediate (pos m)) → IsNumberIn (pos 0) (pos m) (register b d)
-  pub adds : (d x : ℕ) (w : Region) (lo hi from to : ℤ) → i ≡ Alu Add W64 d (Register x) → AreInReach (lo +ℤ from) (hi +ℤ to)
+  pub adds : (d x : ℕ) (w : Window) (lo hi from to : ℤ) → i ≡ Alu Add W64 d (Register x) → AreInReach (lo +ℤ from) (hi +ℤ to)
       → IsPointerIn w lo hi (register a d) → IsNumberIn from to (register a x) → IsPointerIn w (lo +ℤ from) (hi +ℤ to) (register b d)
 
 -- what a condition makes of a value: of a number a number, and all else stays as it was
@@ -67,13 +67,13 @@ pub record OnlyNarrows (a b : AbstractState) : Type 0 where
   pub frame : b.frame ≡ a.frame
 
 -- the register of a condition's second operand; that of the first where it is none
-abbrev pub source_of : ℕ → Operand → ℕ
-source_of dst (Register r) = r
-source_of dst (Immediate k) = dst
+abbrev pub second_register : ℕ → Operand → ℕ
+second_register dst (Register r) = r
+second_register dst (Immediate k) = dst
 
 -- of all registers but those of the operands the same is known
 abbrev pub KeepsOthers : AbstractState → ℕ → Operand → AbstractState → Type 0
-KeepsOthers a dst src b = (r : ℕ) → r ≢ dst → r ≢ source_of dst src → register b r ≡ register a r
+KeepsOthers a dst src b = (r : ℕ) → r ≢ dst → r ≢ second_register dst src → register b r ≡ register a r
 
 -- what is known at entry: where the registers point, and what the lengths may be
 pub record IsEntry (sizes : Sizes) (a : AbstractState) : Type 0 where
@@ -86,26 +86,26 @@ pub record IsEntry (sizes : Sizes) (a : AbstractState) : Type 0 where
   pub old_length : IsNumberIn (negsuc 0) (pos sizes.old) (register a 7)
   pub arg_length : IsNumberIn (negsuc 0) (pos sizes.arg) (register a 8)
   pub unwritten : (r : ℕ) → (r ≡ 0) ⊎ ((r ≡ 5) ⊎ ((r ≡ 9) ⊎ (11 ≤ r))) → register a r ≡ Unwritten
-  pub marks : (w : Region) (i : ℕ) → is_written a.frame w i ≡ false
+  pub marks : (w : Window) (i : ℕ) → is_written a.frame w i ≡ false
   pub spills : NoneUnwritten a.frame
 
 -- at each of its addresses an access of so many bytes through the pointer lies inside the window
 pub record ReachesInside (sizes : Sizes) (p : Pointer) (offset : ℤ) (count : ℕ) : Type 0 where
   pub least : pos 0 ≤ℤ (p.least +ℤ offset)
-  pub greatest : ((p.greatest +ℤ offset) +ℤ pos count) ≤ℤ pos (size_of sizes p.region)
+  pub greatest : ((p.greatest +ℤ offset) +ℤ pos count) ≤ℤ pos (window_size sizes p.window)
 
--- the place of an access through the pointer
-pub record IsPlace (p : Pointer) (offset : ℤ) (place : Place) : Type 0 where
-  pub region_is : place.region ≡ p.region
-  pub least_is : pos place.least ≡ p.least +ℤ offset
-  pub greatest_is : pos place.greatest ≡ p.greatest +ℤ offset
+-- the span of an access through the pointer
+pub record IsSpan (p : Pointer) (offset : ℤ) (span : Span) : Type 0 where
+  pub window_is : span.window ≡ p.window
+  pub least_is : pos span.least ≡ p.least +ℤ offset
+  pub greatest_is : pos span.greatest ≡ p.greatest +ℤ offset
 
 -- each byte that an access of so many bytes may touch there was written
-abbrev pub AreMarked : AbstractState → Place → ℕ → Type 0
-AreMarked a p count = (j : ℕ) → p.least ≤ j → j < p.greatest + count → is_written a.frame p.region j ≡ true
+abbrev pub AreMarked : AbstractState → Span → ℕ → Type 0
+AreMarked a p count = (j : ℕ) → p.least ≤ j → j < p.greatest + count → is_written a.frame p.window j ≡ true
 
 -- what a store of a value there makes of what is known
-pub record WritesAt (a : AbstractState) (p : Place) (size : AccessSize) (x : RegValue) (b : AbstractState) : Type 0 where
+pub record WritesAt (a : AbstractState) (p : Span) (size : AccessSize) (x : RegValue) (b : AbstractState) : Type 0 where
   pub registers : b.registers ≡ a.registers
   pub keeps : KeepsMarks a.frame b.frame
   pub marks : p.least ≡ p.greatest → AreMarked b p (byte_count size)
@@ -119,13 +119,13 @@ pub record CanTouch (sizes : Sizes) (a : AbstractState) (t : Touch) : Type 0 whe
 -- a load that lies inside its window, and whose bytes were written where a run may write
 pub record CanLoad (sizes : Sizes) (a : AbstractState) (t : Touch) : Type 0 where
   pub touch : CanTouch sizes a t
-  pub written : (j : ℕ) → IsKept touch.pointer.region → (touch.pointer.least +ℤ t.offset) ≤ℤ pos j
-      → (pos j +ℤ pos 1) ≤ℤ ((touch.pointer.greatest +ℤ t.offset) +ℤ pos t.count) → is_written a.frame touch.pointer.region j ≡ true
+  pub written : (j : ℕ) → IsKept touch.pointer.window → (touch.pointer.least +ℤ t.offset) ≤ℤ pos j
+      → (pos j +ℤ pos 1) ≤ℤ ((touch.pointer.greatest +ℤ t.offset) +ℤ pos t.count) → is_written a.frame touch.pointer.window j ≡ true
 
 -- a store that lies inside a window that may be written
 pub record CanStore (sizes : Sizes) (a : AbstractState) (t : Touch) : Type 0 where
   pub touch : CanTouch sizes a t
-  pub kept : IsKept touch.pointer.region
+  pub kept : IsKept touch.pointer.window
 
 -- r0 is -1, or a number of the result's first bytes, all of them written
 pub record CanExit (a : AbstractState) : Type 0 where
@@ -137,6 +137,6 @@ pub record CanExit (a : AbstractState) : Type 0 where
 pub record Suffices (sizes : Sizes) (i : Insn) (a : AbstractState) : Type 0 where
   pub read : (r : ℕ) → reads i r ≡ true → register a r ≢ Unwritten
   pub target : written_by i ≢ Some 10
-  pub loads : (t : Touch) → load_of i ≡ Some t → CanLoad sizes a t
-  pub stores : (t : Touch) → store_of i ≡ Some t → CanStore sizes a t
+  pub loads : (t : Touch) → load_of i ≡ Some t → IsAboveLeastOffset t.offset → CanLoad sizes a t
+  pub stores : (t : Touch) → store_of i ≡ Some t → IsAboveLeastOffset t.offset → CanStore sizes a t
   pub exits : i ≡ Exit → CanExit a

@@ -1,5 +1,5 @@
 -- Which registers an instruction reads and writes, and where it loads and stores. RFC 9669, sections 4 and 5.
-use Rattle.std.specs.Prelude.{ℕ, Bool, false, ◌||◌, Option, Some, None, nat_eq, ℤ}
+use Rattle.std.specs.Prelude.{ℕ, ◌^◌, Bool, false, ◌||◌, Option, Some, None, nat_eq, ℤ, pos, neg_ℤ, ◌≤ℤ◌}
 use Rattle.bpf_model.specs.declared.instruction.Operand.{Operand}
 use Rattle.bpf_model.specs.declared.instruction.Operand.TheVariants.{Register, Immediate}
 use Rattle.bpf_model.specs.declared.instruction.Insn.{Insn}
@@ -53,3 +53,7 @@ load_of other = None
 abbrev pub store_of : Insn → Option Touch
 store_of (Store size dst src offset) = Some (record { base = dst; offset = offset; count = byte_count size })
 store_of other = None
+
+-- an offset has 16 bits, so it is no less than this
+abbrev pub IsAboveLeastOffset : ℤ → Type 0
+IsAboveLeastOffset offset = neg_ℤ (pos (2 ^ 15)) ≤ℤ offset

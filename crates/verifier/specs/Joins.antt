@@ -1,6 +1,6 @@
 -- What is known where two ways of a run meet. This verifier's own.
 use Rattle.std.specs.Prelude.{◌≡◌, ◌≢◌, ℕ, true, ℤ, slice_index_or}
-use Rattle.bpf_model.specs.declared.region.Region.{Region}
+use Rattle.bpf_model.specs.declared.window.Window.{Window}
 use Rattle.stack_slots.specs.declared.reg_value.RegValue.{RegValue}
 use Rattle.stack_slots.specs.declared.reg_value.RegValue.TheVariants.{Unwritten}
 use Rattle.stack_slots.specs.Values.{IsJoin, IsPointerIn, IsNumberIn}
@@ -27,7 +27,7 @@ pub record JoinsStates (a b c : AbstractState) : Type 0 where
 -- or lies within bounds, that a byte was written, and that no spilled value is Unwritten
 pub record KeepsCommon (a b c : AbstractState) : Type 0 where
   pub value : (r : ℕ) → register a r ≢ Unwritten → register b r ≢ Unwritten → register c r ≢ Unwritten
-  pub pointer : (r : ℕ) (w : Region) (lo hi : ℤ) → IsPointerIn w lo hi (register a r) → IsPointerIn w lo hi (register b r) → IsPointerIn w lo hi (register c r)
+  pub pointer : (r : ℕ) (w : Window) (lo hi : ℤ) → IsPointerIn w lo hi (register a r) → IsPointerIn w lo hi (register b r) → IsPointerIn w lo hi (register c r)
   pub number : (r : ℕ) (lo hi : ℤ) → IsNumberIn lo hi (register a r) → IsNumberIn lo hi (register b r) → IsNumberIn lo hi (register c r)
-  pub marks : (w : Region) (j : ℕ) → is_written a.frame w j ≡ true → is_written b.frame w j ≡ true → is_written c.frame w j ≡ true
+  pub marks : (w : Window) (j : ℕ) → is_written a.frame w j ≡ true → is_written b.frame w j ≡ true → is_written c.frame w j ≡ true
   pub spills : NoneUnwritten a.frame → NoneUnwritten b.frame → NoneUnwritten c.frame

@@ -1,8 +1,8 @@
 -- The paths that a program's text has, and what they write. Our profile of RFC 9669.
 use Rattle.std.specs.Prelude.{◌≡◌, ◌≢◌, ℕ, ◌+◌, ◌<◌, ◌≤◌, true, ◌⊎◌, List, [], ◌∷◌, Some, ℤ, pos, ◌+ℤ◌}
 use Rattle.bpf_model.specs.declared.limits.TheConstants.{STACK_BYTES}
-use Rattle.bpf_model.specs.declared.region.Region.{Region}
-use Rattle.bpf_model.specs.declared.region.Region.TheVariants.{Key, Old, Arg, Result, Stack}
+use Rattle.bpf_model.specs.declared.window.Window.{Window}
+use Rattle.bpf_model.specs.declared.window.Window.TheVariants.{Key, Old, Arg, Result, Stack}
 use Rattle.bpf_model.specs.declared.instruction.Insn.{Insn}
 use Rattle.bpf_model.specs.Program.{units_of, instruction_at}
 use Rattle.bpf_model.specs.Step.{unit_of}
@@ -10,14 +10,14 @@ use Rattle.flow_shape.specs.Jumps.{falls_through, target_of, JumpsBy}
 use Rattle.verifier.specs.Instructions.{written_by, Touch, store_of}
 
 -- the register that points into a window at entry, and how far behind the window's first byte
-abbrev pub base_of : Region → ℕ
+abbrev pub base_of : Window → ℕ
 base_of Key = 1
 base_of Old = 2
 base_of Arg = 3
 base_of Result = 4
 base_of Stack = 10
 
-abbrev pub base_offset : Region → ℕ
+abbrev pub base_offset : Window → ℕ
 base_offset Key = 0
 base_offset Old = 0
 base_offset Arg = 0
@@ -46,17 +46,17 @@ FallsTo program unit next =
     (i : Insn) × ((instruction_at program unit ≡ Some i) × ((falls_through i ≡ true) × (next ≡ unit + units_of i)))
 
 -- a path goes on to the next instruction, by a jump to its target, by a condition to either
-abbrev pub Follows : List Insn → ℕ → ℕ → Type 0
-Follows program unit next = FallsTo program unit next ⊎ JumpsTo program unit next
+abbrev pub IsNextUnit : List Insn → ℕ → ℕ → Type 0
+IsNextUnit program unit next = FallsTo program unit next ⊎ JumpsTo program unit next
 
 -- a path from unit 0 to a unit, by the units before it, the latest first
-abbrev pub ComesTo : List Insn → List ℕ → ℕ → Type 0
-ComesTo program [] unit = unit ≡ 0
-ComesTo program (u ∷ before) unit = Follows program u unit × ComesTo program before u
+abbrev pub IsPathTo : List Insn → List ℕ → ℕ → Type 0
+IsPathTo program [] unit = unit ≡ 0
+IsPathTo program (u ∷ before) unit = IsNextUnit program u unit × IsPathTo program before u
 
 -- this holds of every path to the unit
 abbrev pub OnEveryPath : List Insn → ℕ → (List ℕ → Type 0) → Type 0
-OnEveryPath program unit holds = (before : List ℕ) → ComesTo program before unit → holds before
+OnEveryPath program unit holds = (before : List ℕ) → IsPathTo program before unit → holds before
 
 -- the instruction at the unit writes the register
 abbrev pub WritesRegister : List Insn → ℕ → ℕ → Type 0
@@ -68,7 +68,7 @@ WasWritten program r [] = HasValueAtEntry r
 WasWritten program r (u ∷ before) = WritesRegister program r u ⊎ WasWritten program r before
 
 -- a store through the window's register touches the window's byte at this distance
-pub record StoresByte (program : List Insn) (u : ℕ) (w : Region) (j : ℕ) : Type 0 where
+pub record StoresByte (program : List Insn) (u : ℕ) (w : Window) (j : ℕ) : Type 0 where
   pub i : Insn
   pub t : Touch
   pub first : ℕ
@@ -80,7 +80,7 @@ pub record StoresByte (program : List Insn) (u : ℕ) (w : Region) (j : ℕ) : T
   pub to : j < first + t.count
 
 -- the byte was stored on the path; a store through another register does not count
-abbrev pub WasStored : List Insn → Region → ℕ → List ℕ → Type 0
+abbrev pub WasStored : List Insn → Window → ℕ → List ℕ → Type 0
 WasStored program w j [] = ⊥
 WasStored program w j (u ∷ before) = StoresByte program u w j ⊎ WasStored program w j before
 

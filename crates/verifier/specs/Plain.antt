@@ -1,43 +1,43 @@
 -- Plain programs: those that are seen to be safe by reading their text. Our profile of RFC 9669.
 use Rattle.std.specs.Prelude.{◌≡◌, ◌≢◌, ℕ, suc, ◌+◌, ◌<◌, ◌≤◌, true, ◌⊎◌, List, Some, ℤ, pos, negsuc, ◌+ℤ◌}
 use Rattle.bpf_model.specs.declared.input.Sizes.{Sizes}
-use Rattle.bpf_model.specs.declared.region.Region.{Region}
-use Rattle.bpf_model.specs.declared.region.Region.TheVariants.{Result}
+use Rattle.bpf_model.specs.declared.window.Window.{Window}
+use Rattle.bpf_model.specs.declared.window.Window.TheVariants.{Result}
 use Rattle.bpf_model.specs.declared.operations.AluOp.TheVariants.{Add, And}
 use Rattle.bpf_model.specs.declared.operations.Width.TheVariants.{W64}
 use Rattle.bpf_model.specs.declared.instruction.Operand.TheVariants.{Register, Immediate}
 use Rattle.bpf_model.specs.declared.instruction.Insn.{Insn}
 use Rattle.bpf_model.specs.declared.instruction.Insn.TheVariants.{Alu, Mov, Exit}
 use Rattle.bpf_model.specs.Program.{instruction_at}
-use Rattle.bpf_model.specs.Memory.{size_of}
+use Rattle.bpf_model.specs.Memory.{window_size}
 use Rattle.bpf_model.specs.Fits.{AreWithinLimits}
 use Rattle.stack_slots.specs.Kept.{IsKept}
 use Rattle.verifier.specs.Instructions.{reads, written_by, Touch, load_of, store_of}
 use Rattle.verifier.specs.Paths.{base_of, base_offset, IsTarget, OnEveryPath, WasWritten, WasStored}
 
 -- the instructions of a mask: the window's register is copied, a number is cut to at most m, and added
-abbrev pub copy_of : ℕ → Region → Insn
+abbrev pub copy_of : ℕ → Window → Insn
 copy_of d w = Mov W64 d (Register (base_of w))
 
 abbrev pub mask_of : ℕ → ℕ → Insn
 mask_of x m = Alu And W64 x (Immediate (pos m))
 
-abbrev pub sum_of : ℕ → ℕ → Insn
-sum_of d x = Alu Add W64 d (Register x)
+abbrev pub addition_of : ℕ → ℕ → Insn
+addition_of d x = Alu Add W64 d (Register x)
 
 -- the answer's constant
 abbrev pub constant_of : ℤ → Insn
 constant_of c = Mov W64 0 (Immediate c)
 
 -- the three instructions before the unit put a window's register plus 0 to m into rD, and no jump leads in between
-pub record IsMasked (program : List Insn) (unit d : ℕ) (w : Region) (m : ℕ) : Type 0 where
+pub record IsMasked (program : List Insn) (unit d : ℕ) (w : Window) (m : ℕ) : Type 0 where
   pub x : ℕ
   pub start : ℕ
   pub is : unit ≡ suc (suc (suc start))
   pub other : d ≢ x
   pub copies : instruction_at program start ≡ Some (copy_of d w)
   pub masks : instruction_at program (suc start) ≡ Some (mask_of x m)
-  pub adds : instruction_at program (suc (suc start)) ≡ Some (sum_of d x)
+  pub adds : instruction_at program (suc (suc start)) ≡ Some (addition_of d x)
   pub mask_apart : IsTarget program (suc start) → ⊥
   pub sum_apart : IsTarget program (suc (suc start)) → ⊥
   pub access_apart : IsTarget program unit → ⊥
@@ -45,28 +45,28 @@ pub record IsMasked (program : List Insn) (unit d : ℕ) (w : Region) (m : ℕ) 
 -- an access that lies inside the window, at this distance from its first byte or up to so many bytes further on: it
 -- goes through the window's register, or through a masked one
 pub record LiesPlainly (program : List Insn) (sizes : Sizes) (unit : ℕ) (t : Touch) : Type 0 where
-  pub window : Region
+  pub window : Window
   pub first : ℕ
   pub further : ℕ
   pub through : ((t.base ≡ base_of window) × (further ≡ 0)) ⊎ IsMasked program unit t.base window further
   pub begins : (pos (base_offset window) +ℤ t.offset) ≡ pos first
-  pub inside : first + further + t.count ≤ size_of sizes window
+  pub inside : first + further + t.count ≤ window_size sizes window
 
 -- a load, of bytes that were stored on every path where a run may write them
 pub record LoadsPlainly (program : List Insn) (sizes : Sizes) (unit : ℕ) (t : Touch) : Type 0 where
-  pub place : LiesPlainly program sizes unit t
-  pub stored : (j : ℕ) → IsKept place.window → place.first ≤ j → j < place.first + place.further + t.count
-      → OnEveryPath program unit (WasStored program place.window j)
+  pub span : LiesPlainly program sizes unit t
+  pub stored : (j : ℕ) → IsKept span.window → span.first ≤ j → j < span.first + span.further + t.count
+      → OnEveryPath program unit (WasStored program span.window j)
 
 -- a store, to result or stack
 pub record StoresPlainly (program : List Insn) (sizes : Sizes) (unit : ℕ) (t : Touch) : Type 0 where
-  pub place : LiesPlainly program sizes unit t
-  pub kept : IsKept place.window
+  pub span : LiesPlainly program sizes unit t
+  pub kept : IsKept span.window
 
 -- -1, or a number of the result's first bytes, all of them stored on every path
 abbrev pub IsPlainAnswer : List Insn → ℕ → ℤ → Type 0
 IsPlainAnswer program unit c =
-    (c ≡ negsuc 0) ⊎ ((n : ℕ) × ((c ≡ pos n) × ((j : ℕ) → j < n → OnEveryPath program unit (WasStored program Result j))))
+    OnEveryPath program unit (λ before. (c ≡ negsuc 0) ⊎ ((n : ℕ) × ((c ≡ pos n) × ((j : ℕ) → j < n → WasStored program Result j before))))
 
 -- an EXIT that follows `mov64 r0, c` in the text, and is no jump's target
 pub record ExitsPlainly (program : List Insn) (unit : ℕ) : Type 0 where
@@ -81,7 +81,7 @@ pub record ExitsPlainly (program : List Insn) (unit : ℕ) : Type 0 where
 -- that is read was written before, and the answer is a constant
 pub record IsPlain (program : List Insn) (sizes : Sizes) : Type 0 where
   pub limits : AreWithinLimits sizes
-  pub bases : (u : ℕ) (i : Insn) (w : Region) → instruction_at program u ≡ Some i → written_by i ≢ Some (base_of w)
+  pub bases : (u : ℕ) (i : Insn) (w : Window) → instruction_at program u ≡ Some i → written_by i ≢ Some (base_of w)
   pub reading : (u : ℕ) (i : Insn) (r : ℕ) → instruction_at program u ≡ Some i → reads i r ≡ true → OnEveryPath program u (WasWritten program r)
   pub loading : (u : ℕ) (i : Insn) (t : Touch) → instruction_at program u ≡ Some i → load_of i ≡ Some t → LoadsPlainly program sizes u t
   pub storing : (u : ℕ) (i : Insn) (t : Touch) → instruction_at program u ≡ Some i → store_of i ≡ Some t → StoresPlainly program sizes u t

@@ -14,7 +14,7 @@ use Rattle.verifier.specs.declared.abstract_state.AbstractState.{AbstractState}
 use Rattle.verifier.specs.declared.walk.pending.Pending.{Pending}
 use Rattle.verifier.specs.Describes.{Describes, goes_straight}
 use Rattle.verifier.specs.Joins.{KeepsCommon}
-use Rattle.verifier.specs.Changes.{Changes, OnlyNarrows}
+use Rattle.verifier.specs.Changes.{Changes, OnlyNarrows, Suffices}
 
 -- a boxed state
 abbrev pub boxed : Option (Box AbstractState) → Option AbstractState
@@ -49,7 +49,7 @@ pub record LeadsToKnown (sizes : Sizes) (i : Insn) (s : State) (unit : ℕ) (her
   pub known : IsKnown unit here pending sizes next
 
 -- from each described state at the unit the instruction ends the run or leads to a known one, and what was kept is kept
-pub record Passes (sizes : Sizes) (i : Insn) (unit : ℕ) (before : Pending) (a : AbstractState) (after : Pending) (on : Bool) (b : AbstractState) : Type 0 where
+pub record Advances (sizes : Sizes) (i : Insn) (unit : ℕ) (before : Pending) (a : AbstractState) (after : Pending) (on : Bool) (b : AbstractState) : Type 0 where
   pub leads : (s : State) → s.unit ≡ unit → Describes a sizes s
       → IsSome (ends_in sizes i s) ⊎ LeadsToKnown sizes i s (unit + units_of i) (if on then Some b else None) after
   pub keeps : (other : ℕ) → IncludesSome (kept_at before other) (kept_at after other)
@@ -83,6 +83,17 @@ pub record SendsTo (i : Insn) (unit : ℕ) (a : AbstractState) (target : ℕ) (b
   pub meets : MeetsKnown before (Some state) after
 
 -- each state that is sent on, to the next instruction or to a target, is what the instruction leaves known
-pub record Goes (i : Insn) (unit : ℕ) (before : Pending) (a : AbstractState) (after : Pending) (on : Bool) (b : AbstractState) : Type 0 where
+pub record Sends (i : Insn) (unit : ℕ) (before : Pending) (a : AbstractState) (after : Pending) (on : Bool) (b : AbstractState) : Type 0 where
   pub next : on ≡ true → (falls_through i ≡ true) × LeavesKnown i a b
   pub kept : (target : ℕ) → (kept_at after target ≡ kept_at before target) ⊎ SendsTo i unit a target (kept_at before target) (kept_at after target)
+
+-- so from a unit of which something is known; from any other nothing is sent on
+abbrev pub GoesFrom : Insn → ℕ → Pending → Option AbstractState → Pending → Option AbstractState → Type 0
+GoesFrom i unit before None after later = (later ≡ None) × ((other : ℕ) → kept_at after other ≡ kept_at before other)
+GoesFrom i unit before (Some a) after later =
+    (on : Bool) × ((b : AbstractState) × ((later ≡ (if on then Some b else None)) × Sends i unit before a after on b))
+
+-- where something is known at the unit, it is enough for the instruction to be accepted
+abbrev pub SufficesThere : Sizes → Insn → Option AbstractState → Type 0
+SufficesThere sizes i None = Unit {0}
+SufficesThere sizes i (Some a) = Suffices sizes i a

@@ -10,8 +10,8 @@ ghost use Rattle.verifier.specs.Windows.{LiesIn, window_of};
 mod accesses;
 mod branches;
 mod entry;
-mod place;
 mod registers;
+mod span;
 
 use crate::arithmetic::{moved, operate};
 use crate::fault::StepFault;
@@ -53,7 +53,7 @@ impl AbstractState {
         requires straight { goes_straight insn ≡ true }
         ensures ok { OnOk result (Leads self.old sizes insn self.new) }
         ensures changes { OnOk result (Changes insn self.old self.new) }
-        ensures enough { Suffices sizes insn self.old → result ≡ Ok tt }
+        ensures accepts { Suffices sizes insn self.old → result ≡ Ok tt }
         ensures window { OnOk result (LiesIn sizes insn self.old (window_of insn self.old)) }
     {
         match insn {
@@ -99,7 +99,7 @@ impl AbstractState {
         ensures ok { OnOk result ((sizes : DeclaredSizes)
             → Leads self.old sizes (Alu op width dst src) self.new) }
         ensures changes { OnOk result (Changes (Alu op width dst src) self.old self.new) }
-        ensures enough { (sizes : DeclaredSizes) → Suffices sizes (Alu op width dst src) self.old
+        ensures accepts { (sizes : DeclaredSizes) → Suffices sizes (Alu op width dst src) self.old
             → result ≡ Ok tt }
     {
         let a = self.read(dst.number())?;
@@ -111,7 +111,7 @@ impl AbstractState {
         ensures ok { OnOk result ((sizes : DeclaredSizes)
             → Leads self.old sizes (Negate width dst) self.new) }
         ensures changes { OnOk result (Changes (Negate width dst) self.old self.new) }
-        ensures enough { (sizes : DeclaredSizes) → Suffices sizes (Negate width dst) self.old
+        ensures accepts { (sizes : DeclaredSizes) → Suffices sizes (Negate width dst) self.old
             → result ≡ Ok tt }
     {
         let number = self.read(dst.number())?.as_number();
@@ -122,7 +122,7 @@ impl AbstractState {
         ensures ok { OnOk result ((sizes : DeclaredSizes)
             → Leads self.old sizes (Mov width dst src) self.new) }
         ensures changes { OnOk result (Changes (Mov width dst src) self.old self.new) }
-        ensures enough { (sizes : DeclaredSizes) → Suffices sizes (Mov width dst src) self.old
+        ensures accepts { (sizes : DeclaredSizes) → Suffices sizes (Mov width dst src) self.old
             → result ≡ Ok tt }
     {
         let value = self.operand(src)?;
@@ -133,7 +133,7 @@ impl AbstractState {
         ensures ok { OnOk result ((sizes : DeclaredSizes)
             → Leads self.old sizes (SignExtend extension dst src) self.new) }
         ensures changes { OnOk result (Changes (SignExtend extension dst src) self.old self.new) }
-        ensures enough { (sizes : DeclaredSizes)
+        ensures accepts { (sizes : DeclaredSizes)
             → Suffices sizes (SignExtend extension dst src) self.old → result ≡ Ok tt }
     {
         let number = self.read(src.number())?.as_number();
@@ -144,7 +144,7 @@ impl AbstractState {
         ensures ok { OnOk result ((sizes : DeclaredSizes)
             → Leads self.old sizes (Reorder order size dst) self.new) }
         ensures changes { OnOk result (Changes (Reorder order size dst) self.old self.new) }
-        ensures enough { (sizes : DeclaredSizes)
+        ensures accepts { (sizes : DeclaredSizes)
             → Suffices sizes (Reorder order size dst) self.old → result ≡ Ok tt }
     {
         let number = self.read(dst.number())?.as_number();

@@ -1,6 +1,6 @@
 //! What arithmetic makes of register values.
 ghost use Rattle.std.specs.Prelude.{◌≡◌, ◌≢◌, ◌<◌, ℕ, ◌+◌, ◌-◌, ◌%◌, ◌^◌, Some, ℤ, pos, ◌+ℤ◌};
-ghost use Rattle.bpf_model.specs.declared.region.Region.{Region as Window};
+ghost use Rattle.bpf_model.specs.declared.window.Window.{Window};
 ghost use Rattle.bpf_model.specs.Arithmetic.{alu_value, mov_value};
 ghost use Rattle.value_ranges.specs.declared.range.Range.{Range as Bounds};
 ghost use Rattle.value_ranges.specs.In.{IsIn, IsSingle};

@@ -3,16 +3,15 @@ ghost use Rattle.std.specs.Prelude.{◌≡◌, IfOk, IfErr, OnErr};
 ghost use Rattle.bpf_model.specs.declared.limits.TheConstants.{KEY_BYTES};
 ghost use Rattle.map_server.specs.Commands.{SpellsProgram, SpellsSafe, SpellsKey, SpellsValue, SpellsInput, IsBytesRefused, IsProgramRefused, IsTextRefused, IsValueRefused, IsInputRefused, IsAsmReport, IsDisasmReport, IsCheckReport, IsRunReport, IsUnreadable, IsReport};
 
-use crate::admission::admit;
 use crate::bpfmap::hex::hex_bytes;
 use crate::bpfmap::refusal::Refusal;
 use crate::bpfmap::report::{Report, unit_lines};
 use crate::bpfmap::words::{Command, RunTexts};
-use crate::devices::Failed;
 use bpf_assembler::{assemble, disassemble};
 use bpf_decode::{decode, encode};
 use bpf_machine::run;
 use bpf_model::{Input, Key, Program, Sizes, Value, fits};
+use sessions::{Failed, admit};
 use std::alloc::Global;
 use verifier::Verified;
 
@@ -94,7 +93,7 @@ fn run_once(
     let input = input_of(alloc, texts)?;
     match fits(&sizes, &input) {
         Ok(()) => Ok(Report::Answered(run(&verified, &input))),
-        Err(window) => Ok(Report::Unfit(window)),
+        Err(part) => Ok(Report::Unfit(part)),
     }
 }
 

@@ -1,11 +1,11 @@
 //! What a call of `bpfmap` comes to, and how that is told.
-ghost use Rattle.std.specs.Prelude.{◌≡◌, ◌<◌, ◌-◌, ◌^◌};
-ghost use Rattle.map_server.specs.Devices.{TakesIfItCan};
-ghost use Rattle.map_server.specs.Endings.{outputs, Prints, Refuses, Tells};
+ghost use Rattle.std.specs.Prelude.{◌≡◌};
+ghost use Rattle.sessions.specs.Devices.{CanWrite, TakesIfItCan};
+ghost use Rattle.map_server.specs.Endings.{outputs, Prints, PrintsRefusal, TellsEnding};
 
 use crate::bpfmap::refusal::Refusal;
 use crate::bpfmap::report::Report;
-use crate::devices::{Failed, Sink, write_all};
+use sessions::{Failed, Sink, write_all};
 
 /// What a call of `bpfmap` comes to.
 #[derive(Debug, Drop)]
@@ -37,8 +37,8 @@ pub(crate) const FAILED_DEVICE: u8 = 3;
 
 /// Prints the text, and answers this status, or that of a failed write.
 fn print<W: Sink, E: Sink>(text: &[u8], status: u8, writer: &mut W, errors: &mut E) -> u8
-    requires writes { (W.state writer.old).failures < 2 ^ 64 - 1 }
-    requires warns { (E.state errors.old).failures < 2 ^ 64 - 1 }
+    requires writes { CanWrite (W.state writer.old) }
+    requires warns { CanWrite (E.state errors.old) }
     ensures { Prints text.now status (outputs (W.state writer.old) (E.state errors.old))
         (outputs (W.state writer.new) (E.state errors.new)) result }
 {
@@ -53,9 +53,9 @@ fn print<W: Sink, E: Sink>(text: &[u8], status: u8, writer: &mut W, errors: &mut
 
 /// Prints a refusal's line, writes its meaning to standard error, and answers the status, or that of a failed write.
 fn refuse<W: Sink, E: Sink>(line: &[u8], meaning: &[u8], writer: &mut W, errors: &mut E) -> u8
-    requires writes { (W.state writer.old).failures < 2 ^ 64 - 1 }
-    requires warns { (E.state errors.old).failures < 2 ^ 64 - 1 }
-    ensures { Refuses line.now meaning.now (outputs (W.state writer.old) (E.state errors.old))
+    requires writes { CanWrite (W.state writer.old) }
+    requires warns { CanWrite (E.state errors.old) }
+    ensures { PrintsRefusal line.now meaning.now (outputs (W.state writer.old) (E.state errors.old))
         (outputs (W.state writer.new) (E.state errors.new)) result }
 {
     match write_all(writer, line) {
@@ -66,7 +66,7 @@ fn refuse<W: Sink, E: Sink>(line: &[u8], meaning: &[u8], writer: &mut W, errors:
 
 /// Writes the text to standard error, and answers this status. Where standard error fails too, nobody is told.
 pub(crate) fn warn<E: Sink>(text: &[u8], status: u8, errors: &mut E) -> u8
-    requires { (E.state errors.old).failures < 2 ^ 64 - 1 }
+    requires { CanWrite (E.state errors.old) }
     ensures status { result ≡ status }
     ensures errors { TakesIfItCan (E.state errors.old) (E.state errors.new) text.now }
 {
@@ -77,9 +77,9 @@ pub(crate) fn warn<E: Sink>(text: &[u8], status: u8, errors: &mut E) -> u8
 impl Ending {
     /// Tells it, and answers the status: 3 where standard output fails, of which standard error is told in one line.
     pub fn tell<W: Sink, E: Sink>(&self, writer: &mut W, errors: &mut E) -> u8
-        requires writes { (W.state writer.old).failures < 2 ^ 64 - 1 }
-        requires warns { (E.state errors.old).failures < 2 ^ 64 - 1 }
-        ensures { Tells self.now (outputs (W.state writer.old) (E.state errors.old))
+        requires writes { CanWrite (W.state writer.old) }
+        requires warns { CanWrite (E.state errors.old) }
+        ensures { TellsEnding self.now (outputs (W.state writer.old) (E.state errors.old))
             (outputs (W.state writer.new) (E.state errors.new)) result }
     {
         match self {

@@ -1,33 +1,17 @@
 //! The command `exec`: a session over the streams, and a table of its own.
-ghost use Rattle.std.specs.Prelude.{◌≢◌, ◌<◌, ◌-◌, ◌^◌};
 ghost use Rattle.map_server.specs.Endings.{outputs};
-ghost use Rattle.map_server.specs.Executions.{Executes, Flushes, TellsEnd};
+ghost use Rattle.map_server.specs.Executions.{Executes, TellsEnd};
+ghost use Rattle.sessions.specs.Devices.{CanRead, CanWrite};
 
-use crate::alone::{Alone, session_alone};
 use crate::bpfmap::ending::{Ending, FAILED_DEVICE, warn};
-use crate::devices::{Failed, Sink, Source};
-use crate::session::SessionEnd;
 use atomic_methods::OpenFault;
+use sessions::{Alone, SessionEnd, Sink, Source, session_alone};
 use std::alloc::Global;
 use std::sync::Wait;
 
-/// Passes on what was written, unless a write failed before. The end, or that of a failed write.
-fn flushed<W: Sink>(writer: &mut W, end: SessionEnd) -> SessionEnd
-    requires { (end ≢ SessionEnd.WriteFailed) → (W.state writer.old).failures < 2 ^ 64 - 1 }
-    ensures { Flushes end (W.state writer.old) (W.state writer.new) result }
-{
-    if end == SessionEnd::WriteFailed {
-        return end;
-    }
-    match writer.flush() {
-        Ok(()) => end,
-        Err(Failed) => SessionEnd::WriteFailed,
-    }
-}
-
 /// Tells the end of a session, and answers the status that goes with it.
 fn tell_end<E: Sink>(end: SessionEnd, errors: &mut E) -> u8
-    requires { (E.state errors.old).failures < 2 ^ 64 - 1 }
+    requires { CanWrite (E.state errors.old) }
     ensures { TellsEnd end (E.state errors.old) (E.state errors.new) result }
 {
     match end {
@@ -49,9 +33,9 @@ pub fn exec<H: Wait, R: Source, W: Sink, E: Sink>(
     writer: &mut W,
     errors: &mut E,
 ) -> u8
-    requires reads { (R.state reader.old).failures < 2 ^ 64 - 1 }
-    requires writes { (W.state writer.old).failures < 2 ^ 64 - 1 }
-    requires warns { (E.state errors.old).failures < 2 ^ 64 - 1 }
+    requires reads { CanRead (R.state reader.old) }
+    requires writes { CanWrite (W.state writer.old) }
+    requires warns { CanWrite (E.state errors.old) }
     ensures { Executes stripes (R.state reader.old) (R.state reader.new)
         (outputs (W.state writer.old) (E.state errors.old))
         (outputs (W.state writer.new) (E.state errors.new)) result }
@@ -62,6 +46,5 @@ pub fn exec<H: Wait, R: Source, W: Sink, E: Sink>(
         Err(OpenFault::NoMemory) => return Ending::NoMemory.tell(writer, errors),
     };
     let end = session_alone(rt, alloc, reader, writer, &mut alone);
-    let told = flushed(writer, end);
-    tell_end(told, errors)
+    tell_end(end, errors)
 }

@@ -1,6 +1,6 @@
 //! Hex text: pairs of hexadecimal digits of either case, with blank space before, between and after them.
 ghost use Rattle.std.specs.Prelude.{◌≡◌, ◌↔◌, ◌<◌, ◌+◌, ◌*◌, ◌++◌, List, ℕ, IsTrue, IsSome, IfSome, IfNone, IfOk, IfErr, MatchResult, unwrap_or, option_to_list};
-ghost use Rattle.map_server.specs.Hex.{Piece, IsPiece, IsBlank, digit_of, text_of, bytes_of, HasNoPiece, SpellsBytes};
+ghost use Rattle.map_server.specs.Hex.{Piece, IsPiece, IsBlank, digit_of, piece_text, piece_bytes, HasNoPiece, SpellsBytes};
 ghost use Rattle.map_server.specs.HexFaults.{TellsFault};
 
 use std::alloc::{AllocFailed, Global};
@@ -54,7 +54,7 @@ fn pair_value(high: u8, low: u8) -> Option<u8>
 /// What begins the text, a pair's byte or a blank, and the text after it.
 fn first_piece(text: &[u8]) -> Option<(Option<u8>, &[u8])>
     ensures some { IfSome result (λ r. (piece : Piece) × IsPiece piece
-        × (text.now ≡ text_of piece ++ r.1.now) × (option_to_list r.0 ≡ bytes_of piece)) }
+        × (text.now ≡ piece_text piece ++ r.1.now) × (option_to_list r.0 ≡ piece_bytes piece)) }
     ensures none { IfNone result (HasNoPiece text.now) }
 {
     match text {

@@ -3,11 +3,11 @@ ghost use Rattle.std.specs.Prelude.{◌≡◌, ◌++◌, codes, IfOk, string_byt
 ghost use Rattle.bpf_model.specs.Program.{instruction_at};
 ghost use Rattle.map_server.specs.Meanings.{refused_instruction, verdict, IsMeaning};
 
-use crate::admission::AdmissionFault;
 use crate::bpfmap::commands::program_of;
 use crate::bpfmap::refusal::Refusal;
 use bpf_assembler::instruction_text;
 use bpf_model::{Insn, NoMemory, Program};
+use sessions::AdmissionFault;
 use std::alloc::Global;
 use verifier::VerifyFault;
 

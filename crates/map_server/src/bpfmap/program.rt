@@ -1,12 +1,13 @@
 //! The program `bpfmap`, over devices: it reads, does what the words ask for, prints, and gives the status.
-ghost use Rattle.std.specs.Prelude.{◌≡◌, ◌≢◌, ◌<◌, ◌-◌, ◌^◌, ℕ, List};
+ghost use Rattle.std.specs.Prelude.{◌≡◌, ◌≢◌, ℕ, List};
 ghost use Rattle.std.specs.IoError.{error_kind};
 ghost use Rattle.std.specs.declared.io.ErrorKind.TheVariants.{OutOfMemory};
 ghost use Rattle.clap.specs.Walk.{texts};
 ghost use Rattle.clap.specs.Words.{fault_of, HasKind};
 ghost use Rattle.map_server.specs.CommandLine.{bpfmap};
-ghost use Rattle.map_server.specs.Endings.{outputs, IsRefusalOf, EndsCommand, EndsWords, Tells};
-ghost use Rattle.map_server.specs.Executions.{Does};
+ghost use Rattle.map_server.specs.Endings.{outputs, IsRefusalOf, EndsCommand, EndsWords, TellsEnding};
+ghost use Rattle.map_server.specs.Executions.{RunsBpfmap};
+ghost use Rattle.sessions.specs.Devices.{CanRead, CanWrite};
 
 use crate::bpfmap::commands::report_of;
 use crate::bpfmap::ending::Ending;
@@ -15,9 +16,9 @@ use crate::bpfmap::meaning::meaning_of;
 use crate::bpfmap::refusal::Refusal;
 use crate::bpfmap::report::Report;
 use crate::bpfmap::words::{Command, Task, parse_words};
-use crate::devices::{Failed, ReadFault, Sink, Source, read_all};
 use bpf_model::NoMemory;
 use clap::error::ErrorKind;
+use sessions::{Failed, ReadFault, Sink, Source, read_all};
 use std::alloc::Global;
 use std::io;
 use std::sync::Wait;
@@ -34,7 +35,7 @@ fn ending_of_refusal(alloc: Global, text: &[u8], refusal: Refusal) -> Ending
 
 /// What comes of a command on all that the reader has left.
 fn ending_of_command<R: Source>(alloc: Global, command: &Command<'_>, reader: &mut R) -> Ending
-    requires { (R.state reader.old).failures < 2 ^ 64 - 1 }
+    requires { CanRead (R.state reader.old) }
     ensures { EndsCommand command.now (R.state reader.old) (R.state reader.new) result }
 {
     match read_all(alloc, reader) {
@@ -66,13 +67,13 @@ fn ending_of_words(alloc: Global, error: &clap::Error) -> Ending
 /// Tells that the words of the command line could not be read, and answers the status. A refused request for memory is
 /// printed as a refusal.
 pub fn tell_unread_words<W: Sink, E: Sink>(error: &io::Error, writer: &mut W, errors: &mut E) -> u8
-    requires writes { (W.state writer.old).failures < 2 ^ 64 - 1 }
-    requires warns { (E.state errors.old).failures < 2 ^ 64 - 1 }
+    requires writes { CanWrite (W.state writer.old) }
+    requires warns { CanWrite (E.state errors.old) }
     ensures memory { error_kind error.now ≡ OutOfMemory
-        → Tells Ending.NoMemory (outputs (W.state writer.old) (E.state errors.old))
+        → TellsEnding Ending.NoMemory (outputs (W.state writer.old) (E.state errors.old))
         (outputs (W.state writer.new) (E.state errors.new)) result }
     ensures words { (error_kind error.now ≢ OutOfMemory)
-        → Tells Ending.NotUtf8 (outputs (W.state writer.old) (E.state errors.old))
+        → TellsEnding Ending.NotUtf8 (outputs (W.state writer.old) (E.state errors.old))
         (outputs (W.state writer.new) (E.state errors.new)) result }
 {
     if error.kind() == io::ErrorKind::OutOfMemory {
@@ -93,10 +94,10 @@ pub fn bpfmap_on<H: Wait, R: Source, W: Sink, E: Sink>(
     writer: &mut W,
     errors: &mut E,
 ) -> u8
-    requires reads { (R.state reader.old).failures < 2 ^ 64 - 1 }
-    requires writes { (W.state writer.old).failures < 2 ^ 64 - 1 }
-    requires warns { (E.state errors.old).failures < 2 ^ 64 - 1 }
-    ensures ends { Does (texts words.now) (R.state reader.old) (R.state reader.new)
+    requires reads { CanRead (R.state reader.old) }
+    requires writes { CanWrite (W.state writer.old) }
+    requires warns { CanWrite (E.state errors.old) }
+    ensures ends { RunsBpfmap (texts words.now) (R.state reader.old) (R.state reader.new)
         (outputs (W.state writer.old) (E.state errors.old))
         (outputs (W.state writer.new) (E.state errors.new)) result }
 {

@@ -1,12 +1,12 @@
 //! Why there is no answer, whichever step refuses.
 ghost use Rattle.std.specs.Prelude.{◌≡◌};
-ghost use Rattle.map_server.specs.Refusals.{number_of, place_of};
+ghost use Rattle.map_server.specs.Refusals.{refusal_number, place_of};
 
-use crate::admission::AdmissionFault;
 use crate::bpfmap::hex::HexFault;
 use bpf_assembler::AsmFault;
 use bpf_decode::DecodeFault;
 use bpf_model::{NoMemory, TooLong};
+use sessions::AdmissionFault;
 use std::error::Error;
 use std::fmt;
 
@@ -28,7 +28,7 @@ pub enum Refusal {
 impl Refusal {
     /// The number under which the refusal is printed.
     pub fn number(&self) -> u8
-        ensures { result ≡ number_of self.now }
+        ensures { result ≡ refusal_number self.now }
     {
         match self {
             Refusal::TooLong => TooLong::NUMBER,
@@ -54,9 +54,9 @@ impl Refusal {
 
 impl fmt::Display for Refusal {
     ghost use Rattle.std.specs.Prelude.{Some};
-    ghost use Rattle.map_server.specs.Meanings.{message_of};
+    ghost use Rattle.map_server.specs.Meanings.{refusal_message};
 
-    ghost output = { λ refusal. Some (message_of refusal) };
+    ghost output = { λ refusal. Some (refusal_message refusal) };
 
     fn fmt<W: fmt::Write>(&self, f: &mut fmt::Formatter<W>) -> fmt::Result {
         match self {
@@ -131,7 +131,7 @@ impl From<AdmissionFault> for Refusal {
 
 impl From<DecodeFault> for Refusal {
     ghost use Rattle.std.specs.Prelude.{◌≡◌};
-    ghost use Rattle.map_server.specs.declared.admission.AdmissionFault.TheVariants.{Decode};
+    ghost use Rattle.sessions.specs.declared.admission.AdmissionFault.TheVariants.{Decode};
     ghost use Rattle.map_server.specs.declared.bpfmap.refusal.Refusal.TheVariants.{Program};
 
     ghost from_gives = { λ fault e. e ≡ Program (Decode fault) };

@@ -3,12 +3,12 @@ ghost use Rattle.std.specs.Prelude.{◌≡◌, ◌≤◌, ◌+◌, ◌/◌, ◌%
 ghost use Rattle.std.specs.List.{flat_map};
 ghost use Rattle.arrayvec.specs.ArrayVec.{array_vec_len};
 ghost use Rattle.map_server.specs.Hex.{SpellsBytes};
-ghost use Rattle.map_server.specs.Reports.{text_of, status_of, spaced, digit, separator, unit_lines, IsLine};
+ghost use Rattle.map_server.specs.Reports.{report_text, status_of, spaced, digit, separator, unit_lines, IsLine};
 
 use crate::bpfmap::refusal::Refusal;
 use arrayvec::ArrayVec;
 use bpf_model::limits::VALUE_BYTES;
-use bpf_model::{Answer, NoMemory, Window};
+use bpf_model::{Answer, InputPart, NoMemory};
 use itoa::Buffer;
 use std::alloc::Global;
 
@@ -22,7 +22,7 @@ pub enum Report {
     /// The program's answer.
     Answered(Answer),
     /// The first value that is longer than its declared size.
-    Unfit(Window),
+    Unfit(InputPart),
     /// There is no answer.
     Refused(Refusal),
 }
@@ -92,7 +92,7 @@ fn bytes_line(bytes: &[u8]) -> Line
 }
 
 fn refused_line(refusal: &Refusal) -> Line
-    ensures { result.items ≡ text_of (Report.Refused refusal.now) }
+    ensures { result.items ≡ report_text (Report.Refused refusal.now) }
 {
     let mut line = Line::new();
     append(&mut line, b"refused ");
@@ -126,16 +126,16 @@ impl Report {
     /// The line that is printed for all but a text, with its newline. Takes no memory.
     pub fn line(&self) -> Line
         requires { IsLine self.now }
-        ensures { result.items ≡ text_of self.now }
+        ensures { result.items ≡ report_text self.now }
     {
         match self {
             Report::Text(_) => unreachable!(),
             Report::Accepted => text_line(b"accepted\n"),
             Report::Answered(Answer::Nothing) => text_line(b"nothing\n"),
             Report::Answered(Answer::Bytes(value)) => bytes_line(value.as_slice()),
-            Report::Unfit(Window::Key) => text_line(b"unfit key\n"),
-            Report::Unfit(Window::Old) => text_line(b"unfit old\n"),
-            Report::Unfit(Window::Arg) => text_line(b"unfit arg\n"),
+            Report::Unfit(InputPart::Key) => text_line(b"unfit key\n"),
+            Report::Unfit(InputPart::Old) => text_line(b"unfit old\n"),
+            Report::Unfit(InputPart::Arg) => text_line(b"unfit arg\n"),
             Report::Refused(refusal) => refused_line(refusal),
         }
     }

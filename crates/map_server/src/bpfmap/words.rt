@@ -3,7 +3,7 @@ ghost use Rattle.std.specs.Prelude.{◌≡◌, false, IfOk, codes};
 ghost use Rattle.clap.specs.Words.{app_of, fault_of, found_of, new_app, rows_of, rule_of, subcommand_rows_of, FailsBy};
 ghost use Rattle.clap.specs.Walk.{texts};
 ghost use Rattle.clap.specs.declared.builder.Command.TheViews.{out-Command as fields_of};
-ghost use Rattle.map_server.specs.CommandLine.{size_option, text_option, size_options, text_options, stripe_options, bpfmap, size_of, sizes_of, with_options, GivesTexts, NamesOne, IsAsked, Asks};
+ghost use Rattle.map_server.specs.CommandLine.{size_option, text_option, size_options, text_options, stripe_options, bpfmap, given_size, sizes_of, with_options, GivesTexts, NamesOne, IsAsked, Asks};
 
 use bpf_model::Sizes;
 use clap::{Arg, ArgMatches, value_parser};
@@ -195,7 +195,7 @@ fn bpfmap_command<'a>(alloc: Global) -> Result<clap::Command<'a>, AllocError>
 }
 
 fn size_of(matches: &ArgMatches<'_>, name: &str, default: u16) -> u16
-    ensures { result ≡ size_of (rows_of (found_of matches.now)) name.now default }
+    ensures { result ≡ given_size (rows_of (found_of matches.now)) name.now default }
 {
     matches.get_one(name).unwrap_or(default)
 }

@@ -32,11 +32,11 @@ const SUM: Wanted = Bytes(&THREE);
 
 const LONG: Wanted = Bytes(&NINE);
 
-const NO_KEY: Wanted = Unfit(Window::Key);
+const NO_KEY: Wanted = Unfit(InputPart::Key);
 
-const NO_OLD: Wanted = Unfit(Window::Old);
+const NO_OLD: Wanted = Unfit(InputPart::Old);
 
-const NO_ARG: Wanted = Unfit(Window::Arg);
+const NO_ARG: Wanted = Unfit(InputPart::Arg);
 
 // What the key has before, the method, the reply, and what the key has after.
 type Row = (Wanted, Method, Wanted, Wanted);
@@ -170,7 +170,7 @@ fn a_longest_value_is_unfit_where_one_byte_is_missing(rt: HostRuntime) -> Result
         program: &program,
         arg: None,
     };
-    assert_eq!(rt; table.apply(&call)?, Reply::Unfit(Window::Old));
+    assert_eq!(rt; table.apply(&call)?, Reply::Unfit(InputPart::Old));
     let key = Key::from_slice(b"a")?;
     assert_eq!(rt; table.apply(&Call::Get { key })?, Reply::Value(Some(long)));
     Ok(())

@@ -249,6 +249,7 @@ fn parted(alloc: Global, map: &StripedMap, team: Team) -> Result<(Vec<Pass>, Tea
     ensures passes { IfOk result (λ r. All (λ pass. pass.map ≡ map.now) r.0.items) }
     ensures team { IfOk result (λ r. All (λ pass. pass.map ≡ map.now) r.1.passes.items) }
 {
+    // For the clauses alone, which name the map.
     let _ = map;
     let mut passes = team.into_passes();
     let mut pair = Vec::new(alloc);

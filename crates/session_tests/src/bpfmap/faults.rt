@@ -11,10 +11,7 @@ fn pieces(rest: &[u8], size: usize, fails: bool) -> Pieces<'_> {
 }
 
 #[test]
-fn no_command_shows_the_help(rt: HostRuntime) -> Result<(), Fail> {
-    let alone = call(&rt, &["bpfmap"], pieces(b"", 1, false), ROOM, ROOM);
-    assert!(rt; alone.status == 2 && alone.output.is_empty());
-    assert!(rt; alone.errors.starts_with(b"Assembles BPF programs"));
+fn no_word_is_no_command(rt: HostRuntime) -> Result<(), Fail> {
     let none = call(&rt, &[], pieces(b"", 1, false), ROOM, ROOM);
     assert!(rt; none.status == 2 && none.output.is_empty() && !none.errors.is_empty());
     Ok(())
@@ -145,20 +142,4 @@ fn interrupted_reads_and_writes_are_tried_again(rt: HostRuntime) {
             "interrupted {times} times"
         );
     }
-}
-
-#[test]
-fn input_of_more_than_64_kib_is_read(rt: HostRuntime) -> Result<(), Fail> {
-    let blank = " \n".repeat(rt.alloc(), 50_000)?;
-    let text = format!(in rt.alloc(); "{blank}b7000000ffffffff{blank}9500000000000000{blank}")?;
-    for size in [1000, 4096, 100_000] {
-        let input = pieces(text.as_bytes(), size, false);
-        let found = call(&rt, &["bpfmap", "run"], input, ROOM, ROOM);
-        assert!(rt; found.status == 0, "in pieces of {size}");
-        assert!(rt;
-            found.output.as_slice() == b"nothing\n".as_slice(),
-            "in pieces of {size}"
-        );
-    }
-    Ok(())
 }

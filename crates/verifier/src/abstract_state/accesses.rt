@@ -9,36 +9,36 @@ ghost use Rattle.stack_slots.specs.declared.reg_value.RegValue.TheVariants.{Unwr
 ghost use Rattle.stack_slots.specs.Kept.{IsKept};
 ghost use Rattle.stack_slots.specs.Frames.{NoneUnwritten};
 ghost use Rattle.stack_slots.specs.Values.{StandsFor};
-ghost use Rattle.verifier.specs.Changes.{Changes, Suffices, CanExit, ReachesInside, IsPlace, AreMarked, WritesAt};
-ghost use Rattle.verifier.specs.Describes.{Leads, ReadsBytes, WritesBytes, Exits, IsAt, LiesInside, is_signed};
+ghost use Rattle.verifier.specs.Changes.{Changes, Suffices, CanExit, ReachesInside, IsSpan, AreMarked, WritesAt};
+ghost use Rattle.verifier.specs.Describes.{Leads, ReadsBytes, WritesBytes, Exits, IsInSpan, LiesInside, is_signed};
 ghost use Rattle.verifier.specs.Joins.{register as known};
 ghost use Rattle.verifier.specs.Windows.{LiesIn, pointed_window, window_of};
 
 use super::AbstractState;
-use super::place::Place;
 use super::registers::test_target;
+use super::span::Span;
 use crate::fault::StepFault;
-use bpf_model::{AccessSize, Insn, LoadKind, Operand, Reg, Region, Sizes};
+use bpf_model::{AccessSize, Insn, LoadKind, Operand, Reg, Sizes, Window};
 use stack_slots::{Access, RegValue, loadable};
 
 impl AbstractState {
     /// The window that the instruction's address register points into; the result's where it has none.
-    pub fn window(&self, insn: Insn) -> Region
+    pub fn window(&self, insn: Insn) -> Window
         ensures value { result ≡ window_of insn self.now }
     {
         match insn {
             Insn::Load { src, .. } => self.pointed_window(src),
             Insn::Store { dst, .. } => self.pointed_window(dst),
-            _ => Region::Result,
+            _ => Window::Result,
         }
     }
 
-    fn pointed_window(&self, register: Reg) -> Region
+    fn pointed_window(&self, register: Reg) -> Window
         ensures value { result ≡ pointed_window (known self.now register) }
     {
         match &self.registers[register.number() as usize] {
-            RegValue::Pointer(pointer) => pointer.region,
-            _ => Region::Result,
+            RegValue::Pointer(pointer) => pointer.window,
+            _ => Window::Result,
         }
     }
 
@@ -53,14 +53,14 @@ impl AbstractState {
         requires limits { AreWithinLimits sizes }
         ensures ok { OnOk result (Leads self.old sizes (Load kind dst src offset) self.new) }
         ensures changes { OnOk result (Changes (Load kind dst src offset) self.old self.new) }
-        ensures enough { Suffices sizes (Load kind dst src offset) self.old → result ≡ Ok tt }
+        ensures accepts { Suffices sizes (Load kind dst src offset) self.old → result ≡ Ok tt }
         ensures window { OnOk result (LiesIn sizes (Load kind dst src offset) self.old
             (pointed_window (known self.old src))) }
     {
         let base = self.read(src.number())?;
         test_target(dst)?;
-        let place = locate(sizes, base, offset, kind.size())?;
-        let value = self.read_bytes(sizes, place, kind)?;
+        let span = locate(sizes, base, offset, kind.size())?;
+        let value = self.read_bytes(sizes, span, kind)?;
         self.set(dst, value);
         Ok(())
     }
@@ -76,20 +76,20 @@ impl AbstractState {
         requires limits { AreWithinLimits sizes }
         ensures ok { OnOk result (Leads self.old sizes (Store size dst src offset) self.new) }
         ensures changes { OnOk result (Changes (Store size dst src offset) self.old self.new) }
-        ensures enough { Suffices sizes (Store size dst src offset) self.old → result ≡ Ok tt }
+        ensures accepts { Suffices sizes (Store size dst src offset) self.old → result ≡ Ok tt }
         ensures window { OnOk result (LiesIn sizes (Store size dst src offset) self.old
             (pointed_window (known self.old dst))) }
     {
         let base = self.read(dst.number())?;
         let value = self.operand(src)?;
-        let place = locate(sizes, base, offset, size)?;
-        self.write_bytes(sizes, place, size, value)
+        let span = locate(sizes, base, offset, size)?;
+        self.write_bytes(sizes, span, size, value)
     }
 
     /// Tests the end of a run.
     pub fn exit(&self) -> Result<(), StepFault>
         ensures ok { OnOk result (Exits self.now) }
-        ensures enough { CanExit self.now → result ≡ Ok tt }
+        ensures accepts { CanExit self.now → result ≡ Ok tt }
     {
         let number = self.read(0)?.as_number();
         if number.smin < -1 || number.smax > i64::from(self.frame.written_prefix()) {
@@ -98,18 +98,18 @@ impl AbstractState {
         Ok(())
     }
 
-    fn read_bytes(&self, sizes: Sizes, place: Place, kind: LoadKind) -> Result<RegValue, StepFault>
+    fn read_bytes(&self, sizes: Sizes, span: Span, kind: LoadKind) -> Result<RegValue, StepFault>
         requires limits { AreWithinLimits sizes }
-        requires inside { LiesInside sizes place (loaded_size kind) }
-        ensures ok { IfOk result (ReadsBytes self.now sizes place kind) }
+        requires inside { LiesInside sizes span (loaded_size kind) }
+        ensures ok { IfOk result (ReadsBytes self.now sizes span kind) }
         ensures value { NoneUnwritten self.now.frame → IfOk result (λ x. x ≢ Unwritten) }
-        ensures enough { (IsKept place.region
-            → AreMarked self.now place (byte_count (loaded_size kind))) → IsOk result }
+        ensures accepts { (IsKept span.window
+            → AreMarked self.now span (byte_count (loaded_size kind))) → IsOk result }
     {
         match Access::new(
-            place.region,
-            place.least,
-            place.greatest,
+            span.window,
+            span.least,
+            span.greatest,
             kind.size(),
             is_signed(kind),
             sizes,
@@ -123,24 +123,17 @@ impl AbstractState {
     fn write_bytes(
         &mut self,
         sizes: Sizes,
-        place: Place,
+        span: Span,
         size: AccessSize,
         value: RegValue,
     ) -> Result<(), StepFault>
         requires limits { AreWithinLimits sizes }
-        ensures ok { OnOk result (WritesBytes self.old sizes place size value self.new) }
-        ensures changes { OnOk result (WritesAt self.old place size value self.new) }
-        ensures enough { IsKept place.region → LiesInside sizes place size → result ≡ Ok tt }
-        ensures kept { OnOk result (IsKept place.region) }
+        ensures ok { OnOk result (WritesBytes self.old sizes span size value self.new) }
+        ensures changes { OnOk result (WritesAt self.old span size value self.new) }
+        ensures accepts { IsKept span.window → LiesInside sizes span size → result ≡ Ok tt }
+        ensures kept { OnOk result (IsKept span.window) }
     {
-        match Access::new(
-            place.region,
-            place.least,
-            place.greatest,
-            size,
-            false,
-            sizes,
-        ) {
+        match Access::new(span.window, span.least, span.greatest, size, false, sizes) {
             Some(access) => {
                 self.frame.store(&access, &value);
                 Ok(())
@@ -159,14 +152,14 @@ fn is_signed(kind: LoadKind) -> bool
     )
 }
 
-/// The place of an access through this value, where all its bytes are in the window.
-fn locate(sizes: Sizes, base: RegValue, offset: i16, size: AccessSize) -> Result<Place, StepFault>
-    ensures address { IfOk result (λ place. (w : ℕ) → StandsFor base (Some w)
-        → IsAt place (address_of w offset)) }
-    ensures inside { IfOk result (λ place. LiesInside sizes place size) }
-    ensures window { IfOk result (λ place. place.region ≡ pointed_window base) }
-    ensures exact { (p : ThePointer) → base ≡ PointerInto p → IfOk result (IsPlace p offset) }
-    ensures enough { (p : ThePointer) → base ≡ PointerInto p
+/// The span of an access through this value, where all its bytes are in the window.
+fn locate(sizes: Sizes, base: RegValue, offset: i16, size: AccessSize) -> Result<Span, StepFault>
+    ensures address { IfOk result (λ span. (w : ℕ) → StandsFor base (Some w)
+        → IsInSpan span (address_of w offset)) }
+    ensures inside { IfOk result (λ span. LiesInside sizes span size) }
+    ensures window { IfOk result (λ span. span.window ≡ pointed_window base) }
+    ensures exact { (p : ThePointer) → base ≡ PointerInto p → IfOk result (IsSpan p offset) }
+    ensures accepts { (p : ThePointer) → base ≡ PointerInto p
         → ReachesInside sizes p offset (byte_count size) → IsOk result }
 {
     let RegValue::Pointer(pointer) = base else {
@@ -174,11 +167,11 @@ fn locate(sizes: Sizes, base: RegValue, offset: i16, size: AccessSize) -> Result
     };
     let least = distance(pointer.least, offset).ok_or(StepFault::OutOfWindow)?;
     let greatest = distance(pointer.greatest, offset).ok_or(StepFault::OutOfWindow)?;
-    if greatest + size.bytes() > pointer.region.size(sizes) {
+    if greatest + size.bytes() > pointer.window.size(sizes) {
         return Err(StepFault::OutOfWindow);
     }
-    Ok(Place {
-        region: pointer.region,
+    Ok(Span {
+        window: pointer.window,
         least,
         greatest,
     })

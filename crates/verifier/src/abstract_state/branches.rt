@@ -6,7 +6,7 @@ ghost use Rattle.value_ranges.specs.In.{AreInSome, KeepsPairs};
 ghost use Rattle.verifier.specs.Describes.{lies_on, Assumes, Narrows, Includes};
 ghost use Rattle.stack_slots.specs.Values.{IsJoin};
 ghost use Rattle.verifier.specs.Joins.{register as known, JoinsStates, KeepsCommon};
-ghost use Rattle.verifier.specs.Changes.{source_of, KeepsOthers, OnlyNarrows};
+ghost use Rattle.verifier.specs.Changes.{second_register, KeepsOthers, OnlyNarrows};
 
 use super::AbstractState;
 use crate::fault::StepFault;
@@ -34,7 +34,7 @@ impl AbstractState {
     /// What is known of the only registers that a condition of these operands narrows.
     pub fn operands(&self, dst: Reg, src: Operand) -> Operands
         ensures dst { result.dst ≡ known self.now dst }
-        ensures src { result.src ≡ known self.now (source_of dst src) }
+        ensures src { result.src ≡ known self.now (second_register dst src) }
     {
         Operands {
             dst: self.registers[dst.number() as usize],
@@ -45,7 +45,7 @@ impl AbstractState {
     /// Goes back to what was known before a condition of these operands narrowed it.
     pub fn put_back(&mut self, dst: Reg, src: Operand, operands: Operands)
         ensures back { (before : AbstractState) → length before.registers ≡ 11
-            → operands.dst ≡ known before dst → operands.src ≡ known before (source_of dst src)
+            → operands.dst ≡ known before dst → operands.src ≡ known before (second_register dst src)
             → OnlyNarrows before self.old → KeepsOthers before dst src self.old
             → self.new ≡ before }
     {
@@ -64,7 +64,7 @@ impl AbstractState {
         ensures ok { IfOk result (λ any. Assumes self.old side width dst src any self.new) }
         ensures changes { OnlyNarrows self.old self.new }
         ensures others { KeepsOthers self.old dst src self.new }
-        ensures enough { known self.old dst ≢ Unwritten
+        ensures accepts { known self.old dst ≢ Unwritten
             → ((r : ℕ) → src ≡ TheRegister r → known self.old r ≢ Unwritten) → IsOk result }
     {
         let a = self.read(dst.number())?.as_number();
@@ -108,7 +108,7 @@ impl AbstractState {
 
 // the register of the second operand; that of the first where it is none
 fn source(dst: Reg, src: Operand) -> Reg
-    ensures value { result ≡ source_of dst src }
+    ensures value { result ≡ second_register dst src }
 {
     match src {
         Operand::Register(register) => register,

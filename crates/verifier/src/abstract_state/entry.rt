@@ -8,7 +8,7 @@ ghost use Rattle.verifier.specs.Grants.{GrantsEntry};
 
 use super::AbstractState;
 use bpf_model::limits::STACK_BYTES;
-use bpf_model::{Region, Sizes};
+use bpf_model::{Sizes, Window};
 use stack_slots::{Frame, Pointer, RegValue};
 use value_ranges::Range;
 
@@ -25,29 +25,29 @@ impl AbstractState {
         AbstractState {
             registers: [
                 RegValue::Unwritten,
-                address_in(Region::Key, 0),
-                address_in(Region::Old, 0),
-                address_in(Region::Arg, 0),
-                address_in(Region::Result, 0),
+                address_in(Window::Key, 0),
+                address_in(Window::Old, 0),
+                address_in(Window::Arg, 0),
+                address_in(Window::Result, 0),
                 RegValue::Unwritten,
                 RegValue::Number(key),
                 RegValue::Number(old),
                 RegValue::Number(arg),
                 RegValue::Unwritten,
-                address_in(Region::Stack, STACK_BYTES as u16),
+                address_in(Window::Stack, STACK_BYTES as u16),
             ],
             frame: Frame::empty(),
         }
     }
 }
 
-fn address_in(region: Region, offset: u16) -> RegValue
-    ensures describes { StandsFor result (Some (first_address region + offset)) }
-    ensures exact { IsPointerIn region (pos offset) (pos offset) result }
+fn address_in(window: Window, offset: u16) -> RegValue
+    ensures describes { StandsFor result (Some (first_address window + offset)) }
+    ensures exact { IsPointerIn window (pos offset) (pos offset) result }
 {
     let offset = i64::from(offset);
     RegValue::Pointer(Pointer {
-        region,
+        window,
         least: offset,
         greatest: offset,
     })

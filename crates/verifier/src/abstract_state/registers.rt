@@ -24,7 +24,7 @@ impl AbstractState {
         ensures constant { (k : ℤ) → src ≡ TheImmediate k → IfOk result (IsNumberIn k k) }
         ensures mask { (m : ℕ) → src ≡ TheImmediate (pos m) → IfOk result (IsSmallWord m) }
         ensures value { IfOk result (λ x. x ≢ Unwritten) }
-        ensures enough { ((r : ℕ) → src ≡ TheRegister r → known self.now r ≢ Unwritten)
+        ensures accepts { ((r : ℕ) → src ≡ TheRegister r → known self.now r ≢ Unwritten)
             → IsOk result }
     {
         match src {
@@ -37,7 +37,7 @@ impl AbstractState {
         requires register { register ≤ 10 }
         ensures ok { IfOk result (Knows self.now register) }
         ensures exact { IfOk result (λ x. (x ≡ known self.now register) × (x ≢ Unwritten)) }
-        ensures enough { known self.now register ≢ Unwritten
+        ensures accepts { known self.now register ≢ Unwritten
             → result ≡ Ok (known self.now register) }
     {
         match self.registers[register as usize] {
@@ -49,7 +49,7 @@ impl AbstractState {
     pub(super) fn assign(&mut self, dst: Reg, value: RegValue) -> Result<(), StepFault>
         ensures ok { OnOk result (Sets self.old dst value self.new) }
         ensures exact { OnOk result (SetsTo self.old dst value self.new) }
-        ensures enough { dst ≢ 10 → result ≡ Ok tt }
+        ensures accepts { dst ≢ 10 → result ≡ Ok tt }
     {
         test_target(dst)?;
         self.set(dst, value);

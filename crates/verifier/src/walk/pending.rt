@@ -84,7 +84,7 @@ impl Pending {
         }
     }
 
-    // makes a place for each unit up to this one
+    // makes room for each unit up to this one
     fn reach(&mut self, unit: usize) -> Result<(), AllocError>
         ensures reached { OnOk result (unit < vec_len self.new.states) }
         ensures same { OnOk result ((other : ℕ) → kept_at self.new other ≡ kept_at self.old other) }

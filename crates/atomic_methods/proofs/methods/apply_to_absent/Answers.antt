@@ -1,5 +1,6 @@
 use Rattle.std.proofs.Common.{None, arith}
-use Rattle.atomic_methods.proofs.TableLemmas.{remove-insert, remove_absent}
+use Rattle.bins.proofs.MapEdits.{remove_absent}
+use Rattle.atomic_methods.proofs.TableLemmas.{remove-insert}
 use Rattle.atomic_methods.proofs.methods.apply_to_absent.Goals as goal
 
 -- the key stays absent

@@ -1,11 +1,10 @@
 use Rattle.std.proofs.Common.{rules, ap, ◌∙◌, List}
 use Rattle.std.specs.FinMap as map
 use Rattle.std.proofs.lemmas.List.Sorted.{ranks_by, answers_always}
-use Rattle.bins.specs.Table.{by_bytes}
-use Rattle.atomic_methods.proofs.TableLemmas.{total}
-use Rattle.atomic_methods.proofs.EntryLemmas.{Entry}
+use Rattle.bins.specs.Table.{Entry, by_bytes}
+use Rattle.bins.proofs.MapEdits.{total}
+use Rattle.bins.proofs.SortedCopies.{smaller, sorted_entries}
 use Rattle.atomic_methods.proofs.WholeLemmas.{Distinct-stripes}
-use Rattle.atomic_methods.proofs.SortLemmas.{smaller, sorted_entries}
 use Rattle.atomic_methods.proofs.striped.sorted_entries.Goals as goal
 
 -- the entries of all stripes, sorted by key, are those of the table

@@ -1,5 +1,5 @@
 use Rattle.bins.specs.Chains.{bin_of}
-use Rattle.bins.proofs.ChainBins.{masked}
+use Rattle.bins.proofs.PowersOfTwo.{masked}
 use Rattle.bins.proofs.chains.bin_of.Goals as goal
 
 pub returns-clause-value : goal.returns-clause-value

@@ -1,7 +1,7 @@
 use Rattle.std.proofs.Common.{rules, ◌≡◌, ℕ, ◌+◌, [], ◌∷◌, ◌++◌, arith, sym, ap, ◌∙◌, Bool, true, false, Ok, length-append}
 use Rattle.std.proofs.lemmas.Grind.{common_steps}
 use Rattle.bins.specs.Replacements.{is_given, is_unfit}
-use Rattle.bins.proofs.ReplacementLemmas.{outcomes_grow, entries_grow, told_answer, told_window, count_one_more}
+use Rattle.bins.proofs.ReplacementLemmas.{outcomes_grow, entries_grow, told_answer, told_part, count_one_more}
 use Rattle.bins.proofs.replacement.replace_values.Goals as goal
 use Rattle.bins.proofs.replacement.replace_values.Goals.{in-Ok-true, in-Ok-false, in-Err}
 
@@ -21,15 +21,15 @@ loop-entry-preserved c =
       given = elim c.match-replace_value.branch [
         | in-Ok-true w ↦ omega (arith, given true (answered true _ w.in-Ok-true.is w.in-Ok-true.field-0-test).0)
         | in-Ok-false w ↦ omega (arith, given false (answered false _ w.in-Ok-false.is w.in-Ok-false.field-0-test).0)
-        | in-Err w ↦ omega (arith, given false (told_window one.outcome _ (sym w.in-Err.is ∙ one.is_told)).0)
+        | in-Err w ↦ omega (arith, given false (told_part one.outcome _ (sym w.in-Err.is ∙ one.is_told)).0)
       ];
       unfit = elim c.match-replace_value.branch [
         | in-Ok-true w ↦ omega (arith, unfit false (answered true _ w.in-Ok-true.is w.in-Ok-true.field-0-test).1)
         | in-Ok-false w ↦ omega (arith, unfit false (answered false _ w.in-Ok-false.is w.in-Ok-false.field-0-test).1)
-        | in-Err w ↦ omega (arith, unfit true (told_window one.outcome _ (sym w.in-Err.is ∙ one.is_told)).1)
+        | in-Err w ↦ omega (arith, unfit true (told_part one.outcome _ (sym w.in-Err.is ∙ one.is_told)).1)
       ];
-      few_given = elim c.match-replace_value.branch [ in-Ok-true w ↦ omega arith | in-Ok-false w ↦ omega arith | in-Err w ↦ omega arith ];
-      few_unfit = elim c.match-replace_value.branch [ in-Ok-true w ↦ omega arith | in-Ok-false w ↦ omega arith | in-Err w ↦ omega arith ];
+      bounded_given = elim c.match-replace_value.branch [ in-Ok-true w ↦ omega arith | in-Ok-false w ↦ omega arith | in-Err w ↦ omega arith ];
+      bounded_unfit = elim c.match-replace_value.branch [ in-Ok-true w ↦ omega arith | in-Ok-false w ↦ omega arith | in-Err w ↦ omega arith ];
     }
 
 -- what was replaced is all of the list

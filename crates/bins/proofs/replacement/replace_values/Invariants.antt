@@ -13,6 +13,6 @@ invariant-loop-entry l = record {
   entered : l.entry-items ≡ entries_after l.fn.entries.items outcomes;
   given : l.given ≡ count_by is_given outcomes;
   unfit : l.unfit ≡ count_by is_unfit outcomes;
-  few_given : l.given ≤ l.entry-index;
-  few_unfit : l.unfit ≤ l.entry-index;
+  bounded_given : l.given ≤ l.entry-index;
+  bounded_unfit : l.unfit ≤ l.entry-index;
 }

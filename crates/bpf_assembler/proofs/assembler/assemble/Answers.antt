@@ -1,6 +1,6 @@
 use Rattle.std.proofs.Common.{◌≡◌, ◌⊎◌, List, ℕ, Ok, Err, inl, inr, refl, sym, subst, ◌∙◌}
 use Rattle.bpf_assembler.specs.declared.fault.AsmFault.TheVariants.{NoMemory, BadCount}
-use Rattle.bpf_assembler.specs.Faults.{IsFaultyLine, IsFirstFault}
+use Rattle.bpf_assembler.specs.Faults.{IsFaultyLine, IsFirstAsmFault}
 use Rattle.bpf_assembler.proofs.FaultLemmas.{IsTrueOf, IsTrueOf-passed, only_program, only_fault, empty_text}
 use Rattle.bpf_assembler.proofs.assembler.assemble.Goals as goal
 
@@ -32,10 +32,10 @@ returns-in-Some-clause-only c = λ p h. only_program c.args.text.now p (Ok c.in-
 pub returns-in-Some-clause-refused : goal.returns-in-Some-clause-refused
 returns-in-Some-clause-refused c = λ e h. only_fault c.args.text.now e (Ok c.in-Some.program) (program c) h
 
-no_line_at_all : (c : goal.In-None) → (BadCount 0 ≡ NoMemory) ⊎ IsFirstFault c.args.text.now (BadCount 0)
+no_line_at_all : (c : goal.In-None) → (BadCount 0 ≡ NoMemory) ⊎ IsFirstAsmFault c.args.text.now (BadCount 0)
 no_line_at_all c =
     let read = c.in_ok-instructions.ensures in
-    let none = empty_text c.args.text.now c.in_ok-instructions.instructions.items (λ h. absurd (let wrong = c.in-None.ensures.some.1 h in cc)) read.few (sym c.as_bytes.ensures.value ∙ read.lines) in
+    let none = empty_text c.args.text.now c.in_ok-instructions.instructions.items (λ h. absurd (let wrong = c.in-None.ensures.some.1 h in cc)) read.bounded (sym c.as_bytes.ensures.value ∙ read.lines) in
     inr (inl (none, refl))
 
 empty : (c : goal.In-None) → IsTrueOf c.args.text.now (Err (BadCount 0))

@@ -10,7 +10,7 @@ abbrev pub invariant-loop-cursor : goal.invariant-loop-cursor
 invariant-loop-cursor l = record {
   fits : AreInstructions l.instructions.items;
   counted : l.units ≡ unit_count l.instructions.items;
-  few : l.units ≤ PROGRAM_UNITS;
+  bounded : l.units ≤ PROGRAM_UNITS;
   lines : l.text ≡ text_of l.instructions.items ++ l.cursor.rest.now;
 }
 

@@ -1,8 +1,9 @@
 use Rattle.std.proofs.Common.{◌≡◌, ◌∙◌, [], ◌∷◌, ◌++◌, ap, arith, inr}
 use Rattle.bpf_model.specs.Spelling.{unit_bytes, spelling, spelling_of_all}
-use Rattle.bpf_decode.specs.Faults.{at_unit}
+use Rattle.bpf_decode.specs.Faults.{decode_fault_at}
 use Rattle.bpf_decode.proofs.Outcomes.{where_ok}
-use Rattle.bpf_decode.proofs.SpellingLemmas.{AreInstructions-push, units_before, fewer_than_units, cut_unit, spelled_unit, spelled_more, rest_is_shorter}
+use Rattle.bpf_model.proofs.SpellingLaws.{AreInstructions-push}
+use Rattle.bpf_decode.proofs.SpellingLemmas.{units_before, fewer_than_units, cut_unit, spelled_unit, spelled_more, rest_is_shorter}
 use Rattle.bpf_decode.proofs.FaultLemmas.{Spells-all}
 use Rattle.bpf_decode.proofs.decoder.instructions.Goals as goal
 
@@ -43,7 +44,7 @@ returns-in-Err-clause-first_fault c =
       fit = c.from_bytes.ensures.fit;
       spelled = spelled_unit c.args.bytes.now (spelling_of_all c.loop-unit.instructions.items) c.loop-unit.rest.now c.in-Some.unit.now (unit_bytes c.from_bytes.result) c.in-Some.after.now c.loop-unit.invariant.spelled cases.0 cases.1 c.from_bytes.ensures.spelled;
       faulty = c.in-Err.ensures.fault;
-      named = c.at.ensures ∙ ap (λ unit. at_unit unit c.in-Err.fault) (units_before c.args.bytes.now c.loop-unit.rest.now c.loop-unit.instructions.items c.loop-unit.invariant.spelled);
+      named = c.at.ensures ∙ ap (λ unit. decode_fault_at unit c.in-Err.fault) (units_before c.args.bytes.now c.loop-unit.rest.now c.loop-unit.instructions.items c.loop-unit.invariant.spelled);
     })
 
 pub returns-clause-found : goal.returns-clause-found

@@ -1,6 +1,6 @@
 use Rattle.std.proofs.Common.{List, length, ap, subst}
 use Rattle.bins.specs.Table.{Entry}
-use Rattle.walk_replies.specs.Replies.{IsReply, IsCount}
+use Rattle.atomic_methods.specs.Replies.{IsReply, IsCount}
 use Rattle.bulk_walks.specs.Walks.{sum_below}
 use Rattle.bulk_walks.proofs.SameScans.{same_order, sum_below-same}
 use Rattle.bulk_walks.proofs.alike.is_same_reply.Goals as goal

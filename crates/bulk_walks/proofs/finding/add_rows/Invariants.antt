@@ -1,5 +1,5 @@
 use Rattle.std.proofs.Common.{◌≡◌, ◌++◌, map}
-use Rattle.walk_replies.specs.Rows.{entry_of}
+use Rattle.atomic_methods.specs.Rows.{entry_of}
 use Rattle.bulk_walks.proofs.finding.add_rows.Given as goal
 
 abbrev pub invariant-loop-key : goal.invariant-loop-key

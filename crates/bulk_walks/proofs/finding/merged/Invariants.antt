@@ -1,7 +1,7 @@
 use Rattle.std.proofs.Common.{◌≡◌, ℕ, map, sum_by, All, IsOk}
 use Rattle.bins.specs.Table.{Entry}
 use Rattle.bulk_walks.specs.Turns.{found_sum}
-use Rattle.walk_replies.specs.Rows.{entry_of}
+use Rattle.atomic_methods.specs.Rows.{entry_of}
 use Rattle.bulk_walks.proofs.finding.merged.Given as goal
 
 abbrev pub invariant-loop-answer : goal.invariant-loop-answer

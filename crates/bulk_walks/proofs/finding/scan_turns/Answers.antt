@@ -1,7 +1,7 @@
 use Rattle.std.proofs.Common.{arith, ◌≡◌, ◌+◌, List, refl, sym, ap, subst, ◌∙◌}
 use Rattle.bins.specs.Table.{Entry}
 use Rattle.bin_stripes.specs.Passes.{PassState, stripes_of}
-use Rattle.bulk_walks.specs.Turns.{Finds}
+use Rattle.bulk_walks.specs.Turns.{WorkerFinds}
 use Rattle.bulk_walks.proofs.FindingLemmas.{finds_none, finds_more, finds_past, finds_part, scans_cut, finds_at}
 use Rattle.bulk_walks.proofs.finding.scan_turns.Goals as goal
 use Rattle.bulk_walks.proofs.finding.scan_turns.Goals.{then-stripe-workers+in_ok-entries+in_ok-append, else-stripe-workers}
@@ -9,7 +9,7 @@ use Rattle.bulk_walks.proofs.finding.scan_turns.Goals.{then-stripe-workers+in_ok
 pub loop-stripe-init : goal.loop-stripe-init
 loop-stripe-init g c = record {
   map = refl;
-  done = subst (λ (es : List Entry). Finds (stripes_of c.args.map.now) 0 c.args.workers c.args.worker c.args.pass.now.view c.args.pass.now.view es) (sym c.new-found.ensures.items) (finds_none _ c.args.workers c.args.worker c.args.pass.now.view);
+  done = subst (λ (es : List Entry). WorkerFinds (stripes_of c.args.map.now) 0 c.args.workers c.args.worker c.args.pass.now.view c.args.pass.now.view es) (sym c.new-found.ensures.items) (finds_none _ c.args.workers c.args.worker c.args.pass.now.view);
 }
 
 pub returns-in_err-entries-clause-part : goal.returns-in_err-entries-clause-part

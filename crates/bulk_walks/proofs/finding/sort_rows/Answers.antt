@@ -2,7 +2,7 @@ use Rattle.std.proofs.Common.{rules}
 use Rattle.std.specs.Cmp.Lexicographic.{nat_list_cmp_total}
 use Rattle.std.proofs.lemmas.List.Sorted.{ranks_by, answers_always}
 use Rattle.bulk_walks.specs.Turns.{comes_before}
-use Rattle.walk_replies.specs.declared.row.Row.{Row}
+use Rattle.atomic_methods.specs.declared.row.Row.{Row}
 use Rattle.bulk_walks.proofs.finding.sort_rows.Goals as goal
 
 pub returns-clause-order : goal.returns-clause-order

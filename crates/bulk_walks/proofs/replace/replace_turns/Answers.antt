@@ -17,16 +17,16 @@ loop-stripe-init g c = record {
 pub add-requires : goal.add-requires
 add-requires g c =
     let inv = c.loop-stripe.invariant.done in
-    let few = turn_sum-le c.args.workers c.args.worker (λ _. 2 ^ 57) (2 ^ 57) c.loop-stripe.stripe (λ _. omega arith) in
+    let bounded = turn_sum-le c.args.workers c.args.worker (λ _. 2 ^ 57) (2 ^ 57) c.loop-stripe.stripe (λ _. omega arith) in
     let low = c.loop-stripe-test.true in
     let value = c.stripes-stripes.ensures.value in
     let most = at_most_64 _ c.stripes-stripes.ensures.count in
     let bound = at_most_scanned c.replace_stripe-counts.ensures.each.are in
-    let here = c.replace_stripe-counts.ensures.few in
+    let here = c.replace_stripe-counts.ensures.bounded in
     record {
-      scanned = omega (arith, few, low, value, most, here, inv.few_scanned);
-      given = omega (arith, few, low, value, most, here, bound.0, inv.few_given);
-      unfit = omega (arith, few, low, value, most, here, bound.1, inv.few_unfit);
+      scanned = omega (arith, bounded, low, value, most, here, inv.bounded_scanned);
+      given = omega (arith, bounded, low, value, most, here, bound.0, inv.bounded_given);
+      unfit = omega (arith, bounded, low, value, most, here, bound.1, inv.bounded_unfit);
     }
 
 pub loop-stripe-preserved : goal.loop-stripe-preserved
@@ -47,7 +47,7 @@ loop-stripe-preserved g c =
           record {
             map = ap (λ (p : PassState). p.map) w.pass-is ∙ w.replace_stripe-counts.ensures.same.map ∙ inv.map;
             done = replaces_at S checked arg (n + 1) W j v q _ _ _
-                (replaces_more S checked arg W j v n p q c.loop-stripe.total w.replace_stripe-counts.result w.add.new.total inv.done w.if-stripe-workers.true w.replace_stripe-counts.ensures.same.passes stripes w.replace_stripe-counts.ensures.each w.replace_stripe-counts.ensures.few w.add.ensures)
+                (replaces_more S checked arg W j v n p q c.loop-stripe.total w.replace_stripe-counts.result w.add.new.total inv.done w.if-stripe-workers.true w.replace_stripe-counts.ensures.same.passes stripes w.replace_stripe-counts.ensures.each w.replace_stripe-counts.ensures.bounded w.add.ensures)
                 w.pass-is w.total-is;
           }
       | else-stripe-workers w ↦ record {

@@ -1,6 +1,6 @@
 use Rattle.std.proofs.Common.{◌≡◌, ◌++◌, take, drop, length, sym, ◌∙◌, subst, List}
-use Rattle.walk_replies.specs.declared.row.Row.{Row}
-use Rattle.walk_replies.specs.Rows.{AreRun}
+use Rattle.atomic_methods.specs.declared.row.Row.{Row}
+use Rattle.atomic_methods.specs.Rows.{AreRun}
 use Rattle.bulk_walks.specs.Turns.{entries_of}
 use Rattle.bulk_walks.proofs.Working.{kept}
 use Rattle.bulk_walks.proofs.RunLemmas.{are_run}

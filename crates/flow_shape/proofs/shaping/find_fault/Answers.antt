@@ -21,7 +21,7 @@ overflow_add-unit c =
     let k = c.loop-insn.insn-index in
     let i = c.insn-item.result in
     let here = slice_get_read xs (length xs) k i refl c.loop-insn-test.true c.insn-item.is in
-    omega (arith, c.requires.few, c.units-unit.ensures.value, next_inside xs k i c.loop-insn.unit here c.loop-insn.invariant.counted)
+    omega (arith, c.requires.bounded, c.units-unit.ensures.value, next_inside xs k i c.loop-insn.unit here c.loop-insn.invariant.counted)
 
 pub loop-insn-preserved : goal.loop-insn-preserved
 loop-insn-preserved c =

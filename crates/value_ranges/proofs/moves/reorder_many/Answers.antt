@@ -1,5 +1,5 @@
 use Rattle.std.proofs.Common.{arith}
-use Rattle.value_ranges.proofs.MoveLemmas.{reordered_below}
+use Rattle.bpf_model.proofs.ByteOrderLaws.{reordered_below}
 use Rattle.value_ranges.proofs.moves.reorder_many.Goals as goal
 
 pub returns-in_default : goal.returns-in_default

@@ -11,7 +11,7 @@ returns-in-Some-clause-near c = λ w lo hi from to near p n.
     record {
       pointer = c.in-Some.moved;
       is = refl;
-      region = is.region_is ∙ x.0;
+      window = is.window_is ∙ x.0;
       least = omega (arith, ints, x.1.0, y.0, is.least_is);
       greatest = omega (arith, ints, x.1.1, y.1, is.greatest_is);
     }

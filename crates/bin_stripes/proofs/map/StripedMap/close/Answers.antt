@@ -4,13 +4,12 @@ use Rattle.std.proofs.lemmas.List.Sorted.{ranks_by, answers_always}
 use Rattle.atomic_table.specs.Seated.{TableId}
 use Rattle.stripe_rule.specs.declared.view.View.{View}
 use Rattle.stripe_rule.specs.Steps.{view_of, HasTaken}
-use Rattle.bins.specs.Table.{by_bytes}
-use Rattle.atomic_methods.proofs.TableLemmas.{total}
-use Rattle.atomic_methods.proofs.EntryLemmas.{Entry}
+use Rattle.bins.specs.Table.{Entry, by_bytes}
+use Rattle.bins.proofs.MapEdits.{total}
+use Rattle.bins.proofs.SortedCopies.{smaller, sorted_entries}
 use Rattle.atomic_methods.proofs.WholeLemmas.{Distinct-stripes}
-use Rattle.atomic_methods.proofs.SortLemmas.{smaller, sorted_entries}
 use Rattle.atomic_methods.specs.Hashes.{IsStripeCount}
-use Rattle.bin_stripes.specs.declared.deed.Deed.{Deed}
+use Rattle.bin_stripes.specs.declared.ghost_action.GhostAction.{GhostAction}
 use Rattle.bin_stripes.specs.Histories.{empty, does, Sound}
 use Rattle.bin_stripes.specs.Passes.{PassState, stripes_of}
 use Rattle.bin_stripes.proofs.PassLemmas.{state}
@@ -23,7 +22,7 @@ returns g c = let known = c.pass.inside.known in let me = c.take-seat.result.me 
     let same : known.table_id ≡ c.self.inside.table.shared.table_id = ap (λ (s : PassState). s.map) c.pass.view_is ∙ (c.requires.map ∙ sym c.self.view_is) in
     let n : c.slot_count-stripes.result ≡ stripes_of known.table_id = c.slot_count-stripes.ensures ∙ ap (λ (t : TableId). t.slots) (sym same) in
     let here : HasTaken (does (stripes_of known.table_id)) empty (view_of known.views) (stripes_of known.table_id) out.0 w =
-    subst (λ (z : ℕ × View Deed). HasTaken (does z.0) empty z.1 z.0 out.0 w) (λ i. (n i, ap view_of (sym c.take-seat.ensures.2) i)) out.1.1.0 in
+    subst (λ (z : ℕ × View GhostAction). HasTaken (does z.0) empty z.1 z.0 out.0 w) (λ i. (n i, ap view_of (sym c.take-seat.ensures.2) i)) out.1.1.0 in
     let stripes = are_stripes (stripes_of known.table_id) (view_of known.views) w out.0 (subst (λ (t : TableId). IsStripeCount t.slots) (sym same) c.self.invariant.count) here in
     let order = ranks_by total (λ (e : Entry). e.0) in
     let up = c.in_ok-sort_by.ensures.sorted smaller order (answers_always _ _ _ (λ f a r q k. search rules)) in

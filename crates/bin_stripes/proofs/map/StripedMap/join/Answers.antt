@@ -6,7 +6,7 @@ use Rattle.stripe_rule.specs.Steps.{Extends, view_of, united}
 use Rattle.stripe_rule.proofs.TellLemmas.{hears}
 use Rattle.stripe_rule.proofs.JoinLemmas.{joined}
 use Rattle.atomic_methods.proofs.StripeLemmas.{some_stripe}
-use Rattle.bin_stripes.specs.declared.deed.Deed.{Deed}
+use Rattle.bin_stripes.specs.declared.ghost_action.GhostAction.{GhostAction}
 use Rattle.bin_stripes.specs.Histories.{empty, does}
 use Rattle.bin_stripes.specs.Passes.{IsPass, stripes_of}
 use Rattle.bin_stripes.proofs.StepLemmas.{settles_lost}
@@ -39,7 +39,7 @@ look-requires-clause-pass c = let first = c.one.inside.known in let second = c.o
     let v = c.hear.new.seat.me in let w = c.take.result.me in
     let s = rests_of second.table_id second.views w c.other.invariant c.take.ensures.2 c.take.ensures.3 in
     let same : first.table_id ≡ second.table_id = ap (λ p. p.map) c.one.view_is ∙ (c.requires.one ∙ (sym c.requires.other ∙ sym (ap (λ p. p.map) c.other.view_is))) in
-    let wide : length v.0.parts ≡ length w.0.parts = c.hear.ensures.heard.wide ∙ (ap (λ (x : View Deed). length x.parts) (sym (ap view_of c.take-seat.ensures.2)) ∙ (c.one.invariant.wide ∙ (ap stripes_of same ∙ (sym c.other.invariant.wide ∙ ap (λ (x : View Deed). length x.parts) (ap view_of c.take.ensures.2))))) in
+    let wide : length v.0.parts ≡ length w.0.parts = c.hear.ensures.heard.wide ∙ (ap (λ (x : View GhostAction). length x.parts) (sym (ap view_of c.take-seat.ensures.2)) ∙ (c.one.invariant.wide ∙ (ap stripes_of same ∙ (sym c.other.invariant.wide ∙ ap (λ (x : View GhostAction). length x.parts) (ap view_of c.take.ensures.2))))) in
     (joined_rests v w c.unite.new.seat.me c.hear.ensures.rests.0 s wide c.unite.ensures.both).some
 
 pub invariant_of-result : goal.invariant_of-result
@@ -47,13 +47,13 @@ invariant_of-result c = let shared = c.self.inside.table.shared in let first = c
     let v = c.hear.new.seat.me in let w = c.take.result.me in let r = c.hear.ensures.rests.0 in
     let s = rests_of second.table_id second.views w c.other.invariant c.take.ensures.2 c.take.ensures.3 in
     let same : first.table_id ≡ second.table_id = ap (λ p. p.map) c.one.view_is ∙ (c.requires.one ∙ (sym c.requires.other ∙ sym (ap (λ p. p.map) c.other.view_is))) in
-    let mine : length v.0.parts ≡ stripes_of first.table_id = c.hear.ensures.heard.wide ∙ (ap (λ (x : View Deed). length x.parts) (sym (ap view_of c.take-seat.ensures.2)) ∙ c.one.invariant.wide) in
-    let wide : length v.0.parts ≡ length w.0.parts = mine ∙ (ap stripes_of same ∙ (sym c.other.invariant.wide ∙ ap (λ (x : View Deed). length x.parts) (ap view_of c.take.ensures.2))) in
+    let mine : length v.0.parts ≡ stripes_of first.table_id = c.hear.ensures.heard.wide ∙ (ap (λ (x : View GhostAction). length x.parts) (sym (ap view_of c.take-seat.ensures.2)) ∙ c.one.invariant.wide) in
+    let wide : length v.0.parts ≡ length w.0.parts = mine ∙ (ap stripes_of same ∙ (sym c.other.invariant.wide ∙ ap (λ (x : View GhostAction). length x.parts) (ap view_of c.take.ensures.2))) in
     let now = c.unite.new.seat.me in let end = c.look.new.seat.me in let rests = joined_rests v w now r s wide c.unite.ensures.both in
     let e : first.table_id ≡ shared.table_id = ap (λ p. p.map) c.one.view_is ∙ (c.requires.one ∙ sym c.self.view_is) in
     let l = settles_lost content shared.table_id.slots 0 now end rests c.look.ensures.looked in
     let id : c.of.result.table_id ≡ first.table_id = c.of.ensures.0 ∙ (c.look.ensures.same.0 ∙ (c.unite.ensures.same.0 ∙ (c.hear.ensures.same.0 ∙ c.take-seat.ensures.0))) in
-    subst (λ (z : TableId × List (View Deed)). IsPass z.0 z.1) (λ i. (sym id i, sym c.of.ensures.2 i)) (record {
+    subst (λ (z : TableId × List (View GhostAction)). IsPass z.0 z.1) (λ i. (sym id i, sym c.of.ensures.2 i)) (record {
       one = refl;
       idle = l.rests.idle;
       some = l.rests.some;
@@ -65,14 +65,14 @@ pub returns-clause-joined : goal.returns-clause-joined
 returns-clause-joined c = let shared = c.self.inside.table.shared in let first = c.one.inside.known in let second = c.other.inside.known in
     let v = c.hear.new.seat.me in let w = c.take.result.me in
     let same : first.table_id ≡ second.table_id = ap (λ p. p.map) c.one.view_is ∙ (c.requires.one ∙ (sym c.requires.other ∙ sym (ap (λ p. p.map) c.other.view_is))) in
-    let mine : length v.0.parts ≡ stripes_of first.table_id = c.hear.ensures.heard.wide ∙ (ap (λ (x : View Deed). length x.parts) (sym (ap view_of c.take-seat.ensures.2)) ∙ c.one.invariant.wide) in
-    let wide : length v.0.parts ≡ length w.0.parts = mine ∙ (ap stripes_of same ∙ (sym c.other.invariant.wide ∙ ap (λ (x : View Deed). length x.parts) (ap view_of c.take.ensures.2))) in
+    let mine : length v.0.parts ≡ stripes_of first.table_id = c.hear.ensures.heard.wide ∙ (ap (λ (x : View GhostAction). length x.parts) (sym (ap view_of c.take-seat.ensures.2)) ∙ c.one.invariant.wide) in
+    let wide : length v.0.parts ≡ length w.0.parts = mine ∙ (ap stripes_of same ∙ (sym c.other.invariant.wide ∙ ap (λ (x : View GhostAction). length x.parts) (ap view_of c.take.ensures.2))) in
     let n = c.slot_count-stripes.result in let heard = hears (view_of second.views) c.take-seat.result.me.0 v.0 n c.hear.ensures.heard in
     let there : view_of second.views ≡ w.0 = ap view_of c.take.ensures.2 in
     let heard' : Hears n w.0 c.take-seat.result.me.0 v.0 = subst (λ x. Hears n x c.take-seat.result.me.0 v.0) there heard in
     let some : 0 < n = subst (λ m. 0 < m) (sym c.slot_count-stripes.ensures) (some_stripe shared.table_id.slots c.self.invariant.count) in
     let now = c.unite.new.seat.me.0 in let end = c.look.new.seat.me.0 in
     let look : Extends (united v.0 w.0) 0 (held_at now 0) end = subst (λ x. Extends x 0 (held_at now 0) end) (ap (λ m. m.0) c.unite.ensures.both) c.look.ensures.looked.extends in
-    subst (λ (z : ℕ × View Deed × View Deed × View Deed). IsJoined z.0 z.1 z.2 z.3)
+    subst (λ (z : ℕ × View GhostAction × View GhostAction × View GhostAction). IsJoined z.0 z.1 z.2 z.3)
     (λ i. ((c.slot_count-stripes.ensures ∙ ap (λ t. t.slots) c.self.view_is) i, (sym (ap view_of c.take-seat.ensures.2) ∙ ap (λ p. p.view) c.one.view_is) i, (sym there ∙ ap (λ p. p.view) c.other.view_is) i, sym (ap view_of c.of.ensures.2) i))
     (joined n 0 c.take-seat.result.me.0 w.0 v.0 end (held_at now 0) wide heard' some look)

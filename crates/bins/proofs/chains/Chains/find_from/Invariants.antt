@@ -2,7 +2,7 @@ use Rattle.std.proofs.Common.{◌≡◌, ◌≢◌, ◌^◌, ◌<◌, ◌≤◌,
 use Rattle.bins.specs.Chains.{IsLast, bin_of, bins_of}
 use Rattle.bins.proofs.chains.Chains.find_from.Given as goal
 
--- no place that was passed has the hash, and the next one is in its bin
+-- no position that was passed has the hash, and the next one is in its bin
 abbrev pub invariant-loop-at : goal.invariant-loop-at
 invariant-loop-at l = record {
   range : l.at ≤ length l.self.hashes.items;

@@ -9,7 +9,7 @@ invariant-loop-at l = record {
   leads : l.at ≡ follow l.self.heads.items l.self.nexts.items l.link;
   is_link : IsLink l.self l.link;
   reached : (bins : ℕ → ℕ) → Links bins (length l.self.nexts.items) l.self.heads.items l.self.nexts.items
-      → Reaches bins (length l.self.nexts.items) l.bin l.place l.link;
+      → Reaches bins (length l.self.nexts.items) l.bin l.position l.link;
 }
 
 abbrev pub decreases-loop-at : goal.decreases-loop-at

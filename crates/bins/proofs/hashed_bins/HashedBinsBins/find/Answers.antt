@@ -2,7 +2,7 @@ use Rattle.std.proofs.Common.{sym}
 use Rattle.bins.proofs.DistinctEntries.{get_here, get_none}
 use Rattle.bins.proofs.hashed_bins.HashedBinsBins.find.Goals as goal
 
--- the entry at the key's place was read
+-- the entry at the key's position was read
 pub returns-in-Some : goal.returns-in-Some
 returns-in-Some c =
     let bound = rw c.deref.ensures.value at c.in-Some.ensures.bound in

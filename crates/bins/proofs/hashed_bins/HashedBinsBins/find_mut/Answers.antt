@@ -11,7 +11,7 @@ invariant_of-self-lent c = λ w. (
   written_distinct _ _ _ _ c.index_mut.ensures.value c.self.invariant.1,
 )
 
--- the value at the key's place is lent
+-- the value at the key's position is lent
 pub returns-in-Some : goal.returns-in-Some
 returns-in-Some c =
     let bound = rw c.deref.ensures.value at c.in-Some.ensures.bound in

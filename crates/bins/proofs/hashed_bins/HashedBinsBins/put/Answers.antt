@@ -19,7 +19,7 @@ returns-in-Some-clause-ok c =
     let bound = rw c.deref.ensures.value at c.in-Some.ensures.bound in
     let found = rw c.deref.ensures.value at c.in-Some.ensures.found in
     let written = written_table _ _ c.set_from.new.self _ c.index_mut.ensures.value _ c.self.invariant.1
-    (below_same c.in-Some.place _ _ (omega arith) bound) (key_same _ _ c.in-Some.place _ (omega arith) found) in
+    (below_same c.in-Some.position _ _ (omega arith) bound) (key_same _ _ c.in-Some.position _ (omega arith) found) in
     rw (← c.self.view_is) (written ∙ ap (λ (v : List ℕ). map.insert (table_of c.self.inside.entries.items) c.args.key v) (c.set_from.ensures ∙ c.as_slice.ensures.value))
 
 -- memory fails only for a key that was not there

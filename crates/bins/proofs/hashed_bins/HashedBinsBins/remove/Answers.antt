@@ -4,13 +4,13 @@ use Rattle.bins.proofs.MapEdits.{remove_absent}
 use Rattle.bins.proofs.DistinctEntries.{get_here, get_none, removed_hashes, removed_distinct, removed_table}
 use Rattle.bins.proofs.hashed_bins.HashedBinsBins.remove.Goals as goal
 
--- the entry at the key's place is taken out, and its hash with it
+-- the entry at the key's position is taken out, and its hash with it
 pub invariant_of-self : goal.invariant_of-self
 invariant_of-self c =
     let bound = rw c.deref.ensures.value at c.in-Some.ensures.bound in
     let found = rw c.deref.ensures.value at c.in-Some.ensures.found in
     let items = c.swap_remove-in-Some.ensures.items in
-    let hashes = removed_hashes c.self.inside.entries.items c.in-Some.place _ _ c.swap_remove-in-Some.result _ _ c.swap_remove.ensures.hashes c.self.invariant.0 (omega arith) bound ∙ ap hashes_of (sym items) in
+    let hashes = removed_hashes c.self.inside.entries.items c.in-Some.position _ _ c.swap_remove-in-Some.result _ _ c.swap_remove.ensures.hashes c.self.invariant.0 (omega arith) bound ∙ ap hashes_of (sym items) in
     (hashes, subst Distinct (sym items) (removed_distinct _ _ c.swap_remove-in-Some.result _ c.self.invariant.1 bound found))
 
 pub returns-in-Some-clause-value : goal.returns-in-Some-clause-value

@@ -2,7 +2,7 @@ use Rattle.std.proofs.Common.{sym}
 use Rattle.bins.proofs.MapEdits.{get_at, get_gap}
 use Rattle.bins.proofs.list_bins.ListBinsBins.find.Goals as goal
 
--- the entry at the key's place was read
+-- the entry at the key's position was read
 pub returns-in-Ok : goal.returns-in-Ok
 returns-in-Ok c =
     let bound = rw c.deref.ensures.value at c.in-Ok.ensures.bound in

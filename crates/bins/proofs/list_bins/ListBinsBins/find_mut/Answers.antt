@@ -8,7 +8,7 @@ use Rattle.bins.proofs.list_bins.ListBinsBins.find_mut.Goals as goal
 pub invariant_of-self-lent : goal.invariant_of-self-lent
 invariant_of-self-lent c = λ w. search (rules, sorted_write, c.self.invariant, c.index_mut.ensures.value)
 
--- the value at the key's place is lent
+-- the value at the key's position is lent
 pub returns-in-Ok : goal.returns-in-Ok
 returns-in-Ok c =
     let bound = rw c.deref.ensures.value at c.in-Ok.ensures.bound in

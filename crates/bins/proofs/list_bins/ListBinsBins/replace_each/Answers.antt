@@ -9,5 +9,5 @@ invariant_of-self c = (replaces_table _ _ _ _ _ c.self.invariant c.replace_value
 pub returns : goal.returns
 returns c = record {
   each = rw (← c.self.view_is) (replaces_table _ _ _ _ _ c.self.invariant c.replace_values.ensures.each).1;
-  few = c.replace_values.ensures.few;
+  bounded = c.replace_values.ensures.bounded;
 }

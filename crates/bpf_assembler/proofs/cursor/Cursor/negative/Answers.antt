@@ -8,4 +8,4 @@ returns-clause-found c =
     let (read, within) = c.in_ok-number.ensures.found in
     let some = c.if-number-eq0.false in
     let next : suc (n - 1) ≡ n = omega (arith, some) in
-    (n - 1, (negated (n - 1) (omega (arith, within, some, c.from.ensures, c.requires.few)), rw next read, omega (arith, within, some, c.from.ensures)))
+    (n - 1, (negated (n - 1) (omega (arith, within, some, c.from.ensures, c.requires.bounded)), rw next read, omega (arith, within, some, c.from.ensures)))

@@ -3,12 +3,12 @@ use Rattle.std.specs.Prelude.{codes, decimal}
 use Rattle.bpf_model.specs.declared.limits.TheConstants.{PROGRAM_UNITS}
 use Rattle.bpf_assembler.specs.declared.fault.AsmFault.{AsmFault}
 use Rattle.bpf_assembler.specs.declared.fault.AsmFault.TheVariants.{BadCount}
-use Rattle.bpf_assembler.specs.Faults.{message_of}
+use Rattle.bpf_assembler.specs.Faults.{asm_fault_message}
 use Rattle.bpf_assembler.proofs.fault.AsmFaultDisplay.fmt.Goals as goal
 
-past_units : (fault : AsmFault) (line : ℕ) → fault ≡ BadCount line → (line ≡ 0 → ⊥) → message_of fault ≡ codes "more than " ++ (decimal PROGRAM_UNITS ++ (codes " units in line " ++ decimal line))
+past_units : (fault : AsmFault) (line : ℕ) → fault ≡ BadCount line → (line ≡ 0 → ⊥) → asm_fault_message fault ≡ codes "more than " ++ (decimal PROGRAM_UNITS ++ (codes " units in line " ++ decimal line))
 past_units fault zero is some = absurd (some refl)
-past_units fault (suc n) is some = ap message_of is ∙ ap (λ x. codes "more than " ++ x) (append_assoc (decimal PROGRAM_UNITS) (codes " units in line ") (decimal (suc n)))
+past_units fault (suc n) is some = ap asm_fault_message is ∙ ap (λ x. codes "more than " ++ x) (append_assoc (decimal PROGRAM_UNITS) (codes " units in line ") (decimal (suc n)))
 
 pub returns-in-BadCount-clause-writes : goal.returns-in-BadCount-clause-writes
 returns-in-BadCount-clause-writes g c = λ plain ok.

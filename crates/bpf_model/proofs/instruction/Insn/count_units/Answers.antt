@@ -6,7 +6,7 @@ use Rattle.bpf_model.proofs.instruction.Insn.count_units.Goals as goal
 
 pub loop-insn-init : goal.loop-insn-init
 unfolding unit_count
-loop-insn-init c = record { counted = refl; few = omega arith }
+loop-insn-init c = record { counted = refl; bounded = omega arith }
 
 pub loop-insn-preserved : goal.loop-insn-preserved
 loop-insn-preserved c =
@@ -14,4 +14,4 @@ loop-insn-preserved c =
     let k = c.loop-insn.insn-index in
     let here = slice_get_read xs (length xs) k c.insn-item.result refl c.loop-insn-test.true c.insn-item.is in
     let next = unit_count-next xs k c.insn-item.result here in
-    record { counted = rw add-one (omega (arith, next)); few = omega arith }
+    record { counted = rw add-one (omega (arith, next)); bounded = omega arith }

@@ -6,5 +6,5 @@ use Rattle.bpf_model.proofs.instruction.Insn.count_units.Given as goal
 abbrev pub invariant-loop-insn : goal.invariant-loop-insn
 invariant-loop-insn l = record {
   counted : l.units ≡ unit_count (take l.insn-index l.instructions);
-  few : l.units ≤ 2 * l.insn-index;
+  bounded : l.units ≤ 2 * l.insn-index;
 }

@@ -8,7 +8,7 @@ use Rattle.bpf_model.proofs.program.Program.spelled_bytes.Goals as goal
 
 pub loop-insn-init : goal.loop-insn-init
 unfolding unit_count
-loop-insn-init c = record { counted = refl; few = omega arith }
+loop-insn-init c = record { counted = refl; bounded = omega arith }
 
 pub loop-insn-preserved : goal.loop-insn-preserved
 loop-insn-preserved c =
@@ -17,9 +17,9 @@ loop-insn-preserved c =
     let here = slice_get_read xs (length xs) k c.insn-item.result refl c.loop-insn-test.true c.insn-item.is in
     let next = unit_count-next xs k c.insn-item.result here in
     let part = unit_count-take xs (suc k) in
-    let all = c.instructions-instructions.ensures.program.few in
+    let all = c.instructions-instructions.ensures.program.bounded in
     let read = c.spelled_bytes-bytes.ensures.value ∙ length-spelling c.insn-item.result in
-    record { counted = rw add-one (omega (arith, next, read, c.loop-insn.invariant.counted)); few = omega (arith, next, read, part, all, c.loop-insn.invariant.counted) }
+    record { counted = rw add-one (omega (arith, next, read, c.loop-insn.invariant.counted)); bounded = omega (arith, next, read, part, all, c.loop-insn.invariant.counted) }
 
 pub returns-clause-value : goal.returns-clause-value
 returns-clause-value c =

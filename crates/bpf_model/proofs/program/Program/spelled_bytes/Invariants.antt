@@ -7,5 +7,5 @@ use Rattle.bpf_model.proofs.program.Program.spelled_bytes.Given as goal
 abbrev pub invariant-loop-insn : goal.invariant-loop-insn
 invariant-loop-insn l = record {
   counted : l.bytes ≡ 8 * unit_count (take l.insn-index l.instructions);
-  few : l.bytes ≤ 8 * PROGRAM_UNITS;
+  bounded : l.bytes ≤ 8 * PROGRAM_UNITS;
 }

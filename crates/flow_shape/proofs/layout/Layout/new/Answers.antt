@@ -13,7 +13,7 @@ bounds-starts-total c =
     let k = c.loop-insn.insn-index in
     let i = c.insn-item.result in
     let here = slice_get_read xs (length xs) k i refl c.loop-insn-test.true c.insn-item.is in
-    omega (arith, c.requires.few, units_of-some i, next_inside xs k i c.loop-insn.total here c.loop-insn.invariant.counted)
+    omega (arith, c.requires.bounded, units_of-some i, next_inside xs k i c.loop-insn.total here c.loop-insn.invariant.counted)
 
 pub overflow_add-total : goal.overflow_add-total
 overflow_add-total c =
@@ -21,7 +21,7 @@ overflow_add-total c =
     let k = c.loop-insn.insn-index in
     let i = c.insn-item.result in
     let here = slice_get_read xs (length xs) k i refl c.loop-insn-test.true c.insn-item.is in
-    omega (arith, c.requires.few, c.units-total.ensures.value, next_inside xs k i c.loop-insn.total here c.loop-insn.invariant.counted)
+    omega (arith, c.requires.bounded, c.units-total.ensures.value, next_inside xs k i c.loop-insn.total here c.loop-insn.invariant.counted)
 
 pub loop-insn-preserved : goal.loop-insn-preserved
 loop-insn-preserved c =
@@ -29,7 +29,7 @@ loop-insn-preserved c =
     let k = c.loop-insn.insn-index in
     let i = c.insn-item.result in
     let here = slice_get_read xs (length xs) k i refl c.loop-insn-test.true c.insn-item.is in
-    rw (add-one, c.units-total.ensures.value) (more_marked xs k i c.loop-insn.starts c.loop-insn.total c.requires.few here c.loop-insn.invariant)
+    rw (add-one, c.units-total.ensures.value) (more_marked xs k i c.loop-insn.starts c.loop-insn.total c.requires.bounded here c.loop-insn.invariant)
 
 pub invariant_of-result : goal.invariant_of-result
-invariant_of-result c = all_marked c.args.instructions.now c.loop-insn.insn-index c.loop-insn.starts c.loop-insn.total c.requires.few (omega arith) c.loop-insn.invariant
+invariant_of-result c = all_marked c.args.instructions.now c.loop-insn.insn-index c.loop-insn.starts c.loop-insn.total c.requires.bounded (omega arith) c.loop-insn.invariant

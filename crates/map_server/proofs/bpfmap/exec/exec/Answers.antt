@@ -13,7 +13,6 @@ returns g c =
       is_no_bad_count c.args.stripes c.from.result (Ok c.in-Ok.alone) c.from.ensures (is_opened c.in-Ok.alone) c.in-Ok.ensures.bad_stripes,
       record {
         end = c.session_alone-end.result;
-        sent = g.W.Sink.state c.session_alone-end.new.writer;
         session = record {
           before = c.in-Ok.alone;
           is_new = c.in-Ok.ensures.ok;
@@ -27,9 +26,8 @@ returns g c =
           whole = c.session_alone-end.ensures.whole;
           reads = c.session_alone-end.ensures.reads;
           writes = c.session_alone-end.ensures.writes;
+          sent = c.session_alone-end.ensures.sent;
         };
-        told = c.flushed-told.result;
-        flushed = c.flushed-told.ensures;
         ending = c.tell_end.ensures;
       },
     ))

@@ -18,7 +18,7 @@ returns-clause-value c =
     let n = c.args.number in
     let low = reads p.least n.smin c.in_ok-least.least (search rules) (search rules) c.in_ok-least.ensures in
     let high = reads p.greatest n.smax c.in_ok-greatest.greatest (search rules) (search rules) c.in_ok-greatest.ensures in
-    IfSome_then c.new.result c.new.ensures.value (λ q is. record { region_is = is.region_is; least_is = is.least_is ∙ low; greatest_is = is.greatest_is ∙ high })
+    IfSome_then c.new.result c.new.ensures.value (λ q is. record { window_is = is.window_is; least_is = is.least_is ∙ low; greatest_is = is.greatest_is ∙ high })
 
 pub returns-clause-some : goal.returns-clause-some
 returns-clause-some c =
@@ -37,4 +37,4 @@ returns-clause-holds c =
     let low = reads p.least n.smin c.in_ok-least.least (search rules) (search rules) c.in_ok-least.ensures in
     let high = reads p.greatest n.smax c.in_ok-greatest.greatest (search rules) (search rules) c.in_ok-greatest.ensures in
     IfSome_then c.new.result c.new.ensures.value (λ q is x y at lies.
-    points_plus p q n x y is.region_is (is.least_is ∙ low) (is.greatest_is ∙ high) at lies)
+    points_plus p q n x y is.window_is (is.least_is ∙ low) (is.greatest_is ∙ high) at lies)

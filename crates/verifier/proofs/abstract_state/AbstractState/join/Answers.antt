@@ -1,6 +1,6 @@
 use Rattle.std.proofs.Common.{◌∙◌, refl, sym, arith}
 use Rattle.std.proofs.lemmas.Bool.{and_parts}
-use Rattle.bpf_model.specs.declared.region.Region.TheVariants.{Result}
+use Rattle.bpf_model.specs.declared.window.Window.TheVariants.{Result}
 use Rattle.stack_slots.specs.Frames.{is_written}
 use Rattle.stack_slots.proofs.ValueLemmas.{join_first, join_second, join_value, join_pointer, join_number}
 use Rattle.verifier.specs.declared.abstract_state.AbstractState.{AbstractState}

@@ -9,5 +9,5 @@ returns-in-None-clause-ok c =
     let outside = rw c.size.ensures at c.in-None.ensures.some in
     let holds = rw (c.size-in-None.ensures, c.is_signed-in-None.ensures.value) at c.loadable.ensures.holds in
     λ s address d at.
-    let read = load_read_only c.args.self.now c.args.sizes s c.args.place address (loaded_size c.args.kind) (λ kept. let no : false ≡ true = outside.1 (kept, c.requires.inside) in absurd cc) c.requires.inside at d in
+    let read = load_read_only c.args.self.now c.args.sizes s c.args.span address (loaded_size c.args.kind) (λ kept. let no : false ≡ true = outside.1 (kept, c.requires.inside) in absurd cc) c.requires.inside at d in
     record { bytes = read.0; present = read.1.0; stands = holds (word_of read.0) read.1.1 }

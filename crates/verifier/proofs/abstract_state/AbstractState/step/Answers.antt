@@ -19,10 +19,10 @@ returns-in-Load-clause-changes c =
     let fits : SFits w16 c.in-Load.offset = search rules in
     rw c.in-Load.is (rw (to_z-of_z w16 c.in-Load.offset fits) at c.load.ensures.changes)
 
-pub returns-in-Load-clause-enough : goal.returns-in-Load-clause-enough
-returns-in-Load-clause-enough c =
+pub returns-in-Load-clause-accepts : goal.returns-in-Load-clause-accepts
+returns-in-Load-clause-accepts c =
     let fits : SFits w16 c.in-Load.offset = search rules in
-    rw c.in-Load.is (rw (to_z-of_z w16 c.in-Load.offset fits) at c.load.ensures.enough)
+    rw c.in-Load.is (rw (to_z-of_z w16 c.in-Load.offset fits) at c.load.ensures.accepts)
 
 pub returns-in-Store-clause-ok : goal.returns-in-Store-clause-ok
 returns-in-Store-clause-ok c =
@@ -34,10 +34,10 @@ returns-in-Store-clause-changes c =
     let fits : SFits w16 c.in-Store.offset = search rules in
     rw c.in-Store.is (rw (to_z-of_z w16 c.in-Store.offset fits) at c.store.ensures.changes)
 
-pub returns-in-Store-clause-enough : goal.returns-in-Store-clause-enough
-returns-in-Store-clause-enough c =
+pub returns-in-Store-clause-accepts : goal.returns-in-Store-clause-accepts
+returns-in-Store-clause-accepts c =
     let fits : SFits w16 c.in-Store.offset = search rules in
-    rw c.in-Store.is (rw (to_z-of_z w16 c.in-Store.offset fits) at c.store.ensures.enough)
+    rw c.in-Store.is (rw (to_z-of_z w16 c.in-Store.offset fits) at c.store.ensures.accepts)
 
 pub returns-in-Wide-clause-ok : goal.returns-in-Wide-clause-ok
 returns-in-Wide-clause-ok c =
@@ -50,20 +50,20 @@ returns-in-Wide-clause-changes c =
     let i = c.in-Wide in
     rw i.is (on_ok_weaker c.assign.result (λ sets. set_changes (Wide i.dst i.value) i.dst c.args.self.now c.assign.new.self _ refl refl (λ w d s e. absurd cc) (λ o w d s e. absurd cc) sets (λ none. number_some _)) c.assign.ensures.exact)
 
-pub returns-in-Alu-clause-enough : goal.returns-in-Alu-clause-enough
-returns-in-Alu-clause-enough c = λ suffices. c.arithmetic.ensures.enough c.args.sizes (rw c.in-Alu.is at suffices)
+pub returns-in-Alu-clause-accepts : goal.returns-in-Alu-clause-accepts
+returns-in-Alu-clause-accepts c = λ suffices. c.arithmetic.ensures.accepts c.args.sizes (rw c.in-Alu.is at suffices)
 
-pub returns-in-Negate-clause-enough : goal.returns-in-Negate-clause-enough
-returns-in-Negate-clause-enough c = λ suffices. c.negate.ensures.enough c.args.sizes (rw c.in-Negate.is at suffices)
+pub returns-in-Negate-clause-accepts : goal.returns-in-Negate-clause-accepts
+returns-in-Negate-clause-accepts c = λ suffices. c.negate.ensures.accepts c.args.sizes (rw c.in-Negate.is at suffices)
 
-pub returns-in-Mov-clause-enough : goal.returns-in-Mov-clause-enough
-returns-in-Mov-clause-enough c = λ suffices. c.mov.ensures.enough c.args.sizes (rw c.in-Mov.is at suffices)
+pub returns-in-Mov-clause-accepts : goal.returns-in-Mov-clause-accepts
+returns-in-Mov-clause-accepts c = λ suffices. c.mov.ensures.accepts c.args.sizes (rw c.in-Mov.is at suffices)
 
-pub returns-in-SignExtend-clause-enough : goal.returns-in-SignExtend-clause-enough
-returns-in-SignExtend-clause-enough c = λ suffices. c.sign_extend.ensures.enough c.args.sizes (rw c.in-SignExtend.is at suffices)
+pub returns-in-SignExtend-clause-accepts : goal.returns-in-SignExtend-clause-accepts
+returns-in-SignExtend-clause-accepts c = λ suffices. c.sign_extend.ensures.accepts c.args.sizes (rw c.in-SignExtend.is at suffices)
 
-pub returns-in-Reorder-clause-enough : goal.returns-in-Reorder-clause-enough
-returns-in-Reorder-clause-enough c = λ suffices. c.reorder.ensures.enough c.args.sizes (rw c.in-Reorder.is at suffices)
+pub returns-in-Reorder-clause-accepts : goal.returns-in-Reorder-clause-accepts
+returns-in-Reorder-clause-accepts c = λ suffices. c.reorder.ensures.accepts c.args.sizes (rw c.in-Reorder.is at suffices)
 
 pub returns-in-Load-clause-window : goal.returns-in-Load-clause-window
 returns-in-Load-clause-window c =

@@ -10,7 +10,7 @@ returns-clause-exact c =
     record {
       pointer = _;
       is = refl;
-      region = refl;
+      window = refl;
       least = omega (arith, ints, same, c.from-offset.ensures);
       greatest = omega (arith, ints, same, c.from-offset.ensures);
     }

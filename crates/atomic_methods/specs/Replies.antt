@@ -1,0 +1,44 @@
+-- What a walk answers for the entries that it found. Java SE 17: ConcurrentHashMap.search, forEach and mappingCount, whose
+-- function is a program here. That search answers for the least key, that forEach gives its answers back, and that entries
+-- which do not fit are counted, is this map's profile.
+use Rattle.std.specs.Prelude.{◌≡◌, ℕ, List, [], ◌∷◌, length, take, Option, Ok, Err, count_by}
+use Rattle.bpf_model.specs.declared.input.Answer.TheVariants.{Nothing, Bytes}
+use Rattle.verifier.specs.Checked.{Checked}
+use Rattle.bins.specs.Table.{Entry}
+use Rattle.bins.specs.Replacements.{Outcome, is_unfit}
+use Rattle.bins.specs.Passes.{AreOutcomes}
+use Rattle.atomic_methods.specs.declared.walk_reply.WalkKind.{WalkKind}
+use Rattle.atomic_methods.specs.declared.walk_reply.WalkKind.TheVariants.{Search, ForEach}
+use Rattle.atomic_methods.specs.declared.walk_reply.WalkReply.{WalkReply}
+
+-- all present answers with their keys, in the order of the entries
+abbrev pub present : List Entry → List Outcome → List Entry
+present [] outcomes = []
+present (entry ∷ entries) [] = []
+present (entry ∷ entries) (Ok (Bytes answer) ∷ outcomes) = (entry.0, answer) ∷ present entries outcomes
+present (entry ∷ entries) (Ok Nothing ∷ outcomes) = present entries outcomes
+present (entry ∷ entries) (Err part ∷ outcomes) = present entries outcomes
+
+-- which of them a walk gives: search the first alone
+abbrev pub chosen : WalkKind → List Entry → List Entry
+chosen Search items = take 1 items
+chosen ForEach items = items
+
+-- the reply to a walk over these entries, which stand in key order
+pub record IsReply (kind : WalkKind) (checked : Checked) (arg : Option (List ℕ)) (entries : List Entry)
+    (reply : WalkReply) : Type 0 where
+  -- what the program comes to at each entry, in the entry's place
+  pub outcomes : List Outcome
+  pub one_each : length outcomes ≡ length entries
+  pub are_outcomes : AreOutcomes checked arg entries outcomes
+  pub items : reply.items.items ≡ chosen kind (present entries outcomes)
+  pub scanned : reply.counts.scanned ≡ length entries
+  pub given : reply.counts.given ≡ length reply.items.items
+  pub unfit : reply.counts.unfit ≡ count_by is_unfit outcomes
+
+-- the reply to a count of so many entries
+pub record IsCount (entries : ℕ) (reply : WalkReply) : Type 0 where
+  pub items : reply.items.items ≡ []
+  pub scanned : reply.counts.scanned ≡ entries
+  pub given : reply.counts.given ≡ 0
+  pub unfit : reply.counts.unfit ≡ 0

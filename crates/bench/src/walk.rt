@@ -1,0 +1,121 @@
+//! Walks over a map of many entries by a team of workers.
+ghost use Rattle.std.specs.Prelude.{◌≡◌, All, IfOk};
+
+use crate::opening::{last_pass, numbered_key, numbered_value, opened, put_one};
+use crate::programs::{Sample, verified};
+use anyhow::{Result, bail};
+use bin_stripes::{OpenGate, Pass, StripedMap};
+use bpf_model::{NoMemory, Value};
+use bulk_walks::{Team, WalkReply, for_each, mapping_count};
+use std::alloc::Global;
+use std::sync::Wait;
+use std::thread::Threads;
+use verifier::Verified;
+
+/// What each walk is.
+#[derive(Clone, Copy, Debug, PartialEq, Eq)]
+pub enum Walk {
+    /// The sum of each entry and the argument 1.
+    ForEach,
+    MappingCount,
+}
+
+impl Walk {
+    /// The walk of this name; none where there is no such one.
+    pub fn named(name: &str) -> Option<Walk> {
+        match name {
+            "for_each" => Some(Walk::ForEach),
+            "mapping_count" => Some(Walk::MappingCount),
+            _ => None,
+        }
+    }
+}
+
+// Puts the value 1 under so many keys.
+fn fill<R: Wait>(rt: &R, map: &StripedMap, pass: &mut Pass, entries: u64) -> Result<()>
+    requires { pass.old.map ≡ map.now }
+    ensures { pass.new.map ≡ map.now }
+{
+    for number in 0..entries {
+        map.call(rt, pass, &put_one(numbered_key(number)?)?)?;
+    }
+    Ok(())
+}
+
+// A team of all passes but one, which has put so many entries.
+fn filled<R: Wait>(rt: &R, map: &StripedMap, mut passes: Vec<Pass>, entries: u64) -> Result<Team>
+    requires { All (λ pass. pass.map ≡ map.now) passes.items }
+    ensures { IfOk result (λ team. All (λ pass. pass.map ≡ map.now) team.passes.items) }
+{
+    let mut pass = last_pass(map, &mut passes)?;
+    fill(rt, map, &mut pass, entries)?;
+    let Ok(team) = Team::new(passes) else {
+        bail!("no team");
+    };
+    Ok(team)
+}
+
+// One walk, and the team again.
+fn walked<R: Threads + Wait + Sync>(
+    rt: &R,
+    alloc: Global,
+    map: &StripedMap,
+    team: Team,
+    walk: Walk,
+    program: &Verified,
+    arg: &Option<Value>,
+) -> (Team, Result<WalkReply, NoMemory>)
+    requires { All (λ pass. pass.map ≡ map.now) team.passes.items }
+    ensures { All (λ pass. pass.map ≡ map.now) result.0.passes.items }
+{
+    match walk {
+        Walk::ForEach => for_each(rt, alloc, map, team, program, arg, 0, &OpenGate),
+        Walk::MappingCount => mapping_count(rt, alloc, map, team, &OpenGate),
+    }
+}
+
+// So many walks by one team: how many entries all of them scanned and gave, modulo 2^64.
+fn walked_often<R: Threads + Wait + Sync>(
+    rt: &R,
+    alloc: Global,
+    map: &StripedMap,
+    mut team: Team,
+    walk: Walk,
+    program: &Verified,
+    arg: &Option<Value>,
+    count: u64,
+) -> Result<(u64, u64)>
+    requires { All (λ pass. pass.map ≡ map.now) team.passes.items }
+{
+    let mut sums = (0u64, 0u64);
+    for turn in 0..count {
+        let _ = turn;
+        let (again, reply) = walked(rt, alloc, map, team, walk, program, arg);
+        let counts = reply?.counts;
+        sums = (
+            sums.0.wrapping_add(counts.scanned),
+            sums.1.wrapping_add(counts.given),
+        );
+        team = again;
+    }
+    Ok(sums)
+}
+
+/// Walks over so many entries as often as `count` says. How many entries all walks scanned and gave, modulo 2^64.
+pub fn walk_often<R: Threads + Wait + Sync>(
+    rt: &R,
+    alloc: Global,
+    walk: Walk,
+    workers: u64,
+    entries: u64,
+    count: u64,
+) -> Result<(u64, u64)> {
+    if workers == 0 || workers > 63 {
+        bail!("from 1 to 63 workers");
+    }
+    let program = verified(alloc, Sample::Sum)?;
+    let arg = Some(numbered_value(1)?);
+    let (map, passes) = opened(alloc, workers + 1)?;
+    let team = filled(rt, &map, passes, entries)?;
+    walked_often(rt, alloc, &map, team, walk, &program, &arg, count)
+}

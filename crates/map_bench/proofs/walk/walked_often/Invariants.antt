@@ -1,7 +1,0 @@
-use Rattle.std.proofs.Common.{All}
-use Rattle.map_bench.proofs.PassLemmas.{IsOf}
-use Rattle.map_bench.proofs.walk.walked_often.Given as goal
-
--- the team's passes serve the map
-abbrev pub invariant-loop-turn : goal.invariant-loop-turn
-invariant-loop-turn g l = All (IsOf l.map) l.team.passes.items

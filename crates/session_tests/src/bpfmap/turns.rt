@@ -1,0 +1,153 @@
+//! Sessions with a client that sends a frame only where it has the answers to those before.
+use atomic_methods::OpenFault;
+use client_protocol::ProtocolFault;
+use map_server::{Alone, SessionEnd, StreamSink, StreamSource, session_alone};
+use std::alloc::Global;
+use std::cell::Cell;
+use std::io::{self, ErrorKind, Read, Write};
+use std::sync::Wait;
+use std::test::Fail;
+
+/// What is sent at once, and what is answered to it.
+struct Turn {
+    sent: &'static [u8],
+    answered: &'static [u8],
+}
+
+/// Gives the next turn's bytes, in pieces of at most this size, once so many bytes were passed on as were to be answered
+/// to the turns before; else it fails.
+#[derive(Drop)]
+struct Waiting<'a> {
+    turns: &'a [Turn],
+    rest: &'a [u8],
+    size: usize,
+    due: usize,
+    passed_on: &'a Cell<usize>,
+}
+
+impl Read for Waiting<'_> {
+    fn read(&mut self, buf: &mut [u8]) -> io::Result<usize> {
+        if self.rest.is_empty() {
+            if self.passed_on.get() != self.due {
+                return Err(io::Error::from(ErrorKind::TimedOut));
+            }
+            if let [turn, turns @ ..] = self.turns {
+                self.rest = turn.sent;
+                self.due = self.due.wrapping_add(turn.answered.len());
+                self.turns = turns;
+            }
+        }
+        let all = self.rest;
+        let n = self.size.min(all.len()).min(buf.len());
+        buf[..n].copy_from_slice(&all[..n]);
+        self.rest = &all[n..];
+        Ok(n)
+    }
+}
+
+/// Keeps what is written until it is flushed, and counts the flushes.
+#[derive(Drop)]
+struct Buffered<'a> {
+    kept_back: Vec<u8>,
+    bytes: Vec<u8>,
+    flushes: u64,
+    passed_on: &'a Cell<usize>,
+}
+
+impl Write for Buffered<'_> {
+    fn write(&mut self, buf: &[u8]) -> io::Result<usize> {
+        self.kept_back.extend_from_slice(buf)?;
+        Ok(buf.len())
+    }
+
+    fn flush(&mut self) -> io::Result<()> {
+        self.bytes.extend_from_slice(&self.kept_back)?;
+        self.kept_back.clear();
+        self.flushes = self.flushes.wrapping_add(1);
+        self.passed_on.set(self.bytes.len());
+        Ok(())
+    }
+}
+
+const HELLO_TURN: Turn = Turn {
+    sent: b"\0\0\0\x02\0\x01",
+    answered: b"\0\0\0\x02\x80\x01",
+};
+
+// Two Puts at once.
+const PUTS: Turn = Turn {
+    sent: b"\0\0\0\x07\x11\x01a\0\x02xy\0\0\0\x07\x11\x01a\0\x02xy",
+    answered: b"\0\0\0\x03\x82\xFF\xFF\0\0\0\x05\x82\0\x02xy",
+};
+
+const GET: Turn = Turn {
+    sent: b"\0\0\0\x03\x10\x01a",
+    answered: b"\0\0\0\x05\x82\0\x02xy",
+};
+
+const UNKNOWN: Turn = Turn {
+    sent: b"\0\0\0\x01\x7F",
+    answered: b"\0\0\0\x06\x85\x3D\0\0\0\0",
+};
+
+const GET_OF_NOTHING: Turn = Turn {
+    sent: b"\0\0\0\x03\x10\x01a",
+    answered: b"\0\0\0\x03\x82\xFF\xFF",
+};
+
+const CLOSED: [Turn; 4] = [HELLO_TURN, PUTS, GET, GET];
+
+const REFUSED: [Turn; 3] = [HELLO_TURN, GET_OF_NOTHING, UNKNOWN];
+
+/// The end of a session over these turns, in pieces of at most this size, and what its sink was left with.
+fn session<'a, R: Wait>(
+    rt: &R,
+    alloc: Global,
+    turns: &[Turn],
+    size: usize,
+    passed_on: &'a Cell<usize>,
+) -> Result<(SessionEnd, Buffered<'a>), OpenFault> {
+    let mut reader = StreamSource::new(Waiting {
+        turns,
+        rest: b"",
+        size,
+        due: 0,
+        passed_on,
+    });
+    let mut writer = StreamSink::new(Buffered {
+        kept_back: Vec::new(alloc),
+        bytes: Vec::new(alloc),
+        flushes: 0,
+        passed_on,
+    });
+    let mut alone = Alone::open(alloc, 4)?;
+    let end = session_alone(rt, alloc, &mut reader, &mut writer, &mut alone);
+    Ok((end, writer.into_inner()))
+}
+
+#[test]
+fn a_client_that_waits_for_its_answers_is_served(rt: HostRuntime) -> Result<(), Fail> {
+    // There is a flush before the first read, and one for the answers to each piece.
+    let refused = SessionEnd::Refused(ProtocolFault::UnknownRequest);
+    for (turns, size, ended, flushes) in [
+        (CLOSED.as_slice(), 1 << 10, SessionEnd::Closed, 5),
+        (CLOSED.as_slice(), 1, SessionEnd::Closed, 6),
+        (REFUSED.as_slice(), 1 << 10, refused, 4),
+        (REFUSED.as_slice(), 1, refused, 4),
+    ] {
+        let passed_on = Cell::new(0);
+        let (end, sink) = session(&rt, rt.alloc(), turns, size, &passed_on)?;
+        let mut wanted = Vec::new(rt.alloc());
+        for turn in turns {
+            wanted.extend_from_slice(turn.answered)?;
+        }
+        assert!(&rt; end == ended, "{size} at a time");
+        assert!(&rt;
+            sink.bytes.as_slice() == wanted.as_slice(),
+            "{size} at a time"
+        );
+        assert!(&rt; sink.flushes == flushes, "{size} at a time");
+        assert!(&rt; sink.kept_back.is_empty(), "{size} at a time");
+    }
+    Ok(())
+}

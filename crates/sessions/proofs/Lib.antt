@@ -1,0 +1,5 @@
+pub mod ListLemmas
+pub mod AnsweringLemmas
+pub mod SessionLemmas
+pub mod AdmissionLemmas
+pub mod RequestLemmas

@@ -1,0 +1,5 @@
+pub mod Devices
+pub mod Admissions
+pub mod Answering
+pub mod Sessions
+pub mod Requests

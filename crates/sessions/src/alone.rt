@@ -1,0 +1,224 @@
+//! What one client is served: a table of its own, and the programs that it registers.
+ghost use Rattle.std.specs.Prelude.{◌≡◌, ◌≢◌, ◌+◌, ◌↔◌, ℕ, List, [], ◌∷◌, false, slice_get, IfOk, IsErrOf};
+ghost use Rattle.std.specs.Io.KnownBytes.{Appends, Consumes, IsAtEnd};
+ghost use Rattle.atomic_methods.specs.Hashes.{IsStripeCount};
+ghost use Rattle.client_protocol.specs.declared.response.Response.TheVariants as tell;
+ghost use Rattle.atomic_methods.specs.Replies.{IsReply};
+ghost use Rattle.sessions.specs.Answering.{responses_of};
+ghost use Rattle.sessions.specs.Requests.{walk, replacement, count, asked, with_program, response_to, Meets, AnswersRegister, Serves, IsCall, IsNew};
+ghost use Rattle.sessions.specs.Devices.{CanRead, CanWrite};
+ghost use Rattle.sessions.specs.Sessions.{Ended, HasToldEnd, ends_after, failed_reads, failed_writes};
+
+mod calls;
+mod programs;
+
+use crate::admission::admit;
+use crate::alone::calls::call_of;
+use crate::alone::programs::Programs;
+use crate::devices::{ReadBehind, Sink};
+use crate::session::{Answer, Service, SessionEnd, end_of, run_session};
+use atomic_methods::{OpenFault, Reply, Striped, WalkKind, WalkReply, count, for_each, search};
+use bpf_model::{Key, NoMemory, Sizes, Value};
+use client_protocol::{Request, Response};
+use std::alloc::Global;
+use std::sync::Wait;
+use verifier::Verified;
+
+/// A table, and programs under the numbers 0, 1, 2 and on.
+#[derive(Drop)]
+pub struct Alone {
+    table: Striped,
+    programs: Programs,
+}
+
+impl Alone {
+    /// An empty table in so many stripes, and no program. `BadStripes` where a table may not have so many, else
+    /// `NoMemory` where a request for memory was refused.
+    pub fn open(alloc: Global, stripes: u64) -> Result<Alone, OpenFault>
+        ensures bad_stripes { IsErrOf result OpenFault.BadStripes ↔ (IsStripeCount stripes → ⊥) }
+        ensures ok { IfOk result (λ alone. IsNew alone) }
+    {
+        Ok(Alone {
+            table: Striped::open(alloc, stripes)?,
+            programs: Programs::new(alloc),
+        })
+    }
+}
+
+const UNKNOWN_PROGRAM: u8 = 66;
+
+fn unknown_program() -> Response
+    ensures { result ≡ tell.Refused 66 0 }
+{
+    Response::Refused {
+        number: UNKNOWN_PROGRAM,
+        place: 0,
+    }
+}
+
+fn no_memory() -> Response
+    ensures { result ≡ tell.Refused 9 0 }
+{
+    Response::Refused {
+        number: NoMemory::NUMBER,
+        place: 0,
+    }
+}
+
+fn response_to(reply: Reply) -> Response
+    ensures { result ≡ response_to reply }
+{
+    match reply {
+        Reply::Value(value) => Response::Value { value },
+        Reply::Done(done) => Response::Done { done },
+        Reply::Unfit(part) => Response::Unfit { part },
+    }
+}
+
+/// The reply to a walk of this kind over the entries.
+fn walked(
+    alloc: Global,
+    kind: WalkKind,
+    entries: Vec<(Key, Value)>,
+    program: &Verified,
+    arg: &Option<Value>,
+) -> Result<WalkReply, NoMemory>
+    ensures reply { IfOk result (λ reply. IsReply kind program.now arg.now entries.items reply) }
+{
+    match kind {
+        WalkKind::Search => search(alloc, entries, program, arg),
+        WalkKind::ForEach => for_each(alloc, entries, program, arg),
+    }
+}
+
+impl Alone {
+    /// Keeps the program that the bytes spell under the next number.
+    fn register(&mut self, alloc: Global, sizes: Sizes, bytes: &[u8]) -> Response
+        ensures { AnswersRegister self.old sizes bytes.now (result ∷ []) self.new }
+    {
+        let program = match admit(alloc, bytes, sizes) {
+            Ok(program) => program,
+            Err(fault) => {
+                return Response::Refused {
+                    number: fault.number(),
+                    place: fault.unit() as u32,
+                };
+            }
+        };
+        match self.programs.add(program) {
+            Ok(program) => Response::Registered { program },
+            Err(NoMemory) => no_memory(),
+        }
+    }
+
+    /// Makes the call that is asked for.
+    fn call(&mut self, request: &Request) -> Response
+        requires { IsCall request.now }
+        ensures { Meets self.old (asked self.old.programs request.now) (result ∷ []) self.new }
+    {
+        let Some(call) = call_of(&self.programs, request) else {
+            return unknown_program();
+        };
+        match self.table.apply(&call) {
+            Ok(reply) => response_to(reply),
+            Err(NoMemory) => no_memory(),
+        }
+    }
+
+    /// Runs the program of this number over all entries.
+    fn walk(&self, alloc: Global, kind: WalkKind, number: u64, arg: &Option<Value>) -> Answer
+        ensures { Meets self.now
+            (with_program (slice_get self.now.programs number) (λ program. walk kind program arg.now))
+            (responses_of result) self.now }
+    {
+        let Some(program) = self.programs.get(number) else {
+            return Answer::One(unknown_program());
+        };
+        let Ok(entries) = self.table.scan(alloc) else {
+            return Answer::One(no_memory());
+        };
+        let Ok(reply) = walked(alloc, kind, entries, program, arg) else {
+            return Answer::One(no_memory());
+        };
+        Answer::Walk(reply)
+    }
+
+    /// Counts all entries.
+    fn count(&self, alloc: Global) -> Answer
+        ensures { Meets self.now count (responses_of result) self.now }
+    {
+        let Ok(entries) = self.table.scan(alloc) else {
+            return Answer::One(no_memory());
+        };
+        Answer::Walk(count(alloc, &entries))
+    }
+
+    /// Replaces the value of each key by what the program of this number answers.
+    fn replace_all(&mut self, number: u64, arg: &Option<Value>) -> Response
+        ensures { Meets self.old
+            (with_program (slice_get self.old.programs number) (λ program. replacement program arg.now))
+            (result ∷ []) self.new }
+    {
+        match self.programs.get(number) {
+            Some(program) => end_of(self.table.replace_each(program, arg)),
+            None => unknown_program(),
+        }
+    }
+}
+
+impl Service for Alone {
+    ghost use Rattle.sessions.specs.Requests.{Serves};
+
+    ghost answers = { Serves };
+
+    fn answer(&mut self, alloc: Global, request: &Request) -> Answer {
+        match request {
+            Request::Hello { version } => Answer::One(Response::Hello { version: *version }),
+            Request::Register { sizes, program } => {
+                Answer::One(self.register(alloc, *sizes, program.as_slice()))
+            }
+            Request::Search { program, arg, .. } => {
+                self.walk(alloc, WalkKind::Search, *program, arg)
+            }
+            Request::ForEach { program, arg, .. } => {
+                self.walk(alloc, WalkKind::ForEach, *program, arg)
+            }
+            Request::ReplaceAll { program, arg } => Answer::One(self.replace_all(*program, arg)),
+            Request::Count => self.count(alloc),
+            _ => Answer::One(self.call(request)),
+        }
+    }
+}
+
+/// Answers the requests that are read, each before the next one is looked at, until the reader tells its end, a device
+/// fails, or what was read is refused. What the sink took is passed on before each read, and at the end. The table and the
+/// programs are then as the answered requests left them; where a write failed, also as the request left them whose answer
+/// is not wholly written. A refused request for memory is answered with 9, and ends the session only where it was asked for
+/// to take in the piece of the last read. Waits for the reader.
+pub fn session_alone<H: Wait, R: ReadBehind<W>, W: Sink>(
+    rt: &H,
+    alloc: Global,
+    reader: &mut R,
+    writer: &mut W,
+    alone: &mut Alone,
+) -> SessionEnd
+    requires reads { CanRead (R.source reader.old) }
+    requires writes { CanWrite (W.state writer.old) }
+    // What was read is answered. A request to which memory was refused has 9 for an answer, as `Serves` says, and the next
+    // one is answered too: 9 ends a session at the piece of the last read alone.
+    ensures ended { (read : List ℕ) × ((written : List ℕ)
+        × (Consumes (R.source reader.old).left (R.source reader.new).left read
+        × (Appends (W.state writer.old).held (W.state writer.new).held written
+        × Ended Serves alone.old result read (R.source reader.new).last written alone.new))) }
+    // The end was told in this call, where the session ended so, and else not.
+    ensures told { (R.source reader.new).ends ≡ ends_after result (R.source reader.old).ends }
+    ensures whole { HasToldEnd result → IsAtEnd (R.source reader.new).left }
+    ensures reads { (R.source reader.new).failures
+        ≡ (R.source reader.old).failures + failed_reads result }
+    ensures writes { (W.state writer.new).failures
+        ≡ (W.state writer.old).failures + failed_writes result }
+    // Nothing is kept back at the end. Before a read nothing is, by what `read_behind` requires.
+    ensures sent { (result ≢ SessionEnd.WriteFailed) → (W.state writer.new).keeps_back ≡ false }
+{
+    run_session(rt, alloc, reader, writer, alone)
+}

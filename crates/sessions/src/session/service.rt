@@ -1,0 +1,29 @@
+//! What answers the requests of a session.
+ghost use Rattle.sessions.specs.Answering.{responses_of};
+
+use atomic_methods::WalkReply;
+use client_protocol::{Request, Response};
+use std::alloc::Global;
+
+/// The answer to one request.
+#[derive(Drop)]
+pub enum Answer {
+    /// One response.
+    One(Response),
+    /// A response for each item, in order, and one for the end with the counts.
+    Walk(WalkReply),
+}
+
+/// What answers the requests of a session, one after the other.
+pub trait Service {
+    ghost use Rattle.std.specs.Prelude.{List};
+    ghost use Rattle.client_protocol.specs.declared.request.Request.{Request};
+    ghost use Rattle.client_protocol.specs.declared.response.Response.{Response};
+
+    /// What the first serves, it may answer to the request by these responses, and then serves what the last does.
+    ghost answers: { Self → Request → List Response → Self → Type 0 };
+
+    /// Answers one request. Where a request for memory is refused, that is an answer.
+    fn answer(&mut self, alloc: Global, request: &Request) -> Answer
+        ensures { answers self.old request.now (responses_of result) self.new };
+}
