@@ -17,7 +17,7 @@ use crate::alone::calls::call_of;
 use crate::alone::programs::Programs;
 use crate::devices::{ReadBehind, Sink};
 use crate::session::{Answer, Service, SessionEnd, end_of, run_session};
-use atomic_methods::{OpenFault, Reply, Striped, WalkKind, WalkReply, count, for_each, search};
+use atomic_methods::{OpenFault, Reply, Striped, WalkKind, WalkReply, count_of, for_each, search};
 use bpf_model::{Key, NoMemory, Sizes, Value};
 use client_protocol::{Request, Response};
 use std::alloc::Global;
@@ -147,10 +147,7 @@ impl Alone {
     fn count(&self, alloc: Global) -> Answer
         ensures { Meets self.now count (responses_of result) self.now }
     {
-        let Ok(entries) = self.table.scan(alloc) else {
-            return Answer::One(no_memory());
-        };
-        Answer::Walk(count(alloc, &entries))
+        Answer::Walk(count_of(alloc, self.table.count()))
     }
 
     /// Replaces the value of each key by what the program of this number answers.

@@ -1,8 +1,7 @@
-use Rattle.std.proofs.Common.{inl, refl, subst, ◌∙◌, List, length}
-use Rattle.bins.specs.Table.{Entry}
+use Rattle.std.proofs.Common.{inl, refl, subst, ℕ}
 use Rattle.atomic_methods.specs.Replies.{IsCount}
 use Rattle.sessions.proofs.alone.Alone.count.Goals as goal
 
 pub returns : goal.returns
 returns c =
-    inl (c.count.result, subst (λ (entries : List Entry). IsCount (length entries) c.count.result) (c.deref.ensures.value ∙ c.in-Ok.ensures.ok) c.count.ensures.reply, refl, refl)
+    inl (c.count_of.result, subst (λ (n : ℕ). IsCount n c.count_of.result) c.count.ensures.value c.count_of.ensures, refl, refl)
