@@ -12,7 +12,8 @@ use Rattle.bin_stripes.specs.Histories.{own_events, Leaves}
 use Rattle.bin_stripes.specs.Invoked.{AreReplacements, ReplacesInStripe}
 use Rattle.bin_stripes.specs.Passes.{PassState, stripes_of}
 use Rattle.bulk_walks.specs.Walks.{AllWalked, Each, IsReplaced, sum_below}
-use Rattle.bulk_walks.specs.Turns.{turn_sum, ReplacesTurns, EachReplaces, IsSum}
+use Rattle.atomic_methods.specs.Whole.{IsSum}
+use Rattle.bulk_walks.specs.Turns.{turn_sum, ReplacesTurns, EachReplaces}
 use Rattle.bulk_walks.proofs.Sums.{with_at, with_at-same, turn_sum-same, turn_sum-turn, turn_sum-more, turn_sum-past, sums_of_turns, bound_of_turns, sum_below-const}
 use Rattle.bulk_walks.proofs.TurnLemmas.{walked_none, walked_more, walked_past, walked_with, own_again}
 use Rattle.bulk_walks.proofs.TeamLemmas.{Turn, together, all_walked}

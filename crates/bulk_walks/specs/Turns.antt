@@ -88,12 +88,6 @@ pub record HasRoom (x y : Counts) : Type 0 where
   pub given : x.given + y.given < 2 ^ 64
   pub unfit : x.unfit + y.unfit < 2 ^ 64
 
--- one number of each kind is the sum of two
-pub record IsSum (total x y : Counts) : Type 0 where
-  pub scanned : total.scanned ≡ x.scanned + y.scanned
-  pub given : total.given ≡ x.given + y.given
-  pub unfit : total.unfit ≡ x.unfit + y.unfit
-
 -- one number of each kind is the sum of all
 pub record AreSums (all : List Counts) (total : Counts) : Type 0 where
   pub scanned : total.scanned ≡ sum_by (λ c. c.scanned) all

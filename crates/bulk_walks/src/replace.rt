@@ -2,7 +2,8 @@
 ghost use Rattle.std.specs.Prelude.{◌≡◌, ℕ, ◌<◌, ◌+◌, ◌^◌, All, MatchResult, sum_by, vec_len};
 ghost use Rattle.bin_stripes.specs.Passes.{stripes_of};
 ghost use Rattle.bulk_walks.specs.Walks.{ReplacesAll};
-ghost use Rattle.bulk_walks.specs.Turns.{ReplacesTurns, HasRoom, IsSum, AreSums};
+ghost use Rattle.atomic_methods.specs.Whole.{IsSum};
+ghost use Rattle.bulk_walks.specs.Turns.{ReplacesTurns, HasRoom, AreSums};
 
 use crate::team::Team;
 use crate::workers::work;

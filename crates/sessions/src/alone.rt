@@ -3,7 +3,6 @@ ghost use Rattle.std.specs.Prelude.{◌≡◌, ◌≢◌, ◌+◌, ◌↔◌, �
 ghost use Rattle.std.specs.Io.KnownBytes.{Appends, Consumes, IsAtEnd};
 ghost use Rattle.atomic_methods.specs.Hashes.{IsStripeCount};
 ghost use Rattle.client_protocol.specs.declared.response.Response.TheVariants as tell;
-ghost use Rattle.atomic_methods.specs.Replies.{IsReply};
 ghost use Rattle.sessions.specs.Answering.{responses_of};
 ghost use Rattle.sessions.specs.Requests.{walk, replacement, count, asked, with_program, response_to, Meets, AnswersRegister, Serves, IsCall, IsNew};
 ghost use Rattle.sessions.specs.Devices.{CanRead, CanWrite};
@@ -17,7 +16,7 @@ use crate::alone::calls::call_of;
 use crate::alone::programs::Programs;
 use crate::devices::{ReadBehind, Sink};
 use crate::session::{Answer, Service, SessionEnd, end_of, run_session};
-use atomic_methods::{OpenFault, Reply, Striped, WalkKind, WalkReply, count_of, for_each, search};
+use atomic_methods::{OpenFault, Reply, Striped, WalkKind, count_of, walk};
 use bpf_model::{Key, NoMemory, Sizes, Value};
 use client_protocol::{Request, Response};
 use std::alloc::Global;
@@ -75,22 +74,6 @@ fn response_to(reply: Reply) -> Response
     }
 }
 
-/// The reply to a walk of this kind over the entries.
-fn walked(
-    alloc: Global,
-    kind: WalkKind,
-    entries: Vec<(Key, Value)>,
-    program: &Verified,
-    arg: &Option<Value>,
-) -> Result<WalkReply, NoMemory>
-    ensures reply { IfOk result (λ reply. IsReply kind program.now arg.now entries.items reply) }
-{
-    match kind {
-        WalkKind::Search => search(alloc, entries, program, arg),
-        WalkKind::ForEach => for_each(alloc, entries, program, arg),
-    }
-}
-
 impl Alone {
     /// Keeps the program that the bytes spell under the next number.
     fn register(&mut self, alloc: Global, sizes: Sizes, bytes: &[u8]) -> Response
@@ -137,7 +120,7 @@ impl Alone {
         let Ok(entries) = self.table.scan(alloc) else {
             return Answer::One(no_memory());
         };
-        let Ok(reply) = walked(alloc, kind, entries, program, arg) else {
+        let Ok(reply) = walk(alloc, kind, entries, program, arg) else {
             return Answer::One(no_memory());
         };
         Answer::Walk(reply)

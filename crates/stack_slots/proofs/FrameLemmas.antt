@@ -204,7 +204,7 @@ store_values f g a x spills value none slot e =
     ]
 
 -- bytes that a memory has are bytes, and past the last there is the default
-bytes_small : (memory : Partial) (a n : ℕ) (bs : List ℕ) → HasBytes memory → bytes_at memory a n ≡ Some bs → (i : ℕ) → get_or bs i 0 < 256
+pub bytes_small : (memory : Partial) (a n : ℕ) (bs : List ℕ) → HasBytes memory → bytes_at memory a n ≡ Some bs → (i : ℕ) → get_or bs i 0 < 256
 bytes_small memory a n bs h e i =
     let len = length-bytes_at memory a n bs e in
     elim (split i n) [
