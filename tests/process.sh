@@ -101,6 +101,8 @@ expect "a check" 0 "accepted" "" check "${sizes[@]}"
 expect "the version" 0 "bpfmap 0.1.0" "" --version
 expect "an option that there is not" 2 "" "*--nothing*" run --nothing
 expect "a text that begins with a hyphen" 2 "" "?*" run --with-key -1
+expect "a word with bytes that do not print" 2 "" "error: unrecognized subcommand 'a\\\\x1b\\\\x0a\\\\xc3\\\\xa9'*" $'a\e\n\xc3\xa9'
+expect "an option with bytes that do not print" 2 "" "error: invalid value '\\\\x1b b' for*" check --key=$'\e b'
 expect "no command" 2 "" "Assembles BPF programs*"
 expect "words that are no UTF-8" 2 "" "error: the command line is not UTF-8" run --with-key $'\xff'
 input=/ expect "an input that can't be read" 3 "" "failed read" check

@@ -1,5 +1,6 @@
 pub mod ListLemmas
 pub mod HexLemmas
+pub mod ShownLemmas
 pub mod UnitLineLemmas
 pub mod WordLemmas
 pub mod ExecutionLemmas

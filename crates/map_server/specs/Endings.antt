@@ -15,6 +15,7 @@ use Rattle.map_server.specs.CommandLine.{Asks, bpfmap}
 use Rattle.map_server.specs.Commands.{IsReport, IsUnreadable}
 use Rattle.sessions.specs.Devices.{SourceState, SinkState, TakesBytes, TakesPart, TakesIfItCan}
 use Rattle.map_server.specs.Meanings.{IsMeaning}
+use Rattle.map_server.specs.Shown.{IsTold}
 use Rattle.map_server.specs.Reports.{IsNoRefusal, report_text, status_of}
 
 -- ---- what comes of the words and the input
@@ -60,14 +61,14 @@ EndsCommand command input input' NotUtf8 = ⊥
 abbrev pub IsHelpOrVersion : ErrorKind → Type 0
 IsHelpOrVersion kind = (kind ≡ DisplayHelp) ⊎ (kind ≡ DisplayVersion)
 
--- what words come to that ask for no command, by clap's kind of error; memory may be refused to its text
+-- what words come to that ask for no command, by clap's kind of error, in whose text words are shown; memory may be refused to it
 abbrev pub EndsWords : List (List ℕ) → Ending → Type 0
 EndsWords words (Reported report) = ⊥
 EndsWords words (Refused refusal meaning) = ⊥
 EndsWords words NoMemory = Unit {0}
 EndsWords words BadStripes = ⊥
-EndsWords words (Shown text) = (kind : ErrorKind) × IsAmong kind (fault_of bpfmap words) × IsHelpOrVersion kind
-EndsWords words (Faulty text) = (kind : ErrorKind) × IsAmong kind (fault_of bpfmap words) × (IsHelpOrVersion kind → ⊥)
+EndsWords words (Shown text) = (kind : ErrorKind) × IsAmong kind (fault_of bpfmap words) × IsHelpOrVersion kind × IsTold words text.items
+EndsWords words (Faulty text) = (kind : ErrorKind) × IsAmong kind (fault_of bpfmap words) × (IsHelpOrVersion kind → ⊥) × IsTold words text.items
 EndsWords words Unread = ⊥
 EndsWords words NotUtf8 = ⊥
 
@@ -108,7 +109,7 @@ TellsEnding (Reported report) old new result = Prints (report_text report) (stat
 TellsEnding (Refused refusal meaning) old new result = PrintsRefusal (report_text (report.Refused refusal)) (string_bytes meaning) old new result
 TellsEnding NoMemory old new result = PrintsRefusal (report_text (report.Refused OutOfMemory)) (codes "no memory\n") old new result
 TellsEnding BadStripes old new result = PrintsRefusal (codes "refused 50 at 0\n") (codes "not a number of stripes\n") old new result
-TellsEnding (Shown text) old new result = Prints (string_bytes text) 0 old new result
-TellsEnding (Faulty text) old new result = Warns (string_bytes text) 2 old new result
+TellsEnding (Shown text) old new result = Prints text.items 0 old new result
+TellsEnding (Faulty text) old new result = Warns text.items 2 old new result
 TellsEnding Unread old new result = Warns (codes "failed read\n") 3 old new result
 TellsEnding NotUtf8 old new result = Warns (codes "error: the command line is not UTF-8\n") 2 old new result

@@ -7,6 +7,7 @@ mod meaning;
 mod program;
 mod refusal;
 mod report;
+mod shown;
 mod words;
 
 pub use commands::report_of;

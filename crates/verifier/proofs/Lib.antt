@@ -16,6 +16,7 @@ pub mod AdvanceLemmas
 pub mod ArriveLemmas
 pub mod GrantLemmas
 pub mod BoundLemmas
+pub mod KnownLemmas
 pub mod FloorLemmas
 pub mod PlainLemmas
 pub mod GrantWalkLemmas

@@ -1,10 +1,13 @@
 -- What a walk over a program knows: of the runs that come to a unit, and of those that jump to units ahead. This
 -- verifier's own.
-use Rattle.std.specs.Prelude.{◌≡◌, ℕ, ◌+◌, Bool, true, false, ◌⊎◌, List, Option, Some, None, IsSome, slice_index_or, ℤ, pos, ◌≤ℤ◌, if◌then◌else◌}
+use Rattle.std.specs.Prelude.{◌≡◌, ℕ, ◌+◌, Bool, true, false, ◌⊎◌, List, Option, Some, None, IsSome, take, slice_get, slice_index_or, ℤ, pos, ◌≤ℤ◌, if◌then◌else◌}
 use Rattle.std.specs.Global.{Box}
 use Rattle.bpf_model.specs.declared.input.Sizes.{Sizes}
 use Rattle.bpf_model.specs.declared.instruction.Insn.{Insn}
-use Rattle.bpf_model.specs.Program.{units_of}
+use Rattle.bpf_model.specs.declared.input.Input.{Input}
+use Rattle.bpf_model.specs.Fits.{Fits, HasInputBytes}
+use Rattle.bpf_model.specs.Meaning.{Reaches}
+use Rattle.bpf_model.specs.Program.{units_of, unit_count}
 use Rattle.bpf_model.specs.State.{State}
 use Rattle.bpf_model.specs.Step.{act, ends_in, unit_of}
 use Rattle.flow_shape.specs.Jumps.{distance_of, falls_through, target_of}
@@ -97,3 +100,14 @@ GoesFrom i unit before (Some a) after later =
 abbrev pub SufficesThere : Sizes → Insn → Option AbstractState → Type 0
 SufficesThere sizes i None = Unit {0}
 SufficesThere sizes i (Some a) = Suffices sizes i a
+
+-- in this state what is listed for the instruction at its unit is true
+abbrev pub IsListed : List Insn → List (Option AbstractState) → Sizes → State → Type 0
+IsListed program states sizes s =
+    (index : ℕ) (known : Option AbstractState) → slice_get states index ≡ Some known → s.unit ≡ unit_count (take index program) → IsDescribed known sizes s
+
+-- so in each state that a run comes to, on each input that fits
+abbrev pub KnowsRuns : List Insn → List (Option AbstractState) → Sizes → Type 0
+KnowsRuns program states sizes =
+    (input : Input) → HasInputBytes input → Fits input sizes
+    → (n : ℕ) (s : State) → Reaches program sizes input n s → IsListed program states sizes s

@@ -28,8 +28,22 @@ pub struct AbstractState {
 }
 
 impl AbstractState {
+    /// What is known of each register, by its number.
+    pub fn registers(&self) -> &[RegValue; 11]
+        ensures value { result.now ≡ self.now.registers }
+    {
+        &self.registers
+    }
+
+    /// What is known of the bytes of stack and result.
+    pub fn frame(&self) -> &Frame
+        ensures value { result.now ≡ self.now.frame }
+    {
+        &self.frame
+    }
+
     /// The same state once more. Takes no memory.
-    pub fn copied(&self) -> AbstractState
+    pub(crate) fn copied(&self) -> AbstractState
         ensures value { result ≡ self.now }
     {
         AbstractState {
@@ -39,7 +53,7 @@ impl AbstractState {
     }
 
     /// Becomes a copy of another state, in place. Takes no memory.
-    pub fn copy_from(&mut self, other: &AbstractState)
+    pub(crate) fn copy_from(&mut self, other: &AbstractState)
         ensures value { self.new ≡ other.now }
     {
         self.registers = other.registers;
@@ -48,7 +62,7 @@ impl AbstractState {
 
     /// Tests an instruction after which a run goes on at the next one, and goes on to what is known there. Faults are
     /// tested in the order of their numbers.
-    pub fn step(&mut self, sizes: Sizes, insn: Insn) -> Result<(), StepFault>
+    pub(crate) fn step(&mut self, sizes: Sizes, insn: Insn) -> Result<(), StepFault>
         requires limits { AreWithinLimits sizes }
         requires straight { goes_straight insn ≡ true }
         ensures ok { OnOk result (Leads self.old sizes insn self.new) }

@@ -18,10 +18,10 @@ pub enum Ending {
     NoMemory,
     /// A table may not have so many stripes: number 50, told in the same way.
     BadStripes,
-    /// The help or the version, which were asked for: status 0, with clap's text on standard output.
-    Shown(String),
-    /// A fault of the words: status 2, with clap's text on standard error.
-    Faulty(String),
+    /// The help or the version, which were asked for: status 0, with clap's text on standard output, as it is told.
+    Shown(Vec<u8>),
+    /// A fault of the words: status 2, with clap's text on standard error, as it is told.
+    Faulty(Vec<u8>),
     /// Standard input could not be read: status 3.
     Unread,
     /// The words are not UTF-8: status 2.
@@ -103,8 +103,8 @@ impl Ending {
                     errors,
                 )
             }
-            Ending::Shown(text) => print(text.as_bytes(), 0, writer, errors),
-            Ending::Faulty(text) => warn(text.as_bytes(), FAULT_OF_WORDS, errors),
+            Ending::Shown(text) => print(text, 0, writer, errors),
+            Ending::Faulty(text) => warn(text, FAULT_OF_WORDS, errors),
             Ending::Unread => warn(b"failed read\n", FAILED_DEVICE, errors),
             Ending::NotUtf8 => {
                 warn(

@@ -1,5 +1,5 @@
 //! The program `bpfmap`, over devices: it reads, does what the words ask for, prints, and gives the status.
-ghost use Rattle.std.specs.Prelude.{◌≡◌, ◌≢◌, ℕ, List};
+ghost use Rattle.std.specs.Prelude.{◌≡◌, ◌≢◌, IfOk};
 ghost use Rattle.std.specs.IoError.{error_kind};
 ghost use Rattle.std.specs.declared.io.ErrorKind.TheVariants.{OutOfMemory};
 ghost use Rattle.clap.specs.Walk.{texts};
@@ -7,6 +7,7 @@ ghost use Rattle.clap.specs.Words.{fault_of, HasKind};
 ghost use Rattle.map_server.specs.CommandLine.{bpfmap};
 ghost use Rattle.map_server.specs.Endings.{outputs, IsRefusalOf, EndsCommand, EndsWords, TellsEnding};
 ghost use Rattle.map_server.specs.Executions.{RunsBpfmap};
+ghost use Rattle.map_server.specs.Shown.{IsTold};
 ghost use Rattle.sessions.specs.Devices.{CanRead, CanWrite};
 
 use crate::bpfmap::commands::report_of;
@@ -15,6 +16,7 @@ use crate::bpfmap::exec::exec;
 use crate::bpfmap::meaning::meaning_of;
 use crate::bpfmap::refusal::Refusal;
 use crate::bpfmap::report::Report;
+use crate::bpfmap::shown::told;
 use crate::bpfmap::words::{Command, Task, parse_words};
 use bpf_model::NoMemory;
 use clap::error::ErrorKind;
@@ -49,16 +51,24 @@ fn ending_of_command<R: Source>(alloc: Global, command: &Command<'_>, reader: &m
     }
 }
 
+/// Clap's text for an error, with the words shown that it echoes.
+fn told_error(alloc: Global, error: &clap::Error, words: &[&str]) -> Result<Vec<u8>, NoMemory>
+    ensures { IfOk result (λ shown. IsTold (texts words.now) shown.items) }
+{
+    let text = error.to_string(alloc)?;
+    told(alloc, &text, words)
+}
+
 /// What comes of words that ask for no command. Where there is no memory for clap's text, that is refused.
-fn ending_of_words(alloc: Global, error: &clap::Error) -> Ending
-    ensures { (words : List (List ℕ)) → HasKind (fault_of bpfmap words) error.now
-        → EndsWords words result }
+fn ending_of_words(alloc: Global, error: &clap::Error, words: &[&str]) -> Ending
+    ensures { HasKind (fault_of bpfmap (texts words.now)) error.now
+        → EndsWords (texts words.now) result }
 {
     if error.kind() == ErrorKind::OutOfMemory {
         return Ending::NoMemory;
     }
-    match error.to_string(alloc) {
-        Err(_) => Ending::NoMemory,
+    match told_error(alloc, error, words) {
+        Err(NoMemory) => Ending::NoMemory,
         Ok(text) if error.use_stderr() => Ending::Faulty(text),
         Ok(text) => Ending::Shown(text),
     }
@@ -104,7 +114,7 @@ pub fn bpfmap_on<H: Wait, R: Source, W: Sink, E: Sink>(
     let ending = match parse_words(alloc, words) {
         Ok(Task::Exec(stripes)) => return exec(rt, alloc, stripes, reader, writer, errors),
         Ok(Task::Report(command)) => ending_of_command(alloc, &command, reader),
-        Err(error) => ending_of_words(alloc, &error),
+        Err(error) => ending_of_words(alloc, &error, words),
     };
     ending.tell(writer, errors)
 }

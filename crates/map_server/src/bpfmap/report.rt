@@ -47,7 +47,7 @@ fn append(line: &mut Line, text: &[u8])
 }
 
 /// The two digits of a byte, in lower case.
-fn digits(byte: u8) -> (u8, u8)
+pub(crate) fn digits(byte: u8) -> (u8, u8)
     ensures high { result.0 ≡ digit (byte / 16) }
     ensures low { result.1 ≡ digit (byte % 16) }
 {

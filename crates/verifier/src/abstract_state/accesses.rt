@@ -23,7 +23,7 @@ use stack_slots::{Access, RegValue, loadable};
 
 impl AbstractState {
     /// The window that the instruction's address register points into; the result's where it has none.
-    pub fn window(&self, insn: Insn) -> Window
+    pub(crate) fn window(&self, insn: Insn) -> Window
         ensures value { result ≡ window_of insn self.now }
     {
         match insn {
@@ -87,7 +87,7 @@ impl AbstractState {
     }
 
     /// Tests the end of a run.
-    pub fn exit(&self) -> Result<(), StepFault>
+    pub(crate) fn exit(&self) -> Result<(), StepFault>
         ensures ok { OnOk result (Exits self.now) }
         ensures accepts { CanExit self.now → result ≡ Ok tt }
     {

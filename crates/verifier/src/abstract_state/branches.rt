@@ -32,7 +32,7 @@ pub struct Operands {
 
 impl AbstractState {
     /// What is known of the only registers that a condition of these operands narrows.
-    pub fn operands(&self, dst: Reg, src: Operand) -> Operands
+    pub(crate) fn operands(&self, dst: Reg, src: Operand) -> Operands
         ensures dst { result.dst ≡ known self.now dst }
         ensures src { result.src ≡ known self.now (second_register dst src) }
     {
@@ -43,7 +43,7 @@ impl AbstractState {
     }
 
     /// Goes back to what was known before a condition of these operands narrowed it.
-    pub fn put_back(&mut self, dst: Reg, src: Operand, operands: Operands)
+    pub(crate) fn put_back(&mut self, dst: Reg, src: Operand, operands: Operands)
         ensures back { (before : AbstractState) → length before.registers ≡ 11
             → operands.dst ≡ known before dst → operands.src ≡ known before (second_register dst src)
             → OnlyNarrows before self.old → KeepsOthers before dst src self.old
@@ -54,7 +54,7 @@ impl AbstractState {
     }
 
     /// Goes on to what is known of two operands on a side of a condition; false where no state is on that side.
-    pub fn assume(
+    pub(crate) fn assume(
         &mut self,
         side: Side,
         width: Width,
@@ -95,7 +95,7 @@ impl AbstractState {
     }
 
     /// Goes on to what is known where a run may also come with this other state.
-    pub fn join(&mut self, other: &AbstractState)
+    pub(crate) fn join(&mut self, other: &AbstractState)
         ensures first { Includes self.old self.new }
         ensures second { Includes other.now self.new }
         ensures exact { JoinsStates self.old other.now self.new }

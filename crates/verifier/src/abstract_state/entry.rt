@@ -14,7 +14,7 @@ use value_ranges::Range;
 
 impl AbstractState {
     /// What is known at entry.
-    pub fn entry(sizes: Sizes) -> AbstractState
+    pub(crate) fn entry(sizes: Sizes) -> AbstractState
         ensures describes { DescribesEntry sizes result }
         ensures exact { IsEntry sizes result }
         ensures grants { GrantsEntry result }
