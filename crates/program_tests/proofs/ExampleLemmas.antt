@@ -1,14 +1,10 @@
 -- A program that is proved not to be plain.
-use Rattle.std.proofs.Common.{◌≡◌, ◌≢◌, ℕ, zero, suc, ◌+◌, ◌<◌, ◌≤◌, ◌⊎◌, true, List, [], ◌∷◌, Some, refl, sym, ap, subst, ◌∙◌, inl, inr, arith, ℤ, pos, negsuc}
-use Rattle.bpf_model.specs.declared.window.Window.{Window}
-use Rattle.bpf_model.specs.declared.window.Window.TheVariants.{Key, Old, Arg, Result, Stack}
-use Rattle.bpf_model.specs.declared.instruction.Insn.{Insn}
+use Rattle.std.proofs.Common.{◌≡◌, ℕ, ◌<◌, ◌⊎◌, [], ◌∷◌, Some, refl, sym, subst, ◌∙◌, inl, inr, arith, ℤ, pos, negsuc}
+use Rattle.bpf_model.specs.declared.window.Window.TheVariants.{Result}
 use Rattle.bpf_model.specs.Program.{instruction_at}
-use Rattle.verifier.specs.Instructions.{reads, written_by, Touch, load_of, store_of}
-use Rattle.verifier.specs.Paths.{base_of, HasValueAtEntry, IsTarget, OnEveryPath, WasWritten, WasStored, StoresByte, IsPathTo, IsNextUnit}
-use Rattle.verifier.specs.Plain.{constant_of, LoadsPlainly, StoresPlainly, ExitsPlainly, IsPlain}
+use Rattle.verifier.specs.Paths.{WasStored, StoresByte, IsPathTo}
+use Rattle.verifier.specs.Plain.{constant_of, IsPlain}
 use Rattle.program_tests.specs.Examples.{with_sizes, one_byte_at}
-use Rattle.program_tests.proofs.TextLemmas.{at_each, on_paths_from, written_at_entry, came_from}
 
 second_unit : IsPathTo (one_byte_at (pos 1)) (1 ∷ 0 ∷ []) 2
 unfolding instruction_at

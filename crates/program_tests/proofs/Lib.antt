@@ -1,3 +1,5 @@
 pub mod TextLemmas
 pub mod ExampleLemmas
 pub mod PlainLemmas
+pub mod WaysLemmas
+pub mod MaskLemmas

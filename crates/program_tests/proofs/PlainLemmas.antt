@@ -1,5 +1,5 @@
 -- A closed program that is proved plain.
-use Rattle.std.proofs.Common.{◌≡◌, ◌≢◌, ℕ, zero, suc, ◌+◌, ◌<◌, ◌≤◌, ◌⊎◌, true, false, List, [], ◌∷◌, Some, None, refl, sym, ap, subst, ◌∙◌, inl, inr, arith, ℤ, pos, negsuc}
+use Rattle.std.proofs.Common.{◌≡◌, ◌≢◌, ℕ, ◌≤◌, ◌⊎◌, true, false, List, [], ◌∷◌, Some, None, refl, sym, subst, inl, inr, arith, pos}
 use Rattle.std.specs.Prelude.{nat_eq, ◌||◌, option_and_then}
 use Rattle.std.proofs.lemmas.Bool.Decides.{nat_tests}
 use Rattle.bpf_model.specs.declared.input.Sizes.{Sizes}
@@ -10,39 +10,38 @@ use Rattle.bpf_model.specs.declared.instruction.Insn.TheVariants.{Exit}
 use Rattle.bpf_model.specs.Program.{instruction_at}
 use Rattle.bpf_model.specs.Fits.{AreWithinLimits}
 use Rattle.flow_shape.specs.Jumps.{distance_of}
-use Rattle.stack_slots.specs.Kept.{IsKept}
 use Rattle.verifier.specs.Instructions.{reads, written_by, Touch, load_of, store_of}
 use Rattle.verifier.specs.Paths.{base_of, HasValueAtEntry, IsTarget, OnEveryPath, WasWritten, WasStored}
-use Rattle.verifier.specs.Plain.{IsMasked, LoadsPlainly, StoresPlainly, IsPlainAnswer, ExitsPlainly, IsPlain}
+use Rattle.verifier.specs.Plain.{LoadsPlainly, StoresPlainly, IsPlainAnswer, ExitsPlainly, IsPlain}
 use Rattle.program_tests.specs.Examples.{with_sizes, one_byte_at}
 use Rattle.program_tests.proofs.TextLemmas.{AtEach, at_each, leads_there, sources, IsAmong, on_paths_from, written_at_entry, came_from}
 
-zero_apart : (w : Window) → Some 0 ≢ Some (base_of w)
+pub zero_apart : (w : Window) → Some 0 ≢ Some (base_of w)
 zero_apart Key = λ e. absurd cc
 zero_apart Old = λ e. absurd cc
 zero_apart Arg = λ e. absurd cc
 zero_apart Result = λ e. absurd cc
 zero_apart Stack = λ e. absurd cc
 
-five_apart : (w : Window) → Some 5 ≢ Some (base_of w)
+pub five_apart : (w : Window) → Some 5 ≢ Some (base_of w)
 five_apart Key = λ e. absurd cc
 five_apart Old = λ e. absurd cc
 five_apart Arg = λ e. absurd cc
 five_apart Result = λ e. absurd cc
 five_apart Stack = λ e. absurd cc
 
-nine_apart : (w : Window) → Some 9 ≢ Some (base_of w)
+pub nine_apart : (w : Window) → Some 9 ≢ Some (base_of w)
 nine_apart Key = λ e. absurd cc
 nine_apart Old = λ e. absurd cc
 nine_apart Arg = λ e. absurd cc
 nine_apart Result = λ e. absurd cc
 nine_apart Stack = λ e. absurd cc
 
-none_apart : (w : Window) → None ≢ Some (base_of w)
+pub none_apart : (w : Window) → None ≢ Some (base_of w)
 none_apart w = λ e. absurd cc
 
 -- each path to a unit comes from one other
-after_one : (program : List Insn) (v s : ℕ) (holds : List ℕ → Type 0) → v ≢ 0 → sources program 0 v ≡ (s ∷ []) → OnEveryPath program s (λ before. holds (s ∷ before)) → OnEveryPath program v holds
+pub after_one : (program : List Insn) (v s : ℕ) (holds : List ℕ → Type 0) → v ≢ 0 → sources program 0 v ≡ (s ∷ []) → OnEveryPath program s (λ before. holds (s ∷ before)) → OnEveryPath program v holds
 after_one program v s holds later only from =
     on_paths_from program v holds later (λ u among. elim (subst (IsAmong u) only among) [
       | inl e ↦ subst (λ (x : ℕ). OnEveryPath program x (λ before. holds (x ∷ before))) (sym e) from
@@ -50,7 +49,7 @@ after_one program v s holds later only from =
     ])
 
 -- each path to a unit comes from one of two others
-after_two : (program : List Insn) (v s t : ℕ) (holds : List ℕ → Type 0) → v ≢ 0 → sources program 0 v ≡ (s ∷ t ∷ []) → OnEveryPath program s (λ before. holds (s ∷ before)) → OnEveryPath program t (λ before. holds (t ∷ before)) → OnEveryPath program v holds
+pub after_two : (program : List Insn) (v s t : ℕ) (holds : List ℕ → Type 0) → v ≢ 0 → sources program 0 v ≡ (s ∷ t ∷ []) → OnEveryPath program s (λ before. holds (s ∷ before)) → OnEveryPath program t (λ before. holds (t ∷ before)) → OnEveryPath program v holds
 after_two program v s t holds later both first second =
     on_paths_from program v holds later (λ u among. elim (subst (IsAmong u) both among) [
       | inl e ↦ subst (λ (x : ℕ). OnEveryPath program x (λ before. holds (x ∷ before))) (sym e) first
@@ -61,42 +60,42 @@ after_two program v s t holds later both first second =
     ])
 
 -- no jump leads to a unit that follows one other, which is no jump
-no_target : (program : List Insn) (v s : ℕ) → sources program 0 v ≡ (s ∷ []) → option_and_then distance_of (instruction_at program s) ≡ None → IsTarget program v → ⊥
+pub no_target : (program : List Insn) (v s : ℕ) → sources program 0 v ≡ (s ∷ []) → option_and_then distance_of (instruction_at program s) ≡ None → IsTarget program v → ⊥
 no_target program v s only straight target =
     elim (subst (IsAmong target.0) only (came_from program target.0 v (inr target.1))) [
       | inl e ↦ absurd (let jumps = subst (λ (x : ℕ). option_and_then distance_of (instruction_at program x) ≡ Some target.1.0) e target.1.1.0 in cc)
       | inr z ↦ z
     ]
 
-same_register : (k r : ℕ) → nat_eq k r ≡ true → k ≡ r
+pub same_register : (k r : ℕ) → nat_eq k r ≡ true → k ≡ r
 same_register k r h = grind (arith, nat_tests)
 
-one_register : (k r : ℕ) → (nat_eq k r || false) ≡ true → k ≡ r
+pub one_register : (k r : ℕ) → (nat_eq k r || false) ≡ true → k ≡ r
 one_register k r h = grind (arith, nat_tests)
 
-two_registers : (k m r : ℕ) → (nat_eq k r || nat_eq m r) ≡ true → (k ≡ r) ⊎ (m ≡ r)
+pub two_registers : (k m r : ℕ) → (nat_eq k r || nat_eq m r) ≡ true → (k ≡ r) ⊎ (m ≡ r)
 two_registers k m r h = grind (arith, nat_tests)
 
-was_given : (program : List Insn) (u k : ℕ) → HasValueAtEntry k → OnEveryPath program u (WasWritten program k)
+pub was_given : (program : List Insn) (u k : ℕ) → HasValueAtEntry k → OnEveryPath program u (WasWritten program k)
 was_given program u k has = λ before comes. written_at_entry program k has before
 
 at_entry : (r : ℕ) → r ≤ 10 → r ≢ 0 → r ≢ 5 → r ≢ 9 → HasValueAtEntry r
 at_entry r a b c d = record { register = a; result = b; five = c; nine = d }
 
-one_at_entry : HasValueAtEntry 1
+pub one_at_entry : HasValueAtEntry 1
 one_at_entry = at_entry 1 (omega arith) (λ e. absurd cc) (λ e. absurd cc) (λ e. absurd cc)
 
-two_at_entry : HasValueAtEntry 2
+pub two_at_entry : HasValueAtEntry 2
 two_at_entry = at_entry 2 (omega arith) (λ e. absurd cc) (λ e. absurd cc) (λ e. absurd cc)
 
-four_at_entry : HasValueAtEntry 4
+pub four_at_entry : HasValueAtEntry 4
 four_at_entry = at_entry 4 (omega arith) (λ e. absurd cc) (λ e. absurd cc) (λ e. absurd cc)
 
-six_at_entry : HasValueAtEntry 6
+pub six_at_entry : HasValueAtEntry 6
 six_at_entry = at_entry 6 (omega arith) (λ e. absurd cc) (λ e. absurd cc) (λ e. absurd cc)
 
 -- a store of the result's first bytes
-stores_first : (program : List Insn) (sizes : Sizes) (u : ℕ) (t : Touch) → t.base ≡ 4 → t.offset ≡ pos 0 → t.count ≤ sizes.result → StoresPlainly program sizes u t
+pub stores_first : (program : List Insn) (sizes : Sizes) (u : ℕ) (t : Touch) → t.base ≡ 4 → t.offset ≡ pos 0 → t.count ≤ sizes.result → StoresPlainly program sizes u t
 stores_first program sizes u t base offset inside = record {
   span = record { window = Result; first = 0; further = 0; through = inl (base, refl); begins = rw offset refl; inside = omega (arith, inside) };
   kept = tt;
@@ -167,7 +166,7 @@ byte_exiting = (
 )
 
 -- a program is plain where each of its instructions is
-plain_by_text : (program : List Insn) (sizes : Sizes) → AreWithinLimits sizes
+pub plain_by_text : (program : List Insn) (sizes : Sizes) → AreWithinLimits sizes
     → AtEach program 0 (λ u i. (w : Window) → written_by i ≢ Some (base_of w))
     → AtEach program 0 (λ u i. (r : ℕ) → reads i r ≡ true → OnEveryPath program u (WasWritten program r))
     → AtEach program 0 (λ u i. (t : Touch) → load_of i ≡ Some t → LoadsPlainly program sizes u t)

@@ -2,7 +2,7 @@
 //! small function.
 ghost use Rattle.std.specs.Prelude.{pos};
 ghost use Rattle.verifier.specs.Plain.{IsPlain};
-ghost use Rattle.program_tests.specs.Examples.{with_sizes, one_byte_at};
+ghost use Rattle.program_tests.specs.Examples.{with_sizes, one_byte_at, two_ways_with, masked_byte};
 
 /// A store behind the result's first byte leaves that byte unwritten, so an answer of one byte is not plain.
 #[tactic(auto, using(crate::proofs::ExampleLemmas::gap_is_not_plain))]
@@ -14,4 +14,28 @@ pub fn gap_is_not_plain()
 #[tactic(auto, using(crate::proofs::PlainLemmas::one_byte_is_plain))]
 pub fn one_byte_is_plain()
     ensures { IsPlain (one_byte_at (pos 0)) (with_sizes 0 0 0 1) }
+{}
+
+/// Two ways meet. Four bytes of the result are stored on both, and are the answer.
+#[tactic(auto, using(crate::proofs::WaysLemmas::bytes_of_both_ways_are_plain))]
+pub fn bytes_of_both_ways_are_plain()
+    ensures { IsPlain (two_ways_with (pos 4)) (with_sizes 64 8 8 8) }
+{}
+
+/// Eight are stored on one of the two alone, so an answer of eight is not plain.
+#[tactic(auto, using(crate::proofs::WaysLemmas::bytes_of_one_way_are_not_plain))]
+pub fn bytes_of_one_way_are_not_plain()
+    ensures { IsPlain (two_ways_with (pos 8)) (with_sizes 64 8 8 8) → ⊥ }
+{}
+
+/// The key's byte says which of eight bytes of the old value is loaded: the mask leaves 0 to 7, and each of them lies inside.
+#[tactic(auto, using(crate::proofs::MaskLemmas::masked_byte_is_plain))]
+pub fn masked_byte_is_plain()
+    ensures { IsPlain masked_byte (with_sizes 1 8 0 1) }
+{}
+
+/// An old value of seven bytes has none at 7, so the same program is not plain with it.
+#[tactic(auto, using(crate::proofs::MaskLemmas::mask_past_its_window_is_not_plain))]
+pub fn mask_past_its_window_is_not_plain()
+    ensures { IsPlain masked_byte (with_sizes 1 7 0 1) → ⊥ }
 {}
