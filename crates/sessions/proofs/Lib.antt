@@ -3,4 +3,3 @@ pub mod AnsweringLemmas
 pub mod SessionLemmas
 pub mod AdmissionLemmas
 pub mod RequestLemmas
-pub mod AskingLemmas
