@@ -4,5 +4,6 @@ pub mod Making
 pub mod OpenedLemmas
 pub mod TellingLemmas
 pub mod PassLemmas
+pub mod AllSeenLemmas
 pub mod ClosingLemmas
 pub mod StripeContent

@@ -6,5 +6,6 @@ pub mod Invoked
 pub mod Releasing
 pub mod Faults
 pub mod Opened
+pub mod AllSeen
 pub mod Holding
 pub mod Closed

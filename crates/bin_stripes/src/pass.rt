@@ -29,15 +29,18 @@ impl Model for Pass {
 
 impl Pass {
     ghost use Rattle.stripe_rule.specs.Gains.{Carries, least};
+    ghost use Rattle.bin_stripes.specs.AllSeen.{CarriesAll, SeesJustMine};
     ghost use Rattle.bin_stripes.specs.Histories.{Sound};
     ghost use Rattle.bin_stripes.specs.Passes.{stripes_of};
 
     /// What always holds of a pass: what it has seen of each stripe is a legal history, whose events are under numbers of
     /// passes that were opened, and of those under its numbers it has just the ones that it made. It carries the least of
-    /// its numbers, under which its calls are made. Does nothing.
+    /// its numbers, under which its calls are made. One that carries the numbers of all passes has seen just the events that
+    /// were made, each once. Does nothing.
     pub fn vouch(&self)
         ensures sound { Sound (stripes_of self.now.map) self.now.view }
         ensures least { Carries self.now.view (least self.now.view.numbers) }
+        ensures once { CarriesAll self.now.view → SeesJustMine self.now.view }
     {
         // For the proof alone: from what is at rest here it learns what always holds of a pass.
         let _ = &self.known;

@@ -2,6 +2,7 @@
 ghost use Rattle.std.specs.Prelude.{◌≡◌, ◌<◌, []};
 ghost use Rattle.stripe_rule.specs.Gains.{Hears, IsJoined, Carries, least};
 ghost use Rattle.stripe_rule.specs.Steps.{HasHeard, united, view_of};
+ghost use Rattle.bin_stripes.specs.AllSeen.{CarriesAll, SeesJustTheirs};
 ghost use Rattle.bin_stripes.specs.Histories.{Sound};
 ghost use Rattle.bin_stripes.specs.Holding.{IsLaid, Rests};
 ghost use Rattle.bin_stripes.specs.Passes.{IsPass, ServesSameMap, stripes_of};
@@ -29,13 +30,14 @@ impl StripedMap {
         to.known.put(seat);
     }
 
-    /// The pass that carries the numbers of both, and knows what both knew. Looks at each stripe. Takes no memory. Never
-    /// waits.
+    /// The pass that carries the numbers of both, and knows what both knew. Where these are the numbers of all passes, it has
+    /// seen just the events that both had made, each once. Looks at each stripe. Takes no memory. Never waits.
     pub fn join(&self, one: Pass, other: Pass) -> Pass
         requires one { one.map ≡ self.now }
         requires other { other.map ≡ self.now }
         ensures same { ServesSameMap one result }
         ensures joined { IsJoined (stripes_of self.now) one.view other.view result.view }
+        ensures once { CarriesAll result.view → SeesJustTheirs (stripes_of self.now) one.view other.view result.view }
     {
         let stripes = self.table.slot_count();
         let table = &self.table.shared;

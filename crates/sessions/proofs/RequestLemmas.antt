@@ -10,7 +10,8 @@ use Rattle.atomic_methods.specs.Replies.{IsReply}
 use Rattle.sessions.specs.declared.alone.Alone.{Alone}
 use Rattle.sessions.specs.declared.session.service.Answer.TheVariants.{Walk}
 use Rattle.sessions.specs.Answering.{responses_of}
-use Rattle.sessions.specs.Requests.{walk, with_program, Meets}
+use Rattle.sessions.specs.Asking.{walk, with_program}
+use Rattle.sessions.specs.Requests.{Meets}
 
 -- a walk over the entries of the table, by the program of this number
 pub walk_meets : (old : Alone) (kind : WalkKind) (number : ℕ) (arg : Option (List ℕ)) (program : Checked) (entries : List Entry) (reply : WalkReply)

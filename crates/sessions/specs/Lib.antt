@@ -2,4 +2,5 @@ pub mod Devices
 pub mod Admissions
 pub mod Answering
 pub mod Sessions
+pub mod Asking
 pub mod Requests

@@ -2,26 +2,24 @@
 ghost use Rattle.std.specs.Prelude.{◌≡◌, ◌≢◌, ◌+◌, ◌↔◌, ℕ, List, [], ◌∷◌, false, slice_get, IfOk, IsErrOf};
 ghost use Rattle.std.specs.Io.KnownBytes.{Appends, Consumes, IsAtEnd};
 ghost use Rattle.atomic_methods.specs.Hashes.{IsStripeCount};
-ghost use Rattle.client_protocol.specs.declared.response.Response.TheVariants as tell;
 ghost use Rattle.sessions.specs.Answering.{responses_of};
-ghost use Rattle.sessions.specs.Requests.{walk, replacement, count, asked, with_program, response_to, Meets, AnswersRegister, Serves, IsCall, IsNew};
+ghost use Rattle.sessions.specs.Asking.{walk, replacement, count, asked, with_program, IsCall};
+ghost use Rattle.sessions.specs.Requests.{Meets, AnswersRegister, Serves, IsNew};
 ghost use Rattle.sessions.specs.Devices.{CanRead, CanWrite};
 ghost use Rattle.sessions.specs.Sessions.{Ended, HasToldEnd, ends_after, failed_reads, failed_writes};
 
-mod calls;
 mod programs;
 
-use crate::admission::admit;
-use crate::alone::calls::call_of;
 use crate::alone::programs::Programs;
+use crate::calls::call_of;
 use crate::devices::{ReadBehind, Sink};
+use crate::responses::{admit_or_refuse, no_memory, response_to, unknown_program};
 use crate::session::{Answer, Service, SessionEnd, end_of, run_session};
-use atomic_methods::{OpenFault, Reply, Striped, WalkKind, count_of, walk};
-use bpf_model::{Key, NoMemory, Sizes, Value};
+use atomic_methods::{OpenFault, Striped, WalkKind, count_of, walk};
+use bpf_model::{NoMemory, Sizes, Value};
 use client_protocol::{Request, Response};
 use std::alloc::Global;
 use std::sync::Wait;
-use verifier::Verified;
 
 /// A table, and programs under the numbers 0, 1, 2 and on.
 #[derive(Drop)]
@@ -44,49 +42,14 @@ impl Alone {
     }
 }
 
-const UNKNOWN_PROGRAM: u8 = 66;
-
-fn unknown_program() -> Response
-    ensures { result ≡ tell.Refused 66 0 }
-{
-    Response::Refused {
-        number: UNKNOWN_PROGRAM,
-        place: 0,
-    }
-}
-
-fn no_memory() -> Response
-    ensures { result ≡ tell.Refused 9 0 }
-{
-    Response::Refused {
-        number: NoMemory::NUMBER,
-        place: 0,
-    }
-}
-
-fn response_to(reply: Reply) -> Response
-    ensures { result ≡ response_to reply }
-{
-    match reply {
-        Reply::Value(value) => Response::Value { value },
-        Reply::Done(done) => Response::Done { done },
-        Reply::Unfit(part) => Response::Unfit { part },
-    }
-}
-
 impl Alone {
     /// Keeps the program that the bytes spell under the next number.
     fn register(&mut self, alloc: Global, sizes: Sizes, bytes: &[u8]) -> Response
         ensures { AnswersRegister self.old sizes bytes.now (result ∷ []) self.new }
     {
-        let program = match admit(alloc, bytes, sizes) {
+        let program = match admit_or_refuse(alloc, bytes, sizes) {
             Ok(program) => program,
-            Err(fault) => {
-                return Response::Refused {
-                    number: fault.number(),
-                    place: fault.unit() as u32,
-                };
-            }
+            Err(response) => return response,
         };
         match self.programs.add(program) {
             Ok(program) => Response::Registered { program },
@@ -97,9 +60,10 @@ impl Alone {
     /// Makes the call that is asked for.
     fn call(&mut self, request: &Request) -> Response
         requires { IsCall request.now }
-        ensures { Meets self.old (asked self.old.programs request.now) (result ∷ []) self.new }
+        ensures { Meets self.old (asked (λ number. slice_get self.old.programs number) request.now) (result ∷ []) self.new }
     {
-        let Some(call) = call_of(&self.programs, request) else {
+        let program = self.programs.named_by(request);
+        let Some(call) = call_of(request, program) else {
             return unknown_program();
         };
         match self.table.apply(&call) {

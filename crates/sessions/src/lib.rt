@@ -8,12 +8,16 @@
 
 mod admission;
 mod alone;
+mod calls;
 mod devices;
+mod responses;
 mod session;
 
 pub use admission::{AdmissionFault, admit};
 pub use alone::{Alone, session_alone};
+pub use calls::{call_of, named_program};
 pub use devices::{
     Failed, ReadBehind, ReadFault, Sink, Source, StreamSink, StreamSource, read_all, write_all,
 };
+pub use responses::{admit_or_refuse, no_memory, response_to, unknown_program};
 pub use session::{Answer, Service, SessionEnd, run_session};

@@ -1,7 +1,10 @@
 //! The programs that one client registered.
 ghost use Rattle.std.specs.Prelude.{◌≡◌, ◌++◌, [], ◌∷◌, length, slice_get, option_copied, IfOk, OnOk, OnErr};
+ghost use Rattle.sessions.specs.Asking.{asked, IsCall};
 
+use crate::calls::named_program;
 use bpf_model::NoMemory;
+use client_protocol::Request;
 use std::alloc::Global;
 use std::marker::Model;
 use verifier::Verified;
@@ -47,5 +50,16 @@ impl Programs {
         ensures value { option_copied result ≡ slice_get self.now number }
     {
         self.list.get(number as usize)
+    }
+
+    /// The program whose number the call names, if it names one and there is one. Takes no memory.
+    pub fn named_by(&self, request: &Request) -> Option<&Verified>
+        requires { IsCall request.now }
+        ensures { asked (λ number. slice_get self.now number) request.now ≡ asked (λ _. option_copied result) request.now }
+    {
+        let Some(number) = named_program(request) else {
+            return None;
+        };
+        self.get(number)
     }
 }

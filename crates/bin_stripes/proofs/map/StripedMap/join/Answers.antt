@@ -10,6 +10,7 @@ use Rattle.bin_stripes.specs.declared.ghost_action.GhostAction.{GhostAction}
 use Rattle.bin_stripes.specs.Histories.{empty, does}
 use Rattle.bin_stripes.specs.Passes.{IsPass, stripes_of}
 use Rattle.bin_stripes.proofs.StepLemmas.{settles_lost}
+use Rattle.bin_stripes.proofs.AllSeenLemmas.{sees_just_theirs}
 use Rattle.bin_stripes.proofs.PassLemmas.{rests_of, joined_rests, wide_united}
 use Rattle.bin_stripes.proofs.StripeContent.{content}
 use Rattle.bin_stripes.proofs.map.StripedMap.join.Goals as goal
@@ -76,3 +77,8 @@ returns-clause-joined c = let shared = c.self.inside.table.shared in let first =
     subst (λ (z : ℕ × View GhostAction × View GhostAction × View GhostAction). IsJoined z.0 z.1 z.2 z.3)
     (λ i. ((c.slot_count-stripes.ensures ∙ ap (λ t. t.slots) c.self.view_is) i, (sym (ap view_of c.take-seat.ensures.2) ∙ ap (λ p. p.view) c.one.view_is) i, (sym there ∙ ap (λ p. p.view) c.other.view_is) i, sym (ap view_of c.of.ensures.2) i))
     (joined n 0 c.take-seat.result.me.0 w.0 v.0 end (held_at now 0) wide heard' some look)
+
+pub returns-clause-once : goal.returns-clause-once
+returns-clause-once c =
+    sees_just_theirs (stripes_of c.of.result.table_id) (stripes_of c.args.self.now) c.args.one.view c.args.other.view (view_of c.of.result.views)
+    (invariant_of-result c).sound (returns-clause-joined c)

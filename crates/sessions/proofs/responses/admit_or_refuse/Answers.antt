@@ -1,6 +1,6 @@
 use Rattle.std.proofs.Common.{arith}
 use Rattle.sessions.proofs.AdmissionLemmas.{refused_unit}
-use Rattle.sessions.proofs.alone.Alone.register.Goals as goal
+use Rattle.sessions.proofs.responses.admit_or_refuse.Goals as goal
 
 pub overflow_cast-result : goal.overflow_cast-result
 overflow_cast-result c =

@@ -1,0 +1,110 @@
+-- What requests ask for, and the responses that depend on no state. Numbers and refusals are this map's profile.
+use Rattle.std.specs.Prelude.{◌≡◌, ℕ, List, [], ◌∷◌, Option, Some, None}
+use Rattle.bpf_model.specs.declared.input.Sizes.{Sizes}
+use Rattle.verifier.specs.Checked.{Checked}
+use Rattle.verifier.specs.Faults.{ExceedLimits}
+use Rattle.atomic_methods.specs.Invocations.{Invocation, on_key, get, put, put_if_absent, remove, remove_if, replace, replace_if, compute, compute_if_absent, compute_if_present, merge}
+use Rattle.atomic_methods.specs.declared.reply.Reply.{Reply}
+use Rattle.atomic_methods.specs.declared.reply.Reply.TheVariants as replied
+use Rattle.atomic_methods.specs.declared.walk_reply.WalkKind.{WalkKind}
+use Rattle.atomic_methods.specs.declared.walk_reply.WalkKind.TheVariants as kind
+use Rattle.client_protocol.specs.declared.limits.Version.{Version}
+use Rattle.client_protocol.specs.declared.request.Request.{Request}
+use Rattle.client_protocol.specs.declared.request.Request.TheVariants.{Hello, Register, Get, Put, PutIfAbsent, Remove, RemoveIf, Replace, ReplaceIf, Compute, ComputeIfAbsent, ComputeIfPresent, Merge, Search, ForEach, ReplaceAll, Count}
+use Rattle.client_protocol.specs.declared.response.Response.{Response}
+use Rattle.client_protocol.specs.declared.response.Response.TheVariants as tell
+use Rattle.sessions.specs.Admissions.{admission_fault_number, admission_fault_unit, IsAdmitted, IsNotAdmitted}
+use Rattle.sessions.specs.declared.admission.AdmissionFault.{AdmissionFault}
+
+-- what is asked for, with the program in place of its number
+pub data Asked : Type 0 where
+  greeting : Version → Asked
+  registration : Sizes → List ℕ → Asked
+  call : Invocation → Asked
+  walk : WalkKind → Checked → Option (List ℕ) → Asked
+  replacement : Checked → Option (List ℕ) → Asked
+  count : Asked
+  unknown : Asked
+
+-- with the program of this number, where there is one
+abbrev pub with_program : Option Checked → (Checked → Asked) → Asked
+with_program None asks = unknown
+with_program (Some program) asks = asks program
+
+-- where a program is found by its number; a threshold changes no answer
+abbrev pub asked : (ℕ → Option Checked) → Request → Asked
+asked find (Hello version) = greeting version
+asked find (Register sizes program) = registration sizes program
+asked find (Get key) = call (on_key key get)
+asked find (Put key value) = call (on_key key (put value))
+asked find (PutIfAbsent key value) = call (on_key key (put_if_absent value))
+asked find (Remove key) = call (on_key key remove)
+asked find (RemoveIf key expected) = call (on_key key (remove_if expected))
+asked find (Replace key value) = call (on_key key (replace value))
+asked find (ReplaceIf key expected value) = call (on_key key (replace_if expected value))
+asked find (Compute key number arg) =
+    with_program (find number) (λ program. call (on_key key (compute program arg)))
+asked find (ComputeIfAbsent key number arg) =
+    with_program (find number) (λ program. call (on_key key (compute_if_absent program arg)))
+asked find (ComputeIfPresent key number arg) =
+    with_program (find number) (λ program. call (on_key key (compute_if_present program arg)))
+asked find (Merge key value number) =
+    with_program (find number) (λ program. call (on_key key (merge value program)))
+asked find (Search number arg threshold) =
+    with_program (find number) (λ program. walk kind.Search program arg)
+asked find (ForEach number arg threshold) =
+    with_program (find number) (λ program. walk kind.ForEach program arg)
+asked find (ReplaceAll number arg) = with_program (find number) (λ program. replacement program arg)
+asked find Count = count
+
+-- the number of the program that a call names, if it names one
+abbrev pub named : Request → Option ℕ
+named (Compute key number arg) = Some number
+named (ComputeIfAbsent key number arg) = Some number
+named (ComputeIfPresent key number arg) = Some number
+named (Merge key value number) = Some number
+named request = None
+
+-- the request names a program and is a call
+abbrev pub NamesProgram : Request → Type 0
+NamesProgram (Compute key number arg) = Unit {0}
+NamesProgram (ComputeIfAbsent key number arg) = Unit {0}
+NamesProgram (ComputeIfPresent key number arg) = Unit {0}
+NamesProgram (Merge key value number) = Unit {0}
+NamesProgram request = ⊥
+
+-- the request is a call
+abbrev pub IsCall : Request → Type 0
+IsCall (Get key) = Unit {0}
+IsCall (Put key value) = Unit {0}
+IsCall (PutIfAbsent key value) = Unit {0}
+IsCall (Remove key) = Unit {0}
+IsCall (RemoveIf key expected) = Unit {0}
+IsCall (Replace key value) = Unit {0}
+IsCall (ReplaceIf key expected value) = Unit {0}
+IsCall request = NamesProgram request
+
+-- the response with a call's reply
+abbrev pub response_to : Reply → Response
+response_to (replied.Value value) = tell.Value value
+response_to (replied.Done done) = tell.Done done
+response_to (replied.Unfit part) = tell.Unfit part
+
+-- the bytes spell this program, which is safe with these sizes, and they are within their limits
+abbrev pub Admits : Sizes → List ℕ → Checked → Type 0
+Admits sizes bytes program = IsAdmitted bytes sizes program.program × (program.sizes ≡ sizes) × (ExceedLimits sizes → ⊥)
+
+-- the response tells the first step that refuses the program, and where
+abbrev pub RefusesProgram : Sizes → List ℕ → Response → Type 0
+RefusesProgram sizes bytes response =
+    (fault : AdmissionFault) × IsNotAdmitted bytes sizes fault
+    × (response ≡ tell.Refused (admission_fault_number fault) (admission_fault_unit fault))
+
+module _ {S : Type 0} where
+  -- one response, and nothing changes
+  abbrev pub AnswersOnce : S → Response → List Response → S → Type 0
+  AnswersOnce old response responses new = (responses ≡ response ∷ []) × (new ≡ old)
+
+  -- a request for memory was refused
+  abbrev pub TellsNoMemory : S → List Response → S → Type 0
+  TellsNoMemory old responses new = AnswersOnce old (tell.Refused 9 0) responses new
