@@ -5,7 +5,7 @@ ghost use Rattle.std.specs.FinMap as map;
 ghost use Rattle.bins.specs.Hashes.{hash as hash_is};
 ghost use Rattle.atomic_methods.specs.Hashes.{stripe_of};
 ghost use Rattle.atomic_methods.specs.Invocations.{invocation_of};
-ghost use Rattle.atomic_methods.specs.Methods.{Answers, WouldAdd};
+ghost use Rattle.atomic_methods.specs.Plans.{reply_by};
 ghost use Rattle.bins.specs.Table.{Table};
 ghost use Rattle.stripe_rule.specs.Gains.{seen_of};
 ghost use Rattle.bin_stripes.specs.Actions.{called, scanned};
@@ -16,7 +16,7 @@ ghost use Rattle.bin_stripes.specs.Holding.{IsLaid, SeatHolds, SeatRefuses};
 
 use crate::gate::{Gate, Place};
 use crate::steps::{PassSeat, Shows, Stripes, bins_home, bins_out};
-use atomic_methods::{Call, Reply, apply_into, replace_each, scan};
+use atomic_methods::{Call, ReplyKind, apply_into, replace_each, scan};
 use bins::{Bins, Counts};
 use bpf_machine::Machine;
 use bpf_model::{Key, NoMemory, Value};
@@ -31,18 +31,20 @@ impl Shows<()> for Nothing {
     ghost shows = { λ _ actions. actions ≡ [] };
 }
 
-// A call and its reply.
+// A call, the kind of its reply, and the place where the bytes of the replied value were left.
 #[derive(Drop)]
 struct Answered<'a> {
     call: &'a Call<'a>,
-    reply: &'a Reply,
+    kind: ReplyKind,
+    bytes: &'a Value,
 }
 
 // The call was made.
 struct Calling;
 
 impl<'a> Shows<Answered<'a>> for Calling {
-    ghost shows = { λ done actions. actions ≡ called (invocation_of done.call.now) done.reply.now ∷ [] };
+    ghost shows = { λ done actions.
+        actions ≡ called (invocation_of done.call.now) (reply_by done.kind done.bytes.now) ∷ [] };
 }
 
 // The entries were found.
@@ -76,24 +78,8 @@ impl<'a, B: Bins> Shows<Replacement<'a, B>> for Replacing {
         AreReplacements done.program.now done.arg.now (map.entries (B.table done.before.value)) actions done.counts };
 }
 
-// Makes one call, whose key has this hash. A program runs in the machine.
-fn apply_hashed<B: Bins>(
-    bins: &mut B,
-    call: &Call,
-    hash: u32,
-    machine: &mut Machine,
-) -> Result<Reply, NoMemory>
-    requires hash { hash ≡ hash_is (invocation_of call.now).key }
-    ensures ok { IfOk result (Answers (B.table bins.old) (invocation_of call.now) (B.table bins.new)) }
-    ensures err { OnErr result (B.table bins.new ≡ B.table bins.old) }
-    ensures memory { OnErr result (WouldAdd (B.table bins.old) (invocation_of call.now)) }
-{
-    let mut bytes = Value::new();
-    let kind = apply_into(bins, call, hash, machine, &mut bytes)?;
-    Ok(kind.with(bytes))
-}
-
-/// Makes the call on the stripe of its key, which has this hash. `NoMemory` as `apply_into` has it; then nothing was done.
+/// Makes the call on the stripe of its key, which has this hash. A program runs in the machine; the bytes of the replied
+/// value are left in `bytes`. `NoMemory` as `apply_into` has it; then nothing was done.
 pub(crate) fn make_call<B: Bins + Drop>(
     table: &Stripes<B>,
     seat: &mut PassSeat<B>,
@@ -101,29 +87,27 @@ pub(crate) fn make_call<B: Bins + Drop>(
     call: &Call,
     hash: u32,
     machine: &mut Machine,
-) -> Result<Reply, NoMemory>
+    bytes: &mut Value,
+) -> Result<ReplyKind, NoMemory>
     requires table { IsLaid table.now.table_id table.now.key × (seat.old.table_id ≡ table.now.table_id) }
     requires stripe { stripe < table.now.table_id.slots }
     requires held { SeatHolds B.table table.now.table_id.slots stripe seat.old.me }
     requires key { stripe_of table.now.table_id.slots (invocation_of call.now).key ≡ stripe }
     requires hash { hash ≡ hash_is (invocation_of call.now).key }
     ensures same { (seat.new.table_id ≡ seat.old.table_id) × (seat.new.id ≡ seat.old.id) }
-    ensures ok { IfOk result (λ reply.
-        Lets (λ actions. actions ≡ called (invocation_of call.now) reply ∷ []) table.now.table_id.slots stripe
-        seat.old.me seat.new.me) }
+    ensures ok { IfOk result (λ kind.
+        Lets (λ actions. actions ≡ called (invocation_of call.now) (reply_by kind bytes.new) ∷ [])
+        table.now.table_id.slots stripe seat.old.me seat.new.me) }
     ensures err { OnErr result
         (Lets (λ actions. actions ≡ []) table.now.table_id.slots stripe seat.old.me seat.new.me
         × SeatRefuses table.now.table_id.slots stripe seat.old.me (invocation_of call.now)) }
 {
     let mut bins = bins_out(table, seat, stripe);
-    match apply_hashed(&mut bins, call, hash, machine) {
-        Ok(reply) => {
-            let done = Answered {
-                call,
-                reply: &reply,
-            };
+    match apply_into(&mut bins, call, hash, machine, bytes) {
+        Ok(kind) => {
+            let done = Answered { call, kind, bytes };
             bins_home::<_, _, Calling>(table, seat, stripe, bins, &done);
-            Ok(reply)
+            Ok(kind)
         }
         Err(fault) => {
             bins_home::<_, _, Nothing>(table, seat, stripe, bins, &());

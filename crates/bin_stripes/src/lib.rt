@@ -15,8 +15,9 @@
 //! **The rule** that every step keeps (`stripe_rule`): the word is 1 just where one pass holds the stripe; all that passes
 //! have seen of a stripe are beginnings of one legal list; where the word is 0, the bins are at home with what it leaves.
 //!
-//! **Who waits.** `call`, `scan_stripe`, `replace_stripe` and `close` wait until a stripe is free, and yield between tries.
-//! The `try_` calls, `tell` and `join` never wait. `tell` and `join` cannot fail, and take no memory.
+//! **Who waits.** `call`, `call_into`, `scan_stripe`, `count_stripe`, `replace_stripe` and `close` wait until a stripe is
+//! free, and yield between tries. The `try_` calls, `tell` and `join` never wait. `tell` and `join` cannot fail, and take no
+//! memory.
 //!
 //! Rejected: a lock round the bins (its contract says nothing of what another thread did), and a futex to wait on (a release
 //! would have to wake, since a word of 0 or 1 does not say that someone sleeps).

@@ -3,6 +3,7 @@ ghost use Rattle.std.specs.Prelude.{◌≡◌, ◌<◌, ◌^◌, [], length, IfO
 ghost use Rattle.bins.specs.Hashes.{hash as hash_is};
 ghost use Rattle.atomic_methods.specs.Hashes.{stripe_of, IsStripeCount};
 ghost use Rattle.atomic_methods.specs.Invocations.{invocation_of};
+ghost use Rattle.atomic_methods.specs.Plans.{reply_by};
 ghost use Rattle.bin_stripes.specs.Invoked.{Makes, Calls, RefusesCall, Scans, CountsStripe, AreOf, ReplacesInStripe, stripe_for};
 ghost use Rattle.bin_stripes.specs.Passes.{ServesSameMap, stripes_of};
 
@@ -14,7 +15,7 @@ use crate::pass::Pass;
 use crate::rule::{Shape, Striping};
 use crate::seats::{try_call, try_replace, try_scan};
 use crate::steps::take_stripe;
-use atomic_methods::{Call, Reply, stripe_of_hash};
+use atomic_methods::{Call, Reply, ReplyKind, stripe_of_hash};
 use atomic_table::Table;
 use bins::{Counts, HashedBins, hash_of};
 use bpf_model::{Key, NoMemory, Value};
@@ -88,13 +89,9 @@ impl StripedMap {
         ensures ok { IfOk result (λ reply. Calls pass.old (invocation_of call.now) reply pass.new) }
         ensures err { OnErr result (RefusesCall pass.old (invocation_of call.now) pass.new) }
     {
-        let (stripe, hash) = self.stripe_and_hash(call);
-        let table = &self.table.shared;
-        let mut seat = pass.known.take();
-        take_stripe(rt, table, &mut seat, stripe);
-        let answer = make_call(table, &mut seat, stripe, call, hash, &mut pass.machine);
-        pass.known.put(seat);
-        answer
+        let mut bytes = Value::new();
+        let kind = self.call_into(rt, pass, call, &mut bytes)?;
+        Ok(kind.with(bytes))
     }
 
     /// Makes the call, where the stripe of the key is free; else `Busy`. `NoMemory` as `call`. After either nothing was
@@ -106,10 +103,68 @@ impl StripedMap {
         ensures err { OnErr result (Makes pass.old (stripe_for pass.old (invocation_of call.now)) [] pass.new) }
         ensures memory { IsErrOf result CallFault.NoMemory → RefusesCall pass.old (invocation_of call.now) pass.new }
     {
+        let mut bytes = Value::new();
+        let kind = self.try_call_into(pass, call, &mut bytes)?;
+        Ok(kind.with(bytes))
+    }
+
+    /// Makes the call as `call` does, and leaves the bytes of the replied value in `bytes`, so that no value is moved. What
+    /// `bytes` held is lost. `NoMemory` as `call`. Waits until the stripe of the key is free.
+    pub fn call_into<R: Wait>(
+        &self,
+        rt: &R,
+        pass: &mut Pass,
+        call: &Call,
+        bytes: &mut Value,
+    ) -> Result<ReplyKind, NoMemory>
+        requires map { pass.old.map ≡ self.now }
+        ensures same { ServesSameMap pass.old pass.new }
+        ensures ok { IfOk result (λ kind. Calls pass.old (invocation_of call.now) (reply_by kind bytes.new) pass.new) }
+        ensures err { OnErr result (RefusesCall pass.old (invocation_of call.now) pass.new) }
+    {
         let (stripe, hash) = self.stripe_and_hash(call);
         let table = &self.table.shared;
         let mut seat = pass.known.take();
-        let answer = try_call(table, &mut seat, stripe, call, hash, &mut pass.machine);
+        take_stripe(rt, table, &mut seat, stripe);
+        let answer = make_call(
+            table,
+            &mut seat,
+            stripe,
+            call,
+            hash,
+            &mut pass.machine,
+            bytes,
+        );
+        pass.known.put(seat);
+        answer
+    }
+
+    /// Makes the call as `try_call` does, and leaves the bytes of the replied value in `bytes`, so that no value is moved.
+    /// What `bytes` held is lost. `Busy` and `NoMemory` as `try_call`. Never waits.
+    pub fn try_call_into(
+        &self,
+        pass: &mut Pass,
+        call: &Call,
+        bytes: &mut Value,
+    ) -> Result<ReplyKind, CallFault>
+        requires map { pass.old.map ≡ self.now }
+        ensures same { ServesSameMap pass.old pass.new }
+        ensures ok { IfOk result (λ kind. Calls pass.old (invocation_of call.now) (reply_by kind bytes.new) pass.new) }
+        ensures err { OnErr result (Makes pass.old (stripe_for pass.old (invocation_of call.now)) [] pass.new) }
+        ensures memory { IsErrOf result CallFault.NoMemory → RefusesCall pass.old (invocation_of call.now) pass.new }
+    {
+        let (stripe, hash) = self.stripe_and_hash(call);
+        let table = &self.table.shared;
+        let mut seat = pass.known.take();
+        let answer = try_call(
+            table,
+            &mut seat,
+            stripe,
+            call,
+            hash,
+            &mut pass.machine,
+            bytes,
+        );
         pass.known.put(seat);
         answer
     }

@@ -10,7 +10,7 @@ bins_home-requires-clause-held g c = let out = c.bins_out-bins.ensures in let mi
 
 pub bins_home-requires-clause-made : goal.bins_home-requires-clause-made
 bins_home-requires-clause-made g c = let out = c.bins_out-bins.ensures in
-    call_made c.args.table.now.table_id.slots c.args.stripe c.args.seat.now.me.0 c.bins_out-bins.new.seat.me.0 (g.B.Bins.table c.bins_out-bins.result) (g.B.Bins.table c.apply_hashed.new.bins)
+    call_made c.args.table.now.table_id.slots c.args.stripe c.args.seat.now.me.0 c.bins_out-bins.new.seat.me.0 (g.B.Bins.table c.bins_out-bins.result) (g.B.Bins.table c.apply_into.new.bins)
     (invocation_of c.args.call.now) _ out.same.2 (found_is g.B.Bins.table c.args.table.now.table_id.slots c.args.stripe c.args.seat.now.me c.bins_out-bins.result out.out.0 c.requires.held out.out.1.0) c.requires.key c.in-Ok.ensures.ok
 
 pub returns-in-Ok-clause-ok : goal.returns-in-Ok-clause-ok
@@ -23,7 +23,7 @@ bins_home-requires-in-Err-clause-held g c = let out = c.bins_out-bins.ensures in
 
 pub bins_home-requires-in-Err-clause-made : goal.bins_home-requires-in-Err-clause-made
 bins_home-requires-in-Err-clause-made g c = let out = c.bins_out-bins.ensures in
-    nothing_made c.args.table.now.table_id.slots c.args.stripe c.args.seat.now.me.0 c.bins_out-bins.new.seat.me.0 (g.B.Bins.table c.bins_out-bins.result) (g.B.Bins.table c.apply_hashed.new.bins)
+    nothing_made c.args.table.now.table_id.slots c.args.stripe c.args.seat.now.me.0 c.bins_out-bins.new.seat.me.0 (g.B.Bins.table c.bins_out-bins.result) (g.B.Bins.table c.apply_into.new.bins)
     out.same.2 c.in-Err.ensures.err (found_is g.B.Bins.table c.args.table.now.table_id.slots c.args.stripe c.args.seat.now.me c.bins_out-bins.result out.out.0 c.requires.held out.out.1.0)
 
 pub returns-in-Err-clause-err : goal.returns-in-Err-clause-err

@@ -1,19 +1,10 @@
-use Rattle.std.proofs.Common.{◌≡◌, [], sym, ap, ◌∙◌, subst}
-use Rattle.atomic_methods.specs.Hashes.{stripe_of}
-use Rattle.atomic_methods.specs.Invocations.{invocation_of}
-use Rattle.bin_stripes.specs.declared.fault.CallFault.TheVariants.{NoMemory}
-use Rattle.bin_stripes.specs.Holding.{Settles, SeatRefuses}
-use Rattle.bin_stripes.specs.Passes.{stripes_of}
-use Rattle.bin_stripes.proofs.PassLemmas.{refused_after, of_error}
+use Rattle.std.proofs.Common.{◌≡◌, sym, ap, subst}
+use Rattle.std.specs.Prelude.{Result, Err, IsErrAnd}
+use Rattle.atomic_methods.specs.declared.reply.Reply.{Reply}
+use Rattle.bin_stripes.specs.declared.fault.CallFault.{CallFault}
 use Rattle.bin_stripes.proofs.map.StripedMap.try_call.Goals as goal
 
-pub returns-clause-memory : goal.returns-clause-memory
-returns-clause-memory c = let id = c.pass.inside.known.table_id in let sid = c.self.inside.table.shared.table_id in let e : id ≡ sid = ap (λ p. p.map) c.pass.view_is ∙ (c.requires.map ∙ sym c.self.view_is) in
-    let known = c.pass.inside.known in let me = c.take-seat.result.me in let me' = c.try_call-answer.new.seat.me in
-    let k = c.stripe_and_hash-stripe.result.0 in let i = invocation_of c.args.call.now in let answer = c.try_call-answer.ensures in
-    λ refused. refused_after id known.views me c.pass.invariant c.take-seat.ensures.2 me' k i
-    (subst (λ z. Settles (stripes_of z) k me [] me') (sym e) (of_error c.try_call-answer.result NoMemory refused answer.err))
-    c.put.new.self.table_id c.put.new.self.views (c.put.ensures.0 ∙ (answer.same.0 ∙ c.take-seat.ensures.0)) c.put.ensures.2
-    (subst (λ z. SeatRefuses (stripes_of z) k me' i) (sym e) (answer.memory refused))
-    c.args.pass.now c.pass.view_is
-    (c.stripe_and_hash-stripe.ensures.stripe ∙ ap (λ t. stripe_of (stripes_of t) (invocation_of c.args.call.now).key) (sym c.requires.map))
+-- the fault is the one that `try_call_into` gave
+pub returns-in_err-kind-clause-memory : goal.returns-in_err-kind-clause-memory
+returns-in_err-kind-clause-memory c =
+    λ refused. c.in_err-kind.ensures.memory (ap Err (sym (subst (λ (r : Result Reply CallFault). IsErrAnd r (λ fault. fault ≡ c.in_err-kind.field-0.0)) refused c.from_residual.ensures.1)))

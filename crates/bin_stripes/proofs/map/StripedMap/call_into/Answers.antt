@@ -6,7 +6,7 @@ use Rattle.bin_stripes.specs.Passes.{stripes_of}
 use Rattle.bin_stripes.proofs.StepLemmas.{holds_after, settles_as, refuses_after}
 use Rattle.bin_stripes.proofs.PassLemmas.{rests_of, refused_after, on_err_so}
 use Rattle.bin_stripes.proofs.StripeContent.{content}
-use Rattle.bin_stripes.proofs.map.StripedMap.call.Goals as goal
+use Rattle.bin_stripes.proofs.map.StripedMap.call_into.Goals as goal
 
 pub make_call-answer-requires-clause-held : goal.make_call-answer-requires-clause-held
 make_call-answer-requires-clause-held g c = let known = c.pass.inside.known in let me = c.take-seat.result.me in
