@@ -154,4 +154,5 @@ impl Programs {
 
 mod methods;
 mod rows;
+mod shared;
 mod stripes;

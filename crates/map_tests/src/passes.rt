@@ -53,7 +53,11 @@ fn refusal(alloc: Global, stripes: u64, passes: u64) -> u8 {
 }
 
 // A map, whose passes all serve it.
-fn opened(alloc: Global, stripes: u64, passes: u64) -> Result<(StripedMap, Vec<Pass>), OpenFault>
+pub(crate) fn opened(
+    alloc: Global,
+    stripes: u64,
+    passes: u64,
+) -> Result<(StripedMap, Vec<Pass>), OpenFault>
     ensures all { IfOk result (λ made. All (λ pass. pass.map ≡ made.0) made.1.items) }
 {
     StripedMap::open(alloc, stripes, passes)
@@ -77,7 +81,7 @@ fn scanned<R: Wait>(
 }
 
 // The next of the map's passes.
-fn next_pass(map: &StripedMap, passes: &mut Vec<Pass>) -> Result<Pass, Fail>
+pub(crate) fn next_pass(map: &StripedMap, passes: &mut Vec<Pass>) -> Result<Pass, Fail>
     requires all { All (λ pass. pass.map ≡ map.now) passes.old.items }
     ensures pass { IfOk result (λ pass. pass.map ≡ map.now) }
     ensures all { All (λ pass. pass.map ≡ map.now) passes.new.items }

@@ -39,9 +39,9 @@ const NO_OLD: Wanted = Unfit(InputPart::Old);
 const NO_ARG: Wanted = Unfit(InputPart::Arg);
 
 // What the key has before, the method, the reply, and what the key has after.
-type Row = (Wanted, Method, Wanted, Wanted);
+pub(super) type Row = (Wanted, Method, Wanted, Wanted);
 
-const PLAIN: [Row; 19] = [
+pub(super) const PLAIN: [Row; 19] = [
     (OLD, Get, OLD, OLD),
     (EMPTY, Get, EMPTY, EMPTY),
     (NONE, Get, NONE, NONE),
@@ -63,7 +63,7 @@ const PLAIN: [Row; 19] = [
     (NONE, ReplaceIf(b"", b"y"), NO, NONE),
 ];
 
-const COMPUTING: [Row; 18] = [
+pub(super) const COMPUTING: [Row; 18] = [
     (WAS, Compute(Sum, &TWO), SUM, SUM),
     (NONE, Compute(Sum, &TWO), ARG, ARG),
     (WAS, Compute(Nothing, &TWO), NONE, NONE),
