@@ -6,7 +6,7 @@ use crate::programs::{Sample, verified};
 use anyhow::{Result, bail};
 use atomic_methods::{Call, Reply};
 use bin_stripes::{Pass, StripedMap};
-use bpf_model::Key;
+use bpf_model::{Key, Value};
 use std::alloc::Global;
 use std::sync::Wait;
 use std::thread::{self, Threads};
@@ -131,9 +131,11 @@ fn make_calls<R: Wait>(
     requires { pass.old.map ≡ map.now }
     ensures { pass.new.map ≡ map.now }
 {
+    let mut bytes = Value::new();
     for turn in 0..plan.count {
         let key = plan.keys.key(plan.keys.number(worker, turn))?;
-        map.call(rt, pass, &plan.method.call(key, plan.program)?)?;
+        let call = plan.method.call(key, plan.program)?;
+        map.call_into(rt, pass, &call, &mut bytes)?;
     }
     Ok(())
 }
