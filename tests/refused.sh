@@ -41,7 +41,6 @@ refuse_each() {
 refuse_each map_tests entries::a_refused_put_leaves_the_list
 refuse_each map_tests entries::a_refused_put_leaves_the_bins
 refuse_each map_tests calls::stripes::a_refused_call_leaves_the_table
-refuse_each map_tests calls::stripes::a_call_that_adds_no_key_asks_for_no_memory
 refuse_each map_tests calls::stripes::a_stopped_run_made_the_calls_that_were_replied_to
 refuse_each map_tests calls::stripes::a_refused_scan_leaves_the_table
 refuse_each map_tests registry::a_refused_program_comes_back
