@@ -1,0 +1,105 @@
+package bpfmap;
+
+import java.util.Map;
+
+/**
+ * The server refused a request; nothing was done. Numbers and sentences are those of docs/REFUSALS.md and, from 60 on, of
+ * docs/PROTOCOL.md.
+ */
+public final class RefusedException extends RuntimeException {
+    private static final long serialVersionUID = 1;
+
+    static final int NO_MEMORY = 9;
+    static final int NOT_WHOLE_UNITS = 11;
+    static final int TOO_MANY_UNITS = 12;
+    private static final int FIRST_OF_UNITS = 10;
+    private static final int LAST_OF_UNITS = 47;
+    private static final int FIRST_OF_FRAMES = 60;
+    private static final int LAST_OF_FRAMES = 64;
+
+    private static final Map<Integer, String[]> MEANINGS = Map.ofEntries(
+            meaning(9, "NoMemory", "a request for memory was refused"),
+            meaning(10, "Empty", "there is no byte"),
+            meaning(11, "NotWholeUnits", "the number of bytes is no multiple of 8"),
+            meaning(12, "TooManyUnits", "there are more than 512 units"),
+            meaning(13, "UnknownOpcode", "the opcode is no instruction's"),
+            meaning(14, "BadRegister", "a register field that the instruction uses is above 10"),
+            meaning(15, "UnusedNotZero", "a field that the instruction doesn't use is not zero"),
+            meaning(16, "BadWidth", "an offset of DIV or MOD other than 0 and 1, one of MOV with a register that is none of "
+                    + "0, 8, 16 (and 32 at 64 bits), an END of other than 16, 32 or 64 bits"),
+            meaning(17, "CutWide", "a wide instruction has no second unit"),
+            meaning(30, "BackwardJump", "a jump's distance is below 0"),
+            meaning(31, "JumpOut", "a jump goes to the number of units or past it"),
+            meaning(32, "JumpIntoWide", "a jump goes to the second unit of a wide instruction"),
+            meaning(33, "FallsOffEnd", "the last instruction is neither EXIT nor an unconditional jump"),
+            meaning(40, "UnwrittenRegister", "write the register on every way that leads here"),
+            meaning(41, "WriteToR10", "copy it first: mov64 r9, r10"),
+            meaning(42, "NotAWindow", "keep addresses apart from numbers where ways meet, and move them by 64-bit ADD and SUB "
+                    + "alone"),
+            meaning(43, "OutOfWindow", "declare the size greater, or mask or test the number that was added"),
+            meaning(44, "ReadOnly", "store to result or stack"),
+            meaning(45, "UnwrittenBytes", "store all bytes that the load may touch first, at fixed places, on every way"),
+            meaning(46, "BadExitValue", "write the answer's bytes without a gap on every way, or give each answer an EXIT of its "
+                    + "own"),
+            meaning(47, "SizesTooLarge", "declare less"),
+            meaning(60, "BadLength", "a length of 0 or above 8,192"),
+            meaning(61, "UnknownRequest", "a tag that is not in the table"),
+            meaning(62, "BadField", "fields that are cut short, a key above 64 bytes, a value above 256, or ff ff where a value "
+                    + "must be"),
+            meaning(63, "TrailingBytes", "bytes behind the last field"),
+            meaning(64, "WrongVersion", "a Hello of another version, a first request that is no Hello, or a second Hello"),
+            meaning(66, "UnknownProgram", "no program has this number"));
+
+    private final int number;
+    private final long place;
+
+    RefusedException(int number, long place) {
+        super(message(number, place));
+        this.number = number;
+        this.place = place;
+    }
+
+    /** @return the refusal's number */
+    public int number() {
+        return number;
+    }
+
+    /** @return the unit of a program for 10 to 47, counted from 0, else 0 */
+    public long place() {
+        return place;
+    }
+
+    /** @return the refusal's name */
+    public String name() {
+        return meaningOf(number)[0];
+    }
+
+    /** @return what the refusal means; of 40 to 47, how to mend the program */
+    public String sentence() {
+        return meaningOf(number)[1];
+    }
+
+    /** Whether the server may end the session behind this refusal. */
+    boolean mayEndSession() {
+        return number == NO_MEMORY || number >= FIRST_OF_FRAMES && number <= LAST_OF_FRAMES;
+    }
+
+    /** The numbers that have a sentence. */
+    static Iterable<Integer> numbers() {
+        return MEANINGS.keySet();
+    }
+
+    private static Map.Entry<Integer, String[]> meaning(int number, String name, String sentence) {
+        return Map.entry(number, new String[] {name, sentence});
+    }
+
+    private static String[] meaningOf(int number) {
+        return MEANINGS.getOrDefault(number, new String[] {"Unknown", "this client knows no refusal of this number"});
+    }
+
+    private static String message(int number, long place) {
+        String[] meaning = meaningOf(number);
+        String where = number >= FIRST_OF_UNITS && number <= LAST_OF_UNITS ? " at unit " + place : "";
+        return "refused " + number + " " + meaning[0] + where + ": " + meaning[1];
+    }
+}

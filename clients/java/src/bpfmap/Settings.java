@@ -1,0 +1,58 @@
+package bpfmap;
+
+import java.time.Duration;
+
+/**
+ * How a map reaches its server.
+ *
+ * @param connections how many connections at most are open at once. Each takes a worker of the server for as long as it is open,
+ *     so all clients together may have as many as the server has workers.
+ * @param connectTimeout how long a connection may take to come up
+ * @param answerTimeout how long an answer may take to come on, counted from its last byte
+ */
+public record Settings(int connections, Duration connectTimeout, Duration answerTimeout) {
+    /** Two connections, 5 seconds each. */
+    public static final Settings DEFAULT = new Settings(2, Duration.ofSeconds(5), Duration.ofSeconds(5));
+
+    // Sockets take milliseconds as a positive int.
+    public Settings {
+        if (connections < 1) {
+            throw new IllegalArgumentException("a map needs a connection, not " + connections);
+        }
+        milliseconds(connectTimeout);
+        milliseconds(answerTimeout);
+    }
+
+    /**
+     * @param most how many connections at most
+     * @return these settings with that many
+     */
+    public Settings withConnections(int most) {
+        return new Settings(most, connectTimeout, answerTimeout);
+    }
+
+    /**
+     * @param time how long a connection may take to come up
+     * @return these settings with that time
+     */
+    public Settings withConnectTimeout(Duration time) {
+        return new Settings(connections, time, answerTimeout);
+    }
+
+    /**
+     * @param time how long an answer may take to come on
+     * @return these settings with that time
+     */
+    public Settings withAnswerTimeout(Duration time) {
+        return new Settings(connections, connectTimeout, time);
+    }
+
+    /** A time as sockets take it, for which 0 would mean no end. */
+    static int milliseconds(Duration time) {
+        long milliseconds = time.toMillis();
+        if (milliseconds < 1 || milliseconds > Integer.MAX_VALUE) {
+            throw new IllegalArgumentException("a time is from a millisecond to 24 days, not " + time);
+        }
+        return (int) milliseconds;
+    }
+}

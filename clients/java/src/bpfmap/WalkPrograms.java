@@ -1,0 +1,46 @@
+package bpfmap;
+
+import java.nio.ByteBuffer;
+import java.nio.ByteOrder;
+
+/** The programs by which the views of a map walk its entries. */
+final class WalkPrograms {
+    private static final Program.Sizes ALL_ENTRIES = new Program.Sizes(Request.LONGEST_KEY, Request.LONGEST_VALUE, 0,
+            Request.LONGEST_VALUE);
+    private static final long EXIT = 0x95;
+    private static final long ANSWER_NO_BYTES = 0xb7;
+    private static final long ANSWER_OLD_LENGTH = 0x70bf;
+    private static final long LOAD_OLD = 0x2079;
+    private static final long STORE_RESULT = 0x047b;
+    private static final int OFFSET = 16;
+
+    /** Answers no bytes for each entry. */
+    static final Program KEYS = program(ANSWER_NO_BYTES, EXIT);
+
+    /** Answers each entry's value. */
+    static final Program ENTRIES = program(copy());
+
+    private WalkPrograms() {}
+
+    /** Loads of 8 bytes and stores, over the whole window; then the old value's length is the answer's. */
+    private static long[] copy() {
+        int words = Request.LONGEST_VALUE / Long.BYTES;
+        long[] units = new long[2 * words + 2];
+        for (int word = 0; word < words; word++) {
+            long offset = (long) word * Long.BYTES << OFFSET;
+            units[2 * word] = LOAD_OLD | offset;
+            units[2 * word + 1] = STORE_RESULT | offset;
+        }
+        units[2 * words] = ANSWER_OLD_LENGTH;
+        units[2 * words + 1] = EXIT;
+        return units;
+    }
+
+    private static Program program(long... units) {
+        ByteBuffer bytes = ByteBuffer.allocate(units.length * Long.BYTES).order(ByteOrder.LITTLE_ENDIAN);
+        for (long unit : units) {
+            bytes.putLong(unit);
+        }
+        return Program.of(bytes.array(), ALL_ENTRIES);
+    }
+}
