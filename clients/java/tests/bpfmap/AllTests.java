@@ -1,0 +1,72 @@
+package bpfmap;
+
+import java.nio.file.Path;
+
+/** Runs all tests: AllTests SERVER TABLE DOCUMENTS. */
+public final class AllTests {
+    private int passed;
+    private int failed;
+
+    private AllTests() {}
+
+    /** A test, which says in a few words what it saw. */
+    private interface Test {
+        String run() throws Exception;
+    }
+
+    /**
+     * @param words the server's program, the table of requests, and the folder of the pages
+     */
+    public static void main(String[] words) {
+        Path server = Path.of(words[0]);
+        AllTests tests = new AllTests();
+        tests.runTable(server, Path.of(words[1]));
+        tests.runMap(server);
+        tests.runBroken(server);
+        tests.judge("sentences of refusals", () -> RefusalTest.sentences(Path.of(words[2])));
+        System.out.println("clients/java: " + tests.passed + " tests passed, " + tests.failed + " failed");
+        System.exit(tests.failed == 0 ? 0 : 1);
+    }
+
+    private void runTable(Path server, Path table) {
+        judge("table by a connection", () -> TableTest.byConnection(server, table));
+        judge("table by a map", () -> TableTest.byMap(server, table));
+    }
+
+    private void runMap(Path server) {
+        judge("codecs", MapTest::codecs);
+        judge("refused before it is sent", MapTest::refusedHere);
+        judge("like ConcurrentHashMap", () -> MapTest.likeConcurrentHashMap(server));
+        judge("views", () -> MapTest.views(server));
+        judge("walks", () -> MapTest.walks(server));
+        judge("programs", () -> MapTest.programs(server));
+        judge("a counter by a program", () -> ThreadsTest.byProgram(server));
+        judge("a counter by a function", () -> ThreadsTest.byFunction(server));
+        judge("a counter by pipelines", () -> ThreadsTest.byPipelines(server));
+    }
+
+    private void runBroken(Path server) {
+        judge("a long pipeline", () -> BrokenTest.longPipeline(server));
+        judge("a refused call in a pipeline", () -> BrokenTest.refusedInPipeline(server));
+        judge("a server that ends in a pipeline", () -> BrokenTest.serverEnds(server));
+        judge("a connection that is cut", () -> BrokenTest.connectionIsCut(server));
+        judge("no second try", BrokenTest::noSecondTry);
+        judge("a server that begins anew", () -> BrokenTest.serverBeginsAnew(server));
+        judge("a late answer", BrokenTest::answerIsLate);
+        judge("a late Hello", BrokenTest::helloIsLate);
+        judge("faulty answers", BrokenTest::faultyAnswers);
+        judge("refusals that end a session", BrokenTest::refusalsThatEnd);
+        judge("a closed map", () -> BrokenTest.closedMap(server));
+    }
+
+    private void judge(String name, Test test) {
+        try {
+            System.out.println(name + ": " + test.run());
+            passed++;
+        } catch (Exception | AssertionError e) {
+            failed++;
+            System.err.println("FAILED: " + name + ": " + e);
+            e.printStackTrace();
+        }
+    }
+}
