@@ -182,8 +182,8 @@ final class BrokenTest {
     static String serverBeginsAnew(Path server) throws Exception {
         Mapd first = Mapd.start(server);
         try (RemoteMap<String, Long> map = first.open(Codec.strings(), Codec.longs(), 2)) {
-            map.merge("a", 1L, Programs.SUM);
-            Check.equal("the sum", 2L, map.merge("a", 1L, Programs.SUM));
+            ThreadsTest.repeat(20, () -> map.merge("a", 1L, Programs.SUM));
+            Check.equal("the sum over both connections", 20L * ThreadsTest.THREADS, map.get("a"));
             first.kill();
             Check.raises("no server", UncheckedIOException.class, () -> map.get("a"));
             try (Mapd second = Mapd.start(server, first.port()); Connection other = second.connect()) {

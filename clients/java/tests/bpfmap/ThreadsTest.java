@@ -9,7 +9,7 @@ import java.util.concurrent.Future;
 
 /** Threads that share one counter. */
 final class ThreadsTest {
-    private static final int THREADS = 8;
+    static final int THREADS = 8;
     private static final int CALLS = 1000;
     private static final int LOOPS = 100;
 
@@ -64,7 +64,7 @@ final class ThreadsTest {
     }
 
     /** Runs an action on each thread, so many times. */
-    private static void repeat(int times, Check.Action action) throws Exception {
+    static void repeat(int times, Check.Action action) throws Exception {
         ExecutorService threads = Executors.newFixedThreadPool(THREADS);
         try {
             List<Future<?>> running = new ArrayList<>();
