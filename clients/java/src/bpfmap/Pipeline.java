@@ -58,12 +58,17 @@ public final class Pipeline {
             for (Reply<?> reply : replies) {
                 reply.read(connection);
             }
-        } catch (IOException e) {
+        } catch (IOException | RuntimeException e) {
             connection.close();
-            sending.exceptionally(alsoFailed -> null).join();
+            waitForEnd(sending);
             throw e;
         }
-        sending.join();
+        waitForEnd(sending);
+    }
+
+    /** Waits until no more is sent. That a write failed is seen by the reader, which misses an answer. */
+    private static void waitForEnd(CompletableFuture<Void> sending) {
+        sending.exceptionally(failure -> null).join();
     }
 
     private void send(List<Reply<?>> replies) {

@@ -11,8 +11,8 @@ import java.time.Duration;
  * @param answerTimeout how long an answer may take to come on, counted from its last byte
  */
 public record Settings(int connections, Duration connectTimeout, Duration answerTimeout) {
-    /** Two connections, 5 seconds each. */
-    public static final Settings DEFAULT = new Settings(2, Duration.ofSeconds(5), Duration.ofSeconds(5));
+    /** Two connections, 5 seconds to come up, and 10 seconds for an answer. */
+    public static final Settings DEFAULT = new Settings(2, Duration.ofSeconds(5), Duration.ofSeconds(10));
 
     // Sockets take milliseconds as a positive int.
     public Settings {

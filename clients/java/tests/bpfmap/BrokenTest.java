@@ -163,12 +163,7 @@ final class BrokenTest {
 
     /** A call that may have been made is not made again; the next one takes another connection. */
     static String noSecondTry() throws Exception {
-        PlayedServer.Play answering = peer -> {
-            peer.read();
-            peer.send(NOTHING);
-            peer.waitForEnd();
-        };
-        try (PlayedServer server = new PlayedServer(PlayedServer.Peer::read, answering);
+        try (PlayedServer server = new PlayedServer(PlayedServer.Peer::read, answering(NOTHING));
                 RemoteMap<byte[], byte[]> map = RemoteMap.open(Mapd.HOST, server.port(), Codec.bytes(), Codec.bytes())) {
             Check.raises("a call without an answer", UncheckedIOException.class, () -> map.put(KEY, new byte[] {1}));
             Check.equal("it was sent once", List.of(PUT), server.requests());
@@ -176,6 +171,15 @@ final class BrokenTest {
             Check.equal("it was sent once too", List.of(PUT), server.requests());
         }
         return "each call was sent once";
+    }
+
+    /** Reads one request, and answers this. */
+    private static PlayedServer.Play answering(String answer) {
+        return peer -> {
+            peer.read();
+            peer.send(answer);
+            peer.waitForEnd();
+        };
     }
 
     /** A server that began anew has other programs under the old numbers: they are registered again. */
@@ -199,18 +203,19 @@ final class BrokenTest {
 
     /** A late answer is an error, and the connection is closed: so no later call takes it for its own. */
     static String answerIsLate() throws Exception {
-        PlayedServer.Play silent = peer -> {
+        PlayedServer.Play late = peer -> {
             peer.read();
+            sleep(SHORT.toMillis() * 3 / 2);
+            peer.sendIfOpen("00000004 82 000101");
             peer.waitForEnd();
         };
         long start = System.nanoTime();
-        try (PlayedServer server = new PlayedServer(silent);
-                RemoteMap<byte[], byte[]> map = RemoteMap.open(Mapd.HOST, server.port(), Codec.bytes(), Codec.bytes(),
-                        Settings.DEFAULT.withAnswerTimeout(SHORT))) {
-            UncheckedIOException late = Check.raises("no answer", UncheckedIOException.class, () -> map.put(KEY, ONE));
-            Check.that("its cause is the time: " + late, late.getCause() instanceof SocketTimeoutException);
+        try (PlayedServer server = new PlayedServer(late);
+                Connection connection = Connection.open(Mapd.HOST, server.port(), Settings.DEFAULT.withAnswerTimeout(SHORT))) {
+            Check.raises("no answer", SocketTimeoutException.class, () -> connection.call(Request.get(KEY)));
+            checkTime(start);
+            Check.raises("a call behind it", IOException.class, () -> connection.call(Request.get(KEY)));
         }
-        checkTime(start);
         return "after " + SHORT.toMillis() + " ms";
     }
 
@@ -235,11 +240,11 @@ final class BrokenTest {
     static String faultyAnswers() throws Exception {
         for (String answer : List.of("00000000", "00002001", "00000002 8301", "00000003 820001", "00000004 82ffff00",
                 "00000002 8401", "00000006 85 3d 000000", "0000000a 82 ffff")) {
-            PlayedServer.Play play = peer -> {
+            PlayedServer.Play thenEnding = peer -> {
                 peer.read();
                 peer.send(answer);
             };
-            try (PlayedServer server = new PlayedServer(play); Connection connection = server.connect()) {
+            try (PlayedServer server = new PlayedServer(thenEnding); Connection connection = server.connect()) {
                 IOException fault = Check.raises(answer, IOException.class, () -> connection.call(Request.get(KEY)));
                 Check.that(answer + ": " + fault, fault instanceof ProtocolException || fault instanceof EOFException);
                 Check.that(answer + ": the connection is not used again", !connection.isUsable());
@@ -251,19 +256,23 @@ final class BrokenTest {
     /** Refusals behind which a session may end take the connection out of use; others do not. */
     static String refusalsThatEnd() throws Exception {
         for (int number : new int[] {9, 60, 61, 62, 63, 64, 66}) {
-            PlayedServer.Play play = peer -> {
-                peer.read();
-                peer.send("00000006 85" + String.format("%02x", number) + "00000000");
-                peer.waitForEnd();
-            };
-            try (PlayedServer server = new PlayedServer(play); Connection connection = server.connect()) {
+            try (PlayedServer server = new PlayedServer(answering(refused(number))); Connection connection = server.connect()) {
                 RefusedException refusal = Check.raises("a refusal", RefusedException.class,
                         () -> connection.call(Request.get(KEY)));
                 Check.equal("its number", number, refusal.number());
                 Check.equal("whether the connection goes on after " + number, number == 66, connection.isUsable());
             }
         }
+        try (PlayedServer server = new PlayedServer(answering(refused(9)), answering(NOTHING));
+                RemoteMap<byte[], byte[]> map = RemoteMap.open(Mapd.HOST, server.port(), Codec.bytes(), Codec.bytes())) {
+            Check.raises("a refusal", RefusedException.class, () -> map.get(KEY));
+            Check.equal("a call of another connection", null, map.get(KEY));
+        }
         return "and one that does not";
+    }
+
+    private static String refused(int number) {
+        return "00000006 85" + String.format("%02x", number) + "00000000";
     }
 
     /** A map that was closed makes no more calls. */

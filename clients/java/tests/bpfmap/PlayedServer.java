@@ -55,6 +55,15 @@ final class PlayedServer implements AutoCloseable {
             output.flush();
         }
 
+        /** Sends bytes, which a client that has ended does not get. */
+        void sendIfOpen(String hex) throws IOException {
+            try {
+                send(hex);
+            } catch (SocketException e) {
+                socket.close();
+            }
+        }
+
         /** Reads until the client has closed the connection, or has broken it. */
         void waitForEnd() throws IOException {
             try {

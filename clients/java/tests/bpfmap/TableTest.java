@@ -58,12 +58,18 @@ final class TableTest {
 
     private void compare(String client, Table.Row row, String answer) {
         if (answer == null) {
+            Check.that("no call was made for row '" + row.name() + "'", hasNoCall(row));
             skipped++;
         } else if (answer.equals(row.answer())) {
             same++;
         } else {
             differences.add(client + ": row '" + row.name() + "': wanted '" + row.answer() + "', got '" + answer + "'");
         }
+    }
+
+    /** Whether a map, which names programs by their bytes, has no call for this row. */
+    private static boolean hasNoCall(Table.Row row) {
+        return row.call().equals("raw") || row.call().equals("register") || row.answer().equals("refused 66 0");
     }
 
     private static String answerOrRefusal(Table.Row row, Caller caller) throws IOException {
@@ -135,7 +141,7 @@ final class TableTest {
         return read.toByteArray();
     }
 
-    /** A map's answer. It names programs by their bytes, so that rows of unknown numbers have no call. */
+    /** A map's answer. */
     private static String answer(Table.Row row, RemoteMap<byte[], byte[]> map, Map<Long, Program> programs) {
         return switch (row.call()) {
             case "raw" -> null;
