@@ -2,7 +2,7 @@ package bpfmap;
 
 import java.nio.file.Path;
 
-/** Runs all tests: AllTests SERVER TABLE DOCUMENTS. */
+/** Runs all tests: AllTests SERVER, at the top of the repository. */
 public final class AllTests {
     private int passed;
     private int failed;
@@ -15,15 +15,16 @@ public final class AllTests {
     }
 
     /**
-     * @param words the server's program, the table of requests, and the folder of the pages
+     * @param words the server's program
      */
     public static void main(String[] words) {
         Path server = Path.of(words[0]);
         AllTests tests = new AllTests();
-        tests.runTable(server, Path.of(words[1]));
+        tests.runTable(server, Path.of("tests", "requests.txt"));
         tests.runMap(server);
         tests.runBroken(server);
-        tests.judge("sentences of refusals", () -> RefusalTest.sentences(Path.of(words[2])));
+        tests.judge("sentences of refusals", () -> RefusalTest.sentences(Path.of("docs")));
+        tests.judge("examples", () -> ExamplesTest.printed(server, Path.of("examples", "clients", "README.md")));
         System.out.println("clients/java: " + tests.passed + " tests passed, " + tests.failed + " failed");
         System.exit(tests.failed == 0 ? 0 : 1);
     }
