@@ -21,7 +21,8 @@ final class ExamplesTest {
             Check.that(name + " prints nothing", !block.isEmpty());
             block.add(0, "```text");
             block.add("```");
-            Check.that(page + " has not the block that " + name + " prints: " + block, Collections.indexOfSubList(told, block) >= 0);
+            Check.that(page + " has not the block that " + name + " prints: " + block,
+                    Collections.indexOfSubList(told, block) >= 0);
         }
         return String.join(", ", NAMES);
     }
