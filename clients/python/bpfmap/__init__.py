@@ -5,10 +5,12 @@ from .assembler import assemble
 from .client import Client, Walk
 from .errors import BpfmapError, ConnectionBroken, ObjectFault, ProtocolFault, Refused, TimedOut, Unfit
 from .pipeline import Pipeline
-from .programs import Program, program_bytes
+from .programs import COPY, SUM, Program, program_bytes
 from .protocol import Counts, Entry, Pending, Walked
 
 __all__ = [
+    "COPY",
+    "SUM",
     "AsyncClient",
     "AsyncPipeline",
     "AsyncWalk",

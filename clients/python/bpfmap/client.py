@@ -7,7 +7,7 @@ from typing import Deque, Iterator, Optional, Type, TypeVar
 
 from . import requests
 from .connection import Connection
-from .errors import BpfmapError, ConnectionBroken
+from .errors import BpfmapError, ConnectionBroken, TimedOut
 from .pipeline import Pipeline
 from .programs import Program
 from .protocol import Counts, Entry, Pending, Request, Walked
@@ -28,6 +28,8 @@ class Client:
         self._connection = Connection(host, port, timeout)
         try:
             self._call(requests.hello())
+        except TimedOut as error:
+            raise TimedOut(f"{error}: is each worker of the server taken by a client?") from error
         except BpfmapError:
             self.close()
             raise

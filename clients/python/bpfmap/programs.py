@@ -31,3 +31,16 @@ def _file_bytes(content: bytes) -> bytes:
         return read_object(content)
     text = content.decode()
     return bytes.fromhex(text) if _HEX.fullmatch(text) else assemble(text)
+
+
+def _copy_text() -> str:
+    """Eight bytes after eight, all 256 of them; the answer is as long as the old value."""
+    words = [f"ldd r0, [r2+{at}]\nstxd [r4+{at}], r0\n" for at in range(0, 256, 8)]
+    return "".join(words) + "mov64 r0, r7\nexit\n"
+
+
+# Adds the argument to the old value, as numbers of 8 bytes, little-endian; an absent one counts as 0.
+SUM = "ldd r0, [r2+0]\nldd r9, [r3+0]\nadd64 r0, r9\nstxd [r4+0], r0\nmov64 r0, 8\nexit\n"
+
+# Answers the old value as it is; for_each with it gives all entries.
+COPY = _copy_text()

@@ -2,7 +2,6 @@
 
 import struct
 from collections import deque
-from dataclasses import dataclass
 from typing import Callable, Deque, Generic, List, NamedTuple, Optional, TypeVar
 
 from .errors import ProtocolFault, Refused, Unfit
@@ -41,21 +40,29 @@ class Walked(NamedTuple):
     counts: Counts
 
 
-@dataclass(frozen=True)
 class Request(Generic[T]):
     """A frame to be sent, and how the last frame of its answer is read. Only a walk has frames of items before that one."""
 
-    frame: bytes
-    read: "Callable[[Deque[Entry], bytes], T]"
-    has_items: bool = False
+    __slots__ = ("frame", "read", "has_items")
+
+    def __init__(self, sent: bytes, read: "Callable[[Deque[Entry], bytes], T]", has_items: bool = False) -> None:
+        self.frame = sent
+        self.read = read
+        self.has_items = has_items
+
+
+# What calls have that are no walks.
+_NO_ITEMS: Deque[Entry] = deque()
 
 
 class Pending(Generic[T]):
     """A call whose answer has still to come, and then its answer or error."""
 
+    __slots__ = ("request", "items", "is_done", "_given", "_answer", "_error")
+
     def __init__(self, request: Request[T]) -> None:
         self.request = request
-        self.items: Deque[Entry] = deque()
+        self.items: Deque[Entry] = deque() if request.has_items else _NO_ITEMS
         self._given = 0
         self._answer: Optional[T] = None
         self._error: Optional[Exception] = None
