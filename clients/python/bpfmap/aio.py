@@ -3,7 +3,7 @@
 import asyncio
 from collections import deque
 from types import TracebackType
-from typing import Awaitable, Deque, List, Optional, Sequence, Tuple, Type, TypeVar
+from typing import Deque, List, Optional, Sequence, Tuple, Type, TypeVar
 
 from . import requests
 from .errors import BpfmapError, ConnectionBroken, ProtocolFault, TimedOut
@@ -130,44 +130,29 @@ class AsyncClient:
 
     async def _call(self, request: Request[T]) -> T:
         pending = Pending(request)
-        event = await self.send([pending])
-        await self.wait(event)
+        await self.send([pending]).wait()
         return pending.result()
 
     async def _begin_walk(self, request: Request[Walked]) -> "AsyncWalk":
         pending = Pending(request)
-        walk = AsyncWalk(self, pending, await self.send([pending]))
+        walk = AsyncWalk(pending, self.send([pending]))
         await walk.begin()
         return walk
 
-    async def send(self, calls: "Sequence[Pending[T]]") -> asyncio.Event:
-        """Sends the requests of calls. The event is set whenever a frame of their answers has come."""
+    def send(self, calls: "Sequence[Pending[T]]") -> "_Arrivals":
+        """Sends the requests of calls, and gives what tells that a frame of their answers has come."""
         if self._session is None:
             raise ConnectionBroken("the client is not open; nothing was sent")
-        event = self._session.send(calls)
-        await self._in_time(self._session.writable.wait())
-        return event
-
-    async def wait(self, event: asyncio.Event) -> None:
-        """Waits for the next frame that sets this event."""
-        await self._in_time(event.wait())
-        event.clear()
-
-    async def _in_time(self, waiting: "Awaitable[object]") -> None:
-        try:
-            await asyncio.wait_for(waiting, self._timeout)
-        except asyncio.TimeoutError:
-            if self._session is not None:
-                self._session.end(TimedOut(f"no answer in {self._timeout} seconds"))
+        return _Arrivals(self._session, self._session.send(calls), self._timeout)
 
 
 class _Session(asyncio.Protocol):
     """A connection, and the calls that wait for its frames in the order in which they were sent."""
 
     def __init__(self) -> None:
-        self.writable = asyncio.Event()
-        self.writable.set()
         self.closed = asyncio.Event()
+        self._loop = asyncio.get_running_loop()
+        self._heard = self._loop.time()
         self._transport: Optional[asyncio.Transport] = None
         self._frames = FrameReader()
         self._waiting: "Deque[Tuple[Pending[object], asyncio.Event]]" = deque()
@@ -175,13 +160,8 @@ class _Session(asyncio.Protocol):
     def connection_made(self, transport: asyncio.BaseTransport) -> None:
         self._transport = transport  # type: ignore[assignment]
 
-    def pause_writing(self) -> None:
-        self.writable.clear()
-
-    def resume_writing(self) -> None:
-        self.writable.set()
-
     def data_received(self, data: bytes) -> None:
+        self._heard = self._loop.time()
         try:
             self._frames.feed(data)
             self._give_all()
@@ -190,13 +170,14 @@ class _Session(asyncio.Protocol):
 
     def connection_lost(self, exc: Optional[Exception]) -> None:
         self.end(ConnectionBroken("the server ended the connection" + (f": {exc}" if exc else "")))
-        self.writable.set()
         self.closed.set()
 
     def send(self, calls: "Sequence[Pending[T]]") -> asyncio.Event:
         """Sends the requests of calls; their answers set the event."""
         if self._transport is None:
             raise ConnectionBroken("the connection is closed; nothing was sent")
+        if not self._waiting:
+            self._heard = self._loop.time()
         event = asyncio.Event()
         self._waiting.extend((call, event) for call in calls)  # type: ignore[misc]
         self._transport.write(b"".join(call.request.frame for call in calls))
@@ -211,6 +192,10 @@ class _Session(asyncio.Protocol):
             call.fail(error)
             event.set()
         self._waiting.clear()
+
+    def silent_for(self) -> float:
+        """Since when no byte of an answer has come, in seconds."""
+        return self._loop.time() - self._heard
 
     def _give_all(self) -> None:
         body = self._frames.next()
@@ -227,13 +212,35 @@ class _Session(asyncio.Protocol):
         event.set()
 
 
+class _Arrivals:
+    """Tells that a frame has come for one of the calls that were sent together."""
+
+    def __init__(self, session: _Session, event: asyncio.Event, timeout: Optional[float]) -> None:
+        self._session = session
+        self._event = event
+        self._timeout = timeout
+
+    async def wait(self) -> None:
+        """Waits for the next frame. The session ends where no byte of any answer comes in time."""
+        while not self._event.is_set():
+            await self._wait_in_time()
+        self._event.clear()
+
+    async def _wait_in_time(self) -> None:
+        left = None if self._timeout is None else max(0.0, self._timeout - self._session.silent_for())
+        try:
+            await asyncio.wait_for(self._event.wait(), left)
+        except asyncio.TimeoutError:
+            if self._session.silent_for() >= (self._timeout or 0):
+                self._session.end(TimedOut(f"no answer in {self._timeout} seconds"))
+
+
 class AsyncWalk:
     """The entries of a walk, in the order of keys, for `async for`. They are read and kept as they come."""
 
-    def __init__(self, client: AsyncClient, pending: "Pending[Walked]", event: asyncio.Event) -> None:
-        self._client = client
+    def __init__(self, pending: "Pending[Walked]", arrivals: _Arrivals) -> None:
         self._pending = pending
-        self._event = event
+        self._arrivals = arrivals
 
     def __aiter__(self) -> "AsyncWalk":
         return self
@@ -246,14 +253,14 @@ class AsyncWalk:
 
     async def begin(self) -> None:
         """Waits for the first frame; a refusal is raised."""
-        await self._client.wait(self._event)
+        await self._arrivals.wait()
         if self._pending.is_done:
             self._pending.result()
 
     async def first(self) -> Optional[Entry]:
         """The next entry, or None behind the last one."""
         while not self._pending.items and not self._pending.is_done:
-            await self._client.wait(self._event)
+            await self._arrivals.wait()
         if self._pending.items:
             return self._pending.items.popleft()
         self._pending.result()
@@ -262,7 +269,7 @@ class AsyncWalk:
     async def counts(self) -> Counts:
         """The counts of the whole walk; it waits for the walk's end."""
         while not self._pending.is_done:
-            await self._client.wait(self._event)
+            await self._arrivals.wait()
         return self._pending.result().counts
 
 
@@ -286,7 +293,7 @@ class AsyncPipeline(PipelineCalls):
         """Sends all calls that were added since, and gives their answers in order; see Pipeline.execute."""
         calls = self._take_all()
         if calls:
-            event = await self._client.send(calls)
+            arrivals = self._client.send(calls)
             while not calls[-1].is_done:
-                await self._client.wait(event)
+                await arrivals.wait()
         return [call.result() for call in calls]

@@ -151,6 +151,28 @@ class SilentTest(unittest.TestCase):
             with self.assertRaises(ConnectionBroken):
                 await client.get(b"a")
 
+    def test_answers_that_come_slowly(self) -> None:
+        """All of them take longer than the timeout, each of them does not."""
+
+        def play(connection: socket.socket) -> None:
+            receive_exactly(connection, 5 * len(_GET))
+            for number in range(5):
+                connection.sendall(_VALUE + bytes([number]))
+                time.sleep(0.2)
+
+        wanted = [bytes([number]) for number in range(5)]
+        with PlayedServer(play) as server, Client(HOST, server.port, timeout=0.5) as client:
+            pipeline = client.pipeline()
+            for _ in range(5):
+                pipeline.get(b"a")
+            self.assertEqual(pipeline.execute(), wanted)
+        with PlayedServer(play) as server:
+            self.assertEqual(asyncio.run(self._run_slowly(server.port)), wanted)
+
+    async def _run_slowly(self, port: int) -> "List[object]":
+        async with AsyncClient(HOST, port, timeout=0.5) as client:
+            return await asyncio.gather(*(client.get(b"a") for _ in range(5)))
+
     def test_no_hello(self) -> None:
         with socket.create_server((HOST, 0)) as listener:
             port = listener.getsockname()[1]
