@@ -158,9 +158,11 @@ class _Session(asyncio.Protocol):
         self._waiting: "Deque[Tuple[Pending[object], asyncio.Event]]" = deque()
 
     def connection_made(self, transport: asyncio.BaseTransport) -> None:
+        """asyncio calls it once the connection is there."""
         self._transport = transport  # type: ignore[assignment]
 
     def data_received(self, data: bytes) -> None:
+        """Gives each frame to the call whose turn it is."""
         self._heard = self._loop.time()
         try:
             self._frames.feed(data)
@@ -169,6 +171,7 @@ class _Session(asyncio.Protocol):
             self.end(error)
 
     def connection_lost(self, exc: Optional[Exception]) -> None:
+        """Ends all calls that wait."""
         self.end(ConnectionBroken("the server ended the connection" + (f": {exc}" if exc else "")))
         self.closed.set()
 

@@ -22,6 +22,7 @@ class _Unit:
     upper: int = 0
 
     def encode(self) -> bytes:
+        """The eight bytes of the unit; sixteen of a wide instruction."""
         unit = struct.pack("<BBhi", self.opcode, self.src * 16 + self.dst, self.offset, self.imm)
         if self.opcode == 0x18:
             unit += struct.pack("<Ii", 0, self.upper)
@@ -92,6 +93,7 @@ class _Line:
         self._at = 0
 
     def fault(self, number: int) -> Refused:
+        """A refusal at this line."""
         return Refused(number, self._place)
 
     def read(self) -> _Unit:

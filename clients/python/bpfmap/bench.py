@@ -63,6 +63,8 @@ def _fill(client: Client, bench: Bench) -> None:
 
 
 class _Run(NamedTuple):
+    """What one process measured."""
+
     began: float
     ended: float
     latencies: List[float]
@@ -77,9 +79,9 @@ def _run_client(bench: Bench, program: int) -> _Run:
     latencies = []
     with Client(bench.host, bench.port) as client:
         began = time.monotonic()
-        for batch in range(share):
+        for first in range(0, share * bench.pipeline, bench.pipeline):
             before = time.monotonic()
-            _run_batch(client, bench.pipeline, lambda calls, i: make(calls, keys[(batch * bench.pipeline + i) % len(keys)], value, program))
+            _run_batch(client, bench.pipeline, lambda calls, i: make(calls, keys[(first + i) % len(keys)], value, program))
             latencies.append(time.monotonic() - before)
         return _Run(began, time.monotonic(), latencies)
 

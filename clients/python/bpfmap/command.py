@@ -31,9 +31,11 @@ class _Format:
         self._name = name
 
     def key(self, word: str) -> bytes:
+        """The key that a word stands for."""
         return _from_hex(word) if self._name == "hex" else word.encode()
 
     def value(self, word: str) -> bytes:
+        """The value that a word stands for."""
         if self._name == "hex":
             return _from_hex(word)
         if self._name == "number":
@@ -41,6 +43,7 @@ class _Format:
         return word.encode()
 
     def show(self, value: Optional[bytes]) -> str:
+        """A value, or that there is none."""
         if value is None:
             return "nothing"
         if self._name == "hex":
@@ -199,7 +202,8 @@ def _parser() -> argparse.ArgumentParser:
         "bpfmap", description="Calls of a map server.", epilog=_EPILOG, formatter_class=argparse.RawDescriptionHelpFormatter
     )
     server = os.environ.get("BPFMAP_SERVER", _DEFAULT_SERVER)
-    parser.add_argument("--server", type=_address, default=server, metavar="HOST:PORT", help=f"default: BPFMAP_SERVER, or {_DEFAULT_SERVER}")
+    told = f"default: BPFMAP_SERVER, or {_DEFAULT_SERVER}"
+    parser.add_argument("--server", type=_address, default=server, metavar="HOST:PORT", help=told)
     parser.add_argument("--timeout", type=float, default=60.0, metavar="SECONDS", help="without an answer; default: 60")
     parser.add_argument("--as", dest="form", choices=("text", "hex", "number"), default="text", help="default: text")
     commands = parser.add_subparsers(dest="command", required=True, metavar="COMMAND")

@@ -39,8 +39,9 @@ class Connection:
 
     def send(self, data: bytes) -> None:
         """Sends all bytes. For requests whose answers are read before the next one is sent."""
+        opened = self._open_socket()
         try:
-            self._open_socket().sendall(data)
+            opened.sendall(data)
         except OSError as error:
             raise self._broken(error) from error
 
@@ -96,8 +97,9 @@ class Connection:
 
     def _read_piece(self) -> None:
         """Reads what has come; waits for it where the socket does."""
+        opened = self._open_socket()
         try:
-            piece = self._open_socket().recv(_PIECE)
+            piece = opened.recv(_PIECE)
         except BlockingIOError:
             return
         except OSError as error:
@@ -118,8 +120,6 @@ class Connection:
     def _broken(self, error: Optional[OSError]) -> ConnectionBroken:
         """Closes the connection, and says what befell it."""
         self.close()
-        if isinstance(error, ConnectionBroken):
-            return error
         if isinstance(error, socket.timeout):
             return TimedOut(f"no answer in {self._timeout} seconds")
         return ConnectionBroken(f"{_ENDED}: {error}" if error else _ENDED)

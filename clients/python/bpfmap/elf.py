@@ -14,6 +14,8 @@ _FUNCTION = 2
 
 
 class _Section(NamedTuple):
+    """A header of a section, with its name."""
+
     name: str
     kind: int
     flags: int
@@ -24,6 +26,8 @@ class _Section(NamedTuple):
 
 
 class _Symbol(NamedTuple):
+    """A symbol's name and whether it is a function."""
+
     name: str
     kind: int
 

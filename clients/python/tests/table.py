@@ -129,4 +129,5 @@ def _answered(call: str, answer: object) -> Outcome:
 
 def difference(row: Row, outcome: Optional[Outcome]) -> str:
     """What a failed row says."""
-    return f"client python, row '{row.name}': {row.call} {' '.join(row.words)[:200]}: {outcome} and not {' '.join(row.answer)[:200]}"
+    asked, answer = " ".join(row.words)[:200], " ".join(row.answer)[:200]
+    return f"client python, row '{row.name}': {row.call} {asked}: {outcome} and not {answer}"
