@@ -80,7 +80,7 @@ class Connection:
                 self._read_piece()
                 goes_on = self._give_bodies(take)
             if events[0][1] & selectors.EVENT_WRITE:
-                rest = _send_some(opened, rest)
+                rest = send_some(opened, rest)
                 selector.modify(opened, _events_for(rest))
 
     def _give_bodies(self, take: Callable[[bytes], bool]) -> bool:
@@ -129,7 +129,7 @@ def _events_for(rest: memoryview) -> int:
     return selectors.EVENT_READ | (selectors.EVENT_WRITE if rest else 0)
 
 
-def _send_some(opened: socket.socket, rest: memoryview) -> memoryview:
+def send_some(opened: socket.socket, rest: memoryview) -> memoryview:
     """Sends what the system takes, and gives back the rest. Where the server has ended there is none: only reading goes on."""
     try:
         return rest[opened.send(rest) :]

@@ -76,10 +76,20 @@ class PlayedServer:
         return self
 
     def __exit__(self, *_: object) -> None:
-        self._listener.close()
         self._thread.join(20)
-        if self.error is not None:
-            raise self.error
+        with self._listener:
+            if self.error is not None:
+                raise self.error
+            self._refuse_second()
+
+    def _refuse_second(self) -> None:
+        """No client tries a second time."""
+        self._listener.setblocking(False)
+        try:
+            self._listener.accept()
+        except BlockingIOError:
+            return
+        raise AssertionError("the client made a second connection")
 
     def _serve(self) -> None:
         try:

@@ -8,6 +8,7 @@ import unittest
 from typing import Callable, List
 
 from bpfmap import AsyncClient, Client, ConnectionBroken, Pending, ProtocolFault, Refused, TimedOut, Unfit
+from bpfmap.connection import send_some
 
 from .server import HOST, MapdTest, PlayedServer, receive_exactly
 
@@ -139,6 +140,7 @@ class SilentTest(unittest.TestCase):
             call = pipeline.get(b"a")
             self.assertRaises(TimedOut, pipeline.execute)
             self.assertIsInstance(call.error, TimedOut)
+            self.assertRaisesRegex(ConnectionBroken, "nothing was sent", client.get, b"a")
 
     def test_async(self) -> None:
         with PlayedServer(self._wait) as server:
@@ -211,6 +213,23 @@ class FaultTest(unittest.TestCase):
         for name, response in faults.items():
             with self.subTest(name), self.assertRaises(ProtocolFault):
                 self._answer(response)
+
+
+    def test_walk_whose_counts_are_wrong(self) -> None:
+        def play(connection: socket.socket) -> None:
+            receive_exactly(connection, 4 + 19)
+            connection.sendall(bytes.fromhex("000000068601610001" + "78" + "0000001987" + "0000000000000002" * 2 + "00" * 8))
+            connection.recv(1)
+
+        with PlayedServer(play) as server, Client(HOST, server.port) as client:
+            self.assertRaises(ProtocolFault, list, client.for_each(0))
+
+    def test_sending_to_a_server_that_ended(self) -> None:
+        """It is no fault yet: what the server sent before is still read."""
+        mine, other = socket.socketpair()
+        other.close()
+        with mine:
+            self.assertEqual(bytes(send_some(mine, memoryview(b"abc"))), b"")
 
 
 class KilledTest(MapdTest):

@@ -47,12 +47,15 @@ class CounterTest(MapdTest):
             self.assertEqual(first.get(_KEY), _SUM)
 
     def test_one_client_for_all_threads(self) -> None:
+        """Each thread counts on a key of its own too: so it sees that its answers are its own."""
         with Client(HOST, self.port) as client:
             program = client.register(SUM)
 
             def work() -> None:
-                for _ in range(_MERGES):
+                own = threading.current_thread().name.encode()
+                for number in range(1, _MERGES + 1):
                     client.merge(_KEY, _ONE, program)
+                    self.assertEqual(client.merge(own, _ONE, program), number.to_bytes(8, "little"))
 
             self._run_threads(work)
             self.assertEqual(client.get(_KEY), _SUM)
@@ -81,9 +84,10 @@ class CounterTest(MapdTest):
         async with AsyncClient(HOST, self.port) as client:
             program = await client.register(SUM)
 
-            async def work() -> None:
-                for _ in range(_MERGES):
+            async def work(own: bytes) -> None:
+                for number in range(1, _MERGES + 1):
                     await client.merge(_KEY, _ONE, program)
+                    self.assertEqual(await client.merge(own, _ONE, program), number.to_bytes(8, "little"))
 
-            await asyncio.gather(*(work() for _ in range(_THREADS)))
+            await asyncio.gather(*(work(bytes([task])) for task in range(_THREADS)))
             return await client.get(_KEY)
