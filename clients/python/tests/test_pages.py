@@ -21,7 +21,7 @@ class PagesTest(MapdTest):
         page = (_PACKAGE / "README.md").read_text()
         block = re.search(r"```sh\n(.*?)```", page, re.DOTALL).group(1)
         server, rest = block.split("\n", 1)
-        self.assertEqual(server, "crates/mapd/out/mapd --listen 127.0.0.1:7070 &")
+        self.assertEqual(server, "crates/mapd/out/mapd --listen 127.0.0.1:7070 & sleep 1")
         script = rest.replace("7070", str(self.port)).replace("clients/python", str(_PACKAGE)).replace("python3", sys.executable)
         environment = {**os.environ, "BPFMAP_SERVER": f"{HOST}:{self.port}"}
         with tempfile.TemporaryDirectory() as folder:
