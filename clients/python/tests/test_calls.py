@@ -7,6 +7,7 @@ from typing import Dict, NamedTuple, Optional
 
 from bpfmap import COPY, SUM, AsyncClient, Client, Counts, Refused
 from bpfmap.errors import REFUSALS
+from bpfmap.protocol import FrameReader
 
 from .server import HOST, ROOT, MapdTest
 
@@ -189,6 +190,25 @@ class SentencesTest(unittest.TestCase):
         )
         self.assertEqual(str(Refused(66)), "refused 66 UnknownProgram: no program has this number")
         self.assertEqual(str(Refused(200)), "refused 200 Unknown: this client knows no refusal of this number")
+
+
+class FrameReaderTest(unittest.TestCase):
+    """Streams that are cut."""
+
+    def test_bytes_one_by_one(self) -> None:
+        bodies = [bytes([length % 256]) * length for length in (1, 2, 255, 256, 8_192, 1)]
+        stream = b"".join(len(body).to_bytes(4, "big") + body for body in bodies)
+        reader = FrameReader()
+        found = []
+        for byte in stream:
+            reader.feed(bytes([byte]))
+            found.append(reader.next())
+        self.assertEqual([body for body in found if body is not None], bodies)
+
+    def test_one_piece(self) -> None:
+        reader = FrameReader()
+        reader.feed(bytes.fromhex("00000001" + "23" + "00000002" + "8301" + "0000"))
+        self.assertEqual([reader.next(), reader.next(), reader.next()], [b"\x23", b"\x83\x01", None])
 
 
 class WrongArgumentsTest(MapdTest):
