@@ -1,0 +1,34 @@
+"""A client of mapd, the concurrent map whose functions are verified BPF programs. README.md has a counter in five minutes."""
+
+from .aio import AsyncClient, AsyncPipeline, AsyncWalk
+from .assembler import assemble
+from .client import Client, Walk
+from .errors import BpfmapError, ConnectionBroken, ObjectFault, ProtocolFault, Refused, TimedOut, Unfit
+from .pipeline import Pipeline
+from .programs import COPY, SUM, Program, program_bytes
+from .protocol import Counts, Entry, Pending, Walked
+
+__all__ = [
+    "COPY",
+    "SUM",
+    "AsyncClient",
+    "AsyncPipeline",
+    "AsyncWalk",
+    "BpfmapError",
+    "Client",
+    "ConnectionBroken",
+    "Counts",
+    "Entry",
+    "ObjectFault",
+    "Pending",
+    "Pipeline",
+    "Program",
+    "ProtocolFault",
+    "Refused",
+    "TimedOut",
+    "Unfit",
+    "Walk",
+    "Walked",
+    "assemble",
+    "program_bytes",
+]
