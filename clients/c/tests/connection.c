@@ -92,6 +92,39 @@ static void server_ends_inside_an_answer(const void *resets)
     end_played(&played);
 }
 
+/* Answers three requests, reads no other, and ends. */
+static void answer_and_stop_reading(int connection, const void *given)
+{
+    static const uint8_t nothing[] = {0, 0, 0, 3, 0x82, 0xff, 0xff};
+    struct timespec while_client_sends = {.tv_sec = 1};
+    (void)given;
+    skip_bytes(connection, 3 * 8);
+    for (int i = 0; i < 3; i++)
+        send_bytes(connection, nothing, sizeof nothing);
+    nanosleep(&while_client_sends, NULL);
+}
+
+/* The end is seen by a request that is sent. Answers that had come by then are received all the same. */
+static void server_ends_while_client_sends(void)
+{
+    static const uint8_t code[BPFMAP_PROGRAM_BYTES];
+    struct bpfmap_request large = {.call = BPFMAP_REGISTER, .code = bpfmap_bytes(code, sizeof code)};
+    struct bpfmap_request get = {.call = BPFMAP_GET, .key = bpfmap_text("ab")};
+    struct played played;
+    enum bpfmap_status status = BPFMAP_OK;
+    play(&played, answer_and_stop_reading, NULL, TIMEOUT);
+    for (int i = 0; i < 3; i++)
+        CHECK_STATUS(&client, BPFMAP_OK, bpfmap_send(&client, &get));
+    for (int i = 3; i < BPFMAP_DEPTH && status == BPFMAP_OK; i++)
+        status = bpfmap_send(&client, &large);
+    CHECK_STATUS(&client, BPFMAP_BROKEN, status);
+    for (int i = 0; i < 3; i++)
+        CHECK_STATUS(&client, BPFMAP_OK, bpfmap_receive(&client, &reply));
+    CHECK_STATUS(&client, BPFMAP_BROKEN, bpfmap_receive(&client, &reply));
+    CHECK_STATUS(&client, BPFMAP_BROKEN, bpfmap_send(&client, &get));
+    end_played(&played);
+}
+
 /* ---- a server that waits */
 
 static long milliseconds(void)
@@ -389,6 +422,7 @@ int main(void)
         server_is_killed(moments[i]);
     server_ends_inside_an_answer(NULL);
     server_ends_inside_an_answer(&resets);
+    server_ends_while_client_sends();
     silent_server_is_left();
     server_that_takes_nothing_is_left();
     for (size_t i = 0; i < count; i++)
