@@ -1,6 +1,6 @@
 #!/usr/bin/env bash
-# Times `mapd` on loopback under a C client, load.c: Get, Put, and Merge with the sum, by 1, 4 and 16 connections, each with 1, 16 and
-# 64 requests on their way; beside Redis under the same client, where Debian's redis-server is installed: GET, SET, INCRBY, and
+# Times `mapd` on loopback under a C client, load.c: Get, Put, and Merge with the sum. 1, 4 and 16 connections each have 1, 16 and 64
+# requests on their way. Where Debian's redis-server is installed, Redis is beside it under the same client: GET, SET, INCRBY, and
 # EVALSHA of a script that reads, adds and writes. Three rounds in turn; it prints medians of thousands of requests a second, and of
 # the server's processor time a request. Client and server share the machine. By hand, not by the gate. It takes two minutes, and
 # stops after four. MAPD names another server than the one that the gate built.
@@ -90,9 +90,10 @@ print_ratios() {
     { median mapd,merge 16 64; median redis,incrby 16 64; median redis,evalsha 16 64; } | awk '
         { rate[NR] = $1; time[NR] = $2 }
         END {
-            printf "16 connections, 64 deep: Merge has %.1f times the rate of EVALSHA, %.1f times that of INCRBY; its processor time is\n",
+            printf "16 connections, 64 deep: Merge has %.2f times the rate of EVALSHA, %.2f times that of INCRBY\n",
                 rate[1] / rate[3], rate[1] / rate[2]
-            printf "%.2f of that of EVALSHA, %.2f of that of INCRBY\n", time[1] / time[3], time[1] / time[2]
+            printf "its processor time is %.2f of that of EVALSHA, %.2f of that of INCRBY\n",
+                time[1] / time[3], time[1] / time[2]
         }'
 }
 
