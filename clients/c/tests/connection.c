@@ -4,7 +4,7 @@
 #include "played.h"
 #include <time.h>
 
-enum { LITTLE_TIME = 200, MANY_ENTRIES = 300, MANY_WALKS = 30, MANY_PROGRAMS = 900 };
+enum { LITTLE_TIME = 500, MANY_ENTRIES = 300, MANY_WALKS = 30, MANY_PROGRAMS = 900 };
 
 static struct bpfmap_client client;
 static struct bpfmap_reply reply;
@@ -153,13 +153,12 @@ static void silent_server_is_left(void)
     end_played(&played);
 }
 
-/* Reads nothing, for so long that the client has given up. */
+/* Reads nothing from the client, until this pipe tells that it has given up. */
 static void take_nothing(int connection, const void *given)
 {
-    struct timespec longer = {.tv_sec = 5 * LITTLE_TIME / 1000};
+    char told;
     (void)connection;
-    (void)given;
-    nanosleep(&longer, NULL);
+    CHECK(read(*(const int *)given, &told, 1) == 0, "a pipe tells a byte");
 }
 
 /* Eight megabytes do not fit into any buffer on the way. */
@@ -169,11 +168,15 @@ static void server_that_takes_nothing_is_left(void)
     struct bpfmap_request large = {.call = BPFMAP_REGISTER, .code = bpfmap_bytes(code, sizeof code)};
     struct played played;
     enum bpfmap_status status = BPFMAP_OK;
-    play(&played, take_nothing, NULL, LITTLE_TIME);
+    int given_up[2];
+    CHECK(pipe(given_up) == 0, "no pipe");
+    play(&played, take_nothing, &given_up[0], LITTLE_TIME);
     for (int i = 0; i < BPFMAP_DEPTH && status == BPFMAP_OK; i++)
         status = bpfmap_send(&client, &large);
     CHECK_STATUS(&client, BPFMAP_TIMED_OUT, status);
+    close(given_up[1]);
     end_played(&played);
+    close(given_up[0]);
 }
 
 /* ---- answers that are none */
