@@ -122,7 +122,7 @@ static void redis_connect(struct bpfmap_client *client)
 /* Sets all keys, and loads the script. */
 static void redis_prepare(struct bpfmap_client *client)
 {
-    char loads[300];
+    char loads[300], name[SHA_LENGTH + 1] = {0};
     const char *answer, *value = operation->adds ? "\r\n$1\r\n0\r\n" : "\r\n$8\r\n10000000\r\n";
     for (uint64_t key = 0; key < KEYS; key++) {
         redis_send_line(client, "*3\r\n$3\r\nSET\r\n$8\r\n", key, value);
@@ -132,13 +132,8 @@ static void redis_prepare(struct bpfmap_client *client)
     redis_send(client, loads, strlen(loads));
     answer = redis_receive(client);
     NEED(strncmp(answer, "$40\r\n", 5) == 0, "Redis gives no name of %d letters to a script", SHA_LENGTH);
-    if (strstr(operation->before, "%s")) {
-        char name[SHA_LENGTH + 1] = {0};
-        memcpy(name, answer + 5, SHA_LENGTH);
-        sprintf(before, "*5\r\n$7\r\nEVALSHA\r\n$40\r\n%s\r\n$1\r\n1\r\n$8\r\n", name);
-    } else {
-        strcpy(before, operation->before);
-    }
+    memcpy(name, answer + 5, SHA_LENGTH);
+    snprintf(before, sizeof before, operation->before, name);
 }
 
 static uint64_t redis_value(struct bpfmap_client *client, uint64_t key)
