@@ -1,0 +1,76 @@
+/* Limits a client's rate by a bucket of ten tokens, of which one comes back a second: each request is one Compute.
+ * token_bucket HOST PORT */
+#include "bpfmap_client.h"
+#include <stdio.h>
+#include <stdlib.h>
+
+/* examples/c/token_bucket.c, as examples/c/build makes it of clang 14. */
+static const uint8_t bucket[] = {
+    0x79, 0x20, 0x08, 0x00, 0x00, 0x00, 0x00, 0x00,
+    0x79, 0x35, 0x00, 0x00, 0x00, 0x00, 0x00, 0x00,
+    0xbf, 0x51, 0x00, 0x00, 0x00, 0x00, 0x00, 0x00,
+    0x1f, 0x01, 0x00, 0x00, 0x00, 0x00, 0x00, 0x00,
+    0x79, 0x22, 0x00, 0x00, 0x00, 0x00, 0x00, 0x00,
+    0x0f, 0x21, 0x00, 0x00, 0x00, 0x00, 0x00, 0x00,
+    0xa5, 0x01, 0x01, 0x00, 0x0a, 0x00, 0x00, 0x00,
+    0xb7, 0x01, 0x00, 0x00, 0x0a, 0x00, 0x00, 0x00,
+    0x79, 0x32, 0x08, 0x00, 0x00, 0x00, 0x00, 0x00,
+    0xb4, 0x03, 0x00, 0x00, 0x01, 0x00, 0x00, 0x00,
+    0x3d, 0x21, 0x01, 0x00, 0x00, 0x00, 0x00, 0x00,
+    0xb4, 0x03, 0x00, 0x00, 0x00, 0x00, 0x00, 0x00,
+    0x7b, 0x54, 0x08, 0x00, 0x00, 0x00, 0x00, 0x00,
+    0x7b, 0x34, 0x10, 0x00, 0x00, 0x00, 0x00, 0x00,
+    0x3d, 0x21, 0x01, 0x00, 0x00, 0x00, 0x00, 0x00,
+    0xb7, 0x02, 0x00, 0x00, 0x00, 0x00, 0x00, 0x00,
+    0x1f, 0x21, 0x00, 0x00, 0x00, 0x00, 0x00, 0x00,
+    0x7b, 0x14, 0x00, 0x00, 0x00, 0x00, 0x00, 0x00,
+    0xb7, 0x00, 0x00, 0x00, 0x18, 0x00, 0x00, 0x00,
+    0x95, 0x00, 0x00, 0x00, 0x00, 0x00, 0x00, 0x00,
+};
+static const struct bpfmap_sizes bucket_sizes = {.key = 64, .old = 24, .arg = 16, .result = 24};
+
+static struct bpfmap_client client;
+
+/* Ends the program unless the request was answered. */
+static void need(enum bpfmap_status status)
+{
+    if (status == BPFMAP_OK)
+        return;
+    fprintf(stderr, "token_bucket: %s\n", bpfmap_explain(&client, status));
+    exit(1);
+}
+
+/* Asks for tokens at this time, in seconds. A real service would take the time from its clock. */
+static void ask(uint64_t program, const char *name, uint64_t now, uint64_t wanted)
+{
+    struct bpfmap_reply reply;
+    uint8_t argument[16];
+    bpfmap_store64(argument, now);
+    bpfmap_store64(argument + 8, wanted);
+    need(bpfmap_compute(&client, bpfmap_text(name), program, bpfmap_bytes(argument, sizeof argument), &reply));
+    if (reply.kind != BPFMAP_VALUE) {
+        fprintf(stderr, "token_bucket: %s is no bucket\n", name);
+        exit(1);
+    }
+    printf("%s at %llu: %llu %s, %llu left\n", name, (unsigned long long)bpfmap_load64(reply.value + 8),
+           (unsigned long long)wanted, bpfmap_load64(reply.value + 16) == 1 ? "granted" : "refused",
+           (unsigned long long)bpfmap_load64(reply.value));
+}
+
+int main(int count, char **word)
+{
+    struct bpfmap_reply reply;
+    if (count != 3) {
+        fprintf(stderr, "token_bucket HOST PORT\n");
+        return 2;
+    }
+    need(bpfmap_connect(&client, word[1], word[2], 5000));
+    need(bpfmap_register(&client, bucket_sizes, bpfmap_bytes(bucket, sizeof bucket), &reply));
+    ask(reply.program, "alice", 100, 4);
+    ask(reply.program, "alice", 100, 4);
+    ask(reply.program, "alice", 101, 4);
+    ask(reply.program, "bob", 101, 4);
+    ask(reply.program, "alice", 102, 4);
+    bpfmap_close(&client);
+    return 0;
+}
