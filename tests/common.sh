@@ -1,6 +1,6 @@
-# What commands.sh and process.sh share, run at the top of the repository: the built program, a folder that goes at the end, runs and the count of cases.
+# What commands.sh, frames.sh, process.sh and server.sh share, run at the top of the repository: the built program, a folder that goes at the end, runs and the count of cases.
 # shellcheck shell=bash
-program=crates/bpfmap/out/bpfmap
+program=${program:-crates/bpfmap/out/bpfmap}
 [ -x "$program" ] || { echo "$program is not built; run the gate first" >&2; exit 1; }
 work=$(mktemp -d)
 trap 'rm -rf "$work"' EXIT
