@@ -5,6 +5,7 @@ set -euo pipefail
 cd "$(dirname "$0")/.."
 # shellcheck source=tests/common.sh
 . tests/common.sh
+: > "$work/in"
 
 # Runs the script of this folder.
 put() {

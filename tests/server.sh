@@ -81,7 +81,7 @@ expect() {
     judge "$name" ended "$status" "$output" "$errors"
 }
 
-printf '' > "$work/in"
+: > "$work/in"
 expect "no sessions" 0 "ready"$'\n'"served 0" "" --listen 127.0.0.1:0 --sessions 0
 judge "the address is told" grep -Eqx 'listening on 127\.0\.0\.1:[1-9][0-9]*' "$work/err"
 expect "33 workers" 2 "" "error: *33*" --listen 127.0.0.1:0 --workers 33
