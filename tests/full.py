@@ -6,11 +6,9 @@ By hand, after `rt run` in crates/bpfmap or crates/mapd: python3 tests/full.py [
 from __future__ import annotations
 
 import argparse
-import resource
 import subprocess
 import sys
 from collections.abc import Iterator
-from concurrent.futures import ThreadPoolExecutor
 from pathlib import Path
 
 sys.path.insert(0, str(Path(__file__).resolve().parent))
@@ -33,9 +31,8 @@ def bodies_of(answers: bytes) -> Iterator[bytes]:
 
 def executed(program: Path, sent: bytes, kib: int) -> bytes:
     """What `bpfmap exec` answers."""
-    bound = (kib * 1024, kib * 1024)
     run = subprocess.run([program, "exec"], input=sent, capture_output=True, timeout=600, check=False,
-                         preexec_fn=lambda: resource.setrlimit(resource.RLIMIT_AS, bound))
+                         preexec_fn=wire.bound(kib))
     if run.returncode != 0:
         sys.exit(f"full: FAILED, status {run.returncode}: {run.stderr[-200:]}")
     return run.stdout
@@ -44,10 +41,8 @@ def executed(program: Path, sent: bytes, kib: int) -> bytes:
 def served(program: Path, sent: bytes, kib: int) -> bytes:
     """What `mapd` answers on a connection that ends behind what is sent."""
     server = wire.Server(program, ONE_SESSION, kib=kib)
-    with ThreadPoolExecutor(1) as pool, wire.Client(server.address) as client:
-        sending = pool.submit(client.socket.sendall, sent)
-        sending.add_done_callback(lambda _: client.close_writing())
-        answers = client.rest()
+    with wire.Client(server.address) as client:
+        answers = client.exchange(sent)
     status = server.finish()
     if (status, server.printed) != (0, b"ready\nserved 1\n"):
         sys.exit(f"full: FAILED, status {status}, {server.printed} and {server.told[-200:]}")

@@ -124,9 +124,8 @@ def cut(address: str) -> None:
     """A stream ends inside a frame: what was whole is answered, and then the stream ends."""
     with wire.Client(address) as client:
         sent = wire.frames([wire.HELLO, wire.put(b"whole", b"1"), wire.get(b"whole")])
-        client.socket.sendall(sent + wire.frame(wire.put(b"cut", b"2"))[:-1])
-        client.close_writing()
-        same("all answers", client.rest(), wire.frames([wire.WELCOME, wire.NOTHING, wire.value(b"1")]))
+        answers = client.exchange(sent + wire.frame(wire.put(b"cut", b"2"))[:-1])
+        same("all answers", answers, wire.frames([wire.WELCOME, wire.NOTHING, wire.value(b"1")]))
 
 
 def flood(client: wire.Client, requests: bytes, most: int) -> int:
@@ -154,20 +153,15 @@ def unread(address: str) -> None:
         for count in range(1, 1001):
             same("a sum beside it", other.ask(wire.merge(b"sum", ONE, program)), number(count))
             same("a Get beside it", other.ask(wire.get(b"long")), wire.value(bytes(256)))
-        with ThreadPoolExecutor(1) as pool:
-            rest = pool.submit(deaf.rest)
-            deaf.socket.sendall(request[sent % len(request):] if sent % len(request) else b"")
-            deaf.close_writing()
-            answers = rest.result()
         whole = -(-sent // len(request))
+        answers = deaf.exchange((request * whole)[sent:])
         same("all answers", answers == wire.frame(wire.value(bytes(256))) * whole, True)
 
 
 def at_once(address: str, sent: str, wanted: str) -> None:
     """The bytes, given in hex, are sent in one piece, and these are the answers."""
     with wire.Client(address) as client:
-        client.socket.sendall(bytes.fromhex(sent))
-        same("all that is answered", client.rest().hex(), wanted)
+        same("all that is answered", client.exchange(bytes.fromhex(sent)).hex(), wanted)
 
 
 def byte_by_byte(address: str, sent: str, wanted: str) -> None:
@@ -181,11 +175,9 @@ def byte_by_byte(address: str, sent: str, wanted: str) -> None:
 def fault(address: str) -> None:
     """A frame is refused; the refusal is read although much is sent behind it, and the next session has what came before."""
     with wire.opened(address) as client:
-        client.send(wire.put(b"before", b"1"), b"\x7f", wire.put(b"behind", b"2"))
-        with contextlib.suppress(ConnectionError):
-            client.socket.sendall(bytes(200_000))
-            client.close_writing()
-        same("the last answers", client.rest(), wire.frames([wire.NOTHING, wire.refused(61)]))
+        sent = wire.frames([wire.put(b"before", b"1"), b"\x7f", wire.put(b"behind", b"2")])
+        answers = client.exchange(sent + bytes(200_000))
+        same("the last answers", answers, wire.frames([wire.NOTHING, wire.refused(61)]))
     with wire.opened(address) as client:
         same("a Put before the fault", client.ask(wire.get(b"before")), wire.value(b"1"))
         same("a Put behind the fault", client.ask(wire.get(b"behind")), wire.NOTHING)

@@ -108,6 +108,17 @@ shown=$(sed -n "/^printf '%s' '\$/,/^' | xxd/p" docs/PROTOCOL.md | grep -v xxd |
 told=$(sed -n '/^The responses are these bytes/,$p' docs/PROTOCOL.md | sed -n '/^0/s/   .*//p' | tr -d ' \n')
 serve_all "the session of docs/PROTOCOL.md" "at_once $shown $told" 1
 serve_all "the same, one byte a write" "byte_by_byte $shown $told" 1 --stripes 1 --team 8
+# The exchange that docs/SERVER.md shows, with the port of a server, and the answers that stand below it.
+if command -v xxd > /dev/null; then
+    exchange=$(sed -n '/^exec 3<>/,/^exec 3>&-/p' docs/SERVER.md)
+    start --workers 1 --sessions 1
+    bash -c "${exchange//7070/${address##*:}}" > "$work/said" 2>&1 || true
+    finish
+    judge "the exchange of docs/SERVER.md" grep -Fqx "$(cat "$work/said")" docs/SERVER.md
+    judge "the exchange of docs/SERVER.md: it ends" ended 0 "ready"$'\n'"served 1" ""
+fi
+judge "the sessions of frames.txt" python3 tests/server_rows.py --program "$program"
+
 serve_all "a hundred sessions" sessions 100
 serve_all "a stream that is cut" cut 1
 serve_all "connections that are reset" reset 4
@@ -119,8 +130,8 @@ serve "a client that does not read" unread --workers 2
 limits="ulimit -n 16" errors="*failed accept*" serve "no descriptors" descriptors --workers 32
 if [ -z "${MAPD_IS_CHECKED:-}" ]; then
     limits="ulimit -v 100000" serve "no memory" memory --workers 3
-    judge "a million keys" python3 tests/full.py --server
-    judge "each request for memory refused in turn" python3 tests/server_refused.py
+    judge "a million keys" python3 tests/full.py --server --program "$program"
+    judge "each request for memory refused in turn" python3 tests/server_refused.py --program "$program"
 fi
 
 echo "server: $passed passed, $failed failed"

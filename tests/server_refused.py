@@ -101,9 +101,7 @@ def bodies(session: list[Call | bytes]) -> list[bytes]:
 def said(address: str, session: list[Call | bytes]) -> list[bytes]:
     """The answers to a session that is sent in one piece."""
     with wire.Client(address) as client:
-        client.send(*bodies(session))
-        client.close_writing()
-        return list(full.bodies_of(client.rest()))
+        return list(full.bodies_of(client.exchange(wire.frames(bodies(session)))))
 
 
 def hear_session(known: Known, session: list[Call | bytes], answers: list[bytes]) -> str:

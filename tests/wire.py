@@ -1,12 +1,14 @@
 """Frames by docs/PROTOCOL.md, and what the tests of the server share: a client on a socket, and a server that is started and ended."""
 from __future__ import annotations
 
+import contextlib
 import os
 import resource
 import socket
 import struct
 import subprocess
-import time
+from collections.abc import Callable
+from concurrent.futures import ThreadPoolExecutor
 from pathlib import Path
 
 SERVER = Path(__file__).resolve().parent.parent / "crates/mapd/out/mapd"
@@ -172,6 +174,20 @@ class Client:
         """Ends what is sent."""
         self.socket.shutdown(socket.SHUT_WR)
 
+    def send_all(self, sent: bytes) -> None:
+        """Sends bytes and ends; the server may end before it has read them all."""
+        with contextlib.suppress(ConnectionError):
+            self.socket.sendall(sent)
+            self.close_writing()
+
+    def exchange(self, sent: bytes) -> bytes:
+        """Sends bytes and ends, and reads all answers meanwhile."""
+        with ThreadPoolExecutor(1) as pool:
+            sending = pool.submit(self.send_all, sent)
+            answers = self.rest()
+            sending.result()
+        return answers
+
     def reset(self) -> None:
         """Resets the connection."""
         self.socket.setsockopt(socket.SOL_SOCKET, socket.SO_LINGER, struct.pack("ii", 1, 0))
@@ -183,17 +199,18 @@ def opened(address: str) -> Client:
     return Client(address).hello()
 
 
+def bound(kib: int) -> Callable[[], None]:
+    """What bounds the memory of the process that calls it."""
+    return lambda: resource.setrlimit(resource.RLIMIT_AS, (kib * 1024, kib * 1024))
+
+
 class Server:
     """A started server, its address, and what it printed. It may have an environment of its own and a bound on its memory."""
 
     def __init__(self, program: Path, options: list[str], environment: dict[str, str] | None = None, kib: int | None = None) -> None:
-        def bound() -> None:
-            if kib is not None:
-                resource.setrlimit(resource.RLIMIT_AS, (kib * 1024, kib * 1024))
-
         self.process = subprocess.Popen(
             [str(program), "--listen", "127.0.0.1:0", *options], stdin=subprocess.DEVNULL, stdout=subprocess.PIPE,
-            stderr=subprocess.PIPE, env={**os.environ, **(environment or {})}, preexec_fn=bound)
+            stderr=subprocess.PIPE, env={**os.environ, **(environment or {})}, preexec_fn=bound(kib) if kib else None)
         self.printed = self.process.stdout.readline()
         self.told = self.process.stderr.readline() if self.is_ready() else b""
         self.address = self.told.decode().strip().removeprefix("listening on ")
@@ -213,13 +230,3 @@ class Server:
         """Ends it at once, and gives its status."""
         self.process.terminate()
         return self.finish()
-
-
-def wait_until(holds, patience: float = PATIENCE) -> bool:
-    """Whether it holds before patience ends; asked again every hundredth of a second."""
-    until = time.monotonic() + patience
-    while not holds():
-        if time.monotonic() > until:
-            return False
-        time.sleep(0.01)
-    return True
