@@ -15,7 +15,7 @@ trap '[ -z "$server" ] || kill -9 "$server" 2> /dev/null || true; rm -rf "${work
 start() {
     : > "$work/out"
     : > "$work/err"
-    (eval "${limits:-}"; exec "$program" --listen 127.0.0.1:0 "$@") < /dev/null > "$work/out" 2> "$work/err" &
+    (trap - INT; eval "${limits:-}"; exec "$program" --listen 127.0.0.1:0 "$@") < /dev/null > "$work/out" 2> "$work/err" &
     server=$!
     for _ in $(seq 1000); do
         if [ -s "$work/out" ] || ! kill -0 "$server" 2> /dev/null; then break; fi
@@ -102,6 +102,13 @@ expect "the version" 0 "mapd 0.1.0" "" --version
 start --workers 1
 expect "a port that is taken" 3 "" "failed listen*" --listen "$address"
 stop
+
+start --workers 1
+exec 4<> "/dev/tcp/${address%:*}/${address##*:}"
+kill -INT "$server"
+finish
+exec 4>&-
+judge "SIGINT ends it beside a client" ended 130 "ready" ""
 
 # The session that docs/PROTOCOL.md shows, and the answers that stand below it.
 shown=$(sed -n "/^printf '%s' '\$/,/^' | xxd/p" docs/PROTOCOL.md | grep -v xxd | tail -n +2 | tr -d ' \n')

@@ -26,7 +26,7 @@ PROGRAM = model.PROGRAMS[model.NOTHING_AT_ALL]
 NUMBERS = [0]
 A, B = b"a", b"b"
 REGISTER = wire.register(PROGRAM.sizes, PROGRAM.code)
-EACH = wire.for_each(0, None)
+WALKS = (wire.for_each(0, None), wire.replace_all(0, None))
 MOST_REQUESTS = 5000
 
 
@@ -39,7 +39,7 @@ def computed(key: bytes) -> Call:
 SESSIONS: list[list[Call | bytes]] = [
     [Call(model.PUT, A, value=b"xy"), Call(model.GET, A)],
     [REGISTER, computed(B)],
-    [Call(model.GET, A), Call(model.PUT, B, value=b"z"), wire.COUNT, EACH, computed(A), Call(model.GET, A)],
+    [Call(model.GET, A), Call(model.PUT, B, value=b"z"), wire.COUNT, *WALKS, computed(A), Call(model.GET, A)],
     [Call(model.GET, A), Call(model.GET, B)],
 ]
 OPTIONS = ["--workers", "1", "--team", "2", "--sessions", str(len(SESSIONS))]
@@ -66,7 +66,7 @@ class Known:
             return b"\x81" + wire.number_field(0)
         if asked == wire.COUNT:
             return self.end()
-        if asked == EACH:
+        if asked in WALKS:
             return self.end() if self.has_program else UNKNOWN
         if asked.program is not None and not self.has_program:
             return UNKNOWN
