@@ -10,7 +10,7 @@ import wire
 
 GET, PUT, PUT_IF_ABSENT, REMOVE, REMOVE_IF, REPLACE, REPLACE_IF = range(0x10, 0x17)
 COMPUTE, COMPUTE_IF_ABSENT, COMPUTE_IF_PRESENT, MERGE = range(0x17, 0x1B)
-FOR_EACH, REPLACE_ALL = 0x21, 0x22
+SEARCH, FOR_EACH, REPLACE_ALL = range(0x20, 0x23)
 CALLS = range(GET, MERGE + 1)
 WORD = 1 << 64
 
@@ -102,7 +102,7 @@ NOTHING_AT_ALL, ADD, COMPARE_AND_SET, APPEND, TOUCH, LOOK = range(len(PROGRAMS))
 @dataclass(frozen=True)
 class Call:
     """A request on one key, by its tag: the value that it brings, the one that it expects, its program's place in PROGRAMS and that
-    one's argument. A ForEach or ReplaceAll is a request on each key."""
+    one's argument. A walk is a request on each key."""
     tag: int
     key: bytes
     value: Held = None
@@ -169,26 +169,26 @@ def computed(call: Call, old: Held) -> Step:
 
 
 def walked(call: Call, old: Held) -> Step:
-    """What a walk does to one key: its item of a ForEach, or nothing; a ReplaceAll tells nothing of the key."""
+    """What a walk does to one key: its item of a Search or ForEach, or nothing; a ReplaceAll tells nothing of the key."""
     program = PROGRAMS[call.program]
     if old is None or program.unfit(call.key, old, call.arg):
         return None, old
     new = program.function(call.key, old, call.arg)
-    if call.tag == FOR_EACH:
-        return new, old
-    return None, old if new is None else new
+    if call.tag == REPLACE_ALL:
+        return None, old if new is None else new
+    return new, old
 
 
 def step(call: Call, old: Held) -> Step:
     """The answer to a call where its key has this old value, and the value that it then has."""
-    if call.tag in (FOR_EACH, REPLACE_ALL):
+    if call.tag in (SEARCH, FOR_EACH, REPLACE_ALL):
         return walked(call, old)
     return stored(call, old) if call.program is None else computed(call, old)
 
 
 def changes_nothing(call: Call, answer: Held) -> bool:
     """Whether a call that has this answer leaves every value as it is."""
-    if call.tag in (GET, FOR_EACH) or answer == wire.NO:
+    if call.tag in (GET, SEARCH, FOR_EACH) or answer == wire.NO:
         return True
     if call.tag in (PUT_IF_ABSENT, REPLACE):
         return (answer == wire.NOTHING) == (call.tag == REPLACE)

@@ -26,7 +26,7 @@ PROGRAM = model.PROGRAMS[model.NOTHING_AT_ALL]
 NUMBERS = [0]
 A, B = b"a", b"b"
 REGISTER = wire.register(PROGRAM.sizes, PROGRAM.code)
-WALKS = (wire.for_each(0, None), wire.replace_all(0, None))
+WALKS = [wire.walk(tag, 0, None) for tag in (model.SEARCH, model.FOR_EACH, model.REPLACE_ALL)]
 MOST_REQUESTS = 5000
 
 

@@ -24,8 +24,8 @@ from linear import Event  # noqa: E402
 from sequential import Call, Held  # noqa: E402
 
 CLIENTS = 8
-# Of one hash are the second and third, and one is empty.
-KEYS = [b"", b"Aa", b"BB", b"c", b"key 4", b"\x00" * 16, b"\xff" * 63, b"\x80" * 64]
+# In their order; one is empty, and two are of one hash.
+KEYS = sorted([b"", b"Aa", b"BB", b"c", b"key 4", b"\x00" * 16, b"\xff" * 63, b"\x80" * 64])
 DEPTHS = (1, 1, 1, 2, 4, 16)
 ROUND = 2.0
 # One pipeline in so many is a walk, and a session has so many pipelines.
@@ -95,18 +95,19 @@ class Player:
             self.events.append(Event(begun, time.monotonic_ns(), call, answer))
 
     def walk(self) -> None:
-        """A ForEach that gives what each key has, or a ReplaceAll: an event of each key."""
-        looks = self.dice.randrange(2) == 0
-        body = (wire.for_each(self.numbers[model.LOOK], None) if looks
-                else wire.replace_all(self.numbers[model.ADD], model.spelled(1)))
+        """A walk: an event of each key of which it tells something."""
+        tag = self.dice.choice((model.FOR_EACH, model.SEARCH, model.REPLACE_ALL))
+        replaces = tag == model.REPLACE_ALL
+        program, arg = (model.ADD, model.spelled(1)) if replaces else (model.LOOK, None)
         begun = time.monotonic_ns()
-        answers = self.client.walk(body)
+        answers = self.client.walk(wire.walk(tag, self.numbers[program], arg))
         ended = time.monotonic_ns()
-        items = items_of(answers)
+        items = items_of(answers, replaces)
+        last = max(items) if tag == model.SEARCH and items else KEYS[-1]
         for key in KEYS:
-            call = (Call(model.FOR_EACH, key, program=model.LOOK) if looks
-                    else Call(model.REPLACE_ALL, key, program=model.ADD, arg=model.spelled(1)))
-            self.events.append(Event(begun, ended, call, items.pop(key, None)))
+            if key <= last:
+                call = Call(tag, key, program=program, arg=arg)
+                self.events.append(Event(begun, ended, call, items.pop(key, None)))
         if items:
             raise Wrong(f"a walk gives keys that nobody put: {items}")
 
@@ -138,16 +139,16 @@ def registered(client: wire.Client, program: model.Program) -> int:
     return int.from_bytes(answer[1:], "big")
 
 
-def items_of(answers: list[bytes]) -> dict[bytes, bytes]:
-    """The items of a walk, which must be in the order of keys, and as many as its End says."""
+def items_of(answers: list[bytes], replaces: bool) -> dict[bytes, bytes]:
+    """The items of a walk, which must be in the order of keys, and as many as its End says unless it replaces."""
     items = {}
     for body in answers[:-1]:
         length = 2 + body[1]
         items[body[2:length]] = body[length + 2:]
-    if answers[-1][0] != wire.END or list(items) != sorted(items):
+    scanned, given, unfit = (int.from_bytes(answers[-1][at:at + 8], "big") for at in (1, 9, 17))
+    is_whole = answers[-1][0] == wire.END and scanned <= len(KEYS) and given + unfit <= scanned
+    if not is_whole or list(items) != sorted(items) or (not replaces and given != len(items)):
         raise Wrong(f"a walk is answered {[body.hex() for body in answers]}")
-    if items and int.from_bytes(answers[-1][9:17], "big") != len(items):
-        raise Wrong(f"a walk of {len(items)} items ends with {answers[-1].hex()}")
     return items
 
 

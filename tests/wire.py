@@ -80,14 +80,10 @@ def merge(key: bytes, value: bytes, number: int) -> bytes:
     return b"\x1a" + key_field(key) + value_field(value) + number_field(number)
 
 
-def for_each(number: int, arg: bytes | None) -> bytes:
-    """The body of a ForEach that may use all threads."""
-    return b"\x21" + number_field(number) + arg_field(arg) + number_field(1)
-
-
-def replace_all(number: int, arg: bytes | None) -> bytes:
-    """The body of a ReplaceAll."""
-    return b"\x22" + number_field(number) + arg_field(arg)
+def walk(tag: int, number: int, arg: bytes | None) -> bytes:
+    """The body of a Search, ForEach or ReplaceAll, which may use all threads."""
+    threshold = number_field(1) if tag in (0x20, 0x21) else b""
+    return bytes([tag]) + number_field(number) + arg_field(arg) + threshold
 
 
 def value(data: bytes) -> bytes:
