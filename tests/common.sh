@@ -1,4 +1,5 @@
-# What commands.sh, frames.sh, process.sh and server.sh share, run at the top of the repository: the built program, a folder that goes at the end, runs and the count of cases.
+# What commands.sh, frames.sh, process.sh, server.sh and install.sh share, run at the top of the repository: the built program (bpfmap,
+# unless $program names another), a folder that goes at the end, runs and the count of cases.
 # shellcheck shell=bash
 program=${program:-crates/bpfmap/out/bpfmap}
 [ -x "$program" ] || { echo "$program is not built; run the gate first" >&2; exit 1; }

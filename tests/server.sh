@@ -1,7 +1,8 @@
 #!/usr/bin/env bash
 # Runs the built mapd as a process, with clients in Python that know docs/PROTOCOL.md alone (server.py): many at once, some that are
 # slow, cut or reset, and a server without memory or descriptors. Each time: what is answered, and how the server ends.
-# Behind the gate, which builds the program; by hand after `rt run` in crates/mapd.
+# Behind the gate, which builds the program; by hand after `rt run` in crates/mapd. MAPD names another program to try;
+# MAPD_IS_CHECKED says that it is built with checks, so that its memory can't be bounded.
 set -euo pipefail
 cd "$(dirname "$0")/.."
 program=${MAPD:-crates/mapd/out/mapd}
