@@ -16,7 +16,7 @@ trap '[ -z "$server" ] || kill -9 "$server" 2> /dev/null || true; rm -rf "${work
 start() {
     : > "$work/out"
     : > "$work/err"
-    (trap - INT; eval "${limits:-}"; exec "$program" --listen 127.0.0.1:0 "$@") < /dev/null > "$work/out" 2> "$work/err" &
+    (eval "${limits:-}"; exec env --default-signal=INT "$program" --listen 127.0.0.1:0 "$@") < /dev/null > "$work/out" 2> "$work/err" &
     server=$!
     for _ in $(seq 1000); do
         if [ -s "$work/out" ] || ! kill -0 "$server" 2> /dev/null; then break; fi
