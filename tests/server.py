@@ -150,7 +150,7 @@ def unread(address: str) -> None:
         most = 64 << 20
         sent = flood(deaf, request * 1000, most)
         same("sending came to a stop", sent < most, True)
-        for count in range(1, 1001):
+        for count in range(1, 301):
             same("a sum beside it", other.ask(wire.merge(b"sum", ONE, program)), number(count))
             same("a Get beside it", other.ask(wire.get(b"long")), wire.value(bytes(256)))
         whole = -(-sent // len(request))

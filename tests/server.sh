@@ -43,7 +43,10 @@ stop() {
 play() {
     local name=$1
     shift
-    timeout 60 python3 tests/server.py "$name" "$address" "$@" 2> "$work/said" || { got="none yet"; cat "$work/said"; return 1; }
+    timeout 60 python3 tests/server.py "$name" "$address" "$@" 2> "$work/said" && return
+    got="none yet"
+    echo "the part $name failed, or took longer than 60 seconds: $(cat "$work/said")"
+    return 1
 }
 
 # Whether the server ended with this status, this output and errors of this pattern behind the address.
