@@ -1,6 +1,7 @@
-# What commands.sh and process.sh share, run at the top of the repository: the built program, a folder that goes at the end, runs and the count of cases.
+# What commands.sh, frames.sh, process.sh, server.sh and install.sh share, run at the top of the repository: the built program (bpfmap,
+# unless $program names another), a folder that goes at the end, runs and the count of cases.
 # shellcheck shell=bash
-program=crates/bpfmap/out/bpfmap
+program=${program:-crates/bpfmap/out/bpfmap}
 [ -x "$program" ] || { echo "$program is not built; run the gate first" >&2; exit 1; }
 work=$(mktemp -d)
 trap 'rm -rf "$work"' EXIT

@@ -1,0 +1,274 @@
+#!/usr/bin/env python3
+"""The clients of tests/server.sh: python3 tests/server.py PART ADDRESS [HEX ...] plays one part against a server at the address, and
+fails where an answer is not the one that docs/PROTOCOL.md gives. A part is a function below that is named in PARTS."""
+from __future__ import annotations
+
+import contextlib
+import socket
+import sys
+import time
+from concurrent.futures import ThreadPoolExecutor
+from pathlib import Path
+
+sys.path.insert(0, str(Path(__file__).resolve().parent))
+sys.dont_write_bytecode = True
+import sequential as model  # noqa: E402
+import wire  # noqa: E402
+
+ADD = model.PROGRAMS[model.ADD]
+ONE = model.spelled(1)
+DEPTH = 64
+
+
+class Wrong(Exception):
+    """An answer that must not be."""
+
+
+def same(what: str, found: object, wanted: object) -> None:
+    """Fails where the two differ."""
+    if found != wanted:
+        raise Wrong(f"{what} is {found!r:.200}, not {wanted!r:.200}")
+
+
+def number(count: int) -> bytes:
+    """The answer that gives a number of 8 bytes."""
+    return wire.value(model.spelled(count))
+
+
+def register_add(client: wire.Client) -> int:
+    """The number of the program that adds."""
+    answer = client.ask(wire.register(ADD.sizes, ADD.code))
+    same("the answer to a Register", answer[0], 0x81)
+    return int.from_bytes(answer[1:], "big")
+
+
+def is_silent(client: wire.Client, seconds: float) -> bool:
+    """Whether nothing comes for so long."""
+    client.socket.settimeout(seconds)
+    try:
+        client.fill(1)
+        return False
+    except TimeoutError:
+        return True
+    finally:
+        client.socket.settimeout(wire.PATIENCE)
+
+
+def crowd(address: str) -> None:
+    """32 clients are served at once, each sees what all have put, and a further one waits until one of them ends."""
+    with contextlib.ExitStack() as stack:
+        clients = [stack.enter_context(wire.opened(address)) for _ in range(32)]
+        for name, client in enumerate(clients):
+            same("a Put", client.ask(wire.put(bytes([name]), model.spelled(name))), wire.NOTHING)
+        for client in clients:
+            client.send(*[wire.get(bytes([name])) for name in range(32)])
+        for client in clients:
+            same("what all have put", [client.answer() for _ in clients], [number(name) for name in range(32)])
+        late = stack.enter_context(wire.Client(address))
+        late.send(wire.HELLO, wire.get(bytes([31])))
+        same("a client beyond the workers is not answered", is_silent(late, 0.3), True)
+        clients[0].socket.close()
+        same("its Hello", late.answer(), wire.WELCOME)
+        same("its Get", late.answer(), number(31))
+
+
+def sessions(address: str) -> None:
+    """A hundred sessions one after the other: what one put the next one has, and the program of the first is known to all."""
+    with wire.opened(address) as client:
+        program = register_add(client)
+    for count in range(1, 100):
+        with wire.opened(address) as client:
+            same("a sum", client.ask(wire.merge(b"sum", ONE, program)), number(count))
+
+
+def pipeline(address: str, program: int, name: bytes) -> list[int]:
+    """Fifty pipelines of 64 sums, on a key of its own and on one that all clients have; what the latter gave."""
+    shared = []
+    with wire.opened(address) as client:
+        for before in range(0, 50 * DEPTH // 2, DEPTH // 2):
+            client.send(*[wire.merge(key, ONE, program) for _ in range(DEPTH // 2) for key in (name, b"all")])
+            answers = [client.answer() for _ in range(DEPTH)]
+            same("sums of its own", answers[::2], [number(before + count) for count in range(1, DEPTH // 2 + 1)])
+            shared += [model.word(answer[3:]) for answer in answers[1::2]]
+    return shared
+
+
+def pipelines(address: str) -> None:
+    """Four clients send deep pipelines; each sum on the key that they share is answered to one of them."""
+    with wire.opened(address) as client:
+        program = register_add(client)
+    with ThreadPoolExecutor(4) as pool:
+        shared = list(pool.map(lambda name: pipeline(address, program, name), (b"a", b"b", b"c", b"d")))
+    same("the sums of each client rise", [sums == sorted(sums) for sums in shared], [True] * 4)
+    same("all sums", sorted(sum(shared, [])), list(range(1, 4 * 50 * DEPTH // 2 + 1)))
+
+
+def reset(address: str) -> None:
+    """Connections are reset in the middle of a frame, before a Hello, and with answers that nobody read."""
+    client = wire.opened(address)
+    same("a Put", client.ask(wire.put(b"kept", b"1")), wire.NOTHING)
+    client.socket.sendall(wire.frame(wire.put(b"cut", b"2"))[:-1])
+    client.reset()
+    wire.Client(address).reset()
+    client = wire.opened(address)
+    same("a Put", client.ask(wire.put(b"long", bytes(256))), wire.NOTHING)
+    client.send(*[wire.get(b"long")] * 2000)
+    client.reset()
+    with wire.opened(address) as client:
+        same("what was answered", client.ask(wire.get(b"kept")), wire.value(b"1"))
+        same("what was answered", client.ask(wire.get(b"long")), wire.value(bytes(256)))
+        same("what was never whole", client.ask(wire.get(b"cut")), wire.NOTHING)
+
+
+def cut(address: str) -> None:
+    """A stream ends inside a frame: what was whole is answered, and then the stream ends."""
+    with wire.Client(address) as client:
+        sent = wire.frames([wire.HELLO, wire.put(b"whole", b"1"), wire.get(b"whole")])
+        answers = client.exchange(sent + wire.frame(wire.put(b"cut", b"2"))[:-1])
+        same("all answers", answers, wire.frames([wire.WELCOME, wire.NOTHING, wire.value(b"1")]))
+
+
+def flood(client: wire.Client, requests: bytes, most: int) -> int:
+    """Sends requests without reading until nothing is taken any more; how many bytes were sent."""
+    sent = 0
+    client.socket.settimeout(0.5)
+    with contextlib.suppress(TimeoutError):
+        while sent < most:
+            sent += client.socket.send(requests)
+    client.socket.settimeout(wire.PATIENCE)
+    return sent
+
+
+def unread(address: str) -> None:
+    """A client sends and does not read; another goes on meanwhile; then the first one reads, and has every answer."""
+    with wire.opened(address) as deaf, wire.opened(address) as other:
+        for buffer in (socket.SO_SNDBUF, socket.SO_RCVBUF):
+            deaf.socket.setsockopt(socket.SOL_SOCKET, buffer, 65536)
+        program = register_add(other)
+        same("a Put", deaf.ask(wire.put(b"long", bytes(256))), wire.NOTHING)
+        request = wire.frame(wire.get(b"long"))
+        most = 64 << 20
+        sent = flood(deaf, request * 1000, most)
+        same("sending came to a stop", sent < most, True)
+        for count in range(1, 301):
+            same("a sum beside it", other.ask(wire.merge(b"sum", ONE, program)), number(count))
+            same("a Get beside it", other.ask(wire.get(b"long")), wire.value(bytes(256)))
+        whole = -(-sent // len(request))
+        answers = deaf.exchange((request * whole)[sent:])
+        same("all answers", answers == wire.frame(wire.value(bytes(256))) * whole, True)
+
+
+def at_once(address: str, sent: str, wanted: str) -> None:
+    """The bytes, given in hex, are sent in one piece, and these are the answers."""
+    with wire.Client(address) as client:
+        same("all that is answered", client.exchange(bytes.fromhex(sent)).hex(), wanted)
+
+
+def byte_by_byte(address: str, sent: str, wanted: str) -> None:
+    """The same, sent one byte a write."""
+    with wire.Client(address) as client:
+        for byte in bytes.fromhex(sent):
+            client.socket.sendall(bytes([byte]))
+        same("all that is answered", client.rest().hex(), wanted)
+
+
+def fault(address: str) -> None:
+    """A frame is refused; the refusal is read although much is sent behind it, and the next session has what came before."""
+    with wire.opened(address) as client:
+        sent = wire.frames([wire.put(b"before", b"1"), b"\x7f", wire.put(b"behind", b"2")])
+        answers = client.exchange(sent + bytes(200_000))
+        same("the last answers", answers, wire.frames([wire.NOTHING, wire.refused(61)]))
+    with wire.opened(address) as client:
+        same("a Put before the fault", client.ask(wire.get(b"before")), wire.value(b"1"))
+        same("a Put behind the fault", client.ask(wire.get(b"behind")), wire.NOTHING)
+
+
+def served_at_once(address: str) -> wire.Client | None:
+    """A client whose session has begun; none where it is not answered soon, or its connection is ended."""
+    client = wire.Client(address)
+    client.socket.settimeout(0.3)
+    try:
+        client.hello()
+    except (TimeoutError, ConnectionError, wire.Ended):
+        client.socket.close()
+        return None
+    client.socket.settimeout(wire.PATIENCE)
+    return client
+
+
+def descriptors(address: str) -> None:
+    """More clients come than there are descriptors: those that are served go on, and whoever comes when they ended has what they put."""
+    tried = [served_at_once(address) for _ in range(20)]
+    clients = [client for client in tried if client is not None]
+    same("some are served, and some are not", 0 < len(clients) < len(tried), True)
+    for name, client in enumerate(clients):
+        same("a Put", client.ask(wire.put(bytes([name]), model.spelled(name))), wire.NOTHING)
+    for name, client in enumerate(clients):
+        same("a Get", client.ask(wire.get(bytes([name]))), number(name))
+        client.socket.close()
+    time.sleep(0.2)
+    with wire.opened(address) as client:
+        for name in range(len(clients)):
+            same("what was put", client.ask(wire.get(bytes([name]))), number(name))
+
+
+def fill(client: wire.Client, prefix: bytes) -> list[bytes]:
+    """Puts long values until a hundred were refused for want of memory; the keys of the others."""
+    kept: list[bytes] = []
+    refusals = 0
+    for count in range(0, 2_000_000, DEPTH):
+        names = [prefix + model.spelled(count + place) for place in range(DEPTH)]
+        client.send(*[wire.put(name, name * 16) for name in names])
+        for name in names:
+            answer = client.answer()
+            if answer == wire.refused(9):
+                refusals += 1
+            else:
+                same("a Put", answer, wire.NOTHING)
+                kept.append(name)
+        if refusals > 100:
+            return kept
+    raise Wrong("memory never ran out")
+
+
+def memory(address: str) -> None:
+    """Two clients put until memory is refused, a third one goes on beside them; all that was answered is found, in a new session."""
+    with wire.opened(address) as first, wire.opened(address) as second, wire.opened(address) as third:
+        same("a Put", third.ask(wire.put(b"sum", model.spelled(0))), wire.NOTHING)
+        program = register_add(third)
+        with ThreadPoolExecutor(2) as pool:
+            filled = [pool.submit(fill, client, prefix) for client, prefix in ((first, b"1"), (second, b"2"))]
+            count = 0
+            while not all(future.done() for future in filled):
+                count += 1
+                same("a sum beside them", third.ask(wire.merge(b"sum", ONE, program)), number(count))
+        names = filled[0].result() + filled[1].result()
+    with wire.opened(address) as client:
+        same("the sums", client.ask(wire.get(b"sum")), number(count))
+        for begun in range(0, len(names), DEPTH):
+            some = names[begun:begun + DEPTH]
+            client.send(*map(wire.get, some))
+            for name in some:
+                same("what was put", client.answer(), wire.value(name * 16))
+
+
+def idle(address: str) -> None:
+    """A session that says nothing for a while, and then is answered."""
+    with wire.Client(address) as client:
+        same("nothing comes of itself", is_silent(client, 0.3), True)
+        client.hello()
+
+
+PARTS = {part.__name__: part for part in (
+    crowd, sessions, pipelines, reset, cut, unread, at_once, byte_by_byte, fault, descriptors, memory, idle)}
+
+
+def main() -> None:
+    try:
+        PARTS[sys.argv[1]](*sys.argv[2:])
+    except (Wrong, wire.Ended, OSError) as wrong:
+        sys.exit(f"{sys.argv[1]}: {type(wrong).__name__}: {wrong}")
+
+
+if __name__ == "__main__":
+    main()
