@@ -385,6 +385,9 @@ class Maker:
         while prefix < self.sizes["result"] and stored >> prefix & 1:
             prefix += 1
         answer = self.rng.choice([-1, 0, prefix, self.rng.randint(0, prefix)])
+        if self.here is None:
+            # No path leads here, so any number may stand.
+            answer = self.number()
         self.put(Insn("mov", None, 64, 0, ("i", answer)))
         self.put(EXIT)
         self.here = None

@@ -3,3 +3,4 @@ pub mod ExampleLemmas
 pub mod PlainLemmas
 pub mod WaysLemmas
 pub mod MaskLemmas
+pub mod StackLemmas

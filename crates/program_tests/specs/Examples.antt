@@ -1,6 +1,7 @@
 -- The texts of small programs, and their sizes.
-use Rattle.std.specs.Prelude.{ℕ, List, [], ◌∷◌, ℤ, pos}
+use Rattle.std.specs.Prelude.{ℕ, List, [], ◌∷◌, ℤ, pos, neg_ℤ}
 use Rattle.bpf_model.specs.declared.input.Sizes.{Sizes}
+use Rattle.bpf_model.specs.declared.accesses.AccessSize.{AccessSize}
 use Rattle.bpf_model.specs.declared.accesses.AccessSize.TheVariants.{Byte, Word, DoubleWord}
 use Rattle.bpf_model.specs.declared.accesses.LoadKind.TheVariants.{Byte as LoadByte}
 use Rattle.bpf_model.specs.declared.conditions.JumpOp.TheVariants.{Eq}
@@ -27,3 +28,8 @@ two_ways_with count =
 abbrev pub masked_byte : List Insn
 masked_byte =
     Load LoadByte 9 1 (pos 0) ∷ Mov W64 5 (Register 2) ∷ Alu And W64 9 (Immediate (pos 7)) ∷ Alu Add W64 5 (Register 9) ∷ Load LoadByte 0 5 (pos 0) ∷ Store Byte 4 (Register 0) (pos 0) ∷ Mov W64 0 (Immediate (pos 1)) ∷ Exit ∷ []
+
+-- ja +2; mov64 r0, -2; exit; a store of 7 at r10-8, of this size; ldb r9, [r10-1]; mov64 r0, -1; exit
+abbrev pub read_back : AccessSize → List Insn
+read_back size =
+    Jump (pos 2) ∷ Mov W64 0 (Immediate (neg_ℤ (pos 2))) ∷ Exit ∷ Store size 10 (Immediate (pos 7)) (neg_ℤ (pos 8)) ∷ Load LoadByte 9 10 (neg_ℤ (pos 1)) ∷ Mov W64 0 (Immediate (neg_ℤ (pos 1))) ∷ Exit ∷ []

@@ -2,7 +2,8 @@
 //! small function.
 ghost use Rattle.std.specs.Prelude.{pos};
 ghost use Rattle.verifier.specs.Plain.{IsPlain};
-ghost use Rattle.program_tests.specs.Examples.{with_sizes, one_byte_at, two_ways_with, masked_byte};
+ghost use Rattle.bpf_model.specs.declared.accesses.AccessSize.TheVariants.{Byte, DoubleWord};
+ghost use Rattle.program_tests.specs.Examples.{with_sizes, one_byte_at, two_ways_with, masked_byte, read_back};
 
 /// A store behind the result's first byte leaves that byte unwritten, so an answer of one byte is not plain.
 #[tactic(auto, using(crate::proofs::ExampleLemmas::gap_is_not_plain))]
@@ -38,4 +39,17 @@ pub fn masked_byte_is_plain()
 #[tactic(auto, using(crate::proofs::MaskLemmas::mask_past_its_window_is_not_plain))]
 pub fn mask_past_its_window_is_not_plain()
     ensures { IsPlain masked_byte (with_sizes 1 7 0 1) → ⊥ }
+{}
+
+/// A byte of the stack is loaded behind the store of it and its neighbours. No path leads to the first exit, so its -2 does not
+/// matter.
+#[tactic(auto, using(crate::proofs::StackLemmas::stored_byte_is_plain))]
+pub fn stored_byte_is_plain()
+    ensures { IsPlain (read_back DoubleWord) (with_sizes 0 0 0 0) }
+{}
+
+/// Behind a store of the first byte alone the eighth is not there.
+#[tactic(auto, using(crate::proofs::StackLemmas::other_byte_is_not_plain))]
+pub fn other_byte_is_not_plain()
+    ensures { IsPlain (read_back Byte) (with_sizes 0 0 0 0) → ⊥ }
 {}
