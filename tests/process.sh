@@ -92,9 +92,32 @@ refuse_each_answer() {
     done
 }
 
+# A client that sends a request only once it has read the answer to the one before. Name, then frames and their answers.
+serve_in_turns() {
+    local name=$1 wanted given from to client
+    shift
+    coproc session { exec "$program" exec 2> "$work/err"; }
+    client=$session_PID
+    # A subshell does not have a coprocess's own descriptors, but it has copies of them.
+    exec {from}<&"${session[0]}" {to}>&"${session[1]}"
+    eval "exec ${session[0]}<&- ${session[1]}>&-"
+    while [ $# -gt 0 ]; do
+        frames "$1"
+        cat "$work/in" >&"$to"
+        wanted=${2// /}
+        given=$(timeout 20 head -c $((${#wanted} / 2)) <&"$from" | od -An -v -tx1 | tr -d ' \n')
+        judge "$name: the answer to $1 is there before more is sent" [ "$given" = "$wanted" ]
+        shift 2
+    done
+    exec {from}<&- {to}>&-
+    got=0
+    wait "$client" || got=$?
+    judge "$name: the end" [ "$got" = 0 ]
+}
+
 printf '%s' "$sum" > "$work/in"
 expect "an answer" 0 "bytes 03 00 00 00 00 00 00 00" "" run "${sizes[@]}" "${values[@]}"
-expect "a refused program" 1 "refused 43 at 0" "unit 0: ldd r0, \[r2+0\]: the access does not lie in the window" \
+expect "a refused program" 1 "refused 43 at 0" "unit 0: ldd r0, \[r2+0\]: the access does not lie in the window: offset 0 and 8 bytes, in a window of 0" \
     run --old 0 --arg 8 --result 8
 expect "a value that does not fit" 1 "unfit old" "" run "${sizes[@]}" --with-old 010000000000000000
 expect "a check" 0 "accepted" "" check "${sizes[@]}"
@@ -122,6 +145,9 @@ serve "a session" "$hello $put_and_get" 0 "$welcome 00000003 82ffff 00000005 820
 serve "a session with a program" "$hello $register $compute" 0 "$welcome 00000009 810000000000000000 00000003 82ffff" ""
 serve "a session that is refused" "$hello $hello" 1 "$welcome 00000006 854000000000" ""
 serve "a session that is cut" "$hello 00000003 10" 1 "$welcome" ""
+serve_in_turns "a client that waits" "$hello" "$welcome" "00000007 11016100027879" "00000003 82ffff" \
+    "00000003 100161" "00000005 8200027879" "$register" "00000009 810000000000000000" "$compute" "00000003 82ffff" \
+    "00000001 23" "00000019 87 000000000000000000000000000000000000000000000000"
 # The session that docs/PROTOCOL.md shows, and the answers that stand below it.
 shown=$(sed -n "/^printf '%s' '\$/,/^' | xxd/p" docs/PROTOCOL.md | grep -v xxd | tail -n +2 | tr -d '\n')
 told=$(sed -n '/^The responses are these bytes/,$p' docs/PROTOCOL.md | sed -n '/^0/s/   .*//p' | tr -d '\n')
@@ -162,6 +188,8 @@ if command -v gcc > /dev/null; then
     refuse_each "disasm" disasm
     refuse_each "check" check "${sizes[@]}"
     refuse_each "check of a program that is refused" check --old 0
+    refuse_each "an explanation" check --explain "${sizes[@]}"
+    refuse_each "an explanation of a program that is refused" check --explain --old 0
     printf '1506020000000000 b7000000ffffffff 9500000000000000 b700000000000000 9500000000000000' > "$work/in"
     refuse_each "check of a program with a jump" check "${sizes[@]}"
     printf '%s' "$sum" > "$work/in"

@@ -29,7 +29,6 @@ pub fn put_one(key: Key) -> Result<Call<'static>, TooLong> {
 }
 
 /// An empty map, and so many passes, which all serve it.
-#[tactic(auto, using(crate::proofs::PassLemmas::serve_all))]
 pub fn opened(alloc: Global, passes: u64) -> Result<(StripedMap, Vec<Pass>), OpenFault>
     ensures all { IfOk result (λ made. All (λ pass. pass.map ≡ made.0) made.1.items) }
 {

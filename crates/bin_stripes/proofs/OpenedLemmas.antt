@@ -1,6 +1,6 @@
 -- New passes: what each has, and how they are dealt.
-use Rattle.std.proofs.Common.{◌≡◌, ℕ, zero, suc, ◌+◌, false, ◌||◌, List, [], ◌∷◌, ◌++◌, map, replicate, refl, sym, ap, ◌∙◌, subst, arith, eq-eqb}
-use Rattle.std.proofs.lemmas.List.{length-replicate}
+use Rattle.std.proofs.Common.{◌≡◌, ℕ, zero, suc, ◌+◌, false, ◌||◌, All, List, [], ◌∷◌, ◌++◌, map, replicate, refl, sym, ap, ◌∙◌, subst, arith, eq-eqb}
+use Rattle.std.proofs.lemmas.List.{length-replicate, get_or-map, length-map}
 use Rattle.std.proofs.lemmas.List.Elements.{All-nil}
 use Rattle.atomic_table.specs.Seated.{TableId}
 use Rattle.stripe_rule.specs.declared.view.Part.{Part}
@@ -13,7 +13,7 @@ use Rattle.stripe_rule.proofs.OpenLemmas.{part_new}
 use Rattle.bin_stripes.specs.declared.ghost_action.GhostAction.{GhostAction}
 use Rattle.bin_stripes.specs.Histories.{empty, does, Sound}
 use Rattle.bin_stripes.specs.Passes.{IsPass, stripes_of, PassState}
-use Rattle.bin_stripes.specs.Opened.{pass_of}
+use Rattle.bin_stripes.specs.Opened.{IsOpened, pass_of}
 
 -- so many numbers from n on, and one more
 pub from_on-more : (n count : ℕ) → from_on n (suc count) ≡ from_on n count ++ (n + count) ∷ []
@@ -74,3 +74,9 @@ zeros_more n = let next : suc n ≡ n + 1 = omega arith in more n ∙ ap zeros n
     more : (n : ℕ) → zeros n ++ 0 ∷ [] ≡ zeros (suc n)
     more zero = refl
     more (suc n) = ap (λ (xs : List ℕ). 0 ∷ xs) (more n)
+
+-- each pass of a new map serves it
+pub serve_all : (stripes passes : ℕ) (id : TableId) (all : List PassState) → IsOpened stripes passes id all → All (λ pass. pass.map ≡ id) all
+serve_all stripes passes id all opened =
+    subst (λ (ps : List PassState). All (λ pass. pass.map ≡ id) ps) (sym opened.passes_are) (λ i d low.
+    ap (λ (p : PassState). p.map) (get_or-map (pass_of id passes) (from_on 0 passes) i 0 d (omega (arith, low, length-map (from_on 0 passes) (pass_of id passes)))))

@@ -23,7 +23,7 @@ use std::alloc::Global;
 pub const MAX_PASSES: u64 = 64;
 
 impl StripedMap {
-    /// An empty map of so many stripes, and so many passes of it. `BadStripes` where it may not have so many stripes, else
+    /// An empty map of so many stripes, and so many passes, which all serve it. `BadStripes` where it may not have so many stripes, else
     /// `BadPasses` where there are not from 1 to `MAX_PASSES`, else `NoMemory` where a request for memory was refused.
     pub fn open(
         alloc: Global,
@@ -33,6 +33,7 @@ impl StripedMap {
         ensures bad_stripes { IsErrOf result OpenFault.BadStripes ↔ (IsStripeCount stripes → ⊥) }
         ensures bad_passes { IsErrOf result OpenFault.BadPasses ↔ IsStripeCount stripes × (IsPassCount passes → ⊥) }
         ensures ok { IfOk result (λ opened. IsOpened stripes passes opened.0 opened.1.items) }
+        ensures serve { IfOk result (λ opened. All (λ pass. pass.map ≡ opened.0) opened.1.items) }
     {
         if !is_stripe_count(stripes) {
             return Err(OpenFault::BadStripes);
@@ -45,10 +46,12 @@ impl StripedMap {
 }
 
 // The map and its passes.
+#[tactic(auto, using(crate::proofs::OpenedLemmas::serve_all))]
 fn opened(alloc: Global, stripes: u64, passes: u64) -> Result<(StripedMap, Vec<Pass>), NoMemory>
     requires stripes { IsStripeCount stripes }
     requires passes { IsPassCount passes }
     ensures ok { IfOk result (λ opened. IsOpened stripes passes opened.0 opened.1.items) }
+    ensures serve { IfOk result (λ opened. All (λ pass. pass.map ≡ opened.0) opened.1.items) }
 {
     let (words, slots) = free_stripes::<StripeBins>(alloc, stripes)?;
     let shape = Shape { stripes, passes };

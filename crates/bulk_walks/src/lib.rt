@@ -21,3 +21,4 @@ pub use count::mapping_count;
 pub use replace::replace_all;
 pub use team::{EmptyTeam, Team};
 pub use walks::{for_each, search, walk};
+pub use workers::work;

@@ -1,11 +1,13 @@
 -- What the getters of clap's matches read, in the words of the command line.
 use Rattle.std.proofs.Common.{◌≡◌, ◌∙◌, ◌<◌, ◌⊎◌, subst, ℕ, List, [], ◌∷◌, Bool, true, false, Option, Some, None, Result, Ok, Err, refl, sym, ap, nat_lt, is_some, inl, inr, true≢false}
-use Rattle.std.specs.Prelude.{◌^◌, ◌&&◌, unwrap_or, option_map, option_and_then, find, cond, not}
+use Rattle.std.specs.Prelude.{◌^◌, ◌&&◌, ◌↔◌, IsTrue, nat_eq, codes, unwrap_or, option_map, option_and_then, find, cond, not}
 use Rattle.std.specs.Borrow.{Bor}
 use Rattle.std.specs.Char.{digit_value}
 use Rattle.std.specs.List.{AllByRecursion, list_all, list_any}
 use Rattle.std.specs.Str.Parse.{AllDigits, IsNumeral, ParsesUnsigned, digits_value, without_leading_plus}
+use Rattle.std.specs.Cmp.Lexicographic.{pointwise, bytes_decides}
 use Rattle.std.proofs.lemmas.Bool.{lt-ltb, ltb-true}
+use Rattle.std.proofs.lemmas.Option.{none-some, same_Some}
 use Rattle.clap.specs.Words.{App, HasKind, HasMatchesOf, Kinds, ReadsOne, Row, Shape, fault_of, is_simple, is_simple_and_free, subcommand_of, subcommand_rows_of}
 use Rattle.clap.specs.Facts.{explicit_source}
 use Rattle.clap.specs.Faults.{check_fault, defaults_fault, entered_fault, settle_fault, walk_fault}
@@ -17,7 +19,9 @@ use Rattle.clap.specs.Walk.{answers_to, finished, nothing_held, settled, walk, w
 use Rattle.clap.specs.declared.ArgMatches.{ArgMatches}
 use Rattle.clap.specs.declared.Error.{Error}
 use Rattle.clap.proofs.OnLiterals.{clap_on_literals}
-use Rattle.map_server.specs.CommandLine.{bpfmap, spelled_size, IsName, NamesOne}
+use Rattle.map_server.specs.declared.bpfmap.words.Command.{Command}
+use Rattle.map_server.specs.declared.bpfmap.words.Command.TheVariants.{Asm, Disasm, Check, Explain, Run}
+use Rattle.map_server.specs.CommandLine.{bpfmap, spelled_size, IsCheck, IsName, IsNamed, NamesOne}
 
 -- the text that is given, or else another
 pub text_or : (o : Option (Bor (List ℕ))) (other : Bor (List ℕ)) → (unwrap_or o other).now ≡ unwrap_or (option_map (λ text. text.now) o) other.now
@@ -26,11 +30,11 @@ text_or (Some text) other = refl
 
 -- ---- sizes
 
-both : (a b : Bool) → (a && b) ≡ true → (a ≡ true) × (b ≡ true)
+pub both : (a b : Bool) → (a && b) ≡ true → (a ≡ true) × (b ≡ true)
 both true b e = (refl, e)
 both false b e = absurd (true≢false (sym e))
 
-cases_is : (b : Bool) → (b ≡ true) ⊎ (b ≡ false)
+pub cases_is : (b : Bool) → (b ≡ true) ⊎ (b ≡ false)
 cases_is true = inl refl
 cases_is false = inr refl
 
@@ -38,12 +42,12 @@ are_digits : (ds : List ℕ) → AllDigits 10 ds → list_all (λ d. nat_lt (dig
 are_digits [] all = refl
 are_digits (d ∷ ds) all = rw (lt-ltb (digit_value d) 10 all.0) (are_digits ds all.1)
 
-digits_are : (ds : List ℕ) → list_all (λ d. nat_lt (digit_value d) 10) ds ≡ true → AllDigits 10 ds
+pub digits_are : (ds : List ℕ) → list_all (λ d. nat_lt (digit_value d) 10) ds ≡ true → AllDigits 10 ds
 digits_are [] e = tt
 digits_are (d ∷ ds) e = let parts = both _ _ e in (ltb-true _ _ parts.0, digits_are ds parts.1)
 
 -- the size in a text is what std reads of it
-size_in-parsed : (text : List ℕ) → IsNumeral 10 (without_leading_plus text) → digits_value 10 (without_leading_plus text) < 2 ^ 16
+pub size_in-parsed : (text : List ℕ) → IsNumeral 10 (without_leading_plus text) → digits_value 10 (without_leading_plus text) < 2 ^ 16
     → spelled_size text ≡ Some (digits_value 10 (without_leading_plus text))
 size_in-parsed text numeral small = rw (lt-ltb _ _ numeral.0, are_digits _ numeral.1, lt-ltb _ _ small) refl
 
@@ -59,17 +63,22 @@ size_in-unparsed text bad =
     ]
 
 module _ {E : Type 0} (gives : List ℕ → Result ℕ E → Type 0) (parses : (text : List ℕ) (r : Result ℕ E) → gives text r → ParsesUnsigned 16 10 text r) where
-  -- a getter that reads texts so answers the size
-  pub size_read : (o : Option (List ℕ)) (r : Option ℕ) (default : ℕ) → (o ≡ None → r ≡ None) → ((text : List ℕ) → o ≡ Some text → ReadsOne gives text r)
-      → unwrap_or r default ≡ unwrap_or (option_and_then spelled_size o) default
-  size_read None r default none value = ap (λ x. unwrap_or x default) (none refl)
-  size_read (Some text) r default none value = go r (value text refl)
+  -- a getter that reads texts so answers the number
+  pub number_read : (o : Option (List ℕ)) (r : Option ℕ) → (o ≡ None → r ≡ None) → ((text : List ℕ) → o ≡ Some text → ReadsOne gives text r)
+      → r ≡ option_and_then spelled_size o
+  number_read None r none value = none refl
+  number_read (Some text) r none value = go r (value text refl)
     where
-      go : (r : Option ℕ) → ReadsOne gives text r → unwrap_or r default ≡ unwrap_or (spelled_size text) default
+      go : (r : Option ℕ) → ReadsOne gives text r → r ≡ spelled_size text
       go (Some size) h =
           let ((numeral, small), is) = parses text (Ok size) h in
-          ap (λ x. unwrap_or x default) (sym (size_in-parsed text numeral small ∙ ap Some (sym is)))
-      go None (e, h) = ap (λ x. unwrap_or x default) (sym (size_in-unparsed text (parses text (Err e) h)))
+          sym (size_in-parsed text numeral small ∙ ap Some (sym is))
+      go None (e, h) = sym (size_in-unparsed text (parses text (Err e) h))
+
+  -- and the size, which has a default
+  pub size_read : (o : Option (List ℕ)) (r : Option ℕ) (default : ℕ) → (o ≡ None → r ≡ None) → ((text : List ℕ) → o ≡ Some text → ReadsOne gives text r)
+      → unwrap_or r default ≡ unwrap_or (option_and_then spelled_size o) default
+  size_read o r default none value = ap (λ x. unwrap_or x default) (number_read o r none value)
 
 -- ---- names
 
@@ -82,6 +91,22 @@ none_is_named (Some x) f e named = true≢false (sym e)
 pub name_is_one : {X : Type 0} (o : Option X) (f : X → List ℕ × List Row) (name : List ℕ) → Some name ≡ option_map (λ x. (f x).0) o → NamesOne (option_map f o) → IsName name
 name_is_one None f name e named = absurd named
 name_is_one (Some x) f name e named = subst IsName (ap (λ o. unwrap_or o name) (sym e)) named
+
+-- a text is given where it is the wanted one
+pub is_given_by : (text wanted : List ℕ) (o : Option (List ℕ)) (b : Bool) → Some text ≡ o → b ≡ pointwise nat_eq text wanted → IsTrue b ↔ (o ≡ Some wanted)
+is_given_by text wanted o b is e =
+    (λ t. sym is ∙ ap Some ((bytes_decides text wanted).0 (sym e ∙ t)), λ g. e ∙ (bytes_decides text wanted).1 (same_Some text wanted (is ∙ g)))
+
+pub is_not_given : (wanted : List ℕ) (o : Option (List ℕ)) → None ≡ o → IsTrue false ↔ (o ≡ Some wanted)
+is_not_given wanted o is = (λ t. absurd (true≢false (sym t)), λ g. absurd (none-some wanted (is ∙ g)))
+
+-- what `check` is asked is named so
+pub check_is_named : (found : Option (List ℕ × List Row)) (rows : List Row) (command : Command) → found ≡ Some (codes "check", rows) → IsCheck rows command → IsNamed found command
+check_is_named found rows Asm is asked = absurd asked
+check_is_named found rows Disasm is asked = absurd asked
+check_is_named found rows (Check sizes) is asked = (rows, is, asked)
+check_is_named found rows (Explain sizes) is asked = (rows, is, asked)
+check_is_named found rows (Run sizes texts) is asked = absurd asked
 
 -- ---- where clap finds no fault
 

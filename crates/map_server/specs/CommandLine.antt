@@ -6,9 +6,10 @@ use Rattle.clap.specs.Words.{App, Row, Rule, Shape, first_of, fault_of, new_rule
 use Rattle.clap.specs.Simple.{new_shape}
 use Rattle.clap.specs.ValueTests.{is_numeral}
 use Rattle.clap.specs.declared.builder.ValueParser.TheVariants.{Signed}
+use Rattle.clap.specs.declared.ArgAction.TheVariants.{SetTrue}
 use Rattle.map_server.specs.declared.bpfmap.words.RunTexts.{RunTexts}
 use Rattle.map_server.specs.declared.bpfmap.words.Command.{Command}
-use Rattle.map_server.specs.declared.bpfmap.words.Command.TheVariants.{Asm, Disasm, Check, Run}
+use Rattle.map_server.specs.declared.bpfmap.words.Command.TheVariants.{Asm, Disasm, Check, Explain, Run}
 use Rattle.map_server.specs.declared.bpfmap.words.Task.{Task}
 use Rattle.map_server.specs.declared.bpfmap.words.Task.TheVariants.{Report, Exec}
 
@@ -20,11 +21,18 @@ size_option name = record (new_rule name) { long = Some name; value_names = 1; p
 abbrev pub text_option : List ℕ → Rule
 text_option name = record (new_rule name) { long = Some name; value_names = 1 }
 
+-- an option without a value
+abbrev pub flag_option : List ℕ → Rule
+flag_option name = record (new_rule name) { long = Some name; action = Some SetTrue }
+
 abbrev pub size_options : List Rule
 size_options = size_option (codes "key") ∷ size_option (codes "old") ∷ size_option (codes "arg") ∷ size_option (codes "result") ∷ []
 
 abbrev pub text_options : List Rule
 text_options = text_option (codes "with-key") ∷ text_option (codes "with-old") ∷ text_option (codes "with-arg") ∷ []
+
+abbrev pub explain_options : List Rule
+explain_options = flag_option (codes "explain") ∷ []
 
 abbrev pub stripe_options : List Rule
 stripe_options = size_option (codes "stripes") ∷ []
@@ -42,7 +50,7 @@ bpfmap = record {
     arg_required_else_help = true;
     subcommand_required = true;
   };
-  subs = command_with (codes "asm") [] ∷ command_with (codes "disasm") [] ∷ command_with (codes "check") size_options
+  subs = command_with (codes "asm") [] ∷ command_with (codes "disasm") [] ∷ command_with (codes "check") (size_options ++ explain_options)
       ∷ command_with (codes "run") (size_options ++ text_options) ∷ command_with (codes "exec") stripe_options ∷ [];
 }
 
@@ -70,11 +78,24 @@ pub record GivesTexts (rows : List Row) (texts : RunTexts) : Type 0 where
   pub old : option_map (λ text. text.now) texts.old ≡ first_of (codes "with-old") rows
   pub arg : option_map (λ text. text.now) texts.arg ≡ first_of (codes "with-arg") rows
 
+-- an option without a value is given
+abbrev pub IsGiven : List Row → List ℕ → Type 0
+IsGiven rows name = first_of name rows ≡ Some (codes "true")
+
+-- what `check` is asked with these options
+abbrev pub IsCheck : List Row → Command → Type 0
+IsCheck rows Asm = ⊥
+IsCheck rows Disasm = ⊥
+IsCheck rows (Check sizes) = (IsGiven rows (codes "explain") → ⊥) × (sizes ≡ sizes_of rows)
+IsCheck rows (Explain sizes) = IsGiven rows (codes "explain") × (sizes ≡ sizes_of rows)
+IsCheck rows (Run sizes texts) = ⊥
+
 -- the command of this name, with these options
 abbrev pub IsNamed : Option (List ℕ × List Row) → Command → Type 0
 IsNamed found Asm = (rows : List Row) × (found ≡ Some (codes "asm", rows))
 IsNamed found Disasm = (rows : List Row) × (found ≡ Some (codes "disasm", rows))
-IsNamed found (Check sizes) = (rows : List Row) × (found ≡ Some (codes "check", rows)) × (sizes ≡ sizes_of rows)
+IsNamed found (Check sizes) = (rows : List Row) × (found ≡ Some (codes "check", rows)) × IsCheck rows (Check sizes)
+IsNamed found (Explain sizes) = (rows : List Row) × (found ≡ Some (codes "check", rows)) × IsCheck rows (Explain sizes)
 IsNamed found (Run sizes texts) = (rows : List Row) × (found ≡ Some (codes "run", rows)) × (sizes ≡ sizes_of rows) × GivesTexts rows texts
 
 -- the command reports on all of the input; or a session is asked for, over a table of so many stripes

@@ -1,5 +1,5 @@
 -- What is true where a command reports so: of the text on standard input, and of the words of the command line.
-use Rattle.std.specs.Prelude.{◌≡◌, ◌⊎◌, ◌<◌, ◌≤◌, ℕ, List, length, Option, Some, None, Err}
+use Rattle.std.specs.Prelude.{◌≡◌, ◌⊎◌, ◌<◌, ◌≤◌, ℕ, List, [], ◌++◌, length, Option, Some, None, Err}
 use Rattle.std.specs.Borrow.{Bor}
 use Rattle.std.specs.Str.{IsUtf8}
 use Rattle.bpf_model.specs.declared.input.Sizes.{Sizes}
@@ -20,12 +20,15 @@ use Rattle.sessions.specs.declared.admission.AdmissionFault.TheVariants.{Decode,
 use Rattle.map_server.specs.Hex.{SpellsBytes, IsFault}
 use Rattle.map_server.specs.declared.bpfmap.words.RunTexts.{RunTexts}
 use Rattle.map_server.specs.declared.bpfmap.words.Command.{Command}
-use Rattle.map_server.specs.declared.bpfmap.words.Command.TheVariants.{Asm, Disasm, Check, Run}
+use Rattle.map_server.specs.declared.bpfmap.words.Command.TheVariants.{Asm, Disasm, Check, Explain, Run}
 use Rattle.map_server.specs.declared.bpfmap.refusal.Refusal.{Refusal}
 use Rattle.map_server.specs.declared.bpfmap.refusal.Refusal.TheVariants.{TooLong, NoMemory, NotHex, Assemble, Program}
 use Rattle.map_server.specs.declared.bpfmap.report.Report.{Report}
-use Rattle.map_server.specs.declared.bpfmap.report.Report.TheVariants.{Text, Accepted, Answered, Unfit, Refused}
-use Rattle.map_server.specs.Reports.{unit_lines}
+use Rattle.map_server.specs.declared.bpfmap.report.Report.TheVariants.{Text, Accepted, Answered, Unfit, Refused, Explained}
+use Rattle.verifier.specs.declared.abstract_state.AbstractState.{AbstractState}
+use Rattle.verifier.specs.Walks.{KnowsRuns}
+use Rattle.map_server.specs.Explanations.{lines_below}
+use Rattle.map_server.specs.Reports.{unit_lines, report_text}
 
 -- hex text spells the bytes of this program
 pub record SpellsProgram (text : List ℕ) (program : List Insn) : Type 0 where
@@ -110,6 +113,7 @@ IsRunReport sizes texts text (Unfit part) =
     × ((input : Input) × SpellsInput texts input × (first_unfit input sizes ≡ Err part))
 IsRunReport sizes texts text (Refused refusal) =
     IsProgramRefused text sizes refusal ⊎ ((program : List Insn) × SpellsSafe text sizes program × IsInputRefused texts refusal)
+IsRunReport sizes texts text (Explained printed refusal) = ⊥
 
 abbrev pub IsCheckReport : Sizes → List ℕ → Report → Type 0
 IsCheckReport sizes text (Text printed) = ⊥
@@ -117,6 +121,38 @@ IsCheckReport sizes text Accepted = (program : List Insn) × SpellsSafe text siz
 IsCheckReport sizes text (Answered answer) = ⊥
 IsCheckReport sizes text (Unfit part) = ⊥
 IsCheckReport sizes text (Refused refusal) = IsProgramRefused text sizes refusal
+IsCheckReport sizes text (Explained printed refusal) = ⊥
+
+-- lines that tell of each instruction what is known where a run comes to it, as far as the walk of the verifier comes
+pub record ExplainsProgram (text : List ℕ) (sizes : Sizes) (lines : List ℕ) : Type 0 where
+  pub program : List Insn
+  pub spelled : SpellsProgram text program
+  pub states : List (Option AbstractState)
+  pub known : KnowsRuns program states sizes
+  pub told : lines ≡ lines_below program states sizes (length program)
+
+-- so where there are lines
+abbrev pub IsExplanation : List ℕ → Sizes → List ℕ → Type 0
+IsExplanation text sizes lines = (lines ≡ []) ⊎ ExplainsProgram text sizes lines
+
+-- the last line of an explanation
+abbrev pub verdict_line : Option Refusal → List ℕ
+verdict_line None = report_text Accepted
+verdict_line (Some refusal) = report_text (Refused refusal)
+
+-- the verdict stands behind such lines
+abbrev pub EndsExplanation : List ℕ → Sizes → List ℕ → List ℕ → Type 0
+EndsExplanation text sizes verdict printed = (lines : List ℕ) × IsExplanation text sizes lines × (printed ≡ lines ++ verdict)
+
+abbrev pub IsExplainReport : Sizes → List ℕ → Report → Type 0
+IsExplainReport sizes text (Text printed) =
+    (program : List Insn) × SpellsSafe text sizes program × EndsExplanation text sizes (verdict_line None) printed.items
+IsExplainReport sizes text Accepted = ⊥
+IsExplainReport sizes text (Answered answer) = ⊥
+IsExplainReport sizes text (Unfit part) = ⊥
+IsExplainReport sizes text (Refused refusal) = IsProgramRefused text sizes refusal
+IsExplainReport sizes text (Explained printed refusal) =
+    IsProgramRefused text sizes refusal × EndsExplanation text sizes (verdict_line (Some refusal)) printed.items
 
 -- why a text is no program's
 abbrev pub IsAsmRefused : List ℕ → Refusal → Type 0
@@ -135,6 +171,7 @@ IsAsmReport text Accepted = ⊥
 IsAsmReport text (Answered answer) = ⊥
 IsAsmReport text (Unfit part) = ⊥
 IsAsmReport text (Refused refusal) = IsAsmRefused text refusal
+IsAsmReport text (Explained printed refusal) = ⊥
 
 -- the text of the program that hex text spells is printed
 abbrev pub IsDisasmReport : List ℕ → Report → Type 0
@@ -143,16 +180,19 @@ IsDisasmReport text Accepted = ⊥
 IsDisasmReport text (Answered answer) = ⊥
 IsDisasmReport text (Unfit part) = ⊥
 IsDisasmReport text (Refused refusal) = IsBytesRefused text refusal
+IsDisasmReport text (Explained printed refusal) = ⊥
 
 -- the command reads a program's text, and this is no text
 abbrev pub IsUnreadable : Command → List ℕ → Type 0
 IsUnreadable Asm text = IsUtf8 text → ⊥
 IsUnreadable Disasm text = ⊥
 IsUnreadable (Check sizes) text = ⊥
+IsUnreadable (Explain sizes) text = ⊥
 IsUnreadable (Run sizes texts) text = ⊥
 
 abbrev pub IsReport : Command → List ℕ → Report → Type 0
 IsReport Asm text report = IsAsmReport text report
 IsReport Disasm text report = IsDisasmReport text report
 IsReport (Check sizes) text report = IsCheckReport sizes text report
+IsReport (Explain sizes) text report = IsExplainReport sizes text report
 IsReport (Run sizes texts) text report = IsRunReport sizes texts text report

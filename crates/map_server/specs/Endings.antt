@@ -10,7 +10,7 @@ use Rattle.map_server.specs.declared.bpfmap.refusal.Refusal.TheVariants.{NoMemor
 use Rattle.map_server.specs.declared.bpfmap.report.Report.{Report}
 use Rattle.map_server.specs.declared.bpfmap.report.Report.TheVariants as report
 use Rattle.map_server.specs.declared.bpfmap.ending.Ending.{Ending}
-use Rattle.map_server.specs.declared.bpfmap.ending.Ending.TheVariants.{Reported, Refused, NoMemory, BadStripes, Shown, Faulty, Unread, NotUtf8}
+use Rattle.map_server.specs.declared.bpfmap.ending.Ending.TheVariants.{Reported, Refused, Explained, NoMemory, BadStripes, Shown, Faulty, Unread, NotUtf8}
 use Rattle.map_server.specs.CommandLine.{Asks, bpfmap}
 use Rattle.map_server.specs.Commands.{IsReport, IsUnreadable}
 use Rattle.sessions.specs.Devices.{SourceState, SinkState, TakesBytes, TakesPart, TakesIfItCan}
@@ -30,26 +30,31 @@ FailsToRead command input input' =
     (input'.failures ≡ input.failures + 1)
     ⊎ (IfSome input.left (λ text. IsUnreadable command text) × (input'.failures ≡ input.failures))
 
--- this refusal of the text, with its meaning, for which memory may be refused
-abbrev pub IsRefusalOf : List ℕ → Refusal → Ending → Type 0
-IsRefusalOf text refusal (Reported report) = ⊥
-IsRefusalOf text refusal (Refused told meaning) = (told ≡ refusal) × IsMeaning text refusal (string_bytes meaning)
-IsRefusalOf text refusal NoMemory = Unit {0}
-IsRefusalOf text refusal BadStripes = ⊥
-IsRefusalOf text refusal (Shown shown) = ⊥
-IsRefusalOf text refusal (Faulty fault) = ⊥
-IsRefusalOf text refusal Unread = ⊥
-IsRefusalOf text refusal NotUtf8 = ⊥
+-- what a report on the text comes to; a refusal has its meaning, for which memory may be refused
+abbrev pub EndsReport : Command → List ℕ → Report → Ending → Type 0
+EndsReport command text result (Reported report) = (result ≡ report) × IsNoRefusal report
+EndsReport command text result (Refused refusal meaning) = (result ≡ report.Refused refusal) × IsMeaning command text refusal (string_bytes meaning)
+EndsReport command text result (Explained printed meaning) =
+    (refusal : Refusal) × (result ≡ report.Explained printed refusal) × IsMeaning command text refusal (string_bytes meaning)
+EndsReport command text result NoMemory = Unit {0}
+EndsReport command text result BadStripes = ⊥
+EndsReport command text result (Shown shown) = ⊥
+EndsReport command text result (Faulty fault) = ⊥
+EndsReport command text result Unread = ⊥
+EndsReport command text result NotUtf8 = ⊥
 
 -- the report is this refusal, and the line is its meaning
 abbrev pub ReportsRefusal : Command → SourceState → SourceState → Refusal → List ℕ → Type 0
 ReportsRefusal command input input' refusal line =
-    IsReported command input input' (report.Refused refusal) × IfSome input.left (λ text. IsMeaning text refusal line)
+    IsReported command input input' (report.Refused refusal) × IfSome input.left (λ text. IsMeaning command text refusal line)
 
 -- what the command comes to on this input; memory may be refused to the meaning of another refusal
 abbrev pub EndsCommand : Command → SourceState → SourceState → Ending → Type 0
 EndsCommand command input input' (Reported report) = IsReported command input input' report × IsNoRefusal report
 EndsCommand command input input' (Refused refusal meaning) = ReportsRefusal command input input' refusal (string_bytes meaning)
+EndsCommand command input input' (Explained printed meaning) =
+    (refusal : Refusal) × IsReported command input input' (report.Explained printed refusal)
+    × IfSome input.left (λ text. IsMeaning command text refusal (string_bytes meaning))
 EndsCommand command input input' NoMemory = IsReported command input input' (report.Refused OutOfMemory)
 EndsCommand command input input' BadStripes = ⊥
 EndsCommand command input input' (Shown text) = ⊥
@@ -65,6 +70,7 @@ IsHelpOrVersion kind = (kind ≡ DisplayHelp) ⊎ (kind ≡ DisplayVersion)
 abbrev pub EndsWords : List (List ℕ) → Ending → Type 0
 EndsWords words (Reported report) = ⊥
 EndsWords words (Refused refusal meaning) = ⊥
+EndsWords words (Explained printed meaning) = ⊥
 EndsWords words NoMemory = Unit {0}
 EndsWords words BadStripes = ⊥
 EndsWords words (Shown text) = (kind : ErrorKind) × IsAmong kind (fault_of bpfmap words) × IsHelpOrVersion kind × IsTold words text.items
@@ -107,6 +113,7 @@ Warns text status old new result = (result ≡ status) × (new.output ≡ old.ou
 abbrev pub TellsEnding : Ending → Outputs → Outputs → ℕ → Type 0
 TellsEnding (Reported report) old new result = Prints (report_text report) (status_of report) old new result
 TellsEnding (Refused refusal meaning) old new result = PrintsRefusal (report_text (report.Refused refusal)) (string_bytes meaning) old new result
+TellsEnding (Explained printed meaning) old new result = PrintsRefusal printed.items (string_bytes meaning) old new result
 TellsEnding NoMemory old new result = PrintsRefusal (report_text (report.Refused OutOfMemory)) (codes "no memory\n") old new result
 TellsEnding BadStripes old new result = PrintsRefusal (codes "refused 50 at 0\n") (codes "not a number of stripes\n") old new result
 TellsEnding (Shown text) old new result = Prints text.items 0 old new result

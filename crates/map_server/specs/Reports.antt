@@ -5,7 +5,7 @@ use Rattle.bpf_model.specs.declared.input.Answer.TheVariants.{Nothing, Bytes}
 use Rattle.bpf_model.specs.declared.input.InputPart.{InputPart}
 use Rattle.bpf_model.specs.declared.input.InputPart.TheVariants.{Key, Old, Arg}
 use Rattle.map_server.specs.declared.bpfmap.report.Report.{Report}
-use Rattle.map_server.specs.declared.bpfmap.report.Report.TheVariants.{Text, Accepted, Answered, Unfit, Refused}
+use Rattle.map_server.specs.declared.bpfmap.report.Report.TheVariants.{Text, Accepted, Answered, Unfit, Refused, Explained}
 use Rattle.map_server.specs.Refusals.{refusal_number, place_of}
 
 -- a digit of a byte, in lower case
@@ -40,6 +40,7 @@ IsLine Accepted = Unit {0}
 IsLine (Answered answer) = Unit {0}
 IsLine (Unfit part) = Unit {0}
 IsLine (Refused refusal) = Unit {0}
+IsLine (Explained text refusal) = ⊥
 
 abbrev pub IsNoRefusal : Report → Type 0
 IsNoRefusal (Text text) = Unit {0}
@@ -47,6 +48,7 @@ IsNoRefusal Accepted = Unit {0}
 IsNoRefusal (Answered answer) = Unit {0}
 IsNoRefusal (Unfit part) = Unit {0}
 IsNoRefusal (Refused refusal) = ⊥
+IsNoRefusal (Explained text refusal) = ⊥
 
 -- what is printed, each line with its newline
 abbrev pub report_text : Report → List ℕ
@@ -56,6 +58,7 @@ report_text (Answered Nothing) = codes "nothing\n"
 report_text (Answered (Bytes value)) = codes "bytes" ++ flat_map spaced value ++ codes "\n"
 report_text (Unfit part) = codes "unfit " ++ part_name part ++ codes "\n"
 report_text (Refused refusal) = codes "refused " ++ decimal (refusal_number refusal) ++ codes " at " ++ decimal (place_of refusal) ++ codes "\n"
+report_text (Explained text refusal) = text.items
 
 abbrev pub status_of : Report → ℕ
 status_of (Text text) = 0
@@ -63,3 +66,4 @@ status_of Accepted = 0
 status_of (Answered answer) = 0
 status_of (Unfit part) = 1
 status_of (Refused refusal) = 1
+status_of (Explained text refusal) = 1

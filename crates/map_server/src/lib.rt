@@ -7,10 +7,15 @@
 #![tactic(auto)]
 
 mod bpfmap;
+mod mapd;
 
 pub use bpfmap::{
     Command, Ending, HexFault, LINE_BYTES, Line, Refusal, Report, RunTexts, Task, bpfmap_on,
     hex_bytes, parse_words, report_of, tell_unread_words, unit_lines,
+};
+pub use crews::{Accept, Crew, serve, session};
+pub use mapd::{
+    MapdWords, Quotas, TcpAccept, TcpReader, TcpWriter, Telling, WordsFault, mapd_on, mapd_words,
 };
 pub use sessions::{
     AdmissionFault, Alone, Answer, Failed, ReadFault, Service, SessionEnd, Sink, Source,

@@ -37,7 +37,6 @@ fn dealt(map: &StripedMap, mut passes: Vec<Pass>) -> Option<(Pass, Team)>
 }
 
 // A map of so many stripes, a pass, and a team of so many more; none where memory was refused.
-#[tactic(auto, using(crate::proofs::PassLists::serve_all))]
 fn made(alloc: Global, stripes: u64, workers: u64) -> Option<(StripedMap, Pass, Team)>
     requires { workers ≤ 63 }
     ensures pass { IfSome result (λ r. r.1.map ≡ r.0) }

@@ -4,6 +4,10 @@
 #[cfg(test)]
 mod bpfmap;
 #[cfg(test)]
+mod crews;
+#[cfg(test)]
 mod frames;
+#[cfg(test)]
+mod mapd;
 #[cfg(test)]
 mod refusals;

@@ -1,19 +1,21 @@
 //! What comes of a command on a text: the steps from hex text to an answer.
-ghost use Rattle.std.specs.Prelude.{◌≡◌, IfOk, IfErr, OnErr};
+ghost use Rattle.std.specs.Prelude.{◌≡◌, IfOk, IfErr, OnErr, string_bytes};
 ghost use Rattle.bpf_model.specs.declared.limits.TheConstants.{KEY_BYTES};
-ghost use Rattle.map_server.specs.Commands.{SpellsProgram, SpellsSafe, SpellsKey, SpellsValue, SpellsInput, IsBytesRefused, IsProgramRefused, IsTextRefused, IsValueRefused, IsInputRefused, IsAsmReport, IsDisasmReport, IsCheckReport, IsRunReport, IsUnreadable, IsReport};
+ghost use Rattle.map_server.specs.Commands.{SpellsProgram, SpellsSafe, SpellsKey, SpellsValue, SpellsInput, IsBytesRefused, IsProgramRefused, IsTextRefused, IsValueRefused, IsInputRefused, IsAsmReport, IsDisasmReport, IsCheckReport, IsExplanation, EndsExplanation, IsExplainReport, IsRunReport, verdict_line, IsUnreadable, IsReport};
 
+use crate::bpfmap::explanation::explanation;
 use crate::bpfmap::hex::hex_bytes;
 use crate::bpfmap::refusal::Refusal;
-use crate::bpfmap::report::{Report, unit_lines};
+use crate::bpfmap::report::{Line, Report, unit_lines};
 use crate::bpfmap::words::{Command, RunTexts};
 use bpf_assembler::{assemble, disassemble};
 use bpf_decode::{decode, encode};
 use bpf_machine::run;
-use bpf_model::{Input, Key, Program, Sizes, Value, fits};
+use bpf_model::{Input, Key, NoMemory, Program, Sizes, Value, fits};
+use flow_shape::shape;
 use sessions::{Failed, admit};
 use std::alloc::Global;
-use verifier::Verified;
+use verifier::{Verified, known_states};
 
 /// The program that hex text spells.
 pub(crate) fn program_of(alloc: Global, text: &[u8]) -> Result<Program, Refusal>
@@ -106,6 +108,66 @@ fn check_report(alloc: Global, text: &[u8], sizes: Sizes) -> Report
     }
 }
 
+/// What the verifier knows at each instruction of the program that hex text spells, a line each; nothing where no program
+/// is spelled, or it is refused before the verifier comes to its instructions.
+fn explained(alloc: Global, text: &[u8], sizes: Sizes) -> Result<String, NoMemory>
+    ensures { IfOk result (λ lines. IsExplanation text.now sizes (string_bytes lines)) }
+{
+    let program = match program_of(alloc, text) {
+        Ok(program) => program,
+        Err(Refusal::NoMemory) => return Err(NoMemory),
+        Err(_) => return Ok(String::new(alloc)),
+    };
+    let Ok(shaped) = shape(program) else {
+        return Ok(String::new(alloc));
+    };
+    if !sizes.are_within_limits() {
+        return Ok(String::new(alloc));
+    }
+    let states = known_states(alloc, &shaped, sizes)?;
+    let lines = explanation(alloc, shaped.program().instructions(), &states, sizes)?;
+    Ok(lines)
+}
+
+fn verdict_line(refusal: Option<Refusal>) -> Line
+    ensures { result.items ≡ verdict_line refusal }
+{
+    match refusal {
+        Some(refusal) => Report::Refused(refusal).line(),
+        None => Report::Accepted.line(),
+    }
+}
+
+fn with_verdict(
+    alloc: Global,
+    text: &[u8],
+    sizes: Sizes,
+    refusal: Option<Refusal>,
+) -> Result<Vec<u8>, NoMemory>
+    ensures { IfOk result (λ printed.
+        EndsExplanation text.now sizes (verdict_line refusal) printed.items) }
+{
+    let mut printed = explained(alloc, text, sizes)?.into_bytes();
+    printed.extend_from_slice(verdict_line(refusal).as_slice())?;
+    Ok(printed)
+}
+
+/// What comes of `check` is the last line, behind those of an explanation.
+fn explain_report(alloc: Global, text: &[u8], sizes: Sizes) -> Report
+    ensures { IsExplainReport sizes text.now result }
+{
+    match verified(alloc, text, sizes) {
+        Ok(_) => match with_verdict(alloc, text, sizes, None) {
+            Ok(printed) => Report::Text(printed),
+            Err(NoMemory) => Report::Refused(Refusal::NoMemory),
+        },
+        Err(refusal) => match with_verdict(alloc, text, sizes, Some(refusal)) {
+            Ok(printed) => Report::Explained(printed, refusal),
+            Err(NoMemory) => Report::Refused(Refusal::NoMemory),
+        },
+    }
+}
+
 fn run_report(alloc: Global, text: &[u8], sizes: Sizes, texts: &RunTexts<'_>) -> Report
     ensures { IsRunReport sizes texts.now text.now result }
 {
@@ -128,6 +190,7 @@ pub fn report_of(alloc: Global, command: &Command<'_>, text: &[u8]) -> Result<Re
         },
         Command::Disasm => Ok(disasm_once(alloc, text).unwrap_or_else(Report::Refused)),
         Command::Check(sizes) => Ok(check_report(alloc, text, *sizes)),
+        Command::Explain(sizes) => Ok(explain_report(alloc, text, *sizes)),
         Command::Run(sizes, texts) => Ok(run_report(alloc, text, *sizes, texts)),
     }
 }

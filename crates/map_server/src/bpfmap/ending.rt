@@ -14,6 +14,8 @@ pub enum Ending {
     Reported(Report),
     /// A refusal: status 1, with its line on standard output, and the line of its meaning on standard error.
     Refused(Refusal, String),
+    /// A refusal with the text that goes to standard output, of which its line is the last; and its meaning.
+    Explained(Vec<u8>, String),
     /// A request for memory was refused, which is told in the same way.
     NoMemory,
     /// A table may not have so many stripes: number 50, told in the same way.
@@ -28,7 +30,8 @@ pub enum Ending {
     NotUtf8,
 }
 
-const REFUSED: u8 = 1;
+/// The status of a refusal.
+pub(crate) const REFUSED: u8 = 1;
 
 const FAULT_OF_WORDS: u8 = 2;
 
@@ -52,7 +55,12 @@ fn print<W: Sink, E: Sink>(text: &[u8], status: u8, writer: &mut W, errors: &mut
 }
 
 /// Prints a refusal's line, writes its meaning to standard error, and answers the status, or that of a failed write.
-fn refuse<W: Sink, E: Sink>(line: &[u8], meaning: &[u8], writer: &mut W, errors: &mut E) -> u8
+pub(crate) fn refuse<W: Sink, E: Sink>(
+    line: &[u8],
+    meaning: &[u8],
+    writer: &mut W,
+    errors: &mut E,
+) -> u8
     requires writes { CanWrite (W.state writer.old) }
     requires warns { CanWrite (E.state errors.old) }
     ensures { PrintsRefusal line.now meaning.now (outputs (W.state writer.old) (E.state errors.old))
@@ -84,6 +92,7 @@ impl Ending {
     {
         match self {
             Ending::Reported(Report::Text(text)) => print(text, 0, writer, errors),
+            Ending::Reported(Report::Explained(text, _)) => print(text, REFUSED, writer, errors),
             Ending::Reported(report) => {
                 print(report.line().as_slice(), report.status(), writer, errors)
             }
@@ -91,6 +100,7 @@ impl Ending {
                 let line = Report::Refused(*refusal).line();
                 refuse(line.as_slice(), meaning.as_bytes(), writer, errors)
             }
+            Ending::Explained(text, meaning) => refuse(text, meaning.as_bytes(), writer, errors),
             Ending::NoMemory => {
                 let line = Report::Refused(Refusal::NoMemory).line();
                 refuse(line.as_slice(), b"no memory\n", writer, errors)

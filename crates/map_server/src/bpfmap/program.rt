@@ -5,7 +5,7 @@ ghost use Rattle.std.specs.declared.io.ErrorKind.TheVariants.{OutOfMemory};
 ghost use Rattle.clap.specs.Walk.{texts};
 ghost use Rattle.clap.specs.Words.{fault_of, HasKind};
 ghost use Rattle.map_server.specs.CommandLine.{bpfmap};
-ghost use Rattle.map_server.specs.Endings.{outputs, IsRefusalOf, EndsCommand, EndsWords, TellsEnding};
+ghost use Rattle.map_server.specs.Endings.{outputs, EndsReport, EndsCommand, EndsWords, TellsEnding};
 ghost use Rattle.map_server.specs.Executions.{RunsBpfmap};
 ghost use Rattle.map_server.specs.Shown.{IsTold};
 ghost use Rattle.sessions.specs.Devices.{CanRead, CanWrite};
@@ -14,7 +14,6 @@ use crate::bpfmap::commands::report_of;
 use crate::bpfmap::ending::Ending;
 use crate::bpfmap::exec::exec;
 use crate::bpfmap::meaning::meaning_of;
-use crate::bpfmap::refusal::Refusal;
 use crate::bpfmap::report::Report;
 use crate::bpfmap::shown::told;
 use crate::bpfmap::words::{Command, Task, parse_words};
@@ -25,13 +24,21 @@ use std::alloc::Global;
 use std::io;
 use std::sync::Wait;
 
-/// A refusal of this text, with its meaning. Where there is no memory for that, memory is what is refused.
-fn ending_of_refusal(alloc: Global, text: &[u8], refusal: Refusal) -> Ending
-    ensures { IsRefusalOf text.now refusal result }
+/// What a report on this text comes to: a refusal has its meaning. Where there is no memory for that, memory is what is
+/// refused.
+fn ending_of_report(alloc: Global, command: &Command<'_>, text: &[u8], report: Report) -> Ending
+    ensures { EndsReport command.now text.now report result }
 {
-    match meaning_of(alloc, text, refusal) {
-        Ok(meaning) => Ending::Refused(refusal, meaning),
-        Err(NoMemory) => Ending::NoMemory,
+    match report {
+        Report::Refused(refusal) => match meaning_of(alloc, command, text, refusal) {
+            Ok(meaning) => Ending::Refused(refusal, meaning),
+            Err(NoMemory) => Ending::NoMemory,
+        },
+        Report::Explained(printed, refusal) => match meaning_of(alloc, command, text, refusal) {
+            Ok(meaning) => Ending::Explained(printed, meaning),
+            Err(NoMemory) => Ending::NoMemory,
+        },
+        report => Ending::Reported(report),
     }
 }
 
@@ -42,8 +49,7 @@ fn ending_of_command<R: Source>(alloc: Global, command: &Command<'_>, reader: &m
 {
     match read_all(alloc, reader) {
         Ok(text) => match report_of(alloc, command, &text) {
-            Ok(Report::Refused(refusal)) => ending_of_refusal(alloc, &text, refusal),
-            Ok(report) => Ending::Reported(report),
+            Ok(report) => ending_of_report(alloc, command, &text, report),
             Err(Failed) => Ending::Unread,
         },
         Err(ReadFault::NoMemory) => Ending::NoMemory,
@@ -52,7 +58,11 @@ fn ending_of_command<R: Source>(alloc: Global, command: &Command<'_>, reader: &m
 }
 
 /// Clap's text for an error, with the words shown that it echoes.
-fn told_error(alloc: Global, error: &clap::Error, words: &[&str]) -> Result<Vec<u8>, NoMemory>
+pub(crate) fn told_error(
+    alloc: Global,
+    error: &clap::Error,
+    words: &[&str],
+) -> Result<Vec<u8>, NoMemory>
     ensures { IfOk result (λ shown. IsTold (texts words.now) shown.items) }
 {
     let text = error.to_string(alloc)?;

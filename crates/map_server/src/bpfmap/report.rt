@@ -25,6 +25,8 @@ pub enum Report {
     Unfit(InputPart),
     /// There is no answer.
     Refused(Refusal),
+    /// There is none, and this is printed: what the verifier knows, and the refusal's line.
+    Explained(Vec<u8>, Refusal),
 }
 
 /// The most bytes of a line: `bytes`, a blank and two digits for each byte of a value, and a newline.
@@ -35,7 +37,7 @@ pub type Line = ArrayVec<u8, LINE_BYTES>;
 
 static DIGITS: [u8; 16] = *b"0123456789abcdef";
 
-fn append(line: &mut Line, text: &[u8])
+pub(crate) fn append(line: &mut Line, text: &[u8])
     requires { array_vec_len line.old + length text.now ≤ LINE_BYTES }
     ensures items { line.new.items ≡ line.old.items ++ text.now }
     ensures len { array_vec_len line.new ≡ array_vec_len line.old + length text.now }
@@ -103,7 +105,7 @@ fn refused_line(refusal: &Refusal) -> Line
     line
 }
 
-fn text_line(text: &[u8]) -> Line
+pub(crate) fn text_line(text: &[u8]) -> Line
     requires { length text.now ≤ LINE_BYTES }
     ensures { result.items ≡ text.now }
 {
@@ -119,17 +121,17 @@ impl Report {
     {
         match self {
             Report::Text(_) | Report::Accepted | Report::Answered(_) => 0,
-            Report::Unfit(_) | Report::Refused(_) => 1,
+            Report::Unfit(_) | Report::Refused(_) | Report::Explained(..) => 1,
         }
     }
 
-    /// The line that is printed for all but a text, with its newline. Takes no memory.
+    /// The line that is printed where no text is, with its newline. Takes no memory.
     pub fn line(&self) -> Line
         requires { IsLine self.now }
         ensures { result.items ≡ report_text self.now }
     {
         match self {
-            Report::Text(_) => unreachable!(),
+            Report::Text(_) | Report::Explained(..) => unreachable!(),
             Report::Accepted => text_line(b"accepted\n"),
             Report::Answered(Answer::Nothing) => text_line(b"nothing\n"),
             Report::Answered(Answer::Bytes(value)) => bytes_line(value.as_slice()),

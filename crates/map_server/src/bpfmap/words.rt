@@ -1,12 +1,13 @@
 //! The command line of `bpfmap`: clap reads the words.
-ghost use Rattle.std.specs.Prelude.{◌≡◌, false, IfOk, codes};
+ghost use Rattle.std.specs.Prelude.{◌≡◌, ◌↔◌, false, IfOk, IsTrue, codes};
 ghost use Rattle.clap.specs.Words.{app_of, fault_of, found_of, new_app, rows_of, rule_of, subcommand_rows_of, FailsBy};
 ghost use Rattle.clap.specs.Walk.{texts};
 ghost use Rattle.clap.specs.declared.builder.Command.TheViews.{out-Command as fields_of};
-ghost use Rattle.map_server.specs.CommandLine.{size_option, text_option, size_options, text_options, stripe_options, bpfmap, given_size, sizes_of, with_options, GivesTexts, NamesOne, IsAsked, Asks};
+ghost use Rattle.map_server.specs.Meanings.{sizes_asked};
+ghost use Rattle.map_server.specs.CommandLine.{size_option, text_option, flag_option, size_options, text_options, explain_options, stripe_options, bpfmap, given_size, sizes_of, with_options, GivesTexts, IsGiven, IsCheck, NamesOne, IsAsked, Asks};
 
 use bpf_model::Sizes;
-use clap::{Arg, ArgMatches, value_parser};
+use clap::{Arg, ArgAction, ArgMatches, value_parser};
 use std::alloc::{AllocError, Global};
 
 /// What `bpfmap` is asked to do.
@@ -27,8 +28,24 @@ pub enum Command<'a> {
     Disasm,
     /// Verify the program with these sizes.
     Check(Sizes),
+    /// Verify it, and print what the verifier knows at each instruction.
+    Explain(Sizes),
     /// Verify the program with these sizes, and run it once.
     Run(Sizes, RunTexts<'a>),
+}
+
+impl Command<'_> {
+    /// The sizes with which it verifies, where it does.
+    pub(crate) fn sizes(&self) -> Option<Sizes>
+        ensures { result ≡ sizes_asked self.now }
+    {
+        match self {
+            Command::Asm | Command::Disasm => None,
+            Command::Check(sizes) | Command::Explain(sizes) | Command::Run(sizes, _) => Some(
+                *sizes,
+            ),
+        }
+    }
 }
 
 /// The hex texts that a program is run on. A missing option is an absent value, an empty text an empty one.
@@ -46,7 +63,7 @@ const VALUE_DEFAULT: u16 = 256;
 const STRIPES_DEFAULT: u16 = 16;
 
 /// An option that takes a number from 0 to 65,535 of what is named.
-fn size_option<'a>(alloc: Global, name: &'a str, unit: &'a str, help: &'a str) -> Arg<'a>
+pub(crate) fn size_option<'a>(alloc: Global, name: &'a str, unit: &'a str, help: &'a str) -> Arg<'a>
     ensures rule { rule_of result ≡ size_option name.entry.now }
     ensures local { result.global ≡ false }
 {
@@ -124,9 +141,20 @@ fn plain_command<'a>(alloc: Global, name: &'a str, about: &'a str) -> clap::Comm
     clap::Command::new(alloc, name).about(about)
 }
 
+/// An option without a value.
+fn flag_option<'a>(alloc: Global, name: &'a str, help: &'a str) -> Arg<'a>
+    ensures rule { rule_of result ≡ flag_option name.entry.now }
+    ensures local { result.global ≡ false }
+{
+    Arg::new(alloc, name)
+        .long(name)
+        .help(help)
+        .action(ArgAction::SetTrue)
+}
+
 fn check_command<'a>(alloc: Global) -> Result<clap::Command<'a>, AllocError>
     ensures app { IfOk result (λ c. app_of c
-        ≡ with_options (new_app (codes "check")) size_options) }
+        ≡ with_options (with_options (new_app (codes "check")) size_options) explain_options) }
     ensures local { IfOk result (λ c. (fields_of c).has_globals ≡ false) }
 {
     let check = plain_command(
@@ -134,7 +162,11 @@ fn check_command<'a>(alloc: Global) -> Result<clap::Command<'a>, AllocError>
         "check",
         "Verifies the program that standard input spells in hex",
     );
-    with_size_options(check, alloc)
+    with_size_options(check, alloc)?.arg(flag_option(
+        alloc,
+        "explain",
+        "Prints what the verifier knows at each instruction",
+    ))
 }
 
 fn run_command<'a>(alloc: Global) -> Result<clap::Command<'a>, AllocError>
@@ -194,7 +226,7 @@ fn bpfmap_command<'a>(alloc: Global) -> Result<clap::Command<'a>, AllocError>
         .subcommand(exec_command(alloc)?)
 }
 
-fn size_of(matches: &ArgMatches<'_>, name: &str, default: u16) -> u16
+pub(crate) fn size_of(matches: &ArgMatches<'_>, name: &str, default: u16) -> u16
     ensures { result ≡ given_size (rows_of (found_of matches.now)) name.now default }
 {
     matches.get_one(name).unwrap_or(default)
@@ -208,6 +240,28 @@ fn sizes_of(matches: &ArgMatches<'_>) -> Sizes
         old: size_of(matches, "old", VALUE_DEFAULT),
         arg: size_of(matches, "arg", VALUE_DEFAULT),
         result: size_of(matches, "result", VALUE_DEFAULT),
+    }
+}
+
+/// Whether the option without a value is given.
+fn is_given(matches: &ArgMatches<'_>, name: &str) -> bool
+    ensures { IsTrue result ↔ IsGiven (rows_of (found_of matches.now)) name.now }
+{
+    match matches.get_str(name) {
+        Some(text) => text == "true",
+        None => false,
+    }
+}
+
+/// What `check` is asked to do.
+fn check_of<'a>(matches: &ArgMatches<'a>) -> Command<'a>
+    ensures { IsCheck (rows_of (found_of matches.now)) result }
+{
+    let sizes = sizes_of(matches);
+    if is_given(matches, "explain") {
+        Command::Explain(sizes)
+    } else {
+        Command::Check(sizes)
     }
 }
 
@@ -231,7 +285,7 @@ fn task_of<'a>(matches: &ArgMatches<'a>) -> Task<'a>
     match name {
         "asm" => Task::Report(Command::Asm),
         "disasm" => Task::Report(Command::Disasm),
-        "check" => Task::Report(Command::Check(sizes_of(options))),
+        "check" => Task::Report(check_of(options)),
         "run" => Task::Report(Command::Run(sizes_of(options), texts_of(options))),
         "exec" => Task::Exec(size_of(options, "stripes", STRIPES_DEFAULT)),
         _ => unreachable!(),

@@ -1,0 +1,105 @@
+-- The numbers that a crew's passes carry stay as they are.
+use Rattle.std.proofs.Common.{◌≡◌, ◌⊎◌, ℕ, zero, suc, ◌<◌, List, [], ◌∷◌, length, slice_index_or, inl, inr, refl, sym, ap, subst, ◌∙◌, arith}
+use Rattle.stripe_rule.specs.declared.view.View.{View}
+use Rattle.atomic_methods.specs.Invocations.{Invocation}
+use Rattle.atomic_methods.specs.declared.reply.Reply.{Reply}
+use Rattle.bin_stripes.specs.Invoked.{Calls, RefusesCall}
+use Rattle.bin_stripes.specs.declared.ghost_action.GhostAction.{GhostAction}
+use Rattle.bin_stripes.specs.Passes.{PassState}
+use Rattle.bulk_walks.specs.Walks.{AllWalked, Events}
+use Rattle.client_protocol.specs.declared.request.Request.{Request}
+use Rattle.client_protocol.specs.declared.response.Response.{Response}
+use Rattle.client_protocol.specs.declared.response.Response.TheVariants as tell
+use Rattle.sessions.specs.Asking.{Asked, asked, greeting, registration, call, walk, replacement, count, unknown, response_to, AnswersOnce}
+use Rattle.sessions.specs.declared.session.SessionEnd.{SessionEnd}
+use Rattle.sessions.specs.Sessions.{Ended}
+use Rattle.crews.specs.Crews.{team_numbers}
+use Rattle.crews.specs.Stations.{Station}
+use Rattle.crews.specs.Steps.{Told, Pairwise, HearsEach, TeamWalks, Meets, Serves}
+use Rattle.crews.proofs.ChainLemmas.{session_leads}
+
+no_numbers : List ℕ
+no_numbers = []
+
+pub record SameNumbers (old new : Station) : Type 0 where
+  pub map : new.pass.map ≡ old.pass.map
+  pub pass : new.pass.view.numbers ≡ old.pass.view.numbers
+  pub team : team_numbers new.team ≡ team_numbers old.team
+
+stays : (s : Station) → SameNumbers s s
+stays s = record { map = refl; pass = refl; team = refl }
+
+goes_on : (a b c : Station) → SameNumbers a b → SameNumbers b c → SameNumbers a c
+goes_on a b c one more = record { map = more.map ∙ one.map; pass = more.pass ∙ one.pass; team = more.team ∙ one.team }
+
+told_numbers : (from : PassState) (olds news : List PassState) → Pairwise (Told from) olds news → team_numbers news ≡ team_numbers olds
+told_numbers from [] [] told = refl
+told_numbers from [] (new ∷ news) told = absurd told
+told_numbers from (old ∷ olds) [] told = absurd told
+told_numbers from (old ∷ olds) (new ∷ news) (one, more) =
+    let first = one.hears.numbers in
+    let rest = told_numbers from olds news more in
+    cc
+
+heard_numbers : (old : PassState) (passes : List PassState) (new : PassState) → HearsEach old passes new → new.view.numbers ≡ old.view.numbers
+heard_numbers old [] new is = ap (λ (p : PassState). p.view.numbers) is
+heard_numbers old (pass ∷ passes) new (next, told, rest) = heard_numbers next passes new rest ∙ told.hears.numbers
+
+heard_map : (old : PassState) (passes : List PassState) (new : PassState) → HearsEach old passes new → new.map ≡ old.map
+heard_map old [] new is = ap (λ (p : PassState). p.map) is
+heard_map old (pass ∷ passes) new (next, told, rest) = heard_map next passes new rest ∙ told.same.map
+
+by_place : (before after : List PassState) → length after ≡ length before
+    → ((j : ℕ) (d : PassState) → j < length before → (slice_index_or after j d).view.numbers ≡ (slice_index_or before j d).view.numbers)
+    → team_numbers after ≡ team_numbers before
+by_place [] [] long each = refl
+by_place [] (a ∷ after) long each = absurd cc
+by_place (b ∷ before) [] long each = absurd cc
+by_place (b ∷ before) (a ∷ after) long each =
+    let first : a.view.numbers ≡ b.view.numbers = each zero b (omega arith) in
+    let rest = by_place before after (omega (arith, long)) (λ j d lt. each (suc j) d (omega (arith, lt))) in
+    cc
+
+walked_numbers : (n : ℕ) (Made : ℕ → View GhostAction → Events → Events → Type 0) (before after : List PassState) → AllWalked n Made before after
+    → team_numbers after ≡ team_numbers before
+walked_numbers n Made before after walked = by_place before after walked.order (λ j d lt. (walked.each j d lt).numbers)
+
+-- a team that keeps its numbers while it walks
+team_walks : (old new : Station) (Goes : List PassState → List PassState → Type 0)
+    → ((before after : List PassState) → Goes before after → team_numbers after ≡ team_numbers before) → TeamWalks old Goes new → SameNumbers old new
+team_walks old new Goes keeps walks = record {
+  map = heard_map old.pass new.team new.pass walks.hears;
+  pass = heard_numbers old.pass new.team new.pass walks.hears;
+  team = keeps walks.told new.team walks.goes ∙ told_numbers old.pass old.team walks.told walks.tells;
+}
+
+once : (old new : Station) (response : Response) (responses : List Response) → AnswersOnce old response responses new → SameNumbers old new
+once old new response responses (is, same) = subst (λ (s : Station). SameNumbers old s) (sym same) (stays old)
+
+called_numbers : (old new : Station) (responses : List Response) (invocation : Invocation)
+    → (((reply : Reply) × Calls old.pass invocation reply new.pass × (responses ≡ response_to reply ∷ []))
+    ⊎ (RefusesCall old.pass invocation new.pass × (responses ≡ tell.Refused 9 0 ∷ []))) → new.pass.view.numbers ≡ old.pass.view.numbers
+called_numbers old new responses invocation (inl (reply, calls, is)) = calls.numbers
+called_numbers old new responses invocation (inr (refuses, is)) = refuses.nothing.numbers
+
+meets : (old : Station) (asks : Asked) (responses : List Response) (new : Station) → Meets old asks responses new → SameNumbers old new
+meets old (greeting version) responses new m = once old new _ responses m
+meets old (registration sizes bytes) responses new (inl (token, admits, is, same)) = subst (λ (s : Station). SameNumbers old s) (sym same) (record { map = refl; pass = refl; team = refl })
+meets old (registration sizes bytes) responses new (inr (inl (response, refuses, m))) = once old new response responses m
+meets old (registration sizes bytes) responses new (inr (inr m)) = once old new _ responses m
+meets old (call invocation) responses new m = record { map = m.same.map; pass = called_numbers old new responses invocation m.made; team = ap team_numbers m.team }
+meets old (walk kind program arg) responses new (inl (reply, walks, is)) = team_walks old new _ (λ before after goes. walked_numbers _ _ before after goes.walked) walks
+meets old (walk kind program arg) responses new (inr (walks, is)) = team_walks old new _ (λ before after goes. walked_numbers _ _ before after goes) walks
+meets old (replacement program arg) responses new (inl (reply, walks, is)) = team_walks old new _ (λ before after goes. walked_numbers _ _ before after goes.walked) walks
+meets old (replacement program arg) responses new (inr (walks, is)) = team_walks old new _ (λ before after goes. ap team_numbers goes) walks
+meets old count responses new (inl (reply, walks, is)) = team_walks old new _ (λ before after goes. walked_numbers _ _ before after goes.walked) walks
+meets old count responses new (inr (walks, is)) = team_walks old new _ (λ before after goes. walked_numbers _ _ before after goes) walks
+meets old unknown responses new m = once old new _ responses m
+
+step : (old : Station) (request : Request) (responses : List Response) (new : Station) → Serves old request responses new → SameNumbers old new
+step old request responses new serves = meets old (asked (λ _. serves.found) request) responses new serves.meets
+
+-- a session's passes carry the numbers that they carried
+pub ended_same : (old : Station) (end : SessionEnd) (read : List ℕ) (last : ℕ) (written : List ℕ) (new : Station) → Ended Serves old end read last written new → SameNumbers old new
+ended_same old end read last written new ended =
+    session_leads Serves (λ _ _ _ _ _. no_numbers) (λ a _ b. SameNumbers a b) stays (λ a b c _ _ one more. goes_on a b c one more) step old new read written last end ended

@@ -1,0 +1,20 @@
+//! Sessions of many clients over one map, each served by a crew.
+//!
+//! The promise to the layers above: `session` answers what it reads by a chain of steps on what its crew knows (`Serves` of
+//! `specs/Steps.antt`, `Ended` of the crate sessions); `serve` gives its crews back in order, each with the numbers that it
+//! carried. A session waits for its reader and for stripes that others hold; its walks start threads.
+#![tactic(auto)]
+
+mod accept;
+mod client;
+mod crew;
+mod server;
+mod serving;
+mod shared;
+mod team;
+
+pub use accept::Accept;
+pub use client::session;
+pub use crew::Crew;
+pub use server::serve;
+pub use shared::join_sessions;

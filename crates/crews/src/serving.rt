@@ -1,0 +1,240 @@
+//! What answers the requests of a session: the crew's passes, and the programs that the session registered.
+ghost use Rattle.std.specs.Prelude.{◌≡◌, [], ◌∷◌, All, MatchResult, option_copied};
+ghost use Rattle.bpf_model.specs.Meaning.{IsSafe};
+ghost use Rattle.program_registry.specs.Tokens.{IsOf};
+ghost use Rattle.sessions.specs.Answering.{responses_of};
+ghost use Rattle.sessions.specs.Asking.{asked, walk, replacement, count, IsCall};
+ghost use Rattle.sessions.specs.declared.session.service.Answer.TheVariants.{Walk};
+ghost use Rattle.client_protocol.specs.declared.response.Response.TheVariants as tell;
+ghost use Rattle.crews.specs.Steps.{Meets, Finds, Serves, AsksFor, AnswersRegister};
+
+use crate::team::{heard, told};
+use atomic_methods::{WalkKind, WalkReply};
+use bin_stripes::{Gate, Pass, Place, StripedMap};
+use bpf_model::{NoMemory, Sizes, Value};
+use bulk_walks::{mapping_count, replace_all, walk};
+use client_protocol::{Request, Response};
+use program_registry::{ProgramToken, Registry};
+use sessions::{
+    Answer, admit_or_refuse, call_of, named_program, no_memory, response_to, unknown_program,
+};
+use std::alloc::Global;
+use std::marker::Model;
+use std::mem;
+use std::sync::Wait;
+use std::thread::Threads;
+use verifier::Verified;
+
+/// What a session of a crew keeps: the crew's passes, and the tokens of the programs that the session registered.
+#[derive(Drop)]
+pub struct Serving<'a> {
+    pub map: &'a StripedMap,
+    pub registry: &'a Registry,
+    pub pass: Pass,
+    pub team: Vec<Pass>,
+    pub tokens: Vec<ProgramToken>,
+}
+
+impl<'a> Model for Serving<'a> {
+    ghost use Rattle.std.specs.Prelude.{◌≡◌, ◌<◌, All, vec_len};
+    ghost use Rattle.program_registry.specs.Tokens.{IsOf};
+    ghost use Rattle.crews.specs.Stations.{Station};
+
+    ghost Value = { Station };
+
+    ghost view = { λ s. record { pass = s.pass; team = s.team.items; tokens = s.tokens.items } };
+
+    ghost invariant = { λ s. (s.pass.map ≡ s.map.now) × All (λ p. p.map ≡ s.map.now) s.team.items
+        × (0 < vec_len s.team) × All (λ t. IsOf s.registry.now t) s.tokens.items };
+}
+
+// The program of this number: that of the session's own token, or else of another session's.
+fn program_of<'a>(
+    registry: &'a Registry,
+    tokens: &[ProgramToken],
+    number: u64,
+) -> Option<&'a Verified>
+    requires { All (λ t. IsOf registry.now t) tokens.now }
+    ensures { Finds tokens.now number (option_copied result) }
+{
+    for token in tokens {
+        if token.number() == number {
+            return Some(known_safe(registry.get_by(token)));
+        }
+    }
+    let Some(program) = registry.get(number) else {
+        return None;
+    };
+    Some(known_safe(program))
+}
+
+// The same program. For the proof alone: it is safe, as its type says.
+fn known_safe<'a>(program: &'a Verified) -> &'a Verified
+    ensures same { result.now ≡ program.now }
+    ensures safe { IsSafe result.now.program result.now.sizes }
+{
+    let _ = program.program();
+    program
+}
+
+// The answer that a walk's reply is.
+fn answer_of(reply: Result<WalkReply, NoMemory>) -> Answer
+    ensures { MatchResult reply (λ walked. responses_of result ≡ responses_of (Walk walked)) (λ _. responses_of result ≡ tell.Refused 9 0 ∷ []) }
+{
+    match reply {
+        Ok(reply) => Answer::Walk(reply),
+        Err(NoMemory) => Answer::One(no_memory()),
+    }
+}
+
+impl<'a> Serving<'a> {
+    // Registers the program that the bytes spell, and keeps its token; the room for that comes first.
+    fn register<H: Wait>(&mut self, rt: &H, alloc: Global, sizes: Sizes, bytes: &[u8]) -> Response
+        ensures { AnswersRegister self.old sizes bytes.now (result ∷ []) self.new }
+    {
+        let Ok(()) = self.tokens.reserve(1) else {
+            return no_memory();
+        };
+        let verified = match admit_or_refuse(alloc, bytes, sizes) {
+            Ok(verified) => verified,
+            Err(response) => return response,
+        };
+        let Ok(token) = self.registry.register(rt, verified) else {
+            return no_memory();
+        };
+        let program = token.number();
+        self.tokens.push_reserved(token);
+        Response::Registered { program }
+    }
+
+    // Makes the call that is asked for, with this program where it names one.
+    fn call<H: Wait>(&mut self, rt: &H, request: &Request, program: Option<&Verified>) -> Response
+        requires { IsCall request.now }
+        ensures { Meets self.old (asked (λ _. option_copied program.entry) request.now) (result ∷ []) self.new }
+    {
+        let Some(call) = call_of(request, program) else {
+            return unknown_program();
+        };
+        match self.map.call(rt, &mut self.pass, &call) {
+            Ok(reply) => response_to(reply),
+            Err(NoMemory) => no_memory(),
+        }
+    }
+
+    // Makes the call that is asked for, with the program that it names, if it names one.
+    fn named_call<H: Wait>(&mut self, rt: &H, request: &Request) -> Response
+        requires { IsCall request.now }
+        ensures { Serves self.old request.now (result ∷ []) self.new }
+    {
+        let Some(number) = named_program(request) else {
+            return self.call(rt, request, None);
+        };
+        let program = program_of(self.registry, &self.tokens, number);
+        self.call(rt, request, program)
+    }
+
+    // A walk of the team, by the program of this number.
+    fn walk<H: Threads + Wait + Sync, G: Gate + Sync>(
+        &mut self,
+        rt: &H,
+        alloc: Global,
+        kind: WalkKind,
+        number: u64,
+        arg: &Option<Value>,
+        threshold: u64,
+        gate: &G,
+    ) -> Answer
+        ensures { AsksFor self.old number (λ program. walk kind program arg.now) (responses_of result) self.new }
+    {
+        let Some(program) = program_of(self.registry, &self.tokens, number) else {
+            return Answer::One(unknown_program());
+        };
+        let team = mem::replace(&mut self.team, Vec::new(alloc));
+        let team = told(self.map, &self.pass, team);
+        let (team, reply) = walk(
+            rt, alloc, kind, self.map, team, program, arg, threshold, gate,
+        );
+        self.team = heard(self.map, &mut self.pass, team);
+        answer_of(reply)
+    }
+
+    // The replacement of all values by the team, by the program of this number.
+    fn replace_all<H: Threads + Wait + Sync, G: Gate + Sync>(
+        &mut self,
+        rt: &H,
+        alloc: Global,
+        number: u64,
+        arg: &Option<Value>,
+        gate: &G,
+    ) -> Answer
+        ensures { AsksFor self.old number (λ program. replacement program arg.now) (responses_of result) self.new }
+    {
+        let Some(program) = program_of(self.registry, &self.tokens, number) else {
+            return Answer::One(unknown_program());
+        };
+        let team = mem::replace(&mut self.team, Vec::new(alloc));
+        let team = told(self.map, &self.pass, team);
+        let (team, reply) = replace_all(rt, alloc, self.map, team, program, arg, gate);
+        self.team = heard(self.map, &mut self.pass, team);
+        answer_of(reply)
+    }
+
+    // The team counts all entries.
+    fn count<H: Threads + Wait + Sync, G: Gate + Sync>(
+        &mut self,
+        rt: &H,
+        alloc: Global,
+        gate: &G,
+    ) -> Answer
+        ensures { Meets self.old count (responses_of result) self.new }
+    {
+        let team = mem::replace(&mut self.team, Vec::new(alloc));
+        let team = told(self.map, &self.pass, team);
+        let (team, reply) = mapping_count(rt, alloc, self.map, team, gate);
+        self.team = heard(self.map, &mut self.pass, team);
+        answer_of(reply)
+    }
+
+    /// Answers the request, behind the gate at `Request`.
+    pub fn answer<H: Threads + Wait + Sync, G: Gate + Sync>(
+        &mut self,
+        rt: &H,
+        alloc: Global,
+        request: &Request,
+        gate: &G,
+        worker: u32,
+    ) -> Answer
+        ensures { Serves self.old request.now (responses_of result) self.new }
+    {
+        gate.pass(Place::Request, worker);
+        match request {
+            Request::Hello { version } => Answer::One(Response::Hello { version: *version }),
+            Request::Register { sizes, program } => {
+                Answer::One(self.register(rt, alloc, *sizes, program.as_slice()))
+            }
+            Request::Search {
+                program,
+                arg,
+                threshold,
+            } => self.walk(rt, alloc, WalkKind::Search, *program, arg, *threshold, gate),
+            Request::ForEach {
+                program,
+                arg,
+                threshold,
+            } => self.walk(
+                rt,
+                alloc,
+                WalkKind::ForEach,
+                *program,
+                arg,
+                *threshold,
+                gate,
+            ),
+            Request::ReplaceAll { program, arg } => {
+                self.replace_all(rt, alloc, *program, arg, gate)
+            }
+            Request::Count => self.count(rt, alloc, gate),
+            _ => Answer::One(self.named_call(rt, request)),
+        }
+    }
+}

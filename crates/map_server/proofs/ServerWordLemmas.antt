@@ -1,0 +1,322 @@
+-- What the options of `mapd` are read as, where clap finds no fault.
+use Rattle.std.proofs.Common.{◌≡◌, ◌∙◌, ◌<◌, ◌≤◌, ◌⊎◌, subst, ℕ, zero, suc, List, [], ◌∷◌, Bool, true, false, Option, Some, None, Result, Ok, Err, refl, sym, ap, not, length, is_some, inl, inr, arith, true≢false}
+use Rattle.std.specs.Prelude.{◌^◌, ◌&&◌, ℤ, pos, codes, map, unwrap_or, option_map, option_and_then, slice_get, nat_lt}
+use Rattle.std.specs.Borrow.{Bor}
+use Rattle.std.specs.List.{All, slice_index_or}
+use Rattle.std.specs.Str.{bytes_eq}
+use Rattle.std.specs.Str.Parse.{IsNumeral, ParsesUnsigned, digits_value, without_leading_plus}
+use Rattle.std.proofs.lemmas.Bool.{ltb-true, ne_eqb}
+use Rattle.std.proofs.lemmas.List.Elements.{All-head}
+use Rattle.std.proofs.lemmas.Slice.Eq.{bytes_eq-Decides}
+use Rattle.clap.specs.Built.{IsAuto, IsParsedFrom, IsPlain, IsPlainArg, SameRules}
+use Rattle.clap.specs.Facts.{Entry, EntryPasses, HasReading, IsParsed, PassesArg, args_of, groups_of, least_values, parser_of, parser_of_value, unwrap_or_range}
+use Rattle.clap.specs.Lexer.{without_minus}
+use Rattle.clap.specs.Matches.{ReadsOne, found_of, has_subcommand, first_value, matched_of, one_text}
+use Rattle.clap.specs.Simple.{App, HasMatchesOf, app_of, is_simple, matches_of}
+use Rattle.clap.specs.ValueTests.{is_numeral}
+use Rattle.clap.specs.Values.{Accepts, IsSignedIn, NarrowsTo, read_as, reading_of, signed_between}
+use Rattle.std.specs.Int.{int_max, int_min}
+use Rattle.clap.specs.Walk.{Rule, is_empty, is_free_arg, is_simple_arg, one_of, rows_of, rule_of}
+use Rattle.clap.specs.Words.{HasKind, fault_of, is_simple_and_free}
+use Rattle.clap.specs.declared.ArgMatches.{ArgMatches}
+use Rattle.clap.specs.declared.Error.{Error}
+use Rattle.clap.specs.declared.builder.Arg.{Arg}
+use Rattle.clap.specs.declared.builder.ArgAction.TheVariants.{Set}
+use Rattle.clap.specs.declared.builder.Command.{Command}
+use Rattle.clap.specs.declared.builder.Command.TheViews.{out-Command}
+use Rattle.clap.specs.declared.builder.value_parser.Reading.{Reading}
+use Rattle.clap.specs.declared.builder.value_parser.Reading.TheVariants.{WithoutMinus}
+use Rattle.clap.specs.declared.builder.ValueParser.{ValueParser}
+use Rattle.clap.specs.declared.builder.ValueParser.TheVariants.{Signed}
+use Rattle.clap.specs.declared.parser.matches.Found.{Found}
+use Rattle.clap.specs.declared.parser.matches.MatchedArg.{MatchedArg}
+use Rattle.clap.proofs.CallerLemmas.{entry_by_id, required_has_value, same_rules_by_id}
+use Rattle.clap.proofs.CallerReads.{signed_reads}
+use Rattle.clap.proofs.OnLiterals.{clap_on_literals}
+use Rattle.clap.proofs.WalkLemmas.{one_text-rows}
+use Rattle.map_server.specs.CommandLine.{given_size, spelled_size}
+use Rattle.map_server.specs.ServerWords.{mapd, mapd_options}
+use Rattle.map_server.proofs.WordLemmas.{both, cases_is, digits_are, size_in-parsed}
+
+-- ---- a parse of `mapd`
+
+is_free : is_simple_and_free mapd ≡ true
+unfolding clap_on_literals
+is_free = refl
+
+is_plain : is_simple mapd ≡ true
+unfolding clap_on_literals
+is_plain = refl
+
+module _ (app : App) (is : app ≡ mapd) (words : List (List ℕ)) where
+  -- the kinds of its error
+  pub server_parse_fails : (e : Error) → (is_simple_and_free app ≡ true → HasKind (fault_of app words) e) → HasKind (fault_of mapd words) e
+  server_parse_fails e kinds = subst (λ (a : App). HasKind (fault_of a words) e) is (kinds (ap is_simple_and_free is ∙ is_free))
+
+  -- where it succeeds there is no fault
+  pub server_parse_succeeds : (is_simple_and_free app ≡ true → fault_of app words ≡ []) → fault_of mapd words ≡ []
+  server_parse_succeeds kinds = ap (λ (a : App). fault_of a words) (sym is) ∙ kinds (ap is_simple_and_free is ∙ is_free)
+
+  -- and the rows are those of the words
+  pub server_rows : (m : ArgMatches) → HasMatchesOf app words m → rows_of (found_of m) ≡ matches_of mapd words
+  server_rows m matches = (matches (ap is_simple is ∙ is_plain)).0 ∙ ap (λ (a : App). matches_of a words) is
+
+-- ---- the five options
+
+not_so : (b : Bool) → not b ≡ true → b ≡ false
+not_so true e = sym e
+not_so false e = refl
+
+is_none : {X : Type 0} (o : Option X) → not (is_some o) ≡ true → o ≡ None
+is_none None e = refl
+is_none (Some x) e = absurd (true≢false (sym e))
+
+is_nil : {X : Type 0} (xs : List X) → is_empty xs ≡ true → xs ≡ []
+is_nil [] e = refl
+is_nil (x ∷ xs) e = absurd (true≢false (sym e ∙ ne_eqb (length (x ∷ xs)) 0 (λ z. omega (arith, z))))
+
+rule_at : (xs : List Arg) (k : ℕ) (d : Arg) → rule_of (slice_index_or xs k d) ≡ slice_index_or (map rule_of xs) k (rule_of d)
+rule_at [] k d = refl
+rule_at (x ∷ xs) zero d = refl
+rule_at (x ∷ xs) (suc k) d = rule_at xs k d
+
+map_length : (xs : List Arg) → length (map rule_of xs) ≡ length xs
+map_length [] = refl
+map_length (x ∷ xs) = ap suc (map_length xs)
+
+abbrev option_at : ℕ → Rule → Rule
+option_at k other = slice_index_or mapd_options k other
+
+plain_rule : (k : ℕ) (r : Rule) → k < 5 → ((option_at k r).is_simple ≡ true) × ((option_at k r).is_free ≡ true)
+plain_rule zero r lt = (refl, refl)
+plain_rule (suc zero) r lt = (refl, refl)
+plain_rule (suc (suc zero)) r lt = (refl, refl)
+plain_rule (suc (suc (suc zero))) r lt = (refl, refl)
+plain_rule (suc (suc (suc (suc zero)))) r lt = (refl, refl)
+plain_rule (suc (suc (suc (suc (suc k))))) r lt = absurd (omega arith)
+
+abbrev IsOnly : ℕ → Type 0
+IsOnly k = (j : ℕ) (r s : Rule) → j < 5 → bytes_eq (option_at j r).id (option_at k s).id ≡ true → j ≡ k
+
+only_listen : IsOnly 0
+only_listen zero r s lt same = refl
+only_listen (suc zero) r s lt same = absurd (true≢false (sym same))
+only_listen (suc (suc zero)) r s lt same = absurd (true≢false (sym same))
+only_listen (suc (suc (suc zero))) r s lt same = absurd (true≢false (sym same))
+only_listen (suc (suc (suc (suc zero)))) r s lt same = absurd (true≢false (sym same))
+only_listen (suc (suc (suc (suc (suc j))))) r s lt same = absurd (omega arith)
+
+only_workers : IsOnly 2
+only_workers zero r s lt same = absurd (true≢false (sym same))
+only_workers (suc zero) r s lt same = absurd (true≢false (sym same))
+only_workers (suc (suc zero)) r s lt same = refl
+only_workers (suc (suc (suc zero))) r s lt same = absurd (true≢false (sym same))
+only_workers (suc (suc (suc (suc zero)))) r s lt same = absurd (true≢false (sym same))
+only_workers (suc (suc (suc (suc (suc j))))) r s lt same = absurd (omega arith)
+
+only_team : IsOnly 3
+only_team zero r s lt same = absurd (true≢false (sym same))
+only_team (suc zero) r s lt same = absurd (true≢false (sym same))
+only_team (suc (suc zero)) r s lt same = absurd (true≢false (sym same))
+only_team (suc (suc (suc zero))) r s lt same = refl
+only_team (suc (suc (suc (suc zero)))) r s lt same = absurd (true≢false (sym same))
+only_team (suc (suc (suc (suc (suc j))))) r s lt same = absurd (omega arith)
+
+plain_arg : (a : Arg) → is_simple_arg a ≡ true → is_free_arg a ≡ true → IsPlainArg a
+plain_arg a simple free =
+    let (overrides, simple-1) = both _ _ simple in
+    let (ifs, simple-2) = both _ _ simple-1 in
+    let (groups, simple-3) = both _ _ simple-2 in
+    let (exclusive, free-1) = both _ _ free in
+    let (conflicts, free-2) = both _ _ free-1 in
+    (not_so _ exclusive, is_nil _ conflicts, is_nil _ overrides, is_nil _ groups)
+
+no_delimiter : (a : Arg) → is_simple_arg a ≡ true → a.val_delim ≡ None
+no_delimiter a simple =
+    let simple-1 = (both (is_empty a.overrides.items) _ simple).1 in
+    let simple-2 = (both (is_empty a.default_vals_ifs.items) _ simple-1).1 in
+    let simple-3 = (both (is_empty a.groups.items) _ simple-2).1 in
+    is_none a.val_delim (both (not (is_some a.val_delim)) _ simple-3).0
+
+differ : (a b : List ℕ) → bytes_eq a b ≡ false → a ≡ b → ⊥
+differ a b other e = true≢false (sym ((bytes_eq-Decides a b).1 e) ∙ other)
+
+some_arg : (xs : List Arg) → 0 < length xs → Arg
+some_arg [] lt = absurd (omega arith)
+some_arg (x ∷ xs) lt = x
+
+-- ---- numbers in a range
+
+-- the range of an option's parser
+pub narrowed : (parser result : ValueParser) (start end : ℤ) (most : ℕ) → parser ≡ Signed (pos 0) (pos 65535) → start ≡ pos 1 → end ≡ pos most
+    → signed_between (int_max (pos 0) (pos 1)) (int_min (pos 65535) (pos most)) ≡ Signed (pos 1) (pos most)
+    → NarrowsTo parser (Some start) (Some end) result → result ≡ Signed (pos 1) (pos most)
+narrowed parser result start end most p s e computed narrows = (rw (p, s, e) at narrows) ∙ computed
+
+-- a number that `clap` takes for a range is spelled as one of it, without the hyphen that it allows before a zero
+spelled_cases : (text : List ℕ) → ReadsOne (λ t r. ParsesUnsigned {E = Unit {0}} 16 10 t r) text (spelled_size text)
+spelled_cases text =
+    let digits = without_leading_plus text in
+    elim (cases_is (is_numeral digits && nat_lt (digits_value 10 digits) (2 ^ 16))) [
+      | inl e ↦
+          let parts = both _ _ e in
+          let some = both _ _ parts.0 in
+          rw e (((ltb-true _ _ some.0, digits_are _ some.1), ltb-true _ _ parts.1), refl)
+      | inr e ↦ rw e (tt, λ h. true≢false (sym (size_some text h) ∙ ap is_some (unspelled text e)))
+    ]
+  where
+    unspelled : (text : List ℕ) → (is_numeral (without_leading_plus text) && nat_lt (digits_value 10 (without_leading_plus text)) (2 ^ 16)) ≡ false → spelled_size text ≡ None
+    unspelled text e = rw e refl
+
+    size_some : (text : List ℕ) → IsNumeral 10 (without_leading_plus text) × (digits_value 10 (without_leading_plus text) < 2 ^ 16) → is_some (spelled_size text) ≡ true
+    size_some text h = ap is_some (size_in-parsed text h.0 h.1)
+
+spelled_in : (most : ℕ) (text : List ℕ) → most < 2 ^ 16 → IsSignedIn (pos 1) (pos most) text
+    → (n : ℕ) × (spelled_size (without_minus text) ≡ Some n) × (1 ≤ n) × (n ≤ most)
+spelled_in most text fits passed = signed_reads (Unit {0}) (λ t r. ParsesUnsigned 16 10 t r) 16 1 most text _ (spelled_cases (without_minus text)) (λ u x g. g) fits passed
+
+-- ---- the entry of an option
+
+module _ (b : Command) (id : List ℕ) (e : Entry) (no_groups : groups_of b ≡ []) (some : id ≡ [] → ⊥) (named : e.0.now ≡ id) where
+  -- it is no group's
+  no_group : EntryPasses b e → e.1.is_group ≡ true → ⊥
+  no_group pass g = elim (pass.3 g) [
+    | inl empty ↦ some (sym named ∙ empty)
+    | inr lots ↦
+        let bad : 0 < 0 = rw no_groups at lots in
+        absurd (omega arith)
+  ]
+
+  entry_values : EntryPasses b e → All (λ v. PassesArg b id v.now) e.1.vals.items
+  entry_values pass = elim pass.0 [
+    | inl g ↦ absurd (no_group pass g)
+    | inr vals ↦ subst (λ (t : List ℕ). All (λ v. PassesArg b t v.now) e.1.vals.items) named vals
+  ]
+
+  entry_reading : EntryPasses b e → ((r : Reading) → HasReading b id r → r ≡ WithoutMinus) → e.1.reading ≡ WithoutMinus
+  entry_reading pass reads = elim pass.4 [
+    | inl g ↦ absurd (no_group pass g)
+    | inr h ↦ reads e.1.reading (subst (λ (t : List ℕ). HasReading b t e.1.reading) named h)
+  ]
+
+abbrev HasSize : ℕ → ℕ → Option (List ℕ) → Type 0
+HasSize most default text = (1 ≤ unwrap_or (option_and_then spelled_size text) default) × (unwrap_or (option_and_then spelled_size text) default ≤ most)
+
+size_of_text : (most default : ℕ) (text : List ℕ) → most < 2 ^ 16 → IsSignedIn (pos 1) (pos most) text → HasSize most default (Some (without_minus text))
+size_of_text most default text fits passed =
+    let (n, is, low, high) = spelled_in most text fits passed in
+    (rw is low, rw is high)
+
+module _ (c : Command) (is : app_of c ≡ mapd) where
+  rules_are : map rule_of (args_of c) ≡ mapd_options
+  rules_are = ap (λ (a : App). a.top.rules) is
+
+  five : length (args_of c) ≡ 5
+  five = sym (map_length (args_of c)) ∙ ap length rules_are
+
+  rule_is : (k : ℕ) (d : Arg) → rule_of (slice_index_or (args_of c) k d) ≡ option_at k (rule_of d)
+  rule_is k d = rule_at (args_of c) k d ∙ ap (λ (rs : List Rule). slice_index_or rs k (rule_of d)) rules_are
+
+  simple_is : (k : ℕ) (d : Arg) → k < length (args_of c) → is_simple_arg (slice_index_or (args_of c) k d) ≡ true
+  simple_is k d lt = ap (λ (r : Rule). r.is_simple) (rule_is k d) ∙ (plain_rule k (rule_of d) (subst (λ (n : ℕ). k < n) five lt)).0
+
+  args_plain : All IsPlainArg (args_of c)
+  args_plain = λ k d lt. plain_arg (slice_index_or (args_of c) k d) (simple_is k d lt) (ap (λ (r : Rule). r.is_free) (rule_is k d) ∙ (plain_rule k (rule_of d) (subst (λ (n : ℕ). k < n) five lt)).1)
+
+  command_plain : IsPlain c
+  command_plain = (args_plain, is_nil _ (both _ _ (ap (λ (a : App). a.top.is_plain) is)).0)
+
+  no_globals : (out-Command c).has_globals ≡ false
+  no_globals =
+      let (groups, rest) = both _ _ (ap (λ (a : App). a.top.is_plain) is) in
+      let (external, rest-1) = both _ _ rest in
+      not_so _ (both _ _ rest-1).0
+
+  unique : (k : ℕ) (d : Arg) → IsOnly k → (j : ℕ) (e : Arg) → j < length (args_of c)
+      → bytes_eq (slice_index_or (args_of c) j e).id.now (slice_index_or (args_of c) k d).id.now ≡ true → j ≡ k
+  unique k d only j e lt same =
+      let first = ap (λ (r : Rule). r.id) (rule_is j e) in
+      let second = ap (λ (r : Rule). r.id) (rule_is k d) in
+      only j (rule_of e) (rule_of d) (subst (λ (n : ℕ). j < n) five lt) (subst (λ (t : List ℕ). bytes_eq (option_at j (rule_of e)).id t ≡ true) second (subst (λ (t : List ℕ). bytes_eq t (slice_index_or (args_of c) k d).id.now ≡ true) first same))
+
+  -- the address is there
+  pub listen_given : (m : ArgMatches) → IsParsedFrom c m → is_some (first_value (found_of m) (codes "listen")) ≡ true
+  listen_given m p =
+      let lt : 0 < length (args_of c) = rw five (omega arith) in
+      let d = some_arg (args_of c) lt in
+      let a = slice_index_or (args_of c) 0 d in
+      let r = rule_is 0 d in
+      let id : a.id.now ≡ codes "listen" = ap (λ (r : Rule). r.id) r in
+      let least : 1 ≤ least_values a = subst (λ v. 1 ≤ (unwrap_or_range v).start_inclusive) (sym (ap (λ (r : Rule). r.range) r)) (omega arith) in
+      let head : (t : List ℕ) → a.id.now ≡ t → slice_index_or t 0 0 ≡ 108 = λ t e. ap (λ (u : List ℕ). slice_index_or u 0 0) (sym e ∙ id) in
+      let has = required_has_value c m p command_plain no_globals (ap (λ (a : App). a.top.subcommand_negates_reqs) is) 0 d lt
+      (ap (λ (r : Rule). r.required) r) (ap (λ (r : Rule). r.action) r) (no_delimiter a (simple_is 0 d lt)) least (unique 0 d only_listen)
+      (λ e. let bad : 0 ≡ 108 = head [] e in absurd (omega arith))
+      (λ auto. elim auto [
+        | inl h ↦ let bad : 104 ≡ 108 = head _ h in absurd (omega arith)
+        | inr h ↦ let bad : 118 ≡ 108 = head _ h in absurd (omega arith)
+      ]) in
+      subst (λ (t : List ℕ). is_some (first_value (found_of m) t) ≡ true) id has
+
+  module _ (m : ArgMatches) (p : IsParsedFrom c m) (k : ℕ) (only : IsOnly k) (most : ℕ) (id : List ℕ) where
+    abbrev arg : Arg → Arg
+    arg d = slice_index_or (args_of c) k d
+
+    -- a value of the option lies in the range
+    value_in : (d : Arg) → k < length (args_of c) → (arg d).value_parser ≡ Some (Signed (pos 1) (pos most)) → (IsAuto (arg d) → ⊥) → (arg d).id.now ≡ id
+        → (v : List ℕ) → PassesArg p.built id v → IsSignedIn (pos 1) (pos most) v
+    value_in d lt parser own named v pass =
+        let s = same_rules_by_id c m p k d lt (unique k d only) own pass.0 pass.1 pass.2 pass.3 (subst (λ (t : List ℕ). bytes_eq pass.1.id.now t ≡ true) (sym named) pass.4.0) in
+        subst (λ (q : ValueParser). Accepts pass.1.ignore_case q v) (ap parser_of_value (s.parser _ parser)) pass.4.1
+
+    -- and is read without a first hyphen
+    reading_is : (d : Arg) → k < length (args_of c) → (arg d).value_parser ≡ Some (Signed (pos 1) (pos most)) → (IsAuto (arg d) → ⊥) → (arg d).id.now ≡ id
+        → (r : Reading) → HasReading p.built id r → r ≡ WithoutMinus
+    reading_is d lt parser own named r any =
+        let s = same_rules_by_id c m p k d lt (unique k d only) own any.0 any.1 any.2 any.3 (subst (λ (t : List ℕ). bytes_eq any.1.id.now t ≡ true) (sym named) any.4.0) in
+        sym any.4.1 ∙ ap (λ (o : Option ValueParser). reading_of (parser_of_value o)) (s.parser _ parser)
+
+    abbrev HasSizeIn : ℕ → Option MatchedArg → Type 0
+    HasSizeIn default found = HasSize most default (option_and_then (λ a. option_map (λ s. read_as a.reading s.now) (slice_get a.vals.items 0)) found)
+
+    first_in : (default : ℕ) → 1 ≤ default → default ≤ most → most < 2 ^ 16 → (how : Reading) → how ≡ WithoutMinus → (vs : List (Bor (List ℕ)))
+        → All (λ v. IsSignedIn (pos 1) (pos most) v.now) vs → HasSize most default (option_map (λ s. read_as how s.now) (slice_get vs 0))
+    first_in default low high fits how is [] all = (low, high)
+    first_in default low high fits how is (v ∷ vs) all = rw is (size_of_text most default v.now fits (All-head (λ v. IsSignedIn (pos 1) (pos most) v.now) v vs all))
+
+    entry_in : (default : ℕ) → 1 ≤ default → default ≤ most → most < 2 ^ 16 → (id ≡ [] → ⊥)
+        → ((v : List ℕ) → PassesArg p.built id v → IsSignedIn (pos 1) (pos most) v) → ((r : Reading) → HasReading p.built id r → r ≡ WithoutMinus)
+        → (found : Option MatchedArg) → matched_of (found_of m) id ≡ found → HasSizeIn default found
+    entry_in default low high fits some values reads None at = (low, high)
+    entry_in default low high fits some values reads (Some x) at =
+        let parsed = p.parsed (p.from.globals ∙ no_globals) in
+        step (entry_by_id (EntryPasses p.built) (found_of m).entries.items id x parsed.values at)
+      where
+        step : ((e : Entry) × (e.1 ≡ x) × (bytes_eq e.0.now id ≡ true) × EntryPasses p.built e) → HasSizeIn default (Some x)
+        step got =
+            let no_groups = (p.from.plain command_plain).1 in
+            let named = (bytes_eq-Decides got.0.0.now id).0 got.2 in
+            let all = entry_values p.built id got.0 no_groups some named got.3 in
+            let how = entry_reading p.built id got.0 no_groups some named got.3 reads in
+            first_in default low high fits x.reading (ap (λ (a : MatchedArg). a.reading) (sym got.1) ∙ how) x.vals.items
+            (subst (λ (a : MatchedArg). All (λ v. IsSignedIn (pos 1) (pos most) v.now) a.vals.items) got.1 (λ i d lt. values _ (all i d lt)))
+
+    -- what the option is read as, or its default, lies in the range
+    range_given : (default : ℕ) → 1 ≤ default → default ≤ most → most < 2 ^ 16 → k < 5 → ((r : Rule) → (option_at k r).parser ≡ Some (Signed (pos 1) (pos most)))
+        → ((r : Rule) → (option_at k r).id ≡ id) → (id ≡ [] → ⊥) → (id ≡ codes "help" → ⊥) → (id ≡ codes "version" → ⊥)
+        → (1 ≤ given_size (rows_of (found_of m)) id default) × (given_size (rows_of (found_of m)) id default ≤ most)
+    range_given default low high fits inside parser named some help version =
+        let lt : k < length (args_of c) = rw five inside in
+        let d = some_arg (args_of c) (omega arith) in
+        let is_named : (arg d).id.now ≡ id = ap (λ (r : Rule). r.id) (rule_is k d) ∙ named (rule_of d) in
+        let is_parsed : (arg d).value_parser ≡ Some (Signed (pos 1) (pos most)) = ap (λ (r : Rule). r.parser) (rule_is k d) ∙ parser (rule_of d) in
+        let own : IsAuto (arg d) → ⊥ = λ auto. elim auto [ inl h ↦ help (sym is_named ∙ h) | inr h ↦ version (sym is_named ∙ h) ] in
+        let text : HasSize most default (one_text (found_of m) id) = entry_in default low high fits some (value_in d lt is_parsed own is_named) (reading_is d lt is_parsed own is_named) _ refl in
+        subst (HasSize most default) (one_text-rows (found_of m) id) text
+
+  module _ (m : ArgMatches) (p : IsParsedFrom c m) where
+    pub workers_given : (1 ≤ given_size (rows_of (found_of m)) (codes "workers") 4) × (given_size (rows_of (found_of m)) (codes "workers") 4 ≤ 32)
+    workers_given = range_given m p 2 only_workers 32 (codes "workers") 4 (omega arith) (omega arith) (omega arith) (omega arith) (λ r. refl) (λ r. refl) (differ _ _ refl) (differ _ _ refl) (differ _ _ refl)
+
+    pub team_given : (1 ≤ given_size (rows_of (found_of m)) (codes "team") 1) × (given_size (rows_of (found_of m)) (codes "team") 1 ≤ 8)
+    team_given = range_given m p 3 only_team 8 (codes "team") 1 (omega arith) (omega arith) (omega arith) (omega arith) (λ r. refl) (λ r. refl) (differ _ _ refl) (differ _ _ refl) (differ _ _ refl)

@@ -1,0 +1,83 @@
+-- What a call of `mapd` does: what its words ask for, and what is told of it.
+use Rattle.std.specs.Prelude.{◌≡◌, ◌+◌, ◌*◌, ◌⊎◌, ℕ, false, List, ◌++◌, codes, decimal}
+use Rattle.clap.specs.Words.{IsAmong, fault_of}
+use Rattle.clap.specs.declared.error.ErrorKind.{ErrorKind}
+use Rattle.bin_stripes.specs.Opened.{IsPassCount}
+use Rattle.bin_stripes.specs.declared.fault.OpenFault.{OpenFault}
+use Rattle.bin_stripes.specs.declared.fault.OpenFault.TheVariants as opening
+use Rattle.sessions.specs.Devices.{SinkState, TakesBytes, TakesFront, TakesIfItCan}
+use Rattle.map_server.specs.declared.bpfmap.ending.Ending.{Ending}
+use Rattle.map_server.specs.declared.bpfmap.ending.Ending.TheVariants.{Reported, Refused, NoMemory, BadStripes, Shown, Faulty, Unread, NotUtf8}
+use Rattle.map_server.specs.declared.mapd.words.MapdWords.{MapdWords}
+use Rattle.map_server.specs.Endings.{Outputs, IsHelpOrVersion, PrintsRefusal, TellsEnding}
+use Rattle.map_server.specs.Executions.{IsBadCount}
+use Rattle.map_server.specs.ServerWords.{AsksServer, mapd}
+use Rattle.map_server.specs.Shown.{IsTold}
+
+-- what words come to that ask for no server, by clap's kind of error, in whose text words are shown; memory may be refused to it
+abbrev pub EndsServerWords : List (List ℕ) → Ending → Type 0
+EndsServerWords words (Reported report) = ⊥
+EndsServerWords words (Refused refusal meaning) = ⊥
+EndsServerWords words NoMemory = Unit {0}
+EndsServerWords words BadStripes = ⊥
+EndsServerWords words (Shown text) = (kind : ErrorKind) × IsAmong kind (fault_of mapd words) × IsHelpOrVersion kind × IsTold words text.items
+EndsServerWords words (Faulty text) = (kind : ErrorKind) × IsAmong kind (fault_of mapd words) × (IsHelpOrVersion kind → ⊥) × IsTold words text.items
+EndsServerWords words Unread = ⊥
+EndsServerWords words NotUtf8 = ⊥
+
+-- ---- opening the map
+
+-- a map may not have so many passes: one for each worker, and one for each member of its team
+abbrev pub HasBadPasses : MapdWords → Type 0
+HasBadPasses asked = IsPassCount (asked.workers * (1 + asked.team)) → ⊥
+
+-- a map may have so many stripes and passes
+abbrev pub CanOpen : MapdWords → Type 0
+CanOpen asked = (IsBadCount asked.stripes → ⊥) × (HasBadPasses asked → ⊥)
+
+-- why no map is opened; the number of stripes is looked at first
+abbrev pub IsNotOpened : MapdWords → OpenFault → Type 0
+IsNotOpened asked opening.BadStripes = IsBadCount asked.stripes
+IsNotOpened asked opening.BadPasses = (IsBadCount asked.stripes → ⊥) × HasBadPasses asked
+IsNotOpened asked opening.NoMemory = CanOpen asked
+
+-- what is told of it
+abbrev pub TellsFault : OpenFault → Outputs → Outputs → ℕ → Type 0
+TellsFault opening.BadStripes old new status = TellsEnding BadStripes old new status
+TellsFault opening.BadPasses old new status = PrintsRefusal (codes "refused 51 at 0\n") (codes "workers * (1 + team) is more than 64\n") old new status
+TellsFault opening.NoMemory old new status = TellsEnding NoMemory old new status
+
+-- ---- serving
+
+-- the text is on standard output, and none of it is kept back
+abbrev pub Sends : SinkState → SinkState → List ℕ → Type 0
+Sends old new text = TakesBytes old new text × (new.keeps_back ≡ false)
+
+-- what is printed where serving has ended, with this status: how many streams were handed out, with 3 where an accept failed; or
+-- memory was refused, and nobody was served
+abbrev pub IsServed : List ℕ → ℕ → Type 0
+IsServed text status =
+    ((streams : ℕ) × (text ≡ codes "served " ++ decimal streams ++ codes "\n") × ((status ≡ 0) ⊎ (status ≡ 3)))
+    ⊎ ((text ≡ codes "refused 9 at 0\n") × (status ≡ 1))
+
+-- that is printed; or a write failed, after a front of it
+abbrev pub EndsServing : SinkState → SinkState → List ℕ → ℕ → Type 0
+EndsServing old new before status =
+    ((text : List ℕ) × IsServed text status × Sends old new (before ++ text))
+    ⊎ ((status ≡ 3) × ((text : List ℕ) × TakesFront old new (before ++ text)))
+
+-- the port could not be bound, of which standard error is told, with why
+abbrev pub FailsToListen : Outputs → Outputs → ℕ → Type 0
+FailsToListen old new status =
+    (status ≡ 3) × (new.output ≡ old.output) × ((why : List ℕ) × TakesIfItCan old.errors new.errors (codes "failed listen\n" ++ why))
+
+-- the port could not be bound; or it was, `ready` is printed, and then how serving ended
+abbrev pub Listens : Outputs → Outputs → ℕ → Type 0
+Listens old new status = FailsToListen old new status ⊎ EndsServing old.output new.output (codes "ready\n") status
+
+-- what a call does: its words ask for no server; or no map is opened; or it listens
+abbrev pub RunsMapd : List (List ℕ) → Outputs → Outputs → ℕ → Type 0
+RunsMapd words old new status =
+    ((ending : Ending) × EndsServerWords words ending × TellsEnding ending old new status)
+    ⊎ ((asked : MapdWords) × AsksServer words asked
+    × (((fault : OpenFault) × IsNotOpened asked fault × TellsFault fault old new status) ⊎ (CanOpen asked × Listens old new status)))

@@ -1,0 +1,56 @@
+-- The command line of `mapd`: its options and defaults. How words are read is clap's (clap_builder 4.6).
+use Rattle.std.specs.Prelude.{◌≡◌, ◌≤◌, ℕ, ℤ, true, List, [], ◌∷◌, Option, Some, codes, pos, option_and_then, string_bytes}
+use Rattle.clap.specs.Words.{App, IsAmong, Row, Rule, fault_of, first_of, matches_of, new_rule, one_of}
+use Rattle.clap.specs.Simple.{new_shape}
+use Rattle.clap.specs.Values.{kind_of}
+use Rattle.clap.specs.declared.builder.ArgAction.TheVariants.{Set}
+use Rattle.clap.specs.declared.builder.ValueParser.TheVariants.{Signed}
+use Rattle.map_server.specs.CommandLine.{given_size, size_option, spelled_size}
+use Rattle.map_server.specs.declared.mapd.words.MapdWords.{MapdWords}
+use Rattle.map_server.specs.declared.mapd.words.WordsFault.{WordsFault}
+use Rattle.map_server.specs.declared.mapd.words.WordsFault.TheVariants as fault
+
+-- the address, which is wanted
+abbrev pub listen_option : Rule
+listen_option = record (new_rule (codes "listen")) { long = Some (codes "listen"); value_names = 1; action = Some Set; required = true }
+
+-- an option that takes a number from 1 to a greatest one
+abbrev pub range_option : List ℕ → ℤ → Rule
+range_option name most = record (size_option name) { parser = Some (Signed (pos 1) most) }
+
+abbrev pub mapd_options : List Rule
+mapd_options =
+    listen_option
+    ∷ size_option (codes "stripes")
+    ∷ range_option (codes "workers") (pos 32)
+    ∷ range_option (codes "team") (pos 8)
+    ∷ size_option (codes "sessions")
+    ∷ []
+
+-- a command without subcommands
+abbrev pub mapd : App
+mapd = record { top = record (new_shape (codes "mapd")) { rules = mapd_options; has_version = true }; subs = [] }
+
+-- what the options ask for: each is given, or has its default; the number of sessions has none
+pub record AsksFor (rows : List Row) (asked : MapdWords) : Type 0 where
+  pub listen : Some (string_bytes asked.listen) ≡ first_of (codes "listen") rows
+  pub stripes : asked.stripes ≡ given_size rows (codes "stripes") 16
+  pub workers : asked.workers ≡ given_size rows (codes "workers") 4
+  pub team : asked.team ≡ given_size rows (codes "team") 1
+  pub sessions : asked.sessions ≡ option_and_then spelled_size (one_of (codes "sessions") rows)
+
+-- what the words ask for, of which the first is the program's name: clap finds no fault in them, and they ask for this
+abbrev pub AsksServer : List (List ℕ) → MapdWords → Type 0
+AsksServer words asked = (fault_of mapd words ≡ []) × AsksFor (matches_of mapd words) asked
+
+-- so many workers and threads for each of their walks are there
+pub record IsInRange (asked : MapdWords) : Type 0 where
+  pub some_worker : 1 ≤ asked.workers
+  pub workers : asked.workers ≤ 32
+  pub some_member : 1 ≤ asked.team
+  pub team : asked.team ≤ 8
+
+-- the error is of a kind that clap gives these words; want of memory says nothing
+abbrev pub IsWordsFault : List (List ℕ) → WordsFault → Type 0
+IsWordsFault words (fault.Words error) = IsAmong (kind_of error) (fault_of mapd words)
+IsWordsFault words fault.NoMemory = Unit {0}

@@ -1,0 +1,33 @@
+//! The program `mapd`: what its words ask for, over the process's output and error streams and the network.
+#![tactic(auto)]
+
+use map_server::{StreamSink, mapd_on, tell_unread_words};
+use std::net::{Net, TcpListener, TcpStream};
+use std::process::ExitCode;
+use std::sync::Wait;
+use std::thread::Threads;
+use std::{env, io};
+
+fn status<H: Threads + Wait + Net<Listener = TcpListener, Stream = TcpStream> + Sync>(
+    rt: &HostRuntime,
+    serving: &H,
+) -> io::Result<u8> {
+    let alloc = rt.alloc();
+    let words: Vec<String> = env::args(rt)?.collect(alloc)?;
+    let words: Vec<&str> = words.iter().map(|word| word.as_str()).collect(alloc)?;
+    let mut writer = StreamSink::new(rt.stdout());
+    let mut errors = StreamSink::new(rt.stderr());
+    Ok(mapd_on(serving, alloc, words.as_slice(), &mut writer, &mut errors))
+}
+
+fn main(rt: HostRuntime) -> ExitCode {
+    let status = match status(&rt, &rt) {
+        Ok(status) => status,
+        Err(error) => {
+            let mut writer = StreamSink::new(rt.stdout());
+            let mut errors = StreamSink::new(rt.stderr());
+            tell_unread_words(&error, &mut writer, &mut errors)
+        }
+    };
+    ExitCode::from(status)
+}

@@ -1,0 +1,198 @@
+//! Sessions of crews over one map, over memory.
+ghost use Rattle.std.specs.Prelude.{◌≡◌, ◌≤◌, All, IfOk, IfSome};
+ghost use Rattle.crews.specs.Crews.{IsOf};
+
+use crate::bpfmap::memory::{Pieces, ROOM, Room};
+use bin_stripes::{Gate, OpenGate, Pass, Place, StripedMap};
+use bulk_walks::Team;
+use crews::{Accept, Crew, serve, session};
+use map_server::{SessionEnd, StreamSink, StreamSource};
+use program_registry::Registry;
+use std::alloc::Global;
+use std::sync::Wait;
+use std::sync::atomic::{AtomicU64, Ordering};
+use std::test::Fail;
+use std::thread::{self, Threads};
+
+// A Hello, a Put of two bytes, and a Get of them.
+const PUT_AND_GET: &[u8] = b"\0\0\0\x02\0\x01\0\0\0\x07\x11\x01a\0\x02xy\0\0\0\x03\x10\x01a";
+
+const PUT_AND_GOT: &[u8] = b"\0\0\0\x02\x80\x01\0\0\0\x03\x82\xFF\xFF\0\0\0\x05\x82\0\x02xy";
+
+// A Hello and a program that answers its argument's first byte, as a value of one byte.
+const REGISTER: &[u8] = b"\0\0\0\x02\0\x01\
+    \0\0\0\x29\x01\0\x40\0\0\0\x01\0\x01\
+    \x71\x30\0\0\0\0\0\0\x73\x04\0\0\0\0\0\0\xB7\0\0\0\x01\0\0\0\x95\0\0\0\0\0\0\0";
+
+const REGISTERED: &[u8] = b"\0\0\0\x02\x80\x01\0\0\0\x09\x81\0\0\0\0\0\0\0\0";
+
+// A Hello, a Compute by that program's number with the argument 7, and a Count.
+const COMPUTE: &[u8] = b"\0\0\0\x02\0\x01\
+    \0\0\0\x0E\x17\x01b\0\0\0\0\0\0\0\0\0\x01\x07\
+    \0\0\0\x01\x23";
+
+const COMPUTED: &[u8] = b"\0\0\0\x02\x80\x01\0\0\0\x04\x82\0\x01\x07\
+    \0\0\0\x19\x87\0\0\0\0\0\0\0\x01\0\0\0\0\0\0\0\0\0\0\0\0\0\0\0\0";
+
+// The next crew: the last of the passes, and the one before it as its team; none where passes or memory are wanting.
+fn crew(alloc: Global, map: &StripedMap, passes: &mut Vec<Pass>, worker: u32) -> Option<Crew>
+    requires { All (λ pass. pass.map ≡ map.now) passes.old.items }
+    ensures passes { All (λ pass. pass.map ≡ map.now) passes.new.items }
+    ensures crew { IfSome result (λ crew. IsOf map.now crew) }
+{
+    let pass = passes.pop()?;
+    let member = passes.pop()?;
+    let team = Team::new(vec![in alloc; member].ok()?).ok()?;
+    Some(Crew { worker, pass, team })
+}
+
+// A map and two crews, with the workers 0 and 1; none where memory was refused.
+fn two_crews(alloc: Global) -> Option<(StripedMap, Crew, Crew)>
+    ensures one { IfSome result (λ r. IsOf r.0 r.1) }
+    ensures other { IfSome result (λ r. IsOf r.0 r.2) }
+{
+    let (map, mut passes) = StripedMap::open(alloc, 4, 4).ok()?;
+    let one = crew(alloc, &map, &mut passes, 0)?;
+    let other = crew(alloc, &map, &mut passes, 1)?;
+    Some((map, one, other))
+}
+
+// What a session of the crew comes to that is sent these bytes in pieces of at most this size.
+fn served<H: Threads + Wait + Sync>(
+    rt: &H,
+    alloc: Global,
+    map: &StripedMap,
+    registry: &Registry,
+    crew: Crew,
+    sent: &[u8],
+    size: usize,
+) -> (Crew, SessionEnd, Vec<u8>)
+    requires { IsOf map.now crew }
+    ensures { IsOf map.now result.0 }
+{
+    let mut reader = StreamSource::new(Pieces {
+        rest: sent,
+        size,
+        fails: false,
+    });
+    let mut writer = StreamSink::new(Room::new(alloc, ROOM));
+    let (crew, end) = session(
+        rt, alloc, &mut reader, &mut writer, map, registry, crew, &OpenGate,
+    );
+    (crew, end, writer.into_inner().bytes)
+}
+
+#[test]
+fn a_session_answers_however_it_is_cut(rt: HostRuntime) -> Result<(), Fail> {
+    for size in [1, 1 << 14] {
+        let (map, crew, _) = two_crews(rt.alloc()).ok_or("no map")?;
+        let registry = Registry::new(rt.alloc())?;
+        let (_, end, answers) =
+            served(&rt, rt.alloc(), &map, &registry, crew, PUT_AND_GET, size);
+        assert!(&rt; end == SessionEnd::Closed, "{size} at a time");
+        assert!(&rt; answers.as_slice() == PUT_AND_GOT, "{size} at a time");
+    }
+    Ok(())
+}
+
+#[test]
+fn a_program_of_an_earlier_session_is_found(rt: HostRuntime) -> Result<(), Fail> {
+    let (map, one, other) = two_crews(rt.alloc()).ok_or("no map")?;
+    let registry = Registry::new(rt.alloc())?;
+    let (_, end, answers) = served(&rt, rt.alloc(), &map, &registry, one, REGISTER, 1 << 14);
+    assert!(&rt; end == SessionEnd::Closed && answers.as_slice() == REGISTERED);
+    // The call is seen by the walk of the same session, whose team has another pass.
+    let (_, end, answers) = served(&rt, rt.alloc(), &map, &registry, other, COMPUTE, 1 << 14);
+    assert!(&rt; end == SessionEnd::Closed && answers.as_slice() == COMPUTED);
+    Ok(())
+}
+
+// One client for each of the workers 0 and 1.
+struct Clients {
+    alloc: Global,
+    // A bit for each worker that has had its client.
+    given: AtomicU64,
+    right: AtomicU64,
+}
+
+impl Accept<StreamSource<Pieces<'static>>, StreamSink<Room>> for Clients {
+    fn next(&self, worker: u32) -> Option<(StreamSource<Pieces<'static>>, StreamSink<Room>)> {
+        let bit = 1 << worker.min(2);
+        if self.given.fetch_or(bit, Ordering::SeqCst) & bit != 0 {
+            return None;
+        }
+        let reader = StreamSource::new(Pieces {
+            rest: COUNT,
+            size: 1 << 14,
+            fails: false,
+        });
+        Some((reader, StreamSink::new(Room::new(self.alloc, ROOM))))
+    }
+
+    fn ended(
+        &self,
+        _worker: u32,
+        _reader: StreamSource<Pieces<'static>>,
+        writer: StreamSink<Room>,
+        end: SessionEnd,
+    ) {
+        if end == SessionEnd::Closed && writer.into_inner().bytes.as_slice() == COUNTED {
+            self.right.fetch_add(1, Ordering::SeqCst);
+        }
+    }
+}
+
+// A Hello and a Count.
+const COUNT: &[u8] = b"\0\0\0\x02\0\x01\0\0\0\x01\x23";
+
+const COUNTED: &[u8] = b"\0\0\0\x02\x80\x01\0\0\0\x19\x87\0\0\0\0\0\0\0\0\0\0\0\0\0\0\0\0\0\0\0\0\0\0\0\0";
+
+// The most turns that a worker waits for another.
+const TURNS: u64 = 10_000_000;
+
+// The bits of the workers 0 and 1.
+const BOTH: u64 = 3;
+
+// Holds each worker before it answers until the workers 0 and 1 have come there.
+struct Meeting {
+    come: AtomicU64,
+    gone_alone: AtomicU64,
+}
+
+impl Gate for Meeting {
+    fn pass(&self, place: Place, worker: u32) {
+        if place != Place::Request {
+            return;
+        }
+        self.come.fetch_or(1 << worker.min(2), Ordering::SeqCst);
+        for _ in 0..TURNS {
+            if self.come.load(Ordering::SeqCst) & BOTH == BOTH {
+                return;
+            }
+            thread::yield_now();
+        }
+        self.gone_alone.fetch_add(1, Ordering::SeqCst);
+    }
+}
+
+#[test]
+fn serve_uses_workers_by_their_numbers(rt: HostRuntime) -> Result<(), Fail> {
+    let (map, one, other) = two_crews(rt.alloc()).ok_or("no map")?;
+    let registry = Registry::new(rt.alloc())?;
+    let clients = Clients {
+        alloc: rt.alloc(),
+        given: AtomicU64::new(0),
+        right: AtomicU64::new(0),
+    };
+    let gate = Meeting {
+        come: AtomicU64::new(0),
+        gone_alone: AtomicU64::new(0),
+    };
+    let crews = vec![in rt.alloc(); one, other]?;
+    let back = serve(&rt, rt.alloc(), &clients, &map, &registry, crews, &gate)?;
+    assert!(&rt; back.len() == 2 && back[0].worker == 0 && back[1].worker == 1);
+    assert!(&rt; clients.right.load(Ordering::SeqCst) == 2, "answers");
+    assert!(&rt; gate.come.load(Ordering::SeqCst) == BOTH, "workers");
+    assert!(&rt; gate.gone_alone.load(Ordering::SeqCst) == 0, "alone");
+    Ok(())
+}

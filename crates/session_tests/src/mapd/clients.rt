@@ -1,0 +1,132 @@
+//! Clients of `mapd_on` over the loopback address.
+use super::call;
+use std::io::{self, Read, Write};
+use std::net::{Net, TcpListener, TcpStream};
+use std::rt::Clock;
+use std::test::Fail;
+use std::thread;
+use std::time::Duration;
+
+const HELLO: [u8; 6] = [0, 0, 0, 2, 0, 1];
+
+const HELLO_ANSWER: [u8; 6] = [0, 0, 0, 2, 0x80, 1];
+
+const PUT: [u8; 11] = [0, 0, 0, 7, 0x11, 1, b'a', 0, 2, b'x', b'y'];
+
+const GET: [u8; 7] = [0, 0, 0, 3, 0x10, 1, b'a'];
+
+const NOTHING: [u8; 7] = [0, 0, 0, 3, 0x82, 0xff, 0xff];
+
+const FOUND: [u8; 9] = [0, 0, 0, 5, 0x82, 0, 2, b'x', b'y'];
+
+/// The number of no request.
+const BAD: [u8; 5] = [0, 0, 0, 1, 0x7f];
+
+const REFUSED: [u8; 10] = [0, 0, 0, 6, 0x85, 61, 0, 0, 0, 0];
+
+/// The address of a port that is free.
+fn free_address<R: Net<Listener = TcpListener, Stream = TcpStream> + AllocGlobal>(
+    rt: &R,
+) -> io::Result<String> {
+    let listener = TcpListener::bind(rt, "127.0.0.1:0")?;
+    let address = listener.local_addr()?;
+    Ok(format!(in rt.alloc(); "{address}")?)
+}
+
+/// A connection to a server that may not listen yet.
+fn connect<R: Net<Listener = TcpListener, Stream = TcpStream> + Clock>(
+    rt: &R,
+    address: &str,
+) -> io::Result<TcpStream> {
+    for _ in 0..1000u32 {
+        if let Ok(stream) = TcpStream::connect(rt, address) {
+            return Ok(stream);
+        }
+        thread::sleep(rt, Duration::from_millis(10));
+    }
+    TcpStream::connect(rt, address)
+}
+
+/// Whether the answer to the request is this one.
+fn is_answered(stream: &mut TcpStream, request: &[u8], answer: &[u8]) -> io::Result<bool> {
+    stream.write_all(request)?;
+    let mut found = [0; 16];
+    let Some(found) = found.get_mut(..answer.len()) else {
+        return Ok(false);
+    };
+    stream.read_exact(found)?;
+    Ok(*found == *answer)
+}
+
+/// Two clients at once: one puts, and the other gets.
+fn share<R: Net<Listener = TcpListener, Stream = TcpStream> + Clock>(
+    rt: &R,
+    address: &str,
+) -> io::Result<bool> {
+    let mut first = connect(rt, address)?;
+    let mut second = connect(rt, address)?;
+    let greeted = is_answered(&mut first, &HELLO, &HELLO_ANSWER)?
+        && is_answered(&mut second, &HELLO, &HELLO_ANSWER)?;
+    let put = is_answered(&mut first, &PUT, &NOTHING)?;
+    Ok(greeted && put && is_answered(&mut second, &GET, &FOUND)?)
+}
+
+/// A client that sends much behind a fault of a frame, and then reads all that it is answered.
+fn hear_refusal<R: Net<Listener = TcpListener, Stream = TcpStream> + Clock + AllocGlobal>(
+    rt: &R,
+    address: &str,
+) -> io::Result<bool> {
+    let mut stream = connect(rt, address)?;
+    let greeted = is_answered(&mut stream, &HELLO, &HELLO_ANSWER)?;
+    stream.write_all(&BAD)?;
+    stream.write_all(&[0; 50000])?;
+    let mut rest = Vec::new(rt.alloc());
+    stream.read_to_end(&mut rest)?;
+    Ok(greeted && rest.as_slice() == REFUSED.as_slice())
+}
+
+#[test]
+fn clients_share_a_map(rt: HostRuntime) -> Result<(), Fail> {
+    let address = free_address(&rt)?;
+    let words = [
+        "mapd",
+        "--listen",
+        address.as_str(),
+        "--workers",
+        "2",
+        "--sessions",
+        "1",
+    ];
+    let (served, shared) = thread::join(
+        &rt,
+        || call(&rt, &words, 100),
+        || share(&rt, address.as_str()),
+    );
+    let shared = shared?;
+    assert!(rt; shared && served.status == 0);
+    assert!(rt; served.output.as_slice() == b"ready\nserved 2\n".as_slice());
+    Ok(())
+}
+
+#[test]
+fn a_refusal_reaches_the_client(rt: HostRuntime) -> Result<(), Fail> {
+    let address = free_address(&rt)?;
+    let words = [
+        "mapd",
+        "--listen",
+        address.as_str(),
+        "--workers",
+        "1",
+        "--sessions",
+        "1",
+    ];
+    let (served, heard) = thread::join(
+        &rt,
+        || call(&rt, &words, 100),
+        || hear_refusal(&rt, address.as_str()),
+    );
+    let heard = heard?;
+    assert!(rt; heard && served.status == 0);
+    assert!(rt; served.output.as_slice() == b"ready\nserved 1\n".as_slice());
+    Ok(())
+}
