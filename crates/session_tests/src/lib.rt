@@ -4,7 +4,7 @@
 #[cfg(test)]
 mod bpfmap;
 #[cfg(test)]
-mod crews;
+mod crew_sessions;
 #[cfg(test)]
 mod frames;
 #[cfg(test)]

@@ -115,7 +115,7 @@ fn explained(alloc: Global, text: &[u8], sizes: Sizes) -> Result<String, NoMemor
 {
     let program = match program_of(alloc, text) {
         Ok(program) => program,
-        Err(Refusal::NoMemory) => return Err(NoMemory),
+        Err(refusal) if refusal.number() == NoMemory::NUMBER => return Err(NoMemory),
         Err(_) => return Ok(String::new(alloc)),
     };
     let Ok(shaped) = shape(program) else {
@@ -161,6 +161,7 @@ fn explain_report(alloc: Global, text: &[u8], sizes: Sizes) -> Report
             Ok(printed) => Report::Text(printed),
             Err(NoMemory) => Report::Refused(Refusal::NoMemory),
         },
+        Err(refusal) if refusal.number() == NoMemory::NUMBER => Report::Refused(refusal),
         Err(refusal) => match with_verdict(alloc, text, sizes, Some(refusal)) {
             Ok(printed) => Report::Explained(printed, refusal),
             Err(NoMemory) => Report::Refused(Refusal::NoMemory),
