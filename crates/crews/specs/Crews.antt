@@ -30,7 +30,7 @@ pub record CarriesSame (old new : Crew) : Type 0 where
 abbrev pub AllCarrySame : List Crew → List Crew → Type 0
 AllCarrySame olds news = Pairwise CarriesSame olds news
 
--- a seat from which a crew served clients
-abbrev pub IsServed : Option Crew → Option Crew → Type 0
-IsServed (Some old) (Some new) = CarriesSame old new
-IsServed old new = ⊥
+-- a seat from which a crew served clients of this map
+abbrev pub IsServed : TableId → Option Crew → Option Crew → Type 0
+IsServed id (Some old) (Some new) = IsOf id new × CarriesSame old new
+IsServed id old new = ⊥

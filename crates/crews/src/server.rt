@@ -32,7 +32,8 @@ fn serve_clients<
     gate: &G,
 ) -> Crew
     requires { IsOf map.now crew }
-    ensures { CarriesSame crew result }
+    ensures of { IsOf map.now result }
+    ensures same { CarriesSame crew result }
 {
     let mut crew = crew;
     for _ in rt.forever() {
@@ -57,7 +58,7 @@ fn serve_clients<
 }
 
 /// Runs one worker a crew, each in a thread of its own where one can be made, and each serving its clients one after the other
-/// until `accept` has none for it. Gives the crews back in their order, each with the numbers that it carried. `NoMemory`
+/// until `accept` has none for it. Gives the crews back in their order, each of this map with the numbers that it carried. `NoMemory`
 /// where a request for the lists of workers was refused: nobody is served then, and the crews are given up. Waits for clients.
 pub fn serve<
     H: Threads + Wait + Sync,
@@ -75,7 +76,8 @@ pub fn serve<
     gate: &G,
 ) -> Result<Vec<Crew>, NoMemory>
     requires { All (λ crew. IsOf map.now crew) crews.items }
-    ensures { IfOk result (λ back. AllCarrySame crews.items back.items) }
+    ensures same { IfOk result (λ back. AllCarrySame crews.items back.items) }
+    ensures map { IfOk result (λ back. All (λ crew. IsOf map.now crew) back.items) }
 {
     let count = crews.len();
     let seats = Vec::with_capacity(alloc, count)?;
@@ -83,7 +85,7 @@ pub fn serve<
     let seats = seated(crews, seats);
     let call = move |_: usize, seat: &mut Option<Crew>|
         requires { IsSomeAnd seat.old (λ crew. IsOf map.now crew) }
-        ensures { IsServed seat.old seat.new }
+        ensures { IsServed map.now seat.old seat.new }
     {
         if let Some(crew) = seat.take() {
             *seat = Some(serve_clients(rt, alloc, accept, map, registry, crew, gate));

@@ -2,6 +2,8 @@
 ghost use Rattle.std.specs.Prelude.{◌≡◌, ◌≤◌, All, IfOk, IfSome};
 ghost use Rattle.crews.specs.Crews.{IsOf};
 
+mod loopback;
+
 use crate::bpfmap::memory::{Pieces, ROOM, Room};
 use bin_stripes::{Gate, OpenGate, Pass, Place, StripedMap};
 use bulk_walks::Team;
@@ -34,15 +36,16 @@ const COMPUTE: &[u8] = b"\0\0\0\x02\0\x01\
 const COMPUTED: &[u8] = b"\0\0\0\x02\x80\x01\0\0\0\x04\x82\0\x01\x07\
     \0\0\0\x19\x87\0\0\0\0\0\0\0\x01\0\0\0\0\0\0\0\0\0\0\0\0\0\0\0\0";
 
-// The next crew: the last of the passes, and the one before it as its team; none where passes or memory are wanting.
+// The next crew: the last of the passes, and the two before it as its team; none where passes or memory are wanting.
 fn crew(alloc: Global, map: &StripedMap, passes: &mut Vec<Pass>, worker: u32) -> Option<Crew>
     requires { All (λ pass. pass.map ≡ map.now) passes.old.items }
     ensures passes { All (λ pass. pass.map ≡ map.now) passes.new.items }
     ensures crew { IfSome result (λ crew. IsOf map.now crew) }
 {
     let pass = passes.pop()?;
-    let member = passes.pop()?;
-    let team = Team::new(vec![in alloc; member].ok()?).ok()?;
+    let first = passes.pop()?;
+    let second = passes.pop()?;
+    let team = Team::new(vec![in alloc; first, second].ok()?).ok()?;
     Some(Crew { worker, pass, team })
 }
 
@@ -51,7 +54,7 @@ fn two_crews(alloc: Global) -> Option<(StripedMap, Crew, Crew)>
     ensures one { IfSome result (λ r. IsOf r.0 r.1) }
     ensures other { IfSome result (λ r. IsOf r.0 r.2) }
 {
-    let (map, mut passes) = StripedMap::open(alloc, 4, 4).ok()?;
+    let (map, mut passes) = StripedMap::open(alloc, 4, 6).ok()?;
     let one = crew(alloc, &map, &mut passes, 0)?;
     let other = crew(alloc, &map, &mut passes, 1)?;
     Some((map, one, other))
@@ -101,13 +104,14 @@ fn a_program_of_an_earlier_session_is_found(rt: HostRuntime) -> Result<(), Fail>
     let registry = Registry::new(rt.alloc())?;
     let (_, end, answers) = served(&rt, rt.alloc(), &map, &registry, one, REGISTER, 1 << 14);
     assert!(&rt; end == SessionEnd::Closed && answers.as_slice() == REGISTERED);
-    // The call is seen by the walk of the same session, whose team has another pass.
+    // The call is seen by the walk of the same session, whose team has two other passes.
     let (_, end, answers) = served(&rt, rt.alloc(), &map, &registry, other, COMPUTE, 1 << 14);
     assert!(&rt; end == SessionEnd::Closed && answers.as_slice() == COMPUTED);
     Ok(())
 }
 
 // One client for each of the workers 0 and 1.
+#[derive(Drop)]
 struct Clients {
     alloc: Global,
     // A bit for each worker that has had its client.
@@ -154,6 +158,7 @@ const TURNS: u64 = 10_000_000;
 const BOTH: u64 = 3;
 
 // Holds each worker before it answers until the workers 0 and 1 have come there.
+#[derive(Drop)]
 struct Meeting {
     come: AtomicU64,
     gone_alone: AtomicU64,
@@ -176,7 +181,7 @@ impl Gate for Meeting {
 }
 
 #[test]
-fn serve_uses_workers_by_their_numbers(rt: HostRuntime) -> Result<(), Fail> {
+fn server_uses_workers(rt: HostRuntime) -> Result<(), Fail> {
     let (map, one, other) = two_crews(rt.alloc()).ok_or("no map")?;
     let registry = Registry::new(rt.alloc())?;
     let clients = Clients {

@@ -1,0 +1,128 @@
+//! Two clients of one map on the loopback address, each served by a crew in a thread of its own.
+ghost use Rattle.std.specs.Prelude.{◌≡◌, All, IfOk};
+ghost use Rattle.crews.specs.Crews.{IsOf};
+
+use super::two_crews;
+use crate::bpfmap::memory::{ROOM, Room};
+use atomic_methods::{Call, Reply};
+use bin_stripes::{OpenGate, StripedMap};
+use bpf_model::{Key, NoMemory};
+use crews::{Accept, Crew, join_sessions, serve};
+use map_server::{Quotas, StreamSink, TcpAccept, TcpReader, TcpWriter, Telling};
+use program_registry::Registry;
+use std::alloc::Global;
+use std::io::{self, Read, Write};
+use std::net::{Net, TcpListener, TcpStream};
+use std::sync::Wait;
+use std::test::Fail;
+use std::thread::{self, Threads};
+
+// A Hello, and the program that adds its argument to the old value.
+const REGISTER: &[u8] = b"\0\0\0\x02\0\x01\
+    \0\0\0\x39\x01\0\x40\0\x08\0\x08\0\x08\
+    \x79\x20\0\0\0\0\0\0\x79\x39\0\0\0\0\0\0\x0F\x90\0\0\0\0\0\0\
+    \x7B\x04\0\0\0\0\0\0\xB7\0\0\0\x08\0\0\0\x95\0\0\0\0\0\0\0";
+
+// Merge of 1 under the key `a`, by the program whose number is to stand in the last eight bytes.
+const MERGE: [u8; 25] = *b"\0\0\0\x15\x1A\x01a\0\x08\x01\0\0\0\0\0\0\0\0\0\0\0\0\0\0\0";
+
+// What the answer to a Merge begins with: a value of eight bytes.
+const VALUE: &[u8] = b"\0\0\0\x0B\x82\0\x08";
+
+const MERGES: u32 = 100;
+
+// A client that registers the sum and merges 1 so many times; whether each answer was a value.
+fn merge_by_ones<H: Net<Listener = TcpListener, Stream = TcpStream>>(
+    rt: &H,
+    address: &str,
+) -> io::Result<bool> {
+    let mut stream = TcpStream::connect(rt, address)?;
+    stream.write_all(REGISTER)?;
+    let mut registered = [0; 19];
+    stream.read_exact(&mut registered)?;
+    let mut merge = MERGE;
+    merge[17..].copy_from_slice(&registered[11..]);
+    for _ in 0..MERGES {
+        stream.write_all(&merge)?;
+        let mut answer = [0; 15];
+        stream.read_exact(&mut answer)?;
+        if !answer.starts_with(VALUE) {
+            return Ok(false);
+        }
+    }
+    Ok(true)
+}
+
+// Two clients at once; whether each answer was a value.
+fn merge_twice<H: Threads + Net<Listener = TcpListener, Stream = TcpStream> + Sync>(
+    rt: &H,
+    address: &str,
+) -> io::Result<bool> {
+    let (one, other) = thread::join(
+        rt,
+        || merge_by_ones(rt, address),
+        || merge_by_ones(rt, address),
+    );
+    Ok(one? && other?)
+}
+
+// What the clients' answers were, and the crews, once both were served.
+fn serve_beside<
+    H: Threads + Wait + Net<Listener = TcpListener, Stream = TcpStream> + Sync,
+    A: Accept<TcpReader, TcpWriter> + Sync,
+>(
+    rt: &H,
+    alloc: Global,
+    accept: &A,
+    map: &StripedMap,
+    registry: &Registry,
+    crews: Vec<Crew>,
+    address: &str,
+) -> (Result<Vec<Crew>, NoMemory>, io::Result<bool>)
+    requires { All (λ crew. IsOf map.now crew) crews.items }
+    ensures { IfOk result.0 (λ back. All (λ crew. IsOf map.now crew) back.items) }
+{
+    thread::join(
+        rt,
+        move || -> Result<Vec<Crew>, NoMemory>
+            requires { All (λ crew. IsOf map.now crew) crews.items }
+            ensures { IfOk result (λ back. All (λ crew. IsOf map.entry.now crew) back.items) }
+        { serve(rt, alloc, accept, map, registry, crews, &OpenGate) },
+        move || merge_twice(rt, address),
+    )
+}
+
+#[test]
+fn two_clients_merge_into_one_key(rt: HostRuntime) -> Result<(), Fail> {
+    let (map, one, other) = two_crews(rt.alloc()).ok_or("no map")?;
+    let registry = Registry::new(rt.alloc())?;
+    let listener = TcpListener::bind(&rt, "127.0.0.1:0")?;
+    let address = listener.local_addr()?;
+    let address = format!(in rt.alloc(); "{address}")?;
+    let mut errors = StreamSink::new(Room::new(rt.alloc(), ROOM));
+    let quotas = Quotas::new(rt.alloc(), 2, Some(1))?;
+    let telling = Telling::new(&mut errors);
+    let accept = TcpAccept::new(&rt, rt.alloc(), listener, quotas, telling);
+    let crews = vec![in rt.alloc(); one, other]?;
+    let (back, merged) = serve_beside(
+        &rt,
+        rt.alloc(),
+        &accept,
+        &map,
+        &registry,
+        crews,
+        address.as_str(),
+    );
+    assert!(&rt; merged?, "answers");
+    let mut back = back?;
+    let other = back.pop().ok_or("no crew")?;
+    let one = back.pop().ok_or("no crew")?;
+    let mut joined = join_sessions(&map, one.pass, other.pass);
+    let key = Key::from_slice(b"a")?;
+    let found = map.call(&rt, &mut joined, &Call::Get { key })?;
+    let Reply::Value(Some(value)) = found else {
+        return Err("no value".into());
+    };
+    assert!(&rt; value.as_slice() == [200, 0, 0, 0, 0, 0, 0, 0].as_slice());
+    Ok(())
+}
