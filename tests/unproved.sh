@@ -26,4 +26,9 @@ if [ -x crates/bpfmap/out/bpfmap ]; then
 else
     echo "crates/bpfmap/out/bpfmap is not built, so commands.sh and process.sh were not run"
 fi
+if [ -x crates/mapd/out/mapd ]; then
+    bash tests/server.sh
+else
+    echo "crates/mapd/out/mapd is not built, so server.sh was not run"
+fi
 [ ! -e "$work/failed" ]
