@@ -85,7 +85,7 @@ pub fn serve<
     let seats = seated(crews, seats);
     let call = move |_: usize, seat: &mut Option<Crew>|
         requires { IsSomeAnd seat.old (λ crew. IsOf map.now crew) }
-        ensures { IsServed map.now seat.old seat.new }
+        ensures { IsServed map.entry.now seat.old seat.new }
     {
         if let Some(crew) = seat.take() {
             *seat = Some(serve_clients(rt, alloc, accept, map, registry, crew, gate));
