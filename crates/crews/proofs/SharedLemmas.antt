@@ -2,9 +2,8 @@
 use Rattle.std.proofs.Common.{◌≡◌, ◌≢◌, ◌⊎◌, ◌==◌, if◌then◌else◌, inl, inr, ℕ, ◌<◌, List, [], ◌∷◌, ◌++◌, Bool, true, false, refl, sym, ap, subst, ◌∙◌, append-nil, append_assoc, eq-eqb, ne_eqb}
 use Rattle.std.proofs.lemmas.Bool.{cases_eq}
 use Rattle.stripe_rule.specs.declared.view.Event.{Event}
-use Rattle.stripe_rule.specs.declared.view.View.{View}
 use Rattle.stripe_rule.specs.History.{made_by}
-use Rattle.stripe_rule.specs.Gains.{Carries, own_event, seen_of, mine_of, Hears, IsJoined}
+use Rattle.stripe_rule.specs.Gains.{own_event, mine_of, IsJoined}
 use Rattle.atomic_methods.specs.Hashes.{stripe_of}
 use Rattle.atomic_methods.specs.Invocations.{Invocation}
 use Rattle.atomic_methods.specs.declared.reply.Reply.{Reply}
@@ -19,7 +18,7 @@ use Rattle.client_protocol.specs.declared.response.Response.TheVariants as tell
 use Rattle.sessions.specs.Asking.{Asked, asked, greeting, registration, call, walk, replacement, count, unknown, response_to, AnswersOnce}
 use Rattle.crews.specs.Shared.{AnsweredCall, made_call, call_asked, call_of_step, SessionOf, calls_of, events_at, SeesBothSessions}
 use Rattle.crews.specs.Stations.{Station}
-use Rattle.crews.specs.Steps.{Told, HearsEach, TeamWalks, Meets, Serves}
+use Rattle.crews.specs.Steps.{HearsEach, TeamWalks, Meets, Serves}
 use Rattle.crews.proofs.ChainLemmas.{session_leads}
 
 events_append : (pass : PassState) (k : ℕ) (xs ys : List AnsweredCall) → events_at pass k (xs ++ ys) ≡ events_at pass k xs ++ events_at pass k ys

@@ -1,5 +1,5 @@
 -- How a walk of the team answers a request.
-use Rattle.std.proofs.Common.{◌≡◌, ◌⊎◌, inl, inr, ℕ, List, [], ◌∷◌, Result, Ok, Err, MatchResult, refl, sym, ap, subst}
+use Rattle.std.proofs.Common.{◌≡◌, inl, inr, ℕ, List, [], ◌∷◌, Result, Ok, Err, MatchResult, refl, sym, ap, subst}
 use Rattle.atomic_table.specs.Seated.{TableId}
 use Rattle.bpf_model.specs.declared.memory.NoMemory.{NoMemory}
 use Rattle.atomic_methods.specs.declared.walk_reply.WalkReply.{WalkReply}

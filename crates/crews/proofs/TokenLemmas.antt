@@ -1,5 +1,5 @@
 -- Programs that are found by their numbers.
-use Rattle.std.proofs.Common.{◌≡◌, ◌==◌, if◌then◌else◌, ℕ, zero, suc, add-one, ◌+◌, ◌<◌, ◌≤◌, true, false, List, [], ◌∷◌, length, drop, get_or, Option, Some, None, IfSome, refl, sym, ap, subst, ◌∙◌, arith, eq-eqb, ne_eqb, ◌≢◌}
+use Rattle.std.proofs.Common.{◌≡◌, ◌==◌, if◌then◌else◌, ℕ, zero, suc, add-one, ◌+◌, ◌<◌, ◌≤◌, List, [], ◌∷◌, length, drop, get_or, Option, Some, None, IfSome, refl, sym, ap, ◌∙◌, arith, eq-eqb, ne_eqb, ◌≢◌}
 use Rattle.std.proofs.lemmas.List.{drop_all}
 use Rattle.bpf_model.specs.Meaning.{IsSafe}
 use Rattle.verifier.specs.Checked.{Checked}

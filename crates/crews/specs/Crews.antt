@@ -1,5 +1,5 @@
 -- What contracts see of a crew.
-use Rattle.std.specs.Prelude.{◌≡◌, ℕ, All, List, [], map, Option, Some}
+use Rattle.std.specs.Prelude.{◌≡◌, ℕ, All, List, map, Option, Some}
 use Rattle.atomic_table.specs.Seated.{TableId}
 use Rattle.bin_stripes.specs.Passes.{PassState}
 use Rattle.program_registry.specs.declared.registry.ProgramToken.{ProgramToken}

@@ -2,7 +2,6 @@
 use Rattle.std.specs.Prelude.{◌≡◌, ◌⊎◌, ◌==◌, if◌then◌else◌, ℕ, ◌<◌, List, [], ◌∷◌, ◌++◌}
 use Rattle.std.proofs.Common.{inl, inr}
 use Rattle.stripe_rule.specs.declared.view.Event.{Event}
-use Rattle.stripe_rule.specs.declared.view.View.{View}
 use Rattle.stripe_rule.specs.History.{made_by}
 use Rattle.stripe_rule.specs.Gains.{Carries, own_event, seen_of, mine_of}
 use Rattle.atomic_methods.specs.Hashes.{stripe_of}

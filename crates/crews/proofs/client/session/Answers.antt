@@ -3,7 +3,7 @@ use Rattle.atomic_table.specs.Seated.{TableId}
 use Rattle.bin_stripes.specs.declared.pass.Pass.{Pass}
 use Rattle.crews.specs.Crews.{team_numbers}
 use Rattle.crews.specs.Stations.{Station}
-use Rattle.crews.proofs.NumberLemmas.{SameNumbers, ended_same}
+use Rattle.crews.proofs.NumberLemmas.{ended_same}
 use Rattle.crews.proofs.client.session.Goals as goal
 
 pub returns-clause-crew : goal.returns-clause-crew

@@ -1,4 +1,4 @@
-use Rattle.std.proofs.Common.{sym, ◌∙◌, subst, ◌≡◌}
+use Rattle.std.proofs.Common.{sym, ◌∙◌, subst}
 use Rattle.atomic_table.specs.Seated.{TableId}
 use Rattle.stripe_rule.specs.Gains.{IsJoined}
 use Rattle.bin_stripes.specs.Passes.{stripes_of}

@@ -1,4 +1,4 @@
-use Rattle.std.proofs.Common.{◌≡◌, length, arith, ◌∙◌, sym, get_or}
+use Rattle.std.proofs.Common.{◌≡◌, arith, ◌∙◌, get_or}
 use Rattle.std.proofs.lemmas.List.Elements.{All-set}
 use Rattle.bin_stripes.specs.declared.pass.Pass.{Pass}
 use Rattle.crews.specs.Steps.{Told}

@@ -1,4 +1,4 @@
-use Rattle.std.proofs.Common.{◌≡◌, ◌∙◌, ap, sym, subst, List, Some}
+use Rattle.std.proofs.Common.{◌∙◌, ap, sym, subst, List, Some}
 use Rattle.bulk_walks.specs.Walks.{IsWalk, AllWalked, MayScan}
 use Rattle.program_registry.specs.declared.registry.ProgramToken.{ProgramToken}
 use Rattle.crews.specs.Stations.{Station}
