@@ -7,12 +7,19 @@
 #include <sys/syscall.h>
 #include <unistd.h>
 
+/* What the environment says, unless that is nothing. */
+static const char *told(const char *name)
+{
+    const char *text = getenv(name);
+    return text && *text ? text : NULL;
+}
+
 ssize_t read(int file, void *bytes, size_t count)
 {
-    const char *number = getenv("READ_AT_MOST");
+    const char *number = told("READ_AT_MOST");
     size_t most = number ? strtoul(number, NULL, 10) : count;
     ssize_t given = syscall(SYS_read, file, bytes, count < most ? count : most);
-    if (given == 0 && count > 0 && file == STDIN_FILENO && getenv("READ_FAILS")) {
+    if (given == 0 && count > 0 && file == STDIN_FILENO && told("READ_FAILS")) {
         errno = EIO;
         return -1;
     }
@@ -23,7 +30,7 @@ ssize_t send(int file, const void *bytes, size_t count, int flags)
 {
     static size_t sent;
     static int has_failed;
-    const char *number = getenv("SENT_AT_MOST");
+    const char *number = told("SENT_AT_MOST");
     if (number && !has_failed && count > 0) {
         size_t room = strtoul(number, NULL, 10) - sent;
         if (room == 0) {

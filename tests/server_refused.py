@@ -26,6 +26,7 @@ PROGRAM = model.PROGRAMS[model.NOTHING_AT_ALL]
 NUMBERS = [0]
 A, B = b"a", b"b"
 REGISTER = wire.register(PROGRAM.sizes, PROGRAM.code)
+BY_FIVE = wire.compute(B, 5, None)
 WALKS = [wire.walk(tag, 0, None) for tag in (model.SEARCH, model.FOR_EACH, model.REPLACE_ALL)]
 MOST_REQUESTS = 5000
 
@@ -38,7 +39,7 @@ def computed(key: bytes) -> Call:
 # What each session asks for behind its Hello: calls, and bodies of what is no call.
 SESSIONS: list[list[Call | bytes]] = [
     [Call(model.PUT, A, value=b"xy"), Call(model.GET, A)],
-    [REGISTER, computed(B)],
+    [REGISTER, computed(B), BY_FIVE],
     [Call(model.GET, A), Call(model.PUT, B, value=b"z"), wire.COUNT, *WALKS, computed(A), Call(model.GET, A)],
     [Call(model.GET, A), Call(model.GET, B)],
 ]
@@ -66,6 +67,8 @@ class Known:
             return b"\x81" + wire.number_field(0)
         if asked == wire.COUNT:
             return self.end()
+        if asked == BY_FIVE:
+            return UNKNOWN
         if asked in WALKS:
             return self.end() if self.has_program else UNKNOWN
         if asked.program is not None and not self.has_program:
@@ -73,8 +76,10 @@ class Known:
         return model.step(asked, self.values.get(asked.key))[0]
 
     def may_be_refused(self, asked: Call | bytes) -> bool:
-        """Whether 9 may come in place of an answer: not where no key is added."""
-        return isinstance(asked, bytes) or (asked.tag == model.PUT and asked.key not in self.values)
+        """Whether 9 may come in place of an answer: not where no key is added, and not before a number is looked up."""
+        if asked in WALKS:
+            return self.has_program
+        return asked in (REGISTER, wire.COUNT) or (isinstance(asked, Call) and asked.tag == model.PUT and asked.key not in self.values)
 
     def take(self, asked: Call | bytes) -> None:
         """The request was made."""
@@ -182,6 +187,8 @@ def main() -> None:
             if not way:
                 break
             ways[way] += 1
+        else:
+            sys.exit(f"server_refused: FAILED, {MOST_REQUESTS - 1} requests were refused, and there are more")
     if not ways["an answer of 9"] or not ways["refused before it was ready"]:
         sys.exit(f"server_refused: FAILED, too little was refused: {dict(ways)}")
     print(f"server_refused: {sum(ways.values())} requests, {', '.join(f'{count} with {way}' for way, count in ways.items())}")
