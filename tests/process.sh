@@ -1,6 +1,7 @@
 #!/usr/bin/env bash
-# Runs the built bpfmap as a process: its status and both of its streams, which no contract reaches; the verdicts and
-# answers of a second implementation; and each request for memory refused in turn. Behind the gate, which builds the
+# Runs the built bpfmap as a process: its status and both of its streams, which no contract reaches; a session whose input
+# ends or fails, or whose output is full, behind each byte; the verdicts and answers of a second implementation; and each
+# request for memory refused in turn. Behind the gate, which builds the
 # program; by hand after `rt run` in crates/bpfmap.
 set -euo pipefail
 cd "$(dirname "$0")/.."
