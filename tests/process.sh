@@ -1,8 +1,7 @@
 #!/usr/bin/env bash
 # Runs the built bpfmap as a process: its status and both of its streams, which no contract reaches; a session whose input
 # ends or fails, or whose output is full, behind each byte; the verdicts and answers of a second implementation; and each
-# request for memory refused in turn. Behind the gate, which builds the
-# program; by hand after `rt run` in crates/bpfmap.
+# request for memory refused in turn. Behind the gate, which builds the program; by hand after `rt run` in crates/bpfmap.
 set -euo pipefail
 cd "$(dirname "$0")/.."
 # shellcheck source=tests/common.sh
@@ -141,6 +140,7 @@ serve_in_turns() {
     local name=$1 wanted given from to client
     shift
     coproc session { exec "$program" exec 2> "$work/err"; }
+    # shellcheck disable=SC2154
     client=$session_PID
     # A subshell does not have a coprocess's own descriptors, but it has copies of them.
     exec {from}<&"${session[0]}" {to}>&"${session[1]}"
