@@ -1,7 +1,7 @@
 #!/usr/bin/env bash
-# Runs the built bpfmap as a process: its status and both of its streams, which no contract reaches; the verdicts and
-# answers of a second implementation; and each request for memory refused in turn. Behind the gate, which builds the
-# program; by hand after `rt run` in crates/bpfmap.
+# Runs the built bpfmap as a process: its status and both of its streams, which no contract reaches; a session whose input
+# ends or fails, or whose output is full, behind each byte; the verdicts and answers of a second implementation; and each
+# request for memory refused in turn. Behind the gate, which builds the program; by hand after `rt run` in crates/bpfmap.
 set -euo pipefail
 cd "$(dirname "$0")/.."
 # shellcheck source=tests/common.sh
@@ -27,6 +27,12 @@ expect() {
     judge "$name" ended "$status" "$output" "$errors"
 }
 
+# Name, and how many requests for memory were refused in turn: one at least.
+count_refused() {
+    judge "$1: some request is refused" [ "$2" -gt 0 ]
+    echo "process: $1: $2 requests"
+}
+
 # Refuses each request for memory in turn: the run ends as with ample memory, or with a refusal.
 refuse_each() {
     local name=$1 status output requests number
@@ -36,10 +42,13 @@ refuse_each() {
     output=$(cat "$work/out")
     requests=$(cat "$work/requests")
     for number in $(seq "$requests"); do
-        LD_PRELOAD=$work/refuse.so REFUSED_REQUEST=$number run "$@"
+        rm -f "$work/refused"
+        LD_PRELOAD=$work/refuse.so REFUSED_REQUEST=$number REFUSED_FILE=$work/refused run "$@"
         judge "$name, request $number of $requests refused" \
             eval "ended $status \"\$output\" '*' || ended 1 'refused 9 at 0' 'no memory'"
+        judge "$name, request $number of $requests: it was refused" [ -e "$work/refused" ]
     done
+    count_refused "$name" "$requests"
 }
 
 # Writes bytes from hex to the input; the output in hex.
@@ -63,32 +72,66 @@ serve() {
     judge "$1" answered "$3" "$4" "$5"
 }
 
-# Whether each answer is one of its two; or a refusal of memory ends them, or comes in place of all.
-answers_each() {
-    local output wanted
+# Whether the last run answered one of these lists of frames, which bars part; or memory was refused to its table, or to the reading,
+# behind the first frames of the first list.
+answers_one_of() {
+    local output wanted frame before=
     output=$(printed)
     [ "$got $output" != "1 $(printf 'refused 9 at 0\n' | od -An -v -tx1 | tr -d ' \n')" ] || return 0
     for wanted in "$@"; do
-        wanted=${wanted// /}
-        case $output in
-            "${wanted%%|*}"*) output=${output#"${wanted%%|*}"} ;;
-            "${wanted##*|}"*) output=${output#"${wanted##*|}"} ;;
-            00000006850900000000) [ "$got" = 1 ]; return ;;
-            *) return 1 ;;
-        esac
+        wanted=${wanted//[ |]/}
+        [ "$got $output" != "0 $wanted" ] || return 0
     done
-    [ -z "$output" ] && [ "$got" = 0 ]
+    [ "$got" = 1 ] || return 1
+    while IFS= read -r frame; do
+        [ "$output" != "$before${refusal// /}" ] || return 0
+        before+=${frame// /}
+    done < <(tr '|' '\n' <<< "$1|")
+    return 1
 }
 
-# Refuses each request for memory in turn to a session: each answer is that of ample memory or a refusal of memory.
+# Refuses each request for memory in turn to a session: it answers one of the lists, of which the first is that of ample memory.
 refuse_each_answer() {
     local name=$1 requests number
     shift
     LD_PRELOAD=$work/refuse.so REQUESTS_FILE=$work/requests run exec
+    judge "$name, no request refused" answered 0 "${1//|/}" ""
     requests=$(cat "$work/requests")
     for number in $(seq "$requests"); do
-        LD_PRELOAD=$work/refuse.so REFUSED_REQUEST=$number run exec
-        judge "$name, request $number of $requests refused" answers_each "$@"
+        rm -f "$work/refused"
+        LD_PRELOAD=$work/refuse.so REFUSED_REQUEST=$number REFUSED_FILE=$work/refused run exec
+        judge "$name, request $number of $requests refused" answers_one_of "$@"
+        judge "$name, request $number of $requests: it was refused" [ -e "$work/refused" ]
+    done
+    count_refused "$name" "$requests"
+}
+
+# Name, the session's end and the wanted status, and pieces of at most so many bytes: the 24 bytes of a Hello, a Put and a Get are
+# cut behind each byte, and all that is whole is answered.
+cut_everywhere() {
+    local name=$1 fails=$2 pieces=$3 cut place status errors
+    for cut in $(seq 0 24); do
+        place=0
+        while [ "$place" -lt 3 ] && [ "${sent_ends[place + 1]}" -le "$cut" ]; do place=$((place + 1)); done
+        status=0 errors=
+        [ "$cut" = "${sent_ends[place]}" ] || status=1
+        [ -z "$fails" ] || status=3 errors="failed read"
+        frames "$hello $put_and_get"
+        truncate -s "$cut" "$work/in"
+        LD_PRELOAD=$work/cut.so READ_AT_MOST=$pieces READ_FAILS=$fails run exec
+        judge "$name behind $cut bytes, at most ${pieces:-all} at a time" answered "$status" "${all_answers:0:2 * answered_ends[place]}" "$errors"
+    done
+}
+
+# The output takes so many bytes of the answers to these, and then fails.
+fill_everywhere() {
+    local room
+    frames "$hello $put_and_get"
+    for room in $(seq 0 21); do
+        got=0
+        : > "$work/out"
+        (trap '' XFSZ; exec prlimit --fsize="$room:$room" "$program" exec) < "$work/in" 2>&1 > "$work/out" | cat > "$work/err" || got=$?
+        judge "an output that takes $room bytes" answered 3 "${all_answers:0:2 * room}" "failed write"
     done
 }
 
@@ -97,6 +140,7 @@ serve_in_turns() {
     local name=$1 wanted given from to client
     shift
     coproc session { exec "$program" exec 2> "$work/err"; }
+    # shellcheck disable=SC2154
     client=$session_PID
     # A subshell does not have a coprocess's own descriptors, but it has copies of them.
     exec {from}<&"${session[0]}" {to}>&"${session[1]}"
@@ -139,8 +183,13 @@ expect "an input of more than 64 KiB" 0 "nothing" "" run
 hello='00000002 0001'
 welcome='00000002 8001'
 put_and_get='00000007 11016100027879 00000003 100161'
+all_answers=${welcome// /}0000000382ffff000000058200027879
+sent_ends=(0 6 17 24) answered_ends=(0 6 13 22)
+nothing='00000003 82ffff' found='00000005 8200027879'
+refusal='00000006 850900000000' unknown='00000006 854200000000'
 register='00000019 01004001000100 0100 b7000000ffffffff9500000000000000'
-compute='0000000d 170161 0000000000000000 ffff'
+registered='00000009 810000000000000000'
+compute='0000000d 170161 0000000000000000 ffff' compute_by_5='0000000d 170161 0000000000000005 ffff'
 serve "a session" "$hello $put_and_get" 0 "$welcome 00000003 82ffff 00000005 8200027879" ""
 serve "a session with a program" "$hello $register $compute" 0 "$welcome 00000009 810000000000000000 00000003 82ffff" ""
 serve "a session that is refused" "$hello $hello" 1 "$welcome 00000006 854000000000" ""
@@ -156,6 +205,20 @@ expect "stripes that there are not" 1 "refused 50 at 0" "not a number of stripes
 input=/ expect "a session that can't be read" 3 "" "failed read" exec
 frames "$hello"
 sink=/dev/full expect "a session that can't be answered" 3 "" "failed write" exec
+if command -v prlimit > /dev/null; then
+    fill_everywhere
+else
+    echo "process: no prlimit here, so no output was full behind some bytes"
+fi
+if command -v gcc > /dev/null; then
+    gcc -O1 -shared -fPIC -o "$work/cut.so" tests/cut.c
+    for pieces in "" 1 5; do
+        cut_everywhere "an input that ends" "" "$pieces"
+        cut_everywhere "an input that fails" 1 "$pieces"
+    done
+else
+    echo "process: no gcc here, so no input was cut or failed behind some bytes"
+fi
 
 printf '7b 0g' > "$work/in"
 expect "hex that is none" 1 "refused 70 at 3" "no hex text at place 3" check
@@ -196,11 +259,12 @@ if command -v gcc > /dev/null; then
     refuse_each "run" run "${sizes[@]}" "${values[@]}"
     refuse_each "a fault of the words" run --nothing
     frames "$hello $put_and_get"
-    refuse_each_answer "a session" "$welcome" \
-        "00000003 82ffff|00000006 850900000000" "00000005 8200027879|00000003 82ffff"
-    frames "$hello $register $compute"
-    refuse_each_answer "a session with a program" "$welcome" \
-        "00000009 810000000000000000|00000006 850900000000" "00000003 82ffff|00000006 854200000000"
+    refuse_each_answer "a session" "$welcome|$nothing|$found" "$welcome|$refusal|$nothing"
+    frames "$hello 00000007 11016100027879 00000007 11016200027879 00000003 100161 00000003 100162"
+    refuse_each_answer "a session on two keys" "$welcome|$nothing|$nothing|$found|$found" \
+        "$welcome|$refusal|$nothing|$nothing|$found" "$welcome|$nothing|$refusal|$found|$nothing"
+    frames "$hello $register $compute $compute_by_5"
+    refuse_each_answer "a session with a program" "$welcome|$registered|$nothing|$unknown" "$welcome|$refusal|$unknown|$unknown"
 else
     echo "process: no gcc here, so no request for memory was refused"
 fi

@@ -5,11 +5,15 @@ set -euo pipefail
 cd "$(dirname "$0")/.."
 work=$(mktemp -d)
 trap 'rm -rf "$work"' EXIT
+rows=0
 passed=0
 failed=0
 
 command -v gcc > /dev/null || { echo "refused: no gcc here, so no request for memory was refused"; exit 0; }
 gcc -O1 -shared -fPIC -fno-builtin -o "$work/refuse.so" tests/refuse.c
+
+# More requests than any test makes.
+most=10000
 
 # Whether the test passes where the request of this number is refused; it makes $work/refused where there was one. (env loads
 # refuse.so into the test alone: `timeout` makes requests of its own.)
@@ -21,21 +25,31 @@ passes() {
         > "$work/out" 2> "$work/err"
 }
 
+# Says what failed.
+fail() {
+    failed=$((failed + 1))
+    echo "FAILED: $*"
+}
+
 # A crate and the name of one of its tests: until a run makes fewer requests.
 refuse_each() {
-    local program=crates/$1/out/$1_tests number
+    local program=crates/$1/out/$1_tests number refused=0
+    rows=$((rows + 1))
     [ -x "$program" ] || { echo "refused: $program is not built; run the gate first" >&2; exit 1; }
-    for number in $(seq 10000); do
+    grep -Erq "fn ${2##*::}[(<]" "crates/$1/src" || fail "$1 has no test $2"
+    for number in $(seq "$most"); do
         if passes "$number" "$program" "$2"; then
             [ -e "$work/refused" ] || break
             passed=$((passed + 1))
         else
-            failed=$((failed + 1))
-            echo "FAILED: $1, $2, request $number refused: $(cat "$work/err")"
+            fail "$1, $2, request $number refused: $(cat "$work/err")"
             [ -e "$work/refused" ] || break
         fi
+        refused=$number
     done
-    echo "$1, $2: $((number - 1)) requests"
+    [ "$refused" -gt 0 ] || fail "$1, $2: it made no request for memory"
+    [ "$refused" -lt "$most" ] || fail "$1, $2: there are more requests than $most"
+    echo "$1, $2: $refused requests"
 }
 
 refuse_each map_tests entries::a_refused_put_leaves_the_list
@@ -50,5 +64,5 @@ refuse_each session_tests frames::streams::a_refused_piece_can_be_fed_again
 refuse_each session_tests bpfmap::refused_memory::a_refused_request_is_told
 refuse_each session_tests bpfmap::refused_memory::a_refused_request_leaves_the_table
 
-echo "refused: $passed passed, $failed failed"
+echo "refused: $rows tests, $passed passed, $failed failed"
 [ "$failed" = 0 ]

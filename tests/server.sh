@@ -129,6 +129,7 @@ if command -v xxd > /dev/null; then
     judge "the exchange of docs/SERVER.md: it ends" ended 0 "ready"$'\n'"served 1" ""
 fi
 judge "the sessions of frames.txt" python3 tests/server_rows.py --program "$program"
+judge "connections that are cut and reset everywhere" python3 tests/server_cut.py --program "$program"
 
 serve_all "a hundred sessions" sessions 100
 serve_all "a stream that is cut" cut 1

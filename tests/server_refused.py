@@ -11,7 +11,9 @@ import subprocess
 import sys
 import tempfile
 from collections import Counter
+from dataclasses import dataclass, replace
 from pathlib import Path
+from typing import Union
 
 sys.path.insert(0, str(Path(__file__).resolve().parent))
 sys.dont_write_bytecode = True
@@ -22,25 +24,50 @@ from sequential import Call  # noqa: E402
 
 NO_MEMORY = wire.refused(9)
 UNKNOWN = wire.refused(66)
-PROGRAM = model.PROGRAMS[model.NOTHING_AT_ALL]
-NUMBERS = [0]
-A, B = b"a", b"b"
-REGISTER = wire.register(PROGRAM.sizes, PROGRAM.code)
-WALKS = [wire.walk(tag, 0, None) for tag in (model.SEARCH, model.FOR_EACH, model.REPLACE_ALL)]
+ENDED = "a session that ended with 9"
+A, B, C, D = b"a", b"b", b"c", b"d"
+ONE, TWO = model.spelled(1), model.spelled(2)
 MOST_REQUESTS = 5000
 
 
-def computed(key: bytes) -> Call:
-    """A Compute by the program that answers nothing."""
-    return Call(model.COMPUTE, key, program=model.NOTHING_AT_ALL)
+@dataclass(frozen=True)
+class Register:
+    """Registers a program, by its place in the model."""
+    program: int
 
 
-# What each session asks for behind its Hello: calls, and bodies of what is no call.
-SESSIONS: list[list[Call | bytes]] = [
+@dataclass(frozen=True)
+class Walk:
+    """A walk by the program of this number."""
+    tag: int
+    number: int
+    arg: bytes | None
+
+
+class Count:
+    """A Count."""
+
+
+Asked = Union[Call, Register, Walk, Count]
+
+
+def computed(key: bytes, number: int) -> Call:
+    """A Compute by the program of this number, without an argument."""
+    return Call(model.COMPUTE, key, program=number)
+
+
+def walks(number: int, arg: bytes | None) -> list[Walk]:
+    """Each walk that has a program."""
+    return [Walk(tag, number, arg) for tag in (model.SEARCH, model.FOR_EACH, model.REPLACE_ALL)]
+
+
+# What each session asks for behind its Hello. Programs are named by the numbers that they have where all are registered.
+SESSIONS: list[list[Asked]] = [
     [Call(model.PUT, A, value=b"xy"), Call(model.GET, A)],
-    [REGISTER, computed(B)],
-    [Call(model.GET, A), Call(model.PUT, B, value=b"z"), wire.COUNT, *WALKS, computed(A), Call(model.GET, A)],
-    [Call(model.GET, A), Call(model.GET, B)],
+    [Register(model.NOTHING_AT_ALL), computed(B, 0), computed(B, 5)],
+    [Call(model.GET, A), Call(model.PUT, B, value=b"z"), Count(), *walks(0, None), computed(A, 0), Call(model.GET, A)],
+    [Register(model.ADD), Call(model.PUT, C, value=ONE), Call(model.PUT, D, value=TWO), *walks(1, ONE), Count()],
+    [Call(model.GET, key) for key in (A, B, C, D)],
 ]
 OPTIONS = ["--workers", "1", "--team", "2", "--sessions", str(len(SESSIONS))]
 
@@ -49,75 +76,113 @@ class Wrong(Exception):
     """What must not happen."""
 
 
+def body_of(asked: Asked) -> bytes:
+    """The body of a request."""
+    if isinstance(asked, Register):
+        program = model.PROGRAMS[asked.program]
+        return wire.register(program.sizes, program.code)
+    if isinstance(asked, Walk):
+        return wire.walk(asked.tag, asked.number, asked.arg)
+    if isinstance(asked, Count):
+        return wire.COUNT
+    return asked.body(range(6))
+
+
 class Known:
-    """What was answered so far: the values of keys, and whether there is a program."""
+    """What was answered so far: the values of keys, and the programs by their numbers."""
 
     def __init__(self) -> None:
         self.values: dict[bytes, bytes] = {}
-        self.has_program = False
+        self.programs: list[int] = []
 
-    def end(self) -> bytes:
-        """The End of a walk without items."""
-        return bytes([wire.END]) + wire.number_field(len(self.values)) + bytes(16)
+    def is_known(self, number: int | None) -> bool:
+        """Whether there is such a program, where one is named."""
+        return number is None or number < len(self.programs)
 
-    def answer(self, asked: Call | bytes) -> bytes:
-        """The answer that ample memory would have."""
-        if asked == REGISTER:
-            return b"\x81" + wire.number_field(0)
-        if asked == wire.COUNT:
-            return self.end()
-        if asked in WALKS:
-            return self.end() if self.has_program else UNKNOWN
-        if asked.program is not None and not self.has_program:
-            return UNKNOWN
-        return model.step(asked, self.values.get(asked.key))[0]
+    def end(self, given: int, unfit: int) -> bytes:
+        """The End of a walk."""
+        return bytes([wire.END]) + b"".join(map(wire.number_field, (len(self.values), given, unfit)))
 
-    def may_be_refused(self, asked: Call | bytes) -> bool:
-        """Whether 9 may come in place of an answer: not where no key is added."""
-        return isinstance(asked, bytes) or (asked.tag == model.PUT and asked.key not in self.values)
+    def meant(self, call: Call) -> Call:
+        """The call, by the program that has the number."""
+        return call if call.program is None else replace(call, program=self.programs[call.program])
 
-    def take(self, asked: Call | bytes) -> None:
+    def told(self, walk: Walk) -> tuple[dict[bytes, bytes], int]:
+        """What the program answers on the entries, in key order, and how many do not fit."""
+        program = model.PROGRAMS[self.programs[walk.number]]
+        given, unfit = {}, 0
+        for key in sorted(self.values):
+            if program.unfit(key, self.values[key], walk.arg):
+                unfit += 1
+                continue
+            new = program.function(key, self.values[key], walk.arg)
+            given.update({} if new is None else {key: new})
+        return given, unfit
+
+    def walked(self, walk: Walk) -> list[bytes]:
+        """The answers to a walk."""
+        given, unfit = self.told(walk)
+        items = list(given.items())[:1 if walk.tag == model.SEARCH else None]
+        bodies = [bytes([wire.ITEM]) + wire.key_field(key) + wire.value_field(value) for key, value in items]
+        return ([] if walk.tag == model.REPLACE_ALL else bodies) + [self.end(len(items), unfit)]
+
+    def answers(self, asked: Asked) -> list[bytes]:
+        """The answers that ample memory would have."""
+        if isinstance(asked, Register):
+            return [b"\x81" + wire.number_field(len(self.programs))]
+        if isinstance(asked, Count):
+            return [self.end(0, 0)]
+        if not self.is_known(asked.number if isinstance(asked, Walk) else asked.program):
+            return [UNKNOWN]
+        if isinstance(asked, Walk):
+            return self.walked(asked)
+        return [model.step(self.meant(asked), self.values.get(asked.key))[0]]
+
+    def may_be_refused(self, asked: Asked) -> bool:
+        """Whether 9 may come in place of the answers: not where no key is added, and not where the program is unknown."""
+        if isinstance(asked, Walk):
+            return self.is_known(asked.number)
+        return not isinstance(asked, Call) or (asked.tag == model.PUT and asked.key not in self.values)
+
+    def take(self, asked: Asked) -> None:
         """The request was made."""
-        if asked == REGISTER:
-            self.has_program = True
-        elif isinstance(asked, Call) and (asked.program is None or self.has_program):
-            new = model.step(asked, self.values.pop(asked.key, None))[1]
+        if isinstance(asked, Register):
+            self.programs.append(asked.program)
+        elif isinstance(asked, Walk) and asked.tag == model.REPLACE_ALL and self.is_known(asked.number):
+            self.values.update(self.told(asked)[0])
+        elif isinstance(asked, Call) and self.is_known(asked.program):
+            new = model.step(self.meant(asked), self.values.pop(asked.key, None))[1]
             self.values.update({} if new is None else {asked.key: new})
 
-    def hear(self, asked: Call | bytes, answer: bytes) -> None:
-        """An answer, which must be the one of ample memory or a refusal that may come."""
-        if answer == NO_MEMORY and self.may_be_refused(asked):
-            return
-        if answer != self.answer(asked):
-            raise Wrong(f"{asked} is answered {answer.hex()}, not {self.answer(asked).hex()}")
-        self.take(asked)
 
-
-def bodies(session: list[Call | bytes]) -> list[bytes]:
-    """The requests of a session, as bodies."""
-    return [wire.HELLO] + [asked if isinstance(asked, bytes) else asked.body(NUMBERS) for asked in session]
-
-
-def said(address: str, session: list[Call | bytes]) -> list[bytes]:
+def said(address: str, session: list[Asked]) -> list[bytes]:
     """The answers to a session that is sent in one piece."""
     with wire.Client(address) as client:
-        return list(full.bodies_of(client.exchange(wire.frames(bodies(session)))))
+        return list(full.bodies_of(client.exchange(wire.frames([wire.HELLO, *map(body_of, session)]))))
 
 
-def hear_session(known: Known, session: list[Call | bytes], answers: list[bytes]) -> str:
-    """Compares a session's answers; how it went."""
+def hear_session(known: Known, session: list[Asked], answers: list[bytes]) -> str:
+    """Compares a session's answers, of which each may be a refusal that may come; how it went."""
     if not answers:
         return "a client without answers"
-    if answers[-1] == NO_MEMORY and len(answers) <= len(session):
-        answers, went = answers[:-1], "a session that ended with 9"
-    elif len(answers) != len(session) + 1:
-        raise Wrong(f"{len(session) + 1} requests have {len(answers)} answers")
-    else:
-        went = "an answer of 9" if NO_MEMORY in answers else "no matter"
-    if answers[:1] not in ([wire.WELCOME], []):
+    if answers == [NO_MEMORY]:
+        return ENDED
+    if answers[0] != wire.WELCOME:
         raise Wrong(f"the Hello is answered {answers[0].hex()}")
-    for asked, answer in zip(session, answers[1:]):
-        known.hear(asked, answer)
+    left, went = answers[1:], "no matter"
+    for asked in session:
+        if left == [NO_MEMORY] and asked is not session[-1]:
+            return ENDED
+        if left[:1] == [NO_MEMORY] and known.may_be_refused(asked):
+            left, went = left[1:], "an answer of 9"
+            continue
+        wanted = known.answers(asked)
+        if left[:len(wanted)] != wanted:
+            raise Wrong(f"{asked} is answered {[body.hex() for body in left[:len(wanted)]]}, not {[body.hex() for body in wanted]}")
+        left = left[len(wanted):]
+        known.take(asked)
+    if left:
+        raise Wrong(f"behind all answers there are {[body.hex() for body in left]}")
     return went
 
 
@@ -182,6 +247,8 @@ def main() -> None:
             if not way:
                 break
             ways[way] += 1
+        else:
+            sys.exit(f"server_refused: FAILED, {MOST_REQUESTS - 1} requests were refused, and there are more")
     if not ways["an answer of 9"] or not ways["refused before it was ready"]:
         sys.exit(f"server_refused: FAILED, too little was refused: {dict(ways)}")
     print(f"server_refused: {sum(ways.values())} requests, {', '.join(f'{count} with {way}' for way, count in ways.items())}")
