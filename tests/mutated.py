@@ -36,14 +36,15 @@ RESPONSES = range(0x80, 0x88)
 # The numbers that a Refused may have: of memory, of programs, of frames, and of a program that is not there.
 FAULTS = range(60, 65)
 NUMBERS = {9, *range(10, 18), *range(30, 34), *range(40, 48), *FAULTS, 66}
-# How long one session may take, in seconds, and how much memory any process may take, in KiB, the server beyond what it took first.
+# How long one session may take, in seconds, and how much memory any process may take, in KiB, the server beyond what it took at first.
 PATIENCE = 20
 MOST_MEMORY = 64 * 1024
 PROGRAMS = 200
 THREADS = os.cpu_count() or 1
 # The longest request to begin from.
 MOST_BYTES = 1024
-# The server has a worker for each sender and two for good clients, one of whom is there all the while. For each program that it keeps it may take so many KiB more.
+# The server has a worker for each sender and two for good clients, one of whom is there all the while. For each program that it keeps
+# it may take so many KiB more.
 SENDERS = 4
 OPTIONS = ["--workers", str(SENDERS + 2), "--team", "2", "--stripes", "4"]
 KIB_A_PROGRAM = 8
