@@ -5,7 +5,7 @@ hash and among as many at random; and, beside clients that make such calls, or r
 another client take: of a key in the same stripe, and, to see what is the machine's, of one in another stripe.
 
 docs/SERVER.md has the numbers. By hand, on a quiet machine, after `rt run` in crates/bpfmap and crates/mapd: python3 bench/hostile.py
-[--calls N] [--keys N ..] [--clients N ..] [--program BPFMAP] [--server MAPD]. It takes some five minutes."""
+[--calls N] [--keys N ..] [--clients N ..] [--program BPFMAP] [--server MAPD]. It takes some minutes."""
 from __future__ import annotations
 
 import argparse

@@ -6,7 +6,7 @@ that crates/bpfmap/README.md names. The server must serve good clients beside th
 
 It starts from the requests of tests/frames.txt and from plain programs (tests/plain.py). By hand, after `rt run` in crates/bpfmap or
 crates/mapd: python3 tests/mutated.py [--server] [--program PROGRAM] [SECONDS [SEED]]; of bpfmap a third of the seconds goes to each.
-With --count COUNT each goes on instead until so many programs or streams were sent; a million of each takes an hour or more:
+With --count COUNT each goes on instead until so many programs or streams were sent; a million of each takes long:
 
     python3 tests/mutated.py --count 1000000 && python3 tests/mutated.py --server --count 1000000
 
