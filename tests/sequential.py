@@ -2,6 +2,7 @@
 leaves. Its programs are those of docs/PROGRAMS.md and two more; each stands here as bytes and, beside them, as what it means."""
 from __future__ import annotations
 
+import random
 from collections.abc import Callable, Sequence
 from dataclasses import dataclass
 from typing import Optional
@@ -193,3 +194,30 @@ def changes_nothing(call: Call, answer: Held) -> bool:
     if call.tag in (PUT_IF_ABSENT, REPLACE):
         return (answer == wire.NOTHING) == (call.tag == REPLACE)
     return call.program is not None and answer is not None and answer[0] == 0x84
+
+
+def some_value(dice: random.Random) -> bytes:
+    """A value that is often met again: a small number, a version and a payload, a list of bytes, or a longer one."""
+    kind = dice.randrange(8)
+    if kind < 4:
+        return spelled(dice.randrange(4))
+    if kind < 6:
+        return spelled(dice.randrange(3), dice.randrange(3))
+    return dice.choice((b"", b"\x01", b"\xff" * 17, b"\x00" * 256))
+
+
+def some_call(dice: random.Random, keys: Sequence[bytes]) -> Call:
+    """One of the eleven calls on one of the keys."""
+    tag, key = dice.choice(CALLS), dice.choice(keys)
+    if tag in (GET, REMOVE):
+        return Call(tag, key)
+    if tag in (PUT, PUT_IF_ABSENT, REPLACE):
+        return Call(tag, key, value=some_value(dice))
+    if tag == REMOVE_IF:
+        return Call(tag, key, expected=some_value(dice))
+    if tag == REPLACE_IF:
+        return Call(tag, key, value=some_value(dice), expected=some_value(dice))
+    program = dice.randrange(len(PROGRAMS))
+    if tag == MERGE:
+        return Call(tag, key, value=some_value(dice), program=program)
+    return Call(tag, key, program=program, arg=dice.choice((None, some_value(dice))))

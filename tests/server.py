@@ -4,6 +4,7 @@ fails where an answer is not the one that docs/PROTOCOL.md gives. A part is a fu
 from __future__ import annotations
 
 import contextlib
+import random
 import socket
 import sys
 import time
@@ -12,6 +13,7 @@ from pathlib import Path
 
 sys.path.insert(0, str(Path(__file__).resolve().parent))
 sys.dont_write_bytecode = True
+import one_hash  # noqa: E402
 import sequential as model  # noqa: E402
 import wire  # noqa: E402
 
@@ -35,11 +37,16 @@ def number(count: int) -> bytes:
     return wire.value(model.spelled(count))
 
 
-def register_add(client: wire.Client) -> int:
-    """The number of the program that adds."""
-    answer = client.ask(wire.register(ADD.sizes, ADD.code))
+def registered(client: wire.Client, program: model.Program) -> int:
+    """The number of a program that this client registers."""
+    answer = client.ask(wire.register(program.sizes, program.code))
     same("the answer to a Register", answer[0], 0x81)
     return int.from_bytes(answer[1:], "big")
+
+
+def register_add(client: wire.Client) -> int:
+    """The number of the program that adds."""
+    return registered(client, ADD)
 
 
 def is_silent(client: wire.Client, seconds: float) -> bool:
@@ -252,6 +259,34 @@ def memory(address: str) -> None:
                 same("what was put", client.answer(), wire.value(name * 16))
 
 
+def calls_on(address: str, numbers: list[int], keys: list[bytes]) -> one_hash.Map:
+    """Fifty pipelines of 64 calls on these keys by a client of its own: each answer is that of a map without hashes, which is given."""
+    table = one_hash.Map()
+    dice = random.Random(keys[0])
+    with wire.opened(address) as client:
+        for _ in range(50):
+            calls = one_hash.calls_on(dice, keys, DEPTH)
+            client.send(*[call.body(numbers) for call in calls])
+            for call in calls:
+                same(f"the answer to {call}", client.answer(), table.answer(call))
+    return table
+
+
+def keys_of_one_hash(address: str) -> None:
+    """Four clients at once make all calls on 32 keys of one hash, each on eight of them, and a walk finds what they left."""
+    whole = one_hash.Map()
+    with wire.opened(address) as client:
+        numbers = [registered(client, program) for program in model.PROGRAMS]
+        with ThreadPoolExecutor(4) as pool:
+            tables = list(pool.map(lambda part: calls_on(address, numbers, one_hash.KEYS[part::4]), range(4)))
+        one_hash.check_shown(tables)
+        for table in tables:
+            whole.values |= table.values
+        walk = wire.walk(model.FOR_EACH, numbers[model.LOOK], None)
+        same("a walk", client.walk(walk), whole.items(model.LOOK, None))
+        same("a Count", client.ask(wire.COUNT), one_hash.end(len(whole.values), 0, 0))
+
+
 def idle(address: str) -> None:
     """A session that says nothing for a while, and then is answered."""
     with wire.Client(address) as client:
@@ -260,13 +295,14 @@ def idle(address: str) -> None:
 
 
 PARTS = {part.__name__: part for part in (
-    crowd, sessions, pipelines, reset, cut, unread, at_once, byte_by_byte, fault, descriptors, memory, idle)}
+    crowd, sessions, pipelines, reset, cut, unread, at_once, byte_by_byte, fault, descriptors, memory, keys_of_one_hash,
+    idle)}
 
 
 def main() -> None:
     try:
         PARTS[sys.argv[1]](*sys.argv[2:])
-    except (Wrong, wire.Ended, OSError) as wrong:
+    except (Wrong, one_hash.Wrong, wire.Ended, OSError) as wrong:
         sys.exit(f"{sys.argv[1]}: {type(wrong).__name__}: {wrong}")
 
 

@@ -137,9 +137,13 @@ serve_all "connections that are reset" reset 4
 serve_all "a frame that is refused" fault 2
 serve_all "a client that waits" idle 1
 serve "32 clients at once" crowd --workers 32
+serve "keys of one hash" keys_of_one_hash --workers 5 --stripes 4
 serve "deep pipelines" pipelines --workers 5 --stripes 1
 serve "a client that does not read" unread --workers 2
 limits="ulimit -n 16" errors="*failed accept*" serve "no descriptors" descriptors --workers 32
+kib=65536
+[ -z "${MAPD_IS_CHECKED:-}" ] || kib=1000000
+judge "changed bytes" python3 tests/mutated.py --server --program "$program" --kib "$kib" 10
 if [ -z "${MAPD_IS_CHECKED:-}" ]; then
     limits="ulimit -v 100000" serve "no memory" memory --workers 3
     judge "a million keys" python3 tests/full.py --server --program "$program"

@@ -47,33 +47,6 @@ class Round:
     seed: str
 
 
-def some_value(dice: random.Random) -> bytes:
-    """A value that is often met again: a small number, a version and a payload, a list of bytes, or a longer one."""
-    kind = dice.randrange(8)
-    if kind < 4:
-        return model.spelled(dice.randrange(4))
-    if kind < 6:
-        return model.spelled(dice.randrange(3), dice.randrange(3))
-    return dice.choice((b"", b"\x01", b"\xff" * 17, b"\x00" * 256))
-
-
-def some_call(dice: random.Random) -> Call:
-    """One of the eleven calls on one of the keys."""
-    tag, key = dice.choice(model.CALLS), dice.choice(KEYS)
-    if tag in (model.GET, model.REMOVE):
-        return Call(tag, key)
-    if tag in (model.PUT, model.PUT_IF_ABSENT, model.REPLACE):
-        return Call(tag, key, value=some_value(dice))
-    if tag == model.REMOVE_IF:
-        return Call(tag, key, expected=some_value(dice))
-    if tag == model.REPLACE_IF:
-        return Call(tag, key, value=some_value(dice), expected=some_value(dice))
-    program = dice.randrange(len(model.PROGRAMS))
-    if tag == model.MERGE:
-        return Call(tag, key, value=some_value(dice), program=program)
-    return Call(tag, key, program=program, arg=dice.choice((None, some_value(dice))))
-
-
 class Player:
     """A client in one round, and what it writes down."""
 
@@ -86,7 +59,7 @@ class Player:
 
     def pipeline(self) -> None:
         """Sends some calls in one piece, and reads their answers."""
-        calls = [some_call(self.dice) for _ in range(self.dice.choice(DEPTHS))]
+        calls = [model.some_call(self.dice, KEYS) for _ in range(self.dice.choice(DEPTHS))]
         bodies = [call.body(self.numbers) for call in calls]
         begun = time.monotonic_ns()
         self.client.send(*bodies)

@@ -1,0 +1,142 @@
+#!/usr/bin/env python3
+"""32 keys of one hash, of five pairs that are each `41 61` or `42 42`: in every table they lie in one stripe and one bin. Makes all
+eleven calls on them, with programs, as the dice fall, in sessions of the built `bpfmap exec` over 4, 1 and 64 stripes. Each answer is
+that of a map without hashes (sequential.py), and so is what a walk finds at the end. server.py plays such calls to `mapd`.
+
+By hand, after `rt run` in crates/bpfmap: python3 tests/one_hash.py [CALLS [SEED]]. Another program is tried by --program."""
+from __future__ import annotations
+
+import argparse
+import itertools
+import random
+import subprocess
+import sys
+from collections.abc import Iterable, Sequence
+from pathlib import Path
+
+sys.path.insert(0, str(Path(__file__).resolve().parent))
+sys.dont_write_bytecode = True
+import full  # noqa: E402
+import sequential as model  # noqa: E402
+import wire  # noqa: E402
+from sequential import Call, Held  # noqa: E402
+
+KEYS = [b"".join(pairs) for pairs in itertools.product((b"Aa", b"BB"), repeat=5)]
+STRIPES = (4, 1, 64)
+
+
+class Wrong(Exception):
+    """What must not happen."""
+
+
+def hash_of(key: bytes) -> int:
+    """The hash of a key, as docs/SERVER.md has it."""
+    found = 1
+    for byte in key:
+        found = (31 * found + byte) % (1 << 32)
+    return found
+
+
+class Map:
+    """A map without hashes, and what its calls showed."""
+
+    def __init__(self) -> None:
+        self.values: dict[bytes, bytes] = {}
+        self.shown: set[tuple[int, bool, object]] = set()
+
+    def answer(self, call: Call) -> bytes:
+        """Makes a call; its answer."""
+        old = self.values.pop(call.key, None)
+        answer, new = model.step(call, old)
+        if new is not None:
+            self.values[call.key] = new
+        self.shown.add((call.tag, old is None, kind_of(old, answer, new)))
+        return answer
+
+    def items(self, program: int, arg: Held) -> list[bytes]:
+        """The answers to a ForEach by a program: an item for each key that has one, in order, and the End."""
+        calls = [Call(model.FOR_EACH, key, program=program, arg=arg) for key in sorted(self.values)]
+        answers = [(call.key, model.step(call, self.values[call.key])[0]) for call in calls]
+        items = [bytes([wire.ITEM]) + wire.key_field(key) + wire.value_field(data) for key, data in answers if data is not None]
+        unfit = sum(model.PROGRAMS[program].unfit(key, self.values[key], arg) > 0 for key in self.values)
+        return [*items, end(len(self.values), len(items), unfit)]
+
+
+def kind_of(old: Held, answer: bytes, new: Held) -> object:
+    """What an answer is: Done with its truth, Unfit with its window, or a Value that is none, stays, comes or goes."""
+    if answer[0] != 0x82:
+        return answer
+    return old == new, old is None, new is None
+
+
+def end(scanned: int, given: int, unfit: int) -> bytes:
+    """The End of a walk."""
+    return bytes([wire.END]) + b"".join(map(wire.number_field, (scanned, given, unfit)))
+
+
+def calls_on(dice: random.Random, keys: Sequence[bytes], count: int) -> list[Call]:
+    """So many calls on these keys."""
+    return [model.some_call(dice, keys) for _ in range(count)]
+
+
+def check_shown(maps: Iterable[Map]) -> None:
+    """Fails where some call was never made on a key that is there, or on one that is not, or always came to the same."""
+    shown = set().union(*(made.shown for made in maps))
+    for tag in model.CALLS:
+        kinds = [kind for other, _, kind in shown if other == tag]
+        if {absent for other, absent, _ in shown if other == tag} != {True, False} or len(kinds) < 2:
+            raise Wrong(f"too few calls: {tag:#x} came to {kinds} alone, which shows nothing")
+
+
+def session(dice: random.Random, count: int) -> tuple[list[bytes], list[bytes]]:
+    """Requests of a session of so many calls, and their answers."""
+    table = Map()
+    calls = calls_on(dice, KEYS, count)
+    numbers = range(len(model.PROGRAMS))
+    sent = [wire.HELLO, *(wire.register(program.sizes, program.code) for program in model.PROGRAMS)]
+    wanted = [wire.WELCOME, *(b"\x81" + wire.number_field(number) for number in numbers)]
+    for call in calls:
+        sent.append(call.body(numbers))
+        wanted.append(table.answer(call))
+    sent += [wire.walk(model.FOR_EACH, model.LOOK, None), wire.COUNT]
+    wanted += [*table.items(model.LOOK, None), end(len(table.values), 0, 0)]
+    check_shown([table])
+    return sent, wanted
+
+
+def executed(program: Path, sent: list[bytes], stripes: int) -> list[bytes]:
+    """What `bpfmap exec` answers."""
+    run = subprocess.run([program, "exec", "--stripes", str(stripes)], input=wire.frames(sent), capture_output=True, timeout=60,
+                         check=False)
+    if run.returncode != 0:
+        raise Wrong(f"status {run.returncode}: {run.stderr[-200:]}")
+    return list(full.bodies_of(run.stdout))
+
+
+def compare(sent: list[bytes], found: list[bytes], wanted: list[bytes]) -> None:
+    """Fails at the first answer that differs."""
+    for number, (one, other) in enumerate(itertools.zip_longest(found, wanted)):
+        if one != other:
+            asked = sent[number].hex() if number < len(sent) else "the end"
+            raise Wrong(f"answer {number}, to {asked}: {one and one.hex()}, not {other and other.hex()}")
+
+
+def main() -> None:
+    words = argparse.ArgumentParser()
+    words.add_argument("calls", nargs="?", type=int, default=20_000)
+    words.add_argument("seed", nargs="?", type=int, default=1)
+    words.add_argument("--program", default=full.PROGRAM)
+    asked = words.parse_args()
+    try:
+        if len(set(map(hash_of, KEYS))) != 1 or len(set(KEYS)) != 32 or {hash_of(b"Aa"), hash_of(b"BB")} != {3073}:
+            raise Wrong("the keys are not of one hash")
+        for stripes in STRIPES:
+            sent, wanted = session(random.Random(f"{asked.seed} {stripes}"), asked.calls)
+            compare(sent, executed(asked.program, sent, stripes), wanted)
+    except (Wrong, subprocess.TimeoutExpired) as wrong:
+        sys.exit(f"one_hash: FAILED, seed {asked.seed}: {wrong}")
+    print(f"one_hash: {asked.calls} calls on {len(KEYS)} keys of one hash, over each of {STRIPES} stripes, are answered as without hashes")
+
+
+if __name__ == "__main__":
+    main()
