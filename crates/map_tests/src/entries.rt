@@ -184,6 +184,8 @@ fn hashes_are_as_in_java(rt: HostRuntime) -> Result<(), Fail> {
         (b"ab".as_slice(), 4066),
         (b"\xff".as_slice(), 286),
         (b"0123456789".as_slice(), 4_082_890_950),
+        (b"Aa".as_slice(), 3073),
+        (b"BB".as_slice(), 3073),
     ] {
         assert_eq!(rt; hash_of(&Key::from_slice(name)?), hash);
     }

@@ -121,40 +121,71 @@ impl Tried for HashedBins {
     }
 }
 
-// Each row on the key `a` of a table of its own, in which the key has a neighbour.
-fn try_rows<T: Tried + Drop>(rt: &impl Abort, alloc: Global, rows: &[Row]) -> Result<(), Fail> {
+// A key and its neighbour in the table.
+#[derive(Clone, Copy)]
+pub(super) struct Names {
+    pub(super) key: &'static [u8],
+    pub(super) neighbour: &'static [u8],
+}
+
+// A key with which the other one begins.
+pub(super) const BEGINNING: Names = Names {
+    key: b"a",
+    neighbour: b"ab",
+};
+
+// Keys of one hash.
+pub(super) const ONE_HASH: Names = Names {
+    key: b"Aa",
+    neighbour: b"BB",
+};
+
+// Each row on the key of a table of its own, in which the key has a neighbour.
+fn try_rows<T: Tried + Drop>(
+    rt: &impl Abort,
+    alloc: Global,
+    names: Names,
+    rows: &[Row],
+) -> Result<(), Fail> {
     let programs = Programs::new(alloc)?;
     for (number, (before, method, reply, after)) in rows.iter().enumerate() {
         let mut table = T::opened(alloc)?;
-        table.made(&programs.call(b"ab", Put(b"other"))?)?;
+        table.made(&programs.call(names.neighbour, Put(b"other"))?)?;
         if let Bytes(bytes) = before {
-            table.made(&programs.call(b"a", Put(bytes))?)?;
+            table.made(&programs.call(names.key, Put(bytes))?)?;
         }
-        let given = table.made(&programs.call(b"a", *method)?)?;
+        let given = table.made(&programs.call(names.key, *method)?)?;
         assert!(rt; is_wanted(&given, *reply), "row {number}");
-        let found = table.made(&programs.call(b"a", Get)?)?;
+        let found = table.made(&programs.call(names.key, Get)?)?;
         assert!(rt; is_wanted(&found, *after), "row {number}, after");
-        let beside = table.made(&programs.call(b"ab", Get)?)?;
+        let beside = table.made(&programs.call(names.neighbour, Get)?)?;
         assert!(rt; is_wanted(&beside, Bytes(b"other")), "row {number}, beside");
     }
     Ok(())
 }
 
 // The rows on a table in stripes, and on bins of both kinds.
-fn try_everywhere(rt: &impl Abort, alloc: Global, rows: &[Row]) -> Result<(), Fail> {
-    try_rows::<Striped>(rt, alloc, rows)?;
-    try_rows::<ListBins>(rt, alloc, rows)?;
-    try_rows::<HashedBins>(rt, alloc, rows)
+fn try_everywhere(
+    rt: &impl Abort,
+    alloc: Global,
+    names: Names,
+    rows: &[Row],
+) -> Result<(), Fail> {
+    try_rows::<Striped>(rt, alloc, names, rows)?;
+    try_rows::<ListBins>(rt, alloc, names, rows)?;
+    try_rows::<HashedBins>(rt, alloc, names, rows)
 }
 
 #[test]
 fn methods_without_programs(rt: HostRuntime) -> Result<(), Fail> {
-    try_everywhere(&rt, rt.alloc(), &PLAIN)
+    try_everywhere(&rt, rt.alloc(), BEGINNING, &PLAIN)?;
+    try_everywhere(&rt, rt.alloc(), ONE_HASH, &PLAIN)
 }
 
 #[test]
 fn methods_with_programs(rt: HostRuntime) -> Result<(), Fail> {
-    try_everywhere(&rt, rt.alloc(), &COMPUTING)
+    try_everywhere(&rt, rt.alloc(), BEGINNING, &COMPUTING)?;
+    try_everywhere(&rt, rt.alloc(), ONE_HASH, &COMPUTING)
 }
 
 #[test]
