@@ -7,7 +7,7 @@ use Rattle.bin_stripes.specs.declared.fault.OpenFault.{OpenFault}
 use Rattle.bin_stripes.specs.declared.fault.OpenFault.TheVariants as opening
 use Rattle.sessions.specs.Devices.{SinkState, TakesBytes, TakesFront, TakesIfItCan}
 use Rattle.map_server.specs.declared.bpfmap.ending.Ending.{Ending}
-use Rattle.map_server.specs.declared.bpfmap.ending.Ending.TheVariants.{Reported, Refused, NoMemory, BadStripes, Shown, Faulty, Unread, NotUtf8}
+use Rattle.map_server.specs.declared.bpfmap.ending.Ending.TheVariants.{Reported, Refused, Explained, NoMemory, BadStripes, Shown, Faulty, Unread, NotUtf8}
 use Rattle.map_server.specs.declared.mapd.words.MapdWords.{MapdWords}
 use Rattle.map_server.specs.Endings.{Outputs, IsHelpOrVersion, PrintsRefusal, TellsEnding}
 use Rattle.map_server.specs.Executions.{IsBadCount}
@@ -18,6 +18,7 @@ use Rattle.map_server.specs.Shown.{IsTold}
 abbrev pub EndsServerWords : List (List ℕ) → Ending → Type 0
 EndsServerWords words (Reported report) = ⊥
 EndsServerWords words (Refused refusal meaning) = ⊥
+EndsServerWords words (Explained printed meaning) = ⊥
 EndsServerWords words NoMemory = Unit {0}
 EndsServerWords words BadStripes = ⊥
 EndsServerWords words (Shown text) = (kind : ErrorKind) × IsAmong kind (fault_of mapd words) × IsHelpOrVersion kind × IsTold words text.items

@@ -73,17 +73,25 @@ fn a_pass_replaces_what_fits(rt: HostRuntime) -> Result<(), Fail> {
     Ok(())
 }
 
-// Whether each key of one byte below this one has its value, and this one has none.
+// So many keys are put and asked for.
+const KEYS: u8 = 40;
+
+// Whether each key of one byte below this one has its value, and no other key has one.
 fn ends_before(table: &mut Striped, end: u8) -> Result<bool, Fail> {
-    for number in 0..end {
-        let reply = table.apply(&Call::Get {
+    for number in 0..=KEYS {
+        let found = table.apply(&Call::Get {
             key: key(&[number])?,
         })?;
-        if reply != Reply::Value(Some(value(b"new")?)) {
+        let value = if number < end {
+            Some(value(b"new")?)
+        } else {
+            None
+        };
+        if found != Reply::Value(value) {
             return Ok(false);
         }
     }
-    Ok(table.apply(&Call::Get { key: key(&[end])? })? == Reply::Value(None))
+    Ok(true)
 }
 
 fn put(number: u8) -> Result<Call<'static>, TooLong> {
@@ -105,13 +113,13 @@ fn opened(alloc: Global) -> Result<Striped, OpenFault> {
 #[test]
 fn a_refused_call_leaves_the_table(rt: HostRuntime) -> Result<(), Fail> {
     let mut table = opened(rt.alloc())?;
-    for number in 0..40 {
+    for number in 0..KEYS {
         if let Err(NoMemory) = table.apply(&put(number)?) {
             assert!(rt; ends_before(&mut table, number)?, "at {number}");
             table.apply(&put(number)?)?;
         }
     }
-    assert!(rt; ends_before(&mut table, 40)?);
+    assert!(rt; ends_before(&mut table, KEYS)?);
     Ok(())
 }
 
@@ -130,11 +138,15 @@ fn a_stopped_run_made_the_calls_that_were_replied_to(rt: HostRuntime) -> Result<
         put(7)?,
         put(8)?,
     ];
-    let made = match table.run(rt.alloc(), &calls) {
-        Ok(replies) => replies.len(),
-        Err(stopped) => stopped.replies.len(),
+    let replies = match table.run(rt.alloc(), &calls) {
+        Ok(replies) => replies,
+        Err(stopped) => stopped.replies,
     };
+    let made = replies.len();
     assert!(rt; made <= 9);
+    for reply in &replies {
+        assert!(rt; *reply == Reply::Value(None), "of {made}");
+    }
     assert!(rt; ends_before(&mut table, made as u8)?, "after {made}");
     Ok(())
 }
