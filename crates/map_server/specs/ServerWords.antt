@@ -1,5 +1,5 @@
 -- The command line of `mapd`: its options and defaults. How words are read is clap's (clap_builder 4.6).
-use Rattle.std.specs.Prelude.{◌≡◌, ◌≤◌, ℕ, ℤ, true, List, [], ◌∷◌, Option, Some, codes, pos, option_and_then, string_bytes}
+use Rattle.std.specs.Prelude.{◌≡◌, ◌≤◌, ℕ, ℤ, true, List, [], ◌∷◌, Some, codes, pos, option_and_then, string_bytes}
 use Rattle.clap.specs.Words.{App, IsAmong, Row, Rule, fault_of, first_of, matches_of, new_rule, one_of}
 use Rattle.clap.specs.Simple.{new_shape}
 use Rattle.clap.specs.Values.{kind_of}
