@@ -37,15 +37,25 @@ const COMPUTED: &[u8] = b"\0\0\0\x02\x80\x01\0\0\0\x04\x82\0\x01\x07\
     \0\0\0\x19\x87\0\0\0\0\0\0\0\x01\0\0\0\0\0\0\0\0\0\0\0\0\0\0\0\0";
 
 // The next crew: the last of the passes, and the two before it as its team; none where passes or memory are wanting.
-fn crew(alloc: Global, map: &StripedMap, passes: &mut Vec<Pass>, worker: u32) -> Option<Crew>
+fn crew(map: &StripedMap, passes: &mut Vec<Pass>, worker: u32) -> Option<Crew>
     requires { All (λ pass. pass.map ≡ map.now) passes.old.items }
     ensures passes { All (λ pass. pass.map ≡ map.now) passes.new.items }
     ensures crew { IfSome result (λ crew. IsOf map.now crew) }
 {
-    let pass = passes.pop()?;
-    let first = passes.pop()?;
-    let second = passes.pop()?;
-    let team = Team::new(vec![in alloc; first, second].ok()?).ok()?;
+    // For the clauses alone, which name the map.
+    let _ = map;
+    let Some(pass) = passes.pop() else {
+        return None;
+    };
+    if passes.len() < 2 {
+        return None;
+    }
+    let Ok(members) = passes.split_off(passes.len() - 2) else {
+        return None;
+    };
+    let Ok(team) = Team::new(members) else {
+        return None;
+    };
     Some(Crew { worker, pass, team })
 }
 
@@ -55,8 +65,8 @@ fn two_crews(alloc: Global) -> Option<(StripedMap, Crew, Crew)>
     ensures other { IfSome result (λ r. IsOf r.0 r.2) }
 {
     let (map, mut passes) = StripedMap::open(alloc, 4, 6).ok()?;
-    let one = crew(alloc, &map, &mut passes, 0)?;
-    let other = crew(alloc, &map, &mut passes, 1)?;
+    let one = crew(&map, &mut passes, 0)?;
+    let other = crew(&map, &mut passes, 1)?;
     Some((map, one, other))
 }
 
@@ -80,7 +90,14 @@ fn served<H: Threads + Wait + Sync>(
     });
     let mut writer = StreamSink::new(Room::new(alloc, ROOM));
     let (crew, end) = session(
-        rt, alloc, &mut reader, &mut writer, map, registry, crew, &OpenGate,
+        rt,
+        alloc,
+        &mut reader,
+        &mut writer,
+        map,
+        registry,
+        crew,
+        &OpenGate,
     );
     (crew, end, writer.into_inner().bytes)
 }
@@ -90,8 +107,7 @@ fn a_session_answers_however_it_is_cut(rt: HostRuntime) -> Result<(), Fail> {
     for size in [1, 1 << 14] {
         let (map, crew, _) = two_crews(rt.alloc()).ok_or("no map")?;
         let registry = Registry::new(rt.alloc())?;
-        let (_, end, answers) =
-            served(&rt, rt.alloc(), &map, &registry, crew, PUT_AND_GET, size);
+        let (_, end, answers) = served(&rt, rt.alloc(), &map, &registry, crew, PUT_AND_GET, size);
         assert!(&rt; end == SessionEnd::Closed, "{size} at a time");
         assert!(&rt; answers.as_slice() == PUT_AND_GOT, "{size} at a time");
     }
@@ -149,7 +165,8 @@ impl Accept<StreamSource<Pieces<'static>>, StreamSink<Room>> for Clients {
 // A Hello and a Count.
 const COUNT: &[u8] = b"\0\0\0\x02\0\x01\0\0\0\x01\x23";
 
-const COUNTED: &[u8] = b"\0\0\0\x02\x80\x01\0\0\0\x19\x87\0\0\0\0\0\0\0\0\0\0\0\0\0\0\0\0\0\0\0\0\0\0\0\0";
+const COUNTED: &[u8] =
+    b"\0\0\0\x02\x80\x01\0\0\0\x19\x87\0\0\0\0\0\0\0\0\0\0\0\0\0\0\0\0\0\0\0\0\0\0\0\0";
 
 // The most turns that a worker waits for another.
 const TURNS: u64 = 10_000_000;

@@ -165,12 +165,7 @@ fn try_rows<T: Tried + Drop>(
 }
 
 // The rows on a table in stripes, and on bins of both kinds.
-fn try_everywhere(
-    rt: &impl Abort,
-    alloc: Global,
-    names: Names,
-    rows: &[Row],
-) -> Result<(), Fail> {
+fn try_everywhere(rt: &impl Abort, alloc: Global, names: Names, rows: &[Row]) -> Result<(), Fail> {
     try_rows::<Striped>(rt, alloc, names, rows)?;
     try_rows::<ListBins>(rt, alloc, names, rows)?;
     try_rows::<HashedBins>(rt, alloc, names, rows)
