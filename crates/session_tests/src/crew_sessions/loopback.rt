@@ -1,11 +1,11 @@
 //! Two clients of one map on the loopback address, each served by a crew in a thread of its own.
-ghost use Rattle.std.specs.Prelude.{◌≡◌, All, IfOk};
+ghost use Rattle.std.specs.Prelude.{◌≡◌, All, IfOk, IfSome};
 ghost use Rattle.crews.specs.Crews.{IsOf};
 
 use super::two_crews;
 use crate::bpfmap::memory::{ROOM, Room};
 use atomic_methods::{Call, Reply};
-use bin_stripes::{OpenGate, StripedMap};
+use bin_stripes::{OpenGate, Pass, StripedMap};
 use bpf_model::{Key, NoMemory};
 use crews::{Accept, Crew, join_sessions, serve};
 use map_server::{Quotas, StreamSink, TcpAccept, TcpReader, TcpWriter, Telling};
@@ -92,6 +92,20 @@ fn serve_beside<
     )
 }
 
+// The passes of the last two crews, joined.
+fn joined_pass(map: &StripedMap, mut crews: Vec<Crew>) -> Option<Pass>
+    requires { All (λ crew. IsOf map.now crew) crews.items }
+    ensures { IfSome result (λ pass. pass.map ≡ map.now) }
+{
+    let Some(other) = crews.pop() else {
+        return None;
+    };
+    let Some(one) = crews.pop() else {
+        return None;
+    };
+    Some(join_sessions(map, one.pass, other.pass))
+}
+
 #[test]
 fn two_clients_merge_into_one_key(rt: HostRuntime) -> Result<(), Fail> {
     let (map, one, other) = two_crews(rt.alloc()).ok_or("no map")?;
@@ -114,10 +128,7 @@ fn two_clients_merge_into_one_key(rt: HostRuntime) -> Result<(), Fail> {
         address.as_str(),
     );
     assert!(&rt; merged?, "answers");
-    let mut back = back?;
-    let other = back.pop().ok_or("no crew")?;
-    let one = back.pop().ok_or("no crew")?;
-    let mut joined = join_sessions(&map, one.pass, other.pass);
+    let mut joined = joined_pass(&map, back?).ok_or("no crews")?;
     let key = Key::from_slice(b"a")?;
     let found = map.call(&rt, &mut joined, &Call::Get { key })?;
     let Reply::Value(Some(value)) = found else {

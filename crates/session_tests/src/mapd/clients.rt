@@ -1,10 +1,11 @@
 //! Clients of `mapd_on` over the loopback address.
-use super::call;
+use super::{Outcome, call};
 use std::io::{self, Read, Write};
 use std::net::{Net, TcpListener, TcpStream};
 use std::rt::Clock;
+use std::sync::Wait;
 use std::test::Fail;
-use std::thread;
+use std::thread::{self, Threads};
 use std::time::Duration;
 
 const HELLO: [u8; 6] = [0, 0, 0, 2, 0, 1];
@@ -85,6 +86,18 @@ fn hear_refusal<R: Net<Listener = TcpListener, Stream = TcpStream> + Clock + All
     Ok(greeted && rest.as_slice() == REFUSED.as_slice())
 }
 
+// A call, and beside it two clients that share its map.
+fn call_and_share<
+    R: AllocGlobal
+        + Clock
+        + Threads
+        + Wait
+        + Net<Listener = TcpListener, Stream = TcpStream>
+        + Sync,
+>(rt: &R, words: &[&str], address: &str) -> (Outcome, io::Result<bool>) {
+    thread::join(rt, || call(rt, words, 100), || share(rt, address))
+}
+
 #[test]
 fn clients_share_a_map(rt: HostRuntime) -> Result<(), Fail> {
     let address = free_address(&rt)?;
@@ -97,15 +110,23 @@ fn clients_share_a_map(rt: HostRuntime) -> Result<(), Fail> {
         "--sessions",
         "1",
     ];
-    let (served, shared) = thread::join(
-        &rt,
-        || call(&rt, &words, 100),
-        || share(&rt, address.as_str()),
-    );
+    let (served, shared) = call_and_share(&rt, &words, address.as_str());
     let shared = shared?;
     assert!(rt; shared && served.status == 0);
     assert!(rt; served.output.as_slice() == b"ready\nserved 2\n".as_slice());
     Ok(())
+}
+
+// A call, and beside it a client that is refused.
+fn call_and_hear<
+    R: AllocGlobal
+        + Clock
+        + Threads
+        + Wait
+        + Net<Listener = TcpListener, Stream = TcpStream>
+        + Sync,
+>(rt: &R, words: &[&str], address: &str) -> (Outcome, io::Result<bool>) {
+    thread::join(rt, || call(rt, words, 100), || hear_refusal(rt, address))
 }
 
 #[test]
@@ -120,11 +141,7 @@ fn a_refusal_reaches_the_client(rt: HostRuntime) -> Result<(), Fail> {
         "--sessions",
         "1",
     ];
-    let (served, heard) = thread::join(
-        &rt,
-        || call(&rt, &words, 100),
-        || hear_refusal(&rt, address.as_str()),
-    );
+    let (served, heard) = call_and_hear(&rt, &words, address.as_str());
     let heard = heard?;
     assert!(rt; heard && served.status == 0);
     assert!(rt; served.output.as_slice() == b"ready\nserved 1\n".as_slice());
