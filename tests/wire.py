@@ -206,7 +206,7 @@ class Server:
     def __init__(self, program: Path, options: list[str], environment: dict[str, str] | None = None, kib: int | None = None) -> None:
         self.process = subprocess.Popen(
             [str(program), "--listen", "127.0.0.1:0", *options], stdin=subprocess.DEVNULL, stdout=subprocess.PIPE,
-            stderr=subprocess.PIPE, env={**os.environ, **(environment or {})}, preexec_fn=bound(kib) if kib else None)
+            stderr=subprocess.PIPE, bufsize=0, env={**os.environ, **(environment or {})}, preexec_fn=bound(kib) if kib else None)
         self.printed = self.process.stdout.readline()
         self.told = self.process.stderr.readline() if self.is_ready() else b""
         self.address = self.told.decode().strip().removeprefix("listening on ")
