@@ -34,7 +34,7 @@ await() {
 }
 
 start_mapd() {
-    "$mapd" --listen 127.0.0.1:0 --workers 16 > "$work/ready" 2> "$work/listening" &
+    "$mapd" --listen 127.0.0.1:0 --workers 16 --stripes 64 > "$work/ready" 2> "$work/listening" &
     map_process=$!
     processes+=("$map_process")
     await ready "$work/ready"
