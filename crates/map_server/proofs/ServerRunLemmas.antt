@@ -1,7 +1,7 @@
 -- What `mapd` prints, put together of what each step prints; and that its passes suffice.
-use Rattle.std.proofs.Common.{◌≡◌, ◌∙◌, ◌+◌, ◌*◌, ◌-◌, ◌<◌, ◌≤◌, ◌++◌, ℕ, zero, suc, List, All, length, arith, [], Option, Some, None, refl, sym, subst, ap, inl, inr}
+use Rattle.std.proofs.Common.{◌≡◌, ◌∙◌, ◌+◌, ◌*◌, ◌-◌, ◌<◌, ◌≤◌, ◌++◌, ℕ, zero, suc, List, length, arith, [], Option, Some, None, refl, sym, subst, ap, inl, inr}
 use Rattle.std.specs.Io.KnownBytes.{Appends}
-use Rattle.std.proofs.lemmas.List.{append-nil, append_assoc, get_or-map, length-map}
+use Rattle.std.proofs.lemmas.List.{append-nil, append_assoc, length-map}
 use Rattle.std.proofs.lemmas.Nat.{row_fits}
 use Rattle.atomic_table.specs.Seated.{TableId}
 use Rattle.stripe_rule.specs.Rule.{from_on}
@@ -32,12 +32,6 @@ pub serving_cut : (old new : SinkState) (before : List ℕ) (status : ℕ) → T
 serving_cut old new before status front is = inr (is, ([], subst (TakesFront old new) (sym (append-nil before)) front))
 
 -- ---- passes
-
--- each pass of a new map is of it
-pub serve_all : (stripes passes : ℕ) (id : TableId) (all : List PassState) → IsOpened stripes passes id all → All (λ pass. pass.map ≡ id) all
-serve_all stripes passes id all opened =
-    subst (λ (ps : List PassState). All (λ pass. pass.map ≡ id) ps) (sym opened.passes_are) (λ i d low.
-    ap (λ (p : PassState). p.map) (get_or-map (pass_of id passes) (from_on 0 passes) i 0 d (omega (arith, low, length-map (from_on 0 passes) (pass_of id passes)))))
 
 from_on_length : (first count : ℕ) → length (from_on first count) ≡ count
 from_on_length first zero = refl

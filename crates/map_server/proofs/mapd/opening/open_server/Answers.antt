@@ -1,8 +1,5 @@
-use Rattle.map_server.proofs.ServerRunLemmas.{enough_passes, serve_all}
+use Rattle.map_server.proofs.ServerRunLemmas.{enough_passes}
 use Rattle.map_server.proofs.mapd.opening.open_server.Goals as goal
-
-pub server_of-requires-clause-serve : goal.server_of-requires-clause-serve
-server_of-requires-clause-serve c = serve_all _ _ _ _ c.in_ok-map.ensures.ok
 
 pub server_of-requires-clause-enough : goal.server_of-requires-clause-enough
 server_of-requires-clause-enough c = enough_passes _ _ _ _ _ c.in_ok-map.ensures.ok c.in_ok-map.passes.ok.0
