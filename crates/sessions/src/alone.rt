@@ -134,8 +134,6 @@ impl Service for Alone {
     }
 }
 
-const PIECE_BYTES: usize = 1024;
-
 /// Answers the requests that are read, each before the next one is looked at, until the reader tells its end, a device
 /// fails, or what was read is refused. What the sink took is passed on before each read, and at the end. The table and the
 /// programs are then as the answered requests left them; where a write failed, also as the request left them whose answer
@@ -166,6 +164,5 @@ pub fn session_alone<H: Wait, R: ReadBehind<W>, W: Sink>(
     // Nothing is kept back at the end. Before a read nothing is, by what `read_behind` requires.
     ensures sent { (result ≢ SessionEnd.WriteFailed) → (W.state writer.new).keeps_back ≡ false }
 {
-    let mut piece = [0; PIECE_BYTES];
-    run_session(rt, alloc, reader, writer, alone, &mut piece)
+    run_session(rt, alloc, reader, writer, alone)
 }

@@ -1,7 +1,7 @@
 //! A session of one client: requests are read, and each is answered before the next one is looked at.
 //!
-//! The loop is written once, over a `Service`, which answers the requests.
-ghost use Rattle.std.specs.Prelude.{◌≡◌, ◌≢◌, ◌+◌, ◌≤◌, ℕ, List, length, false, OnOk, OnErr};
+//! The loop knows no table: a `Service` answers the requests.
+ghost use Rattle.std.specs.Prelude.{◌≡◌, ◌≢◌, ◌+◌, ℕ, List, false, OnOk, OnErr};
 ghost use Rattle.std.specs.Io.KnownBytes.{Appends, Consumes, IsAtEnd};
 ghost use Rattle.sessions.specs.Answering.{Answered, BreaksOff};
 ghost use Rattle.sessions.specs.Devices.{CanRead, CanWrite, TakesBytes, TakesThenFails};
@@ -58,17 +58,16 @@ fn answer_all<W: Sink, S: Service>(
     Ok(())
 }
 
-/// Answers the requests that are read, until the end. Each read fills a front of `piece`. What the sink took is passed on before
-/// each read.
+const PIECE_BYTES: usize = 1024;
+
+/// Answers the requests that are read, until the end. What the sink took is passed on before each read.
 pub fn run_session<H: Wait, R: ReadBehind<W>, W: Sink, S: Service>(
     rt: &H,
     alloc: Global,
     reader: &mut R,
     writer: &mut W,
     service: &mut S,
-    piece: &mut [u8],
 ) -> SessionEnd
-    requires room { 1 ≤ length piece.old }
     requires reads { CanRead (R.source reader.old) }
     requires writes { CanWrite (W.state writer.old) }
     ensures ended { (read : List ℕ) × ((written : List ℕ)
@@ -84,11 +83,12 @@ pub fn run_session<H: Wait, R: ReadBehind<W>, W: Sink, S: Service>(
     ensures sent { (result ≢ SessionEnd.WriteFailed) → (W.state writer.new).keeps_back ≡ false }
 {
     let mut feeder = Feeder::new(alloc);
+    let mut piece = [0; PIECE_BYTES];
     for _ in rt.forever() {
         let Ok(()) = writer.flush() else {
             return SessionEnd::WriteFailed;
         };
-        let Ok(n) = reader.read_behind(writer, piece) else {
+        let Ok(n) = reader.read_behind(writer, &mut piece) else {
             return SessionEnd::ReadFailed;
         };
         if n == 0 {
