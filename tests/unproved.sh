@@ -18,7 +18,8 @@ try() {
 }
 
 try program_tests & try session_tests
-try map_tests
+wait
+try map_tests & try walk_tests
 wait
 if [ -x crates/bpfmap/out/bpfmap ]; then
     bash tests/commands.sh

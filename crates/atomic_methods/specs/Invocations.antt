@@ -1,5 +1,5 @@
 -- A call as a value: a method with what it is made with, on one key. The methods are those of Java SE 17's ConcurrentMap.
-use Rattle.std.specs.Prelude.{ℕ, List, Option}
+use Rattle.std.specs.Prelude.{ℕ, List, Option, option_copied}
 use Rattle.verifier.specs.Checked.{Checked}
 use Rattle.atomic_methods.specs.declared.call.Call.{Call}
 use Rattle.atomic_methods.specs.declared.call.Call.TheVariants.{Get, Put, PutIfAbsent, Remove, RemoveIf, Replace, ReplaceIf, Compute, ComputeIfAbsent, ComputeIfPresent, Merge}
@@ -26,16 +26,16 @@ pub record Invocation : Type 0 where
 abbrev pub on_key : List ℕ → Method → Invocation
 on_key k m = record { key = k; method = m }
 
--- the invocation that a call makes; its program is lent
+-- the invocation that a call makes; its key, values and program are lent
 abbrev pub invocation_of : Call → Invocation
-invocation_of (Get key) = on_key key get
-invocation_of (Put key value) = on_key key (put value)
-invocation_of (PutIfAbsent key value) = on_key key (put_if_absent value)
-invocation_of (Remove key) = on_key key remove
-invocation_of (RemoveIf key expected) = on_key key (remove_if expected)
-invocation_of (Replace key value) = on_key key (replace value)
-invocation_of (ReplaceIf key expected value) = on_key key (replace_if expected value)
-invocation_of (Compute key program arg) = on_key key (compute program.now arg)
-invocation_of (ComputeIfAbsent key program arg) = on_key key (compute_if_absent program.now arg)
-invocation_of (ComputeIfPresent key program arg) = on_key key (compute_if_present program.now arg)
-invocation_of (Merge key value program) = on_key key (merge value program.now)
+invocation_of (Get key) = on_key key.now get
+invocation_of (Put key value) = on_key key.now (put value.now)
+invocation_of (PutIfAbsent key value) = on_key key.now (put_if_absent value.now)
+invocation_of (Remove key) = on_key key.now remove
+invocation_of (RemoveIf key expected) = on_key key.now (remove_if expected.now)
+invocation_of (Replace key value) = on_key key.now (replace value.now)
+invocation_of (ReplaceIf key expected value) = on_key key.now (replace_if expected.now value.now)
+invocation_of (Compute key program arg) = on_key key.now (compute program.now (option_copied arg))
+invocation_of (ComputeIfAbsent key program arg) = on_key key.now (compute_if_absent program.now (option_copied arg))
+invocation_of (ComputeIfPresent key program arg) = on_key key.now (compute_if_present program.now (option_copied arg))
+invocation_of (Merge key value program) = on_key key.now (merge value.now program.now)

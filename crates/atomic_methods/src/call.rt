@@ -5,77 +5,77 @@ ghost use Rattle.atomic_methods.specs.Invocations.{invocation_of};
 use bpf_model::{Key, Value};
 use verifier::Verified;
 
-/// A call of one method on one key. Programs are lent. Where a program would run and a window is too small for its
-/// bytes, the reply is `Unfit` and nothing changes.
-#[derive(Drop)]
+/// A call of one method on one key. Keys, values and programs are lent, so a call is a few words and copies none of them.
+/// Where a program would run and a window is too small for its bytes, the reply is `Unfit` and nothing changes.
+#[derive(Clone, Copy)]
 pub enum Call<'a> {
     /// Replies the key's value.
     Get {
-        key: Key,
+        key: &'a Key,
     },
     /// Enters the value, and replies the one that the key had.
     Put {
-        key: Key,
-        value: Value,
+        key: &'a Key,
+        value: &'a Value,
     },
     /// Enters the value where the key has none. Replies the one that the key had.
     PutIfAbsent {
-        key: Key,
-        value: Value,
+        key: &'a Key,
+        value: &'a Value,
     },
     /// Removes the key, and replies the value that it had.
     Remove {
-        key: Key,
+        key: &'a Key,
     },
     /// Removes the key where its value is the expected one. Replies whether it was.
     RemoveIf {
-        key: Key,
-        expected: Value,
+        key: &'a Key,
+        expected: &'a Value,
     },
     /// Enters the value where the key has one. Replies the one that the key had.
     Replace {
-        key: Key,
-        value: Value,
+        key: &'a Key,
+        value: &'a Value,
     },
     /// Enters the value where the key's value is the expected one. Replies whether it was.
     ReplaceIf {
-        key: Key,
-        expected: Value,
-        value: Value,
+        key: &'a Key,
+        expected: &'a Value,
+        value: &'a Value,
     },
     /// Runs the program on the key, its value and the argument. An answer of bytes is entered and replied; an answer
     /// of nothing removes the key.
     Compute {
-        key: Key,
+        key: &'a Key,
         program: &'a Verified,
-        arg: Option<Value>,
+        arg: Option<&'a Value>,
     },
     /// As `Compute` where the key has no value; else replies its value.
     ComputeIfAbsent {
-        key: Key,
+        key: &'a Key,
         program: &'a Verified,
-        arg: Option<Value>,
+        arg: Option<&'a Value>,
     },
     /// As `Compute` where the key has a value; else replies none.
     ComputeIfPresent {
-        key: Key,
+        key: &'a Key,
         program: &'a Verified,
-        arg: Option<Value>,
+        arg: Option<&'a Value>,
     },
     /// As `Compute` with this value as the argument where the key has a value; else enters this value and replies it.
     Merge {
-        key: Key,
-        value: Value,
+        key: &'a Key,
+        value: &'a Value,
         program: &'a Verified,
     },
 }
 
-impl Call<'_> {
+impl<'a> Call<'a> {
     /// The key that the call is about.
-    pub fn key(&self) -> &Key
+    pub fn key(&self) -> &'a Key
         ensures value { result.now ≡ (invocation_of self.now).key }
     {
-        match self {
+        match *self {
             Call::Get { key }
             | Call::Put { key, .. }
             | Call::PutIfAbsent { key, .. }

@@ -41,14 +41,14 @@ pub enum Plan<'c> {
 }
 
 /// The rule of each method: what the call makes of its key, which has this value or none.
-pub fn plan_of<'c>(call: &'c Call, old: Option<&Value>) -> Plan<'c>
+pub fn plan_of<'c>(call: &Call<'c>, old: Option<&Value>) -> Plan<'c>
     ensures rule { let value = option_copied old.entry in
         rule_by result value ≡ rule_of (invocation_of call.now).method value }
 {
     use Change::{Enter, Keep, Remove};
     use Plan::{Give, Run, Apply};
     use PlannedReply::{Done, Old};
-    match call {
+    match *call {
         Call::Get { .. } => Apply(Keep, Old),
         Call::Put { value, .. } => Apply(Enter(value), Old),
         Call::PutIfAbsent { value, .. } => match old {
@@ -72,13 +72,13 @@ pub fn plan_of<'c>(call: &'c Call, old: Option<&Value>) -> Plan<'c>
             Some(old) if *old == *expected => Apply(Enter(value), Done(true)),
             _ => Apply(Keep, Done(false)),
         },
-        Call::Compute { program, arg, .. } => Run(program, arg.as_ref()),
+        Call::Compute { program, arg, .. } => Run(program, arg),
         Call::ComputeIfAbsent { program, arg, .. } => match old {
             Some(_) => Apply(Keep, Old),
-            None => Run(program, arg.as_ref()),
+            None => Run(program, arg),
         },
         Call::ComputeIfPresent { program, arg, .. } => match old {
-            Some(_) => Run(program, arg.as_ref()),
+            Some(_) => Run(program, arg),
             None => Apply(Keep, Old),
         },
         Call::Merge { value, program, .. } => match old {

@@ -1,7 +1,7 @@
 //! Calls on a map that threads share.
 ghost use Rattle.std.specs.Prelude.{◌≡◌, All};
 
-use crate::opening::{last_pass, numbered_key, numbered_value, opened, put_one};
+use crate::opening::{last_pass, numbered_key, numbered_value, opened};
 use crate::programs::{Sample, verified};
 use anyhow::{Result, bail};
 use atomic_methods::{Call, Reply};
@@ -33,16 +33,17 @@ impl Method {
         }
     }
 
-    fn call(self, key: Key, program: &Verified) -> Result<Call> {
-        Ok(match self {
+    // The call on this key.
+    fn call<'a>(self, key: &'a Key, value: &'a Value, program: &'a Verified) -> Call<'a> {
+        match self {
             Method::Get => Call::Get { key },
-            Method::Put => put_one(key)?,
+            Method::Put => Call::Put { key, value },
             Method::Merge => Call::Merge {
                 key,
-                value: numbered_value(1)?,
+                value,
                 program,
             },
-        })
+        }
     }
 }
 
@@ -114,8 +115,10 @@ fn fill<R: Wait>(rt: &R, map: &StripedMap, pass: &mut Pass, keys: Keys, count: u
     requires { pass.old.map ≡ map.now }
     ensures { pass.new.map ≡ map.now }
 {
+    let value = &numbered_value(1)?;
     for number in 0..count {
-        map.call(rt, pass, &put_one(keys.key(number)?)?)?;
+        let key = &keys.key(number)?;
+        map.call(rt, pass, &Call::Put { key, value })?;
     }
     Ok(())
 }
@@ -131,10 +134,11 @@ fn make_calls<R: Wait>(
     requires { pass.old.map ≡ map.now }
     ensures { pass.new.map ≡ map.now }
 {
+    let value = numbered_value(1)?;
     let mut bytes = Value::new();
     for turn in 0..plan.count {
         let key = plan.keys.key(plan.keys.number(worker, turn))?;
-        let call = plan.method.call(key, plan.program)?;
+        let call = plan.method.call(&key, &value, plan.program);
         map.call_into(rt, pass, &call, &mut bytes)?;
     }
     Ok(())
@@ -176,7 +180,7 @@ fn sum_of<R: Wait>(rt: &R, map: &StripedMap, pass: &mut Pass, keys: Keys, count:
 {
     let mut sum = 0u64;
     for number in 0..count {
-        let key = keys.key(number)?;
+        let key = &keys.key(number)?;
         let reply = map.call(rt, pass, &Call::Get { key })?;
         sum = sum.wrapping_add(number_of(&reply));
     }

@@ -2,7 +2,6 @@
 ghost use Rattle.std.specs.Prelude.{◌≡◌, All, IfOk};
 
 use anyhow::{Result, anyhow};
-use atomic_methods::Call;
 use bin_stripes::{OpenFault, Pass, StripedMap};
 use bpf_model::{Key, TooLong, Value};
 use std::alloc::Global;
@@ -20,14 +19,6 @@ pub fn numbered_value(number: u64) -> Result<Value, TooLong> {
     Value::from_slice(&number.to_le_bytes())
 }
 
-/// The call that enters the value 1.
-pub fn put_one(key: Key) -> Result<Call<'static>, TooLong> {
-    Ok(Call::Put {
-        key,
-        value: numbered_value(1)?,
-    })
-}
-
 /// An empty map, and so many passes, which all serve it.
 pub fn opened(alloc: Global, passes: u64) -> Result<(StripedMap, Vec<Pass>), OpenFault>
     ensures all { IfOk result (λ made. All (λ pass. pass.map ≡ made.0) made.1.items) }
@@ -41,6 +32,7 @@ pub fn last_pass(map: &StripedMap, passes: &mut Vec<Pass>) -> Result<Pass>
     ensures pass { IfOk result (λ pass. pass.map ≡ map.now) }
     ensures all { All (λ pass. pass.map ≡ map.now) passes.new.items }
 {
+    // For the proof alone: the clauses name the map.
     let _ = map;
     match passes.pop() {
         Some(pass) => Ok(pass),

@@ -1,5 +1,6 @@
 //! Calls on a table of one entry, made as often as is told.
 
+use crate::opening::numbered_value;
 use crate::programs::{Sample, verified};
 use anyhow::{Result, bail};
 use atomic_methods::{Call, Striped};
@@ -7,30 +8,25 @@ use bpf_model::{Key, Value};
 use std::alloc::Global;
 use verifier::Verified;
 
-fn value() -> Result<Value> {
-    Ok(Value::from_slice(&1u64.to_le_bytes())?)
-}
-
-/// The call of this name, on the entry's key, with values of 8 bytes.
-fn named<'a>(name: &str, key: Key, program: &'a Verified) -> Result<Call<'a>> {
+/// The call of this name, on the entry's key, with this value.
+fn named<'a>(
+    name: &str,
+    key: &'a Key,
+    value: &'a Value,
+    program: &'a Verified,
+) -> Result<Call<'a>> {
     Ok(match name {
         "get" => Call::Get { key },
-        "put" => Call::Put {
-            key,
-            value: value()?,
-        },
-        "replace" => Call::Replace {
-            key,
-            value: value()?,
-        },
+        "put" => Call::Put { key, value },
+        "replace" => Call::Replace { key, value },
         "compute" => Call::Compute {
             key,
             program,
-            arg: Some(value()?),
+            arg: Some(value),
         },
         "merge" => Call::Merge {
             key,
-            value: value()?,
+            value,
             program,
         },
         _ => bail!("no call is named so"),
@@ -40,13 +36,11 @@ fn named<'a>(name: &str, key: Key, program: &'a Verified) -> Result<Call<'a>> {
 /// Makes the call of this name as often as that, on a key of 8 bytes that is present.
 pub fn call_often(alloc: Global, name: &str, count: u64) -> Result<()> {
     let program = verified(alloc, Sample::Sum)?;
-    let key = Key::from_slice(b"an entry")?;
+    let key = &Key::from_slice(b"an entry")?;
+    let value = &numbered_value(1)?;
     let mut striped = Striped::open(alloc, 1)?;
-    striped.apply(&Call::Put {
-        key: key.copied(),
-        value: value()?,
-    })?;
-    let call = named(name, key, &program)?;
+    striped.apply(&Call::Put { key, value })?;
+    let call = named(name, key, value, &program)?;
     let mut bytes = Value::new();
     for _ in 0..count {
         striped.apply_into(&call, &mut bytes)?;

@@ -1,9 +1,10 @@
 //! Walks over a map of many entries by a team of workers.
 ghost use Rattle.std.specs.Prelude.{◌≡◌, All, IfOk};
 
-use crate::opening::{last_pass, numbered_key, numbered_value, opened, put_one};
+use crate::opening::{last_pass, numbered_key, numbered_value, opened};
 use crate::programs::{Sample, verified};
 use anyhow::{Result, bail};
+use atomic_methods::Call;
 use bin_stripes::{OpenGate, Pass, StripedMap};
 use bpf_model::{NoMemory, Value};
 use bulk_walks::{Team, WalkReply, for_each, mapping_count};
@@ -36,8 +37,10 @@ fn fill<R: Wait>(rt: &R, map: &StripedMap, pass: &mut Pass, entries: u64) -> Res
     requires { pass.old.map ≡ map.now }
     ensures { pass.new.map ≡ map.now }
 {
+    let value = &numbered_value(1)?;
     for number in 0..entries {
-        map.call(rt, pass, &put_one(numbered_key(number)?)?)?;
+        let key = &numbered_key(number)?;
+        map.call(rt, pass, &Call::Put { key, value })?;
     }
     Ok(())
 }
@@ -89,6 +92,7 @@ fn walked_often<R: Threads + Wait + Sync>(
 {
     let mut sums = (0u64, 0u64);
     for turn in 0..count {
+        // For the proof alone: its invariant of the loop is named for this variable.
         let _ = turn;
         let (again, reply) = walked(rt, alloc, map, team, walk, program, arg);
         let counts = reply?.counts;

@@ -182,3 +182,7 @@ value_found hello bytes n rest v x takes (is, len, limit) = (
   (omega (arith, len, limit), omega (arith, len, limit, small_value hello)),
   takes.1 ∙ rw (is, len) refl,
 )
+
+-- four lists behind a first one, put there one after the other
+pub four_behind : (out a b d e : List ℕ) → (((out ++ a) ++ b) ++ d) ++ e ≡ out ++ (a ++ (b ++ (d ++ e)))
+four_behind out a b d e = append_assoc ((out ++ a) ++ b) d e ∙ append_assoc (out ++ a) b (d ++ e) ∙ append_assoc out a (b ++ (d ++ e))

@@ -1,5 +1,5 @@
 -- What readers of fields and of bodies find.
-use Rattle.std.specs.Prelude.{◌≡◌, ℕ, ◌≤◌, ◌<◌, length, List, [], ◌∷◌, ◌++◌, Option, Result, Ok, Err}
+use Rattle.std.specs.Prelude.{◌≡◌, ℕ, ◌≤◌, ◌<◌, length, List, [], ◌∷◌, ◌++◌, Option}
 use Rattle.bpf_model.specs.declared.input.Sizes.{Sizes}
 use Rattle.client_protocol.specs.declared.limits.Version.{Version}
 use Rattle.client_protocol.specs.declared.limits.Limits.{Limits}
@@ -7,7 +7,7 @@ use Rattle.client_protocol.specs.declared.request.Request.{Request}
 use Rattle.client_protocol.specs.declared.fault.ProtocolFault.{ProtocolFault}
 use Rattle.client_protocol.specs.declared.reading.ReadFault.{ReadFault}
 use Rattle.client_protocol.specs.declared.reading.ReadFault.TheVariants.{NoMemory, Fault}
-use Rattle.client_protocol.specs.Bodies.{Kind, Field, field_bytes, IsField, TakesAll, Body, IsBody, body_bytes, sizes_fields, IsBodyOf, BodyHas}
+use Rattle.client_protocol.specs.Bodies.{Kind, Field, field_bytes, IsField, TakesAll, Body, IsBody, body_bytes, sizes_fields}
 use Rattle.client_protocol.specs.Bodies.Kind.{a_short}
 use Rattle.client_protocol.specs.Frames.{frame_of, IsRequest, IsBeginning}
 
@@ -36,11 +36,6 @@ SpellsBody limits bytes body = IsBody limits body × (bytes ≡ body_bytes body)
 abbrev pub IfFault : ReadFault → (ProtocolFault → Type 0) → Type 0
 IfFault NoMemory P = Unit {0}
 IfFault (Fault fault) P = P fault
-
--- a request of the body, or a fault that the body has
-abbrev pub ReadsBody : Option Version → List ℕ → Result Request ReadFault → Type 0
-ReadsBody hello bytes (Ok request) = IsBodyOf hello bytes request
-ReadsBody hello bytes (Err fault) = IfFault fault (BodyHas hello bytes)
 
 -- the frame that begins here lacks n bytes, of its length or else of its body: with fewer it stays a beginning, and
 -- with so many no byte is behind it

@@ -1,5 +1,5 @@
 //! Requests from a stream that comes in pieces.
-ghost use Rattle.std.specs.Prelude.{◌≡◌, ◌<◌, ◌++◌, List, [], length, take, IfOk, IfErr, IfSome, IfNone, IsOk, IsSome, OnErr, None};
+ghost use Rattle.std.specs.Prelude.{◌≡◌, ◌<◌, ◌++◌, List, [], length, take, IfOk, IfErr, IfSome, IfNone, IsOk, IsSome, OnOk, OnErr, None};
 ghost use Rattle.client_protocol.specs.declared.request.Request.{Request as TheRequest};
 ghost use Rattle.client_protocol.specs.Reading.{IfFault};
 ghost use Rattle.client_protocol.specs.Frames.{Frames, Feeds, IsRequest, IsBeginning, IsFaulty, frame_of, held_of, held_fault, is_inside};
@@ -22,9 +22,9 @@ pub struct Fed {
     pub fault: Option<ProtocolFault>,
 }
 
-#[derive(Drop)]
+// The Hello that was taken behind a piece, and the fault that ended it, if any.
+#[derive(Clone, Copy)]
 struct Taken {
-    requests: Vec<Request>,
     hello: Option<Version>,
     fault: Option<ProtocolFault>,
 }
@@ -40,49 +40,43 @@ fn replace(bytes: &mut BytesMut, by: &[u8]) -> Result<(), NoMemory>
     Ok(())
 }
 
-// Reads the frames of the bytes, where they lie; keeps in `rest` the beginning of one that isn't whole.
+// Adds the requests of the bytes, whose frames are read where they lie; keeps in `rest` the beginning of one that isn't
+// whole.
 fn take_whole(
     alloc: Global,
     hello: Option<Version>,
-    mut requests: Vec<Request>,
+    requests: &mut Vec<Request>,
     rest: &mut BytesMut,
     bytes: &[u8],
 ) -> Result<Taken, NoMemory>
-    ensures ok { IfOk result (λ t. (new : List TheRequest) × (t.requests.items ≡ requests.items ++ new)
+    ensures ok { IfOk result (λ t. (new : List TheRequest) × (requests.new.items ≡ requests.old.items ++ new)
         × Frames hello bytes.now new (held_of t.hello rest.new.items t.fault)) }
     ensures err { OnErr result (rest.new.items ≡ rest.old.items) }
 {
-    let left = take_frames(alloc, hello, &mut requests, bytes)?;
-    match left.fault {
-        None => {
-            replace(rest, left.rest)?;
-            Ok(Taken {
-                requests,
-                hello: left.hello,
-                fault: None,
-            })
-        }
-        Some(fault) => Ok(Taken {
-            requests,
-            hello: left.hello,
-            fault: Some(fault),
-        }),
+    let left = take_frames(alloc, hello, requests, bytes)?;
+    if left.fault.is_none() {
+        replace(rest, left.rest)?;
     }
+    Ok(Taken {
+        hello: left.hello,
+        fault: left.fault,
+    })
 }
 
-// The first frame of the bytes held and the piece behind them: its request, and what is behind it in the piece. None
-// where it isn't whole; then all of the piece is held. No byte behind the frame is copied.
+// Reads the request of the first frame of the bytes held and the piece behind them into this place, and answers what is
+// behind it in the piece. None where it isn't whole; then all of the piece is held. No byte behind the frame is copied.
 #[tactic(auto, using(crate::proofs::HeldLaws::all_front, crate::proofs::HeldLaws::still_front, crate::proofs::HeldLaws::moved, crate::proofs::HeldLaws::completed, crate::proofs::HeldLaws::refused_if))]
 fn complete<'a>(
     alloc: Global,
     hello: Option<Version>,
     rest: &mut BytesMut,
     piece: &'a [u8],
-) -> Result<Option<(Request, &'a [u8])>, ReadFault>
+    request: &mut Request,
+) -> Result<Option<&'a [u8]>, ReadFault>
     requires begun { IsBeginning hello rest.old.items }
     ensures grown { take (length rest.old.items) rest.new.items ≡ rest.old.items }
-    ensures frame { IfOk result (λ next. IfSome next (λ r. IsRequest hello r.0
-        × (rest.old.items ++ piece.now ≡ frame_of r.0 ++ r.1.now))) }
+    ensures frame { IfOk result (λ next. IfSome next (λ behind. IsRequest hello request.new
+        × (rest.old.items ++ piece.now ≡ frame_of request.new ++ behind.now))) }
     ensures begun { IfOk result (λ next. IfNone next ((rest.new.items ≡ rest.old.items ++ piece.now)
         × IsBeginning hello rest.new.items)) }
     ensures fault { IfErr result (λ e. IfFault e (IsFaulty hello (rest.old.items ++ piece.now))) }
@@ -97,8 +91,8 @@ fn complete<'a>(
         let (front, back) = piece.split_at(lacks);
         rest.extend_from_slice(front)?;
         piece = back;
-        match next(alloc, hello, rest.as_slice()) {
-            Ok(Some((request, _))) => return Ok(Some((request, piece))),
+        match next(alloc, hello, rest.as_slice(), request) {
+            Ok(Some(_)) => return Ok(Some(piece)),
             Ok(None) => {}
             Err(fault) => return Err(fault),
         }
@@ -110,28 +104,25 @@ fn complete<'a>(
 fn read_held(
     alloc: Global,
     hello: Option<Version>,
+    requests: &mut Vec<Request>,
     rest: &mut BytesMut,
     piece: &[u8],
 ) -> Result<Taken, NoMemory>
+    requires none { requests.old.items ≡ [] }
     requires begun { IsBeginning hello rest.old.items }
-    ensures ok { IfOk result (λ t. Frames hello (rest.old.items ++ piece.now) t.requests.items
+    ensures ok { IfOk result (λ t. Frames hello (rest.old.items ++ piece.now) requests.new.items
         (held_of t.hello rest.new.items t.fault)) }
     ensures err { OnErr result (take (length rest.old.items) rest.new.items ≡ rest.old.items) }
 {
-    let mut requests = Vec::new(alloc);
-    match complete(alloc, hello, rest, piece) {
-        Ok(Some((request, behind))) => {
+    let mut request = Request::Count;
+    match complete(alloc, hello, rest, piece, &mut request) {
+        Ok(Some(behind)) => {
             let hello = hello_after(hello, &request);
             requests.push(request)?;
             take_whole(alloc, hello, requests, rest, behind)
         }
-        Ok(None) => Ok(Taken {
-            requests,
-            hello,
-            fault: None,
-        }),
+        Ok(None) => Ok(Taken { hello, fault: None }),
         Err(ReadFault::Fault(fault)) => Ok(Taken {
-            requests,
             hello,
             fault: Some(fault),
         }),
@@ -143,19 +134,21 @@ fn read_held(
 fn read_on(
     alloc: Global,
     hello: Option<Version>,
+    requests: &mut Vec<Request>,
     rest: &mut BytesMut,
     piece: &[u8],
 ) -> Result<Taken, NoMemory>
+    requires none { requests.old.items ≡ [] }
     requires begun { IsBeginning hello rest.old.items }
-    ensures ok { IfOk result (λ t. Frames hello (rest.old.items ++ piece.now) t.requests.items
+    ensures ok { IfOk result (λ t. Frames hello (rest.old.items ++ piece.now) requests.new.items
         (held_of t.hello rest.new.items t.fault)) }
     ensures err { OnErr result (rest.new.items ≡ rest.old.items) }
 {
     if rest.is_empty() {
-        return take_whole(alloc, hello, Vec::new(alloc), rest, piece);
+        return take_whole(alloc, hello, requests, rest, piece);
     }
     let kept = rest.len();
-    match read_held(alloc, hello, rest, piece) {
+    match read_held(alloc, hello, requests, rest, piece) {
         Ok(taken) => Ok(taken),
         Err(NoMemory) => {
             rest.truncate(kept);
@@ -194,26 +187,39 @@ impl Feeder {
     }
 
     /// The requests that are whole with this piece, up to a fault, if any. A piece that is refused was not taken.
-    #[tactic(auto, using(crate::proofs::HeldLaws::sound_after))]
     pub fn feed(&mut self, alloc: Global, piece: &[u8]) -> Result<Fed, NoMemory>
         ensures requests { IfOk result (λ fed. Feeds self.old piece.now fed.requests.items self.new) }
         ensures fault { IfOk result (λ fed. fed.fault ≡ held_fault self.new) }
         ensures err { OnErr result (self.new ≡ self.old) }
         ensures still { IsSome (held_fault self.old) → IsOk result }
     {
+        let mut requests = Vec::new(alloc);
+        let fault = self.feed_into(alloc, piece, &mut requests)?;
+        Ok(Fed { requests, fault })
+    }
+
+    /// Reads a piece as `feed` does, and leaves the requests in this list, so that its room serves again. What the list held
+    /// is lost. Answers the fault, if any. `NoMemory` as `feed`.
+    #[tactic(auto, using(crate::proofs::HeldLaws::sound_after))]
+    pub fn feed_into(
+        &mut self,
+        alloc: Global,
+        piece: &[u8],
+        requests: &mut Vec<Request>,
+    ) -> Result<Option<ProtocolFault>, NoMemory>
+        ensures requests { OnOk result (Feeds self.old piece.now requests.new.items self.new) }
+        ensures fault { IfOk result (λ fault. fault ≡ held_fault self.new) }
+        ensures err { OnErr result (self.new ≡ self.old) }
+        ensures still { IsSome (held_fault self.old) → IsOk result }
+    {
+        requests.clear();
         if let Some(fault) = self.fault {
-            return Ok(Fed {
-                requests: Vec::new(alloc),
-                fault: Some(fault),
-            });
+            return Ok(Some(fault));
         }
-        let taken = read_on(alloc, self.hello, &mut self.rest, piece)?;
+        let taken = read_on(alloc, self.hello, requests, &mut self.rest, piece)?;
         self.hello = taken.hello;
         self.fault = taken.fault;
-        Ok(Fed {
-            requests: taken.requests,
-            fault: taken.fault,
-        })
+        Ok(taken.fault)
     }
 
     /// Whether the stream so far ends inside a frame.

@@ -17,11 +17,11 @@ pub trait Field: Sized {
 
     ghost field: { Self → TheField };
 
-    /// The field that begins the bytes, and what is behind it; none where the bytes are too few, or the field is above
-    /// its limit.
-    fn read(hello: Option<Version>, bytes: &[u8]) -> Option<(Self, &[u8])>
-        ensures some { IfSome result (λ r.
-            TakesField (limits_after hello) kind bytes.now (field r.0) r.1.now) }
+    /// Reads the field that begins the bytes into this place, and answers what is behind it; none where the bytes are too
+    /// few, or the field is above its limit. What the place held is lost.
+    fn read<'b>(&mut self, hello: Option<Version>, bytes: &'b [u8]) -> Option<&'b [u8]>
+        ensures some { IfSome result (λ rest.
+            TakesField (limits_after hello) kind bytes.now (field self.new) rest.now) }
         ensures none { IfNone result (NoField (limits_after hello) kind bytes.now) };
 }
 
@@ -30,11 +30,25 @@ impl Field for u8 {
 
     ghost field = { byte };
 
-    fn read(_: Option<Version>, bytes: &[u8]) -> Option<(u8, &[u8])> {
+    fn read<'b>(&mut self, _: Option<Version>, bytes: &'b [u8]) -> Option<&'b [u8]> {
         match bytes {
             [] => None,
-            [byte, rest @ ..] => Some((*byte, rest)),
+            [byte, rest @ ..] => {
+                *self = *byte;
+                Some(rest)
+            }
         }
+    }
+}
+
+/// The number of 16 bits that begins the bytes, and what is behind it; none where they are too few.
+pub fn short_at(hello: Option<Version>, bytes: &[u8]) -> Option<(u16, &[u8])>
+    ensures some { IfSome result (λ r. TakesField (limits_after hello) a_short bytes.now (short r.0) r.1.now) }
+    ensures none { IfNone result (NoField (limits_after hello) a_short bytes.now) }
+{
+    match bytes {
+        [high, low, rest @ ..] => Some((u16::from_be_bytes([*high, *low]), rest)),
+        _ => None,
     }
 }
 
@@ -43,11 +57,12 @@ impl Field for u16 {
 
     ghost field = { short };
 
-    fn read(_: Option<Version>, bytes: &[u8]) -> Option<(u16, &[u8])> {
-        match bytes {
-            [high, low, rest @ ..] => Some((u16::from_be_bytes([*high, *low]), rest)),
-            _ => None,
-        }
+    fn read<'b>(&mut self, hello: Option<Version>, bytes: &'b [u8]) -> Option<&'b [u8]> {
+        let Some((short, rest)) = short_at(hello, bytes) else {
+            return None;
+        };
+        *self = short;
+        Some(rest)
     }
 }
 
@@ -56,12 +71,12 @@ impl Field for u64 {
 
     ghost field = { long };
 
-    fn read(_: Option<Version>, bytes: &[u8]) -> Option<(u64, &[u8])> {
+    fn read<'b>(&mut self, _: Option<Version>, bytes: &'b [u8]) -> Option<&'b [u8]> {
         match bytes {
-            [a, b, c, d, e, f, g, h, rest @ ..] => Some((
-                u64::from_be_bytes([*a, *b, *c, *d, *e, *f, *g, *h]),
-                rest,
-            )),
+            [a, b, c, d, e, f, g, h, rest @ ..] => {
+                *self = u64::from_be_bytes([*a, *b, *c, *d, *e, *f, *g, *h]);
+                Some(rest)
+            }
             _ => None,
         }
     }
@@ -72,7 +87,7 @@ impl Field for Key {
 
     ghost field = { the_key };
 
-    fn read(_: Option<Version>, bytes: &[u8]) -> Option<(Key, &[u8])> {
+    fn read<'b>(&mut self, _: Option<Version>, bytes: &'b [u8]) -> Option<&'b [u8]> {
         let (len, rest) = bytes.split_first()?;
         let len = usize::from(*len);
         if len > rest.len() {
@@ -80,15 +95,23 @@ impl Field for Key {
         }
         let (front, rest) = rest.split_at(len);
         match Key::from_slice(front) {
-            Ok(key) => Some((key, rest)),
+            Ok(key) => {
+                *self = key;
+                Some(rest)
+            }
             Err(_) => None,
         }
     }
 }
 
-// The value of the first `len` bytes, and what is behind it.
-fn value_of(hello: Option<Version>, len: u16, bytes: &[u8]) -> Option<(Value, &[u8])>
-    ensures some { IfSome result (λ r. (bytes.now ≡ r.0 ++ r.1.now) × (length r.0 ≡ len)
+// Copies the first `len` bytes into this value, and answers what is behind them.
+fn read_value<'b>(
+    value: &mut Value,
+    hello: Option<Version>,
+    len: u16,
+    bytes: &'b [u8],
+) -> Option<&'b [u8]>
+    ensures some { IfSome result (λ rest. (bytes.now ≡ value.new ++ rest.now) × (length value.new ≡ len)
         × (len ≤ (limits_after hello).value)) }
     ensures none { IfNone result (len ≤ (limits_after hello).value → length bytes.now < len) }
 {
@@ -97,10 +120,8 @@ fn value_of(hello: Option<Version>, len: u16, bytes: &[u8]) -> Option<(Value, &[
         return None;
     }
     let (front, rest) = bytes.split_at(len);
-    match Value::from_slice(front) {
-        Ok(value) => Some((value, rest)),
-        Err(_) => None,
-    }
+    value.set_from(front);
+    Some(rest)
 }
 
 impl Field for Value {
@@ -108,14 +129,14 @@ impl Field for Value {
 
     ghost field = { the_value };
 
-    fn read(hello: Option<Version>, bytes: &[u8]) -> Option<(Value, &[u8])> {
-        let Some((len, rest)) = u16::read(hello, bytes) else {
+    fn read<'b>(&mut self, hello: Option<Version>, bytes: &'b [u8]) -> Option<&'b [u8]> {
+        let Some((len, rest)) = short_at(hello, bytes) else {
             return None;
         };
-        let Some((value, rest)) = value_of(hello, len, rest) else {
+        let Some(rest) = read_value(self, hello, len, rest) else {
             return None;
         };
-        Some((value, rest))
+        Some(rest)
     }
 }
 
@@ -124,16 +145,19 @@ impl Field for Option<Value> {
 
     ghost field = { opt };
 
-    fn read(hello: Option<Version>, bytes: &[u8]) -> Option<(Option<Value>, &[u8])> {
-        let Some((len, rest)) = u16::read(hello, bytes) else {
+    fn read<'b>(&mut self, hello: Option<Version>, bytes: &'b [u8]) -> Option<&'b [u8]> {
+        let Some((len, rest)) = short_at(hello, bytes) else {
             return None;
         };
         if len == ABSENT {
-            return Some((None, rest));
+            *self = None;
+            return Some(rest);
         }
-        let Some((value, rest)) = value_of(hello, len, rest) else {
+        let mut value = Value::new();
+        let Some(rest) = read_value(&mut value, hello, len, rest) else {
             return None;
         };
-        Some((Some(value), rest))
+        *self = Some(value);
+        Some(rest)
     }
 }

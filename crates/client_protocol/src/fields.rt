@@ -1,5 +1,5 @@
 //! Lists of fields that are a whole body behind its tag.
-ghost use Rattle.std.specs.Prelude.{◌≡◌, [], ◌∷◌, IfOk, IfErr, Some, false};
+ghost use Rattle.std.specs.Prelude.{◌≡◌, [], ◌∷◌, IfOk, OnOk, IfErr, Some, false};
 ghost use Rattle.client_protocol.specs.Bodies.{limits_after, kinds_of, takes_tail, body_of_fields, BodyHas};
 ghost use Rattle.client_protocol.specs.Reading.{SpellsBody};
 
@@ -20,74 +20,80 @@ pub fn no_field(hello: Option<Version>, tag: u8, bytes: &[u8]) -> Result<(), Pro
     Ok(())
 }
 
-/// One field.
-pub fn one_field<A: Field + Drop>(
+/// Reads one field into its place.
+pub fn one_field<A: Field>(
     hello: Option<Version>,
     tag: u8,
     bytes: &[u8],
-) -> Result<A, ProtocolFault>
+    first: &mut A,
+) -> Result<(), ProtocolFault>
     requires known { kinds_of tag ≡ Some (A.kind ∷ []) }
     requires no_tail { takes_tail tag ≡ false }
-    ensures ok { IfOk result (λ a. SpellsBody (limits_after hello) (tag ∷ bytes.now)
-        (body_of_fields tag (A.field a ∷ []))) }
+    ensures ok { OnOk result (SpellsBody (limits_after hello) (tag ∷ bytes.now)
+        (body_of_fields tag (A.field first.new ∷ []))) }
     ensures err { IfErr result (BodyHas hello (tag ∷ bytes.now)) }
 {
-    let Some((first, tail)) = A::read(hello, bytes) else {
+    let Some(tail) = first.read(hello, bytes) else {
         return Err(ProtocolFault::BadField);
     };
     if !tail.is_empty() {
         return Err(ProtocolFault::TrailingBytes);
     }
-    Ok(first)
+    Ok(())
 }
 
-/// Two fields.
-pub fn two_fields<A: Field + Drop, B: Field + Drop>(
+/// Reads two fields into their places.
+pub fn two_fields<A: Field, B: Field>(
     hello: Option<Version>,
     tag: u8,
     bytes: &[u8],
-) -> Result<(A, B), ProtocolFault>
+    first: &mut A,
+    second: &mut B,
+) -> Result<(), ProtocolFault>
     requires known { kinds_of tag ≡ Some (A.kind ∷ B.kind ∷ []) }
     requires no_tail { takes_tail tag ≡ false }
-    ensures ok { IfOk result (λ r. SpellsBody (limits_after hello) (tag ∷ bytes.now)
-        (body_of_fields tag (A.field r.0 ∷ B.field r.1 ∷ []))) }
+    ensures ok { OnOk result (SpellsBody (limits_after hello) (tag ∷ bytes.now)
+        (body_of_fields tag (A.field first.new ∷ B.field second.new ∷ []))) }
     ensures err { IfErr result (BodyHas hello (tag ∷ bytes.now)) }
 {
-    let Some((first, rest)) = A::read(hello, bytes) else {
+    let Some(rest) = first.read(hello, bytes) else {
         return Err(ProtocolFault::BadField);
     };
-    let Some((second, tail)) = B::read(hello, rest) else {
+    let Some(tail) = second.read(hello, rest) else {
         return Err(ProtocolFault::BadField);
     };
     if !tail.is_empty() {
         return Err(ProtocolFault::TrailingBytes);
     }
-    Ok((first, second))
+    Ok(())
 }
 
-/// Three fields.
-pub fn three_fields<A: Field + Drop, B: Field + Drop, C: Field + Drop>(
+/// Reads three fields into their places.
+pub fn three_fields<A: Field, B: Field, C: Field>(
     hello: Option<Version>,
     tag: u8,
     bytes: &[u8],
-) -> Result<(A, B, C), ProtocolFault>
+    first: &mut A,
+    second: &mut B,
+    third: &mut C,
+) -> Result<(), ProtocolFault>
     requires known { kinds_of tag ≡ Some (A.kind ∷ B.kind ∷ C.kind ∷ []) }
     requires no_tail { takes_tail tag ≡ false }
-    ensures ok { IfOk result (λ r. SpellsBody (limits_after hello) (tag ∷ bytes.now)
-        (body_of_fields tag (A.field r.0 ∷ B.field r.1 ∷ C.field r.2 ∷ []))) }
+    ensures ok { OnOk result (SpellsBody (limits_after hello) (tag ∷ bytes.now)
+        (body_of_fields tag (A.field first.new ∷ B.field second.new ∷ C.field third.new ∷ []))) }
     ensures err { IfErr result (BodyHas hello (tag ∷ bytes.now)) }
 {
-    let Some((first, rest)) = A::read(hello, bytes) else {
+    let Some(rest) = first.read(hello, bytes) else {
         return Err(ProtocolFault::BadField);
     };
-    let Some((second, rest)) = B::read(hello, rest) else {
+    let Some(rest) = second.read(hello, rest) else {
         return Err(ProtocolFault::BadField);
     };
-    let Some((third, tail)) = C::read(hello, rest) else {
+    let Some(tail) = third.read(hello, rest) else {
         return Err(ProtocolFault::BadField);
     };
     if !tail.is_empty() {
         return Err(ProtocolFault::TrailingBytes);
     }
-    Ok((first, second, third))
+    Ok(())
 }

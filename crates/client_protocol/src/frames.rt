@@ -7,7 +7,7 @@ ghost use Rattle.client_protocol.specs.Reading.{IfFault, Lacks};
 
 use crate::fault::ProtocolFault;
 use crate::limits::{Limits, Version};
-use crate::reading::{ReadFault, request_in};
+use crate::reading::{ReadFault, read_request};
 use crate::request::Request;
 use bpf_model::NoMemory;
 use std::alloc::Global;
@@ -46,14 +46,16 @@ pub fn hello_after(hello: Option<Version>, request: &Request) -> Option<Version>
     }
 }
 
-/// The request of the frame that begins the bytes, and what is behind it; none where the frame has only begun.
-pub fn next(
+/// Reads the request of the frame that begins the bytes into this place, and answers what is behind it; none where the
+/// frame has only begun. What the place held is lost.
+pub fn next<'b>(
     alloc: Global,
     hello: Option<Version>,
-    bytes: &[u8],
-) -> Result<Option<(Request, &[u8])>, ReadFault>
-    ensures frame { IfOk result (λ next. IfSome next (λ r. IsRequest hello r.0
-        × (bytes.now ≡ frame_of r.0 ++ r.1.now))) }
+    bytes: &'b [u8],
+    request: &mut Request,
+) -> Result<Option<&'b [u8]>, ReadFault>
+    ensures frame { IfOk result (λ next. IfSome next (λ behind. IsRequest hello request.new
+        × (bytes.now ≡ frame_of request.new ++ behind.now))) }
     ensures begun { IfOk result (λ next. IfNone next (IsBeginning hello bytes.now)) }
     ensures fault { IfErr result (λ e. IfFault e (IsFaulty hello bytes.now)) }
 {
@@ -68,8 +70,8 @@ pub fn next(
         return Ok(None);
     }
     let (body, behind) = rest.split_at(len);
-    let request = request_in(alloc, hello, body)?;
-    Ok(Some((request, behind)))
+    read_request(alloc, hello, body, request)?;
+    Ok(Some(behind))
 }
 
 /// What is left behind whole frames.
@@ -95,8 +97,9 @@ pub fn take_frames<'a>(
     let mut hello = hello;
     let mut rest = bytes;
     loop {
-        match next(alloc, hello, rest) {
-            Ok(Some((request, behind))) => {
+        let mut request = Request::Count;
+        match next(alloc, hello, rest, &mut request) {
+            Ok(Some(behind)) => {
                 hello = hello_after(hello, &request);
                 requests.push(request)?;
                 rest = behind;

@@ -25,4 +25,4 @@ pub use fault::ProtocolFault;
 pub use feeder::{Fed, Feeder};
 pub use limits::{Limits, Version};
 pub use request::Request;
-pub use response::{FRAME_BYTES, Response};
+pub use response::{FRAME_BYTES, Response, value_head};

@@ -1,14 +1,14 @@
 //! A request from the body of a frame.
-ghost use Rattle.std.specs.Prelude.{◌≡◌, ◌≢◌, ◌≤◌, ◌<◌, ◌∷◌, length, IfOk, IfErr, IfSome, IfNone, IsTrue, IsFalse};
-ghost use Rattle.client_protocol.specs.Bodies.{is_hello, is_none, MayCome, body_of, BodyHas, limits_after};
-ghost use Rattle.client_protocol.specs.Reading.{SpellsBody, TakesSizes, NoSizes, ReadsBody, IfFault};
+ghost use Rattle.std.specs.Prelude.{◌≡◌, ◌≢◌, ◌≤◌, ◌<◌, ◌∷◌, length, OnOk, IfErr, IfSome, IfNone, IsTrue, IsFalse};
+ghost use Rattle.client_protocol.specs.Bodies.{is_hello, is_none, MayCome, body_of, IsBodyOf, BodyHas, limits_after};
+ghost use Rattle.client_protocol.specs.Reading.{SpellsBody, TakesSizes, NoSizes, IfFault};
 
 use crate::fault::ProtocolFault;
-use crate::field::Field;
+use crate::field::short_at;
 use crate::fields::{no_field, one_field, three_fields, two_fields};
 use crate::limits::Version;
 use crate::request::Request;
-use bpf_model::Sizes;
+use bpf_model::{Key, Sizes, Value};
 use bytes::BytesMut;
 use std::alloc::{AllocError, AllocFailed, Global};
 
@@ -52,144 +52,223 @@ impl<T: Drop> From<AllocFailed<T>> for ReadFault {
     }
 }
 
+// A key without a byte: a place for one that is read.
+fn empty_key() -> Key {
+    match Key::from_slice(&[]) {
+        Ok(key) => key,
+        Err(_) => unreachable!(),
+    }
+}
+
 // A Hello, if it were its turn.
-fn hello_request(hello: Option<Version>, tag: u8, rest: &[u8]) -> Result<Request, ProtocolFault>
+fn hello_request(
+    hello: Option<Version>,
+    tag: u8,
+    rest: &[u8],
+    request: &mut Request,
+) -> Result<(), ProtocolFault>
     requires { tag ≡ 0x00 }
-    ensures ok { IfOk result (λ request.
-        SpellsBody (limits_after hello) (tag ∷ rest.now) (body_of request)) }
+    ensures ok { OnOk result (SpellsBody (limits_after hello) (tag ∷ rest.now) (body_of request.new)) }
     ensures err { IfErr result (BodyHas hello (tag ∷ rest.now)) }
 {
-    let number = one_field(hello, tag, rest)?;
+    let mut number: u8 = 0;
+    one_field(hello, tag, rest, &mut number)?;
     match Version::from_number(number) {
-        Some(version) => Ok(Request::Hello { version }),
+        Some(version) => {
+            *request = Request::Hello { version };
+            Ok(())
+        }
         None => Err(ProtocolFault::WrongVersion),
     }
 }
 
-// A ReplaceIf.
-fn replace_if_request(
+// The request with a tag below 0x14, if it were its turn: a Hello, or a call on whatever the key has.
+fn early_request(
     hello: Option<Version>,
     tag: u8,
     rest: &[u8],
-) -> Result<Request, ProtocolFault>
-    requires { tag ≡ 0x16 }
-    ensures ok { IfOk result (λ request.
-        SpellsBody (limits_after hello) (tag ∷ rest.now) (body_of request)) }
-    ensures err { IfErr result (BodyHas hello (tag ∷ rest.now)) }
-{
-    let (key, expected, value) = three_fields(hello, tag, rest)?;
-    Ok(Request::ReplaceIf {
-        key,
-        expected,
-        value,
-    })
-}
-
-// The request with a tag below 0x17, if it were its turn: a Hello, or a call without a program.
-fn early_request(hello: Option<Version>, tag: u8, rest: &[u8]) -> Result<Request, ProtocolFault>
-    requires below { tag < 0x17 }
+    request: &mut Request,
+) -> Result<(), ProtocolFault>
+    requires below { tag < 0x14 }
     requires no_program { tag ≢ 0x01 }
-    ensures ok { IfOk result (λ request.
-        SpellsBody (limits_after hello) (tag ∷ rest.now) (body_of request)) }
+    ensures ok { OnOk result (SpellsBody (limits_after hello) (tag ∷ rest.now) (body_of request.new)) }
     ensures err { IfErr result (BodyHas hello (tag ∷ rest.now)) }
 {
-    Ok(match tag {
-        0x00 => hello_request(hello, tag, rest)?,
+    match tag {
+        0x00 => hello_request(hello, tag, rest, request),
         0x10 => {
-            let key = one_field(hello, tag, rest)?;
-            Request::Get { key }
+            let mut key = empty_key();
+            one_field(hello, tag, rest, &mut key)?;
+            *request = Request::Get { key };
+            Ok(())
         }
         0x11 => {
-            let (key, value) = two_fields(hello, tag, rest)?;
-            Request::Put { key, value }
+            let mut key = empty_key();
+            let mut value = Value::new();
+            two_fields(hello, tag, rest, &mut key, &mut value)?;
+            *request = Request::Put { key, value };
+            Ok(())
         }
         0x12 => {
-            let (key, value) = two_fields(hello, tag, rest)?;
-            Request::PutIfAbsent { key, value }
+            let mut key = empty_key();
+            let mut value = Value::new();
+            two_fields(hello, tag, rest, &mut key, &mut value)?;
+            *request = Request::PutIfAbsent { key, value };
+            Ok(())
         }
         0x13 => {
-            let key = one_field(hello, tag, rest)?;
-            Request::Remove { key }
+            let mut key = empty_key();
+            one_field(hello, tag, rest, &mut key)?;
+            *request = Request::Remove { key };
+            Ok(())
         }
+        _ => Err(ProtocolFault::UnknownRequest),
+    }
+}
+
+// The request with a tag from 0x14 to 0x16: a call on what the key has already.
+fn present_request(
+    hello: Option<Version>,
+    tag: u8,
+    rest: &[u8],
+    request: &mut Request,
+) -> Result<(), ProtocolFault>
+    requires range { (0x14 ≤ tag) × (tag < 0x17) }
+    ensures ok { OnOk result (SpellsBody (limits_after hello) (tag ∷ rest.now) (body_of request.new)) }
+    ensures err { IfErr result (BodyHas hello (tag ∷ rest.now)) }
+{
+    let mut key = empty_key();
+    let mut value = Value::new();
+    match tag {
         0x14 => {
-            let (key, expected) = two_fields(hello, tag, rest)?;
-            Request::RemoveIf { key, expected }
+            two_fields(hello, tag, rest, &mut key, &mut value)?;
+            *request = Request::RemoveIf {
+                key,
+                expected: value,
+            };
+            Ok(())
         }
         0x15 => {
-            let (key, value) = two_fields(hello, tag, rest)?;
-            Request::Replace { key, value }
+            two_fields(hello, tag, rest, &mut key, &mut value)?;
+            *request = Request::Replace { key, value };
+            Ok(())
         }
-        0x16 => replace_if_request(hello, tag, rest)?,
-        _ => return Err(ProtocolFault::UnknownRequest),
-    })
+        0x16 => {
+            let mut expected = Value::new();
+            three_fields(hello, tag, rest, &mut key, &mut expected, &mut value)?;
+            *request = Request::ReplaceIf {
+                key,
+                expected,
+                value,
+            };
+            Ok(())
+        }
+        _ => Err(ProtocolFault::UnknownRequest),
+    }
 }
 
 // The request with a tag from 0x17 to 0x1F: a call with a program.
-fn program_request(hello: Option<Version>, tag: u8, rest: &[u8]) -> Result<Request, ProtocolFault>
+fn program_request(
+    hello: Option<Version>,
+    tag: u8,
+    rest: &[u8],
+    request: &mut Request,
+) -> Result<(), ProtocolFault>
     requires range { (0x17 ≤ tag) × (tag < 0x20) }
-    ensures ok { IfOk result (λ request.
-        SpellsBody (limits_after hello) (tag ∷ rest.now) (body_of request)) }
+    ensures ok { OnOk result (SpellsBody (limits_after hello) (tag ∷ rest.now) (body_of request.new)) }
     ensures err { IfErr result (BodyHas hello (tag ∷ rest.now)) }
 {
-    Ok(match tag {
+    match tag {
         0x17 => {
-            let (key, program, arg) = three_fields(hello, tag, rest)?;
-            Request::Compute { key, program, arg }
+            let mut key = empty_key();
+            let mut program: u64 = 0;
+            let mut arg = None;
+            three_fields(hello, tag, rest, &mut key, &mut program, &mut arg)?;
+            *request = Request::Compute { key, program, arg };
+            Ok(())
         }
         0x18 => {
-            let (key, program, arg) = three_fields(hello, tag, rest)?;
-            Request::ComputeIfAbsent { key, program, arg }
+            let mut key = empty_key();
+            let mut program: u64 = 0;
+            let mut arg = None;
+            three_fields(hello, tag, rest, &mut key, &mut program, &mut arg)?;
+            *request = Request::ComputeIfAbsent { key, program, arg };
+            Ok(())
         }
         0x19 => {
-            let (key, program, arg) = three_fields(hello, tag, rest)?;
-            Request::ComputeIfPresent { key, program, arg }
+            let mut key = empty_key();
+            let mut program: u64 = 0;
+            let mut arg = None;
+            three_fields(hello, tag, rest, &mut key, &mut program, &mut arg)?;
+            *request = Request::ComputeIfPresent { key, program, arg };
+            Ok(())
         }
         0x1A => {
-            let (key, value, program) = three_fields(hello, tag, rest)?;
-            Request::Merge {
+            let mut key = empty_key();
+            let mut value = Value::new();
+            let mut program: u64 = 0;
+            three_fields(hello, tag, rest, &mut key, &mut value, &mut program)?;
+            *request = Request::Merge {
                 key,
                 value,
                 program,
-            }
+            };
+            Ok(())
         }
-        _ => return Err(ProtocolFault::UnknownRequest),
-    })
+        _ => Err(ProtocolFault::UnknownRequest),
+    }
 }
 
 // The request with a tag from 0x20 on: a walk.
-fn walk_request(hello: Option<Version>, tag: u8, rest: &[u8]) -> Result<Request, ProtocolFault>
+fn walk_request(
+    hello: Option<Version>,
+    tag: u8,
+    rest: &[u8],
+    request: &mut Request,
+) -> Result<(), ProtocolFault>
     requires above { 0x20 ≤ tag }
-    ensures ok { IfOk result (λ request.
-        SpellsBody (limits_after hello) (tag ∷ rest.now) (body_of request)) }
+    ensures ok { OnOk result (SpellsBody (limits_after hello) (tag ∷ rest.now) (body_of request.new)) }
     ensures err { IfErr result (BodyHas hello (tag ∷ rest.now)) }
 {
-    Ok(match tag {
+    match tag {
         0x20 => {
-            let (program, arg, threshold) = three_fields(hello, tag, rest)?;
-            Request::Search {
+            let mut program: u64 = 0;
+            let mut arg = None;
+            let mut threshold: u64 = 0;
+            three_fields(hello, tag, rest, &mut program, &mut arg, &mut threshold)?;
+            *request = Request::Search {
                 program,
                 arg,
                 threshold,
-            }
+            };
+            Ok(())
         }
         0x21 => {
-            let (program, arg, threshold) = three_fields(hello, tag, rest)?;
-            Request::ForEach {
+            let mut program: u64 = 0;
+            let mut arg = None;
+            let mut threshold: u64 = 0;
+            three_fields(hello, tag, rest, &mut program, &mut arg, &mut threshold)?;
+            *request = Request::ForEach {
                 program,
                 arg,
                 threshold,
-            }
+            };
+            Ok(())
         }
         0x22 => {
-            let (program, arg) = two_fields(hello, tag, rest)?;
-            Request::ReplaceAll { program, arg }
+            let mut program: u64 = 0;
+            let mut arg = None;
+            two_fields(hello, tag, rest, &mut program, &mut arg)?;
+            *request = Request::ReplaceAll { program, arg };
+            Ok(())
         }
         0x23 => {
             no_field(hello, tag, rest)?;
-            Request::Count
+            *request = Request::Count;
+            Ok(())
         }
-        _ => return Err(ProtocolFault::UnknownRequest),
-    })
+        _ => Err(ProtocolFault::UnknownRequest),
+    }
 }
 
 // The sizes that a Register begins with, and the program behind them; none where the bytes are too few.
@@ -197,16 +276,16 @@ fn sizes_at(hello: Option<Version>, bytes: &[u8]) -> Option<(Sizes, &[u8])>
     ensures some { IfSome result (λ r. TakesSizes (limits_after hello) bytes.now r.0 r.1.now) }
     ensures none { IfNone result (NoSizes (limits_after hello) bytes.now) }
 {
-    let Some((key, rest)) = u16::read(hello, bytes) else {
+    let Some((key, rest)) = short_at(hello, bytes) else {
         return None;
     };
-    let Some((old, rest)) = u16::read(hello, rest) else {
+    let Some((old, rest)) = short_at(hello, rest) else {
         return None;
     };
-    let Some((arg, rest)) = u16::read(hello, rest) else {
+    let Some((arg, rest)) = short_at(hello, rest) else {
         return None;
     };
-    let Some((result, program)) = u16::read(hello, rest) else {
+    let Some((result, program)) = short_at(hello, rest) else {
         return None;
     };
     let sizes = Sizes {
@@ -223,22 +302,28 @@ fn register_request(
     alloc: Global,
     hello: Option<Version>,
     rest: &[u8],
-) -> Result<Request, ReadFault>
-    ensures ok { IfOk result (λ request.
-        SpellsBody (limits_after hello) (0x01 ∷ rest.now) (body_of request)) }
+    request: &mut Request,
+) -> Result<(), ReadFault>
+    ensures ok { OnOk result (SpellsBody (limits_after hello) (0x01 ∷ rest.now) (body_of request.new)) }
     ensures err { IfErr result (λ e. IfFault e (BodyHas hello (0x01 ∷ rest.now))) }
 {
     let Some((sizes, program)) = sizes_at(hello, rest) else {
         return Err(ReadFault::Fault(ProtocolFault::BadField));
     };
     let program = BytesMut::copy_from_slice(alloc, program)?.freeze()?;
-    Ok(Request::Register { sizes, program })
+    *request = Request::Register { sizes, program };
+    Ok(())
 }
 
 // The request of a body, if it were its turn.
-fn request_of(alloc: Global, hello: Option<Version>, body: &[u8]) -> Result<Request, ReadFault>
+fn request_of(
+    alloc: Global,
+    hello: Option<Version>,
+    body: &[u8],
+    request: &mut Request,
+) -> Result<(), ReadFault>
     requires { 1 ≤ length body.now }
-    ensures ok { IfOk result (λ request. SpellsBody (limits_after hello) body.now (body_of request)) }
+    ensures ok { OnOk result (SpellsBody (limits_after hello) body.now (body_of request.new)) }
     ensures err { IfErr result (λ e. IfFault e (BodyHas hello body.now)) }
 {
     let [tag, rest @ ..] = body else {
@@ -246,17 +331,19 @@ fn request_of(alloc: Global, hello: Option<Version>, body: &[u8]) -> Result<Requ
     };
     let tag = *tag;
     if tag == 0x01 {
-        return register_request(alloc, hello, rest);
+        return register_request(alloc, hello, rest, request);
     }
-    let request = if tag < 0x17 {
-        early_request(hello, tag, rest)
+    let read = if tag < 0x14 {
+        early_request(hello, tag, rest, request)
+    } else if tag < 0x17 {
+        present_request(hello, tag, rest, request)
     } else if tag < 0x20 {
-        program_request(hello, tag, rest)
+        program_request(hello, tag, rest, request)
     } else {
-        walk_request(hello, tag, rest)
+        walk_request(hello, tag, rest, request)
     };
-    match request {
-        Ok(request) => Ok(request),
+    match read {
+        Ok(()) => Ok(()),
         Err(fault) => Err(ReadFault::Fault(fault)),
     }
 }
@@ -278,15 +365,22 @@ fn may_come(hello: Option<Version>, request: &Request) -> bool
     }
 }
 
-/// The request of a body, or the body's fault. A body has at least one byte.
+/// Reads the request of a body into this place, or names the body's fault; what the place held is lost. A body has at least
+/// one byte.
 #[tactic(auto, using(crate::proofs::BodyLaws::misplaced))]
-pub fn request_in(alloc: Global, hello: Option<Version>, body: &[u8]) -> Result<Request, ReadFault>
+pub fn read_request(
+    alloc: Global,
+    hello: Option<Version>,
+    body: &[u8],
+    request: &mut Request,
+) -> Result<(), ReadFault>
     requires { 1 ≤ length body.now }
-    ensures { ReadsBody hello body.now result }
+    ensures ok { OnOk result (IsBodyOf hello body.now request.new) }
+    ensures err { IfErr result (λ fault. IfFault fault (BodyHas hello body.now)) }
 {
-    let request = request_of(alloc, hello, body)?;
-    if !may_come(hello, &request) {
+    request_of(alloc, hello, body, request)?;
+    if !may_come(hello, request) {
         return Err(ReadFault::Fault(ProtocolFault::WrongVersion));
     }
-    Ok(request)
+    Ok(())
 }

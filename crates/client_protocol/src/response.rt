@@ -1,7 +1,8 @@
 //! What is answered.
-ghost use Rattle.std.specs.Prelude.{◌≡◌, ◌+◌, ◌≤◌, ◌<◌, ◌^◌, ◌++◌, length};
+ghost use Rattle.std.specs.Prelude.{◌≡◌, ◌+◌, ◌≤◌, ◌<◌, ◌^◌, ◌++◌, length, Some};
 ghost use Rattle.arrayvec.specs.ArrayVec.{array_vec_len};
 ghost use Rattle.client_protocol.specs.Bodies.{value_bytes};
+ghost use Rattle.client_protocol.specs.declared.response.Response.TheVariants.{Value as Answered};
 ghost use Rattle.client_protocol.specs.Responses.{response_frame, response_body, part_number};
 
 use crate::limits::Version;
@@ -86,55 +87,80 @@ fn part_number(part: InputPart) -> u8
 }
 
 impl Response {
-    fn body(&self) -> ArrayVec<u8, BODY_BYTES>
-        ensures { result.items ≡ response_body self.now }
+    // How many bytes the body has.
+    fn body_len(&self) -> usize
+        ensures value { result ≡ length (response_body self.now) }
+        ensures fits { result ≤ BODY_BYTES }
     {
-        let mut body = ArrayVec::new();
         match self {
-            Response::Hello { version } => put(&mut body, &[0x80, version.number()]),
+            Response::Hello { .. } | Response::Done { .. } | Response::Unfit { .. } => 2,
+            Response::Registered { .. } => 9,
+            Response::Value { value: None } => 3,
+            Response::Value { value: Some(value) } => 3 + value.as_slice().len(),
+            Response::Refused { .. } => 6,
+            Response::Item { key, value } => 4 + key.as_slice().len() + value.as_slice().len(),
+            Response::End { .. } => 25,
+        }
+    }
+
+    // Adds the bytes of the body.
+    fn put_body(&self, out: &mut ArrayVec<u8, FRAME_BYTES>)
+        requires { array_vec_len out.old ≡ 4 }
+        ensures { out.new.items ≡ out.old.items ++ response_body self.now }
+    {
+        match self {
+            Response::Hello { version } => put(out, &[0x80, version.number()]),
             Response::Registered { program } => {
-                put(&mut body, &[0x81]);
-                put(&mut body, &program.to_be_bytes());
+                put(out, &[0x81]);
+                put(out, &program.to_be_bytes());
             }
-            Response::Value { value: None } => put(&mut body, &[0x82, 0xFF, 0xFF]),
+            Response::Value { value: None } => put(out, &[0x82, 0xFF, 0xFF]),
             Response::Value { value: Some(value) } => {
-                put(&mut body, &[0x82]);
-                put_value(&mut body, value.as_slice());
+                put(out, &[0x82]);
+                put_value(out, value.as_slice());
             }
-            Response::Done { done } => put(&mut body, &[0x83, u8::from(*done)]),
-            Response::Unfit { part } => put(&mut body, &[0x84, part_number(*part)]),
+            Response::Done { done } => put(out, &[0x83, u8::from(*done)]),
+            Response::Unfit { part } => put(out, &[0x84, part_number(*part)]),
             Response::Refused { number, place } => {
-                put(&mut body, &[0x85, *number]);
-                put(&mut body, &place.to_be_bytes());
+                put(out, &[0x85, *number]);
+                put(out, &place.to_be_bytes());
             }
             Response::Item { key, value } => {
                 let bytes = key.as_slice();
-                put(&mut body, &[0x86, bytes.len() as u8]);
-                put(&mut body, bytes);
-                put_value(&mut body, value.as_slice());
+                put(out, &[0x86, bytes.len() as u8]);
+                put(out, bytes);
+                put_value(out, value.as_slice());
             }
             Response::End {
                 scanned,
                 given,
                 unfit,
             } => {
-                put(&mut body, &[0x87]);
-                put(&mut body, &scanned.to_be_bytes());
-                put(&mut body, &given.to_be_bytes());
-                put(&mut body, &unfit.to_be_bytes());
+                put(out, &[0x87]);
+                put(out, &scanned.to_be_bytes());
+                put(out, &given.to_be_bytes());
+                put(out, &unfit.to_be_bytes());
             }
         }
-        body
     }
 
     /// The response's frame. Takes no memory.
     pub fn frame(&self) -> ArrayVec<u8, FRAME_BYTES>
         ensures { result.items ≡ response_frame self.now }
     {
-        let body = self.body();
         let mut frame = ArrayVec::new();
-        put(&mut frame, &(body.len() as u32).to_be_bytes());
-        put(&mut frame, body.as_slice());
+        put(&mut frame, &(self.body_len() as u32).to_be_bytes());
+        self.put_body(&mut frame);
         frame
     }
+}
+
+/// The bytes before a value's own in the frame of the response with it, for who sends the value from where it lies.
+pub fn value_head(value: &Value) -> [u8; 7]
+    ensures { response_frame (Answered (Some value.now)) ≡ result ++ value.now }
+{
+    let len = value.as_slice().len();
+    let [a, b, c, d] = (3 + len as u32).to_be_bytes();
+    let [e, f] = (len as u16).to_be_bytes();
+    [a, b, c, d, 0x82, e, f]
 }

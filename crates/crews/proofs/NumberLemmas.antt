@@ -15,7 +15,7 @@ use Rattle.sessions.specs.declared.session.SessionEnd.{SessionEnd}
 use Rattle.sessions.specs.Sessions.{Ended}
 use Rattle.crews.specs.Crews.{team_numbers}
 use Rattle.crews.specs.Stations.{Station}
-use Rattle.crews.specs.Steps.{Told, Pairwise, HearsEach, TeamWalks, Meets, Serves}
+use Rattle.crews.specs.Steps.{IsToldBy, Pairwise, HearsEach, TeamWalks, CrewMeets, CrewServes}
 use Rattle.crews.proofs.ChainLemmas.{session_leads}
 
 no_numbers : List ℕ
@@ -32,7 +32,7 @@ stays s = record { map = refl; pass = refl; team = refl }
 goes_on : (a b c : Station) → SameNumbers a b → SameNumbers b c → SameNumbers a c
 goes_on a b c one more = record { map = more.map ∙ one.map; pass = more.pass ∙ one.pass; team = more.team ∙ one.team }
 
-told_numbers : (from : PassState) (olds news : List PassState) → Pairwise (Told from) olds news → team_numbers news ≡ team_numbers olds
+told_numbers : (from : PassState) (olds news : List PassState) → Pairwise (IsToldBy from) olds news → team_numbers news ≡ team_numbers olds
 told_numbers from [] [] told = refl
 told_numbers from [] (new ∷ news) told = absurd told
 told_numbers from (old ∷ olds) [] told = absurd told
@@ -82,7 +82,7 @@ called_numbers : (old new : Station) (responses : List Response) (invocation : I
 called_numbers old new responses invocation (inl (reply, calls, is)) = calls.numbers
 called_numbers old new responses invocation (inr (refuses, is)) = refuses.nothing.numbers
 
-meets : (old : Station) (asks : Asked) (responses : List Response) (new : Station) → Meets old asks responses new → SameNumbers old new
+meets : (old : Station) (asks : Asked) (responses : List Response) (new : Station) → CrewMeets old asks responses new → SameNumbers old new
 meets old (greeting version) responses new m = once old new _ responses m
 meets old (registration sizes bytes) responses new (inl (token, admits, is, same)) = subst (λ (s : Station). SameNumbers old s) (sym same) (record { map = refl; pass = refl; team = refl })
 meets old (registration sizes bytes) responses new (inr (inl (response, refuses, m))) = once old new response responses m
@@ -96,10 +96,10 @@ meets old count responses new (inl (reply, walks, is)) = team_walks old new _ (�
 meets old count responses new (inr (walks, is)) = team_walks old new _ (λ before after goes. walked_numbers _ _ before after goes) walks
 meets old unknown responses new m = once old new _ responses m
 
-step : (old : Station) (request : Request) (responses : List Response) (new : Station) → Serves old request responses new → SameNumbers old new
+step : (old : Station) (request : Request) (responses : List Response) (new : Station) → CrewServes old request responses new → SameNumbers old new
 step old request responses new serves = meets old (asked (λ _. serves.found) request) responses new serves.meets
 
 -- a session's passes carry the numbers that they carried
-pub ended_same : (old : Station) (end : SessionEnd) (read : List ℕ) (last : ℕ) (written : List ℕ) (new : Station) → Ended Serves old end read last written new → SameNumbers old new
+pub ended_same : (old : Station) (end : SessionEnd) (read : List ℕ) (last : ℕ) (written : List ℕ) (new : Station) → Ended CrewServes old end read last written new → SameNumbers old new
 ended_same old end read last written new ended =
-    session_leads Serves (λ _ _ _ _ _. no_numbers) (λ a _ b. SameNumbers a b) stays (λ a b c _ _ one more. goes_on a b c one more) step old new read written last end ended
+    session_leads CrewServes (λ _ _ _ _ _. no_numbers) (λ a _ b. SameNumbers a b) stays (λ a b c _ _ one more. goes_on a b c one more) step old new read written last end ended

@@ -2,7 +2,7 @@
 use Rattle.std.proofs.Common.{◌≡◌, ℕ, zero, suc, ◌<◌, List, [], ◌∷◌, length, map, slice_index_or, Option, Some, None, IsSome, IsSomeAnd, All, refl, sym, subst, ◌∙◌, arith}
 use Rattle.crews.specs.declared.crew.Crew.{Crew}
 use Rattle.atomic_table.specs.Seated.{TableId}
-use Rattle.crews.specs.Crews.{IsOf, IsServed, CarriesSame, AllCarrySame}
+use Rattle.crews.specs.Crews.{IsCrewOf, IsServed, CarriesSame, AllCarrySame}
 
 -- seat by seat, crews served clients of this map
 abbrev pub ServedEach : TableId → List (Option Crew) → List (Option Crew) → Type 0
@@ -20,7 +20,7 @@ all_carry_same id (old ∷ olds) (new ∷ news) (long, each) =
     ((each zero None (omega arith)).1, all_carry_same id olds news (rest_served id (Some old) (Some new) (map Some olds) (map Some news) (long, each)))
 
 pub stays_of : (id : TableId) (olds news : List Crew) → ServedEach id (map Some olds) (map Some news)
-    → (i : ℕ) (d : Crew) → i < length news → IsOf id (slice_index_or news i d)
+    → (i : ℕ) (d : Crew) → i < length news → IsCrewOf id (slice_index_or news i d)
 stays_of id olds [] served i d low = absurd (omega (arith, low))
 stays_of id [] (new ∷ news) (long, each) i d low = absurd cc
 stays_of id (old ∷ olds) (new ∷ news) (long, each) zero d low = (each zero None (omega arith)).0
@@ -28,10 +28,10 @@ stays_of id (old ∷ olds) (new ∷ news) (long, each) (suc i) d low =
     stays_of id olds news (rest_served id (Some old) (Some new) (map Some olds) (map Some news) (long, each)) i d (omega (arith, low))
 
 -- each seat has a crew of this map
-pub each_seated : (id : TableId) (crews : List Crew) (i : ℕ) (seat : Option Crew) → All (λ crew. IsOf id crew) crews → i < length (map Some crews)
-    → seat ≡ slice_index_or (map Some crews) i seat → IsSomeAnd seat (λ crew. IsOf id crew)
+pub each_seated : (id : TableId) (crews : List Crew) (i : ℕ) (seat : Option Crew) → All (λ crew. IsCrewOf id crew) crews → i < length (map Some crews)
+    → seat ≡ slice_index_or (map Some crews) i seat → IsSomeAnd seat (λ crew. IsCrewOf id crew)
 each_seated id [] i seat all low is = absurd (omega (arith, low))
-each_seated id (crew ∷ crews) zero seat all low is = subst (λ (s : Option Crew). IsSomeAnd s (λ crew. IsOf id crew)) (sym is) (all zero crew (omega arith))
+each_seated id (crew ∷ crews) zero seat all low is = subst (λ (s : Option Crew). IsSomeAnd s (λ crew. IsCrewOf id crew)) (sym is) (all zero crew (omega arith))
 each_seated id (crew ∷ crews) (suc i) seat all low is = each_seated id crews i seat (λ k d lt. all (suc k) d (omega (arith, lt))) (omega (arith, low)) is
 
 served_some : (id : TableId) (old new : Option Crew) → IsServed id old new → IsSome new

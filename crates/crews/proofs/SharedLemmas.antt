@@ -18,7 +18,7 @@ use Rattle.client_protocol.specs.declared.response.Response.TheVariants as tell
 use Rattle.sessions.specs.Asking.{Asked, asked, greeting, registration, call, walk, replacement, count, unknown, response_to, AnswersOnce}
 use Rattle.crews.specs.Shared.{AnsweredCall, made_call, call_asked, call_of_step, SessionOf, calls_of, events_at, SeesBothSessions}
 use Rattle.crews.specs.Stations.{Station}
-use Rattle.crews.specs.Steps.{HearsEach, TeamWalks, Meets, Serves}
+use Rattle.crews.specs.Steps.{HearsEach, TeamWalks, CrewMeets, CrewServes}
 use Rattle.crews.proofs.ChainLemmas.{session_leads}
 
 events_append : (pass : PassState) (k : ℕ) (xs ys : List AnsweredCall) → events_at pass k (xs ++ ys) ≡ events_at pass k xs ++ events_at pass k ys
@@ -127,7 +127,7 @@ made old new responses invocation map (inr (refuses, is)) = record {
   mine = λ k lt. nowhere old.pass new.pass invocation k refuses (cases_eq (stripe_of (stripes_of old.pass.map) invocation.key) k);
 }
 
-asked_leads : (old : Station) (responses : List Response) (new : Station) (asks : Asked) (m : Meets old asks responses new) → Leads old (call_asked old new responses asks m) new
+asked_leads : (old : Station) (responses : List Response) (new : Station) (asks : Asked) (m : CrewMeets old asks responses new) → Leads old (call_asked old new responses asks m) new
 asked_leads old responses new (greeting version) m = once old new _ responses m
 asked_leads old responses new (registration sizes bytes) (inl (token, admits, is, same)) = subst (λ (s : Station). Leads old [] s) (sym same) (record { map = refl; numbers = refl; mine = λ k lt. sym (append-nil (mine_of old.pass.view k)) })
 asked_leads old responses new (registration sizes bytes) (inr (inl (response, refuses, m))) = once old new response responses m
@@ -141,12 +141,12 @@ asked_leads old responses new count (inl (reply, walks, is)) = team_walks old ne
 asked_leads old responses new count (inr (walks, is)) = team_walks old new _ walks
 asked_leads old responses new unknown m = once old new _ responses m
 
-serves_leads : (old : Station) (request : Request) (responses : List Response) (new : Station) (one : Serves old request responses new) → Leads old (call_of_step old request responses new one) new
+serves_leads : (old : Station) (request : Request) (responses : List Response) (new : Station) (one : CrewServes old request responses new) → Leads old (call_of_step old request responses new one) new
 serves_leads old request responses new one = asked_leads old responses new (asked (λ _. one.found) request) one.meets
 
 -- what a session's pass has made behind it
 session_made : (old : Station) (pass : PassState) (s : SessionOf old pass) → Leads old (calls_of old pass s) s.new
-session_made old pass s = session_leads Serves call_of_step Leads stays goes_on serves_leads old s.new s.read s.written s.last s.end s.ended
+session_made old pass s = session_leads CrewServes call_of_step Leads stays goes_on serves_leads old s.new s.read s.written s.last s.end s.ended
 
 pub sees_both : (one other joined : PassState) → joined.map ≡ one.map → other.map ≡ one.map → IsJoined (stripes_of one.map) one.view other.view joined.view → Sound (stripes_of joined.map) joined.view
     → SeesBothSessions one other joined

@@ -7,19 +7,18 @@ use Rattle.bin_stripes.specs.Passes.{PassState, stripes_of}
 use Rattle.client_protocol.specs.declared.response.Response.{Response}
 use Rattle.client_protocol.specs.declared.response.Response.TheVariants as tell
 use Rattle.program_registry.specs.declared.registry.ProgramToken.{ProgramToken}
-use Rattle.sessions.specs.Answering.{responses_of}
-use Rattle.sessions.specs.declared.session.service.Answer.TheVariants.{Walk}
+use Rattle.sessions.specs.Answering.{walk_responses}
 use Rattle.crews.specs.Stations.{Station}
-use Rattle.crews.specs.Steps.{Told, Pairwise, HearsEach, AnswersWalk}
+use Rattle.crews.specs.Steps.{IsToldBy, Pairwise, HearsEach, CrewAnswersWalk}
 
 -- what a walk's result is answered by
 abbrev pub IsAnswered : Result WalkReply NoMemory → List Response → Type 0
-IsAnswered result responses = MatchResult result (λ reply. responses ≡ responses_of (Walk reply)) (λ _. responses ≡ tell.Refused 9 0 ∷ [])
+IsAnswered result responses = MatchResult result (λ reply. responses ≡ walk_responses reply) (λ _. responses ≡ tell.Refused 9 0 ∷ [])
 
 pub team_answers : (old new : Station) (Replies : List PassState → List PassState → WalkReply → Type 0) (Stops : List PassState → List PassState → Type 0)
     (told : List PassState) (result : Result WalkReply NoMemory) (responses : List Response)
-    → Pairwise (Told old.pass) old.team told → MatchResult result (λ reply. Replies told new.team reply) (λ _. Stops told new.team)
-    → HearsEach old.pass new.team new.pass → new.tokens ≡ old.tokens → IsAnswered result responses → AnswersWalk old Replies Stops responses new
+    → Pairwise (IsToldBy old.pass) old.team told → MatchResult result (λ reply. Replies told new.team reply) (λ _. Stops told new.team)
+    → HearsEach old.pass new.team new.pass → new.tokens ≡ old.tokens → IsAnswered result responses → CrewAnswersWalk old Replies Stops responses new
 team_answers old new Replies Stops told (Ok reply) responses tells goes hears tokens is =
     inl (reply, record { told = told; tells = tells; goes = goes; hears = hears; tokens = tokens }, is)
 team_answers old new Replies Stops told (Err e) responses tells goes hears tokens is =
@@ -30,18 +29,18 @@ pub walked_by_team : (Replies : ℕ → List PassState → List PassState → Wa
     (old : Station) (pass : PassState) (team : List PassState) (tokens : List ProgramToken) (id : TableId)
     (given told after left : List PassState) (new : PassState) (result : Result WalkReply NoMemory) (responses : List Response)
     → old ≡ record { pass = pass; team = team; tokens = tokens } → pass.map ≡ id → given ≡ team → left ≡ after
-    → Pairwise (Told pass) given told → MatchResult result (λ reply. Replies (stripes_of id) told after reply) (λ _. Stops (stripes_of id) told after)
+    → Pairwise (IsToldBy pass) given told → MatchResult result (λ reply. Replies (stripes_of id) told after reply) (λ _. Stops (stripes_of id) told after)
     → HearsEach pass after new → IsAnswered result responses
-    → AnswersWalk old (λ x y reply. Replies (stripes_of old.pass.map) x y reply) (λ x y. Stops (stripes_of old.pass.map) x y) responses
+    → CrewAnswersWalk old (λ x y reply. Replies (stripes_of old.pass.map) x y reply) (λ x y. Stops (stripes_of old.pass.map) x y) responses
     (record { pass = new; team = left; tokens = tokens })
 walked_by_team Replies Stops old pass team tokens id given told after left new result responses old_is map given_is left_is tells goes hears is =
     let at : Station = record { pass = pass; team = team; tokens = tokens } in
     let n : stripes_of id ≡ stripes_of pass.map = ap stripes_of (sym map) in
-    let tells2 : Pairwise (Told pass) team told = subst (λ (ps : List PassState). Pairwise (Told pass) ps told) given_is tells in
+    let tells2 : Pairwise (IsToldBy pass) team told = subst (λ (ps : List PassState). Pairwise (IsToldBy pass) ps told) given_is tells in
     let goes2 : MatchResult result (λ reply. Replies (stripes_of pass.map) told after reply) (λ _. Stops (stripes_of pass.map) told after) =
     subst (λ (m : ℕ). MatchResult result (λ reply. Replies m told after reply) (λ _. Stops m told after)) n goes in
-    let there : AnswersWalk at (λ x y reply. Replies (stripes_of pass.map) x y reply) (λ x y. Stops (stripes_of pass.map) x y) responses (record { pass = new; team = after; tokens = tokens }) =
+    let there : CrewAnswersWalk at (λ x y reply. Replies (stripes_of pass.map) x y reply) (λ x y. Stops (stripes_of pass.map) x y) responses (record { pass = new; team = after; tokens = tokens }) =
     team_answers at (record { pass = new; team = after; tokens = tokens }) (λ x y reply. Replies (stripes_of pass.map) x y reply) (λ x y. Stops (stripes_of pass.map) x y) told result responses tells2 goes2 hears refl is in
-    let left_there : AnswersWalk at (λ x y reply. Replies (stripes_of pass.map) x y reply) (λ x y. Stops (stripes_of pass.map) x y) responses (record { pass = new; team = left; tokens = tokens }) =
-    subst (λ (ps : List PassState). AnswersWalk at (λ x y reply. Replies (stripes_of pass.map) x y reply) (λ x y. Stops (stripes_of pass.map) x y) responses (record { pass = new; team = ps; tokens = tokens })) (sym left_is) there in
-    subst (λ (s : Station). AnswersWalk s (λ x y reply. Replies (stripes_of s.pass.map) x y reply) (λ x y. Stops (stripes_of s.pass.map) x y) responses (record { pass = new; team = left; tokens = tokens })) (sym old_is) left_there
+    let left_there : CrewAnswersWalk at (λ x y reply. Replies (stripes_of pass.map) x y reply) (λ x y. Stops (stripes_of pass.map) x y) responses (record { pass = new; team = left; tokens = tokens }) =
+    subst (λ (ps : List PassState). CrewAnswersWalk at (λ x y reply. Replies (stripes_of pass.map) x y reply) (λ x y. Stops (stripes_of pass.map) x y) responses (record { pass = new; team = ps; tokens = tokens })) (sym left_is) there in
+    subst (λ (s : Station). CrewAnswersWalk s (λ x y reply. Replies (stripes_of s.pass.map) x y reply) (λ x y. Stops (stripes_of s.pass.map) x y) responses (record { pass = new; team = left; tokens = tokens })) (sym old_is) left_there

@@ -3,14 +3,14 @@ use Rattle.std.proofs.Common.{◌≡◌, ℕ, zero, suc, add-one, ◌+◌, ◌<�
 use Rattle.atomic_table.specs.Seated.{TableId}
 use Rattle.stripe_rule.specs.Gains.{Hears}
 use Rattle.bin_stripes.specs.Passes.{PassState, ServesSameMap, stripes_of}
-use Rattle.crews.specs.Steps.{Told, Pairwise, HearsEach}
+use Rattle.crews.specs.Steps.{IsToldBy, Pairwise, HearsEach}
 
 -- a pass of this map was told
-pub told_by : (id : TableId) (from old new : PassState) → old.map ≡ id → ServesSameMap old new → Hears (stripes_of id) from.view old.view new.view → Told from old new
+pub told_by : (id : TableId) (from old new : PassState) → old.map ≡ id → ServesSameMap old new → Hears (stripes_of id) from.view old.view new.view → IsToldBy from old new
 told_by id from old new is same hears = record { same = same; hears = subst (λ (m : TableId). Hears (stripes_of m) from.view old.view new.view) (sym is) hears }
 
-pub hears_more : (old next new : PassState) (passes : List PassState) (pass : PassState) → HearsEach old passes next → Told pass next new → HearsEach old (passes ++ pass ∷ []) new
-hears_more old next new [] pass h t = (new, subst (λ (p : PassState). Told pass p new) h t, refl)
+pub hears_more : (old next new : PassState) (passes : List PassState) (pass : PassState) → HearsEach old passes next → IsToldBy pass next new → HearsEach old (passes ++ pass ∷ []) new
+hears_more old next new [] pass h t = (new, subst (λ (p : PassState). IsToldBy pass p new) h t, refl)
 hears_more old next new (p ∷ passes) pass (mid, told, rest) t = (mid, told, hears_more mid next new passes pass rest t)
 
 take_next : {A : Type 0} (xs : List A) (i : ℕ) (x : A) → i < length xs → x ≡ get_or xs i x → take (suc i) xs ≡ take i xs ++ x ∷ []
@@ -20,7 +20,7 @@ take_next (y ∷ xs) (suc i) x lt is = ap (λ zs. y ∷ zs) (take_next xs i x (o
 
 -- one more member is heard
 pub heard_one_more : (old next new : PassState) (team : List PassState) (i : ℕ) (member : PassState) → i < length team → member ≡ get_or team i member
-    → HearsEach old (take i team) next → Told member next new → HearsEach old (take (i + 1) team) new
+    → HearsEach old (take i team) next → IsToldBy member next new → HearsEach old (take (i + 1) team) new
 heard_one_more old next new team i member lt is hears told =
     rw (add-one, take_next team i member lt is) (hears_more old next new (take i team) member hears told)
 

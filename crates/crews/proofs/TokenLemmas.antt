@@ -1,6 +1,7 @@
 -- Programs that are found by their numbers.
-use Rattle.std.proofs.Common.{◌≡◌, ◌==◌, if◌then◌else◌, ℕ, zero, suc, add-one, ◌+◌, ◌<◌, ◌≤◌, List, [], ◌∷◌, length, drop, get_or, Option, Some, None, IfSome, refl, sym, ap, ◌∙◌, arith, eq-eqb, ne_eqb, ◌≢◌}
-use Rattle.std.proofs.lemmas.List.{drop_all}
+use Rattle.std.proofs.Common.{◌≡◌, ◌≢◌, ℕ, ◌+◌, ◌<◌, ◌≤◌, List, [], ◌∷◌, ◌++◌, length, take, get_or, All, Option, Some, None, IfSome, refl, sym, ap, subst, ◌∙◌}
+use Rattle.std.proofs.lemmas.List.{take_all, take_more}
+use Rattle.std.proofs.lemmas.List.Elements.{All-append, All-from_recursion, All-get_or, All-from_get_or, All-weaker}
 use Rattle.bpf_model.specs.Meaning.{IsSafe}
 use Rattle.verifier.specs.Checked.{Checked}
 use Rattle.client_protocol.specs.declared.request.Request.{Request}
@@ -10,35 +11,44 @@ use Rattle.program_registry.specs.declared.registry.ProgramToken.{ProgramToken}
 use Rattle.program_registry.specs.Tokens.{program_of, token_number}
 use Rattle.sessions.specs.Asking.{asked, named, IsCall}
 use Rattle.crews.specs.Stations.{Station}
-use Rattle.crews.specs.Steps.{kept, Finds, number_in, Meets, Serves}
+use Rattle.crews.specs.Steps.{IsLike, Agree, Finds, number_in, CrewMeets, CrewServes}
 
--- the token at a place is the first of the rest
-kept_at : (tokens : List ProgramToken) (i : ℕ) (token : ProgramToken) (number : ℕ) → i < length tokens → token ≡ get_or tokens i token
-    → kept (drop i tokens) number ≡ (if token_number token == number then Some (program_of token) else kept (drop (suc i) tokens) number)
-kept_at [] i token number lt is = absurd (omega arith)
-kept_at (t ∷ tokens) zero token number lt is = ap (λ (u : ProgramToken). if token_number u == number then Some (program_of u) else kept tokens number) (sym is)
-kept_at (t ∷ tokens) (suc i) token number lt is = kept_at tokens i token number (omega arith) is
+-- what holds of the elements so far, and of the next one
+pub one_further : {X : Type 0} (P : X → Type 0) (xs : List X) (i : ℕ) (x : X) → i < length xs → x ≡ get_or xs i x → All P (take i xs) → P x → All P (take (i + 1) xs)
+one_further {X} P xs i x lt is before here =
+    subst (λ (ys : List X). All P ys) (sym (take_more xs i x lt)) (All-append P (take i xs) (get_or xs i x ∷ []) before (All-from_recursion P (get_or xs i x ∷ []) (subst P is here, tt)))
 
-pub kept_here : (tokens : List ProgramToken) (i : ℕ) (token : ProgramToken) (number : ℕ) → i < length tokens → token ≡ get_or tokens i token
-    → kept tokens number ≡ kept (drop i tokens) number → token_number token ≡ number → kept tokens number ≡ Some (program_of token)
-kept_here tokens i token number lt is so_far same =
-    so_far ∙ kept_at tokens i token number lt is
-    ∙ ap (λ b. if b then Some (program_of token) else kept (drop (suc i) tokens) number) (eq-eqb (token_number token) number same)
+-- a token has the number, and so all that have it stand for its program
+pub found_here : (tokens : List ProgramToken) (i : ℕ) (token : ProgramToken) (number : ℕ) (found : Checked) → i < length tokens → token ≡ get_or tokens i token
+    → Agree tokens → token_number token ≡ number → found ≡ program_of token → IsSafe found.program found.sizes → Finds tokens number (Some found)
+found_here tokens i token number found lt is agree same program safe =
+    let alike : All (λ (other : ProgramToken). IsLike other token) tokens =
+    subst (λ (t : ProgramToken). All (λ (other : ProgramToken). IsLike other t) tokens) (sym is) (All-get_or (λ (t : ProgramToken). All (λ (other : ProgramToken). IsLike other t) tokens) tokens i token lt agree) in
+    record {
+      own = All-weaker (λ (other : ProgramToken). IsLike other token) (λ (other : ProgramToken). token_number other ≡ number → Some found ≡ Some (program_of other)) (λ other like has. ap Some (program ∙ sym (like (has ∙ sym same)))) tokens alike;
+      safe = safe;
+    }
 
-pub kept_further : (tokens : List ProgramToken) (i : ℕ) (token : ProgramToken) (number : ℕ) → i < length tokens → token ≡ get_or tokens i token
-    → kept tokens number ≡ kept (drop i tokens) number → token_number token ≢ number → kept tokens number ≡ kept (drop (i + 1) tokens) number
-kept_further tokens i token number lt is so_far other =
-    rw (add-one) (so_far ∙ kept_at tokens i token number lt is
-    ∙ ap (λ b. if b then Some (program_of token) else kept (drop (suc i) tokens) number) (ne_eqb (token_number token) number other))
-
-pub found_here : (tokens : List ProgramToken) (number : ℕ) (program found : Checked) → kept tokens number ≡ Some program → found ≡ program → IsSafe found.program found.sizes
-    → Finds tokens number (Some found)
-found_here tokens number program found is same safe = record { own = rw is (ap Some same); safe = safe }
-
-pub found_nowhere : (tokens : List ProgramToken) (number i : ℕ) (found : Option Checked) → length tokens ≤ i → kept tokens number ≡ kept (drop i tokens) number
+-- no token has the number
+pub found_nowhere : (tokens : List ProgramToken) (number i : ℕ) (found : Option Checked) → length tokens ≤ i → All (λ token. token_number token ≢ number) (take i tokens)
     → IfSome found (λ program. IsSafe program.program program.sizes) → Finds tokens number found
-found_nowhere tokens number i found past so_far safe =
-    record { own = rw (so_far ∙ ap (λ (ts : List ProgramToken). kept ts number) (drop_all i tokens past)) tt; safe = safe }
+found_nowhere tokens number i found past others safe =
+    record {
+      own = All-weaker (λ (token : ProgramToken). token_number token ≢ number) (λ (token : ProgramToken). token_number token ≡ number → found ≡ Some (program_of token)) (λ token other has. absurd (other has)) tokens
+          (subst (λ (ts : List ProgramToken). All (λ (token : ProgramToken). token_number token ≢ number) ts) (take_all i tokens past) others);
+      safe = safe;
+    }
+
+-- one more token, which is like those that are there
+pub agree_more : (tokens : List ProgramToken) (token : ProgramToken) → Agree tokens → All (λ other. IsLike other token) tokens → Agree (tokens ++ token ∷ [])
+agree_more tokens token agree like =
+    let longer : (t : ProgramToken) → IsLike token t → All (λ (other : ProgramToken). IsLike other t) tokens → All (λ (other : ProgramToken). IsLike other t) (tokens ++ token ∷ []) =
+    λ t last all. All-append (λ (other : ProgramToken). IsLike other t) tokens (token ∷ []) all (All-from_recursion (λ (other : ProgramToken). IsLike other t) (token ∷ []) (last, tt)) in
+    let turned : (t : ProgramToken) → IsLike t token → IsLike token t = λ t is same. sym (is (sym same)) in
+    All-append (λ (t : ProgramToken). All (λ (other : ProgramToken). IsLike other t) (tokens ++ token ∷ [])) tokens (token ∷ [])
+    (All-from_get_or (λ (t : ProgramToken). All (λ (other : ProgramToken). IsLike other t) (tokens ++ token ∷ [])) tokens token
+    (λ i lt. longer (get_or tokens i token) (turned (get_or tokens i token) (All-get_or (λ (t : ProgramToken). IsLike t token) tokens i token lt like)) (All-get_or (λ (t : ProgramToken). All (λ (other : ProgramToken). IsLike other t) tokens) tokens i token lt agree)))
+    (All-from_recursion (λ (t : ProgramToken). All (λ (other : ProgramToken). IsLike other t) (tokens ++ token ∷ [])) (token ∷ []) (longer token (λ same. refl) like, tt))
 
 -- a call names a program by the number that its request has
 number_of_call : (request : Request) → IsCall request → number_in request ≡ named request
@@ -61,11 +71,11 @@ number_of_call (ReplaceAll number arg) call = absurd call
 number_of_call Count call = absurd call
 
 pub names_none : (old : Station) (request : Request) (responses : List Response) (new : Station) → IsCall request → named request ≡ None
-    → Meets old (asked (λ _. None) request) responses new → Serves old request responses new
+    → CrewMeets old (asked (λ _. None) request) responses new → CrewServes old request responses new
 names_none old request responses new call is meets =
     record { found = None; finds = rw (number_of_call request call ∙ is) tt; meets = meets }
 
 pub names_one : (old : Station) (request : Request) (number : ℕ) (found : Option Checked) (responses : List Response) (new : Station) → IsCall request → named request ≡ Some number
-    → Finds old.tokens number found → Meets old (asked (λ _. found) request) responses new → Serves old request responses new
+    → Finds old.tokens number found → CrewMeets old (asked (λ _. found) request) responses new → CrewServes old request responses new
 names_one old request number found responses new call is finds meets =
     record { found = found; finds = rw (number_of_call request call ∙ is) finds; meets = meets }

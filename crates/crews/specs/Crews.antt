@@ -8,7 +8,7 @@ use Rattle.crews.specs.Stations.{Station}
 use Rattle.crews.specs.Steps.{Pairwise}
 
 -- its passes are of this map
-pub record IsOf (id : TableId) (crew : Crew) : Type 0 where
+pub record IsCrewOf (id : TableId) (crew : Crew) : Type 0 where
   pub pass : crew.pass.map ≡ id
   pub team : All (λ member. member.map ≡ id) crew.team.passes.items
 
@@ -32,5 +32,5 @@ AllCarrySame olds news = Pairwise CarriesSame olds news
 
 -- a seat from which a crew served clients of this map
 abbrev pub IsServed : TableId → Option Crew → Option Crew → Type 0
-IsServed id (Some old) (Some new) = IsOf id new × CarriesSame old new
+IsServed id (Some old) (Some new) = IsCrewOf id new × CarriesSame old new
 IsServed id old new = ⊥

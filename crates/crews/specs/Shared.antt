@@ -19,7 +19,7 @@ use Rattle.sessions.specs.Sessions.{Ended}
 use Rattle.sessions.specs.declared.session.SessionEnd.{SessionEnd}
 use Rattle.crews.specs.Collected.{in_session}
 use Rattle.crews.specs.Stations.{Station}
-use Rattle.crews.specs.Steps.{Meets, Serves}
+use Rattle.crews.specs.Steps.{CrewMeets, CrewServes}
 
 -- a call, and the reply with which it was answered
 pub record AnsweredCall : Type 0 where
@@ -33,7 +33,7 @@ abbrev pub made_call : (old new : PassState) (responses : List Response) (invoca
 made_call old new responses invocation (inl (reply, calls, is)) = record { invocation = invocation; reply = reply } ∷ []
 made_call old new responses invocation (inr refused) = []
 
-abbrev pub call_asked : (old new : Station) (responses : List Response) (asks : Asked) → Meets old asks responses new → List AnsweredCall
+abbrev pub call_asked : (old new : Station) (responses : List Response) (asks : Asked) → CrewMeets old asks responses new → List AnsweredCall
 call_asked old new responses (greeting version) meets = []
 call_asked old new responses (registration sizes bytes) meets = []
 call_asked old new responses (call invocation) meets = made_call old.pass new.pass responses invocation meets.made
@@ -43,7 +43,7 @@ call_asked old new responses count meets = []
 call_asked old new responses unknown meets = []
 
 -- the call that a request was answered by, if it was a call and was made
-abbrev pub call_of_step : (old : Station) (request : Request) (responses : List Response) (new : Station) → Serves old request responses new → List AnsweredCall
+abbrev pub call_of_step : (old : Station) (request : Request) (responses : List Response) (new : Station) → CrewServes old request responses new → List AnsweredCall
 call_of_step old request responses new serves = call_asked old new responses (asked (λ _. serves.found) request) serves.meets
 
 -- a session that led from a state to what this pass knows
@@ -53,12 +53,12 @@ pub record SessionOf (old : Station) (pass : PassState) : Type 0 where
   pub last : ℕ
   pub written : List ℕ
   pub new : Station
-  pub ended : Ended Serves old end read last written new
+  pub ended : Ended CrewServes old end read last written new
   pub pass_is : pass ≡ new.pass
 
 -- the calls that it answered, in order
 abbrev pub calls_of : (old : Station) (pass : PassState) → SessionOf old pass → List AnsweredCall
-calls_of old pass session = in_session Serves call_of_step old session.new session.read session.written session.last session.end session.ended
+calls_of old pass session = in_session CrewServes call_of_step old session.new session.read session.written session.last session.end session.ended
 
 -- the events of those calls whose keys lie in the stripe k, under the least number of the pass
 abbrev pub events_at : PassState → ℕ → List AnsweredCall → List (Event GhostAction)

@@ -1,6 +1,6 @@
 -- How a crew answers a request, and what its passes then know. The methods are those of Java SE 17's ConcurrentMap; numbers and
 -- refusals are this map's profile.
-use Rattle.std.specs.Prelude.{◌≡◌, ◌⊎◌, ◌==◌, if◌then◌else◌, ℕ, List, [], ◌∷◌, ◌++◌, Option, Some, None, IfSome}
+use Rattle.std.specs.Prelude.{◌≡◌, ◌⊎◌, ℕ, List, [], ◌∷◌, ◌++◌, Option, Some, IfSome, All}
 use Rattle.bpf_model.specs.declared.input.Sizes.{Sizes}
 use Rattle.bpf_model.specs.Meaning.{IsSafe}
 use Rattle.stripe_rule.specs.Gains.{Hears}
@@ -17,19 +17,21 @@ use Rattle.client_protocol.specs.declared.response.Response.{Response}
 use Rattle.client_protocol.specs.declared.response.Response.TheVariants as tell
 use Rattle.program_registry.specs.declared.registry.ProgramToken.{ProgramToken}
 use Rattle.program_registry.specs.Tokens.{program_of, token_number}
-use Rattle.sessions.specs.Answering.{responses_of}
+use Rattle.sessions.specs.Answering.{walk_responses}
 use Rattle.sessions.specs.Asking.{Asked, asked, named, greeting, registration, call, walk, replacement, count, unknown, with_program, response_to, Admits, RefusesProgram, AnswersOnce, TellsNoMemory}
-use Rattle.sessions.specs.declared.session.service.Answer.TheVariants.{Walk}
 use Rattle.crews.specs.Stations.{Station}
 
--- the program of the first of these tokens that has the number, where one has it
-abbrev pub kept : List ProgramToken → ℕ → Option Checked
-kept [] number = None
-kept (token ∷ tokens) number = if token_number token == number then Some (program_of token) else kept tokens number
+-- the one token has the other's number only if it stands for the same program
+abbrev pub IsLike : ProgramToken → ProgramToken → Type 0
+IsLike token other = token_number token ≡ token_number other → program_of token ≡ program_of other
 
--- what is found under the number: the program of a token that has it; or, where none has it, a safe program or nothing
+-- tokens of one number stand for one program
+abbrev pub Agree : List ProgramToken → Type 0
+Agree tokens = All (λ token. All (λ other. IsLike other token) tokens) tokens
+
+-- what is found under the number: the program of each token that has it; or, where none has it, a safe program or nothing
 pub record Finds (tokens : List ProgramToken) (number : ℕ) (found : Option Checked) : Type 0 where
-  pub own : IfSome (kept tokens number) (λ program. found ≡ Some program)
+  pub own : All (λ token. token_number token ≡ number → found ≡ Some (program_of token)) tokens
   pub safe : IfSome found (λ program. IsSafe program.program program.sizes)
 
 -- the number of the program that a request names, if it names one
@@ -40,7 +42,7 @@ number_in (ReplaceAll number arg) = Some number
 number_in request = named request
 
 -- a pass that was told what another knows
-pub record Told (from old new : PassState) : Type 0 where
+pub record IsToldBy (from old new : PassState) : Type 0 where
   pub same : ServesSameMap old new
   pub hears : Hears (stripes_of old.map) from.view old.view new.view
 
@@ -53,26 +55,26 @@ Pairwise R xs ys = ⊥
 -- a pass that was told what each of these know, one after the other
 abbrev pub HearsEach : PassState → List PassState → PassState → Type 0
 HearsEach old [] new = new ≡ old
-HearsEach old (pass ∷ passes) new = (next : PassState) × Told pass old next × HearsEach next passes new
+HearsEach old (pass ∷ passes) new = (next : PassState) × IsToldBy pass old next × HearsEach next passes new
 
 -- the team is told what the crew's pass knows, walks, and is heard
 pub record TeamWalks (old : Station) (Goes : List PassState → List PassState → Type 0) (new : Station) : Type 0 where
   pub told : List PassState
-  pub tells : Pairwise (Told old.pass) old.team told
+  pub tells : Pairwise (IsToldBy old.pass) old.team told
   pub goes : Goes told new.team
   pub hears : HearsEach old.pass new.team new.pass
   pub tokens : new.tokens ≡ old.tokens
 
 -- the team walks and has this answer; or it is refused memory, and what it did then is by `Stops`
-abbrev pub AnswersWalk : Station → (List PassState → List PassState → WalkReply → Type 0)
+abbrev pub CrewAnswersWalk : Station → (List PassState → List PassState → WalkReply → Type 0)
     → (List PassState → List PassState → Type 0) → List Response → Station → Type 0
-AnswersWalk old Replies Stops responses new =
-    ((reply : WalkReply) × TeamWalks old (λ before after. Replies before after reply) new × (responses ≡ responses_of (Walk reply)))
+CrewAnswersWalk old Replies Stops responses new =
+    ((reply : WalkReply) × TeamWalks old (λ before after. Replies before after reply) new × (responses ≡ walk_responses reply))
     ⊎ (TeamWalks old Stops new × (responses ≡ tell.Refused 9 0 ∷ []))
 
 -- the call is made and answered; or memory was refused to it, and what the pass has seen then leaves a table to which it would
 -- add its key
-pub record AnswersCall (old : Station) (invocation : Invocation) (responses : List Response) (new : Station) : Type 0 where
+pub record CrewAnswersCall (old : Station) (invocation : Invocation) (responses : List Response) (new : Station) : Type 0 where
   pub team : new.team ≡ old.team
   pub tokens : new.tokens ≡ old.tokens
   pub same : ServesSameMap old.pass new.pass
@@ -81,37 +83,37 @@ pub record AnswersCall (old : Station) (invocation : Invocation) (responses : Li
 
 -- the program is registered and its token kept, whose number is answered; or it is refused by the first step that refuses it;
 -- or memory is refused
-abbrev pub AnswersRegister : Station → Sizes → List ℕ → List Response → Station → Type 0
-AnswersRegister old sizes bytes responses new =
+abbrev pub CrewAnswersRegister : Station → Sizes → List ℕ → List Response → Station → Type 0
+CrewAnswersRegister old sizes bytes responses new =
     ((token : ProgramToken) × Admits sizes bytes (program_of token) × (responses ≡ tell.Registered (token_number token) ∷ [])
     × (new ≡ record { pass = old.pass; team = old.team; tokens = old.tokens ++ token ∷ [] }))
     ⊎ (((response : Response) × RefusesProgram sizes bytes response × AnswersOnce old response responses new)
     ⊎ TellsNoMemory old responses new)
 
-abbrev pub Meets : Station → Asked → List Response → Station → Type 0
-Meets old (greeting version) responses new = AnswersOnce old (tell.Hello version) responses new
-Meets old (registration sizes bytes) responses new = AnswersRegister old sizes bytes responses new
-Meets old (call invocation) responses new = AnswersCall old invocation responses new
-Meets old (walk kind program arg) responses new =
+abbrev pub CrewMeets : Station → Asked → List Response → Station → Type 0
+CrewMeets old (greeting version) responses new = AnswersOnce old (tell.Hello version) responses new
+CrewMeets old (registration sizes bytes) responses new = CrewAnswersRegister old sizes bytes responses new
+CrewMeets old (call invocation) responses new = CrewAnswersCall old invocation responses new
+CrewMeets old (walk kind program arg) responses new =
     let n = stripes_of old.pass.map in
-    AnswersWalk old (λ before after reply. IsWalk kind n program arg before after reply) (λ before after. AllWalked n MayScan before after) responses new
-Meets old (replacement program arg) responses new =
+    CrewAnswersWalk old (λ before after reply. IsWalk kind n program arg before after reply) (λ before after. AllWalked n MayScan before after) responses new
+CrewMeets old (replacement program arg) responses new =
     let n = stripes_of old.pass.map in
-    AnswersWalk old (λ before after reply. ReplacesAll n program arg before after reply) (λ before after. after ≡ before) responses new
-Meets old count responses new =
+    CrewAnswersWalk old (λ before after reply. ReplacesAll n program arg before after reply) (λ before after. after ≡ before) responses new
+CrewMeets old count responses new =
     let n = stripes_of old.pass.map in
-    AnswersWalk old (λ before after reply. CountsAll n before after reply) (λ before after. AllWalked n MayScan before after) responses new
-Meets old unknown responses new = AnswersOnce old (tell.Refused 66 0) responses new
+    CrewAnswersWalk old (λ before after reply. CountsAll n before after reply) (λ before after. AllWalked n MayScan before after) responses new
+CrewMeets old unknown responses new = AnswersOnce old (tell.Refused 66 0) responses new
 
 -- what is asked for with the program that is found under the number is answered by these responses
-pub record AsksFor (old : Station) (number : ℕ) (asks : Checked → Asked) (responses : List Response) (new : Station) : Type 0 where
+pub record AsksWithProgram (old : Station) (number : ℕ) (asks : Checked → Asked) (responses : List Response) (new : Station) : Type 0 where
   pub found : Option Checked
   pub finds : Finds old.tokens number found
-  pub meets : Meets old (with_program found asks) responses new
+  pub meets : CrewMeets old (with_program found asks) responses new
 
 -- a request is answered by these responses, and the crew's passes and tokens are then so; what it asks for is by the program that
 -- is found under the number that it names
-pub record Serves (old : Station) (request : Request) (responses : List Response) (new : Station) : Type 0 where
+pub record CrewServes (old : Station) (request : Request) (responses : List Response) (new : Station) : Type 0 where
   pub found : Option Checked
   pub finds : IfSome (number_in request) (λ number. Finds old.tokens number found)
-  pub meets : Meets old (asked (λ _. found) request) responses new
+  pub meets : CrewMeets old (asked (λ _. found) request) responses new

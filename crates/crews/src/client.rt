@@ -5,13 +5,13 @@ ghost use Rattle.program_registry.specs.declared.registry.ProgramToken.{ProgramT
 ghost use Rattle.sessions.specs.Answering.{Answered, BreaksOff};
 ghost use Rattle.sessions.specs.Devices.{CanRead, CanWrite, TakesBytes, TakesThenFails};
 ghost use Rattle.sessions.specs.Sessions.{Ended, HasToldEnd, ends_after, failed_reads, failed_writes};
-ghost use Rattle.crews.specs.Steps.{Serves};
-ghost use Rattle.crews.specs.Crews.{IsOf, CarriesSame, station};
+ghost use Rattle.crews.specs.Steps.{CrewServes};
+ghost use Rattle.crews.specs.Crews.{IsCrewOf, CarriesSame, station};
 
 use crate::crew::Crew;
 use crate::serving::Serving;
 use bin_stripes::{Gate, StripedMap};
-use bpf_model::NoMemory;
+use bpf_model::{NoMemory, Value};
 use bulk_walks::Team;
 use client_protocol::{Feeder, Request};
 use program_registry::Registry;
@@ -23,27 +23,29 @@ use std::thread::Threads;
 /// At most so many bytes are read at once.
 const PIECE_BYTES: usize = 16384;
 
-// Answers the requests in turn: each answer is written before the next request is looked at.
+// Answers the requests in turn: each answer is written before the next request is looked at. Values that are found are left
+// in `value`, one after the other.
 fn answer_all<H: Threads + Wait + Sync, W: Sink, G: Gate + Sync>(
     rt: &H,
     alloc: Global,
     writer: &mut W,
     serving: &mut Serving<'_>,
     requests: &[Request],
+    value: &mut Value,
     gate: &G,
     worker: u32,
 ) -> Result<(), Failed>
     requires { CanWrite (W.state writer.old) }
     ensures ok { OnOk result ((written : List ℕ)
         × TakesBytes (W.state writer.old) (W.state writer.new) written
-        × Answered Serves serving.old requests.now written serving.new) }
+        × Answered CrewServes serving.old requests.now written serving.new) }
     ensures err { OnErr result ((written : List ℕ)
         × TakesThenFails (W.state writer.old) (W.state writer.new) written
-        × BreaksOff Serves serving.old requests.now written serving.new) }
+        × BreaksOff CrewServes serving.old requests.now written serving.new) }
 {
     for request in requests {
-        let answer = serving.answer(rt, alloc, request, gate, worker);
-        send(writer, &answer)?;
+        let answer = serving.answer(rt, alloc, request, value, gate, worker);
+        send(writer, &answer, value)?;
     }
     Ok(())
 }
@@ -63,7 +65,7 @@ fn run<H: Threads + Wait + Sync, R: ReadBehind<W>, W: Sink, G: Gate + Sync>(
     ensures ended { (read : List ℕ) × ((written : List ℕ)
         × (Consumes (R.source reader.old).left (R.source reader.new).left read
         × (Appends (W.state writer.old).held (W.state writer.new).held written
-        × Ended Serves serving.old result read (R.source reader.new).last written serving.new))) }
+        × Ended CrewServes serving.old result read (R.source reader.new).last written serving.new))) }
     ensures told { (R.source reader.new).ends ≡ ends_after result (R.source reader.old).ends }
     ensures whole { HasToldEnd result → IsAtEnd (R.source reader.new).left }
     ensures reads { (R.source reader.new).failures
@@ -74,6 +76,8 @@ fn run<H: Threads + Wait + Sync, R: ReadBehind<W>, W: Sink, G: Gate + Sync>(
 {
     let mut feeder = Feeder::new(alloc);
     let mut piece = [0; PIECE_BYTES];
+    let mut requests = Vec::new(alloc);
+    let mut value = Value::new();
     for _ in rt.forever() {
         let Ok(()) = writer.flush() else {
             return SessionEnd::WriteFailed;
@@ -87,13 +91,16 @@ fn run<H: Threads + Wait + Sync, R: ReadBehind<W>, W: Sink, G: Gate + Sync>(
             }
             return SessionEnd::Closed;
         }
-        let Ok(fed) = feeder.feed(alloc, &piece[..n]) else {
+        let Ok(fault) = feeder.feed_into(alloc, &piece[..n], &mut requests) else {
             return refuse(writer, NoMemory::NUMBER, SessionEnd::NoMemory);
         };
-        let Ok(()) = answer_all(rt, alloc, writer, serving, &fed.requests, gate, worker) else {
+        let answered = answer_all(
+            rt, alloc, writer, serving, &requests, &mut value, gate, worker,
+        );
+        let Ok(()) = answered else {
             return SessionEnd::WriteFailed;
         };
-        if let Some(fault) = fed.fault {
+        if let Some(fault) = fault {
             return refuse(writer, fault.number(), SessionEnd::Refused(fault));
         }
     }
@@ -116,13 +123,13 @@ pub fn session<'a, H: Threads + Wait + Sync, R: ReadBehind<W>, W: Sink, G: Gate 
 ) -> (Crew, SessionEnd)
     requires reads { CanRead (R.source reader.old) }
     requires writes { CanWrite (W.state writer.old) }
-    requires crew { IsOf map.now crew }
+    requires crew { IsCrewOf map.now crew }
     // What was read is answered, by a chain of states from the crew handed in, with no token, to the crew given back.
     ensures ended { (read : List ℕ) × ((written : List ℕ) × ((tokens : List ProgramToken)
         × (Consumes (R.source reader.old).left (R.source reader.new).left read
         × (Appends (W.state writer.old).held (W.state writer.new).held written
-        × Ended Serves (station crew []) result.1 read (R.source reader.new).last written (station result.0 tokens))))) }
-    ensures crew { IsOf map.now result.0 }
+        × Ended CrewServes (station crew []) result.1 read (R.source reader.new).last written (station result.0 tokens))))) }
+    ensures crew { IsCrewOf map.now result.0 }
     ensures same { CarriesSame crew result.0 }
     ensures told { (R.source reader.new).ends ≡ ends_after result.1 (R.source reader.old).ends }
     ensures whole { HasToldEnd result.1 → IsAtEnd (R.source reader.new).left }

@@ -1,6 +1,6 @@
 //! Sessions of many clients over one map, each served by a crew.
 //!
-//! The promise to the layers above: `session` answers what it reads by a chain of steps on what its crew knows (`Serves` of
+//! The promise to the layers above: `session` answers what it reads by a chain of steps on what its crew knows (`CrewServes` of
 //! `specs/Steps.antt`, `Ended` of the crate sessions); `serve` gives its crews back in order, each with the numbers that it
 //! carried. A session waits for its reader and for stripes that others hold; its walks start threads.
 #![tactic(auto)]

@@ -1,6 +1,6 @@
 //! Crews that serve clients, each in a thread of its own.
 ghost use Rattle.std.specs.Prelude.{◌≡◌, ◌≤◌, [], All, IfOk, IsSome, IsSomeAnd, map, Some, vec_len, vec_capacity};
-ghost use Rattle.crews.specs.Crews.{IsOf, IsServed, CarriesSame, AllCarrySame};
+ghost use Rattle.crews.specs.Crews.{IsCrewOf, IsServed, CarriesSame, AllCarrySame};
 
 use crate::accept::Accept;
 use crate::client::session;
@@ -31,8 +31,8 @@ fn serve_clients<
     crew: Crew,
     gate: &G,
 ) -> Crew
-    requires { IsOf map.now crew }
-    ensures of { IsOf map.now result }
+    requires { IsCrewOf map.now crew }
+    ensures of { IsCrewOf map.now result }
     ensures same { CarriesSame crew result }
 {
     let mut crew = crew;
@@ -75,16 +75,16 @@ pub fn serve<
     crews: Vec<Crew>,
     gate: &G,
 ) -> Result<Vec<Crew>, NoMemory>
-    requires { All (λ crew. IsOf map.now crew) crews.items }
+    requires { All (λ crew. IsCrewOf map.now crew) crews.items }
     ensures same { IfOk result (λ back. AllCarrySame crews.items back.items) }
-    ensures map { IfOk result (λ back. All (λ crew. IsOf map.now crew) back.items) }
+    ensures map { IfOk result (λ back. All (λ crew. IsCrewOf map.now crew) back.items) }
 {
     let count = crews.len();
     let seats = Vec::with_capacity(alloc, count)?;
     let back = Vec::with_capacity(alloc, count)?;
     let seats = seated(crews, seats);
     let call = move |_: usize, seat: &mut Option<Crew>|
-        requires { IsSomeAnd seat.old (λ crew. IsOf map.now crew) }
+        requires { IsSomeAnd seat.old (λ crew. IsCrewOf map.now crew) }
         ensures { IsServed map.entry.now seat.old seat.new }
     {
         if let Some(crew) = seat.take() {

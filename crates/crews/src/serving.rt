@@ -1,12 +1,11 @@
 //! What answers the requests of a session: the crew's passes, and the programs that the session registered.
-ghost use Rattle.std.specs.Prelude.{◌≡◌, [], ◌∷◌, All, MatchResult, option_copied};
+ghost use Rattle.std.specs.Prelude.{◌≡◌, ℕ, List, [], ◌∷◌, All, MatchResult, option_copied};
 ghost use Rattle.bpf_model.specs.Meaning.{IsSafe};
 ghost use Rattle.program_registry.specs.Tokens.{IsOf};
-ghost use Rattle.sessions.specs.Answering.{responses_of};
+ghost use Rattle.sessions.specs.Answering.{responses_of, walk_responses};
 ghost use Rattle.sessions.specs.Asking.{asked, walk, replacement, count, IsCall};
-ghost use Rattle.sessions.specs.declared.session.service.Answer.TheVariants.{Walk};
 ghost use Rattle.client_protocol.specs.declared.response.Response.TheVariants as tell;
-ghost use Rattle.crews.specs.Steps.{Meets, Finds, Serves, AsksFor, AnswersRegister};
+ghost use Rattle.crews.specs.Steps.{IsLike, Agree, CrewMeets, Finds, CrewServes, AsksWithProgram, CrewAnswersRegister};
 
 use crate::team::{heard, told};
 use atomic_methods::{WalkKind, WalkReply};
@@ -16,7 +15,7 @@ use bulk_walks::{mapping_count, replace_all, walk};
 use client_protocol::{Request, Response};
 use program_registry::{ProgramToken, Registry};
 use sessions::{
-    Answer, admit_or_refuse, call_of, named_program, no_memory, response_to, unknown_program,
+    Answer, admit_or_refuse, answer_to, call_of, named_program, no_memory, unknown_program,
 };
 use std::alloc::Global;
 use std::marker::Model;
@@ -39,13 +38,14 @@ impl<'a> Model for Serving<'a> {
     ghost use Rattle.std.specs.Prelude.{◌≡◌, ◌<◌, All, vec_len};
     ghost use Rattle.program_registry.specs.Tokens.{IsOf};
     ghost use Rattle.crews.specs.Stations.{Station};
+    ghost use Rattle.crews.specs.Steps.{Agree};
 
     ghost Value = { Station };
 
     ghost view = { λ s. record { pass = s.pass; team = s.team.items; tokens = s.tokens.items } };
 
     ghost invariant = { λ s. (s.pass.map ≡ s.map.now) × All (λ p. p.map ≡ s.map.now) s.team.items
-        × (0 < vec_len s.team) × All (λ t. IsOf s.registry.now t) s.tokens.items };
+        × (0 < vec_len s.team) × All (λ t. IsOf s.registry.now t) s.tokens.items × Agree s.tokens.items };
 }
 
 // The program of this number: that of the session's own token, or else of another session's.
@@ -54,7 +54,8 @@ fn program_of<'a>(
     tokens: &[ProgramToken],
     number: u64,
 ) -> Option<&'a Verified>
-    requires { All (λ t. IsOf registry.now t) tokens.now }
+    requires mine { All (λ t. IsOf registry.now t) tokens.now }
+    requires agree { Agree tokens.now }
     ensures { Finds tokens.now number (option_copied result) }
 {
     for token in tokens {
@@ -77,9 +78,21 @@ fn known_safe<'a>(program: &'a Verified) -> &'a Verified
     program
 }
 
+// Looks through the tokens for those with the number of one more. For the proof alone: they stand for its program.
+fn show_agrees(registry: &Registry, tokens: &[ProgramToken], token: &ProgramToken)
+    requires mine { All (λ t. IsOf registry.now t) tokens.now × IsOf registry.now token.now }
+    ensures { All (λ t. IsLike t token.now) tokens.now }
+{
+    for other in tokens {
+        if other.number() == token.number() {
+            registry.agrees(other, token);
+        }
+    }
+}
+
 // The answer that a walk's reply is.
 fn answer_of(reply: Result<WalkReply, NoMemory>) -> Answer
-    ensures { MatchResult reply (λ walked. responses_of result ≡ responses_of (Walk walked)) (λ _. responses_of result ≡ tell.Refused 9 0 ∷ []) }
+    ensures { (bytes : List ℕ) → MatchResult reply (λ walked. responses_of result bytes ≡ walk_responses walked) (λ _. responses_of result bytes ≡ tell.Refused 9 0 ∷ []) }
 {
     match reply {
         Ok(reply) => Answer::Walk(reply),
@@ -90,7 +103,7 @@ fn answer_of(reply: Result<WalkReply, NoMemory>) -> Answer
 impl<'a> Serving<'a> {
     // Registers the program that the bytes spell, and keeps its token; the room for that comes first.
     fn register<H: Wait>(&mut self, rt: &H, alloc: Global, sizes: Sizes, bytes: &[u8]) -> Response
-        ensures { AnswersRegister self.old sizes bytes.now (result ∷ []) self.new }
+        ensures { CrewAnswersRegister self.old sizes bytes.now (result ∷ []) self.new }
     {
         let Ok(()) = self.tokens.reserve(1) else {
             return no_memory();
@@ -103,34 +116,42 @@ impl<'a> Serving<'a> {
             return no_memory();
         };
         let program = token.number();
+        show_agrees(self.registry, &self.tokens, &token);
         self.tokens.push_reserved(token);
         Response::Registered { program }
     }
 
-    // Makes the call that is asked for, with this program where it names one.
-    fn call<H: Wait>(&mut self, rt: &H, request: &Request, program: Option<&Verified>) -> Response
+    // Makes the call that is asked for, with this program where it names one. The value of its reply, if it has one, is left
+    // in `value`.
+    fn call<H: Wait>(
+        &mut self,
+        rt: &H,
+        request: &Request,
+        program: Option<&Verified>,
+        value: &mut Value,
+    ) -> Answer
         requires { IsCall request.now }
-        ensures { Meets self.old (asked (λ _. option_copied program.entry) request.now) (result ∷ []) self.new }
+        ensures { CrewMeets self.old (asked (λ _. option_copied program.entry) request.now) (responses_of result value.new) self.new }
     {
         let Some(call) = call_of(request, program) else {
-            return unknown_program();
+            return Answer::One(unknown_program());
         };
-        match self.map.call(rt, &mut self.pass, &call) {
-            Ok(reply) => response_to(reply),
-            Err(NoMemory) => no_memory(),
+        match self.map.call_into(rt, &mut self.pass, &call, value) {
+            Ok(kind) => answer_to(kind),
+            Err(NoMemory) => Answer::One(no_memory()),
         }
     }
 
     // Makes the call that is asked for, with the program that it names, if it names one.
-    fn named_call<H: Wait>(&mut self, rt: &H, request: &Request) -> Response
+    fn named_call<H: Wait>(&mut self, rt: &H, request: &Request, value: &mut Value) -> Answer
         requires { IsCall request.now }
-        ensures { Serves self.old request.now (result ∷ []) self.new }
+        ensures { CrewServes self.old request.now (responses_of result value.new) self.new }
     {
         let Some(number) = named_program(request) else {
-            return self.call(rt, request, None);
+            return self.call(rt, request, None, value);
         };
         let program = program_of(self.registry, &self.tokens, number);
-        self.call(rt, request, program)
+        self.call(rt, request, program, value)
     }
 
     // A walk of the team, by the program of this number.
@@ -144,7 +165,7 @@ impl<'a> Serving<'a> {
         threshold: u64,
         gate: &G,
     ) -> Answer
-        ensures { AsksFor self.old number (λ program. walk kind program arg.now) (responses_of result) self.new }
+        ensures { (bytes : List ℕ) → AsksWithProgram self.old number (λ program. walk kind program arg.now) (responses_of result bytes) self.new }
     {
         let Some(program) = program_of(self.registry, &self.tokens, number) else {
             return Answer::One(unknown_program());
@@ -167,7 +188,7 @@ impl<'a> Serving<'a> {
         arg: &Option<Value>,
         gate: &G,
     ) -> Answer
-        ensures { AsksFor self.old number (λ program. replacement program arg.now) (responses_of result) self.new }
+        ensures { (bytes : List ℕ) → AsksWithProgram self.old number (λ program. replacement program arg.now) (responses_of result bytes) self.new }
     {
         let Some(program) = program_of(self.registry, &self.tokens, number) else {
             return Answer::One(unknown_program());
@@ -186,7 +207,7 @@ impl<'a> Serving<'a> {
         alloc: Global,
         gate: &G,
     ) -> Answer
-        ensures { Meets self.old count (responses_of result) self.new }
+        ensures { (bytes : List ℕ) → CrewMeets self.old count (responses_of result bytes) self.new }
     {
         let team = mem::replace(&mut self.team, Vec::new(alloc));
         let team = told(self.map, &self.pass, team);
@@ -195,16 +216,18 @@ impl<'a> Serving<'a> {
         answer_of(reply)
     }
 
-    /// Answers the request, behind the gate at `Request`.
+    /// Answers the request, behind the gate at `Request`. The value of an answer that found one is left in `value`; what that
+    /// held is lost.
     pub fn answer<H: Threads + Wait + Sync, G: Gate + Sync>(
         &mut self,
         rt: &H,
         alloc: Global,
         request: &Request,
+        value: &mut Value,
         gate: &G,
         worker: u32,
     ) -> Answer
-        ensures { Serves self.old request.now (responses_of result) self.new }
+        ensures { CrewServes self.old request.now (responses_of result value.new) self.new }
     {
         gate.pass(Place::Request, worker);
         match request {
@@ -234,7 +257,7 @@ impl<'a> Serving<'a> {
                 self.replace_all(rt, alloc, *program, arg, gate)
             }
             Request::Count => self.count(rt, alloc, gate),
-            _ => Answer::One(self.named_call(rt, request)),
+            _ => self.named_call(rt, request, value),
         }
     }
 }

@@ -1,6 +1,6 @@
 //! What passes tell each other before and after a walk.
 ghost use Rattle.std.specs.Prelude.{◌≡◌, ◌<◌, All, vec_len};
-ghost use Rattle.crews.specs.Steps.{Told, Pairwise, HearsEach};
+ghost use Rattle.crews.specs.Steps.{IsToldBy, Pairwise, HearsEach};
 
 use bin_stripes::{Pass, StripedMap};
 use bulk_walks::Team;
@@ -9,7 +9,7 @@ use bulk_walks::Team;
 fn tell_each(map: &StripedMap, pass: &Pass, team: &mut Vec<Pass>)
     requires pass { pass.now.map ≡ map.now }
     requires team { All (λ member. member.map ≡ map.now) team.old.items }
-    ensures told { Pairwise (Told pass.now) team.old.items team.new.items }
+    ensures told { Pairwise (IsToldBy pass.now) team.old.items team.new.items }
     ensures map { All (λ member. member.map ≡ map.now) team.new.items }
     ensures count { vec_len team.new ≡ vec_len team.old }
 {
@@ -35,7 +35,7 @@ pub fn told(map: &StripedMap, pass: &Pass, team: Vec<Pass>) -> Team
     requires pass { pass.now.map ≡ map.now }
     requires team { All (λ member. member.map ≡ map.now) team.items }
     requires some { 0 < vec_len team }
-    ensures told { Pairwise (Told pass.now) team.items result.passes.items }
+    ensures told { Pairwise (IsToldBy pass.now) team.items result.passes.items }
     ensures map { All (λ member. member.map ≡ map.now) result.passes.items }
 {
     let mut passes = team;

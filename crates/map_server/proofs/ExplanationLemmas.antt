@@ -11,7 +11,7 @@ use Rattle.stack_slots.specs.declared.reg_value.RegValue.{RegValue}
 use Rattle.verifier.specs.declared.abstract_state.AbstractState.{AbstractState}
 use Rattle.verifier.specs.Walks.{KnowsRuns}
 use Rattle.map_server.specs.Reasons.{DescribesAt}
-use Rattle.map_server.specs.Explanations.{line_text, line_at, lines_below, values_after, values_before}
+use Rattle.map_server.specs.Explanations.{line_text, told_line, lines_below, values_after, values_before}
 
 -- one more piece behind those that were told
 pub told_more : (start done told piece new : List ℕ) → told ≡ start ++ done → new ≡ told ++ piece → new ≡ start ++ (done ++ piece)
@@ -27,11 +27,11 @@ module _ (program : List Insn) (states : List (Option AbstractState)) (sizes : S
   -- the line of the instruction at the index
   pub line_is : (i : Insn) (unit : ℕ) (values : List RegValue) (known : Option (Option AbstractState)) (instruction : List ℕ)
       → slice_get program k ≡ Some i → unit ≡ unit_count (take k program) → values ≡ values_before states k → known ≡ slice_get states k → instruction ≡ instruction_text i
-      → line_text unit instruction sizes values known ≡ line_at program states sizes k
+      → line_text unit instruction sizes values known ≡ told_line program states sizes k
   line_is i unit values known instruction here counted before at text = rw (here, counted, before, at, text) refl
 
   -- one more line
-  pub next_lines : (text line new : List ℕ) → text ≡ lines_below program states sizes k → line ≡ line_at program states sizes k → new ≡ text ++ line
+  pub next_lines : (text line new : List ℕ) → text ≡ lines_below program states sizes k → line ≡ told_line program states sizes k → new ≡ text ++ line
       → new ≡ lines_below program states sizes (suc k)
   unfolding lines_below
   next_lines text line new told is grown = grown ∙ ap₂ (λ (xs ys : List ℕ). xs ++ ys) told is

@@ -15,7 +15,7 @@ use Rattle.map_server.specs.CommandLine.{Asks, bpfmap}
 use Rattle.map_server.specs.Commands.{IsReport, IsUnreadable}
 use Rattle.sessions.specs.Devices.{SourceState, SinkState, TakesBytes, TakesPart, TakesIfItCan}
 use Rattle.map_server.specs.Meanings.{IsMeaning}
-use Rattle.map_server.specs.Shown.{IsTold}
+use Rattle.map_server.specs.Shown.{IsShown}
 use Rattle.map_server.specs.Reports.{IsNoRefusal, report_text, status_of}
 
 -- ---- what comes of the words and the input
@@ -25,8 +25,8 @@ abbrev pub IsReported : Command → SourceState → SourceState → Report → T
 IsReported command input input' report = IfSome input.left (λ text. IsReport command text report) × (input'.failures ≡ input.failures)
 
 -- the read failed: the source counted it, or a program's text was to be read and what was left is no text
-abbrev pub FailsToRead : Command → SourceState → SourceState → Type 0
-FailsToRead command input input' =
+abbrev pub FailsToReadInput : Command → SourceState → SourceState → Type 0
+FailsToReadInput command input input' =
     (input'.failures ≡ input.failures + 1)
     ⊎ (IfSome input.left (λ text. IsUnreadable command text) × (input'.failures ≡ input.failures))
 
@@ -59,7 +59,7 @@ EndsCommand command input input' NoMemory = IsReported command input input' (rep
 EndsCommand command input input' BadStripes = ⊥
 EndsCommand command input input' (Shown text) = ⊥
 EndsCommand command input input' (Faulty text) = ⊥
-EndsCommand command input input' Unread = FailsToRead command input input'
+EndsCommand command input input' Unread = FailsToReadInput command input input'
 EndsCommand command input input' NotUtf8 = ⊥
 
 -- the kind asks for help or for the version
@@ -73,8 +73,8 @@ EndsWords words (Refused refusal meaning) = ⊥
 EndsWords words (Explained printed meaning) = ⊥
 EndsWords words NoMemory = Unit {0}
 EndsWords words BadStripes = ⊥
-EndsWords words (Shown text) = (kind : ErrorKind) × IsAmong kind (fault_of bpfmap words) × IsHelpOrVersion kind × IsTold words text.items
-EndsWords words (Faulty text) = (kind : ErrorKind) × IsAmong kind (fault_of bpfmap words) × (IsHelpOrVersion kind → ⊥) × IsTold words text.items
+EndsWords words (Shown text) = (kind : ErrorKind) × IsAmong kind (fault_of bpfmap words) × IsHelpOrVersion kind × IsShown words text.items
+EndsWords words (Faulty text) = (kind : ErrorKind) × IsAmong kind (fault_of bpfmap words) × (IsHelpOrVersion kind → ⊥) × IsShown words text.items
 EndsWords words Unread = ⊥
 EndsWords words NotUtf8 = ⊥
 

@@ -16,14 +16,14 @@ abbrev pub value_at : List RegValue → ℕ → RegValue
 value_at values r = slice_index_or values r Unwritten
 
 -- what is known of a register, unless it is what was known
-abbrev pub register_text : List RegValue → List RegValue → ℕ → List ℕ
-register_text before values r =
+abbrev pub told_register : List RegValue → List RegValue → ℕ → List ℕ
+told_register before values r =
     if is_same (value_at before r) (value_at values r) then []
     else codes "; r" ++ decimal r ++ codes " is " ++ value_text (value_at values r)
 
 unfoldable pub registers_below : List RegValue → List RegValue → ℕ → List ℕ
 registers_below before values zero = []
-registers_below before values (suc r) = registers_below before values r ++ register_text before values r
+registers_below before values (suc r) = registers_below before values r ++ told_register before values r
 
 -- the registers of which something else is known than before, and the bytes that were written
 abbrev pub state_text : Sizes → List RegValue → AbstractState → List ℕ
@@ -52,11 +52,11 @@ values_before states zero = replicate 11 Unwritten
 values_before states (suc index) = values_after (values_before states index) (slice_get states index)
 
 -- the line of the instruction at an index; there is none where no instruction is
-abbrev pub line_at : List Insn → List (Option AbstractState) → Sizes → ℕ → List ℕ
-line_at program states sizes index =
+abbrev pub told_line : List Insn → List (Option AbstractState) → Sizes → ℕ → List ℕ
+told_line program states sizes index =
     option_map_or (λ insn. line_text (unit_count (take index program)) (instruction_text insn) sizes (values_before states index) (slice_get states index)) (slice_get program index) []
 
 -- the lines of the first instructions
 unfoldable pub lines_below : List Insn → List (Option AbstractState) → Sizes → ℕ → List ℕ
 lines_below program states sizes zero = []
-lines_below program states sizes (suc index) = lines_below program states sizes index ++ line_at program states sizes index
+lines_below program states sizes (suc index) = lines_below program states sizes index ++ told_line program states sizes index

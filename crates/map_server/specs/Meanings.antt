@@ -43,13 +43,13 @@ verdict fault insn known =
     codes "unit " ++ decimal (verify_fault_unit fault) ++ codes ": " ++ instruction_text insn ++ codes ": " ++ verify.verify_fault_reason fault ++ known ++ codes "\n"
 
 -- what is known of each run with these sizes that comes to the instruction; nothing where no sizes are asked for
-abbrev pub IsKnown : List Insn → Option Sizes → VerifyFault → Insn → List ℕ → Type 0
-IsKnown program None fault insn known = known ≡ []
-IsKnown program (Some sizes) fault insn known = IsKnownReason program sizes fault insn known
+abbrev pub IsKnownText : List Insn → Option Sizes → VerifyFault → Insn → List ℕ → Type 0
+IsKnownText program None fault insn known = known ≡ []
+IsKnownText program (Some sizes) fault insn known = IsKnownReason program sizes fault insn known
 
 abbrev pub TellsInstruction : List Insn → Option Sizes → VerifyFault → Option Insn → List ℕ → Type 0
 TellsInstruction program sizes fault None line = line ≡ verify.verify_fault_message fault ++ codes "\n"
-TellsInstruction program sizes fault (Some insn) line = (known : List ℕ) × IsKnown program sizes fault insn known × (line ≡ verdict fault insn known)
+TellsInstruction program sizes fault (Some insn) line = (known : List ℕ) × IsKnownText program sizes fault insn known × (line ≡ verdict fault insn known)
 
 -- the refused instruction is one of the program that the text on standard input spells
 abbrev pub IsVerdict : Command → List ℕ → VerifyFault → List ℕ → Type 0

@@ -12,7 +12,7 @@ use Rattle.map_server.specs.declared.mapd.words.MapdWords.{MapdWords}
 use Rattle.map_server.specs.Endings.{Outputs, IsHelpOrVersion, PrintsRefusal, TellsEnding}
 use Rattle.map_server.specs.Executions.{IsBadCount}
 use Rattle.map_server.specs.ServerWords.{AsksServer, mapd}
-use Rattle.map_server.specs.Shown.{IsTold}
+use Rattle.map_server.specs.Shown.{IsShown}
 
 -- what words come to that ask for no server, by clap's kind of error, in whose text words are shown; memory may be refused to it
 abbrev pub EndsServerWords : List (List ℕ) → Ending → Type 0
@@ -21,8 +21,8 @@ EndsServerWords words (Refused refusal meaning) = ⊥
 EndsServerWords words (Explained printed meaning) = ⊥
 EndsServerWords words NoMemory = Unit {0}
 EndsServerWords words BadStripes = ⊥
-EndsServerWords words (Shown text) = (kind : ErrorKind) × IsAmong kind (fault_of mapd words) × IsHelpOrVersion kind × IsTold words text.items
-EndsServerWords words (Faulty text) = (kind : ErrorKind) × IsAmong kind (fault_of mapd words) × (IsHelpOrVersion kind → ⊥) × IsTold words text.items
+EndsServerWords words (Shown text) = (kind : ErrorKind) × IsAmong kind (fault_of mapd words) × IsHelpOrVersion kind × IsShown words text.items
+EndsServerWords words (Faulty text) = (kind : ErrorKind) × IsAmong kind (fault_of mapd words) × (IsHelpOrVersion kind → ⊥) × IsShown words text.items
 EndsServerWords words Unread = ⊥
 EndsServerWords words NotUtf8 = ⊥
 
@@ -43,28 +43,27 @@ IsNotOpened asked opening.BadPasses = (IsBadCount asked.stripes → ⊥) × HasB
 IsNotOpened asked opening.NoMemory = CanOpen asked
 
 -- what is told of it
-abbrev pub TellsFault : OpenFault → Outputs → Outputs → ℕ → Type 0
-TellsFault opening.BadStripes old new status = TellsEnding BadStripes old new status
-TellsFault opening.BadPasses old new status = PrintsRefusal (codes "refused 51 at 0\n") (codes "workers * (1 + team) is more than 64\n") old new status
-TellsFault opening.NoMemory old new status = TellsEnding NoMemory old new status
+abbrev pub TellsOpenFault : OpenFault → Outputs → Outputs → ℕ → Type 0
+TellsOpenFault opening.BadStripes old new status = TellsEnding BadStripes old new status
+TellsOpenFault opening.BadPasses old new status = PrintsRefusal (codes "refused 51 at 0\n") (codes "workers * (1 + team) is more than 64\n") old new status
+TellsOpenFault opening.NoMemory old new status = TellsEnding NoMemory old new status
 
 -- ---- serving
 
 -- the text is on standard output, and none of it is kept back
-abbrev pub Sends : SinkState → SinkState → List ℕ → Type 0
-Sends old new text = TakesBytes old new text × (new.keeps_back ≡ false)
+abbrev pub PrintsAll : SinkState → SinkState → List ℕ → Type 0
+PrintsAll old new text = TakesBytes old new text × (new.keeps_back ≡ false)
 
--- what is printed where serving has ended, with this status: how many streams were handed out, with 3 where an accept failed; or
--- memory was refused, and nobody was served
-abbrev pub IsServed : List ℕ → ℕ → Type 0
-IsServed text status =
+-- what is printed where serving has ended, with this status: a number of streams, with 0 or 3; or that memory was refused
+abbrev pub IsLastLine : List ℕ → ℕ → Type 0
+IsLastLine text status =
     ((streams : ℕ) × (text ≡ codes "served " ++ decimal streams ++ codes "\n") × ((status ≡ 0) ⊎ (status ≡ 3)))
     ⊎ ((text ≡ codes "refused 9 at 0\n") × (status ≡ 1))
 
 -- that is printed; or a write failed, after a front of it
 abbrev pub EndsServing : SinkState → SinkState → List ℕ → ℕ → Type 0
 EndsServing old new before status =
-    ((text : List ℕ) × IsServed text status × Sends old new (before ++ text))
+    ((text : List ℕ) × IsLastLine text status × PrintsAll old new (before ++ text))
     ⊎ ((status ≡ 3) × ((text : List ℕ) × TakesFront old new (before ++ text)))
 
 -- the port could not be bound, of which standard error is told, with why
@@ -81,4 +80,4 @@ abbrev pub RunsMapd : List (List ℕ) → Outputs → Outputs → ℕ → Type 0
 RunsMapd words old new status =
     ((ending : Ending) × EndsServerWords words ending × TellsEnding ending old new status)
     ⊎ ((asked : MapdWords) × AsksServer words asked
-    × (((fault : OpenFault) × IsNotOpened asked fault × TellsFault fault old new status) ⊎ (CanOpen asked × Listens old new status)))
+    × (((fault : OpenFault) × IsNotOpened asked fault × TellsOpenFault fault old new status) ⊎ (CanOpen asked × Listens old new status)))

@@ -55,5 +55,5 @@ abbrev pub told : List (List ℕ) → List ℕ → List ℕ
 told words text = told_from words 0 text
 
 -- it is told of some text, of which no contract of clap's says more
-abbrev pub IsTold : List (List ℕ) → List ℕ → Type 0
-IsTold words shown = (text : List ℕ) × (shown ≡ told words text)
+abbrev pub IsShown : List (List ℕ) → List ℕ → Type 0
+IsShown words shown = (text : List ℕ) × (shown ≡ told words text)

@@ -40,6 +40,24 @@ enum Method {
     Merge(&'static [u8], Which),
 }
 
+impl Method {
+    // The bytes that it is given.
+    fn bytes(self) -> (&'static [u8], &'static [u8]) {
+        match self {
+            Method::Get | Method::Remove => (b"", b""),
+            Method::Put(bytes)
+            | Method::PutIfAbsent(bytes)
+            | Method::RemoveIf(bytes)
+            | Method::Replace(bytes)
+            | Method::Compute(_, bytes)
+            | Method::IfAbsent(_, bytes)
+            | Method::IfPresent(_, bytes)
+            | Method::Merge(bytes, _) => (bytes, b""),
+            Method::ReplaceIf(expected, new) => (expected, new),
+        }
+    }
+}
+
 fn is_wanted(reply: &Reply, wanted: Wanted) -> bool {
     match (reply, wanted) {
         (Reply::Value(None), Wanted::Nothing) => true,
@@ -85,74 +103,73 @@ impl Programs {
             Which::NoKey => &self.no_key,
         }
     }
+}
 
-    fn computing<'a>(&'a self, method: Method, key: Key, arg: Value) -> Call<'a> {
-        let arg = Some(arg);
-        match method {
-            Method::IfAbsent(which, _) => Call::ComputeIfAbsent {
+// What a call lends: its key, and its value or argument. `ReplaceIf` has the expected value first.
+#[derive(Drop)]
+struct Lender {
+    key: Key,
+    method: Method,
+    first: Value,
+    second: Value,
+}
+
+impl Lender {
+    fn new(name: &[u8], method: Method) -> Result<Lender, TooLong> {
+        let (first, second) = method.bytes();
+        Ok(Lender {
+            key: key(name)?,
+            method,
+            first: value(first)?,
+            second: value(second)?,
+        })
+    }
+
+    fn call<'a>(&'a self, programs: &'a Programs) -> Call<'a> {
+        let key = &self.key;
+        let value = &self.first;
+        match self.method {
+            Method::Get => Call::Get { key },
+            Method::Put(_) => Call::Put { key, value },
+            Method::PutIfAbsent(_) => Call::PutIfAbsent { key, value },
+            Method::Remove => Call::Remove { key },
+            Method::RemoveIf(_) => Call::RemoveIf {
                 key,
-                program: self.get(which),
-                arg,
+                expected: value,
             },
-            Method::IfPresent(which, _) => Call::ComputeIfPresent {
+            Method::Replace(_) => Call::Replace { key, value },
+            Method::ReplaceIf(_, _) => Call::ReplaceIf {
                 key,
-                program: self.get(which),
-                arg,
+                expected: value,
+                value: &self.second,
             },
             Method::Compute(which, _) => Call::Compute {
                 key,
-                program: self.get(which),
-                arg,
+                program: programs.get(which),
+                arg: Some(value),
             },
-            _ => Call::Get { key },
+            Method::IfAbsent(which, _) => Call::ComputeIfAbsent {
+                key,
+                program: programs.get(which),
+                arg: Some(value),
+            },
+            Method::IfPresent(which, _) => Call::ComputeIfPresent {
+                key,
+                program: programs.get(which),
+                arg: Some(value),
+            },
+            Method::Merge(_, which) => Call::Merge {
+                key,
+                value,
+                program: programs.get(which),
+            },
         }
-    }
-
-    fn call<'a>(&'a self, name: &[u8], method: Method) -> Result<Call<'a>, TooLong> {
-        let key = key(name)?;
-        Ok(match method {
-            Method::Get => Call::Get { key },
-            Method::Put(bytes) => Call::Put {
-                key,
-                value: value(bytes)?,
-            },
-            Method::PutIfAbsent(bytes) => Call::PutIfAbsent {
-                key,
-                value: value(bytes)?,
-            },
-            Method::Remove => Call::Remove { key },
-            Method::RemoveIf(bytes) => Call::RemoveIf {
-                key,
-                expected: value(bytes)?,
-            },
-            Method::Replace(bytes) => Call::Replace {
-                key,
-                value: value(bytes)?,
-            },
-            Method::ReplaceIf(old, new) => {
-                let expected = value(old)?;
-                Call::ReplaceIf {
-                    key,
-                    expected,
-                    value: value(new)?,
-                }
-            }
-            Method::Merge(bytes, which) => {
-                let value = value(bytes)?;
-                Call::Merge {
-                    key,
-                    value,
-                    program: self.get(which),
-                }
-            }
-            Method::Compute(_, arg) | Method::IfAbsent(_, arg) | Method::IfPresent(_, arg) => {
-                self.computing(method, key, value(arg)?)
-            }
-        })
     }
 }
 
+mod memory;
 mod methods;
+mod places;
 mod rows;
 mod shared;
 mod stripes;

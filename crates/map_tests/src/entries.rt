@@ -134,7 +134,7 @@ fn both_bodies_are_scanned_alike(rt: HostRuntime) -> Result<(), Fail> {
 }
 
 // One of 32 keys of five pairs, each `41 61` or `42 42`: all have one hash.
-fn key_of_pairs(number: u8) -> Result<Key, Fail> {
+pub(crate) fn key_of_pairs(number: u8) -> Result<Key, Fail> {
     let mut bytes = [0; 10];
     for pair in 0..5usize {
         let second = number & (1 << pair) != 0;
@@ -186,6 +186,8 @@ fn hashes_are_as_in_java(rt: HostRuntime) -> Result<(), Fail> {
         (b"0123456789".as_slice(), 4_082_890_950),
         (b"Aa".as_slice(), 3073),
         (b"BB".as_slice(), 3073),
+        (b"AaAaAaAaAa".as_slice(), 2_839_690_241),
+        (b"BBBBBBBBBB".as_slice(), 2_839_690_241),
     ] {
         assert_eq!(rt; hash_of(&Key::from_slice(name)?), hash);
     }
@@ -200,6 +202,38 @@ fn wanted_bins(entries: u8) -> u64 {
         33..=64 => 32,
         _ => 64,
     }
+}
+
+// Puts the key of this number, counted from 0; whether the bins were as many as wanted before, and after.
+fn double_in_time(bins: &mut HashedBins, key: &Key, number: u8) -> Result<bool, Fail>
+    requires { number < 255 }
+{
+    let before = bins.bins();
+    put(bins, key.as_slice(), b"")?;
+    Ok(before == wanted_bins(number) && bins.bins() == wanted_bins(number + 1))
+}
+
+#[test]
+fn bins_double_with_the_key_that_crowds_them(rt: HostRuntime) -> Result<(), Fail> {
+    for stripes in [1, 4, 64] {
+        let mut bins = HashedBins::open(rt.alloc(), stripes)?;
+        for number in 0..40u8 {
+            let key = Key::from_slice(&[number])?;
+            assert!(rt;
+                double_in_time(&mut bins, &key, number)?,
+                "of {stripes}, {number}"
+            );
+        }
+        let mut bins = HashedBins::open(rt.alloc(), stripes)?;
+        for number in 0..32u8 {
+            let key = key_of_pairs(number)?;
+            assert!(rt;
+                double_in_time(&mut bins, &key, number)?,
+                "of {stripes}, {number} of one hash"
+            );
+        }
+    }
+    Ok(())
 }
 
 // Opens, and once more where that was refused.

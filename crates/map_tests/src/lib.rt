@@ -1,17 +1,10 @@
-//! Tests of the map: its entries, its calls, its registry, and the passes and walks of many threads.
+//! Tests of the map: its entries, its calls and its registry; and the programs that these and walk_tests call.
 #![tactic(auto)]
 
 #[cfg(test)]
 mod calls;
 #[cfg(test)]
 mod entries;
-#[cfg(test)]
-mod passes;
-#[cfg(test)]
-mod programs;
+pub mod programs;
 #[cfg(test)]
 mod registry;
-#[cfg(test)]
-mod seats;
-#[cfg(test)]
-mod walks;

@@ -1,9 +1,8 @@
-//! The programs that the rows call, and values of eight bytes.
+//! The programs that rows call, and values of eight bytes.
 use bpf_assembler::assemble;
-use bpf_model::Sizes;
+use bpf_model::{NoMemory, Sizes};
 use flow_shape::shape;
 use std::alloc::Global;
-use std::test::Fail;
 use verifier::{Verified, verify};
 
 // Eight bytes, little-endian.
@@ -38,8 +37,9 @@ pub fn accepted(alloc: Global, text: &str, sizes: Sizes) -> Option<Verified> {
     verify(alloc, shape(program).ok()?, sizes).ok()
 }
 
-pub fn verified(alloc: Global, text: &str, sizes: Sizes) -> Result<Verified, Fail> {
-    Ok(accepted(alloc, text, sizes).ok_or("no program")?)
+/// As `accepted`, with `NoMemory` for none.
+pub fn verified(alloc: Global, text: &str, sizes: Sizes) -> Result<Verified, NoMemory> {
+    accepted(alloc, text, sizes).ok_or(NoMemory)
 }
 
 /// The sum of values of 8 bytes; none where memory was refused.
@@ -47,6 +47,7 @@ pub fn summed(alloc: Global) -> Option<Verified> {
     accepted(alloc, SUM, sizes(64, 8, 8, 8))
 }
 
-pub fn summing(alloc: Global) -> Result<Verified, Fail> {
-    Ok(summed(alloc).ok_or("no program")?)
+/// As `summed`, with `NoMemory` for none.
+pub fn summing(alloc: Global) -> Result<Verified, NoMemory> {
+    summed(alloc).ok_or(NoMemory)
 }

@@ -1,20 +1,20 @@
 //! Sessions of crews over one map, over memory.
 ghost use Rattle.std.specs.Prelude.{◌≡◌, ◌≤◌, All, IfOk, IfSome};
-ghost use Rattle.crews.specs.Crews.{IsOf};
+ghost use Rattle.crews.specs.Crews.{IsCrewOf};
 
 mod loopback;
+mod workers;
 
 use crate::bpfmap::memory::{Pieces, ROOM, Room};
-use bin_stripes::{Gate, OpenGate, Pass, Place, StripedMap};
+use bin_stripes::{OpenGate, Pass, StripedMap};
 use bulk_walks::Team;
-use crews::{Accept, Crew, serve, session};
+use crews::{Crew, session};
 use map_server::{SessionEnd, StreamSink, StreamSource};
 use program_registry::Registry;
 use std::alloc::Global;
 use std::sync::Wait;
-use std::sync::atomic::{AtomicU64, Ordering};
 use std::test::Fail;
-use std::thread::{self, Threads};
+use std::thread::Threads;
 
 // A Hello, a Put of two bytes, and a Get of them.
 const PUT_AND_GET: &[u8] = b"\0\0\0\x02\0\x01\0\0\0\x07\x11\x01a\0\x02xy\0\0\0\x03\x10\x01a";
@@ -40,7 +40,7 @@ const COMPUTED: &[u8] = b"\0\0\0\x02\x80\x01\0\0\0\x04\x82\0\x01\x07\
 fn crew(map: &StripedMap, passes: &mut Vec<Pass>, worker: u32) -> Option<Crew>
     requires { All (λ pass. pass.map ≡ map.now) passes.old.items }
     ensures passes { All (λ pass. pass.map ≡ map.now) passes.new.items }
-    ensures crew { IfSome result (λ crew. IsOf map.now crew) }
+    ensures crew { IfSome result (λ crew. IsCrewOf map.now crew) }
 {
     // For the clauses alone, which name the map.
     let _ = map;
@@ -59,14 +59,38 @@ fn crew(map: &StripedMap, passes: &mut Vec<Pass>, worker: u32) -> Option<Crew>
     Some(Crew { worker, pass, team })
 }
 
-// A map and two crews, with the workers 0 and 1; none where memory was refused.
-fn two_crews(alloc: Global) -> Option<(StripedMap, Crew, Crew)>
-    ensures one { IfSome result (λ r. IsOf r.0 r.1) }
-    ensures other { IfSome result (λ r. IsOf r.0 r.2) }
+// The last of the passes.
+fn last_pass(map: &StripedMap, mut passes: Vec<Pass>) -> Option<Pass>
+    requires { All (λ pass. pass.map ≡ map.now) passes.items }
+    ensures { IfSome result (λ pass. pass.map ≡ map.now) }
 {
-    let (map, mut passes) = StripedMap::open(alloc, 4, 6).ok()?;
+    // For the clauses alone, which name the map.
+    let _ = map;
+    let Some(pass) = passes.pop() else {
+        return None;
+    };
+    Some(pass)
+}
+
+// A map, two crews, with the workers 0 and 1, and one more pass; none where memory was refused.
+fn crews_and_pass(alloc: Global) -> Option<(StripedMap, Crew, Crew, Pass)>
+    ensures one { IfSome result (λ r. IsCrewOf r.0 r.1) }
+    ensures other { IfSome result (λ r. IsCrewOf r.0 r.2) }
+    ensures pass { IfSome result (λ r. r.3.map ≡ r.0) }
+{
+    let (map, mut passes) = StripedMap::open(alloc, 4, 7).ok()?;
     let one = crew(&map, &mut passes, 0)?;
     let other = crew(&map, &mut passes, 1)?;
+    let pass = last_pass(&map, passes)?;
+    Some((map, one, other, pass))
+}
+
+// The same without the pass.
+fn two_crews(alloc: Global) -> Option<(StripedMap, Crew, Crew)>
+    ensures one { IfSome result (λ r. IsCrewOf r.0 r.1) }
+    ensures other { IfSome result (λ r. IsCrewOf r.0 r.2) }
+{
+    let (map, one, other, _) = crews_and_pass(alloc)?;
     Some((map, one, other))
 }
 
@@ -80,8 +104,8 @@ fn served<H: Threads + Wait + Sync>(
     sent: &[u8],
     size: usize,
 ) -> (Crew, SessionEnd, Vec<u8>)
-    requires { IsOf map.now crew }
-    ensures { IsOf map.now result.0 }
+    requires { IsCrewOf map.now crew }
+    ensures { IsCrewOf map.now result.0 }
 {
     let mut reader = StreamSource::new(Pieces {
         rest: sent,
@@ -123,98 +147,5 @@ fn a_program_of_an_earlier_session_is_found(rt: HostRuntime) -> Result<(), Fail>
     // The call is seen by the walk of the same session, whose team has two other passes.
     let (_, end, answers) = served(&rt, rt.alloc(), &map, &registry, other, COMPUTE, 1 << 14);
     assert!(&rt; end == SessionEnd::Closed && answers.as_slice() == COMPUTED);
-    Ok(())
-}
-
-// One client for each of the workers 0 and 1.
-#[derive(Drop)]
-struct Clients {
-    alloc: Global,
-    // A bit for each worker that has had its client.
-    given: AtomicU64,
-    right: AtomicU64,
-}
-
-impl Accept<StreamSource<Pieces<'static>>, StreamSink<Room>> for Clients {
-    fn next(&self, worker: u32) -> Option<(StreamSource<Pieces<'static>>, StreamSink<Room>)> {
-        let bit = 1 << worker.min(2);
-        if self.given.fetch_or(bit, Ordering::SeqCst) & bit != 0 {
-            return None;
-        }
-        let reader = StreamSource::new(Pieces {
-            rest: COUNT,
-            size: 1 << 14,
-            fails: false,
-        });
-        Some((reader, StreamSink::new(Room::new(self.alloc, ROOM))))
-    }
-
-    fn ended(
-        &self,
-        _worker: u32,
-        _reader: StreamSource<Pieces<'static>>,
-        writer: StreamSink<Room>,
-        end: SessionEnd,
-    ) {
-        if end == SessionEnd::Closed && writer.into_inner().bytes.as_slice() == COUNTED {
-            self.right.fetch_add(1, Ordering::SeqCst);
-        }
-    }
-}
-
-// A Hello and a Count.
-const COUNT: &[u8] = b"\0\0\0\x02\0\x01\0\0\0\x01\x23";
-
-const COUNTED: &[u8] =
-    b"\0\0\0\x02\x80\x01\0\0\0\x19\x87\0\0\0\0\0\0\0\0\0\0\0\0\0\0\0\0\0\0\0\0\0\0\0\0";
-
-// The most turns that a worker waits for another.
-const TURNS: u64 = 10_000_000;
-
-// The bits of the workers 0 and 1.
-const BOTH: u64 = 3;
-
-// Holds each worker before it answers until the workers 0 and 1 have come there.
-#[derive(Drop)]
-struct Meeting {
-    come: AtomicU64,
-    gone_alone: AtomicU64,
-}
-
-impl Gate for Meeting {
-    fn pass(&self, place: Place, worker: u32) {
-        if place != Place::Request {
-            return;
-        }
-        self.come.fetch_or(1 << worker.min(2), Ordering::SeqCst);
-        for _ in 0..TURNS {
-            if self.come.load(Ordering::SeqCst) & BOTH == BOTH {
-                return;
-            }
-            thread::yield_now();
-        }
-        self.gone_alone.fetch_add(1, Ordering::SeqCst);
-    }
-}
-
-#[test]
-fn server_uses_workers(rt: HostRuntime) -> Result<(), Fail> {
-    let (map, one, other) = two_crews(rt.alloc()).ok_or("no map")?;
-    let registry = Registry::new(rt.alloc())?;
-    let clients = Clients {
-        alloc: rt.alloc(),
-        given: AtomicU64::new(0),
-        right: AtomicU64::new(0),
-    };
-    let gate = Meeting {
-        come: AtomicU64::new(0),
-        gone_alone: AtomicU64::new(0),
-    };
-    let crews = vec![in rt.alloc(); one, other]?;
-    let back = serve(&rt, rt.alloc(), &clients, &map, &registry, crews, &gate)?;
-    assert!(&rt; back.len() == 2 && back[0].worker == 0 && back[1].worker == 1);
-    assert!(&rt; clients.right.load(Ordering::SeqCst) == 2, "answers");
-    assert!(&rt; gate.come.load(Ordering::SeqCst) == BOTH, "workers");
-    assert!(&rt; gate.gone_alone.load(Ordering::SeqCst) == 0, "alone");
     Ok(())
 }

@@ -1,12 +1,13 @@
 -- What is written for requests that are answered one after the other, whatever answers them.
-use Rattle.std.specs.Prelude.{◌≡◌, ℕ, ◌≤◌, List, [], ◌∷◌, ◌++◌, length, map}
+use Rattle.std.specs.Prelude.{◌≡◌, ℕ, ◌≤◌, List, [], ◌∷◌, ◌++◌, length, map, Some}
 use Rattle.bins.specs.declared.counts.Counts.{Counts}
 use Rattle.client_protocol.specs.declared.request.Request.{Request}
 use Rattle.client_protocol.specs.declared.response.Response.{Response}
-use Rattle.client_protocol.specs.declared.response.Response.TheVariants.{Item, End}
+use Rattle.client_protocol.specs.declared.response.Response.TheVariants.{Value, Item, End}
 use Rattle.client_protocol.specs.Responses.{response_frames}
+use Rattle.atomic_methods.specs.declared.walk_reply.WalkReply.{WalkReply}
 use Rattle.sessions.specs.declared.session.service.Answer.{Answer}
-use Rattle.sessions.specs.declared.session.service.Answer.TheVariants.{One, Walk}
+use Rattle.sessions.specs.declared.session.service.Answer.TheVariants.{One, Found, Walk}
 
 -- the response for an entry
 abbrev pub item_of : List ℕ × List ℕ → Response
@@ -16,10 +17,15 @@ item_of entry = Item entry.0 entry.1
 abbrev pub end_of : Counts → Response
 end_of counts = End counts.scanned counts.given counts.unfit
 
--- the responses of an answer, in order
-abbrev pub responses_of : Answer → List Response
-responses_of (One response) = response ∷ []
-responses_of (Walk reply) = map item_of reply.items.items ++ end_of reply.counts ∷ []
+-- the responses of a walk, in order
+abbrev pub walk_responses : WalkReply → List Response
+walk_responses reply = map item_of reply.items.items ++ end_of reply.counts ∷ []
+
+-- the responses of an answer, in order, where the bytes of a value that was found were left here
+abbrev pub responses_of : Answer → List ℕ → List Response
+responses_of (One response) bytes = response ∷ []
+responses_of Found bytes = Value (Some bytes) ∷ []
+responses_of (Walk reply) bytes = walk_responses reply
 
 -- a beginning of these bytes, which may be all of them
 abbrev pub IsFront : List ℕ → List ℕ → Type 0

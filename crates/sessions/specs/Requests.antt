@@ -16,9 +16,8 @@ use Rattle.client_protocol.specs.declared.request.Request.{Request}
 use Rattle.client_protocol.specs.declared.response.Response.{Response}
 use Rattle.client_protocol.specs.declared.response.Response.TheVariants as tell
 use Rattle.sessions.specs.Asking.{Asked, asked, greeting, registration, call, walk, replacement, count, unknown, response_to, Admits, RefusesProgram, AnswersOnce, TellsNoMemory}
-use Rattle.sessions.specs.Answering.{end_of, responses_of}
+use Rattle.sessions.specs.Answering.{end_of, walk_responses}
 use Rattle.sessions.specs.declared.alone.Alone.{Alone}
-use Rattle.sessions.specs.declared.session.service.Answer.TheVariants.{Walk}
 
 -- an empty table and no program
 pub record IsNew (alone : Alone) : Type 0 where
@@ -43,7 +42,7 @@ AnswersCall old invocation responses new =
 -- the walk is made over all entries, in key order; it changes nothing
 abbrev pub AnswersWalk : Alone → (List Entry → WalkReply → Type 0) → List Response → Alone → Type 0
 AnswersWalk old Replies responses new =
-    ((reply : WalkReply) × Replies (map.entries old.table) reply × (responses ≡ responses_of (Walk reply)) × (new ≡ old))
+    ((reply : WalkReply) × Replies (map.entries old.table) reply × (responses ≡ walk_responses reply) × (new ≡ old))
     ⊎ TellsNoMemory old responses new
 
 -- the value of each key is replaced once; no memory is asked for

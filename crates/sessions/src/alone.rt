@@ -13,7 +13,7 @@ mod programs;
 use crate::alone::programs::Programs;
 use crate::calls::call_of;
 use crate::devices::{ReadBehind, Sink};
-use crate::responses::{admit_or_refuse, no_memory, response_to, unknown_program};
+use crate::responses::{admit_or_refuse, answer_to, no_memory, unknown_program};
 use crate::session::{Answer, Service, SessionEnd, end_of, run_session};
 use atomic_methods::{OpenFault, Striped, WalkKind, count_of, walk};
 use bpf_model::{NoMemory, Sizes, Value};
@@ -57,26 +57,27 @@ impl Alone {
         }
     }
 
-    /// Makes the call that is asked for.
-    fn call(&mut self, request: &Request) -> Response
+    /// Makes the call that is asked for. The value of its reply, if it has one, is left in `value`.
+    fn call(&mut self, request: &Request, value: &mut Value) -> Answer
         requires { IsCall request.now }
-        ensures { Meets self.old (asked (λ number. slice_get self.old.programs number) request.now) (result ∷ []) self.new }
+        ensures { Meets self.old (asked (λ number. slice_get self.old.programs number) request.now)
+            (responses_of result value.new) self.new }
     {
         let program = self.programs.named_by(request);
         let Some(call) = call_of(request, program) else {
-            return unknown_program();
+            return Answer::One(unknown_program());
         };
-        match self.table.apply(&call) {
-            Ok(reply) => response_to(reply),
-            Err(NoMemory) => no_memory(),
+        match self.table.apply_into(&call, value) {
+            Ok(kind) => answer_to(kind),
+            Err(NoMemory) => Answer::One(no_memory()),
         }
     }
 
     /// Runs the program of this number over all entries.
     fn walk(&self, alloc: Global, kind: WalkKind, number: u64, arg: &Option<Value>) -> Answer
-        ensures { Meets self.now
+        ensures { (bytes : List ℕ) → Meets self.now
             (with_program (slice_get self.now.programs number) (λ program. walk kind program arg.now))
-            (responses_of result) self.now }
+            (responses_of result bytes) self.now }
     {
         let Some(program) = self.programs.get(number) else {
             return Answer::One(unknown_program());
@@ -92,7 +93,7 @@ impl Alone {
 
     /// Counts all entries.
     fn count(&self, alloc: Global) -> Answer
-        ensures { Meets self.now count (responses_of result) self.now }
+        ensures { (bytes : List ℕ) → Meets self.now count (responses_of result bytes) self.now }
     {
         Answer::Walk(count_of(alloc, self.table.count()))
     }
@@ -115,7 +116,7 @@ impl Service for Alone {
 
     ghost answers = { Serves };
 
-    fn answer(&mut self, alloc: Global, request: &Request) -> Answer {
+    fn answer(&mut self, alloc: Global, request: &Request, value: &mut Value) -> Answer {
         match request {
             Request::Hello { version } => Answer::One(Response::Hello { version: *version }),
             Request::Register { sizes, program } => {
@@ -129,7 +130,7 @@ impl Service for Alone {
             }
             Request::ReplaceAll { program, arg } => Answer::One(self.replace_all(*program, arg)),
             Request::Count => self.count(alloc),
-            _ => Answer::One(self.call(request)),
+            _ => self.call(request, value),
         }
     }
 }

@@ -19,6 +19,6 @@ pub use calls::{call_of, named_program};
 pub use devices::{
     Failed, ReadBehind, ReadFault, Sink, Source, StreamSink, StreamSource, read_all, write_all,
 };
-pub use responses::{admit_or_refuse, no_memory, response_to, unknown_program};
+pub use responses::{admit_or_refuse, answer_to, no_memory, unknown_program};
 pub use session::send::{refuse, send};
 pub use session::{Answer, Service, SessionEnd, run_session};

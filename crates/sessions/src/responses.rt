@@ -1,10 +1,13 @@
 //! Responses that whatever answers requests may give.
-ghost use Rattle.std.specs.Prelude.{◌≡◌, IfOk, IfErr};
+ghost use Rattle.std.specs.Prelude.{◌≡◌, ℕ, List, [], ◌∷◌, IfOk, IfErr};
+ghost use Rattle.atomic_methods.specs.Plans.{reply_by};
+ghost use Rattle.sessions.specs.Answering.{responses_of};
 ghost use Rattle.client_protocol.specs.declared.response.Response.TheVariants as tell;
 ghost use Rattle.sessions.specs.Asking.{response_to, Admits, RefusesProgram};
 
 use crate::admission::admit;
-use atomic_methods::Reply;
+use crate::session::Answer;
+use atomic_methods::ReplyKind;
 use bpf_model::{NoMemory, Sizes};
 use client_protocol::Response;
 use std::alloc::Global;
@@ -32,14 +35,15 @@ pub fn no_memory() -> Response
     }
 }
 
-/// The response with a call's reply.
-pub fn response_to(reply: Reply) -> Response
-    ensures { result ≡ response_to reply }
+/// The answer with a call's reply, the bytes of whose value, if it has one, were left in a place of the caller's.
+pub fn answer_to(kind: ReplyKind) -> Answer
+    ensures { (bytes : List ℕ) → responses_of result bytes ≡ response_to (reply_by kind bytes) ∷ [] }
 {
-    match reply {
-        Reply::Value(value) => Response::Value { value },
-        Reply::Done(done) => Response::Done { done },
-        Reply::Unfit(part) => Response::Unfit { part },
+    match kind {
+        ReplyKind::None => Answer::One(Response::Value { value: None }),
+        ReplyKind::Some => Answer::Found,
+        ReplyKind::Done(done) => Answer::One(Response::Done { done }),
+        ReplyKind::Unfit(part) => Answer::One(Response::Unfit { part }),
     }
 }
 

@@ -12,7 +12,7 @@ mod service;
 
 use crate::devices::{Failed, ReadBehind, Sink};
 use crate::session::send::{refuse, send};
-use bpf_model::NoMemory;
+use bpf_model::{NoMemory, Value};
 use client_protocol::{Feeder, ProtocolFault, Request};
 pub use send::end_of;
 pub use service::{Answer, Service};
@@ -36,12 +36,14 @@ pub enum SessionEnd {
     NoMemory,
 }
 
-/// Answers the requests in turn: each answer is written before the next request is looked at.
+/// Answers the requests in turn: each answer is written before the next request is looked at. Values that are found are left
+/// in `value`, one after the other.
 fn answer_all<W: Sink, S: Service>(
     alloc: Global,
     writer: &mut W,
     service: &mut S,
     requests: &[Request],
+    value: &mut Value,
 ) -> Result<(), Failed>
     requires { CanWrite (W.state writer.old) }
     ensures ok { OnOk result ((written : List ℕ)
@@ -52,8 +54,8 @@ fn answer_all<W: Sink, S: Service>(
         × BreaksOff S.answers service.old requests.now written service.new) }
 {
     for request in requests {
-        let answer = service.answer(alloc, request);
-        send(writer, &answer)?;
+        let answer = service.answer(alloc, request, value);
+        send(writer, &answer, value)?;
     }
     Ok(())
 }
@@ -84,6 +86,8 @@ pub fn run_session<H: Wait, R: ReadBehind<W>, W: Sink, S: Service>(
 {
     let mut feeder = Feeder::new(alloc);
     let mut piece = [0; PIECE_BYTES];
+    let mut requests = Vec::new(alloc);
+    let mut value = Value::new();
     for _ in rt.forever() {
         let Ok(()) = writer.flush() else {
             return SessionEnd::WriteFailed;
@@ -97,13 +101,13 @@ pub fn run_session<H: Wait, R: ReadBehind<W>, W: Sink, S: Service>(
             }
             return SessionEnd::Closed;
         }
-        let Ok(fed) = feeder.feed(alloc, &piece[..n]) else {
+        let Ok(fault) = feeder.feed_into(alloc, &piece[..n], &mut requests) else {
             return refuse(writer, NoMemory::NUMBER, SessionEnd::NoMemory);
         };
-        let Ok(()) = answer_all(alloc, writer, service, &fed.requests) else {
+        let Ok(()) = answer_all(alloc, writer, service, &requests, &mut value) else {
             return SessionEnd::WriteFailed;
         };
-        if let Some(fault) = fed.fault {
+        if let Some(fault) = fault {
             return refuse(writer, fault.number(), SessionEnd::Refused(fault));
         }
     }

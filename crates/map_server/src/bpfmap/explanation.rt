@@ -2,7 +2,7 @@
 ghost use Rattle.std.specs.Prelude.{◌≡◌, ◌<◌, ◌≤◌, ◌++◌, IfOk, OnOk, length, option_map, string_bytes};
 ghost use Rattle.bpf_model.specs.Fits.{AreWithinLimits};
 ghost use Rattle.bpf_model.specs.Program.{IsProgram};
-ghost use Rattle.map_server.specs.Explanations.{register_text, registers_below, state_text, known_text, line_text, values_after, lines_below};
+ghost use Rattle.map_server.specs.Explanations.{told_register, registers_below, state_text, known_text, line_text, values_after, lines_below};
 
 use crate::bpfmap::known::{is_same, write_bytes, write_value};
 use bpf_assembler::instruction_text;
@@ -24,7 +24,7 @@ fn write_register(
 ) -> Result<(), AllocError>
     requires { register < 11 }
     ensures { OnOk result (string_bytes text.new
-        ≡ string_bytes text.old ++ register_text before.now values.now register) }
+        ≡ string_bytes text.old ++ told_register before.now values.now register) }
 {
     let value = values[register];
     if is_same(before[register], value) {

@@ -1,7 +1,7 @@
 //! What a refusal means, in words: a line for standard error.
 ghost use Rattle.std.specs.Prelude.{◌≡◌, Some, IfOk, string_bytes};
 ghost use Rattle.bpf_model.specs.Program.{instruction_at};
-ghost use Rattle.map_server.specs.Meanings.{refused_instruction, verdict, IsKnown, TellsInstruction, IsMeaning};
+ghost use Rattle.map_server.specs.Meanings.{refused_instruction, verdict, IsKnownText, TellsInstruction, IsMeaning};
 
 use crate::bpfmap::commands::program_of;
 use crate::bpfmap::reason::known_reason;
@@ -43,7 +43,7 @@ fn known_there(
     fault: VerifyFault,
     insn: Insn,
 ) -> Result<String, NoMemory>
-    ensures { IfOk result (λ known. IsKnown program sizes fault insn (string_bytes known)) }
+    ensures { IfOk result (λ known. IsKnownText program sizes fault insn (string_bytes known)) }
 {
     match sizes {
         Some(sizes) => known_reason(alloc, program, sizes, fault, insn),

@@ -7,7 +7,7 @@ ghost use Rattle.clap.specs.Words.{fault_of, HasKind};
 ghost use Rattle.map_server.specs.CommandLine.{bpfmap};
 ghost use Rattle.map_server.specs.Endings.{outputs, EndsReport, EndsCommand, EndsWords, TellsEnding};
 ghost use Rattle.map_server.specs.Executions.{RunsBpfmap};
-ghost use Rattle.map_server.specs.Shown.{IsTold};
+ghost use Rattle.map_server.specs.Shown.{IsShown};
 ghost use Rattle.sessions.specs.Devices.{CanRead, CanWrite};
 
 use crate::bpfmap::commands::report_of;
@@ -63,7 +63,7 @@ pub(crate) fn told_error(
     error: &clap::Error,
     words: &[&str],
 ) -> Result<Vec<u8>, NoMemory>
-    ensures { IfOk result (λ shown. IsTold (texts words.now) shown.items) }
+    ensures { IfOk result (λ shown. IsShown (texts words.now) shown.items) }
 {
     let text = error.to_string(alloc)?;
     told(alloc, &text, words)

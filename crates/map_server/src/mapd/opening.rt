@@ -1,6 +1,6 @@
 //! What `mapd` serves: a map, its programs, and the crews of its workers.
 ghost use Rattle.std.specs.Prelude.{◌≡◌, ◌+◌, ◌*◌, ◌≤◌, All, IfOk, IfErr, vec_len};
-ghost use Rattle.crews.specs.Crews.{IsOf};
+ghost use Rattle.crews.specs.Crews.{IsCrewOf};
 ghost use Rattle.map_server.specs.ServerRuns.{CanOpen, IsNotOpened};
 ghost use Rattle.map_server.specs.ServerWords.{IsInRange};
 
@@ -20,7 +20,7 @@ pub struct Server {
     pub registry: Registry,
     pub crews: Vec<Crew>,
     pub quotas: Quotas,
-    ghost serve: { All (λ crew. IsOf map crew) crews.items },
+    ghost serve: { All (λ crew. IsCrewOf map crew) crews.items },
 }
 
 /// The next worker's crew: the last of the passes is its own, and those before it are its team's.
@@ -32,11 +32,12 @@ fn next_crew(
 ) -> Result<Crew, NoMemory>
     requires serve { All (λ pass. pass.map ≡ map.now) passes.old.items }
     requires some { 1 ≤ team }
-    requires enough { 1 + team ≤ vec_len passes.old }
-    ensures crew { IfOk result (λ crew. IsOf map.now crew) }
+    requires passes { 1 + team ≤ vec_len passes.old }
+    ensures crew { IfOk result (λ crew. IsCrewOf map.now crew) }
     ensures serve { All (λ pass. pass.map ≡ map.now) passes.new.items }
     ensures left { IfOk result (λ _. vec_len passes.new + (1 + team) ≡ vec_len passes.old) }
 {
+    // For the proof alone: the clauses name the map.
     let _ = map;
     let Some(pass) = passes.pop() else {
         unreachable!()
@@ -58,8 +59,8 @@ fn crews_of(
 ) -> Result<Vec<Crew>, NoMemory>
     requires serve { All (λ pass. pass.map ≡ map.now) passes.items }
     requires some { 1 ≤ team }
-    requires enough { workers * (1 + team) ≤ vec_len passes }
-    ensures { IfOk result (λ crews. All (λ crew. IsOf map.now crew) crews.items) }
+    requires passes { workers * (1 + team) ≤ vec_len passes }
+    ensures { IfOk result (λ crews. All (λ crew. IsCrewOf map.now crew) crews.items) }
 {
     let mut passes = passes;
     let mut crews = Vec::new(alloc);
@@ -78,7 +79,7 @@ fn server_of(
 ) -> Result<Server, NoMemory>
     requires range { IsInRange asked.now }
     requires serve { All (λ pass. pass.map ≡ map) passes.items }
-    requires enough { asked.now.workers * (1 + asked.now.team) ≤ vec_len passes }
+    requires passes { asked.now.workers * (1 + asked.now.team) ≤ vec_len passes }
 {
     let registry = Registry::new(alloc)?;
     let crews = crews_of(

@@ -4,7 +4,7 @@ ghost use Rattle.clap.specs.Walk.{texts};
 ghost use Rattle.clap.specs.Words.{fault_of, HasKind};
 ghost use Rattle.sessions.specs.Devices.{CanWrite, TakesFront, TakesIfItCan};
 ghost use Rattle.map_server.specs.Endings.{outputs};
-ghost use Rattle.map_server.specs.ServerRuns.{EndsServerWords, EndsServing, IsServed, Listens, RunsMapd, Sends, TellsFault};
+ghost use Rattle.map_server.specs.ServerRuns.{EndsServerWords, EndsServing, IsLastLine, Listens, RunsMapd, PrintsAll, TellsOpenFault};
 ghost use Rattle.map_server.specs.ServerWords.{mapd};
 
 use crate::bpfmap::{
@@ -30,7 +30,7 @@ use std::thread::Threads;
 fn tell_fault<W: Sink, E: Sink>(fault: OpenFault, writer: &mut W, errors: &mut E) -> u8
     requires writes { CanWrite (W.state writer.old) }
     requires warns { CanWrite (E.state errors.old) }
-    ensures { TellsFault fault (outputs (W.state writer.old) (E.state errors.old))
+    ensures { TellsOpenFault fault (outputs (W.state writer.old) (E.state errors.old))
         (outputs (W.state writer.new) (E.state errors.new)) result }
 {
     match fault {
@@ -105,7 +105,7 @@ fn bind<H: Net<Listener = TcpListener, Stream = TcpStream>>(
 /// Prints the text, and flushes it.
 fn print_at_once<W: Sink>(writer: &mut W, text: &[u8]) -> Result<(), Failed>
     requires { CanWrite (W.state writer.old) }
-    ensures ok { OnOk result (Sends (W.state writer.old) (W.state writer.new) text.now) }
+    ensures ok { OnOk result (PrintsAll (W.state writer.old) (W.state writer.new) text.now) }
     ensures err { OnErr result (TakesFront (W.state writer.old) (W.state writer.new) text.now) }
 {
     write_all(writer, text)?;
@@ -128,7 +128,7 @@ fn last_line<H: Wait, E: Sink>(
     served: &Result<Vec<Crew>, NoMemory>,
     accept: &TcpAccept<'_, '_, H, E>,
 ) -> (Line, u8)
-    ensures { IsServed result.0.items result.1 }
+    ensures { IsLastLine result.0.items result.1 }
 {
     match served {
         Ok(_) if accept.has_failed() => (served_line(accept.streams()), FAILED_DEVICE),

@@ -85,7 +85,7 @@ pub(super) const COMPUTING: [Row; 18] = [
 ];
 
 // What rows are tried on: a whole table, or bins of either kind alone.
-trait Tried: Sized {
+pub(super) trait Tried: Sized {
     fn opened(alloc: Global) -> Result<Self, Fail>;
 
     fn made(&mut self, call: &Call) -> Result<Reply, NoMemory>;
@@ -150,15 +150,15 @@ fn try_rows<T: Tried + Drop>(
     let programs = Programs::new(alloc)?;
     for (number, (before, method, reply, after)) in rows.iter().enumerate() {
         let mut table = T::opened(alloc)?;
-        table.made(&programs.call(names.neighbour, Put(b"other"))?)?;
+        table.made(&Lender::new(names.neighbour, Put(b"other"))?.call(&programs))?;
         if let Bytes(bytes) = before {
-            table.made(&programs.call(names.key, Put(bytes))?)?;
+            table.made(&Lender::new(names.key, Put(bytes))?.call(&programs))?;
         }
-        let given = table.made(&programs.call(names.key, *method)?)?;
+        let given = table.made(&Lender::new(names.key, *method)?.call(&programs))?;
         assert!(rt; is_wanted(&given, *reply), "row {number}");
-        let found = table.made(&programs.call(names.key, Get)?)?;
+        let found = table.made(&Lender::new(names.key, Get)?.call(&programs))?;
         assert!(rt; is_wanted(&found, *after), "row {number}, after");
-        let beside = table.made(&programs.call(names.neighbour, Get)?)?;
+        let beside = table.made(&Lender::new(names.neighbour, Get)?.call(&programs))?;
         assert!(rt; is_wanted(&beside, Bytes(b"other")), "row {number}, beside");
     }
     Ok(())
@@ -183,22 +183,46 @@ fn methods_with_programs(rt: HostRuntime) -> Result<(), Fail> {
     try_everywhere(&rt, rt.alloc(), ONE_HASH, &COMPUTING)
 }
 
+// Enters the value of these bytes.
+fn put(table: &mut Striped, key: &Key, bytes: &[u8]) -> Result<Reply, Fail> {
+    let value = &value(bytes)?;
+    Ok(table.apply(&Call::Put { key, value })?)
+}
+
+// What a `Compute` lends.
+#[derive(Drop)]
+struct Computing {
+    key: Key,
+    program: Verified,
+    arg: Option<Value>,
+}
+
+impl Computing {
+    fn call(&self) -> Call<'_> {
+        let arg = self.arg.as_ref();
+        Call::Compute {
+            key: &self.key,
+            program: &self.program,
+            arg,
+        }
+    }
+}
+
 #[test]
 fn a_longest_value_is_unfit_where_one_byte_is_missing(rt: HostRuntime) -> Result<(), Fail> {
-    let program = verified(rt.alloc(), NOTHING, sizes(64, 255, 256, 256))?;
-    let long = value(&[7; 256])?;
-    let mut table = Striped::open(rt.alloc(), 1)?;
-    let key = key(b"a")?;
-    let value = long.copied();
-    table.apply(&Call::Put { key, value })?;
-    let call = Call::Compute {
-        key: Key::from_slice(b"a")?,
-        program: &program,
+    let computing = Computing {
+        key: key(b"a")?,
+        program: verified(rt.alloc(), NOTHING, sizes(64, 255, 256, 256))?,
         arg: None,
     };
-    assert_eq!(rt; table.apply(&call)?, Reply::Unfit(InputPart::Old));
-    let key = Key::from_slice(b"a")?;
-    assert_eq!(rt; table.apply(&Call::Get { key })?, Reply::Value(Some(long)));
+    let mut table = Striped::open(rt.alloc(), 1)?;
+    put(&mut table, &computing.key, &[7; 256])?;
+    let reply = table.apply(&computing.call())?;
+    assert_eq!(rt; reply, Reply::Unfit(InputPart::Old));
+    let get = Lender::new(b"a", Method::Get)?;
+    let programs = Programs::new(rt.alloc())?;
+    let found = table.apply(&get.call(&programs))?;
+    assert_eq!(rt; found, Reply::Value(Some(value(&[7; 256])?)));
     Ok(())
 }
 
@@ -227,22 +251,21 @@ fn is_pair(value: &Value, first: &[u8; 8], second: &[u8; 8]) -> bool {
 
 #[test]
 fn an_absent_argument_is_no_empty_one(rt: HostRuntime) -> Result<(), Fail> {
-    let program = verified(rt.alloc(), LENGTHS_TOLD, sizes(64, 8, 8, 16))?;
     for (number, (old, arg, first, second)) in LENGTHS.iter().enumerate() {
         let mut table = Striped::open(rt.alloc(), 1)?;
-        if let Some(bytes) = old {
-            let (key, value) = (key(b"a")?, value(bytes)?);
-            table.apply(&Call::Put { key, value })?;
-        }
-        let call = Call::Compute {
-            key: key(b"a")?,
-            program: &program,
-            arg: match arg {
-                Some(bytes) => Some(value(bytes)?),
-                None => None,
-            },
+        let arg = match arg {
+            Some(bytes) => Some(value(bytes)?),
+            None => None,
         };
-        let Reply::Value(Some(told)) = table.apply(&call)? else {
+        let computing = Computing {
+            key: key(b"a")?,
+            program: verified(rt.alloc(), LENGTHS_TOLD, sizes(64, 8, 8, 16))?,
+            arg,
+        };
+        if let Some(bytes) = old {
+            put(&mut table, &computing.key, bytes)?;
+        }
+        let Reply::Value(Some(told)) = table.apply(&computing.call())? else {
             return Err("no answer".into());
         };
         assert!(rt; is_pair(&told, first, second), "row {number}");

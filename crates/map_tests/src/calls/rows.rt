@@ -21,9 +21,13 @@ const CALLS: [(&[u8], Method, Wanted); 9] = [
 #[test]
 fn calls_reply_one_by_one_and_in_one_run(rt: HostRuntime) -> Result<(), Fail> {
     let programs = Programs::new(rt.alloc())?;
-    let mut calls = Vec::new(rt.alloc());
+    let mut lenders = Vec::new(rt.alloc());
     for (name, method, _) in CALLS {
-        calls.push(programs.call(name, method)?)?;
+        lenders.push(Lender::new(name, method)?)?;
+    }
+    let mut calls = Vec::new(rt.alloc());
+    for lender in &lenders {
+        calls.push(lender.call(&programs))?;
     }
     for stripes in [1, 4, 64] {
         let mut table = Striped::open(rt.alloc(), stripes)?;

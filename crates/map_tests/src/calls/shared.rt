@@ -1,12 +1,33 @@
 //! Each method by the calls that leave a reply's bytes in a place of the caller's.
-ghost use Rattle.std.specs.Prelude.{◌≡◌};
+ghost use Rattle.std.specs.Prelude.{◌≡◌, All, IfSome};
 
 use super::methods::{BEGINNING, COMPUTING, Names, ONE_HASH, PLAIN, Row};
 use super::*;
-use crate::passes::{next_pass, opened};
 use bin_stripes::{Pass, StripedMap};
 use std::process::Abort;
 use std::sync::Wait;
+
+// The last of the passes.
+fn last_pass(map: &StripedMap, mut passes: Vec<Pass>) -> Option<Pass>
+    requires { All (λ pass. pass.map ≡ map.now) passes.items }
+    ensures { IfSome result (λ pass. pass.map ≡ map.now) }
+{
+    // For the clauses alone, which name the map.
+    let _ = map;
+    let Some(pass) = passes.pop() else {
+        return None;
+    };
+    Some(pass)
+}
+
+// A map of so many stripes and its one pass; none where memory was refused.
+pub(super) fn map_and_pass(alloc: Global, stripes: u64) -> Option<(StripedMap, Pass)>
+    ensures { IfSome result (λ r. r.1.map ≡ r.0) }
+{
+    let (map, passes) = StripedMap::open(alloc, stripes, 1).ok()?;
+    let pass = last_pass(&map, passes)?;
+    Some((map, pass))
+}
 
 // The reply to the call. What an earlier reply left in the place stays there, where this one leaves no bytes.
 fn reply_to<R: Wait>(
@@ -36,18 +57,18 @@ fn is_row_kept<R: Wait>(
 {
     let (before, method, reply, after) = row;
     let mut bytes = Value::new();
-    let neighbour = programs.call(names.neighbour, Method::Put(b"other"))?;
-    map.try_call_into(pass, &neighbour, &mut bytes)?;
+    let neighbour = Lender::new(names.neighbour, Method::Put(b"other"))?;
+    map.try_call_into(pass, &neighbour.call(programs), &mut bytes)?;
     if let Wanted::Bytes(old) = before {
-        let enter = programs.call(names.key, Method::Put(old))?;
-        map.try_call_into(pass, &enter, &mut bytes)?;
+        let enter = Lender::new(names.key, Method::Put(old))?;
+        map.try_call_into(pass, &enter.call(programs), &mut bytes)?;
     }
-    let call = programs.call(names.key, *method)?;
-    let given = reply_to(rt, map, pass, &call, &mut bytes)?;
-    let get = programs.call(names.key, Method::Get)?;
-    let found = reply_to(rt, map, pass, &get, &mut bytes)?;
-    let get = programs.call(names.neighbour, Method::Get)?;
-    let beside = reply_to(rt, map, pass, &get, &mut bytes)?;
+    let row = Lender::new(names.key, *method)?;
+    let given = reply_to(rt, map, pass, &row.call(programs), &mut bytes)?;
+    let get = Lender::new(names.key, Method::Get)?;
+    let found = reply_to(rt, map, pass, &get.call(programs), &mut bytes)?;
+    let get = Lender::new(names.neighbour, Method::Get)?;
+    let beside = reply_to(rt, map, pass, &get.call(programs), &mut bytes)?;
     Ok(
         is_wanted(&given, *reply)
             && is_wanted(&found, *after)
@@ -64,8 +85,7 @@ fn try_rows<R: Wait + Abort>(
 ) -> Result<(), Fail> {
     let programs = Programs::new(alloc)?;
     for (number, row) in rows.iter().enumerate() {
-        let (map, mut passes) = opened(alloc, 4, 1)?;
-        let mut pass = next_pass(&map, &mut passes)?;
+        let (map, mut pass) = map_and_pass(alloc, 4).ok_or("no map")?;
         let kept = is_row_kept(rt, &programs, &map, &mut pass, names, row)?;
         assert!(rt; kept, "row {number}");
     }

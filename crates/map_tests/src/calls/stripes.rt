@@ -29,10 +29,9 @@ fn numbers_of_stripes(rt: HostRuntime) -> Result<(), Fail> {
 fn three_entries(alloc: Global, stripes: u64) -> Result<Striped, Fail> {
     let mut table = Striped::open(alloc, stripes)?;
     for (name, bytes) in [(b"c", NINE.as_slice()), (b"b", &TWO), (b"a", &ONE)] {
-        table.apply(&Call::Put {
-            key: key(name)?,
-            value: value(bytes)?,
-        })?;
+        let key = &key(name)?;
+        let value = &value(bytes)?;
+        table.apply(&Call::Put { key, value })?;
     }
     Ok(table)
 }
@@ -66,7 +65,8 @@ fn a_pass_replaces_what_fits(rt: HostRuntime) -> Result<(), Fail> {
         let mut table = three_entries(rt.alloc(), stripes)?;
         assert_eq!(rt; table.replace_each(&sum, &Some(value(&ONE)?)), counted);
         for (name, bytes) in [(b"a", TWO.as_slice()), (b"b", &THREE), (b"c", &NINE)] {
-            let reply = table.apply(&Call::Get { key: key(name)? })?;
+            let key = &key(name)?;
+            let reply = table.apply(&Call::Get { key })?;
             assert_eq!(rt; reply, Reply::Value(Some(value(bytes)?)));
         }
     }
@@ -79,9 +79,8 @@ const KEYS: u8 = 40;
 // Whether each key of one byte below this one has its value, and no other key has one.
 fn ends_before(table: &mut Striped, end: u8) -> Result<bool, Fail> {
     for number in 0..=KEYS {
-        let found = table.apply(&Call::Get {
-            key: key(&[number])?,
-        })?;
+        let key = &key(&[number])?;
+        let found = table.apply(&Call::Get { key })?;
         let value = if number < end {
             Some(value(b"new")?)
         } else {
@@ -94,29 +93,37 @@ fn ends_before(table: &mut Striped, end: u8) -> Result<bool, Fail> {
     Ok(true)
 }
 
-fn put(number: u8) -> Result<Call<'static>, TooLong> {
-    Ok(Call::Put {
-        key: key(&[number])?,
-        value: value(b"new")?,
-    })
+// Puts the key of one byte.
+fn put(table: &mut Striped, number: u8) -> Result<Reply, NoMemory> {
+    let key = &Key::from_slice(&[number]).unwrap();
+    let value = &Value::from_slice(b"new").unwrap();
+    table.apply(&Call::Put { key, value })
 }
 
-// A table of four stripes, opened once more where memory was refused.
-fn opened(alloc: Global) -> Result<Striped, OpenFault> {
-    match Striped::open(alloc, 4) {
-        Err(OpenFault::NoMemory) => Striped::open(alloc, 4),
+// A table of so many stripes, opened once more where memory was refused.
+fn opened(alloc: Global, stripes: u64) -> Result<Striped, OpenFault> {
+    match Striped::open(alloc, stripes) {
+        Err(OpenFault::NoMemory) => Striped::open(alloc, stripes),
         result => result,
     }
+}
+
+/// Also where one allocation fails. Each stripe asks for its bins: `tests/refused.sh` looks at how many requests there are.
+#[test]
+fn a_refused_open_can_be_made_again(rt: HostRuntime) -> Result<(), Fail> {
+    let table = opened(rt.alloc(), 64)?;
+    assert_eq!(rt; table.count(), 0);
+    Ok(())
 }
 
 /// Also where one allocation fails: that call leaves the table, and the same call once more enters.
 #[test]
 fn a_refused_call_leaves_the_table(rt: HostRuntime) -> Result<(), Fail> {
-    let mut table = opened(rt.alloc())?;
+    let mut table = opened(rt.alloc(), 4)?;
     for number in 0..KEYS {
-        if let Err(NoMemory) = table.apply(&put(number)?) {
+        if put(&mut table, number).is_err() {
             assert!(rt; ends_before(&mut table, number)?, "at {number}");
-            table.apply(&put(number)?)?;
+            put(&mut table, number)?;
         }
     }
     assert!(rt; ends_before(&mut table, KEYS)?);
@@ -126,18 +133,20 @@ fn a_refused_call_leaves_the_table(rt: HostRuntime) -> Result<(), Fail> {
 /// Also where one allocation fails: the calls that were replied to were made, and no other.
 #[test]
 fn a_stopped_run_made_the_calls_that_were_replied_to(rt: HostRuntime) -> Result<(), Fail> {
-    let mut table = opened(rt.alloc())?;
-    let calls = [
-        put(0)?,
-        put(1)?,
-        put(2)?,
-        put(3)?,
-        put(4)?,
-        put(5)?,
-        put(6)?,
-        put(7)?,
-        put(8)?,
+    let mut table = opened(rt.alloc(), 4)?;
+    let value = &value(b"new")?;
+    let keys = [
+        key(&[0])?,
+        key(&[1])?,
+        key(&[2])?,
+        key(&[3])?,
+        key(&[4])?,
+        key(&[5])?,
+        key(&[6])?,
+        key(&[7])?,
+        key(&[8])?,
     ];
+    let calls = keys.each_ref().map(|key| Call::Put { key, value });
     let replies = match table.run(rt.alloc(), &calls) {
         Ok(replies) => replies,
         Err(stopped) => stopped.replies,
@@ -154,10 +163,10 @@ fn a_stopped_run_made_the_calls_that_were_replied_to(rt: HostRuntime) -> Result<
 /// Also where one allocation fails: a scan gives all entries, or none and can be made again.
 #[test]
 fn a_refused_scan_leaves_the_table(rt: HostRuntime) -> Result<(), Fail> {
-    let mut table = opened(rt.alloc())?;
+    let mut table = opened(rt.alloc(), 4)?;
     for number in 0..9 {
-        if let Err(NoMemory) = table.apply(&put(number)?) {
-            table.apply(&put(number)?)?;
+        if put(&mut table, number).is_err() {
+            put(&mut table, number)?;
         }
     }
     let found = match table.scan(rt.alloc()) {
@@ -170,19 +179,5 @@ fn a_refused_scan_leaves_the_table(rt: HostRuntime) -> Result<(), Fail> {
         assert_eq!(rt; value.as_slice(), b"new".as_slice());
     }
     assert!(rt; ends_before(&mut table, 9)?);
-    Ok(())
-}
-
-/// Also where every growth would be refused: nothing is asked for where no key is added.
-#[test]
-fn a_call_that_adds_no_key_asks_for_no_memory(rt: HostRuntime) -> Result<(), Fail> {
-    let nothing = verified(rt.alloc(), NOTHING, sizes(64, 256, 256, 256))?;
-    let mut table = Striped::open(rt.alloc(), 1)?;
-    let call = Call::Compute {
-        key: key(b"a")?,
-        program: &nothing,
-        arg: None,
-    };
-    assert_eq!(rt; table.apply(&call)?, Reply::Value(None));
     Ok(())
 }

@@ -1,6 +1,6 @@
 //! Two clients of one map on the loopback address, each served by a crew in a thread of its own.
 ghost use Rattle.std.specs.Prelude.{◌≡◌, All, IfOk, IfSome};
-ghost use Rattle.crews.specs.Crews.{IsOf};
+ghost use Rattle.crews.specs.Crews.{IsCrewOf};
 
 use super::two_crews;
 use crate::bpfmap::memory::{ROOM, Room};
@@ -79,14 +79,14 @@ fn serve_beside<
     crews: Vec<Crew>,
     address: &str,
 ) -> (Result<Vec<Crew>, NoMemory>, io::Result<bool>)
-    requires { All (λ crew. IsOf map.now crew) crews.items }
-    ensures { IfOk result.0 (λ back. All (λ crew. IsOf map.now crew) back.items) }
+    requires { All (λ crew. IsCrewOf map.now crew) crews.items }
+    ensures { IfOk result.0 (λ back. All (λ crew. IsCrewOf map.now crew) back.items) }
 {
     thread::join(
         rt,
         move || -> Result<Vec<Crew>, NoMemory>
-            requires { All (λ crew. IsOf map.now crew) crews.items }
-            ensures { IfOk result (λ back. All (λ crew. IsOf map.entry.now crew) back.items) }
+            requires { All (λ crew. IsCrewOf map.now crew) crews.items }
+            ensures { IfOk result (λ back. All (λ crew. IsCrewOf map.entry.now crew) back.items) }
         { serve(rt, alloc, accept, map, registry, crews, &OpenGate) },
         move || merge_twice(rt, address),
     )
@@ -94,7 +94,7 @@ fn serve_beside<
 
 // The passes of the last two crews, joined.
 fn joined_pass(map: &StripedMap, mut crews: Vec<Crew>) -> Option<Pass>
-    requires { All (λ crew. IsOf map.now crew) crews.items }
+    requires { All (λ crew. IsCrewOf map.now crew) crews.items }
     ensures { IfSome result (λ pass. pass.map ≡ map.now) }
 {
     let Some(other) = crews.pop() else {
@@ -129,7 +129,7 @@ fn two_clients_merge_into_one_key(rt: HostRuntime) -> Result<(), Fail> {
     );
     assert!(&rt; merged?, "answers");
     let mut joined = joined_pass(&map, back?).ok_or("no crews")?;
-    let key = Key::from_slice(b"a")?;
+    let key = &Key::from_slice(b"a")?;
     let found = map.call(&rt, &mut joined, &Call::Get { key })?;
     let Reply::Value(Some(value)) = found else {
         return Err("no value".into());

@@ -1,5 +1,6 @@
 //! Responses on their way to a writer.
-ghost use Rattle.std.specs.Prelude.{◌≡◌, ◌≢◌, ◌⊎◌, false, map, OnOk, OnErr};
+ghost use Rattle.std.specs.Prelude.{◌≡◌, ◌≢◌, ◌⊎◌, false, map, Some, OnOk, OnErr};
+ghost use Rattle.client_protocol.specs.declared.response.Response.TheVariants.{Value as Answered};
 ghost use Rattle.client_protocol.specs.Responses.{response_frame, response_frames};
 ghost use Rattle.sessions.specs.Answering.{item_of, end_of, responses_of};
 ghost use Rattle.sessions.specs.Devices.{CanWrite, TakesBytes, TakesFront, TakesPart};
@@ -10,7 +11,7 @@ use crate::session::SessionEnd;
 use crate::session::service::Answer;
 use bins::Counts;
 use bpf_model::{Key, Value};
-use client_protocol::Response;
+use client_protocol::{Response, value_head};
 
 /// Writes the response's frame.
 fn send_one<W: Sink>(writer: &mut W, response: &Response) -> Result<(), Failed>
@@ -49,14 +50,26 @@ pub fn end_of(counts: Counts) -> Response
     }
 }
 
-/// Writes the frames of all responses of an answer.
-pub fn send<W: Sink>(writer: &mut W, answer: &Answer) -> Result<(), Failed>
+// Writes the frame of the response with this value, whose bytes are written from where they lie.
+fn send_value<W: Sink>(writer: &mut W, value: &Value) -> Result<(), Failed>
     requires { CanWrite (W.state writer.old) }
-    ensures ok { OnOk result (TakesBytes (W.state writer.old) (W.state writer.new) (response_frames (responses_of answer.now))) }
-    ensures err { OnErr result (TakesPart (W.state writer.old) (W.state writer.new) (response_frames (responses_of answer.now))) }
+    ensures ok { OnOk result (TakesBytes (W.state writer.old) (W.state writer.new) (response_frame (Answered (Some value.now)))) }
+    ensures err { OnErr result (TakesPart (W.state writer.old) (W.state writer.new) (response_frame (Answered (Some value.now)))) }
+{
+    write_all(writer, &value_head(value))?;
+    write_all(writer, value.as_slice())?;
+    Ok(())
+}
+
+/// Writes the frames of all responses of an answer; that of a value that was found has this one.
+pub fn send<W: Sink>(writer: &mut W, answer: &Answer, value: &Value) -> Result<(), Failed>
+    requires { CanWrite (W.state writer.old) }
+    ensures ok { OnOk result (TakesBytes (W.state writer.old) (W.state writer.new) (response_frames (responses_of answer.now value.now))) }
+    ensures err { OnErr result (TakesPart (W.state writer.old) (W.state writer.new) (response_frames (responses_of answer.now value.now))) }
 {
     match answer {
         Answer::One(response) => send_one(writer, response),
+        Answer::Found => send_value(writer, value),
         Answer::Walk(reply) => {
             send_items(writer, &reply.items)?;
             send_one(writer, &end_of(reply.counts))?;

@@ -2,6 +2,7 @@
 ghost use Rattle.sessions.specs.Answering.{responses_of};
 
 use atomic_methods::WalkReply;
+use bpf_model::Value;
 use client_protocol::{Request, Response};
 use std::alloc::Global;
 
@@ -10,6 +11,8 @@ use std::alloc::Global;
 pub enum Answer {
     /// One response.
     One(Response),
+    /// One response, with the value that was left in a place of the caller's.
+    Found,
     /// A response for each item, in order, and one for the end with the counts.
     Walk(WalkReply),
 }
@@ -23,7 +26,8 @@ pub trait Service {
     /// What the first serves, it may answer to the request by these responses, and then serves what the last does.
     ghost answers: { Self → Request → List Response → Self → Type 0 };
 
-    /// Answers one request. Where a request for memory is refused, that is an answer.
-    fn answer(&mut self, alloc: Global, request: &Request) -> Answer
-        ensures { answers self.old request.now (responses_of result) self.new };
+    /// Answers one request. The value of an answer that found one is left in `value`; what that held is lost. Where a request
+    /// for memory is refused, that is an answer.
+    fn answer(&mut self, alloc: Global, request: &Request, value: &mut Value) -> Answer
+        ensures { answers self.old request.now (responses_of result value.new) self.new };
 }

@@ -12,7 +12,7 @@ returns-in_default-read-clause-err g c =
     let d = g.C.Field in
     let limits = limits_after c.args.hello in
     bad_fields c.args.hello c.args.tag (a.kind ∷ b.kind ∷ d.kind ∷ []) c.args.bytes.now c.requires.known
-    (none_later limits a.kind (b.kind ∷ d.kind ∷ []) c.args.bytes.now (a.field c.in-Some.first) c.in-Some.rest.now c.in-Some.ensures.some
+    (none_later limits a.kind (b.kind ∷ d.kind ∷ []) c.args.bytes.now (a.field c.read.new.self) c.in-Some.rest.now c.in-Some.ensures.some
     (none_first limits b.kind (d.kind ∷ []) c.in-Some.rest.now c.in_default-read.ensures.none))
 
 pub returns-in_default-read-2-clause-err : goal.returns-in_default-read-2-clause-err
@@ -22,8 +22,8 @@ returns-in_default-read-2-clause-err g c =
     let d = g.C.Field in
     let limits = limits_after c.args.hello in
     bad_fields c.args.hello c.args.tag (a.kind ∷ b.kind ∷ d.kind ∷ []) c.args.bytes.now c.requires.known
-    (none_later limits a.kind (b.kind ∷ d.kind ∷ []) c.args.bytes.now (a.field c.in-Some.first) c.in-Some.rest.now c.in-Some.ensures.some
-    (none_later limits b.kind (d.kind ∷ []) c.in-Some.rest.now (b.field c.in-Some-read.second) c.in-Some-read.rest.now c.in-Some-read.ensures.some
+    (none_later limits a.kind (b.kind ∷ d.kind ∷ []) c.args.bytes.now (a.field c.read.new.self) c.in-Some.rest.now c.in-Some.ensures.some
+    (none_later limits b.kind (d.kind ∷ []) c.in-Some.rest.now (b.field c.read-2.new.self) c.in-Some-read.rest.now c.in-Some-read.ensures.some
     (none_first limits d.kind [] c.in-Some-read.rest.now c.in_default-read-2.ensures.none)))
 
 pub returns-then-not-is_empty-clause-err : goal.returns-then-not-is_empty-clause-err
@@ -31,9 +31,9 @@ returns-then-not-is_empty-clause-err g c =
     let a = g.A.Field in
     let b = g.B.Field in
     let d = g.C.Field in
-    let first = a.field c.in-Some.first in
-    let second = b.field c.in-Some-read.second in
-    let third = d.field c.in-Some-read-2.third in
+    let first = a.field c.read.new.self in
+    let second = b.field c.read-2.new.self in
+    let third = d.field c.read-3.new.self in
     let tail = c.in-Some-read-2.tail.now in
     trailing c.args.hello c.args.tag (a.kind ∷ b.kind ∷ d.kind ∷ []) c.args.bytes.now (first ∷ second ∷ third ∷ []) tail c.requires.known c.requires.no_tail
     (takes_three (limits_after c.args.hello) a.kind b.kind d.kind c.args.bytes.now first second third c.in-Some.rest.now c.in-Some-read.rest.now tail c.in-Some.ensures.some c.in-Some-read.ensures.some c.in-Some-read-2.ensures.some) (grind (arith, common_steps))

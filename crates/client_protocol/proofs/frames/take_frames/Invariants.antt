@@ -4,8 +4,8 @@ use Rattle.client_protocol.specs.declared.request.Request.{Request}
 use Rattle.client_protocol.specs.Frames.{frames_of, Follow}
 use Rattle.client_protocol.proofs.frames.take_frames.Given as goal
 
-abbrev pub invariant-loop-request : goal.invariant-loop-request
-invariant-loop-request l = (new : List Request) × (l.requests.items ≡ l.fn.requests.items ++ new) × Follow l.fn.hello new l.hello × (l.bytes ≡ frames_of new ++ l.rest)
+abbrev pub invariant-loop-behind : goal.invariant-loop-behind
+invariant-loop-behind l = (new : List Request) × (l.requests.items ≡ l.fn.requests.items ++ new) × Follow l.fn.hello new l.hello × (l.bytes ≡ frames_of new ++ l.rest)
 
-abbrev pub decreases-loop-request : goal.decreases-loop-request
-decreases-loop-request l = length l.rest
+abbrev pub decreases-loop-behind : goal.decreases-loop-behind
+decreases-loop-behind l = length l.rest

@@ -2,16 +2,16 @@ use Rattle.std.proofs.Common.{arith}
 use Rattle.std.proofs.lemmas.Result.{err_from_is_err_and}
 use Rattle.sessions.specs.Answering.{responses_of}
 use Rattle.sessions.proofs.AnsweringLemmas.{answered_more, cut_at}
-use Rattle.crews.specs.Steps.{Serves}
+use Rattle.crews.specs.Steps.{CrewServes}
 use Rattle.crews.proofs.client.answer_all.Goals as goal
 
 pub returns-in_err-send-clause-err : goal.returns-in_err-send-clause-err
 returns-in_err-send-clause-err g c =
     let p = err_from_is_err_and c.from_residual.result c.from_residual.ensures.1 in
     let (v, taken, before) = c.loop-request.invariant in
-    rw p.1 (cut_at Serves (g.W.Sink.state c.args.writer.now) (g.W.Sink.state c.loop-request.writer) (g.W.Sink.state c.send.new.writer) _ _ _ c.args.requests.now c.loop-request.request-index c.request-item.result (responses_of c.answer-answer.result) v (omega arith) c.request-item.is taken before c.answer-answer.ensures c.in_err-send.ensures.err)
+    rw p.1 (cut_at CrewServes (g.W.Sink.state c.args.writer.now) (g.W.Sink.state c.loop-request.writer) (g.W.Sink.state c.send.new.writer) _ _ _ c.args.requests.now c.loop-request.request-index c.request-item.result (responses_of c.answer-answer.result c.answer-answer.new.value) v (omega arith) c.request-item.is taken before c.answer-answer.ensures c.in_err-send.ensures.err)
 
 pub loop-request-preserved : goal.loop-request-preserved
 loop-request-preserved g c =
     let (v, taken, before) = c.loop-request.invariant in
-    answered_more Serves (g.W.Sink.state c.args.writer.now) (g.W.Sink.state c.loop-request.writer) (g.W.Sink.state c.send.new.writer) _ _ _ c.args.requests.now c.loop-request.request-index c.request-item.result (responses_of c.answer-answer.result) v (omega arith) c.request-item.is taken before c.answer-answer.ensures c.in_ok-send.ensures.ok
+    answered_more CrewServes (g.W.Sink.state c.args.writer.now) (g.W.Sink.state c.loop-request.writer) (g.W.Sink.state c.send.new.writer) _ _ _ c.args.requests.now c.loop-request.request-index c.request-item.result (responses_of c.answer-answer.result c.answer-answer.new.value) v (omega arith) c.request-item.is taken before c.answer-answer.ensures c.in_ok-send.ensures.ok

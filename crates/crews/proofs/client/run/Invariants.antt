@@ -3,7 +3,7 @@ use Rattle.std.proofs.Common.{◌≡◌, ℕ, List, None}
 use Rattle.std.specs.Io.KnownBytes.{Appends, Consumes}
 use Rattle.client_protocol.specs.Frames.{held_fault}
 use Rattle.sessions.specs.Sessions.{AllAnswered}
-use Rattle.crews.specs.Steps.{Serves}
+use Rattle.crews.specs.Steps.{CrewServes}
 use Rattle.crews.proofs.client.run.Given as goal
 
 abbrev pub invariant-loop : goal.invariant-loop
@@ -15,5 +15,5 @@ invariant-loop g l = record {
   so_far : (read : List ℕ) × (written : List ℕ)
       × Consumes (g.R.ReadBehind.source l.fn.reader).left (g.R.ReadBehind.source l.reader).left read
       × Appends (g.W.Sink.state l.fn.writer).held (g.W.Sink.state l.writer).held written
-      × AllAnswered Serves l.fn.serving read l.feeder written l.serving;
+      × AllAnswered CrewServes l.fn.serving read l.feeder written l.serving;
 }

@@ -1,7 +1,7 @@
 use Rattle.std.proofs.Common.{◌≡◌, arith, ◌∙◌, get_or}
 use Rattle.std.proofs.lemmas.List.Elements.{All-set}
 use Rattle.bin_stripes.specs.declared.pass.Pass.{Pass}
-use Rattle.crews.specs.Steps.{Told}
+use Rattle.crews.specs.Steps.{IsToldBy}
 use Rattle.crews.proofs.TeamLemmas.{told_one_more, told_by}
 use Rattle.crews.proofs.team.tell_each.Goals as goal
 
@@ -11,7 +11,7 @@ loop-member-preserved c =
     let old = get_or c.loop-member.member-items i c.member-item.result in
     let old_map : old.map ≡ c.args.map.now = c.loop-member.invariant.map i c.member-item.result (omega arith) in
     let told = told_by c.args.map.now c.args.pass.now old c.tell.new.to old_map c.tell.ensures.same c.tell.ensures.told in
-    let (done, rest) = told_one_more (Told c.args.pass.now) c.args.team.now.items c.loop-member.member-items i c.member-item.result c.tell.new.to (omega arith) c.loop-member.invariant.done c.loop-member.invariant.rest told in
+    let (done, rest) = told_one_more (IsToldBy c.args.pass.now) c.args.team.now.items c.loop-member.member-items i c.member-item.result c.tell.new.to (omega arith) c.loop-member.invariant.done c.loop-member.invariant.rest told in
     record {
       done = done;
       rest = rest;

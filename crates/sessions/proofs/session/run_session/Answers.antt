@@ -74,8 +74,8 @@ returns-then-n-eq0-clause-ended g c =
       ),
     )
 
-pub returns-in_default-feed-clause-ended : goal.returns-in_default-feed-clause-ended
-returns-in_default-feed-clause-ended g c =
+pub returns-in_default-feed_into-clause-ended : goal.returns-in_default-feed_into-clause-ended
+returns-in_default-feed_into-clause-ended g c =
     let (read, before, consumed, appended, all) = c.loop.invariant.so_far in
     let last : ℕ = (g.R.ReadBehind.source c.read_behind.new.self).last in
     let n = c.in-Ok-read_behind.n in
@@ -100,7 +100,7 @@ returns-in_default-answer_all-clause-ended g c =
           Consumes-trans _ _ _ read piece consumed c.in-Ok-read_behind.ensures.bytes.0,
           (
             Appends-trans _ _ _ before part (Appends-kept _ _ _ before appended c.in-Ok.ensures.bytes) more.0,
-            write_failed_end g.S.Service.answers c.args.service.now c.loop.service c.answer_all.new.service c.loop.feeder c.feed.new.self read piece last before part _ all c.in-Ok-feed.ensures.requests (rw c.deref.ensures.value at breaks),
+            write_failed_end g.S.Service.answers c.args.service.now c.loop.service c.answer_all.new.service c.loop.feeder c.feed_into.new.self read piece last before part _ all c.in-Ok-feed_into.ensures.requests (rw c.deref.ensures.value at breaks),
           ),
         ),
       ),
@@ -112,9 +112,9 @@ returns-in-Some-fault-clause-ended g c =
     let last : ℕ = (g.R.ReadBehind.source c.read_behind.new.self).last in
     let piece = take c.in-Ok-read_behind.n c.read_behind.new.buffer in
     let (written, more, answered) = c.in-Ok-answer_all.ensures.ok in
-    let all2 = goes_on g.S.Service.answers c.args.service.now c.loop.service c.answer_all.new.service read piece before written c.loop.feeder c.feed.new.self _ all c.in-Ok-feed.ensures.requests (rw c.deref.ensures.value at answered) in
-    let (w, rest) = fault_ends g.S.Service.answers c.args.service.now c.answer_all.new.service c.refuse-in-Some-fault.result c.in-Some-fault.fault c.number.result (g.W.Sink.state c.args.writer.now) (g.W.Sink.state c.answer_all.new.writer) (g.W.Sink.state c.refuse-in-Some-fault.new.writer) c.feed.new.self (read ++ piece) last (before ++ written) c.number.ensures
-    c.refuse-in-Some-fault.ensures.either c.refuse-in-Some-fault.ensures.whole c.refuse-in-Some-fault.ensures.front (Appends-trans _ _ _ before written (Appends-kept _ _ _ before appended c.in-Ok.ensures.bytes) more.0) (sym c.in-Ok-feed.ensures.fault ∙ c.in-Some-fault.is) all2 in
+    let all2 = goes_on g.S.Service.answers c.args.service.now c.loop.service c.answer_all.new.service read piece before written c.loop.feeder c.feed_into.new.self _ all c.in-Ok-feed_into.ensures.requests (rw c.deref.ensures.value at answered) in
+    let (w, rest) = fault_ends g.S.Service.answers c.args.service.now c.answer_all.new.service c.refuse-in-Some-fault.result c.in-Some-fault.fault c.number.result (g.W.Sink.state c.args.writer.now) (g.W.Sink.state c.answer_all.new.writer) (g.W.Sink.state c.refuse-in-Some-fault.new.writer) c.feed_into.new.self (read ++ piece) last (before ++ written) c.number.ensures
+    c.refuse-in-Some-fault.ensures.either c.refuse-in-Some-fault.ensures.whole c.refuse-in-Some-fault.ensures.front (Appends-trans _ _ _ before written (Appends-kept _ _ _ before appended c.in-Ok.ensures.bytes) more.0) (sym c.in-Ok-feed_into.ensures.fault ∙ c.in-Some-fault.is) all2 in
     (read ++ piece, (w, (Consumes-trans _ _ _ read piece consumed c.in-Ok-read_behind.ensures.bytes.0, rest)))
 
 pub loop-preserved : goal.loop-preserved
@@ -127,12 +127,12 @@ loop-preserved g c =
       ends = c.in-Ok-read_behind.ensures.ok.2 some ∙ c.loop.invariant.ends;
       reads = c.in-Ok-read_behind.ensures.ok.3 ∙ c.loop.invariant.reads;
       writes = more.1 ∙ (c.in-Ok.ensures.ok ∙ c.loop.invariant.writes);
-      faultless = sym c.in-Ok-feed.ensures.fault ∙ c.in_default-fault.is;
+      faultless = sym c.in-Ok-feed_into.ensures.fault ∙ c.in_default-fault.is;
       so_far = (
         read ++ piece,
         before ++ written,
         Consumes-trans _ _ _ read piece consumed c.in-Ok-read_behind.ensures.bytes.0,
         Appends-trans _ _ _ before written (Appends-kept _ _ _ before appended c.in-Ok.ensures.bytes) more.0,
-        goes_on g.S.Service.answers c.args.service.now c.loop.service c.answer_all.new.service read piece before written c.loop.feeder c.feed.new.self _ all c.in-Ok-feed.ensures.requests (rw c.deref.ensures.value at answered),
+        goes_on g.S.Service.answers c.args.service.now c.loop.service c.answer_all.new.service read piece before written c.loop.feeder c.feed_into.new.self _ all c.in-Ok-feed_into.ensures.requests (rw c.deref.ensures.value at answered),
       );
     }

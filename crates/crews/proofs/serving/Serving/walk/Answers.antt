@@ -7,7 +7,7 @@ use Rattle.crews.proofs.StepLemmas.{walked_by_team}
 use Rattle.crews.proofs.serving.Serving.walk.Goals as goal
 
 pub returns : goal.returns
-returns g c =
+returns g c bytes =
     let s = c.self.inside in
     record {
       found = Some c.in-Some.program.now;
@@ -15,5 +15,5 @@ returns g c =
       meets = walked_by_team (λ n before after reply. IsWalk c.args.kind n c.in-Some.program.now c.args.arg.now before after reply) (λ n before after. AllWalked n MayScan before after)
           c.args.self.now s.pass s.team.items s.tokens.items s.map.now c.replace-team.result.items c.told-team.result.passes.items c.walk-team.result.0.passes.items c.heard.result.items
           c.heard.new.pass c.walk-team.result.1 _ (sym c.self.view_is) c.self.invariant.0 (ap (λ v. v.items) c.replace-team.ensures.value) (ap (λ v. v.items) c.heard.ensures.passes)
-          c.told-team.ensures.told c.walk-team.ensures.walked c.heard.ensures.heard c.answer_of.ensures;
+          c.told-team.ensures.told c.walk-team.ensures.walked c.heard.ensures.heard (c.answer_of.ensures bytes);
     }

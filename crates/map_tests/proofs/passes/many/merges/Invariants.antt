@@ -1,6 +1,0 @@
-use Rattle.std.proofs.Common.{◌≡◌}
-use Rattle.map_tests.proofs.passes.many.merges.Given as goal
-
--- the pass serves the same map
-abbrev pub invariant-loop-turn : goal.invariant-loop-turn
-invariant-loop-turn g l = l.pass.map ≡ l.fn.pass.map

@@ -1,0 +1,67 @@
+//! Calls that add no key ask for no memory, where there is no room for a further key.
+use super::methods::{COMPUTING, PLAIN, Row, Tried};
+use super::*;
+use bins::{HashedBins, ListBins};
+use std::process::Abort;
+
+// A request of so many bytes is a mark to `tests/refused.sh`, and no other request is of this size.
+const MARK: usize = 99_991;
+
+fn mark(alloc: Global) -> Result<(), Fail> {
+    let _: Vec<u8> = Vec::with_capacity(alloc, MARK)?;
+    Ok(())
+}
+
+// Eight entries in one stripe, as many as a list that doubles has room for; `a` has what it is to have before.
+fn full<T: Tried + Drop>(alloc: Global, programs: &Programs, before: Wanted) -> Result<T, Fail> {
+    let mut table = T::opened(alloc)?;
+    let eighth = match before {
+        Wanted::Bytes(bytes) => Lender::new(b"a", Method::Put(bytes))?,
+        _ => Lender::new(b"A", Method::Put(b"other"))?,
+    };
+    table.made(&eighth.call(programs))?;
+    for number in 0..7u8 {
+        // In the stripe of `a` and `A`, where there are four.
+        let name = [4 * number + 1];
+        let other = Lender::new(&name, Method::Put(b"other"))?;
+        table.made(&other.call(programs))?;
+    }
+    Ok(table)
+}
+
+// Whether the row's call was made, or was refused and would have added its key.
+fn is_kept(row: &Row, given: &Result<Reply, NoMemory>, found: &Reply) -> bool {
+    let (before, _, reply, after) = row;
+    match (given, before, after) {
+        (Ok(given), _, _) => is_wanted(given, *reply) && is_wanted(found, *after),
+        (Err(NoMemory), Wanted::Nothing, Wanted::Bytes(_)) => is_wanted(found, *before),
+        (Err(NoMemory), _, _) => false,
+    }
+}
+
+// Each row on a full table of its own, the call between two marks.
+fn try_rows<T: Tried + Drop>(rt: &impl Abort, alloc: Global, rows: &[Row]) -> Result<(), Fail> {
+    let programs = Programs::new(alloc)?;
+    for (number, row) in rows.iter().enumerate() {
+        let mut table: T = full(alloc, &programs, row.0)?;
+        let lender = Lender::new(b"a", row.1)?;
+        let get = Lender::new(b"a", Method::Get)?;
+        mark(alloc)?;
+        let given = table.made(&lender.call(&programs));
+        mark(alloc)?;
+        let found = table.made(&get.call(&programs))?;
+        assert!(rt; is_kept(row, &given, &found), "row {number}");
+    }
+    Ok(())
+}
+
+/// Also where each request between two marks is refused: one each, to six calls on each kind of table.
+#[test]
+fn a_call_that_adds_no_key_asks_for_no_memory(rt: HostRuntime) -> Result<(), Fail> {
+    for rows in [PLAIN.as_slice(), &COMPUTING] {
+        try_rows::<Striped>(&rt, rt.alloc(), rows)?;
+        try_rows::<ListBins>(&rt, rt.alloc(), rows)?;
+        try_rows::<HashedBins>(&rt, rt.alloc(), rows)?;
+    }
+    Ok(())
+}

@@ -1,0 +1,269 @@
+//! Two workers serve a client each at once: alone, and beside a thread that makes calls.
+ghost use Rattle.std.specs.Prelude.{◌≡◌, All};
+ghost use Rattle.crews.specs.Crews.{IsCrewOf};
+
+use super::crews_and_pass;
+use crate::bpfmap::memory::{Pieces, ROOM, Room};
+use atomic_methods::{Call, Reply};
+use bin_stripes::{Gate, Pass, Place, StripedMap};
+use bpf_model::{Key, NoMemory, Value};
+use crews::{Accept, Crew, serve};
+use map_server::{SessionEnd, StreamSink, StreamSource};
+use program_registry::Registry;
+use std::alloc::Global;
+use std::process::Abort;
+use std::sync::Wait;
+use std::sync::atomic::{AtomicU64, Ordering};
+use std::test::Fail;
+use std::thread::{self, Threads};
+
+// The most turns that a thread waits for others.
+const TURNS: u64 = 10_000_000;
+
+// The most calls that are made beside the sessions.
+const CALLS: u64 = 10_000_000;
+
+// A Hello and a Count.
+const COUNT: &[u8] = b"\0\0\0\x02\0\x01\0\0\0\x01\x23";
+
+// One entry, which is the caller's.
+const COUNTED: &[u8] =
+    b"\0\0\0\x02\x80\x01\0\0\0\x19\x87\0\0\0\0\0\0\0\x01\0\0\0\0\0\0\0\0\0\0\0\0\0\0\0\0";
+
+// One client for each of the workers 0 and 1.
+#[derive(Drop)]
+struct Clients {
+    alloc: Global,
+    // A bit for each worker that has had its client.
+    given: AtomicU64,
+    right: AtomicU64,
+}
+
+impl Accept<StreamSource<Pieces<'static>>, StreamSink<Room>> for Clients {
+    fn next(&self, worker: u32) -> Option<(StreamSource<Pieces<'static>>, StreamSink<Room>)> {
+        let bit = 1 << worker.min(2);
+        if self.given.fetch_or(bit, Ordering::SeqCst) & bit != 0 {
+            return None;
+        }
+        let reader = StreamSource::new(Pieces {
+            rest: COUNT,
+            size: 1 << 14,
+            fails: false,
+        });
+        Some((reader, StreamSink::new(Room::new(self.alloc, ROOM))))
+    }
+
+    fn ended(
+        &self,
+        _worker: u32,
+        _reader: StreamSource<Pieces<'static>>,
+        writer: StreamSink<Room>,
+        end: SessionEnd,
+    ) {
+        if end == SessionEnd::Closed && writer.into_inner().bytes.as_slice() == COUNTED {
+            self.right.fetch_add(1, Ordering::SeqCst);
+        }
+    }
+}
+
+// The bits of the workers 0 and 1.
+const BOTH: u64 = 3;
+
+// Holds each worker before it answers until the workers 0 and 1 have come there.
+#[derive(Drop)]
+struct Meeting {
+    come: AtomicU64,
+    gone_alone: AtomicU64,
+}
+
+impl Gate for Meeting {
+    fn pass(&self, place: Place, worker: u32) {
+        if place != Place::Request {
+            return;
+        }
+        self.come.fetch_or(1 << worker.min(2), Ordering::SeqCst);
+        for _ in 0..TURNS {
+            if self.come.load(Ordering::SeqCst) & BOTH == BOTH {
+                return;
+            }
+            thread::yield_now();
+        }
+        self.gone_alone.fetch_add(1, Ordering::SeqCst);
+    }
+}
+
+// What a caller is to do, and has done: it puts 1, 2 and so on under the key `d`, so often at most, until it is told to stop.
+#[derive(Drop)]
+struct Calls {
+    most: u64,
+    made: AtomicU64,
+    stop: AtomicU64,
+    late: AtomicU64,
+}
+
+impl Calls {
+    fn new(most: u64) -> Calls {
+        Calls {
+            most,
+            made: AtomicU64::new(0),
+            stop: AtomicU64::new(0),
+            late: AtomicU64::new(0),
+        }
+    }
+
+    // Waits until the first call was made, where one is to be made.
+    fn wait(&self) {
+        for _ in 0..TURNS {
+            if self.made.load(Ordering::SeqCst) >= self.most.min(1) {
+                return;
+            }
+            thread::yield_now();
+        }
+        self.late.store(1, Ordering::SeqCst);
+    }
+}
+
+// Puts the number under the key `d`; whether the one before it was there.
+fn put<R: Wait>(rt: &R, map: &StripedMap, pass: &mut Pass, number: u64) -> bool
+    requires { pass.old.map ≡ map.now }
+    ensures { pass.new.map ≡ map.now }
+{
+    let bytes = number.to_le_bytes();
+    let (Ok(key), Ok(value)) = (Key::from_slice(b"d"), Value::from_slice(&bytes)) else {
+        return false;
+    };
+    let (key, value) = (&key, &value);
+    let before = number.wrapping_sub(1).to_le_bytes();
+    match map.call(rt, pass, &Call::Put { key, value }) {
+        Ok(Reply::Value(Some(found))) => found.as_slice() == before.as_slice(),
+        _ => false,
+    }
+}
+
+// Makes the calls; whether each replied the number before its own. The pass comes back.
+fn make_calls<R: Wait>(rt: &R, map: &StripedMap, mut pass: Pass, calls: &Calls) -> (Pass, bool)
+    requires { pass.map ≡ map.now }
+    ensures { result.0.map ≡ map.now }
+{
+    let mut right = true;
+    for number in 1..=calls.most {
+        if calls.stop.load(Ordering::SeqCst) > 0 {
+            return (pass, right);
+        }
+        right &= put(rt, map, &mut pass, number);
+        calls.made.fetch_add(1, Ordering::SeqCst);
+    }
+    (pass, right)
+}
+
+// What the sessions and the calls come to.
+#[derive(Drop)]
+struct Told {
+    clients: Clients,
+    gate: Meeting,
+    calls: Calls,
+}
+
+impl Told {
+    fn new(alloc: Global, most: u64) -> Told {
+        Told {
+            clients: Clients {
+                alloc,
+                given: AtomicU64::new(0),
+                right: AtomicU64::new(0),
+            },
+            gate: Meeting {
+                come: AtomicU64::new(0),
+                gone_alone: AtomicU64::new(0),
+            },
+            calls: Calls::new(most),
+        }
+    }
+}
+
+// Serves the clients, once the calls have begun; then the calls are to stop.
+fn serve_both<R: Threads + Wait + Sync>(
+    rt: &R,
+    alloc: Global,
+    map: &StripedMap,
+    registry: &Registry,
+    crews: Vec<Crew>,
+    told: &Told,
+) -> Result<Vec<Crew>, NoMemory>
+    requires { All (λ crew. IsCrewOf map.now crew) crews.items }
+{
+    told.calls.wait();
+    let back = serve(rt, alloc, &told.clients, map, registry, crews, &told.gate);
+    told.calls.stop.store(1, Ordering::SeqCst);
+    back
+}
+
+// Both at once, each in a thread of its own.
+fn serve_beside<R: Threads + Wait + Sync>(
+    rt: &R,
+    alloc: Global,
+    map: &StripedMap,
+    registry: &Registry,
+    crews: Vec<Crew>,
+    pass: Pass,
+    told: &Told,
+) -> ((Pass, bool), Result<Vec<Crew>, NoMemory>)
+    requires crews { All (λ crew. IsCrewOf map.now crew) crews.items }
+    requires pass { pass.map ≡ map.now }
+    ensures { result.0.0.map ≡ map.now }
+{
+    thread::join(
+        rt,
+        move || -> (Pass, bool)
+            requires { pass.map ≡ map.now }
+            ensures { result.0.map ≡ map.entry.now }
+        { make_calls(rt, map, pass, &told.calls) },
+        move || -> Result<Vec<Crew>, NoMemory>
+            requires { All (λ crew. IsCrewOf map.now crew) crews.items }
+        { serve_both(rt, alloc, map, registry, crews, told) },
+    )
+}
+
+// The two sessions beside so many calls at most.
+fn meet_beside<R: Threads + Wait + Abort + Sync>(
+    rt: &R,
+    alloc: Global,
+    most: u64,
+) -> Result<(), Fail> {
+    let (map, one, other, mut pass) = crews_and_pass(alloc).ok_or("no map")?;
+    let registry = Registry::new(alloc)?;
+    let told = Told::new(alloc, most);
+    put(rt, &map, &mut pass, 0);
+    let crews = vec![in alloc; one, other]?;
+    let ((mut pass, right), back) = serve_beside(rt, alloc, &map, &registry, crews, pass, &told);
+    let back = back?;
+    assert!(rt; back.len() == 2 && back[0].worker == 0 && back[1].worker == 1);
+    assert!(rt; told.clients.right.load(Ordering::SeqCst) == 2, "answers");
+    assert!(rt; told.gate.come.load(Ordering::SeqCst) == BOTH, "workers");
+    assert!(rt; told.gate.gone_alone.load(Ordering::SeqCst) == 0, "alone");
+    assert!(rt;
+        right && told.calls.late.load(Ordering::SeqCst) == 0,
+        "calls"
+    );
+    let key = &Key::from_slice(b"d")?;
+    let found = map.call(rt, &mut pass, &Call::Get { key })?;
+    let Reply::Value(Some(last)) = found else {
+        return Err("no number".into());
+    };
+    let made = told.calls.made.load(Ordering::SeqCst);
+    assert!(rt;
+        last.as_slice() == made.to_le_bytes().as_slice(),
+        "{made} calls"
+    );
+    Ok(())
+}
+
+#[test]
+fn server_uses_workers(rt: HostRuntime) -> Result<(), Fail> {
+    meet_beside(&rt, rt.alloc(), 0)
+}
+
+#[test]
+fn server_uses_workers_beside_a_caller(rt: HostRuntime) -> Result<(), Fail> {
+    meet_beside(&rt, rt.alloc(), CALLS)
+}

@@ -1,0 +1,110 @@
+//! Rows of calls by several passes, in one thread and in many.
+ghost use Rattle.std.specs.Prelude.{◌≡◌, All, IfOk};
+
+use atomic_methods::{Call, Reply};
+use bin_stripes::{CallFault, Gate, OpenFault, OpenGate, Pass, Place, StripedMap};
+use bins::Counts;
+use bpf_model::{Key, TooLong, Value};
+use map_tests::programs::{ONE, summing};
+use std::alloc::Global;
+use std::sync::Wait;
+use std::sync::atomic::{AtomicU64, Ordering};
+use std::test::Fail;
+use std::thread;
+use std::thread::Threads;
+use verifier::Verified;
+
+mod many;
+mod rows;
+
+fn key(bytes: &[u8]) -> Result<Key, TooLong> {
+    Key::from_slice(bytes)
+}
+
+fn value(bytes: &[u8]) -> Result<Value, TooLong> {
+    Value::from_slice(bytes)
+}
+
+// Puts an entry.
+fn put<R: Wait>(
+    rt: &R,
+    map: &StripedMap,
+    pass: &mut Pass,
+    name: &[u8],
+    bytes: &[u8],
+) -> Result<(), Fail>
+    requires { pass.old.map ≡ map.now }
+    ensures { pass.new.map ≡ map.now }
+{
+    let key = &key(name)?;
+    let value = &value(bytes)?;
+    map.call(rt, pass, &Call::Put { key, value })?;
+    Ok(())
+}
+
+// The reply to a get.
+fn got<R: Wait>(rt: &R, map: &StripedMap, pass: &mut Pass, name: &[u8]) -> Result<Reply, Fail>
+    requires { pass.old.map ≡ map.now }
+    ensures { pass.new.map ≡ map.now }
+{
+    let key = &key(name)?;
+    Ok(map.call(rt, pass, &Call::Get { key })?)
+}
+
+// Whether the reply is this value.
+fn is_value(reply: &Reply, bytes: &[u8]) -> bool {
+    match reply {
+        Reply::Value(Some(value)) => value.as_slice() == bytes,
+        _ => false,
+    }
+}
+
+// The number under which a map is refused, or 0.
+fn refusal(alloc: Global, stripes: u64, passes: u64) -> u8 {
+    match StripedMap::open(alloc, stripes, passes) {
+        Ok(_) => 0,
+        Err(fault) => fault.number(),
+    }
+}
+
+// A map, whose passes all serve it.
+pub(crate) fn opened(
+    alloc: Global,
+    stripes: u64,
+    passes: u64,
+) -> Result<(StripedMap, Vec<Pass>), OpenFault>
+    ensures all { IfOk result (λ made. All (λ pass. pass.map ≡ made.0) made.1.items) }
+{
+    StripedMap::open(alloc, stripes, passes)
+}
+
+// The entries of a stripe, where the map has it and memory is there.
+fn scanned<R: Wait>(
+    rt: &R,
+    alloc: Global,
+    map: &StripedMap,
+    pass: &mut Pass,
+    stripe: u64,
+) -> Option<Vec<(Key, Value)>>
+    requires { pass.old.map ≡ map.now }
+    ensures { pass.new.map ≡ map.now }
+{
+    if stripe >= map.stripes() {
+        return None;
+    }
+    map.scan_stripe(rt, alloc, pass, stripe).ok()
+}
+
+// The next of the map's passes.
+pub(crate) fn next_pass(map: &StripedMap, passes: &mut Vec<Pass>) -> Result<Pass, Fail>
+    requires all { All (λ pass. pass.map ≡ map.now) passes.old.items }
+    ensures pass { IfOk result (λ pass. pass.map ≡ map.now) }
+    ensures all { All (λ pass. pass.map ≡ map.now) passes.new.items }
+{
+    // For the clauses alone, which name the map.
+    let _ = map;
+    match passes.pop() {
+        Some(pass) => Ok(pass),
+        None => Err("no pass".into()),
+    }
+}

@@ -1,0 +1,285 @@
+//! Several threads on one map.
+ghost use Rattle.std.specs.Prelude.{◌≡◌, All, IfOk};
+
+use super::*;
+
+// The most turns that a thread waits.
+const TURNS: u64 = 10_000_000;
+
+// The most tries of one call; a thread makes at most 250 so.
+const TRIES: u64 = 40_000;
+
+// A gate that holds a worker at `Held` until it is opened.
+#[derive(Drop)]
+struct Shut {
+    come: AtomicU64,
+    open: AtomicU64,
+    alone: AtomicU64,
+}
+
+impl Shut {
+    fn new() -> Shut {
+        Shut {
+            come: AtomicU64::new(0),
+            open: AtomicU64::new(0),
+            alone: AtomicU64::new(0),
+        }
+    }
+
+    // Waits until a worker is held; whether one came.
+    fn wait(&self) -> bool {
+        for _ in 0..TURNS {
+            if self.come.load(Ordering::SeqCst) > 0 {
+                return true;
+            }
+            thread::yield_now();
+        }
+        false
+    }
+}
+
+impl Gate for Shut {
+    fn pass(&self, place: Place, _worker: u32) {
+        if place != Place::Held {
+            return;
+        }
+        self.come.store(1, Ordering::SeqCst);
+        for _ in 0..TURNS {
+            if self.open.load(Ordering::SeqCst) > 0 {
+                return;
+            }
+            thread::yield_now();
+        }
+        self.alone.store(1, Ordering::SeqCst);
+    }
+}
+
+// Replaces the values of stripe 0, behind the gate.
+fn hold<R: Wait>(rt: &R, map: &StripedMap, mut pass: Pass, program: &Verified, gate: &Shut)
+    requires { pass.map ≡ map.now }
+{
+    if map.stripes() > 0 {
+        map.replace_stripe(rt, &mut pass, 0, program, &None, gate, 0);
+    }
+}
+
+// While stripe 0 is held: whether a call on the key of stripe 1 is made, and one on the key of stripe 0 refused as busy.
+// Then the gate opens.
+fn beside(map: &StripedMap, mut pass: Pass, gate: &Shut) -> (bool, bool)
+    requires { pass.map ≡ map.now }
+{
+    let (Ok(free), Ok(held)) = (key(b"b"), key(b"a")) else {
+        return (false, false);
+    };
+    let came = gate.wait();
+    let apart = map.try_call(&mut pass, &Call::Get { key: &free }).is_ok();
+    let call = Call::Get { key: &held };
+    let busy = matches!(map.try_call(&mut pass, &call), Err(CallFault::Busy));
+    gate.open.store(1, Ordering::SeqCst);
+    (came && apart, busy)
+}
+
+// Both at once, each in a thread of its own.
+fn hold_beside<R: Threads + Wait + Sync>(
+    rt: &R,
+    map: &StripedMap,
+    holder: Pass,
+    other: Pass,
+    program: &Verified,
+    gate: &Shut,
+) -> (bool, bool)
+    requires holder { holder.map ≡ map.now }
+    requires other { other.map ≡ map.now }
+{
+    let (_, told) = thread::join(
+        rt,
+        move || -> bool
+            requires { holder.map ≡ map.now }
+        {
+            hold(rt, map, holder, program, gate);
+            true
+        },
+        move || -> (bool, bool)
+            requires { other.map ≡ map.now }
+        { beside(map, other, gate) },
+    );
+    told
+}
+
+#[test]
+fn stripes_apart(rt: HostRuntime) -> Result<(), Fail> {
+    let program = summing(rt.alloc())?;
+    let (map, mut passes) = opened(rt.alloc(), 2, 2)?;
+    let holder = next_pass(&map, &mut passes)?;
+    let other = next_pass(&map, &mut passes)?;
+    // The key 61 lies in stripe 0, and 62 in stripe 1.
+    let gate = Shut::new();
+    let (answered, busy) = hold_beside(&rt, &map, holder, other, &program, &gate);
+    assert!(rt; answered, "the other stripe was not free");
+    assert!(rt; busy, "the held stripe was free");
+    assert_eq!(rt; gate.alone.load(Ordering::SeqCst), 0);
+    Ok(())
+}
+
+// Tries the call until it is made; whether it was.
+fn tried(map: &StripedMap, pass: &mut Pass, call: &Call) -> bool
+    requires { pass.old.map ≡ map.now }
+    ensures { pass.new.map ≡ map.now }
+{
+    for _ in 0..TRIES {
+        match map.try_call(pass, call) {
+            Ok(_) => return true,
+            Err(CallFault::Busy) => thread::yield_now(),
+            Err(CallFault::NoMemory) => return false,
+        }
+    }
+    false
+}
+
+// Merges 1 on the key.
+fn merge_one<R: Wait>(rt: &R, map: &StripedMap, pass: &mut Pass, program: &Verified, by_tries: bool)
+    requires { pass.old.map ≡ map.now }
+    ensures { pass.new.map ≡ map.now }
+{
+    let (Ok(key), Ok(value)) = (key(b"a"), value(&ONE)) else {
+        return;
+    };
+    let call = Call::Merge {
+        key: &key,
+        value: &value,
+        program,
+    };
+    if by_tries {
+        tried(map, pass, &call);
+    } else {
+        let _ = map.call(rt, pass, &call);
+    }
+}
+
+// Merges 1 so many times, each second one by tries, and gives the pass back.
+fn merges<R: Wait>(rt: &R, map: &StripedMap, mut pass: Pass, program: &Verified, times: u64) -> Pass
+    requires { pass.map ≡ map.now }
+    ensures { result.map ≡ map.now }
+{
+    for turn in 0..times {
+        merge_one(rt, map, &mut pass, program, turn % 2 == 1);
+    }
+    pass
+}
+
+// Two threads merge, and their passes are joined.
+fn merged_by_two<R: Threads + Wait + Sync>(
+    rt: &R,
+    map: &StripedMap,
+    one: Pass,
+    other: Pass,
+    program: &Verified,
+    times: u64,
+) -> Pass
+    requires one { one.map ≡ map.now }
+    requires other { other.map ≡ map.now }
+    ensures { result.map ≡ map.now }
+{
+    let (one, other) = thread::join(
+        rt,
+        move || -> Pass
+            requires { one.map ≡ map.now }
+            ensures { result.map ≡ map.entry.now }
+        { merges(rt, map, one, program, times) },
+        move || -> Pass
+            requires { other.map ≡ map.now }
+            ensures { result.map ≡ map.entry.now }
+        { merges(rt, map, other, program, times) },
+    );
+    map.join(one, other)
+}
+
+#[test]
+fn two_threads_merge_on_one_key(rt: HostRuntime) -> Result<(), Fail> {
+    let program = summing(rt.alloc())?;
+    let (map, mut passes) = opened(rt.alloc(), 16, 2)?;
+    let second = next_pass(&map, &mut passes)?;
+    let first = next_pass(&map, &mut passes)?;
+    let mut both = merged_by_two(&rt, &map, first, second, &program, 500);
+    let found = got(&rt, &map, &mut both, b"a")?;
+    assert!(rt; is_value(&found, &[0xe8, 0x03, 0, 0, 0, 0, 0, 0]));
+    Ok(())
+}
+
+// Four threads merge, and their passes are joined.
+fn merged_by_four<R: Threads + Wait + Sync>(
+    rt: &R,
+    map: &StripedMap,
+    first: (Pass, Pass),
+    second: (Pass, Pass),
+    program: &Verified,
+) -> Pass
+    requires first { (first.0.map ≡ map.now) × (first.1.map ≡ map.now) }
+    requires second { (second.0.map ≡ map.now) × (second.1.map ≡ map.now) }
+    ensures { result.map ≡ map.now }
+{
+    let (one, other) = thread::join(
+        rt,
+        move || -> Pass
+            requires { (first.0.map ≡ map.now) × (first.1.map ≡ map.now) }
+            ensures { result.map ≡ map.entry.now }
+        { merged_by_two(rt, map, first.0, first.1, program, 250) },
+        move || -> Pass
+            requires { (second.0.map ≡ map.now) × (second.1.map ≡ map.now) }
+            ensures { result.map ≡ map.entry.now }
+        { merged_by_two(rt, map, second.0, second.1, program, 250) },
+    );
+    map.join(one, other)
+}
+
+// The next two of the map's passes.
+fn next_two(map: &StripedMap, passes: &mut Vec<Pass>) -> Result<(Pass, Pass), Fail>
+    requires { All (λ pass. pass.map ≡ map.now) passes.old.items }
+    ensures two { IfOk result (λ two. (two.0.map ≡ map.now) × (two.1.map ≡ map.now)) }
+    ensures all { All (λ pass. pass.map ≡ map.now) passes.new.items }
+{
+    let one = next_pass(map, passes)?;
+    let other = next_pass(map, passes)?;
+    Ok((one, other))
+}
+
+// A pass for each of eight threads, in two halves of two pairs.
+type Fours = ((Pass, Pass), (Pass, Pass));
+
+// Eight threads merge, and their passes are joined.
+fn merged_by_eight<R: Threads + Wait + Sync>(
+    rt: &R,
+    map: &StripedMap,
+    first: Fours,
+    second: Fours,
+    program: &Verified,
+) -> Pass
+    requires first { (first.0.0.map ≡ map.now) × (first.0.1.map ≡ map.now) × (first.1.0.map ≡ map.now) × (first.1.1.map ≡ map.now) }
+    requires second { (second.0.0.map ≡ map.now) × (second.0.1.map ≡ map.now) × (second.1.0.map ≡ map.now) × (second.1.1.map ≡ map.now) }
+    ensures { result.map ≡ map.now }
+{
+    let (one, other) = thread::join(
+        rt,
+        move || -> Pass
+            requires { (first.0.0.map ≡ map.now) × (first.0.1.map ≡ map.now) × (first.1.0.map ≡ map.now) × (first.1.1.map ≡ map.now) }
+            ensures { result.map ≡ map.entry.now }
+        { merged_by_four(rt, map, first.0, first.1, program) },
+        move || -> Pass
+            requires { (second.0.0.map ≡ map.now) × (second.0.1.map ≡ map.now) × (second.1.0.map ≡ map.now) × (second.1.1.map ≡ map.now) }
+            ensures { result.map ≡ map.entry.now }
+        { merged_by_four(rt, map, second.0, second.1, program) },
+    );
+    map.join(one, other)
+}
+
+#[test]
+fn eight_threads_merge_on_one_key(rt: HostRuntime) -> Result<(), Fail> {
+    let program = summing(rt.alloc())?;
+    let (map, mut passes) = opened(rt.alloc(), 16, 8)?;
+    let first = (next_two(&map, &mut passes)?, next_two(&map, &mut passes)?);
+    let second = (next_two(&map, &mut passes)?, next_two(&map, &mut passes)?);
+    let mut all = merged_by_eight(&rt, &map, first, second, &program);
+    let found = got(&rt, &map, &mut all, b"a")?;
+    assert!(rt; is_value(&found, &[0xd0, 0x07, 0, 0, 0, 0, 0, 0]));
+    Ok(())
+}

@@ -1,0 +1,294 @@
+//! Two workers are at one place at once, each under its own number: alone, and beside a thread that makes calls.
+ghost use Rattle.std.specs.Prelude.{◌≡◌, All};
+
+use super::*;
+use std::process::Abort;
+
+// The most turns that a thread waits for others.
+const TURNS: u64 = 10_000_000;
+
+// The most calls that are made beside walks.
+const CALLS: u64 = 10_000_000;
+
+// The bits of the workers 0 and 1.
+const BOTH: u64 = 3;
+
+// Holds each worker at a place until the workers 0 and 1 have come there.
+#[derive(Drop)]
+struct Meeting {
+    place: Place,
+    // A bit for each worker that has come, by its number: bit 2 for every number above 1.
+    come: AtomicU64,
+    passed: AtomicU64,
+    gone_alone: AtomicU64,
+}
+
+impl Meeting {
+    fn at(place: Place) -> Meeting {
+        Meeting {
+            place,
+            come: AtomicU64::new(0),
+            passed: AtomicU64::new(0),
+            gone_alone: AtomicU64::new(0),
+        }
+    }
+
+    // Whether the workers 0 and 1 came, nobody else, each as often as the other; and met.
+    fn was_of_both(&self) -> bool {
+        self.come.load(Ordering::SeqCst) == BOTH
+            && self.passed.load(Ordering::SeqCst) == 2
+            && self.gone_alone.load(Ordering::SeqCst) == 0
+    }
+
+    // The same, and whether their walk replied this.
+    fn gave(
+        &self,
+        reply: &Result<WalkReply, NoMemory>,
+        items: &[(&[u8], &[u8])],
+        counts: (u64, u64, u64),
+    ) -> bool {
+        let Ok(reply) = reply else { return false };
+        self.was_of_both() && is_reply(reply, items, counts)
+    }
+}
+
+impl Gate for Meeting {
+    fn pass(&self, place: Place, worker: u32) {
+        if place != self.place {
+            return;
+        }
+        self.passed.fetch_add(1, Ordering::SeqCst);
+        self.come.fetch_or(1 << worker.min(2), Ordering::SeqCst);
+        for _ in 0..TURNS {
+            if self.come.load(Ordering::SeqCst) & BOTH == BOTH {
+                return;
+            }
+            thread::yield_now();
+        }
+        self.gone_alone.fetch_add(1, Ordering::SeqCst);
+    }
+}
+
+// What a caller is to do, and has done: it merges 1 on the key `d`, so often at most, until it is told to stop.
+#[derive(Drop)]
+struct Calls {
+    most: u64,
+    made: AtomicU64,
+    stop: AtomicU64,
+    late: AtomicU64,
+}
+
+impl Calls {
+    fn new(most: u64) -> Calls {
+        Calls {
+            most,
+            made: AtomicU64::new(0),
+            stop: AtomicU64::new(0),
+            late: AtomicU64::new(0),
+        }
+    }
+
+    // Waits until the first call was made, where one is to be made.
+    fn wait(&self) {
+        for _ in 0..TURNS {
+            if self.made.load(Ordering::SeqCst) >= self.most.min(1) {
+                return;
+            }
+            thread::yield_now();
+        }
+        self.late.store(1, Ordering::SeqCst);
+    }
+}
+
+// The walk whose workers did not meet, or whose reply was another.
+#[derive(Clone, Copy, Debug)]
+enum Wrong {
+    Search,
+    Count,
+    Replacement,
+}
+
+// Merges 1 on the key `d`; the sum.
+fn merge<R: Wait>(rt: &R, map: &StripedMap, pass: &mut Pass, program: &Verified) -> Option<u64>
+    requires { pass.old.map ≡ map.now }
+    ensures { pass.new.map ≡ map.now }
+{
+    let key = &Key::from_slice(b"d").ok()?;
+    let value = &Value::from_slice(&ONE).ok()?;
+    let call = Call::Merge {
+        key,
+        value,
+        program,
+    };
+    match map.call(rt, pass, &call) {
+        Ok(Reply::Value(Some(sum))) => number_of(sum.as_slice()),
+        _ => None,
+    }
+}
+
+// Makes the calls; whether each replied a greater number than the one before it. The pass comes back.
+fn make_calls<R: Wait>(
+    rt: &R,
+    map: &StripedMap,
+    mut pass: Pass,
+    program: &Verified,
+    calls: &Calls,
+) -> (Pass, bool)
+    requires { pass.map ≡ map.now }
+    ensures { result.0.map ≡ map.now }
+{
+    let mut last = 1;
+    let mut rose = true;
+    for _ in 0..calls.most {
+        if calls.stop.load(Ordering::SeqCst) > 0 {
+            return (pass, rose);
+        }
+        let sum = merge(rt, map, &mut pass, program).unwrap_or(0);
+        rose &= sum > last;
+        last = sum;
+        calls.made.fetch_add(1, Ordering::SeqCst);
+    }
+    (pass, rose)
+}
+
+// Whether the workers met at the place, and replaced the values of all entries but one.
+fn replace_at<R: Threads + Wait + Sync>(
+    rt: &R,
+    alloc: Global,
+    map: &StripedMap,
+    team: Team,
+    program: &Verified,
+    place: Place,
+) -> Result<(), Wrong>
+    requires { All (λ pass. pass.map ≡ map.now) team.passes.items }
+{
+    let arg = Value::from_slice(&ONE).ok();
+    let gate = Meeting::at(place);
+    let (_, reply) = replace_all(rt, alloc, map, team, program, &arg, &gate);
+    if gate.gave(&reply, &[], (4, 3, 1)) {
+        Ok(())
+    } else {
+        Err(Wrong::Replacement)
+    }
+}
+
+// A walk of each kind, whose workers meet as they start; else which was not so.
+fn start_each<R: Threads + Wait + Sync>(
+    rt: &R,
+    alloc: Global,
+    map: &StripedMap,
+    team: Team,
+    program: &Verified,
+) -> Result<(), Wrong>
+    requires { All (λ pass. pass.map ≡ map.now) team.passes.items }
+{
+    let arg = Value::from_slice(&ONE).ok();
+    let items: [(&[u8], &[u8]); 1] = [(b"a", &TWO)];
+    let gate = Meeting::at(Place::WalkStart);
+    let (team, reply) = search(rt, alloc, map, team, program, &arg, 0, &gate);
+    if !gate.gave(&reply, &items, (4, 1, 1)) {
+        return Err(Wrong::Search);
+    }
+    let gate = Meeting::at(Place::WalkStart);
+    let (team, reply) = mapping_count(rt, alloc, map, team, &gate);
+    if !gate.gave(&reply, &[], (4, 0, 0)) {
+        return Err(Wrong::Count);
+    }
+    replace_at(rt, alloc, map, team, program, Place::WalkStart)
+}
+
+// The walks whose workers meet at the place, once the calls have begun; then the calls are to stop.
+fn walk<R: Threads + Wait + Sync>(
+    rt: &R,
+    alloc: Global,
+    map: &StripedMap,
+    team: Team,
+    program: &Verified,
+    place: Place,
+    calls: &Calls,
+) -> Result<(), Wrong>
+    requires { All (λ pass. pass.map ≡ map.now) team.passes.items }
+{
+    calls.wait();
+    let walked = match place {
+        Place::WalkStart => start_each(rt, alloc, map, team, program),
+        _ => replace_at(rt, alloc, map, team, program, place),
+    };
+    calls.stop.store(1, Ordering::SeqCst);
+    walked
+}
+
+// Both at once, each in a thread of its own.
+fn walk_beside<R: Threads + Wait + Sync>(
+    rt: &R,
+    alloc: Global,
+    map: &StripedMap,
+    pass: Pass,
+    team: Team,
+    program: &Verified,
+    place: Place,
+    calls: &Calls,
+) -> ((Pass, bool), Result<(), Wrong>)
+    requires pass { pass.map ≡ map.now }
+    requires team { All (λ pass. pass.map ≡ map.now) team.passes.items }
+    ensures { result.0.0.map ≡ map.now }
+{
+    thread::join(
+        rt,
+        move || -> (Pass, bool)
+            requires { pass.map ≡ map.now }
+            ensures { result.0.map ≡ map.entry.now }
+        { make_calls(rt, map, pass, program, calls) },
+        move || -> Result<(), Wrong>
+            requires { All (λ pass. pass.map ≡ map.now) team.passes.items }
+        { walk(rt, alloc, map, team, program, place, calls) },
+    )
+}
+
+// The walks whose workers meet at the place, beside so many calls at most. In the end each call and the one replacement have
+// added 1 to the number at `d`.
+fn meet_beside<R: Threads + Wait + Abort + Sync>(
+    rt: &R,
+    alloc: Global,
+    place: Place,
+    most: u64,
+) -> Result<(), Fail> {
+    let program = summing(alloc)?;
+    let (map, mut pass, team) = opened(alloc, 2, 2)?;
+    fill(rt, &map, &mut pass)?;
+    put(rt, &map, &mut pass, b"d", &ONE).ok_or("no room")?;
+    let calls = Calls::new(most);
+    let ((mut pass, rose), walked) = walk_beside(
+        rt, alloc, &map, pass, team, &program, place, &calls,
+    );
+    walked?;
+    assert!(rt; rose && calls.late.load(Ordering::SeqCst) == 0, "calls");
+    let key = &Key::from_slice(b"d")?;
+    let found = map.call(rt, &mut pass, &Call::Get { key })?;
+    let Reply::Value(Some(sum)) = found else {
+        return Err("no sum".into());
+    };
+    let made = calls.made.load(Ordering::SeqCst);
+    assert_eq!(rt; number_of(sum.as_slice()), Some(made.wrapping_add(2)));
+    Ok(())
+}
+
+#[test]
+fn walks_use_workers_by_their_numbers(rt: HostRuntime) -> Result<(), Fail> {
+    meet_beside(&rt, rt.alloc(), Place::WalkStart, 0)
+}
+
+#[test]
+fn walks_use_workers_beside_a_caller(rt: HostRuntime) -> Result<(), Fail> {
+    meet_beside(&rt, rt.alloc(), Place::WalkStart, CALLS)
+}
+
+#[test]
+fn stripes_are_held_at_once_by_their_workers(rt: HostRuntime) -> Result<(), Fail> {
+    meet_beside(&rt, rt.alloc(), Place::Held, 0)
+}
+
+#[test]
+fn stripes_are_held_at_once_beside_a_caller(rt: HostRuntime) -> Result<(), Fail> {
+    meet_beside(&rt, rt.alloc(), Place::Held, CALLS)
+}
