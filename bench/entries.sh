@@ -1,6 +1,7 @@
 #!/usr/bin/env bash
 # Times what is done to bins of many entries: nanoseconds a call, the median of five, the making of the key and its hash among
-# them ('nothing' is that alone). Then bytes an entry, where GNU time is there. By hand, not by the gate. It takes two minutes.
+# them ('nothing' is that alone). Then bytes an entry, by how the greatest memory grows between so many entries and twice as
+# many, where GNU time is there. By hand, not by the gate. It takes two minutes.
 source "$(dirname "$0")/common.sh"
 
 side() { "$bench" entries "$@"; }
@@ -16,12 +17,12 @@ a_call() {
 resident() { command time -f %M "$bench" entries nothing "$1" 0 2>&1 > "$work/out"; }
 
 for entries in 1000 100000 1000000; do
-    for name in nothing find change put remove; do
+    for name in nothing find put remove; do
         echo "$entries entries, $name: $(a_call $name $entries) ns"
     done
 done
 if type -P time > /dev/null; then
     for entries in 100000 1000000; do
-        echo "$entries entries: $((($(resident $entries) - $(resident 1)) * 1024 / entries)) bytes an entry"
+        echo "$entries to $((2 * entries)) entries: $((($(resident $((2 * entries))) - $(resident $entries)) * 1024 / entries)) bytes an entry"
     done
 fi

@@ -70,8 +70,8 @@ for kind in get put merge; do
         done
     done
 done
-measure_calls "merge, a key for each of 4 threads, words side by side" merge near 4 200000
-measure_calls "merge, a key for each of 4 threads, words 8 apart" merge apart 4 200000
+measure_calls "merge, a key for each of 4 threads, in stripes side by side" merge near 4 200000
+measure_calls "merge, a key for each of 4 threads, in stripes 8 apart" merge apart 4 200000
 for kind in get put merge; do measure_session $kind 200; done
 measure_walk for_each 100000 5
 measure_walk mapping_count 100000 5

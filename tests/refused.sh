@@ -75,6 +75,7 @@ refuse_between_marks() {
 
 refuse_each map_tests entries::a_refused_put_leaves_the_list
 refuse_each map_tests entries::a_refused_put_leaves_the_bins
+refuse_each map_tests entries::a_refused_put_leaves_the_tree
 refuse_each map_tests calls::stripes::a_refused_open_can_be_made_again 64
 refuse_each map_tests calls::stripes::a_refused_call_leaves_the_table
 refuse_each map_tests calls::stripes::a_stopped_run_made_the_calls_that_were_replied_to

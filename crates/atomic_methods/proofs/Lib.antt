@@ -4,5 +4,5 @@ pub mod EntryLemmas
 pub mod WholeLemmas
 pub mod RunLemmas
 pub mod ReplaceLemmas
-pub mod RowLemmas
 pub mod OneReply
+pub mod WalkLemmas

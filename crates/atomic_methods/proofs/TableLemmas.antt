@@ -1,10 +1,11 @@
 -- Edits of a table, one after another.
-use Rattle.std.proofs.Common.{◌≡◌, ℕ, List, Bool, true, false, cond, Some, None, refl, sym, ap, ◌∙◌}
+use Rattle.std.proofs.Common.{◌≡◌, ℕ, List, Bool, true, false, cond, is_eq, Option, Some, None, Ordering, Less, Equal, Greater, refl, sym, ap, ◌∙◌}
 use Rattle.std.specs.Ordering.{eq_by_cmp}
 use Rattle.std.specs.FinMap as map
-use Rattle.std.specs.FinMap.{same_map, get-insert, get-remove}
+use Rattle.std.specs.FinMap.{same_map, get-insert, get-remove, get_tied}
 use Rattle.bins.specs.Table.{Table, by_bytes}
-use Rattle.bins.proofs.MapEdits.{total, antisymmetric}
+use Rattle.bins.proofs.MapEdits.{total, antisymmetric, remove_absent}
+use Rattle.atomic_methods.specs.Methods.{with_value}
 
 twice : {A : Type 0} (b : Bool) (x y z : A) → cond b x (cond b y z) ≡ cond b x z
 twice true x y z = refl
@@ -17,3 +18,17 @@ remove-insert table key value = same_map total antisymmetric _ _ (λ q.
     ∙ ap (cond (eq_by_cmp by_bytes q key) None) (get-insert total table key value q)
     ∙ twice (eq_by_cmp by_bytes q key) None (Some value) (map.get table q)
     ∙ sym (get-remove total table key q))
+
+present_at : (table : Table) (key value q : List ℕ) (r : Ordering) → map.get table key ≡ Some value → by_bytes q key ≡ r → cond (is_eq r) (Some value) (map.get table q) ≡ map.get table q
+present_at table key value q Less found e = refl
+present_at table key value q Equal found e = sym found ∙ get_tied total table q key e
+present_at table key value q Greater found e = refl
+
+-- to enter the value that a key has changes nothing
+pub insert-same : (table : Table) (key value : List ℕ) → map.get table key ≡ Some value → map.insert table key value ≡ table
+insert-same table key value found = same_map total antisymmetric _ _ (λ q. get-insert total table key value q ∙ present_at table key value q (by_bytes q key) found refl)
+
+-- a key keeps what it has
+pub keeps : (table : Table) (key : List ℕ) (value : Option (List ℕ)) → map.get table key ≡ value → table ≡ with_value table key value
+keeps table key (Some value) is = sym (insert-same table key value is)
+keeps table key None is = sym (remove_absent table key is)

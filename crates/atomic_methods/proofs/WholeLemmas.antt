@@ -6,8 +6,10 @@ use Rattle.std.specs.FinMap.{find, get-empty, get-insert, get-remove, get-entrie
 use Rattle.std.proofs.lemmas.Bool.{cases_eq}
 use Rattle.std.proofs.lemmas.List.{length-set, get_or-set_same, get_or-set_other, get_or_read, set-get_or, take_more, append-nil}
 use Rattle.std.proofs.lemmas.Grind.{flat_map-append}
+use Rattle.std.proofs.lemmas.List.Sums.{sum_by-append}
 use Rattle.bpf_model.specs.declared.memory.NoMemory.{NoMemory}
-use Rattle.bins.specs.Table.{Table, by_bytes}
+use Rattle.bins.specs.Table.{Entry, Table, by_bytes}
+use Rattle.bins.specs.Copies.{WeighSame}
 use Rattle.bins.specs.Entries.{Distinct}
 use Rattle.bins.proofs.MapEdits.{total, antisymmetric}
 use Rattle.bins.proofs.DistinctEntries.{alike}
@@ -153,3 +155,7 @@ pub all_entries-more : (ts : List Table) (n : ℕ) (t : Table) → n < length ts
 all_entries-more ts n t lt is =
     ap all_entries (take_more ts n t lt ∙ ap (λ (x : Table). take n ts ++ x ∷ []) (sym is)) ∙ flat_map-append map.entries (take n ts) (t ∷ [])
     ∙ ap (λ (es : List (List ℕ × List ℕ)). all_entries (take n ts) ++ es) (append-nil (map.entries t))
+
+-- lists that weigh the same still do with copies of one stripe's entries more
+pub weigh_more : (found before copies more : List Entry) → WeighSame found before → WeighSame copies more → WeighSame (found ++ copies) (before ++ more)
+weigh_more found before copies more same are = λ weight. sum_by-append weight found copies ∙ (λ i. same weight i + are weight i) ∙ sym (sum_by-append weight before more)

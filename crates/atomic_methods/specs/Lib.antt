@@ -6,4 +6,3 @@ pub mod Runs
 pub mod Faults
 pub mod Plans
 pub mod Replies
-pub mod Rows

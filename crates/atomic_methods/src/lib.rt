@@ -3,30 +3,32 @@
 //! The promise to the layers above: `apply` does to the entries, and replies, what the definition of its method says
 //! (`Answers`), and so does `Striped::apply` to a whole table; `Striped::run` makes a list of calls as the sequential map
 //! would, one after the other (`AnswersInTurn`).
-//! `search`, `for_each` and `count` answer what a walk over entries gives (`IsReply`, `IsCount` of `specs/Replies.antt`). A
-//! team's walk runs its rows one by one (`Row::run`), in any threads, and `reply_of` makes the same reply of them.
+//! `search`, `for_each` and `count` answer what a walk over entries gives (`IsReply`, `IsCount` of `specs/Replies.antt`), in
+//! the place of the entries (`keep_answers`): a walk takes no memory.
 //! `NoMemory` comes only where a call would have added its key, and the entries are then as before. A call that adds no
 //! key takes no memory, and none waits. What each method does: `specs/Methods.antt`; lists of calls: `specs/Runs.antt`.
 #![tactic(auto)]
 
 mod call;
 mod fault;
+mod hashed_call;
 mod methods;
 mod plan;
 mod program;
 mod reply;
-mod row;
 mod striped;
 mod stripes;
 mod walk_reply;
 mod walks;
+mod workspace;
 
 pub use call::Call;
 pub use fault::OpenFault;
+pub use hashed_call::HashedCall;
 pub use methods::{apply, apply_into, replace_each, scan};
 pub use reply::{Reply, ReplyKind};
-pub use row::{Fate, Row};
 pub use striped::{Stopped, Striped};
-pub use stripes::{MAX_STRIPES, is_stripe_count, stripe_of, stripe_of_hash};
-pub use walk_reply::{WalkKind, WalkReply, count_of, reply_of};
-pub use walks::{count, for_each, search, walk};
+pub use stripes::{MAX_STRIPES, is_stripe_count, stripe_of};
+pub use walk_reply::{WalkKind, WalkReply, count_of};
+pub use walks::{count, for_each, keep_answers, search, walk};
+pub use workspace::Workspace;

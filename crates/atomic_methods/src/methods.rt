@@ -1,18 +1,19 @@
 //! The methods, over whatever keeps the entries.
-ghost use Rattle.std.specs.Prelude.{◌≡◌, ◌<◌, ◌^◌, IfOk, OnErr, Some, None};
+ghost use Rattle.std.specs.Prelude.{◌≡◌, ◌<◌, ◌^◌, ℕ, List, IfOk, OnOk, OnErr, Some, None};
+ghost use Rattle.std.specs.Option.{option_copied};
 ghost use Rattle.std.specs.FinMap as map;
-ghost use Rattle.bins.specs.Hashes.{hash as hash_is};
 ghost use Rattle.bins.specs.Replacements.{ReplacesEach};
 ghost use Rattle.atomic_methods.specs.Invocations.{invocation_of};
-ghost use Rattle.atomic_methods.specs.Methods.{rule_of, Follows, LeavesAtKey, Answers, WouldAdd};
-ghost use Rattle.atomic_methods.specs.Plans.{reply_by, where_true};
+ghost use Rattle.atomic_methods.specs.Methods.{rule_of, runs, with_value, Follows, Answers, WouldAdd};
+ghost use Rattle.atomic_methods.specs.Plans.{changed, reply_by, reply_planned, where_true};
 
 use crate::call::Call;
+use crate::hashed_call::HashedCall;
 use crate::plan::{Change, Plan, PlannedReply, plan_of};
 use crate::program::answer_into;
 use crate::reply::{Reply, ReplyKind};
-use bins::{Bins, Counts, hash_of};
-use bpf_machine::Machine;
+use crate::workspace::Workspace;
+use bins::{Bins, Counts, HashedKey};
 use bpf_model::{Key, NoMemory, Value};
 use std::alloc::Global;
 use verifier::Verified;
@@ -24,47 +25,114 @@ pub fn apply<B: Bins>(bins: &mut B, call: &Call) -> Result<Reply, NoMemory>
     ensures err { OnErr result (B.table bins.new ≡ B.table bins.old) }
     ensures memory { OnErr result (WouldAdd (B.table bins.old) (invocation_of call.now)) }
 {
-    let mut machine = Machine::new();
+    let mut workspace = Workspace::new();
     let mut bytes = Value::new();
-    let kind = apply_into(bins, call, hash_of(call.key()), &mut machine, &mut bytes)?;
+    let kind = apply_into(bins, &HashedCall::new(call), &mut workspace, &mut bytes)?;
     Ok(kind.with(bytes))
 }
 
-/// Makes one call, whose key has this hash, as `apply` does. Leaves the bytes of the replied value in `bytes`, so that no
-/// value is moved, and runs programs in `machine`, so that none is cleared; what both held is lost. One search serves a
-/// present key; a program runs before room is asked for.
+/// Makes one call as `apply` does. Leaves the bytes of the replied value in `bytes`, so that no
+/// value is moved, and works in `workspace`, so that none is cleared; what both held is lost. A read makes one search and
+/// one copy; a change of a present key makes one search more. A program runs before room is asked for.
 pub fn apply_into<B: Bins>(
     bins: &mut B,
-    call: &Call,
-    hash: u32,
-    machine: &mut Machine,
+    call: &HashedCall<'_>,
+    workspace: &mut Workspace,
     bytes: &mut Value,
 ) -> Result<ReplyKind, NoMemory>
-    requires hash { hash ≡ hash_is (invocation_of call.now).key }
     ensures ok { IfOk result (λ kind.
-        Answers (B.table bins.old) (invocation_of call.now) (B.table bins.new) (reply_by kind bytes.new)) }
+        Answers (B.table bins.old) call.now (B.table bins.new) (reply_by kind bytes.new)) }
     ensures err { OnErr result (B.table bins.new ≡ B.table bins.old) }
-    ensures memory { OnErr result (WouldAdd (B.table bins.old) (invocation_of call.now)) }
+    ensures memory { OnErr result (WouldAdd (B.table bins.old) call.now) }
 {
-    match bins.find_mut(call.key(), hash) {
-        Some(value) => {
-            let (stays, kind) = change_value(call, value, machine, bytes);
-            if !stays {
-                remove_key(bins, call.key(), hash);
-            }
-            Ok(kind)
+    let Some(old) = bins.find(call.key()) else {
+        return apply_to_absent(bins, call, workspace, bytes);
+    };
+    match plan_of(call.call(), Some(old)) {
+        Plan::Apply(change, told) => {
+            bytes.set_from(old);
+            make_change(bins, call.key(), &change)?;
+            Ok(kind_of(told))
         }
-        None => apply_to_absent(bins, call, hash, machine, bytes),
+        Plan::Give(new) => {
+            bytes.set_from(new.as_slice());
+            bins.put(call.key(), new)?;
+            Ok(ReplyKind::Some)
+        }
+        Plan::Run(program, arg) => {
+            workspace.old.set_from(old);
+            run_on_present(bins, call, (program, arg), workspace, bytes)
+        }
+    }
+}
+
+// Runs a program on a present key, its value, which lies in the workspace, and the argument: the key has the answer then.
+fn run_on_present<B: Bins>(
+    bins: &mut B,
+    call: &HashedCall<'_>,
+    run: (&Verified, Option<&Value>),
+    workspace: &mut Workspace,
+    bytes: &mut Value,
+) -> Result<ReplyKind, NoMemory>
+    requires present { map.get (B.table bins.old) call.now.key ≡ Some workspace.now.old }
+    requires runs { rule_of call.now.method (Some workspace.now.old) ≡ runs run.0.now (option_copied run.1) }
+    ensures ok { IfOk result (λ kind.
+        Answers (B.table bins.old) call.now (B.table bins.new) (reply_by kind bytes.new)) }
+    ensures err { OnErr result (B.table bins.new ≡ B.table bins.old) }
+    ensures memory { OnErr result (WouldAdd (B.table bins.old) call.now) }
+{
+    let (program, arg) = run;
+    let Workspace { machine, old } = workspace;
+    match answer_into(program, call.call().key(), Some(old), arg, machine, bytes) {
+        Ok(true) => {
+            bins.put(call.key(), bytes)?;
+            Ok(ReplyKind::Some)
+        }
+        Ok(false) => {
+            remove_key(bins, call.key());
+            Ok(ReplyKind::None)
+        }
+        Err(part) => Ok(ReplyKind::Unfit(part)),
+    }
+}
+
+// The reply about a present key, whose value is told apart from it.
+fn kind_of(told: PlannedReply) -> ReplyKind
+    ensures value { (old : List ℕ) → reply_by result old ≡ reply_planned told (Some old) }
+{
+    match told {
+        PlannedReply::Done(done) => ReplyKind::Done(done),
+        PlannedReply::Old => ReplyKind::Some,
+    }
+}
+
+// Makes a change of a key's value.
+fn make_change<B: Bins>(
+    bins: &mut B,
+    key: &HashedKey<'_>,
+    change: &Change<'_>,
+) -> Result<(), NoMemory>
+    ensures ok { OnOk result (B.table bins.new ≡
+        with_value (B.table bins.old) key.now (changed change.now (map.get (B.table bins.old) key.now))) }
+    ensures err { OnErr result (B.table bins.new ≡ B.table bins.old) }
+    ensures memory { OnErr result (map.get (B.table bins.old) key.now ≡ None) }
+{
+    match change {
+        Change::Keep => Ok(()),
+        Change::Remove => {
+            remove_key(bins, key);
+            Ok(())
+        }
+        Change::Enter(value) => bins.put(key, value),
     }
 }
 
 // Removes a key. Apart from `apply_into`, so that calls which remove none clear no place for a removed value.
 #[inline(never)]
-fn remove_key<B: Bins>(bins: &mut B, key: &Key, hash: u32)
-    requires hash { hash ≡ hash_is key.now }
+fn remove_key<B: Bins>(bins: &mut B, key: &HashedKey<'_>)
     ensures gone { B.table bins.new ≡ map.remove (B.table bins.old) key.now }
 {
-    bins.remove(key, hash);
+    bins.remove(key);
 }
 
 // Makes a call whose key is absent, as `apply_into` does. Apart from it, so that calls on present keys clear no place for
@@ -72,21 +140,20 @@ fn remove_key<B: Bins>(bins: &mut B, key: &Key, hash: u32)
 #[inline(never)]
 fn apply_to_absent<B: Bins>(
     bins: &mut B,
-    call: &Call,
-    hash: u32,
-    machine: &mut Machine,
+    call: &HashedCall<'_>,
+    workspace: &mut Workspace,
     bytes: &mut Value,
 ) -> Result<ReplyKind, NoMemory>
-    requires hash { hash ≡ hash_is (invocation_of call.now).key }
-    requires absent { map.get (B.table bins.old) (invocation_of call.now).key ≡ None }
+    requires absent { map.get (B.table bins.old) call.now.key ≡ None }
     ensures ok { IfOk result (λ kind.
-        Answers (B.table bins.old) (invocation_of call.now) (B.table bins.new) (reply_by kind bytes.new)) }
+        Answers (B.table bins.old) call.now (B.table bins.new) (reply_by kind bytes.new)) }
     ensures err { OnErr result (B.table bins.new ≡ B.table bins.old) }
-    ensures memory { OnErr result (WouldAdd (B.table bins.old) (invocation_of call.now)) }
+    ensures memory { OnErr result (WouldAdd (B.table bins.old) call.now) }
 {
-    let (enters, kind) = new_value(call, machine, bytes);
+    let (enters, kind) = new_value(call.call(), workspace, bytes);
     if enters {
-        bins.put(call.key().copied(), bytes.copied(), hash)?;
+        let key = call.key();
+        bins.put(key, bytes)?;
     }
     Ok(kind)
 }
@@ -107,58 +174,8 @@ pub fn replace_each<B: Bins>(bins: &mut B, program: &Verified, arg: &Option<Valu
     bins.replace_each(program, arg)
 }
 
-// The call on a present key, whose value is changed in place: whether the key stays, and the reply.
-fn change_value(
-    call: &Call,
-    value: &mut Value,
-    machine: &mut Machine,
-    bytes: &mut Value,
-) -> (bool, ReplyKind)
-    ensures follows { let invocation = invocation_of call.now in
-        Follows (rule_of invocation.method (Some value.old)) invocation.key (Some value.old)
-        (where_true result.0 value.new) (reply_by result.1 bytes.new) }
-{
-    match plan_of(call, Some(value)) {
-        Plan::Apply(change, told) => {
-            let kind = match told {
-                PlannedReply::Done(done) => ReplyKind::Done(done),
-                PlannedReply::Old => ReplyKind::Some,
-            };
-            bytes.set_from(value.as_slice());
-            match change {
-                Change::Keep => (true, kind),
-                Change::Remove => (false, kind),
-                Change::Enter(new) => {
-                    value.set_from(new.as_slice());
-                    (true, kind)
-                }
-            }
-        }
-        Plan::Give(new) => {
-            value.set_from(new.as_slice());
-            bytes.set_from(new.as_slice());
-            (true, ReplyKind::Some)
-        }
-        Plan::Run(program, arg) => match answer_into(
-            program,
-            call.key(),
-            Some(value),
-            arg,
-            machine,
-            bytes,
-        ) {
-            Ok(true) => {
-                value.set_from(bytes.as_slice());
-                (true, ReplyKind::Some)
-            }
-            Ok(false) => (false, ReplyKind::None),
-            Err(part) => (true, ReplyKind::Unfit(part)),
-        },
-    }
-}
-
 // The call on an absent key: whether a value is to be entered, which is then in `bytes`, and the reply.
-fn new_value(call: &Call, machine: &mut Machine, bytes: &mut Value) -> (bool, ReplyKind)
+fn new_value(call: &Call, workspace: &mut Workspace, bytes: &mut Value) -> (bool, ReplyKind)
     ensures follows { let invocation = invocation_of call.now in
         Follows (rule_of invocation.method None) invocation.key None
         (where_true result.0 bytes.new) (reply_by result.1 bytes.new) }
@@ -182,7 +199,7 @@ fn new_value(call: &Call, machine: &mut Machine, bytes: &mut Value) -> (bool, Re
             call.key(),
             None,
             arg,
-            machine,
+            &mut workspace.machine,
             bytes,
         ) {
             Ok(true) => (true, ReplyKind::Some),

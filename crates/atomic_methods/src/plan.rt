@@ -41,7 +41,7 @@ pub enum Plan<'c> {
 }
 
 /// The rule of each method: what the call makes of its key, which has this value or none.
-pub fn plan_of<'c>(call: &Call<'c>, old: Option<&Value>) -> Plan<'c>
+pub fn plan_of<'c>(call: &Call<'c>, old: Option<&[u8]>) -> Plan<'c>
     ensures rule { let value = option_copied old.entry in
         rule_by result value ≡ rule_of (invocation_of call.now).method value }
 {
@@ -57,7 +57,7 @@ pub fn plan_of<'c>(call: &Call<'c>, old: Option<&Value>) -> Plan<'c>
         },
         Call::Remove { .. } => Apply(Remove, Old),
         Call::RemoveIf { expected, .. } => match old {
-            Some(old) if *old == *expected => Apply(Remove, Done(true)),
+            Some(old) if old == expected.as_slice() => Apply(Remove, Done(true)),
             _ => Apply(Keep, Done(false)),
         },
         Call::Replace { value, .. } => match old {
@@ -69,7 +69,7 @@ pub fn plan_of<'c>(call: &Call<'c>, old: Option<&Value>) -> Plan<'c>
             value,
             ..
         } => match old {
-            Some(old) if *old == *expected => Apply(Enter(value), Done(true)),
+            Some(old) if old == expected.as_slice() => Apply(Enter(value), Done(true)),
             _ => Apply(Keep, Done(false)),
         },
         Call::Compute { program, arg, .. } => Run(program, arg),

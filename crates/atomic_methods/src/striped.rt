@@ -1,6 +1,7 @@
 //! A whole table in stripes, for one caller.
 ghost use Rattle.std.specs.Prelude.{◌≡◌, ◌≤◌, ◌↔◌, ◌⊎◌, ℕ, [], length, IfOk, IfErr, OnErr, IsErrOf, vec_len, map};
 ghost use Rattle.std.specs.FinMap as finmap;
+ghost use Rattle.bins.specs.Copies.{WeighSame};
 ghost use Rattle.bins.specs.Replacements.{ReplacesEach};
 ghost use Rattle.atomic_methods.specs.Hashes.{IsStripeCount};
 ghost use Rattle.atomic_methods.specs.Invocations.{invocation_of};
@@ -11,11 +12,12 @@ ghost use Rattle.atomic_methods.specs.Whole.{stripe_at, all_entries, whole, AreS
 
 use crate::call::Call;
 use crate::fault::OpenFault;
+use crate::hashed_call::HashedCall;
 use crate::methods;
 use crate::reply::{Reply, ReplyKind};
-use crate::stripes::{MAX_STRIPES, is_stripe_count, stripe_of_hash};
-use bins::{Bins, Counts, HashedBins, hash_of};
-use bpf_machine::Machine;
+use crate::stripes::{MAX_STRIPES, is_stripe_count};
+use crate::workspace::Workspace;
+use bins::{Bins, Counts, HashedBins, sort_entries};
 use bpf_model::{Key, NoMemory, Value};
 use std::alloc::Global;
 use std::marker::Model;
@@ -28,11 +30,11 @@ pub struct Stopped {
     pub replies: Vec<Reply>,
 }
 
-/// A table of one caller, in stripes by the hashes of the keys, with the machine that programs run in.
+/// A table of one caller, in stripes by the hashes of the keys, with the place where they are made.
 #[derive(Drop)]
 pub struct Striped {
     stripes: Vec<HashedBins>,
-    machine: Machine,
+    workspace: Workspace,
 }
 
 impl Model for Striped {
@@ -60,7 +62,7 @@ impl Striped {
         }
         Ok(Striped {
             stripes: empty_stripes(alloc, stripes)?,
-            machine: Machine::new(),
+            workspace: Workspace::new(),
         })
     }
 
@@ -84,10 +86,10 @@ impl Striped {
         ensures err { OnErr result (self.new ≡ self.old) }
         ensures memory { OnErr result (WouldAdd self.old (invocation_of call.now)) }
     {
-        let hash = hash_of(call.key());
-        let place = stripe_of_hash(hash, self.stripes.len() as u64) as usize;
-        let bins = &mut self.stripes[place];
-        methods::apply_into(bins, call, hash, &mut self.machine, bytes)
+        let call = HashedCall::new(call);
+        let stripe = call.stripe(self.stripes.len() as u64) as usize;
+        let bins = &mut self.stripes[stripe];
+        methods::apply_into(bins, &call, &mut self.workspace, bytes)
     }
 
     /// Makes the calls in turn, each on what the ones before it left. Where a call is refused, neither it nor any after
@@ -184,14 +186,13 @@ fn count_of(stripes: &[HashedBins]) -> u64
     sum
 }
 
-// Copies of the entries of each stripe in turn.
-fn entries_of(alloc: Global, stripes: &[HashedBins]) -> Result<Vec<(Key, Value)>, NoMemory>
-    ensures ok { IfOk result (λ found. found.items ≡ all_entries stripes.now) }
+// Copies of the entries of each stripe.
+fn copies_of(alloc: Global, stripes: &[HashedBins]) -> Result<Vec<(Key, Value)>, NoMemory>
+    ensures ok { IfOk result (λ found. WeighSame found.items (all_entries stripes.now)) }
 {
     let mut found = Vec::new(alloc);
     for stripe in stripes {
-        let mut entries = stripe.entries(alloc)?;
-        found.append(&mut entries)?;
+        stripe.copy_into(&mut found)?;
     }
     Ok(found)
 }
@@ -201,7 +202,7 @@ fn sorted_entries(alloc: Global, stripes: &[HashedBins]) -> Result<Vec<(Key, Val
     requires { AreStripes stripes.now }
     ensures ok { IfOk result (λ found. found.items ≡ finmap.entries (whole stripes.now)) }
 {
-    let mut found = entries_of(alloc, stripes)?;
-    found.sort_by(|a, b| a.0.cmp(&b.0))?;
+    let mut found = copies_of(alloc, stripes)?;
+    sort_entries(&mut found);
     Ok(found)
 }

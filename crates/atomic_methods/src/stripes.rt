@@ -17,7 +17,7 @@ pub fn is_stripe_count(stripes: u64) -> bool
 
 /// The stripe of the keys of a hash, counted from 0, in a table of so many stripes.
 #[tactic(auto, using(crate::proofs::StripeLemmas::masked))]
-pub fn stripe_of_hash(hash: u32, stripes: u64) -> u64
+pub(crate) fn stripe_of_hash(hash: u32, stripes: u64) -> u64
     requires { IsStripeCount stripes }
     ensures value { result ≡ hash % stripes }
     ensures range { result < stripes }

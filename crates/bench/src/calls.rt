@@ -52,12 +52,12 @@ impl Method {
 pub enum Keys {
     /// All threads so many keys, each from a place of its own on.
     Shared(u64),
-    /// Each thread one key of its own, in stripes whose words lie so many words apart.
+    /// Each thread one key of its own, in stripes that lie so many apart.
     Own(u64),
 }
 
-/// Eight words fill a cache line.
-const LINE_WORDS: u64 = 8;
+/// How many stripes apart the threads' own keys lie, where they are to lie apart.
+const FAR: u64 = 8;
 
 // The key of one byte in this stripe of 64: its hash is 31 and the byte.
 fn key_in_stripe(stripe: u64) -> Result<Key> {
@@ -66,12 +66,12 @@ fn key_in_stripe(stripe: u64) -> Result<Key> {
 }
 
 impl Keys {
-    /// `near` is a key for each thread, in stripes side by side, and `apart` in stripes whose words share no cache line;
-    /// else the word is how many keys all threads share.
+    /// `near` is a key for each thread, in stripes side by side, and `apart` in stripes that lie 8 apart; else the word is
+    /// how many keys all threads share.
     pub fn named(word: &str) -> Result<Keys> {
         Ok(match word {
             "near" => Keys::Own(1),
-            "apart" => Keys::Own(LINE_WORDS),
+            "apart" => Keys::Own(FAR),
             _ => Keys::Shared(word.parse()?),
         })
     }

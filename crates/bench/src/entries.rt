@@ -1,8 +1,9 @@
 //! Calls on bins of many entries, made as often as is told.
 
+use crate::opening::{numbered_value, scattered_key};
 use anyhow::{Result, bail};
-use bins::{Bins, HashedBins, hash_of};
-use bpf_model::{Key, Value};
+use bins::{Bins, HashedBins, HashedKey};
+use bpf_model::Value;
 use std::alloc::Global;
 
 /// What is done with each key.
@@ -11,7 +12,6 @@ enum Work {
     /// The key and its hash are made, and no more.
     Nothing,
     Find,
-    Change,
     Put,
     /// Removed, and put again.
     Remove,
@@ -22,7 +22,6 @@ impl Work {
         match name {
             "nothing" => Some(Work::Nothing),
             "find" => Some(Work::Find),
-            "change" => Some(Work::Change),
             "put" => Some(Work::Put),
             "remove" => Some(Work::Remove),
             _ => None,
@@ -30,46 +29,28 @@ impl Work {
     }
 }
 
-/// 8 bytes that tell a number, scattered.
-fn key(number: u64) -> Result<Key> {
-    let scattered = number.wrapping_mul(0x9e37_79b9_7f4a_7c15);
-    Ok(Key::from_slice(&scattered.to_be_bytes())?)
-}
-
-fn value(number: u64) -> Result<Value> {
-    Ok(Value::from_slice(&number.to_le_bytes())?)
-}
-
 fn put(bins: &mut HashedBins, number: u64) -> Result<()> {
-    let key = key(number)?;
-    let hash = hash_of(&key);
-    Ok(bins.put(key, value(number)?, hash)?)
+    let key = scattered_key(number)?;
+    Ok(bins.put(&HashedKey::new(&key), &numbered_value(number)?)?)
 }
 
 /// Works on the entry of a number; how many bytes of it were seen.
 fn work_on(bins: &mut HashedBins, work: Work, number: u64) -> Result<u64> {
-    let key = key(number)?;
-    let hash = hash_of(&key);
+    let key = scattered_key(number)?;
+    let key = HashedKey::new(&key);
     Ok(match work {
-        Work::Nothing => u64::from(hash) & 1,
-        Work::Find => match bins.find(&key, hash) {
-            Some(found) => found.as_slice().len() as u64,
-            None => 0,
-        },
-        Work::Change => match bins.find_mut(&key, hash) {
-            Some(found) => {
-                found.set_from(&hash.to_le_bytes());
-                4
-            }
+        Work::Nothing => u64::from(key.hash()) & 1,
+        Work::Find => match bins.find(&key) {
+            Some(found) => found.len() as u64,
             None => 0,
         },
         Work::Put => {
-            bins.put(key, value(number)?, hash)?;
+            bins.put(&key, &numbered_value(number)?)?;
             8
         }
-        Work::Remove => match bins.remove(&key, hash) {
+        Work::Remove => match bins.remove(&key) {
             Some(found) => {
-                bins.put(key, value(number)?, hash)?;
+                bins.put(&key, &numbered_value(number)?)?;
                 found.as_slice().len() as u64
             }
             None => 0,

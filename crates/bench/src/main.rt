@@ -30,7 +30,7 @@ use tables::call_often;
 use walk::{Walk, walk_often};
 
 /// What is printed where there are no words.
-const ROWS: [(&str, &[&str]); 26] = [
+const ROWS: [(&str, &[&str]); 25] = [
     ("answer", &["sum"]),
     ("answer", &["alu"]),
     ("answer", &["eight"]),
@@ -41,7 +41,6 @@ const ROWS: [(&str, &[&str]); 26] = [
     ("answer", &["spills"]),
     ("made_up", &["2000"]),
     ("entries", &["find", "1000", "1"]),
-    ("entries", &["change", "1000", "1"]),
     ("entries", &["put", "1000", "1"]),
     ("entries", &["remove", "1000", "1"]),
     ("calls", &["get", "1", "4", "500"]),

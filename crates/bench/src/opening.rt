@@ -14,6 +14,11 @@ pub fn numbered_key(number: u64) -> Result<Key, TooLong> {
     Key::from_slice(&number.to_be_bytes())
 }
 
+/// 8 bytes that tell a number, scattered. Numbers that rise have keys in no order.
+pub fn scattered_key(number: u64) -> Result<Key, TooLong> {
+    numbered_key(number.wrapping_mul(0x9e37_79b9_7f4a_7c15))
+}
+
 /// The number as a value.
 pub fn numbered_value(number: u64) -> Result<Value, TooLong> {
     Value::from_slice(&number.to_le_bytes())

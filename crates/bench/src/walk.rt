@@ -1,7 +1,7 @@
 //! Walks over a map of many entries by a team of workers.
 ghost use Rattle.std.specs.Prelude.{◌≡◌, All, IfOk};
 
-use crate::opening::{last_pass, numbered_key, numbered_value, opened};
+use crate::opening::{last_pass, numbered_value, opened, scattered_key};
 use crate::programs::{Sample, verified};
 use anyhow::{Result, bail};
 use atomic_methods::Call;
@@ -39,7 +39,7 @@ fn fill<R: Wait>(rt: &R, map: &StripedMap, pass: &mut Pass, entries: u64) -> Res
 {
     let value = &numbered_value(1)?;
     for number in 0..entries {
-        let key = &numbered_key(number)?;
+        let key = &scattered_key(number)?;
         map.call(rt, pass, &Call::Put { key, value })?;
     }
     Ok(())

@@ -1,5 +1,6 @@
 -- The steps of a map's table on one stripe, by the lemmas of the rule.
-use Rattle.std.proofs.Common.{◌≡◌, ◌≢◌, ℕ, ◌<◌, true, false, eqb, List, [], ◌∷◌, ◌++◌, Option, Some, None, refl, sym, ap, ◌∙◌, subst, map}
+use Rattle.std.proofs.Common.{◌≡◌, ◌≢◌, ℕ, ◌<◌, ◌==◌, true, false, MatchBool, eqb, List, [], ◌∷◌, ◌++◌, Option, Some, None, inl, inr, refl, sym, ap, ◌∙◌, subst, map}
+use Rattle.std.proofs.lemmas.Bool.{cases_eq, ne_eqb}
 use mathlib.Core.Option as maybe
 use prog.Atomic.{either}
 use Rattle.atomic_table.specs.Table.{State, Me, step, rest, Allows}
@@ -39,6 +40,13 @@ events_under v actions c = subst (λ es. AreUnder v.numbers es) (events_are v ac
 
 pub events_same : (v w : View GhostAction) (actions : List Action) → w.numbers ≡ v.numbers → own_events w actions ≡ own_events v actions
 events_same v w actions e = sym (events_are w actions) ∙ (own_same v w (map deed_of actions) e ∙ events_are v actions)
+
+-- where a word that is 0 tells one thing and any other word another, a test for 0 tells which
+pub won_or_lost : {P Q : Type 0} (found : ℕ) → (found ≡ 0 → P) × (found ≢ 0 → Q) → MatchBool (found == 0) P Q
+won_or_lost {P = P} {Q = Q} found p = elim (cases_eq found 0) [
+  | inl e ↦ subst (λ n. MatchBool (n == 0) P Q) (sym e) (p.0 e)
+  | inr ne ↦ let test : (found == 0) ≡ false = ne_eqb found 0 ne in subst (λ b. MatchBool b P Q) (sym test) (p.1 ne)
+]
 
 module _ {B : Type 0} (content : B → Table) (table : TableId) (shape : Shape) (laid : IsLaid table shape) where
   abbrev pub Rule : State (Option B) (View GhostAction) → Type 0

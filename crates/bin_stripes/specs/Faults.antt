@@ -5,16 +5,16 @@ use Rattle.bin_stripes.specs.declared.fault.OpenFault.TheVariants.{BadStripes, B
 use Rattle.bin_stripes.specs.declared.fault.CallFault.{CallFault}
 use Rattle.bin_stripes.specs.declared.fault.CallFault.TheVariants.{Busy, NoMemory as NoRoom}
 
-abbrev pub open_fault_number : OpenFault → ℕ
-open_fault_number BadStripes = 50
-open_fault_number BadPasses = 51
-open_fault_number NoMemory = 9
+abbrev pub map_fault_number : OpenFault → ℕ
+map_fault_number BadStripes = 50
+map_fault_number BadPasses = 51
+map_fault_number NoMemory = 9
 
 -- what is wrong
-abbrev pub open_fault_message : OpenFault → List ℕ
-open_fault_message BadStripes = codes "not a number of stripes"
-open_fault_message BadPasses = codes "not a number of passes"
-open_fault_message NoMemory = codes "no memory"
+abbrev pub map_fault_message : OpenFault → List ℕ
+map_fault_message BadStripes = codes "not a number of stripes"
+map_fault_message BadPasses = codes "not a number of passes"
+map_fault_message NoMemory = codes "no memory"
 
 abbrev pub call_fault_number : CallFault → ℕ
 call_fault_number Busy = 52

@@ -1,10 +1,11 @@
 -- What a pass comes to know by a call of its own.
-use Rattle.std.specs.Prelude.{◌≡◌, ℕ, List, [], ◌∷◌, ◌++◌, Option, map, length, count_by, All, T}
+use Rattle.std.specs.Prelude.{◌≡◌, ℕ, ◌<◌, ◌^◌, List, [], ◌∷◌, ◌++◌, Option, map, length, count_by, All, T}
 use Rattle.std.specs.FinMap as finmap
 use Rattle.stripe_rule.specs.Gains.{Adds, seen_of}
 use Rattle.verifier.specs.Checked.{Checked}
 use Rattle.bins.specs.declared.counts.Counts.{Counts}
 use Rattle.bins.specs.Table.{Entry, Table, by_bytes}
+use Rattle.bins.specs.Copies.{WeighSame}
 use Rattle.bins.specs.Replacements.{Outcome, is_given, is_unfit}
 use Rattle.atomic_methods.specs.declared.reply.Reply.{Reply}
 use Rattle.atomic_methods.specs.Hashes.{stripe_of}
@@ -48,6 +49,17 @@ pub record CountsStripe (old : PassState) (k count : ℕ) (new : PassState) : Ty
 pub record AreOf (stripes k : ℕ) (entries : List Entry) : Type 0 where
   pub order : T (finmap.is_sorted by_bytes entries)
   pub stripe : All (λ entry. stripe_of stripes entry.0 ≡ k) entries
+
+-- the pass made one scan of the stripe k, and copies of the entries that it found were added to a list, in any order
+pub record CopiesStripe (old : PassState) (k : ℕ) (before after : List Entry) (new : PassState) : Type 0 where
+  pub entries : List Entry
+  pub scans : Scans old k entries new
+  pub are : AreOf (stripes_of old.map) k entries
+  -- an entry takes more than 2^6 bytes, of fewer than 2^63
+  pub bounded : length entries < 2 ^ 57
+  pub copies : List Entry
+  pub same : WeighSame copies entries
+  pub added : after ≡ before ++ copies
 
 -- one replacement for each entry, in their order, by what the program came to at its key; so many of each kind
 pub record AreReplacements (program : Checked) (arg : Option (List ℕ)) (entries : List Entry) (actions : List Action)

@@ -1,7 +1,6 @@
 -- A release of a stripe that adds some events, of which a fact is known.
 use Rattle.std.specs.Prelude.{◌≡◌, ℕ, List, Option}
 use Rattle.atomic_table.specs.Table.{Me, Step}
-use Rattle.stripe_rule.specs.declared.view.Event.{Event}
 use Rattle.stripe_rule.specs.declared.view.View.{View}
 use Rattle.stripe_rule.specs.Words.{word_at}
 use Rattle.stripe_rule.specs.Steps.{Looks, Releases, took as takes_or_looks}
@@ -9,9 +8,6 @@ use Rattle.bins.specs.Table.{Table}
 use Rattle.bin_stripes.specs.declared.ghost_action.GhostAction.{GhostAction}
 use Rattle.bin_stripes.specs.Actions.{Action}
 use Rattle.bin_stripes.specs.Histories.{empty, does, own_events}
-
-abbrev pub Events : Type 0
-Events = List (Event GhostAction)
 
 module _ {S : Type 0} where
   -- a load of a stripe's word, as a table with so many slots tells it

@@ -1,5 +1,6 @@
 //! The last entries of a map.
 ghost use Rattle.std.specs.Prelude.{◌≡◌, List, IfOk};
+ghost use Rattle.bins.specs.Copies.{WeighSame};
 ghost use Rattle.bins.specs.Table.{Table};
 ghost use Rattle.atomic_methods.specs.Whole.{all_entries};
 ghost use Rattle.stripe_rule.specs.Steps.{HasTaken};
@@ -10,7 +11,7 @@ ghost use Rattle.bin_stripes.specs.Closed.{Closes};
 use crate::map::StripedMap;
 use crate::pass::Pass;
 use crate::steps::{PassSeat, Stripes, bins_out, take_stripe};
-use bins::Bins;
+use bins::{Bins, sort_entries};
 use bpf_model::{Key, NoMemory, Value};
 use std::alloc::Global;
 use std::sync::Wait;
@@ -31,7 +32,7 @@ impl StripedMap {
         let Pass { mut known, .. } = pass;
         let mut seat = known.take();
         let mut found = entries_out(rt, alloc, &self.table.shared, &mut seat, stripes)?;
-        found.sort_by(|a, b| a.0.cmp(&b.0))?;
+        sort_entries(&mut found);
         Ok(found)
     }
 }
@@ -47,15 +48,14 @@ fn entries_out<B: Bins + Drop, R: Wait>(
     requires table { IsLaid table.now.table_id table.now.key × (seat.old.table_id ≡ table.now.table_id) }
     requires stripes { stripes ≡ table.now.table_id.slots }
     requires rests { Rests seat.old.me × Sound stripes seat.old.me.0 }
-    ensures ok { IfOk result (λ found. (tables : List Table) × ((found.items ≡ all_entries tables)
+    ensures ok { IfOk result (λ found. (tables : List Table) × (WeighSame found.items (all_entries tables)
         × (HasTaken (does stripes) empty seat.old.me.0 stripes tables seat.new.me.0 × Sound stripes seat.new.me.0))) }
 {
     let mut found = Vec::new(alloc);
     for stripe in 0..stripes {
         take_stripe(rt, table, seat, stripe);
         let bins = bins_out(table, seat, stripe);
-        let mut entries = bins.entries(alloc)?;
-        found.append(&mut entries)?;
+        bins.copy_into(&mut found)?;
     }
     Ok(found)
 }

@@ -17,11 +17,11 @@ pub enum OpenFault {
 
 impl OpenFault {
     ghost use Rattle.std.specs.Prelude.{◌≡◌};
-    ghost use Rattle.bin_stripes.specs.Faults.{open_fault_number};
+    ghost use Rattle.bin_stripes.specs.Faults.{map_fault_number};
 
     /// The number under which this refusal is printed and sent.
     pub fn number(self) -> u8
-        ensures value { result ≡ open_fault_number self }
+        ensures value { result ≡ map_fault_number self }
     {
         match self {
             OpenFault::BadStripes => 50,
@@ -33,9 +33,9 @@ impl OpenFault {
 
 impl fmt::Display for OpenFault {
     ghost use Rattle.std.specs.Prelude.{Some};
-    ghost use Rattle.bin_stripes.specs.Faults.{open_fault_message};
+    ghost use Rattle.bin_stripes.specs.Faults.{map_fault_message};
 
-    ghost output = { λ fault. Some (open_fault_message fault) };
+    ghost output = { λ fault. Some (map_fault_message fault) };
 
     fn fmt<W: fmt::Write>(&self, f: &mut fmt::Formatter<W>) -> fmt::Result {
         match self {

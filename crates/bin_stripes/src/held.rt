@@ -1,11 +1,10 @@
-//! What is done with the bins of a stripe that is held: a call, a scan or the replacement of its values. Each takes the
-//! bins out, works on them, brings them home and lets the stripe go.
-ghost use Rattle.std.specs.Prelude.{◌≡◌, ◌<◌, ◌^◌, List, [], ◌∷◌, length, IfOk, OnErr};
+//! What is done with the bins of a stripe that is held: a call, a scan or the replacement of its values. Each works
+//! on the bins where they lie, in the stripe's slot, and lets the stripe go.
+ghost use Rattle.std.specs.Prelude.{◌≡◌, ◌<◌, ◌^◌, List, [], ◌∷◌, length, IfOk, OnOk, OnErr};
 ghost use Rattle.std.specs.FinMap as map;
-ghost use Rattle.bins.specs.Hashes.{hash as hash_is};
 ghost use Rattle.atomic_methods.specs.Hashes.{stripe_of};
-ghost use Rattle.atomic_methods.specs.Invocations.{invocation_of};
 ghost use Rattle.atomic_methods.specs.Plans.{reply_by};
+ghost use Rattle.bins.specs.Copies.{AddsCopies};
 ghost use Rattle.bins.specs.Table.{Table};
 ghost use Rattle.stripe_rule.specs.Gains.{seen_of};
 ghost use Rattle.bin_stripes.specs.Actions.{called, scanned};
@@ -15,10 +14,9 @@ ghost use Rattle.bin_stripes.specs.Releasing.{Lets};
 ghost use Rattle.bin_stripes.specs.Holding.{IsLaid, SeatHolds, SeatRefuses};
 
 use crate::gate::{Gate, Place};
-use crate::steps::{PassSeat, Shows, Stripes, bins_home, bins_out};
-use atomic_methods::{Call, ReplyKind, apply_into, replace_each, scan};
-use bins::{Bins, Counts};
-use bpf_machine::Machine;
+use crate::steps::{PassSeat, Shows, Stripes, let_go};
+use atomic_methods::{HashedCall, ReplyKind, Workspace, apply_into, replace_each};
+use bins::{Bins, Counts, sort_entries};
 use bpf_model::{Key, NoMemory, Value};
 use std::alloc::Global;
 use std::snapshot::Snapshot;
@@ -34,7 +32,7 @@ impl Shows<()> for Nothing {
 // A call, the kind of its reply, and the place where the bytes of the replied value were left.
 #[derive(Drop)]
 struct Answered<'a> {
-    call: &'a Call<'a>,
+    call: &'a HashedCall<'a>,
     kind: ReplyKind,
     bytes: &'a Value,
 }
@@ -44,20 +42,13 @@ struct Calling;
 
 impl<'a> Shows<Answered<'a>> for Calling {
     ghost shows = { λ done actions.
-        actions ≡ called (invocation_of done.call.now) (reply_by done.kind done.bytes.now) ∷ [] };
+        actions ≡ called done.call.now (reply_by done.kind done.bytes.now) ∷ [] };
 }
 
 // The entries were found.
 struct Scanning;
 
-impl Shows<Vec<(Key, Value)>> for Scanning {
-    ghost shows = { λ found actions. actions ≡ scanned found.items ∷ [] };
-}
-
-// The entries were counted.
-struct Counting;
-
-impl<B: Bins> Shows<Snapshot<B>> for Counting {
+impl<B: Bins> Shows<Snapshot<B>> for Scanning {
     ghost shows = { λ found actions. actions ≡ scanned (map.entries (B.table found.value)) ∷ [] };
 }
 
@@ -78,45 +69,81 @@ impl<'a, B: Bins> Shows<Replacement<'a, B>> for Replacing {
         AreReplacements done.program.now done.arg.now (map.entries (B.table done.before.value)) actions done.counts };
 }
 
-/// Makes the call on the stripe of its key, which has this hash. A program runs in the machine; the bytes of the replied
-/// value are left in `bytes`. `NoMemory` as `apply_into` has it; then nothing was done.
+/// Makes the call on the stripe of its key. A program runs in the workspace; the bytes of the replied value are left in
+/// `bytes`. `NoMemory` as `apply_into` has it; then nothing was done.
 pub(crate) fn make_call<B: Bins + Drop>(
     table: &Stripes<B>,
     seat: &mut PassSeat<B>,
     stripe: usize,
-    call: &Call,
-    hash: u32,
-    machine: &mut Machine,
+    call: &HashedCall<'_>,
+    workspace: &mut Workspace,
     bytes: &mut Value,
 ) -> Result<ReplyKind, NoMemory>
     requires table { IsLaid table.now.table_id table.now.key × (seat.old.table_id ≡ table.now.table_id) }
     requires stripe { stripe < table.now.table_id.slots }
     requires held { SeatHolds B.table table.now.table_id.slots stripe seat.old.me }
-    requires key { stripe_of table.now.table_id.slots (invocation_of call.now).key ≡ stripe }
-    requires hash { hash ≡ hash_is (invocation_of call.now).key }
+    requires key { stripe_of table.now.table_id.slots call.now.key ≡ stripe }
     ensures same { (seat.new.table_id ≡ seat.old.table_id) × (seat.new.id ≡ seat.old.id) }
     ensures ok { IfOk result (λ kind.
-        Lets (λ actions. actions ≡ called (invocation_of call.now) (reply_by kind bytes.new) ∷ [])
+        Lets (λ actions. actions ≡ called call.now (reply_by kind bytes.new) ∷ [])
         table.now.table_id.slots stripe seat.old.me seat.new.me) }
     ensures err { OnErr result
         (Lets (λ actions. actions ≡ []) table.now.table_id.slots stripe seat.old.me seat.new.me
-        × SeatRefuses table.now.table_id.slots stripe seat.old.me (invocation_of call.now)) }
+        × SeatRefuses table.now.table_id.slots stripe seat.old.me call.now) }
 {
-    let mut bins = bins_out(table, seat, stripe);
-    match apply_into(&mut bins, call, hash, machine, bytes) {
+    let Some(bins) = seat.slot_mut(table, stripe) else {
+        unreachable!()
+    };
+    match apply_into(bins, call, workspace, bytes) {
         Ok(kind) => {
             let done = Answered { call, kind, bytes };
-            bins_home::<_, _, Calling>(table, seat, stripe, bins, &done);
+            let_go::<B, _, Calling>(table, seat, stripe, &done);
             Ok(kind)
         }
         Err(fault) => {
-            bins_home::<_, _, Nothing>(table, seat, stripe, bins, &());
+            let_go::<B, _, Nothing>(table, seat, stripe, &());
             Err(fault)
         }
     }
 }
 
-/// Copies of the stripe's entries, in key order. `NoMemory` where a request for memory was refused; then nothing was done.
+/// Adds copies of the stripe's entries to the list, in an order of their own. `NoMemory` where a request for memory was
+/// refused; then nothing was done, and the list is as before.
+pub(crate) fn make_copies<B: Bins + Drop>(
+    table: &Stripes<B>,
+    seat: &mut PassSeat<B>,
+    stripe: usize,
+    list: &mut Vec<(Key, Value)>,
+) -> Result<(), NoMemory>
+    requires table { IsLaid table.now.table_id table.now.key × (seat.old.table_id ≡ table.now.table_id) }
+    requires stripe { stripe < table.now.table_id.slots }
+    requires held { SeatHolds B.table table.now.table_id.slots stripe seat.old.me }
+    ensures same { (seat.new.table_id ≡ seat.old.table_id) × (seat.new.id ≡ seat.old.id) }
+    ensures ok { OnOk result ((there : Table) × (Leaves table.now.table_id.slots stripe (seen_of seat.old.me.0 stripe) there
+        × Lets (λ actions. actions ≡ scanned (map.entries there) ∷ []) table.now.table_id.slots stripe seat.old.me seat.new.me
+        × AddsCopies there list.old.items list.new.items × (length (map.entries there) < 2 ^ 57))) }
+    ensures err { OnErr result
+        (Lets (λ actions. actions ≡ []) table.now.table_id.slots stripe seat.old.me seat.new.me
+        × (list.new.items ≡ list.old.items)) }
+{
+    let Some(bins) = seat.slot_mut(table, stripe) else {
+        unreachable!()
+    };
+    match bins.copy_into(list) {
+        Ok(()) => {
+            let found = Snapshot::of(&*bins);
+            let_go::<B, _, Scanning>(table, seat, stripe, &found);
+            Ok(())
+        }
+        Err(fault) => {
+            let_go::<B, _, Nothing>(table, seat, stripe, &());
+            Err(fault)
+        }
+    }
+}
+
+/// Copies of the stripe's entries, in key order: they are sorted when the stripe was let go. `NoMemory` where a request for
+/// memory was refused; then nothing was done.
 pub(crate) fn make_scan<B: Bins + Drop>(
     alloc: Global,
     table: &Stripes<B>,
@@ -135,17 +162,10 @@ pub(crate) fn make_scan<B: Bins + Drop>(
     ensures err { OnErr result
         (Lets (λ actions. actions ≡ []) table.now.table_id.slots stripe seat.old.me seat.new.me) }
 {
-    let bins = bins_out(table, seat, stripe);
-    match scan(alloc, &bins) {
-        Ok(found) => {
-            bins_home::<_, _, Scanning>(table, seat, stripe, bins, &found);
-            Ok(found)
-        }
-        Err(fault) => {
-            bins_home::<_, _, Nothing>(table, seat, stripe, bins, &());
-            Err(fault)
-        }
-    }
+    let mut found = Vec::new(alloc);
+    make_copies(table, seat, stripe, &mut found)?;
+    sort_entries(&mut found);
+    Ok(found)
 }
 
 /// How many entries the stripe has. Takes no memory.
@@ -162,10 +182,12 @@ pub(crate) fn make_count<B: Bins + Drop>(
         table.now.table_id.slots stripe seat.old.me seat.new.me × (result ≡ length (map.entries there))) }
     ensures bounded { result < 2 ^ 57 }
 {
-    let bins = bins_out(table, seat, stripe);
+    let Some(bins) = seat.slot_mut(table, stripe) else {
+        unreachable!()
+    };
     let count = bins.count();
-    let found = Snapshot::of(&bins);
-    bins_home::<_, _, Counting>(table, seat, stripe, bins, &found);
+    let found = Snapshot::of(&*bins);
+    let_go::<B, _, Scanning>(table, seat, stripe, &found);
     count
 }
 
@@ -187,17 +209,19 @@ pub(crate) fn make_replacements<B: Bins + Drop, G: Gate>(
         table.now.table_id.slots stripe seat.old.me seat.new.me) }
     ensures bounded { result.scanned < 2 ^ 57 }
 {
-    let mut bins = bins_out(table, seat, stripe);
+    let Some(bins) = seat.slot_mut(table, stripe) else {
+        unreachable!()
+    };
     gate.pass(Place::Held, worker);
-    let before = Snapshot::of(&bins);
+    let before = Snapshot::of(&*bins);
     let (program, arg) = by;
-    let counts = replace_each(&mut bins, program, arg);
+    let counts = replace_each(bins, program, arg);
     let done = Replacement {
         program,
         arg,
         counts,
         before,
     };
-    bins_home::<_, _, Replacing>(table, seat, stripe, bins, &done);
+    let_go::<B, _, Replacing>(table, seat, stripe, &done);
     counts
 }

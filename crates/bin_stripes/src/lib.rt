@@ -4,19 +4,20 @@
 //! with all that the pass had seen or was told, goes on with others' calls, and ends with its own, each once (`Adds` of
 //! `stripe_rule`, in the clauses of each call; `Pass::vouch`). What may happen on a stripe: `specs/Actions.antt`.
 //!
-//! **Words, slots, passes.** Each stripe has a word of 64 bits, 0 or 1, and a slot with the handle of its bins. A pass is a
-//! seat of the table, which has no bytes, beside the machine that its programs run in: what it carries (numbers, by which
+//! **Words, slots, passes.** Each stripe has a word of 64 bits, 0 or 1, and a slot with its bins. A pass is a
+//! seat of the table, which has no bytes, beside the workspace of its calls: what it carries (numbers, by which
 //! its events are known) and what it has seen and made exists in proofs alone. No history is stored.
 //!
-//! **The five steps** (`steps`), each atomic: a look loads the word; a take changes the word from 0 to 1 by a
-//! compare-exchange; bins out and bins home exchange the slot, which only the holder of the stripe does; a release swaps the
-//! word to 0. All that was done between a take and its release is one event, or one for each key that was replaced.
+//! **The three steps** (`steps`), each atomic: a look loads the word; a take changes the word from 0 to 1 by a
+//! compare-exchange; a release swaps the word to 0. Between the last two only the holder of the stripe uses its slot, and works
+//! on the bins there; `close` takes them out. All that was done between a take and its release is one event, or one for each
+//! key that was replaced.
 //!
 //! **The rule** that every step keeps (`stripe_rule`): the word is 1 just where one pass holds the stripe; all that passes
 //! have seen of a stripe are beginnings of one legal list; where the word is 0, the bins are at home with what it leaves.
 //!
-//! **Who waits.** `call`, `call_into`, `scan_stripe`, `count_stripe`, `replace_stripe` and `close` wait until a stripe is
-//! free, and yield between tries. The `try_` calls, `tell` and `join` never wait. `tell` and `join` cannot fail, and take no
+//! **Who waits.** `call`, `call_into`, `scan_stripe`, `copy_stripe`, `count_stripe`, `replace_stripe` and `close` wait until a
+//! stripe is free, and yield between tries. The `try_` calls, `tell` and `join` never wait. `tell` and `join` cannot fail, and take no
 //! memory.
 //!
 //! Rejected: a lock round the bins (its contract says nothing of what another thread did), and a futex to wait on (a release

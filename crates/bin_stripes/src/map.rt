@@ -1,23 +1,22 @@
 //! The map that passes share.
-ghost use Rattle.std.specs.Prelude.{◌≡◌, ◌<◌, ◌^◌, [], length, IfOk, IfErr, OnErr, IsErrOf};
-ghost use Rattle.bins.specs.Hashes.{hash as hash_is};
+ghost use Rattle.std.specs.Prelude.{◌≡◌, ◌<◌, ◌^◌, [], length, IfOk, IfErr, OnOk, OnErr, IsErrOf};
 ghost use Rattle.atomic_methods.specs.Hashes.{stripe_of, IsStripeCount};
 ghost use Rattle.atomic_methods.specs.Invocations.{invocation_of};
 ghost use Rattle.atomic_methods.specs.Plans.{reply_by};
-ghost use Rattle.bin_stripes.specs.Invoked.{Makes, Calls, RefusesCall, Scans, CountsStripe, AreOf, ReplacesInStripe, stripe_for};
+ghost use Rattle.bin_stripes.specs.Invoked.{Makes, Calls, RefusesCall, Scans, CopiesStripe, CountsStripe, AreOf, ReplacesInStripe, stripe_for};
 ghost use Rattle.bin_stripes.specs.Passes.{ServesSameMap, stripes_of};
 
 use crate::fault::CallFault;
 use crate::gate::Gate;
 use crate::ghost_action::GhostAction;
-use crate::held::{make_call, make_count, make_replacements, make_scan};
+use crate::held::{make_call, make_copies, make_count, make_replacements, make_scan};
 use crate::pass::Pass;
 use crate::rule::{Shape, Striping};
 use crate::seats::{try_call, try_replace, try_scan};
 use crate::steps::take_stripe;
-use atomic_methods::{Call, Reply, ReplyKind, stripe_of_hash};
+use atomic_methods::{Call, HashedCall, Reply, ReplyKind};
 use atomic_table::Table;
-use bins::{Counts, HashedBins, hash_of};
+use bins::{Counts, HashedBins};
 use bpf_model::{Key, NoMemory, Value};
 use std::alloc::Global;
 use std::marker::Model;
@@ -71,14 +70,12 @@ impl StripedMap {
         atomic_methods::stripe_of(key, self.stripes())
     }
 
-    // The stripe of the call's key, and the key's hash.
-    fn stripe_and_hash(&self, call: &Call) -> (usize, u32)
-        ensures stripe { result.0 ≡ stripe_of (stripes_of self.now) (invocation_of call.now).key }
-        ensures range { result.0 < stripes_of self.now }
-        ensures hash { result.1 ≡ hash_is (invocation_of call.now).key }
+    // The stripe of the call's key.
+    fn stripe_for(&self, call: &HashedCall<'_>) -> usize
+        ensures stripe { result ≡ stripe_of (stripes_of self.now) call.now.key }
+        ensures range { result < stripes_of self.now }
     {
-        let hash = hash_of(call.key());
-        (stripe_of_hash(hash, self.stripes()) as usize, hash)
+        call.stripe(self.stripes()) as usize
     }
 
     /// Makes the call. `NoMemory` only where it would have added its key and a request for memory was refused; nothing was
@@ -122,19 +119,12 @@ impl StripedMap {
         ensures ok { IfOk result (λ kind. Calls pass.old (invocation_of call.now) (reply_by kind bytes.new) pass.new) }
         ensures err { OnErr result (RefusesCall pass.old (invocation_of call.now) pass.new) }
     {
-        let (stripe, hash) = self.stripe_and_hash(call);
+        let call = HashedCall::new(call);
+        let stripe = self.stripe_for(&call);
         let table = &self.table.shared;
         let mut seat = pass.known.take();
         take_stripe(rt, table, &mut seat, stripe);
-        let answer = make_call(
-            table,
-            &mut seat,
-            stripe,
-            call,
-            hash,
-            &mut pass.machine,
-            bytes,
-        );
+        let answer = make_call(table, &mut seat, stripe, &call, &mut pass.workspace, bytes);
         pass.known.put(seat);
         answer
     }
@@ -153,18 +143,11 @@ impl StripedMap {
         ensures err { OnErr result (Makes pass.old (stripe_for pass.old (invocation_of call.now)) [] pass.new) }
         ensures memory { IsErrOf result CallFault.NoMemory → RefusesCall pass.old (invocation_of call.now) pass.new }
     {
-        let (stripe, hash) = self.stripe_and_hash(call);
+        let call = HashedCall::new(call);
+        let stripe = self.stripe_for(&call);
         let table = &self.table.shared;
         let mut seat = pass.known.take();
-        let answer = try_call(
-            table,
-            &mut seat,
-            stripe,
-            call,
-            hash,
-            &mut pass.machine,
-            bytes,
-        );
+        let answer = try_call(table, &mut seat, stripe, &call, &mut pass.workspace, bytes);
         pass.known.put(seat);
         answer
     }
@@ -186,11 +169,36 @@ impl StripedMap {
         ensures entries { IfOk result (λ found. AreOf (stripes_of self.now) stripe found.items) }
         ensures bounded { IfOk result (λ found. length found.items < 2 ^ 55) }
     {
-        let place = stripe as usize;
+        let slot = stripe as usize;
         let table = &self.table.shared;
         let mut seat = pass.known.take();
-        take_stripe(rt, table, &mut seat, place);
-        let answer = make_scan(alloc, table, &mut seat, place);
+        take_stripe(rt, table, &mut seat, slot);
+        let answer = make_scan(alloc, table, &mut seat, slot);
+        pass.known.put(seat);
+        answer
+    }
+
+    /// Adds copies of the entries of one stripe, which is below `stripes()`, to the list, in an order of their own: a scan
+    /// whose entries are not sorted. `NoMemory` where a request for memory was refused; nothing was made then, and the list
+    /// is as before. Waits until the stripe is free.
+    pub fn copy_stripe<R: Wait>(
+        &self,
+        rt: &R,
+        pass: &mut Pass,
+        stripe: u64,
+        list: &mut Vec<(Key, Value)>,
+    ) -> Result<(), NoMemory>
+        requires map { pass.old.map ≡ self.now }
+        requires stripe { stripe < stripes_of self.now }
+        ensures same { ServesSameMap pass.old pass.new }
+        ensures ok { OnOk result (CopiesStripe pass.old stripe list.old.items list.new.items pass.new) }
+        ensures err { OnErr result (Makes pass.old stripe [] pass.new × (list.new.items ≡ list.old.items)) }
+    {
+        let slot = stripe as usize;
+        let table = &self.table.shared;
+        let mut seat = pass.known.take();
+        take_stripe(rt, table, &mut seat, slot);
+        let answer = make_copies(table, &mut seat, slot, list);
         pass.known.put(seat);
         answer
     }
@@ -225,11 +233,11 @@ impl StripedMap {
         ensures counts { CountsStripe pass.old stripe result pass.new }
         ensures bounded { result < 2 ^ 57 }
     {
-        let place = stripe as usize;
+        let slot = stripe as usize;
         let table = &self.table.shared;
         let mut seat = pass.known.take();
-        take_stripe(rt, table, &mut seat, place);
-        let count = make_count(table, &mut seat, place);
+        take_stripe(rt, table, &mut seat, slot);
+        let count = make_count(table, &mut seat, slot);
         pass.known.put(seat);
         count
     }
@@ -253,11 +261,11 @@ impl StripedMap {
         ensures each { ReplacesInStripe pass.old stripe program.now arg.now result pass.new }
         ensures bounded { result.scanned < 2 ^ 57 }
     {
-        let place = stripe as usize;
+        let slot = stripe as usize;
         let table = &self.table.shared;
         let mut seat = pass.known.take();
-        take_stripe(rt, table, &mut seat, place);
-        let counts = make_replacements(table, &mut seat, place, (program, arg), gate, worker);
+        take_stripe(rt, table, &mut seat, slot);
+        let counts = make_replacements(table, &mut seat, slot, (program, arg), gate, worker);
         pass.known.put(seat);
         counts
     }

@@ -10,11 +10,10 @@ use crate::fault::OpenFault;
 use crate::map::{StripeBins, StripedMap};
 use crate::pass::Pass;
 use crate::rule::{Deal, Shape};
-use crate::steps::{LINE_WORDS, PassSeat, Stripes};
-use atomic_methods::is_stripe_count;
+use crate::steps::{PassSeat, STRIPE_WORDS, Stripes};
+use atomic_methods::{Workspace, is_stripe_count};
 use atomic_table::Table;
 use bins::Bins;
-use bpf_machine::Machine;
 use bpf_model::NoMemory;
 use known_seat::Known;
 use std::alloc::Global;
@@ -72,7 +71,7 @@ fn free_stripes<B: Bins + Drop>(
     ensures count { IfOk result (λ made. length made.1.items ≡ stripes) }
     ensures empty { IfOk result (λ made. All (IsEmptyBins B.table) made.1.items) }
 {
-    let words = zero_words(alloc, stripes * LINE_WORDS as u64)?;
+    let words = zero_words(alloc, stripes * STRIPE_WORDS as u64)?;
     let mut slots = Vec::new(alloc);
     for _ in 0..stripes {
         slots.push(Some(B::open(alloc, stripes)?))?;
@@ -123,6 +122,6 @@ fn dealt_pass<B: Bins>(seat: PassSeat<B>) -> Pass
 {
     Pass {
         known: Known::of(seat),
-        machine: Machine::new(),
+        workspace: Workspace::new(),
     }
 }

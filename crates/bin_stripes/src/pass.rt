@@ -1,17 +1,17 @@
 //! What a thread makes its calls with.
 
 use crate::ghost_action::GhostAction;
-use bpf_machine::Machine;
+use atomic_methods::Workspace;
 use known_seat::Known;
 use std::marker::Model;
 use stripe_rule::View;
 
-/// The right to make calls on the map that it was opened with. Its bytes are the machine that its calls run programs in.
+/// The right to make calls on the map that it was opened with. Its bytes are the workspace of its calls, where programs run.
 /// Contracts see what it carries and knows: of each stripe the events that it has seen, and those of them that it made.
 #[derive(Drop)]
 pub struct Pass {
     pub(crate) known: Known<View<GhostAction>>,
-    pub(crate) machine: Machine,
+    pub(crate) workspace: Workspace,
 }
 
 impl Model for Pass {

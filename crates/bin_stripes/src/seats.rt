@@ -1,9 +1,7 @@
 //! Calls, scans and replacements by a seat at rest that tries the take once.
 ghost use Rattle.std.specs.Prelude.{◌≡◌, ◌<◌, ◌^◌, [], ◌∷◌, IfOk, IfErr, OnErr, IsErrOf};
 ghost use Rattle.std.specs.FinMap as map;
-ghost use Rattle.bins.specs.Hashes.{hash as hash_is};
 ghost use Rattle.atomic_methods.specs.Hashes.{stripe_of};
-ghost use Rattle.atomic_methods.specs.Invocations.{invocation_of};
 ghost use Rattle.atomic_methods.specs.Plans.{reply_by};
 ghost use Rattle.bin_stripes.specs.Actions.{called, scanned};
 ghost use Rattle.bin_stripes.specs.Holding.{IsLaid, Rests, Settles, SeatRefuses, SeatFinds, SeatReplaces};
@@ -12,40 +10,37 @@ use crate::fault::CallFault;
 use crate::gate::OpenGate;
 use crate::held::{make_call, make_replacements, make_scan};
 use crate::steps::{PassSeat, Stripes, try_take_stripe};
-use atomic_methods::{Call, ReplyKind};
+use atomic_methods::{HashedCall, ReplyKind, Workspace};
 use bins::{Bins, Counts};
-use bpf_machine::Machine;
 use bpf_model::{Key, Value};
 use std::alloc::Global;
 use verifier::Verified;
 
-/// Makes the call on the stripe of its key, where that is free. The hash is the key's; a program runs in the machine. The
-/// bytes of the replied value are left in `bytes`.
+/// Makes the call on the stripe of its key, where that is free. A program runs in the workspace. The bytes of the replied
+/// value are left in `bytes`.
 pub(crate) fn try_call<B: Bins + Drop>(
     table: &Stripes<B>,
     seat: &mut PassSeat<B>,
     stripe: usize,
-    call: &Call,
-    hash: u32,
-    machine: &mut Machine,
+    call: &HashedCall<'_>,
+    workspace: &mut Workspace,
     bytes: &mut Value,
 ) -> Result<ReplyKind, CallFault>
     requires table { IsLaid table.now.table_id table.now.key × (seat.old.table_id ≡ table.now.table_id) }
     requires stripe { stripe < table.now.table_id.slots }
     requires rests { Rests seat.old.me }
-    requires key { stripe_of table.now.table_id.slots (invocation_of call.now).key ≡ stripe }
-    requires hash { hash ≡ hash_is (invocation_of call.now).key }
+    requires key { stripe_of table.now.table_id.slots call.now.key ≡ stripe }
     ensures same { (seat.new.table_id ≡ seat.old.table_id) × (seat.new.id ≡ seat.old.id) }
     ensures ok { IfOk result (λ kind. Settles table.now.table_id.slots stripe seat.old.me
-        (called (invocation_of call.now) (reply_by kind bytes.new) ∷ []) seat.new.me) }
+        (called call.now (reply_by kind bytes.new) ∷ []) seat.new.me) }
     ensures err { OnErr result (Settles table.now.table_id.slots stripe seat.old.me [] seat.new.me) }
     ensures memory { IsErrOf result CallFault.NoMemory →
-        SeatRefuses table.now.table_id.slots stripe seat.new.me (invocation_of call.now) }
+        SeatRefuses table.now.table_id.slots stripe seat.new.me call.now }
 {
     if !try_take_stripe(table, seat, stripe) {
         return Err(CallFault::Busy);
     }
-    Ok(make_call(table, seat, stripe, call, hash, machine, bytes)?)
+    Ok(make_call(table, seat, stripe, call, workspace, bytes)?)
 }
 
 /// Copies of the stripe's entries, in key order, where it is free.

@@ -1,5 +1,5 @@
-//! The steps on one stripe: take, bins out, bins home, release. Its word is 1 while it is held, else 0, and stands on a line
-//! of its own; its bins lie in the slot of its number, and are out with the seat that holds it.
+//! The steps on one stripe: take and release. Its word is 1 while it is held, else 0, and stands on two lines of the cache of
+//! its own; its bins lie in the slot of its number, which is the seat's that holds the stripe.
 ghost use Rattle.std.specs.Prelude.{◌≡◌, ℕ, ◌<◌, true, false, Option, List, [], ◌∷◌, ◌++◌, Some, None, MatchBool};
 ghost use Rattle.stripe_rule.specs.Gains.{held_at, seen_of, Carries, least};
 ghost use Rattle.stripe_rule.specs.Steps.{Takes, Looks};
@@ -17,9 +17,9 @@ use std::sync::Wait;
 use std::thread;
 use stripe_rule::View;
 
-/// How many words a line of the cache has, of 64 bytes. A stripe's word is the first of so many, so the words of two stripes
-/// share no line.
-pub(crate) const LINE_WORDS: usize = 8;
+/// How many words a stripe has, of which the first is used. They fill two lines of the cache, which processors fetch by
+/// pairs, so the words of two stripes share none.
+pub(crate) const STRIPE_WORDS: usize = 16;
 
 /// The words and slots of all stripes.
 pub(crate) type Stripes<B> = Shared<Option<B>, View<GhostAction>, Shape, Striping<B>>;
@@ -35,7 +35,7 @@ pub(crate) fn look<B: Bins + Drop>(table: &Stripes<B>, seat: &mut PassSeat<B>, s
     ensures same { (seat.new.table_id ≡ seat.old.table_id) × (seat.new.id ≡ seat.old.id) }
     ensures looked { Looks (does table.now.table_id.slots) empty stripe seat.old.me seat.new.me }
 {
-    table.load::<Look>(seat, stripe * LINE_WORDS);
+    table.load::<Look>(seat, stripe * STRIPE_WORDS);
 }
 
 /// Tries once to take the stripe: whether it was free. Never waits.
@@ -52,7 +52,7 @@ pub(crate) fn try_take_stripe<B: Bins + Drop>(
         (Takes (does table.now.table_id.slots) empty B.table stripe seat.old.me seat.new.me)
         (Looks (does table.now.table_id.slots) empty stripe seat.old.me seat.new.me) }
 {
-    table.compare_exchange::<Take<B>>(seat, stripe * LINE_WORDS, 0, 1) == 0
+    table.compare_exchange::<Take<B>>(seat, stripe * STRIPE_WORDS, 0, 1) == 0
 }
 
 /// Takes the stripe. Waits until it is free.
@@ -77,7 +77,7 @@ pub(crate) fn take_stripe<B: Bins + Drop, R: Wait>(
     unreachable!()
 }
 
-/// The first exchange of the slot: the bins of a stripe that the seat holds.
+/// The bins of a stripe that the seat holds, taken out of their slot.
 pub(crate) fn bins_out<B: Bins + Drop>(
     table: &Stripes<B>,
     seat: &mut PassSeat<B>,
@@ -101,27 +101,23 @@ pub(crate) trait Shows<T> {
     ghost shows: { T → List Action → Type 0 };
 }
 
-/// The second exchange of the slot, and the release: the bins go home after these actions.
-pub(crate) fn bins_home<B: Bins + Drop, T, M: Shows<T>>(
+/// Lets the stripe go after these actions; its bins lie in its slot. Never waits.
+pub(crate) fn let_go<B: Bins + Drop, T, M: Shows<T>>(
     table: &Stripes<B>,
     seat: &mut PassSeat<B>,
     stripe: usize,
-    bins: B,
     what: &T,
 )
     requires table { IsLaid table.now.table_id table.now.key × (seat.old.table_id ≡ table.now.table_id) }
     requires stripe { stripe < table.now.table_id.slots }
-    requires held { (held_at seat.old.me.0 stripe ≡ true) × Carries seat.old.me.0 (least seat.old.me.0.numbers)
-        × ((others : List (ℕ × Option B)) × (seat.old.me.1 ≡ (stripe, None) ∷ others)) }
-    requires made { (actions : List Action) × (M.shows what.now actions
+    requires held { (held_at seat.old.me.0 stripe ≡ true) × Carries seat.old.me.0 (least seat.old.me.0.numbers) }
+    requires made { (bins : B) × ((others : List (ℕ × Option B)) × ((seat.old.me.1 ≡ (stripe, Some bins) ∷ others)
+        × ((actions : List Action) × (M.shows what.now actions
         × Leaves table.now.table_id.slots stripe
-        (seen_of seat.old.me.0 stripe ++ own_events seat.old.me.0 actions) (B.table bins)) }
+        (seen_of seat.old.me.0 stripe ++ own_events seat.old.me.0 actions) (B.table bins))))) }
     ensures same { (seat.new.table_id ≡ seat.old.table_id) × (seat.new.id ≡ seat.old.id) }
     ensures made { Lets (M.shows what.now) table.now.table_id.slots stripe seat.old.me seat.new.me }
 {
-    let None = table.exchange(seat, stripe, Some(bins)) else {
-        unreachable!()
-    };
     release::<B, T, Brand>(table, seat, stripe, what);
 }
 
@@ -144,5 +140,5 @@ fn release<B: Bins + Drop, T, J: May>(
 {
     // For the proof alone: what `J` says of the actions it says by this value.
     let _ = what;
-    table.swap::<Release<J>>(seat, stripe * LINE_WORDS, 0);
+    table.swap::<Release<J>>(seat, stripe * STRIPE_WORDS, 0);
 }

@@ -43,7 +43,7 @@ impl StripedMap {
         let table = &self.table.shared;
         let Pass {
             known: mut one,
-            machine,
+            workspace,
         } = one;
         let Pass {
             known: mut other,
@@ -55,7 +55,7 @@ impl StripedMap {
         look(table, &mut seat, 0);
         Pass {
             known: Known::of(seat),
-            machine,
+            workspace,
         }
     }
 }

@@ -1,5 +1,5 @@
 -- Which bin a hash goes to: shifts by powers of two, and numbers of bins.
-use Rattle.std.proofs.Common.{◌≡◌, ℕ, ◌+◌, ◌-◌, ◌*◌, ◌^◌, ◌<◌, ◌≤◌, Bool, T, sym, ap, ◌∙◌, arith, inl, inr}
+use Rattle.std.proofs.Common.{◌≡◌, ℕ, ◌+◌, ◌*◌, ◌^◌, ◌<◌, ◌≤◌, Bool, T, sym, ap, ◌∙◌, arith, inl, inr}
 use Rattle.std.specs.Prelude.{nat_eq, min}
 use Rattle.std.specs.Int.{IsPowerOfTwo, trailing_zeros, w64}
 use Rattle.std.proofs.lemmas.Bool.{cases_lt, eqb-true}

@@ -7,10 +7,9 @@ use Rattle.std.specs.FinMap as map
 use Rattle.std.specs.FinMap.{find, from_entries, from_entries_push, same_map, get-from_entries, get-insert, get-remove}
 use Rattle.std.specs.FinMap.Entries.{find-append}
 use Rattle.std.proofs.lemmas.Bool.{cases_lt}
-use Rattle.std.proofs.lemmas.List.{take_more, take_all, take-set-le, take-map, map-set, map_push, get_or-map, get_or-take, length-take-le, length-map}
-use Rattle.bins.specs.Hashes.{hash}
+use Rattle.std.proofs.lemmas.List.{take_more, take_all, take-set-le, get_or-take, length-take-le}
 use Rattle.bins.specs.Table.{Entry, Table, by_bytes}
-use Rattle.bins.specs.Entries.{Distinct, hashes_of}
+use Rattle.bins.specs.Entries.{Distinct}
 use Rattle.bins.proofs.SortedEntries.{is_equal}
 use Rattle.bins.proofs.MapEdits.{total, antisymmetric}
 
@@ -144,11 +143,6 @@ Distinct-write [] i v d h = h
 Distinct-write (e ∷ es) zero v d h = h
 Distinct-write (e ∷ es) (suc i) v d h = (none_write es i e.0 v d h.0, Distinct-write es i v d h.1)
 
-hashes-write : (es : List Entry) (i : ℕ) (v : List ℕ) (d : Entry) → hashes_of (set es i ((get_or es i d).0, v)) ≡ hashes_of es
-hashes-write [] i v d = refl
-hashes-write (e ∷ es) zero v d = refl
-hashes-write (e ∷ es) (suc i) v d = ap (λ (xs : List ℕ). hash e.0 ∷ xs) (hashes-write es i v d)
-
 abbrev pub table_of : List Entry → Table
 table_of es = from_entries es
 
@@ -160,9 +154,6 @@ get_none es k h = get-from_entries total es k ∙ find_none es k h
 
 -- the value of the entry that was read is written over
 module _ (es : List Entry) (i : ℕ) (v : List ℕ) (x : Entry) (is : x ≡ get_or es i x) where
-  pub written_hashes : hashes_of (set es i (x.0, v)) ≡ hashes_of es
-  written_hashes = ap (λ (e : Entry). hashes_of (set es i (e.0, v))) is ∙ hashes-write es i v x
-
   pub written_distinct : Distinct es → Distinct (set es i (x.0, v))
   written_distinct h = subst (λ (e : Entry). Distinct (set es i (e.0, v))) (sym is) (Distinct-write es i v x h)
 
@@ -173,9 +164,6 @@ module _ (es : List Entry) (i : ℕ) (v : List ℕ) (x : Entry) (is : x ≡ get_
 
 -- an entry of a new key comes to the end
 module _ (es : List Entry) (k v : List ℕ) where
-  pub pushed_hashes : hashes_of (es ++ (k, v) ∷ []) ≡ hashes_of es ++ hash k ∷ []
-  pushed_hashes = map_push (λ (e : Entry). hash e.0) es (k, v)
-
   pub pushed_table : Lacks k es → table_of (es ++ (k, v) ∷ []) ≡ map.insert (table_of es) k v
   pushed_table h = from_entries_push total antisymmetric es k v (find_none es k h)
 
@@ -267,20 +255,3 @@ module _ (es : List Entry) (i : ℕ) (d : Entry) (k : List ℕ) (h : Distinct es
   removed_table = same_map total antisymmetric _ _ (λ q.
       get-from_entries total _ q ∙ left_find which q ∙ ap (λ (xs : List Entry). cond (same_key q k) None (find by_bytes q xs)) (sym split)
       ∙ ap (cond (same_key q k) None) (sym (get-from_entries total es q)) ∙ sym (get-remove total (table_of es) k q))
-
--- the hashes lose the one of the entry that goes, where that is at the same position
-pub removed_hashes : (es : List Entry) (i j n : ℕ) (d : Entry) (hs new : List ℕ) → new ≡ swap_remove hs j n → hs ≡ hashes_of es → j ≡ i → i < length es → new ≡ hashes_of (swap_remove es i d)
-removed_hashes es i j n d hs new removed are same lt =
-    let size : length (hashes_of es) ≡ length es = length-map es (λ (e : Entry). hash e.0) in
-    let last : get_or (hashes_of es) (length es - 1) n ≡ hash (get_or es (length es - 1) d).0 = get_or-map (λ (e : Entry). hash e.0) es (length es - 1) d n (omega (arith, lt)) in
-    removed ∙ ap (λ (xs : List ℕ). swap_remove xs j n) are ∙ ap (λ (m : ℕ). swap_remove (hashes_of es) m n) same
-    ∙ ap (λ (m : ℕ). take (m - 1) (set (hashes_of es) i (get_or (hashes_of es) (m - 1) n))) size
-    ∙ ap (take (length es - 1)) (ap (set (hashes_of es) i) last ∙ sym (map-set (λ (e : Entry). hash e.0) es i (get_or es (length es - 1) d)))
-    ∙ take-map (λ (e : Entry). hash e.0) (length es - 1) (set es i (get_or es (length es - 1) d))
-
--- what holds at a position holds at the same position
-pub below_same : (i j n : ℕ) → i ≡ j → i < n → j < n
-below_same i j n same lt = omega (arith, same, lt)
-
-pub key_same : (es : List Entry) (k : List ℕ) (i j : ℕ) → i ≡ j → HasKey k es i → HasKey k es j
-key_same es k i j same = subst (HasKey k es) same

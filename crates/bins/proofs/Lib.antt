@@ -1,7 +1,12 @@
 pub mod SortedEntries
 pub mod MapEdits
 pub mod DistinctEntries
+pub mod PairedEntries
+pub mod PlaceLemmas
+pub mod PlaceWrites
+pub mod PlaceRemovals
 pub mod EntryCounts
+pub mod SameEntries
 pub mod SortedCopies
 pub mod HashSearch
 pub mod ReplacementLemmas
@@ -10,4 +15,6 @@ pub mod ChainMoves
 pub mod PowersOfTwo
 pub mod ChainBins
 pub mod ChainEdits
+pub mod TreeLemmas
+pub mod FinderLemmas
 pub mod Examples

@@ -1,5 +1,5 @@
 -- Entries after outcomes: one more outcome, and what they make of the table.
-use Rattle.std.proofs.Common.{◌≡◌, ℕ, suc, ◌+◌, ◌<◌, Bool, true, false, T, cond, ◌&&◌, List, [], ◌∷◌, ◌++◌, length, get_or, set, Option, Some, None, Ok, Err, Ordering, is_eq, is_lt, refl, sym, ap, subst, ◌∙◌, arith}
+use Rattle.std.proofs.Common.{◌≡◌, ℕ, suc, ◌+◌, ◌<◌, Bool, true, false, T, cond, ◌&&◌, List, [], ◌∷◌, ◌++◌, length, get_or, set, Option, Some, None, Result, Ok, Err, Ordering, is_eq, is_lt, refl, sym, ap, subst, ◌∙◌, arith}
 use Rattle.std.specs.List.{count_by}
 use Rattle.std.proofs.lemmas.List.Sums.{sum_by-cons, sum_by_push}
 use Rattle.std.specs.Option.{option_map, unwrap_or}
@@ -13,13 +13,14 @@ use Rattle.bpf_model.specs.declared.input.InputPart.TheVariants.{Key}
 use Rattle.bpf_model.specs.Fits.{input_of}
 use Rattle.verifier.specs.Checked.{Checked}
 use Rattle.bins.specs.declared.counts.Counts.{Counts}
-use Rattle.bins.specs.Hashes.{hash}
 use Rattle.bins.specs.Table.{Entry, Table, by_bytes}
-use Rattle.bins.specs.Entries.{Distinct, hashes_of}
+use Rattle.bins.specs.Columns.{string_at}
+use Rattle.bins.specs.Entries.{Distinct, entries_in}
 use Rattle.bins.specs.Replacements.{Outcome, ComesTo, value_after, is_given, is_unfit, ReplacesEach}
-use Rattle.bins.specs.Passes.{entered_of, AreOutcomes, entries_after, ReplacesList}
+use Rattle.bins.specs.Passes.{entered_of, AreOutcomes, entries_after, Replaces, ReplacesList}
 use Rattle.bins.proofs.MapEdits.{total}
 use Rattle.bins.proofs.DistinctEntries.{same_key, turned, alike, none_after}
+use Rattle.bins.proofs.PairedEntries.{paired-length, paired-at, paired-write}
 use Rattle.bins.proofs.EntryCounts.{Distinct-sorted, from_entries-sorted, counted_in_table, len-table}
 
 pub length-entries_after : (es : List Entry) (os : List Outcome) → length (entries_after es os) ≡ length es
@@ -65,6 +66,27 @@ module _ (checked : Checked) (arg : Option (List ℕ)) (es here : List Entry) (o
       ∙ ap (λ (xs : List Entry). set xs i ((get_or es (length os) d).0, value_after o (get_or es (length os) d).1)) is
       ∙ ap (λ (n : ℕ). set (entries_after es os) n ((get_or es (length os) d).0, value_after o (get_or es (length os) d).1)) (sym at)
       ∙ sym (entries_after-push es os o d not_yet)
+
+-- the value at a position is replaced, where keys and values stand in two lists
+module _ (checked : Checked) (arg : Option (List ℕ)) (ks first vs : List (List ℕ)) (os : List Outcome) (is : entries_in ks vs ≡ entries_after (entries_in ks first) os) (i : ℕ) (at : length os ≡ i)
+    (same : length ks ≡ length vs) (lt : i < length ks) (new : List (List ℕ)) (told : Result Bool InputPart) (one : Replaces checked (string_at ks i) arg (string_at vs i) (string_at new i) told) where
+  abbrev nobody : Entry
+  nobody = ([], [])
+
+  here : get_or (entries_in ks vs) i nobody ≡ (string_at ks i, string_at vs i)
+  here = paired-at ks vs i nobody same lt
+
+  within : i < length (entries_in ks vs)
+  within = omega (arith, lt, paired-length ks vs same)
+
+  pub paired_outcomes : AreOutcomes checked arg (entries_in ks first) os → AreOutcomes checked arg (entries_in ks first) (os ++ one.outcome ∷ [])
+  paired_outcomes are = outcomes_grow checked arg (entries_in ks first) (entries_in ks vs) os is i at within nobody one.outcome are
+      (subst (λ (e : Entry). ComesTo checked (input_of e.0 (Some e.1) arg) one.outcome) (sym here) one.comes_to)
+
+  pub paired_entries : new ≡ set vs i (string_at new i) → entries_in ks new ≡ entries_after (entries_in ks first) (os ++ one.outcome ∷ [])
+  paired_entries others =
+      ap (entries_in ks) others ∙ paired-write ks vs i (string_at new i) nobody
+      ∙ entries_grow checked arg (entries_in ks first) (entries_in ks vs) os is i at within nobody one.outcome (string_at new i) (one.entered ∙ ap (λ (e : Entry). value_after one.outcome e.1) (sym here))
 
 -- what is told of an outcome tells how it counts
 pub told_answer : (o : Outcome) (b : Bool) → Ok b ≡ entered_of o → (is_given o ≡ b) × (is_unfit o ≡ false)
@@ -160,11 +182,6 @@ count_by-outcome_at p (e ∷ es) (o ∷ os) h one_each =
     ∙ sym (count_cons (λ (f : Entry). p (cond (eq_by_cmp by_bytes f.0 e.0) o (outcome_at es os f.0))) e es)
 
 -- the keys are as before
-hashes-entries_after : (es : List Entry) (os : List Outcome) → hashes_of (entries_after es os) ≡ hashes_of es
-hashes-entries_after es [] = refl
-hashes-entries_after [] (o ∷ os) = refl
-hashes-entries_after (e ∷ es) (o ∷ os) = ap (λ (hs : List ℕ). hash e.0 ∷ hs) (hashes-entries_after es os)
-
 Distinct-entries_after : (es : List Entry) (os : List Outcome) → length os ≡ length es → Distinct es → Distinct (entries_after es os)
 Distinct-entries_after es [] one_each h = h
 Distinct-entries_after [] (o ∷ os) one_each h = absurd (omega (arith, one_each))
@@ -174,10 +191,9 @@ Distinct-entries_after (e ∷ es) (o ∷ os) one_each h =
 
 -- what was done to entries without a key twice is done to their table
 pub replaces_entries : (checked : Checked) (arg : Option (List ℕ)) (old new : List Entry) (counts : Counts) → Distinct old → ReplacesList checked arg old new counts
-    → (hashes_of new ≡ hashes_of old) × Distinct new × ReplacesEach checked arg (from_entries old) (from_entries new) counts
+    → Distinct new × ReplacesEach checked arg (from_entries old) (from_entries new) counts
 replaces_entries checked arg old new counts h list =
     let outcome = outcome_at old list.outcomes in (
-      ap hashes_of list.entered ∙ hashes-entries_after old list.outcomes,
       subst Distinct (sym list.entered) (Distinct-entries_after old list.outcomes list.one_each h),
       record {
         outcome = outcome;
@@ -196,7 +212,7 @@ pub replaces_table : (checked : Checked) (arg : Option (List ℕ)) (old new : Li
 replaces_table checked arg old new counts h list =
     let after : T (is_sorted by_bytes (entries_after old list.outcomes)) = subst T (sym (sorted-entries_after old list.outcomes)) h in
     let sorted = subst (λ (xs : List Entry). T (is_sorted by_bytes xs)) (sym list.entered) after in
-    let each = (replaces_entries checked arg old new counts (Distinct-sorted old h) list).2 in (
+    let each = (replaces_entries checked arg old new counts (Distinct-sorted old h) list).1 in (
       sorted,
       subst (λ (t : Table). ReplacesEach checked arg t (from_sorted new) counts) (from_entries-sorted old h)
           (subst (λ (t : Table). ReplacesEach checked arg (from_entries old) t counts) (from_entries-sorted new sorted) each),

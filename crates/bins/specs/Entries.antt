@@ -1,14 +1,14 @@
--- Entries in a list of no order, and the hashes of their keys.
-use Rattle.std.specs.Prelude.{◌≡◌, ℕ, List, [], ◌∷◌, None, ⊤, map}
+-- Entries in a list of no order.
+use Rattle.std.specs.Prelude.{◌≡◌, ℕ, List, [], ◌∷◌, None, ⊤}
+use Rattle.std.specs.List.{zip}
 use Rattle.std.specs.FinMap.{find}
-use Rattle.bins.specs.Hashes.{hash}
 use Rattle.bins.specs.Table.{Entry, by_bytes}
+
+-- the entries whose keys stand in one list, and whose values stand in another at the same positions
+abbrev pub entries_in : List (List ℕ) → List (List ℕ) → List Entry
+entries_in keys values = zip keys values
 
 -- no key stands twice
 abbrev pub Distinct : List Entry → Type 0
 Distinct [] = ⊤
 Distinct (entry ∷ entries) = (find by_bytes entry.0 entries ≡ None) × Distinct entries
-
--- the hash of each entry's key
-abbrev pub hashes_of : List Entry → List ℕ
-hashes_of entries = map (λ entry. hash entry.0) entries

@@ -1,8 +1,11 @@
 pub mod Table
 pub mod Entries
+pub mod Copies
 pub mod Positions
-pub mod Lending
+pub mod Columns
 pub mod Replacements
 pub mod Passes
 pub mod Hashes
 pub mod Chains
+pub mod Trees
+pub mod Finders

@@ -98,6 +98,42 @@ impl Chains {
         self.heads.len()
     }
 
+    /// For how many stripes it was opened. Takes no memory.
+    pub fn stripes(&self) -> u64
+        requires shift { self.now.shift < 32 }
+        ensures value { result ≡ 2 ^ self.now.shift }
+    {
+        1 << self.shift
+    }
+
+    /// Where memory for the chains comes from.
+    pub fn alloc(&self) -> Global {
+        *self.heads.allocator()
+    }
+
+    /// The number of positions. Takes no memory.
+    #[inline(always)]
+    pub fn len(&self) -> usize
+        ensures value { result ≡ length self.now.hashes.items }
+    {
+        self.hashes.len()
+    }
+
+    /// How many positions are in the chain of the last one behind it. Takes no memory.
+    #[inline(always)]
+    pub fn steps_from_last(&self) -> usize
+        requires chained { AreChained self.now }
+        ensures bound { result ≤ length self.now.hashes.items }
+    {
+        let mut steps = 0;
+        let mut at = self.nexts.last().copied().unwrap_or(0);
+        while at != 0 {
+            steps += 1;
+            at = self.nexts[at - 1];
+        }
+        steps
+    }
+
     // The first position with this hash along a chain.
     #[inline(always)]
     fn find_from(&self, first: usize, hash: u32) -> Option<usize>

@@ -1,15 +1,82 @@
 //! Copies of entries.
-ghost use Rattle.std.specs.Prelude.{◌≡◌, IfOk};
+ghost use Rattle.std.specs.Prelude.{◌≡◌, ◌<◌, ◌^◌, ◌++◌, length, OnOk, OnErr};
+ghost use Rattle.std.specs.FinMap as map;
+ghost use Rattle.bins.specs.Columns.{string_at};
+ghost use Rattle.bins.specs.Copies.{AreCopies};
+ghost use Rattle.bins.specs.Entries.{entries_in};
+ghost use Rattle.bins.specs.Table.{Table};
 
-use bpf_model::{Key, Value};
-use std::alloc::{AllocError, Global};
+use crate::column::Column;
+use crate::hashes::HashedKey;
+use bpf_model::limits::{KEY_BYTES, VALUE_BYTES};
+use bpf_model::{Key, NoMemory, Value};
 
-/// The entries once more, in room for just these.
-pub fn copies_of(alloc: Global, entries: &[(Key, Value)]) -> Result<Vec<(Key, Value)>, AllocError>
-    ensures { IfOk result (λ copies. copies.items ≡ entries.now) }
+/// An entry with copies of this key and this value.
+#[inline(always)]
+pub(crate) fn entry_of(key: &HashedKey<'_>, value: &Value) -> (Key, Value)
+    ensures { result ≡ (key.now, value.now) }
 {
-    let copies = entries
-        .iter()
-        .map(|(key, value)| (key.copied(), value.copied()));
-    copies.collect(alloc)
+    (key.key().copied(), value.copied())
+}
+
+/// Adds the entries to the list once more. Asks for memory once, where the list has no room for them.
+pub(crate) fn add_copies(
+    list: &mut Vec<(Key, Value)>,
+    entries: &[(Key, Value)],
+) -> Result<(), NoMemory>
+    ensures ok { OnOk result (list.new.items ≡ list.old.items ++ entries.now) }
+    ensures err { OnErr result (list.new.items ≡ list.old.items) }
+    ensures bounded { length entries.now < 2 ^ 57 }
+{
+    list.try_reserve(entries.len())?;
+    for (key, value) in entries {
+        list.push_reserved((key.copied(), value.copied()));
+    }
+    Ok(())
+}
+
+/// A copy of the key at a position.
+pub(crate) fn key_at(keys: &Column<KEY_BYTES>, position: usize) -> Key
+    requires { position < length keys.now.items }
+    ensures { result ≡ string_at keys.now.items position }
+{
+    let key = Key::from_slice(keys.get(position));
+    key.unwrap()
+}
+
+// A copy of the entry at a position.
+fn entry_at(keys: &Column<KEY_BYTES>, values: &Column<VALUE_BYTES>, position: usize) -> (Key, Value)
+    requires key { position < length keys.now.items }
+    requires value { position < length values.now.items }
+    ensures { result ≡ (string_at keys.now.items position, string_at values.now.items position) }
+{
+    let value = Value::from_slice(values.get(position));
+    (key_at(keys, position), value.unwrap())
+}
+
+/// Adds the entries of these keys and values to the list. Asks for memory once, where the list has no room for them.
+pub(crate) fn add_paired(
+    list: &mut Vec<(Key, Value)>,
+    keys: &Column<KEY_BYTES>,
+    values: &Column<VALUE_BYTES>,
+) -> Result<(), NoMemory>
+    requires paired { length keys.now.items ≡ length values.now.items }
+    ensures ok { OnOk result (list.new.items ≡ list.old.items ++ entries_in keys.now.items values.now.items) }
+    ensures err { OnErr result (list.new.items ≡ list.old.items) }
+    ensures bounded { length keys.now.items < 2 ^ 57 }
+{
+    let many = keys.len();
+    list.try_reserve(many)?;
+    for position in 0..many {
+        list.push_reserved(entry_at(keys, values, position));
+    }
+    Ok(())
+}
+
+/// Puts the entries of a table in key order. Takes no memory.
+pub fn sort_entries(entries: &mut Vec<(Key, Value)>)
+    ensures order { (table : Table) → AreCopies table entries.old.items →
+        entries.new.items ≡ map.entries table }
+{
+    entries.sort_unstable_by(|a, b| a.0.cmp(&b.0));
 }

@@ -1,138 +1,134 @@
-//! Entries in one list, found by the hashes of their keys.
-ghost use Rattle.std.specs.Prelude.{◌≡◌, ◌≢◌, ◌<◌, length, HoldsAt, IfOk, IfSome, IfNone};
-ghost use Rattle.std.specs.List.{AllWithin};
-ghost use Rattle.bins.specs.Hashes.{hash as hash_of};
-ghost use Rattle.bins.specs.Entries.{hashes_of};
+//! Entries found by the hashes of their keys, each in as many bytes as it needs.
+ghost use Rattle.std.specs.Int.{IsPowerOfTwo};
 ghost use Rattle.bins.specs.Chains.{IsBinCount};
 
 use crate::bins::Bins;
-use crate::copies::copies_of;
+use crate::column::Column;
+use crate::copies::{add_paired, sort_entries};
 use crate::counts::Counts;
-use crate::index::Index;
-use crate::replacement::{count_of, replace_values};
+use crate::finder::Finder;
+use crate::hashes::HashedKey;
+use crate::replacement::replace_paired;
+use bpf_model::limits::{KEY_BYTES, VALUE_BYTES};
 use bpf_model::{Key, NoMemory, Value};
 use std::alloc::Global;
 use std::marker::Model;
 use verifier::Verified;
 
-/// The entries in one list, in no order, and beside them an index by the hashes of their keys. A search compares the keys
-/// of one hash alone; a new key goes to the end of the list, and a removal moves the last entry into the gap.
+/// The keys in one list and their values in another, in no order, and beside them what finds a key's position. A new key
+/// goes to the end of the lists, and a removal moves the last entry into the gap.
 #[derive(Drop)]
 pub struct HashedBins {
-    index: Index,
-    entries: Vec<(Key, Value)>,
+    finder: Finder,
+    keys: Column<KEY_BYTES>,
+    values: Column<VALUE_BYTES>,
+    // A line of the cache that nothing writes, so that bins side by side share none.
+    _gap: [u64; 8],
 }
 
 impl Model for HashedBins {
-    ghost use Rattle.std.specs.Prelude.{◌≡◌};
+    ghost use Rattle.std.specs.Prelude.{◌≡◌, length};
     ghost use Rattle.std.specs.FinMap as map;
     ghost use Rattle.bins.specs.Table.{Table, table_code};
-    ghost use Rattle.bins.specs.Entries.{Distinct, hashes_of};
+    ghost use Rattle.bins.specs.Entries.{Distinct, entries_in};
+    ghost use Rattle.bins.specs.Finders.{Finds};
 
     ghost Value = { Table };
 
     ghost coded = { table_code };
 
-    ghost view = { λ b. map.from_entries b.entries.items };
+    ghost view = { λ b. map.from_entries (entries_in b.keys.items b.values.items) };
 
-    ghost invariant = { λ b. (b.index.hashes ≡ hashes_of b.entries.items) × Distinct b.entries.items };
-}
-
-// The position of the key among the entries.
-#[inline(always)]
-fn position_of(index: &Index, entries: &[(Key, Value)], key: &Key, hash: u32) -> Option<usize>
-    requires index { index.now.hashes ≡ hashes_of entries.now }
-    requires hash { hash ≡ hash_of key.now }
-    ensures bound { IfSome result (λ position. position < length entries.now) }
-    ensures found { IfSome result (HoldsAt (λ entry. entry.0 ≡ key.now) entries.now) }
-    ensures absent { IfNone result (AllWithin (λ entry. entry.0 ≢ key.now) entries.now 0 (length entries.now)) }
-{
-    let mut next = index.last(hash);
-    while let Some(position) = next {
-        if entries[position].0 == *key {
-            return Some(position);
-        }
-        next = index.before(position, hash);
-    }
-    None
+    ghost invariant = { λ b. Finds b.finder b.keys.items
+        × Distinct (entries_in b.keys.items b.values.items)
+        × (length b.keys.items ≡ length b.values.items) };
 }
 
 impl HashedBins {
-    /// How many bins the index has: a power of two from 8 to 65,536. Takes no memory.
+    /// How many bins the index has: a power of two from 8 to 65,536. A tree, which has none, tells how many there would
+    /// be. Takes no memory.
     pub fn bins(&self) -> u64
         ensures count { IsBinCount result }
     {
-        self.index.bins()
+        self.finder.bins()
+    }
+
+    /// For how many stripes it was opened. Takes no memory.
+    pub fn stripes(&self) -> u64
+        ensures power { IsPowerOfTwo result }
+    {
+        self.finder.stripes()
     }
 }
 
 impl Bins for HashedBins {
-    ghost use Rattle.std.proofs.Common.{refl};
-    ghost use Rattle.std.specs.FinMap as map;
-
     ghost table = { λ bins. bins };
-
-    ghost entered = { λ bins key value. map.insert bins key value };
-
-    ghost is_entered = { λ bins key value. refl };
 
     fn open(alloc: Global, stripes: u64) -> Result<HashedBins, NoMemory> {
         Ok(HashedBins {
-            index: Index::open(alloc, stripes)?,
-            entries: Vec::new(alloc),
+            finder: Finder::open(alloc, stripes)?,
+            keys: Column::new(alloc),
+            values: Column::new(alloc),
+            _gap: [0; 8],
         })
     }
 
-    fn find(&self, key: &Key, hash: u32) -> Option<&Value> {
-        match position_of(&self.index, &self.entries, key, hash) {
-            Some(position) => Some(&self.entries[position].1),
+    fn find(&self, key: &HashedKey<'_>) -> Option<&[u8]> {
+        match self.finder.position(&self.keys, key) {
+            Some(position) => Some(self.values.get(position)),
             None => None,
         }
     }
 
-    fn find_mut(&mut self, key: &Key, hash: u32) -> Option<&mut Value> {
-        match position_of(&self.index, &self.entries, key, hash) {
-            Some(position) => Some(&mut self.entries[position].1),
-            None => None,
-        }
-    }
-
-    fn put(&mut self, key: Key, value: Value, hash: u32) -> Result<(), NoMemory> {
-        match position_of(&self.index, &self.entries, &key, hash) {
+    fn put(&mut self, key: &HashedKey<'_>, value: &Value) -> Result<(), NoMemory> {
+        match self.finder.position(&self.keys, key) {
             Some(position) => {
-                self.entries[position].1.set_from(value.as_slice());
+                self.values.set(position, value.as_slice());
                 Ok(())
             }
             None => {
-                self.entries.try_reserve(1)?;
-                self.index.push(hash)?;
-                self.entries.push_reserved((key, value));
+                self.keys.reserve_one()?;
+                self.values.reserve_one()?;
+                self.finder.push(&self.keys, key)?;
+                self.keys.push_reserved(key.key().as_slice());
+                self.values.push_reserved(value.as_slice());
+                self.finder.settle(&self.keys);
                 Ok(())
             }
         }
     }
 
-    fn remove(&mut self, key: &Key, hash: u32) -> Option<Value> {
-        match position_of(&self.index, &self.entries, key, hash) {
+    #[inline(always)]
+    fn remove(&mut self, key: &HashedKey<'_>) -> Option<Value> {
+        match self.finder.position(&self.keys, key) {
             Some(position) => {
-                self.index.swap_remove(position);
-                Some(self.entries.swap_remove(position).1)
+                let mut value = Value::new();
+                value.set_from(self.values.get(position));
+                self.finder.swap_remove(&self.keys, position);
+                self.keys.swap_remove(position);
+                self.values.swap_remove(position);
+                Some(value)
             }
             None => None,
         }
     }
 
+    fn copy_into(&self, list: &mut Vec<(Key, Value)>) -> Result<(), NoMemory> {
+        add_paired(list, &self.keys, &self.values)
+    }
+
     fn entries(&self, alloc: Global) -> Result<Vec<(Key, Value)>, NoMemory> {
-        let mut found = copies_of(alloc, &self.entries)?;
-        found.sort_by(|a, b| a.0.cmp(&b.0))?;
+        let mut found = Vec::new(alloc);
+        self.copy_into(&mut found)?;
+        sort_entries(&mut found);
         Ok(found)
     }
 
     fn count(&self) -> u64 {
-        count_of(&self.entries)
+        self.keys.len() as u64
     }
 
     fn replace_each(&mut self, program: &Verified, arg: &Option<Value>) -> Counts {
-        replace_values(&mut self.entries, program, arg)
+        replace_paired(&self.keys, &mut self.values, program, arg)
     }
 }

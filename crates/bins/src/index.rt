@@ -9,11 +9,18 @@ use bpf_model::NoMemory;
 use std::alloc::Global;
 use std::marker::Model;
 
+/// So many steps along a chain are few, and one more for each `HASHES_PER_STEP` hashes.
+const FEW_STEPS: usize = 16;
+/// Where the bins double no more, the mean chain grows by a position for each 65,536 hashes: few is eight times as much.
+const HASHES_PER_STEP: usize = 8192;
+
 /// A list of hashes, each found again by the chain of its bin. A position in the list is that of an entry, which stands
 /// elsewhere. 12 bytes a hash, and 8 bytes a bin.
 #[derive(Drop)]
 pub struct Index {
     chains: Chains,
+    // The steps beyond a few that walks along chains took.
+    excess: u64,
 }
 
 impl Model for Index {
@@ -36,7 +43,21 @@ impl Index {
     {
         Ok(Index {
             chains: Chains::open(alloc, stripes)?,
+            excess: 0,
         })
+    }
+
+    /// For how many stripes it was opened. Takes no memory.
+    pub fn stripes(&self) -> u64
+        ensures value { result ≡ self.now.stripes }
+        ensures power { IsPowerOfTwo result }
+    {
+        self.chains.stripes()
+    }
+
+    /// Where memory for the index comes from.
+    pub fn alloc(&self) -> Global {
+        self.chains.alloc()
     }
 
     /// The number of bins. Takes no memory.
@@ -84,5 +105,29 @@ impl Index {
         ensures stripes { self.new.stripes ≡ self.old.stripes }
     {
         self.chains.swap_remove(position);
+    }
+
+    /// Looks at the chain that the last hash came into. Its steps beyond a few are added to a sum; whether the sum is more
+    /// than the hashes, and then it begins anew. Takes no memory.
+    #[inline(always)]
+    pub fn is_slow(&mut self) -> bool
+        ensures same { self.new ≡ self.old }
+    {
+        let steps = self.chains.steps_from_last();
+        steps > FEW_STEPS && self.count_steps(steps)
+    }
+
+    // Adds steps beyond a few to the sum; whether the sum is more than the hashes, and then it begins anew.
+    #[cold]
+    fn count_steps(&mut self, steps: usize) -> bool
+        ensures same { self.new ≡ self.old }
+    {
+        let few = FEW_STEPS + self.chains.len() / HASHES_PER_STEP;
+        self.excess = self.excess.saturating_add(steps.saturating_sub(few) as u64);
+        let slow = self.excess > self.chains.len() as u64;
+        if slow {
+            self.excess = 0;
+        }
+        slow
     }
 }

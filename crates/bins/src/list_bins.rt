@@ -6,8 +6,9 @@ ghost use Rattle.bins.specs.Table.{by_bytes};
 ghost use Rattle.bins.specs.Positions.{IsAt, IsGapFor};
 
 use crate::bins::Bins;
-use crate::copies::copies_of;
+use crate::copies::{add_copies, entry_of};
 use crate::counts::Counts;
+use crate::hashes::HashedKey;
 use crate::replacement::{count_of, replace_values};
 use bpf_model::{Key, NoMemory, Value};
 use std::alloc::Global;
@@ -34,14 +35,24 @@ impl Model for ListBins {
     ghost invariant = { λ b. T (map.is_sorted by_bytes b.entries.items) };
 }
 
-// Where the key stands, or where it would go.
-fn position_of(entries: &[(Key, Value)], key: &Key) -> Result<usize, usize>
+// Where this key stands, or where it would go.
+fn position_with(entries: &[(Key, Value)], key: &Key) -> Result<usize, usize>
     requires { T (is_sorted by_bytes entries.now) }
     ensures bound { IsSearchInRange result (length entries.now) }
     ensures found { IfOk result (IsAt entries.now key.now) }
     ensures absent { IfErr result (IsGapFor entries.now key.now) }
 {
     entries.binary_search_by(|entry| entry.0.cmp(key))
+}
+
+// Where the key stands, or where it would go.
+fn position_of(entries: &[(Key, Value)], key: &HashedKey<'_>) -> Result<usize, usize>
+    requires { T (is_sorted by_bytes entries.now) }
+    ensures bound { IsSearchInRange result (length entries.now) }
+    ensures found { IfOk result (IsAt entries.now key.now) }
+    ensures absent { IfErr result (IsGapFor entries.now key.now) }
+{
+    position_with(entries, key.key())
 }
 
 // Adds an entry at a position; the ones from there on move.
@@ -59,14 +70,7 @@ fn add_entry(
 }
 
 impl Bins for ListBins {
-    ghost use Rattle.std.proofs.Common.{refl};
-    ghost use Rattle.std.specs.FinMap as map;
-
     ghost table = { λ bins. bins };
-
-    ghost entered = { λ bins key value. map.insert bins key value };
-
-    ghost is_entered = { λ bins key value. refl };
 
     fn open(alloc: Global, _stripes: u64) -> Result<ListBins, NoMemory> {
         Ok(ListBins {
@@ -74,42 +78,44 @@ impl Bins for ListBins {
         })
     }
 
-    fn find(&self, key: &Key, _hash: u32) -> Option<&Value> {
+    fn find(&self, key: &HashedKey<'_>) -> Option<&[u8]> {
         match position_of(&self.entries, key) {
-            Ok(position) => Some(&self.entries[position].1),
-            Err(_) => None,
-        }
-    }
-
-    fn find_mut(&mut self, key: &Key, _hash: u32) -> Option<&mut Value> {
-        match position_of(&self.entries, key) {
-            Ok(position) => Some(&mut self.entries[position].1),
-            Err(_) => None,
-        }
-    }
-
-    fn put(&mut self, key: Key, value: Value, _hash: u32) -> Result<(), NoMemory> {
-        match position_of(&self.entries, &key) {
             Ok(position) => {
-                self.entries[position].1 = value;
+                let value = &self.entries[position].1;
+                Some(value.as_slice())
+            }
+            Err(_) => None,
+        }
+    }
+
+    fn put(&mut self, key: &HashedKey<'_>, value: &Value) -> Result<(), NoMemory> {
+        match position_of(&self.entries, key) {
+            Ok(position) => {
+                self.entries[position].1.set_from(value.as_slice());
                 Ok(())
             }
             Err(position) => {
-                add_entry(&mut self.entries, position, (key, value))?;
+                add_entry(&mut self.entries, position, entry_of(key, value))?;
                 Ok(())
             }
         }
     }
 
-    fn remove(&mut self, key: &Key, _hash: u32) -> Option<Value> {
+    fn remove(&mut self, key: &HashedKey<'_>) -> Option<Value> {
         match position_of(&self.entries, key) {
             Ok(position) => Some(self.entries.remove(position).1),
             Err(_) => None,
         }
     }
 
+    fn copy_into(&self, list: &mut Vec<(Key, Value)>) -> Result<(), NoMemory> {
+        add_copies(list, &self.entries)
+    }
+
     fn entries(&self, alloc: Global) -> Result<Vec<(Key, Value)>, NoMemory> {
-        Ok(copies_of(alloc, &self.entries)?)
+        let mut found = Vec::new(alloc);
+        add_copies(&mut found, &self.entries)?;
+        Ok(found)
     }
 
     fn count(&self) -> u64 {

@@ -1,15 +1,20 @@
 //! The replacement of values by what a program answers.
-ghost use Rattle.std.specs.Prelude.{◌≡◌, ◌<◌, ◌^◌, length};
+ghost use Rattle.std.specs.Prelude.{◌≡◌, ◌<◌, ◌^◌, length, set};
+ghost use Rattle.bins.specs.Columns.{string_at};
+ghost use Rattle.bins.specs.Entries.{entries_in};
 ghost use Rattle.bins.specs.Passes.{Replaces, ReplacesList};
 
+use crate::column::Column;
 use crate::counts::Counts;
 use bpf_machine::{Machine, run_into};
+use bpf_model::limits::{KEY_BYTES, VALUE_BYTES};
 use bpf_model::{InputPart, Key, Value, fits_parts};
 use verifier::Verified;
 
-// Enters what the program answers on the key, its value and the argument; whether it answered bytes. The value stays
-// where it answers nothing, and where a window is too small. What `answer` holds then is not said.
-fn replace_value(
+/// Enters what the program answers on the key, its value and the argument; whether it answered bytes. The value stays
+/// where it answers nothing, and where a window is too small, whose name is then the error. Works in `machine` and
+/// `answer`; what these hold before makes no difference, and what they hold then is not said. Takes no memory.
+pub fn replace_value(
     program: &Verified,
     key: &Key,
     value: &mut Value,
@@ -61,4 +66,78 @@ pub fn count_of(entries: &[(Key, Value)]) -> u64
     ensures bounded { result < 2 ^ 57 }
 {
     entries.len() as u64
+}
+
+/// Where programs run that replace one value after the other. What it holds makes no difference.
+#[derive(Drop)]
+struct Workbench {
+    machine: Machine,
+    old: Value,
+    answer: Value,
+}
+
+// Replaces the value at a position, as `replace_value` does.
+fn replace_at(
+    program: &Verified,
+    keys: &Column<KEY_BYTES>,
+    values: &mut Column<VALUE_BYTES>,
+    position: usize,
+    arg: &Option<Value>,
+    bench: &mut Workbench,
+) -> Result<bool, InputPart>
+    requires key { position < length keys.now.items }
+    requires value { position < length values.old.items }
+    ensures by_outcome { Replaces program.now (string_at keys.now.items position) arg.now
+        (string_at values.old.items position) (string_at values.new.items position) result }
+    ensures others { values.new.items ≡ set values.old.items position (string_at values.new.items position) }
+{
+    let key = Key::from_slice(keys.get(position));
+    let key = key.unwrap();
+    let Workbench {
+        machine,
+        old,
+        answer,
+    } = bench;
+    old.set_from(values.get(position));
+    fits_parts(&program.sizes(), &key, Some(old), arg.as_ref())?;
+    let given = run_into(program, &key, Some(old), arg.as_ref(), machine, answer);
+    if given {
+        values.set(position, answer.as_slice());
+    }
+    Ok(given)
+}
+
+/// Replaces the value of each entry once, in their order, and counts what became of them. Takes no memory.
+pub(crate) fn replace_paired(
+    keys: &Column<KEY_BYTES>,
+    values: &mut Column<VALUE_BYTES>,
+    program: &Verified,
+    arg: &Option<Value>,
+) -> Counts
+    requires paired { length keys.now.items ≡ length values.old.items }
+    ensures each { ReplacesList program.now arg.now (entries_in keys.now.items values.old.items)
+        (entries_in keys.now.items values.new.items) result }
+    ensures paired { length keys.now.items ≡ length values.new.items }
+    ensures bounded { result.scanned < 2 ^ 57 }
+{
+    let mut bench = Workbench {
+        machine: Machine::new(),
+        old: Value::new(),
+        answer: Value::new(),
+    };
+    let mut given = 0;
+    let mut unfit = 0;
+    let many = keys.len();
+    for position in 0..many {
+        match replace_at(program, keys, values, position, arg, &mut bench) {
+            Ok(true) => given += 1,
+            Ok(false) => {}
+            Err(_) => unfit += 1,
+        }
+    }
+    Counts {
+        scanned: many as u64,
+        given,
+        unfit,
+    }
 }

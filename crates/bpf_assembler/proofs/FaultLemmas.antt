@@ -9,13 +9,14 @@ use Rattle.bpf_model.specs.declared.limits.TheConstants.{PROGRAM_UNITS}
 use Rattle.bpf_model.specs.declared.instruction.Insn.{Insn}
 use Rattle.bpf_model.specs.Program.{units_of, unit_count, IsProgram}
 use Rattle.bpf_model.specs.Spelling.{IsInstruction, AreInstructions}
+use Rattle.bpf_model.specs.Refusals.{GivesUnless}
 use Rattle.bpf_assembler.specs.declared.fault.AsmFault.{AsmFault}
 use Rattle.bpf_assembler.specs.declared.fault.AsmFault.TheVariants.{NoMemory, BadCount}
 use Rattle.bpf_assembler.specs.declared.fault.LineFault.{LineFault}
 use Rattle.bpf_assembler.specs.declared.fault.LineFault.TheVariants.{UnknownName, BadOperand, OutOfRange, Trailing}
 use Rattle.bpf_assembler.specs.Reading.{line_at}
 use Rattle.bpf_assembler.specs.Text.{line_of, text_of, IsTextOf, BeginsWithLine}
-use Rattle.bpf_assembler.specs.Faults.{line_number, at_line, fault_in, IsFaultyLine, IsFirstAsmFault, GivesUnlessNoMemory}
+use Rattle.bpf_assembler.specs.Faults.{line_number, at_line, fault_in, IsFaultyLine, IsFirstAsmFault}
 use Rattle.bpf_assembler.proofs.OperandLaws.{line-first, line_again, line_some}
 
 -- ---- texts of lists
@@ -118,7 +119,7 @@ IsTrueOf-passed text e (Ok q) passed h = absurd passed
 IsTrueOf-passed text e (Err x) passed h = record { found = tt; first_fault = rw passed h }
 
 -- where a program has this text no other answer is true
-pub only_program : (text : List ℕ) (p : List Insn) (result : Result (List Insn) AsmFault) → IsTrueOf text result → IsTextOf text p → GivesUnlessNoMemory result (Ok p)
+pub only_program : (text : List ℕ) (p : List Insn) (result : Result (List Insn) AsmFault) → IsTrueOf text result → IsTextOf text p → GivesUnless NoMemory result (Ok p)
 only_program text p (Ok q) h is_text =
     let same : text_of q ++ [] ≡ text_of p ++ [] = ap (λ x. x ++ []) (sym h.found.lines ∙ is_text.lines) in
     inr (ap (λ x. Ok x) (text_of-injective q p [] [] h.found.fits is_text.fits refl refl same))
@@ -128,7 +129,7 @@ only_program text p (Err e) h is_text = elim h.first_fault [
 ]
 
 -- where there is a first fault no other answer is true
-pub only_fault : (text : List ℕ) (fault : AsmFault) (result : Result (List Insn) AsmFault) → IsTrueOf text result → IsFirstAsmFault text fault → GivesUnlessNoMemory result (Err fault)
+pub only_fault : (text : List ℕ) (fault : AsmFault) (result : Result (List Insn) AsmFault) → IsTrueOf text result → IsFirstAsmFault text fault → GivesUnless NoMemory result (Err fault)
 only_fault text fault (Ok q) h first = absurd (no_faulty_line text q fault h.found first)
 only_fault text fault (Err e) h first = elim h.first_fault [
   | inl refused ↦ inl (ap (λ x. Err x) refused)

@@ -1,5 +1,5 @@
 -- Which line of a text is the first faulty one, and what is wrong with it.
-use Rattle.std.specs.Prelude.{◌≡◌, ℕ, zero, suc, codes, decimal, ◌+◌, ◌<◌, ◌≤◌, ◌⊎◌, List, [], ◌++◌, length, Result, Ok, Err}
+use Rattle.std.specs.Prelude.{◌≡◌, ℕ, zero, suc, codes, decimal, ◌+◌, ◌<◌, ◌≤◌, ◌⊎◌, List, [], ◌++◌, length, Ok, Err}
 use Rattle.bpf_model.specs.declared.limits.TheConstants.{PROGRAM_UNITS}
 use Rattle.bpf_model.specs.declared.instruction.Insn.{Insn}
 use Rattle.bpf_model.specs.Program.{units_of, unit_count}
@@ -68,7 +68,3 @@ pub record IsFaultyLine (text : List ℕ) (fault : AsmFault) : Type 0 where
 -- the fault of the first faulty line; an empty text has its fault in line 0
 abbrev pub IsFirstAsmFault : List ℕ → AsmFault → Type 0
 IsFirstAsmFault text fault = ((text ≡ []) × (fault ≡ BadCount 0)) ⊎ IsFaultyLine text fault
-
--- the call answers so, unless memory was refused to it
-abbrev pub GivesUnlessNoMemory : {A : Type 0} → Result A AsmFault → Result A AsmFault → Type 0
-GivesUnlessNoMemory result answer = (result ≡ Err NoMemory) ⊎ (result ≡ answer)

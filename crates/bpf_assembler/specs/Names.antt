@@ -16,6 +16,7 @@ use Rattle.bpf_model.specs.declared.accesses.AccessSize.{AccessSize}
 use Rattle.bpf_model.specs.declared.accesses.AccessSize.TheVariants.{Byte, HalfWord, Word, DoubleWord}
 use Rattle.bpf_model.specs.declared.accesses.LoadKind.{LoadKind}
 use Rattle.bpf_model.specs.declared.accesses.LoadKind.TheVariants.{Byte as LoadByte, HalfWord as LoadHalfWord, Word as LoadWord, DoubleWord as LoadDoubleWord, SignedByte, SignedHalfWord, SignedWord}
+use Rattle.bpf_model.specs.Spelling.{alu_ops}
 use Rattle.bpf_assembler.specs.declared.mnemonic.Stem.{Stem}
 use Rattle.bpf_assembler.specs.declared.mnemonic.Stem.TheVariants as stem
 use Rattle.bpf_assembler.specs.declared.mnemonic.Mnemonic.{Mnemonic}
@@ -151,7 +152,7 @@ abbrev pub kinds : List LoadKind
 kinds = LoadByte ∷ LoadHalfWord ∷ LoadWord ∷ LoadDoubleWord ∷ SignedByte ∷ SignedHalfWord ∷ SignedWord ∷ []
 
 abbrev pub alu_stems : List Stem
-alu_stems = map stem.Alu (Add ∷ Sub ∷ Mul ∷ Div ∷ SDiv ∷ Or ∷ And ∷ Lsh ∷ Rsh ∷ Mod ∷ SMod ∷ Xor ∷ Arsh ∷ [])
+alu_stems = map stem.Alu alu_ops
 
 abbrev pub branch_stems : List Stem
 branch_stems = map stem.Branch (Eq ∷ Gt ∷ Ge ∷ Set ∷ Ne ∷ SGt ∷ SGe ∷ Lt ∷ Le ∷ SLt ∷ SLe ∷ [])

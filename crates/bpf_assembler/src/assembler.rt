@@ -3,10 +3,11 @@ ghost use Rattle.std.specs.Prelude.{◌≡◌, ◌≤◌, ◌⊎◌, ◌++◌, �
 ghost use Rattle.bpf_model.specs.declared.instruction.Insn.{Insn};
 ghost use Rattle.bpf_model.specs.Program.{unit_count};
 ghost use Rattle.bpf_model.specs.Spelling.{AreInstructions};
+ghost use Rattle.bpf_model.specs.Refusals.{GivesUnless};
 ghost use Rattle.bpf_assembler.specs.declared.fault.AsmFault.{AsmFault};
 ghost use Rattle.bpf_assembler.specs.declared.fault.AsmFault.TheVariants.{NoMemory};
 ghost use Rattle.bpf_assembler.specs.Text.{text_of, IsTextOf, BeginsWithLine};
-ghost use Rattle.bpf_assembler.specs.Faults.{IsFaultyLine, IsFirstAsmFault, GivesUnlessNoMemory};
+ghost use Rattle.bpf_assembler.specs.Faults.{IsFaultyLine, IsFirstAsmFault};
 
 use crate::cursor::Cursor;
 use crate::fault::AsmFault;
@@ -51,14 +52,14 @@ pub fn assemble(alloc: Global, text: &str) -> Result<Program, AsmFault>
     // What is read has this text.
     ensures found { IfOk result (IsTextOf text.now) }
     // A program that has this text is read, unless memory is refused.
-    ensures only { (p : List Insn) → IsTextOf text.now p → GivesUnlessNoMemory result (Ok p) }
+    ensures only { (p : List Insn) → IsTextOf text.now p → GivesUnless NoMemory result (Ok p) }
     // Which line is refused, and why.
     ensures first_fault { IfErr result (λ e. (e ≡ NoMemory) ⊎ IsFirstAsmFault text.now e) }
     // Memory can be refused only where a line was read.
     ensures memory { result ≡ Err NoMemory → BeginsWithLine text.now }
     // A text with a faulty line is refused.
     ensures refused { (e : AsmFault) → IsFirstAsmFault text.now e
-        → GivesUnlessNoMemory result (Err e) }
+        → GivesUnless NoMemory result (Err e) }
 {
     let instructions = instructions(alloc, text.as_bytes())?;
     match Program::new(instructions) {

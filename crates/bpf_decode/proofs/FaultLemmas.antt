@@ -10,13 +10,14 @@ use Rattle.bpf_model.specs.Spelling.{Fields, fields_of, unit_bytes, second_unit,
 use Rattle.bpf_model.proofs.ProgramLemmas.{length-unit_count}
 use Rattle.bpf_model.proofs.SpellingLaws.{length-spelling_of_all, spelling-first, spelled_once}
 use Rattle.bpf_model.specs.declared.limits.TheConstants.{PROGRAM_UNITS}
+use Rattle.bpf_model.specs.Refusals.{GivesUnless}
 use Rattle.bpf_model.proofs.Options.{test_of}
 use Rattle.std.proofs.lemmas.List.{append-nil, nil_from_length}
 use Rattle.bpf_decode.specs.declared.fault.DecodeFault.{DecodeFault}
 use Rattle.bpf_decode.specs.declared.fault.DecodeFault.TheVariants.{NoMemory}
 use Rattle.bpf_decode.specs.declared.fault.UnitFault.{UnitFault}
 use Rattle.bpf_decode.specs.UnitFaults.{FitUnit, unit_fault, has_imm_alone, HasSecondFault, UnitHas}
-use Rattle.bpf_decode.specs.Faults.{length_fault, decode_fault_at, IsFirstDecodeFault, GivesUnlessNoMemory}
+use Rattle.bpf_decode.specs.Faults.{length_fault, decode_fault_at, IsFirstDecodeFault}
 use Rattle.bpf_decode.proofs.UnitLemmas.{length-unit_bytes, unit_bytes-first}
 use Rattle.bpf_decode.proofs.FieldLemmas.{fit-fields_of, fit-second_unit, fault_of-fields_of}
 use Rattle.bpf_decode.proofs.WideLemmas.{is_wide}
@@ -170,7 +171,7 @@ IsTrueOf-passed bytes e (Ok q) passed h = absurd passed
 IsTrueOf-passed bytes e (Err x) passed h = record { found = tt; first_fault = rw passed h }
 
 -- where a program is spelled no other answer is true
-pub only_program : (bytes : List ℕ) (p : List Insn) (result : Result (List Insn) DecodeFault) → IsTrueOf bytes result → Spells bytes p → GivesUnlessNoMemory result (Ok p)
+pub only_program : (bytes : List ℕ) (p : List Insn) (result : Result (List Insn) DecodeFault) → IsTrueOf bytes result → Spells bytes p → GivesUnless NoMemory result (Ok p)
 only_program bytes p (Ok q) h spells = inr (ap (λ (x : List Insn). Ok x) (spelled_once bytes q p h.found spells))
 only_program bytes p (Err e) h spells = elim h.first_fault [
   | inl refused ↦ inl (ap (λ (x : DecodeFault). Err x) refused)
@@ -178,7 +179,7 @@ only_program bytes p (Err e) h spells = elim h.first_fault [
 ]
 
 -- where there is a first fault no other answer is true
-pub only_fault : (bytes : List ℕ) (fault : DecodeFault) (result : Result (List Insn) DecodeFault) → IsTrueOf bytes result → IsFirstDecodeFault bytes fault → GivesUnlessNoMemory result (Err fault)
+pub only_fault : (bytes : List ℕ) (fault : DecodeFault) (result : Result (List Insn) DecodeFault) → IsTrueOf bytes result → IsFirstDecodeFault bytes fault → GivesUnless NoMemory result (Err fault)
 only_fault bytes fault (Ok q) h first = absurd (spelled_has_no_fault bytes q fault h.found first)
 only_fault bytes fault (Err e) h first = elim h.first_fault [
   | inl refused ↦ inl (ap (λ (x : DecodeFault). Err x) refused)

@@ -1,5 +1,5 @@
 -- Which fault of bytes is the first. Our profile of RFC 9669.
-use Rattle.std.specs.Prelude.{◌≡◌, ℕ, ◌/◌, ◌%◌, not, ◌⊎◌, List, ◌++◌, length, Option, Some, None, Result, Err, nat_eq, nat_lt, if◌then◌else◌}
+use Rattle.std.specs.Prelude.{◌≡◌, ℕ, ◌/◌, ◌%◌, not, ◌⊎◌, List, ◌++◌, length, Option, Some, None, nat_eq, nat_lt, if◌then◌else◌}
 use Rattle.bpf_model.specs.declared.limits.TheConstants.{PROGRAM_UNITS}
 use Rattle.bpf_model.specs.declared.instruction.Insn.{Insn}
 use Rattle.bpf_model.specs.Program.{unit_count}
@@ -62,7 +62,3 @@ pub record HasUnitFault (bytes : List ℕ) (fault : DecodeFault) : Type 0 where
 -- the fault of the number of bytes; where it has none, that of the first unit that is no instruction's
 abbrev pub IsFirstDecodeFault : List ℕ → DecodeFault → Type 0
 IsFirstDecodeFault bytes fault = (length_fault bytes ≡ Some fault) ⊎ ((length_fault bytes ≡ None) × HasUnitFault bytes fault)
-
--- the call answers so, unless memory was refused to it
-abbrev pub GivesUnlessNoMemory : {A : Type 0} → Result A DecodeFault → Result A DecodeFault → Type 0
-GivesUnlessNoMemory result answer = (result ≡ Err NoMemory) ⊎ (result ≡ answer)

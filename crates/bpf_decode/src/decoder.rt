@@ -3,12 +3,13 @@ ghost use Rattle.std.specs.Prelude.{◌≡◌, ◌+◌, ◌*◌, ◌%◌, ◌^�
 ghost use Rattle.std.specs.Int.{w32, cast_unsigned};
 ghost use Rattle.bpf_model.specs.declared.instruction.Insn.{Insn};
 ghost use Rattle.bpf_model.specs.Spelling.{Spells, unit_bytes, spelling, IsInstruction};
+ghost use Rattle.bpf_model.specs.Refusals.{GivesUnless};
 ghost use Rattle.bpf_decode.specs.declared.fault.DecodeFault.{DecodeFault};
 ghost use Rattle.bpf_decode.specs.declared.fault.DecodeFault.TheVariants.{NoMemory};
 ghost use Rattle.bpf_decode.specs.Opcodes.{dst_and_imm};
 ghost use Rattle.bpf_decode.specs.UnitFaults.{IsFirstHalf, HasSecondFault, UnitHas};
 ghost use Rattle.bpf_decode.specs.OpcodeFields.{AreOperands};
-ghost use Rattle.bpf_decode.specs.Faults.{length_fault, IsFirstDecodeFault, HasUnitFault, GivesUnlessNoMemory};
+ghost use Rattle.bpf_decode.specs.Faults.{length_fault, IsFirstDecodeFault, HasUnitFault};
 
 use crate::fault::{DecodeFault, UnitFault};
 use crate::opcode::Opcode;
@@ -106,11 +107,11 @@ fn instructions(alloc: Global, bytes: &[u8]) -> Result<Vec<Insn>, DecodeFault>
 /// number of bytes was found right.
 pub fn decode(alloc: Global, bytes: &[u8]) -> Result<Program, DecodeFault>
     ensures found { IfOk result (λ p. Spells bytes.now p) }
-    ensures only { (p : List Insn) → Spells bytes.now p → GivesUnlessNoMemory result (Ok p) }
+    ensures only { (p : List Insn) → Spells bytes.now p → GivesUnless NoMemory result (Ok p) }
     ensures first_fault { IfErr result (λ e. (e ≡ NoMemory) ⊎ IsFirstDecodeFault bytes.now e) }
     ensures memory { result ≡ Err NoMemory → length_fault bytes.now ≡ None }
     ensures refused { (e : DecodeFault) →
-        IsFirstDecodeFault bytes.now e → GivesUnlessNoMemory result (Err e) }
+        IsFirstDecodeFault bytes.now e → GivesUnless NoMemory result (Err e) }
 {
     check_length(bytes)?;
     let instructions = instructions(alloc, bytes)?;

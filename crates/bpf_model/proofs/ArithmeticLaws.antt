@@ -13,7 +13,7 @@ use Rattle.std.proofs.Math.Facts.{sfits_to_z}
 use Rattle.std.proofs.Math.Nat.{mod-le, div-le_self, div-lt_self, div-one, mod-eq_of_lt, zero-mod}
 use Rattle.bpf_model.proofs.SignedLemmas.{modulus_some, wrapped_below}
 use Rattle.bpf_model.specs.declared.operations.AluOp.{AluOp}
-use Rattle.bpf_model.specs.declared.operations.AluOp.TheVariants.{Add, Sub, Mul, Div, SDiv, Or, And, Lsh, Rsh, Mod, SMod, Xor, Arsh}
+use Rattle.bpf_model.specs.declared.operations.AluOp.TheVariants.{Add, Mul, Div, SDiv, Or, And, Rsh, Mod, SMod, Xor}
 use Rattle.bpf_model.specs.declared.operations.Width.{Width}
 use Rattle.bpf_model.specs.declared.operations.Width.TheVariants.{W32, W64}
 use Rattle.bpf_model.specs.declared.operations.SignExtension.{SignExtension}
@@ -35,21 +35,17 @@ signed_right_below width x y = wrapped_below (modulus width) (int_shr (signed_at
 
 -- an operation on numbers of a width gives a number of the width
 pub low_value_below : (op : AluOp) (width : Width) (x y : ℕ) → x < modulus width → y < modulus width → low_value op width x y < modulus width
-low_value_below Add width x y p q = low_below width (x + y)
-low_value_below Sub width x y p q = low_below width (x + (modulus width - y))
-low_value_below Mul width x y p q = low_below width (x * y)
 low_value_below Div width x y p q = cond_both (nat_eq y 0) 0 (x / y) (λ n. n < modulus width) (λ e. modulus_some width) (λ e. omega (arith, p, div-le_self x y))
 low_value_below SDiv width x y p q = cond_both (nat_eq y 0) 0 _ (λ n. n < modulus width) (λ e. modulus_some width) (λ e. wrapped_below (modulus width) (int_div (signed_at width x) (signed_at width y)) (modulus_some width))
 low_value_below Or W32 x y p q = or_lt 32 x y p q
 low_value_below Or W64 x y p q = or_lt 64 x y p q
 low_value_below And width x y p q = omega (arith, p, and_le_l x y)
-low_value_below Lsh width x y p q = low_below width (x * 2 ^ (y % bits_of width))
 low_value_below Rsh width x y p q = omega (arith, p, shr_le x (y % bits_of width))
 low_value_below Mod width x y p q = cond_both (nat_eq y 0) x (x % y) (λ n. n < modulus width) (λ e. p) (λ e. omega (arith, p, mod-le x y))
 low_value_below SMod width x y p q = cond_both (nat_eq y 0) x _ (λ n. n < modulus width) (λ e. p) (λ e. wrapped_below (modulus width) (int_rem (signed_at width x) (signed_at width y)) (modulus_some width))
 low_value_below Xor W32 x y p q = xor_lt 32 x y p q
 low_value_below Xor W64 x y p q = xor_lt 64 x y p q
-low_value_below Arsh width x y p q = signed_right_below width x y
+low_value_below op width x y p q = search (low_below, signed_right_below)
 
 pub alu_value_below : (op : AluOp) (width : Width) (x y : ℕ) → alu_value op width x y < modulus width
 alu_value_below op width x y = low_value_below op width (x % modulus width) (y % modulus width) (low_below width x) (low_below width y)

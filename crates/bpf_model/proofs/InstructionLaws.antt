@@ -1,10 +1,10 @@
 -- The instruction that has these fields: fields belong to one instruction at most.
-use Rattle.std.proofs.Common.{◌≡◌, ℕ, ◌+◌, ◌*◌, ◌/◌, ◌%◌, ◌^◌, ◌<◌, ◌≤◌, [], ◌∷◌, get_or, ℤ, pos, refl, ap, ◌∙◌, arith}
-use Rattle.std.specs.Prelude.{nat_eq, unsigned_abs, if◌then◌else◌}
+use Rattle.std.proofs.Common.{◌≡◌, ℕ, ◌+◌, ◌*◌, ◌/◌, ◌%◌, ◌^◌, ◌<◌, ◌≤◌, false, [], ◌∷◌, get_or, ℤ, pos, refl, ap, ◌∙◌, arith}
+use Rattle.std.specs.Prelude.{nat_eq, filter, unsigned_abs, if◌then◌else◌}
 use Rattle.std.specs.Int.{w32, cast_signed, cast_unsigned}
 use Rattle.std.proofs.lemmas.Int.{of_z-to_z}
 use Rattle.bpf_model.specs.declared.operations.AluOp.{AluOp}
-use Rattle.bpf_model.specs.declared.operations.AluOp.TheVariants.{Add, Sub, Mul, Div, SDiv, Or, And, Lsh, Rsh, Mod, SMod, Xor, Arsh}
+use Rattle.bpf_model.specs.declared.operations.AluOp.TheVariants.{Add}
 use Rattle.bpf_model.specs.declared.operations.Width.{Width}
 use Rattle.bpf_model.specs.declared.operations.Width.TheVariants.{W32, W64}
 use Rattle.bpf_model.specs.declared.operations.SignExtension.{SignExtension}
@@ -23,16 +23,13 @@ use Rattle.bpf_model.specs.declared.instruction.Operand.{Operand}
 use Rattle.bpf_model.specs.declared.instruction.Operand.TheVariants.{Register, Immediate}
 use Rattle.bpf_model.specs.declared.instruction.Insn.{Insn}
 use Rattle.bpf_model.specs.declared.instruction.Insn.TheVariants.{Alu, Negate, Mov, SignExtend, Reorder, Wide, Load, Store, Jump, JumpLong, Branch, Exit}
-use Rattle.bpf_model.specs.Spelling.{Fields, opcode, alu_class, jump_class, source_bit, src_of, imm_of, code_of, offset_of, test_code, fields_of}
+use Rattle.bpf_model.specs.Spelling.{Fields, opcode, alu_class, jump_class, source_bit, src_of, imm_of, code_of, alu_ops, offset_of, test_code, fields_of}
 
 operand_of : ℕ → Fields → Operand
 operand_of source f = if nat_eq source 0 then Immediate f.imm else Register f.src
 
 op_of : ℕ → ℤ → AluOp
-op_of code offset =
-    if nat_eq (unsigned_abs offset) 0
-    then get_or (Add ∷ Sub ∷ Mul ∷ Div ∷ Or ∷ And ∷ Lsh ∷ Rsh ∷ Add ∷ Mod ∷ Xor ∷ Add ∷ Arsh ∷ []) code Add
-    else (if nat_eq code 3 then SDiv else SMod)
+op_of code offset = get_or (filter (λ op. if nat_eq (code_of op) code then nat_eq (unsigned_abs (offset_of op)) (unsigned_abs offset) else false) alu_ops) 0 Add
 
 test_of : ℕ → JumpOp
 test_of code = get_or (Eq ∷ Eq ∷ Gt ∷ Ge ∷ Set ∷ Ne ∷ SGt ∷ SGe ∷ Eq ∷ Eq ∷ Lt ∷ Le ∷ SLt ∷ SLe ∷ []) code Eq

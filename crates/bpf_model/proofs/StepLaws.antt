@@ -98,5 +98,5 @@ unwritable_kept sizes (Jump distance) s t q e h = jump_kept s t distance q e
 unwritable_kept sizes (JumpLong distance) s t q e h = jump_kept s t distance q e
 unwritable_kept sizes (Branch test width dst src distance) s t q e h =
     let x = branch_acts sizes s t test width dst src distance e in
-    jump_kept s t _ q x.goes
+    jump_kept s t _ q x.lands
 unwritable_kept sizes Exit s t q e h = absurd cc

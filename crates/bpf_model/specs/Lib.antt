@@ -10,4 +10,5 @@ pub mod Step
 pub mod Meaning
 pub mod Spelling
 pub mod Keys
+pub mod Refusals
 pub mod Laws

@@ -101,6 +101,10 @@ code_of SMod = 9
 code_of Xor = 10
 code_of Arsh = 12
 
+-- all of them
+abbrev pub alu_ops : List AluOp
+alu_ops = Add ∷ Sub ∷ Mul ∷ Div ∷ SDiv ∷ Or ∷ And ∷ Lsh ∷ Rsh ∷ Mod ∷ SMod ∷ Xor ∷ Arsh ∷ []
+
 abbrev pub offset_of : AluOp → ℤ
 offset_of SDiv = pos 1
 offset_of SMod = pos 1

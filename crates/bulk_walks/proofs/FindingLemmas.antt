@@ -1,10 +1,13 @@
 -- A worker's loop that collects.
-use Rattle.std.proofs.Common.{◌≡◌, ◌≢◌, ℕ, ◌+◌, ◌%◌, ◌<◌, ◌≤◌, List, [], ◌∷◌, ◌++◌, inl, inr, refl, sym, ap, ◌∙◌, subst, arith, sum_by}
+use Rattle.std.proofs.Common.{◌≡◌, ◌≢◌, ℕ, ◌+◌, ◌^◌, ◌%◌, ◌<◌, ◌≤◌, List, [], ◌∷◌, ◌++◌, inl, inr, refl, sym, ap, ◌∙◌, subst, arith, length, sum_by}
 use Rattle.std.proofs.lemmas.Bool.{cases_eq}
+use Rattle.std.specs.List.Sorted.{IsPermutation}
 use Rattle.std.proofs.lemmas.List.Sums.{sum_by-append}
+use Rattle.std.proofs.lemmas.List.Sorted.{sum_by-IsPermutation}
 use Rattle.stripe_rule.specs.declared.view.View.{View}
 use Rattle.stripe_rule.specs.Gains.{Adds}
 use Rattle.bins.specs.Table.{Entry}
+use Rattle.bins.specs.Copies.{WeighSame}
 use Rattle.bin_stripes.specs.declared.ghost_action.GhostAction.{GhostAction}
 use Rattle.bin_stripes.specs.Actions.{scanned}
 use Rattle.bin_stripes.specs.Histories.{own_events}
@@ -21,25 +24,43 @@ may_scan workers worker scans v n w p = walked_as workers worker (Each IsScan sc
 
 module _ (all workers worker : ℕ) (v : View GhostAction) where
   pub finds_none : WorkerFinds all 0 workers worker v v []
-  finds_none = record { scans = λ _. []; walked = walked_none workers worker _ v; stripes = λ k t. absurd (omega arith); sum = λ h. refl }
+  finds_none = record { scans = λ _. []; walked = walked_none workers worker _ v; stripes = λ k t. absurd (omega arith); bounded = λ k t. absurd (omega arith); sum = λ h. refl }
 
-  pub finds_more : (n : ℕ) (u w : View GhostAction) (found entries : List Entry) → WorkerFinds all n workers worker v u found → n % workers ≡ worker → w.passes ≡ u.passes → Adds u n (own_events u (scanned entries ∷ [])) w → AreOf all n entries
+  pub finds_more : (n : ℕ) (u w : View GhostAction) (found entries : List Entry) → WorkerFinds all n workers worker v u found → n % workers ≡ worker → w.passes ≡ u.passes → Adds u n (own_events u (scanned entries ∷ [])) w → AreOf all n entries → length entries < 2 ^ 57
       → WorkerFinds all (n + 1) workers worker v w (found ++ entries)
-  finds_more n u w found entries f turn same a are = record {
+  finds_more n u w found entries f turn same a are few = record {
     scans = with_at f.scans n entries;
     walked = scanned_more workers worker f.scans v n u w entries f.walked turn same a;
     stripes = λ k t. elim (cases_eq k n) [
       | inl e ↦ subst (λ m. AreOf all m (with_at f.scans n entries m)) (sym e) (subst (λ (es : List Entry). AreOf all n es) (sym (with_at-same f.scans n entries)) are)
       | inr ne ↦ subst (λ (es : List Entry). AreOf all k es) (sym (with_at-other f.scans n entries k ne)) (f.stripes k (omega arith, t.1))
     ];
+    bounded = λ k t. elim (cases_eq k n) [
+      | inl e ↦ subst (λ m. length (with_at f.scans n entries m) < 2 ^ 57) (sym e) (subst (λ (es : List Entry). length es < 2 ^ 57) (sym (with_at-same f.scans n entries)) few)
+      | inr ne ↦ subst (λ (es : List Entry). length es < 2 ^ 57) (sym (with_at-other f.scans n entries k ne)) (f.bounded k (omega arith, t.1))
+    ];
     sum = λ h. let m = turn_sum-more workers worker (λ (es : List Entry). sum_by h es) f.scans n entries turn in let s = f.sum h in let b = sum_by-append h found entries in omega (arith, m, s, b);
   }
+
+  -- the same where copies of what was scanned were added, in any order
+  pub finds_copied : (n : ℕ) (u w : View GhostAction) (found after entries copies : List Entry) → WorkerFinds all n workers worker v u found → n % workers ≡ worker → w.passes ≡ u.passes → Adds u n (own_events u (scanned entries ∷ [])) w → AreOf all n entries
+      → length entries < 2 ^ 57 → WeighSame copies entries → after ≡ found ++ copies → WorkerFinds all (n + 1) workers worker v w after
+  finds_copied n u w found after entries copies f turn same a are few weigh added =
+      let more = finds_more n u w found entries f turn same a are few in
+      record {
+        scans = more.scans;
+        walked = more.walked;
+        stripes = more.stripes;
+        bounded = more.bounded;
+        sum = λ h. ap (λ (es : List Entry). sum_by h es) added ∙ sum_by-append h found copies ∙ ap (λ m. sum_by h found + m) (weigh h) ∙ sym (sum_by-append h found entries) ∙ more.sum h;
+      }
 
   pub finds_past : (n : ℕ) (u : View GhostAction) (found : List Entry) → WorkerFinds all n workers worker v u found → n % workers ≢ worker → WorkerFinds all (n + 1) workers worker v u found
   finds_past n u found f miss = record {
     scans = f.scans;
     walked = walked_past workers worker (Each IsScan f.scans) v n u f.walked miss;
     stripes = λ k t. elim (cases_eq k n) [ inl e ↦ absurd (miss (ap (λ m. m % workers) (sym e) ∙ t.1)) | inr ne ↦ f.stripes k (omega arith, t.1) ];
+    bounded = λ k t. elim (cases_eq k n) [ inl e ↦ absurd (miss (ap (λ m. m % workers) (sym e) ∙ t.1)) | inr ne ↦ f.bounded k (omega arith, t.1) ];
     sum = λ h. f.sum h ∙ sym (turn_sum-past workers worker (λ k. sum_by h (f.scans k)) n miss);
   }
 
@@ -58,3 +79,7 @@ module _ (all workers worker : ℕ) (v : View GhostAction) where
 pub finds_at : (all n workers worker : ℕ) (v : View GhostAction) (p q : PassState) (es fs : List Entry) → WorkerFinds all n workers worker v p.view es → q ≡ p → fs ≡ es → WorkerFinds all n workers worker v q.view fs
 finds_at all n workers worker v p q es fs f same list =
     subst (λ (p : PassState). WorkerFinds all n workers worker v p.view fs) (sym same) (subst (λ (es : List Entry). WorkerFinds all n workers worker v p.view es) (sym list) f)
+
+-- moved, the found list has the same sums
+pub finds_moved : (all n workers worker : ℕ) (v w : View GhostAction) (es fs : List Entry) → WorkerFinds all n workers worker v w es → IsPermutation es fs → WorkerFinds all n workers worker v w fs
+finds_moved all n workers worker v w es fs f moved = record { scans = f.scans; walked = f.walked; stripes = f.stripes; bounded = f.bounded; sum = λ h. sum_by-IsPermutation h es fs moved ∙ f.sum h }

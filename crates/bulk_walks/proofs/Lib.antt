@@ -6,6 +6,9 @@ pub mod FindingLemmas
 pub mod Order
 pub mod FoundLemmas
 pub mod RunLemmas
+pub mod MergeLemmas
+pub mod PairLemmas
 pub mod ReplaceLemmas
 pub mod CountLemmas
 pub mod SameScans
+pub mod WholeLemmas

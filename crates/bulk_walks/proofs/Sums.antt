@@ -1,8 +1,8 @@
 -- Sums over stripes, by turns and by workers.
-use Rattle.std.proofs.Common.{ltb, ◌≡◌, ◌≢◌, ℕ, zero, suc, ◌+◌, ◌%◌, ◌*◌, ◌<◌, ◌≤◌, cond, eqb, add-one, List, inl, inr, refl, sym, ap, ◌∙◌, arith, sum_by, length, get_or, take}
+use Rattle.std.proofs.Common.{ltb, ◌≡◌, ◌≢◌, ℕ, zero, suc, ◌+◌, ◌%◌, ◌*◌, ◌<◌, ◌≤◌, cond, eqb, add-one, List, [], ◌∷◌, map, inl, inr, refl, sym, ap, ◌∙◌, arith, sum_by, length, get_or, take}
 use Rattle.std.proofs.lemmas.Bool.{le-ltb, lt-ltb, cases_eq, eq-eqb, ne_eqb, cond_both}
 use Rattle.std.proofs.lemmas.Bool.Decides.{nat_tests}
-use Rattle.std.proofs.lemmas.List.Sums.{sum_by_more}
+use Rattle.std.proofs.lemmas.List.Sums.{sum_by_more, sum_by-cons}
 use Rattle.std.proofs.Math.Nat.{mod-lt}
 use Rattle.std.proofs.lemmas.List.{take_all}
 use Rattle.bulk_walks.specs.Walks.{sum_below, IsTurn}
@@ -110,3 +110,19 @@ module _ {X : Type 0} (h : X → ℕ) (rs : List X) (f : ℕ → ℕ) (n : ℕ) 
       let whole : sum_by h (take (length rs) rs) ≡ sum_by h rs = ap (λ (xs : List X). sum_by h xs) (take_all (length rs) rs (omega arith)) in
       let u = upto-all (length rs) f n some in
       omega (arith, whole, r, u)
+
+pub sum_by_mapped : {X Y : Type 0} (h : Y → ℕ) (f : X → Y) (xs : List X) → sum_by h (map f xs) ≡ sum_by (λ x. h (f x)) xs
+sum_by_mapped h f [] = refl
+sum_by_mapped h f (x ∷ xs) =
+    let rest = sum_by_mapped h f xs in
+    let one = sum_by-cons h (f x) (map f xs) in
+    let other = sum_by-cons (λ y. h (f y)) x xs in
+    omega (arith, rest, one, other)
+
+pub sum_of_ones : {X : Type 0} (xs : List X) → sum_by (λ _. 1) xs ≡ length xs
+sum_of_ones [] = refl
+sum_of_ones (x ∷ xs) = let rest = sum_of_ones xs in let c = sum_by-cons (λ _. 1) x xs in omega (arith, rest, c)
+
+pub sum_below-le : (n : ℕ) (f : ℕ → ℕ) (most : ℕ) → ((k : ℕ) → k < n → f k ≤ most) → sum_below n f ≤ n * most
+sum_below-le zero f most below = omega arith
+sum_below-le (suc n) f most below = let rest = sum_below-le n f most (λ k low. below k (omega (arith, low))) in let here = below n (omega arith) in omega (arith, rest, here)

@@ -1,6 +1,7 @@
 -- What each worker of a walk answers.
-use Rattle.std.specs.Prelude.{◌≡◌, ◌<◌, ◌≤◌, ◌^◌, ◌+◌, ◌%◌, ◌==◌, if◌then◌else◌, ℕ, zero, suc, Bool, List, Option, Result, Ok, Err, IfOk, length, map, sum_by, slice_index_or}
+use Rattle.std.specs.Prelude.{◌≡◌, ◌<◌, ◌≤◌, ◌^◌, ◌+◌, ◌%◌, ◌==◌, if◌then◌else◌, ℕ, ⊤, zero, suc, All, Bool, List, [], ◌∷◌, Option, Result, Ok, Err, IfOk, length, map, sum_by, slice_index_or}
 use Rattle.std.specs.Ordering.{is_lt}
+use Rattle.std.specs.List.Sorted.{IsSortedBy}
 use Rattle.std.proofs.Common.{Vec, Global}
 use Rattle.stripe_rule.specs.declared.view.View.{View}
 use Rattle.verifier.specs.Checked.{Checked}
@@ -10,9 +11,10 @@ use Rattle.bins.specs.Table.{Entry, by_bytes}
 use Rattle.bin_stripes.specs.declared.ghost_action.GhostAction.{GhostAction}
 use Rattle.bin_stripes.specs.Invoked.{AreOf}
 use Rattle.bin_stripes.specs.Passes.{PassState}
-use Rattle.atomic_methods.specs.declared.row.Row.{Row}
-use Rattle.atomic_methods.specs.Rows.{entry_of}
-use Rattle.bulk_walks.specs.Walks.{IsTurn, Walked, AllWalked, Each, IsScan, MayScan, IsReplaced, IsInOrder}
+use Rattle.atomic_methods.specs.declared.walk_reply.WalkKind.TheVariants.{ForEach}
+use Rattle.atomic_methods.specs.declared.walk_reply.WalkReply.{WalkReply}
+use Rattle.atomic_methods.specs.Replies.{IsReply}
+use Rattle.bulk_walks.specs.Walks.{IsTurn, Walked, AllWalked, Each, IsScan, MayScan, IsReplaced, sum_below}
 
 -- f of each stripe below n whose turn is this worker's, added up
 abbrev pub turn_sum : ℕ → ℕ → (ℕ → ℕ) → ℕ → ℕ
@@ -37,32 +39,49 @@ pub record WorkerFinds (all n workers worker : ℕ) (v w : View GhostAction) (fo
   pub scans : ℕ → List Entry
   pub walked : Walked n workers worker (Each IsScan scans) v w
   pub stripes : (k : ℕ) → IsTurn n workers worker k → AreOf all k (scans k)
+  pub bounded : (k : ℕ) → IsTurn n workers worker k → length (scans k) < 2 ^ 57
   pub sum : (weight : Entry → ℕ) → sum_by weight found ≡ turn_sum workers worker (λ k. sum_by weight (scans k)) n
 
--- what a worker's answer weighs
-abbrev pub found_sum : (Entry → ℕ) → Result (Vec Entry Global) NoMemory → ℕ
-found_sum weight (Ok found) = sum_by weight found.items
-found_sum weight (Err e) = 0
+-- by their keys
+abbrev pub comes_before : Entry → Entry → Bool
+comes_before x y = is_lt (by_bytes x.0 y.0)
+
+-- what a worker found on all of its stripes, sorted
+pub record FindsInOrder (n workers worker : ℕ) (v w : View GhostAction) (found : List Entry) : Type 0 where
+  pub finds : WorkerFinds n n workers worker v w found
+  pub order : IsSortedBy comes_before found
+
+-- the entries of a worker's answer
+abbrev pub found_of : Result (Vec Entry Global) NoMemory → List Entry
+found_of (Ok found) = found.items
+found_of (Err e) = []
 
 -- what each worker found
 pub record EachFinds (n : ℕ) (before : List PassState) (rs : List (Result (Vec Entry Global) NoMemory)) (after : List PassState) : Type 0 where
   pub answers : length rs ≡ length before
   pub left : length after ≡ length before
-  pub done : (i : ℕ) (d : PassState) (e : Result (Vec Entry Global) NoMemory) → i < length before → IfOk (slice_index_or rs i e) (λ found. WorkerFinds n n (length before) i (slice_index_or before i d).view (slice_index_or after i d).view found.items)
+  pub done : (i : ℕ) (d : PassState) (e : Result (Vec Entry Global) NoMemory) → i < length before → IfOk (slice_index_or rs i e) (λ found. FindsInOrder n (length before) i (slice_index_or before i d).view (slice_index_or after i d).view found.items)
   pub part : (i : ℕ) (d : PassState) → i < length before → Walked n (length before) i MayScan (slice_index_or before i d).view (slice_index_or after i d).view
 
--- all stripes were scanned, and these are the entries of all scans in key order
-pub record FindsAll (n : ℕ) (before after : List PassState) (entries : List Entry) : Type 0 where
+-- all stripes were scanned. These lists are sorted, and have the entries of all scans, each as often as the scans
+pub record FindsAll (n : ℕ) (before after : List PassState) (lists : List (List Entry)) : Type 0 where
   pub scans : ℕ → List Entry
   pub walked : AllWalked n (Each IsScan scans) before after
-  pub in_order : IsInOrder n scans entries
+  pub stripes : (k : ℕ) → k < n → AreOf n k (scans k)
+  pub bounded : (k : ℕ) → k < n → length (scans k) < 2 ^ 57
+  pub order : All (λ entries. IsSortedBy comes_before entries) lists
+  pub sum : (weight : Entry → ℕ) → sum_by (λ entries. sum_by weight entries) lists ≡ sum_below n (λ k. sum_by weight (scans k))
 
-abbrev pub entries_of : List Row → List Entry
-entries_of rows = map entry_of rows
+-- the items of each reply
+abbrev pub items_in : List WalkReply → List (List Entry)
+items_in replies = map (λ reply. reply.items.items) replies
 
--- by their keys
-abbrev pub comes_before : Row → Row → Bool
-comes_before x y = is_lt (by_bytes x.key y.key)
+-- each reply is that to a walk for each of the entries in its place
+abbrev pub AreReplies : Checked → Option (List ℕ) → List (List Entry) → List WalkReply → Type 0
+AreReplies checked arg [] [] = ⊤
+AreReplies checked arg [] (reply ∷ replies) = ⊥
+AreReplies checked arg (entries ∷ lists) [] = ⊥
+AreReplies checked arg (entries ∷ lists) (reply ∷ replies) = IsReply ForEach checked arg entries reply × AreReplies checked arg lists replies
 
 -- what a worker did that replaced the values of the first n of all stripes, and counted
 pub record ReplacesTurns (all : ℕ) (checked : Checked) (arg : Option (List ℕ)) (n workers worker : ℕ) (v w : View GhostAction)

@@ -9,8 +9,9 @@
 mod alike;
 mod count;
 mod finding;
+mod merging;
 mod replace;
-mod rows;
+mod running;
 mod team;
 mod walks;
 mod workers;

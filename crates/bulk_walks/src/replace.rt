@@ -17,7 +17,7 @@ use std::thread::Threads;
 use verifier::Verified;
 
 // Adds these counts.
-fn add(total: &mut Counts, more: Counts)
+pub(crate) fn add(total: &mut Counts, more: Counts)
     requires { HasRoom total.old more }
     ensures { IsSum total.new total.old more }
 {
@@ -26,7 +26,7 @@ fn add(total: &mut Counts, more: Counts)
     total.unfit += more.unfit;
 }
 
-const ZERO: Counts = Counts {
+pub(crate) const ZERO: Counts = Counts {
     scanned: 0,
     given: 0,
     unfit: 0,

@@ -5,9 +5,10 @@ ghost use Rattle.atomic_methods.specs.declared.walk_reply.WalkKind.TheVariants.{
 ghost use Rattle.bulk_walks.specs.Walks.{Walks};
 
 use crate::finding::find;
-use crate::rows::run_all;
+use crate::merging::merged;
+use crate::running::{held_in, run_all};
 use crate::team::Team;
-use atomic_methods::{WalkKind, WalkReply, reply_of};
+use atomic_methods::{WalkKind, WalkReply};
 use bin_stripes::{Gate, StripedMap};
 use bpf_model::{NoMemory, Value};
 use std::alloc::Global;
@@ -35,21 +36,20 @@ pub fn walk<R: Threads + Wait + Sync, G: Gate + Sync>(
 {
     let Team { passes } = team;
     let workers = passes.len();
+    let stripes = map.stripes();
+    prove!(stripes <= 64);
     let (passes, found) = find(rt, alloc, map, passes, gate);
     let team = Team { passes };
-    let Ok(mut rows) = found else {
+    let Ok(mut replies) = found else {
         return (team, Err(NoMemory));
     };
-    let threads = if rows.len() as u64 >= threshold {
+    let threads = if held_in(&replies) >= threshold {
         workers
     } else {
         1
     };
-    run_all(rt, program, arg, &mut rows, threads);
-    let Ok(reply) = reply_of(alloc, kind, rows) else {
-        return (team, Err(NoMemory));
-    };
-    (team, Ok(reply))
+    run_all(rt, program, arg, &mut replies, threads);
+    (team, merged(alloc, kind, replies))
 }
 
 /// The walk of kind `Search`: the least key with a present answer, and that answer; or no item.

@@ -65,12 +65,12 @@ walked_numbers : (n : ℕ) (Made : ℕ → View GhostAction → Events → Event
 walked_numbers n Made before after walked = by_place before after walked.order (λ j d lt. (walked.each j d lt).numbers)
 
 -- a team that keeps its numbers while it walks
-team_walks : (old new : Station) (Goes : List PassState → List PassState → Type 0)
-    → ((before after : List PassState) → Goes before after → team_numbers after ≡ team_numbers before) → TeamWalks old Goes new → SameNumbers old new
-team_walks old new Goes keeps walks = record {
+team_walks : (old new : Station) (Walks : List PassState → List PassState → Type 0)
+    → ((before after : List PassState) → Walks before after → team_numbers after ≡ team_numbers before) → TeamWalks old Walks new → SameNumbers old new
+team_walks old new Walks keeps walks = record {
   map = heard_map old.pass new.team new.pass walks.hears;
   pass = heard_numbers old.pass new.team new.pass walks.hears;
-  team = keeps walks.told new.team walks.goes ∙ told_numbers old.pass old.team walks.told walks.tells;
+  team = keeps walks.told new.team walks.walks ∙ told_numbers old.pass old.team walks.told walks.tells;
 }
 
 once : (old new : Station) (response : Response) (responses : List Response) → AnswersOnce old response responses new → SameNumbers old new
@@ -88,12 +88,12 @@ meets old (registration sizes bytes) responses new (inl (token, admits, is, same
 meets old (registration sizes bytes) responses new (inr (inl (response, refuses, m))) = once old new response responses m
 meets old (registration sizes bytes) responses new (inr (inr m)) = once old new _ responses m
 meets old (call invocation) responses new m = record { map = m.same.map; pass = called_numbers old new responses invocation m.made; team = ap team_numbers m.team }
-meets old (walk kind program arg) responses new (inl (reply, walks, is)) = team_walks old new _ (λ before after goes. walked_numbers _ _ before after goes.walked) walks
-meets old (walk kind program arg) responses new (inr (walks, is)) = team_walks old new _ (λ before after goes. walked_numbers _ _ before after goes) walks
-meets old (replacement program arg) responses new (inl (reply, walks, is)) = team_walks old new _ (λ before after goes. walked_numbers _ _ before after goes.walked) walks
-meets old (replacement program arg) responses new (inr (walks, is)) = team_walks old new _ (λ before after goes. ap team_numbers goes) walks
-meets old count responses new (inl (reply, walks, is)) = team_walks old new _ (λ before after goes. walked_numbers _ _ before after goes.walked) walks
-meets old count responses new (inr (walks, is)) = team_walks old new _ (λ before after goes. walked_numbers _ _ before after goes) walks
+meets old (walk kind program arg) responses new (inl (reply, walks, is)) = team_walks old new _ (λ before after walked. walked_numbers _ _ before after walked.walked) walks
+meets old (walk kind program arg) responses new (inr (walks, is)) = team_walks old new _ (λ before after walked. walked_numbers _ _ before after walked) walks
+meets old (replacement program arg) responses new (inl (reply, walks, is)) = team_walks old new _ (λ before after walked. walked_numbers _ _ before after walked.walked) walks
+meets old (replacement program arg) responses new (inr (walks, is)) = team_walks old new _ (λ before after walked. ap team_numbers walked) walks
+meets old count responses new (inl (reply, walks, is)) = team_walks old new _ (λ before after walked. walked_numbers _ _ before after walked.walked) walks
+meets old count responses new (inr (walks, is)) = team_walks old new _ (λ before after walked. walked_numbers _ _ before after walked) walks
 meets old unknown responses new m = once old new _ responses m
 
 step : (old : Station) (request : Request) (responses : List Response) (new : Station) → CrewServes old request responses new → SameNumbers old new

@@ -80,8 +80,8 @@ heard old (pass ∷ passes) new (next, told, rest) =
           ∙ (told.hears.gains k lt).mine ∙ append-nil (mine_of old.view k);
     }
 
-team_walks : (old new : Station) (Goes : List PassState → List PassState → Type 0) → TeamWalks old Goes new → Leads old [] new
-team_walks old new Goes walks =
+team_walks : (old new : Station) (Walks : List PassState → List PassState → Type 0) → TeamWalks old Walks new → Leads old [] new
+team_walks old new Walks walks =
     let kept = heard old.pass new.team new.pass walks.hears in
     record { map = kept.map; numbers = kept.numbers; mine = λ k lt. kept.mine k lt ∙ sym (append-nil (mine_of old.pass.view k)) }
 

@@ -58,10 +58,10 @@ HearsEach old [] new = new ≡ old
 HearsEach old (pass ∷ passes) new = (next : PassState) × IsToldBy pass old next × HearsEach next passes new
 
 -- the team is told what the crew's pass knows, walks, and is heard
-pub record TeamWalks (old : Station) (Goes : List PassState → List PassState → Type 0) (new : Station) : Type 0 where
+pub record TeamWalks (old : Station) (Walks : List PassState → List PassState → Type 0) (new : Station) : Type 0 where
   pub told : List PassState
   pub tells : Pairwise (IsToldBy old.pass) old.team told
-  pub goes : Goes told new.team
+  pub walks : Walks told new.team
   pub hears : HearsEach old.pass new.team new.pass
   pub tokens : new.tokens ≡ old.tokens
 

@@ -34,18 +34,18 @@ starts_inside program unit there =
 -- a jump that lands has none of the three faults
 pub lands_forward : (program : List Insn) (unit : ℕ) (d : ℤ) → Lands program unit d → (d <ℤ pos 0) → ⊥
 lands_forward program unit d lands back =
-    let goes = unit_is (target_of unit d) lands.target lands.goes in
-    absurd (grind (arith, goes, back, lands.forward))
+    let aims = unit_is (target_of unit d) lands.target lands.aims in
+    absurd (grind (arith, aims, back, lands.forward))
 
 pub lands_inside : (program : List Insn) (unit : ℕ) (d : ℤ) → Lands program unit d → (pos (unit_count program) ≤ℤ target_of unit d) → ⊥
 lands_inside program unit d lands out =
-    let goes = unit_is (target_of unit d) lands.target lands.goes in
-    absurd (grind (arith, goes, out, starts_inside program lands.target lands.starts))
+    let aims = unit_is (target_of unit d) lands.target lands.aims in
+    absurd (grind (arith, aims, out, starts_inside program lands.target lands.starts))
 
 pub lands_at_start : (program : List Insn) (unit : ℕ) (into : JumpsIntoWide program unit) → Lands program unit into.distance → ⊥
 lands_at_start program unit into lands =
-    let goes = unit_is (target_of unit into.distance) lands.target lands.goes in
-    let target : lands.target ≡ into.target = grind (arith, goes, into.goes) in
+    let aims = unit_is (target_of unit into.distance) lands.target lands.aims in
+    let target : lands.target ≡ into.target = grind (arith, aims, into.aims) in
     let there = value_there (instruction_at program lands.target) lands.starts in
     let none : instruction_at program lands.target ≡ None = ap (instruction_at program) target ∙ into.half.1 in
     let e = there.1 in

@@ -22,7 +22,7 @@ jump_lands program unit (pos n) shaped jumps = (
   search rules,
   record {
     target = unit + 1 + n;
-    goes = refl;
+    aims = refl;
     forward = omega arith;
     starts = starts;
   },
@@ -39,7 +39,7 @@ jump_lands program unit (pos n) shaped jumps = (
 
     starts : IsSome (instruction_at program (unit + 1 + n))
     starts = elim (which_start (instruction_at program (unit + 1 + n))) [
-      | inl none ↦ absurd (shaped (JumpIntoWide unit) (record { distance = pos n; target = unit + 1 + n; jumps = jumps; goes = refl; half = (inside, none) }))
+      | inl none ↦ absurd (shaped (JumpIntoWide unit) (record { distance = pos n; target = unit + 1 + n; jumps = jumps; aims = refl; half = (inside, none) }))
       | inr there ↦ there
     ]
 

@@ -25,7 +25,7 @@ pub record JumpsIntoWide (program : List Insn) (unit : ℕ) : Type 0 where
   pub distance : ℤ
   pub target : ℕ
   pub jumps : JumpsBy program unit distance
-  pub goes : target_of unit distance ≡ pos target
+  pub aims : target_of unit distance ≡ pos target
   pub half : IsSecondHalf program target
 
 -- the last instruction starts at this unit, and after it a run may go on past the program's end
@@ -69,7 +69,7 @@ pub record IsFirstFlowFault (program : List Insn) (fault : FlowFault) : Type 0 w
 -- a jump at this unit goes forward, to a unit at which an instruction starts
 pub record Lands (program : List Insn) (unit : ℕ) (distance : ℤ) : Type 0 where
   pub target : ℕ
-  pub goes : unit_of (target_of unit distance) ≡ Some target
+  pub aims : unit_of (target_of unit distance) ≡ Some target
   pub forward : unit < target
   pub starts : IsSome (instruction_at program target)
 

@@ -1,7 +1,7 @@
 //! Puts, changes, removals and replacements in both bodies of the trait, and what is copied out of them.
 ghost use Rattle.std.specs.Prelude.{◌≤◌, ◌<◌};
 
-use bins::{Bins, HashedBins, ListBins, hash_of};
+use bins::{Bins, HashedBins, HashedKey, ListBins, hash_of};
 use bpf_model::{Key, NoMemory, Value};
 use std::alloc::Global;
 use std::test::Fail;
@@ -12,8 +12,7 @@ mod replaced;
 // Puts bytes under a name.
 fn put<B: Bins>(bins: &mut B, name: &[u8], bytes: &[u8]) -> Result<(), Fail> {
     let key = Key::from_slice(name)?;
-    let hash = hash_of(&key);
-    bins.put(key, Value::from_slice(bytes)?, hash)?;
+    bins.put(&HashedKey::new(&key), &Value::from_slice(bytes)?)?;
     Ok(())
 }
 
@@ -76,13 +75,11 @@ fn remove_all<B: Bins>(bins: &mut B) -> Result<bool, Fail> {
     for i in 0..300u16 {
         let number = (i * 11 % 300).to_be_bytes();
         let key = Key::from_slice(&number)?;
-        let hash = hash_of(&key);
-        there &= bins.find(&key, hash).map(Value::as_slice) == Some(number.as_slice());
-        if let Some(value) = bins.find_mut(&key, hash) {
-            *value = Value::new();
-        }
-        there &= bins.remove(&key, hash) == Some(Value::new());
-        there &= bins.find_mut(&key, hash).is_none();
+        let key = HashedKey::new(&key);
+        there &= bins.find(&key) == Some(number.as_slice());
+        bins.put(&key, &Value::new())?;
+        there &= bins.remove(&key) == Some(Value::new());
+        there &= bins.find(&key).is_none();
     }
     Ok(there)
 }
@@ -116,7 +113,7 @@ fn half_removed<B: Bins + Drop>(alloc: Global) -> Result<Vec<(Key, Value)>, Fail
     fill(&mut bins, 40)?;
     for i in 0..20u16 {
         let key = Key::from_slice(&(i * 14 % 300).to_be_bytes())?;
-        bins.remove(&key, hash_of(&key));
+        bins.remove(&HashedKey::new(&key));
     }
     Ok(bins.entries(alloc)?)
 }
@@ -133,10 +130,10 @@ fn both_bodies_are_scanned_alike(rt: HostRuntime) -> Result<(), Fail> {
     Ok(())
 }
 
-// One of 32 keys of five pairs, each `41 61` or `42 42`: all have one hash.
+// One of 256 keys of eight pairs, each `41 61` or `42 42`: all have one hash.
 pub(crate) fn key_of_pairs(number: u8) -> Result<Key, Fail> {
-    let mut bytes = [0; 10];
-    for pair in 0..5usize {
+    let mut bytes = [0; 16];
+    for pair in 0..8usize {
         let second = number & (1 << pair) != 0;
         bytes[2 * pair] = if second { 0x42 } else { 0x41 };
         bytes[2 * pair + 1] = if second { 0x42 } else { 0x61 };
@@ -144,36 +141,116 @@ pub(crate) fn key_of_pairs(number: u8) -> Result<Key, Fail> {
     Ok(Key::from_slice(&bytes)?)
 }
 
-// Puts the keys of one hash, removes every third, and finds just the others; whether it went so.
-fn stand_apart<B: Bins + Drop>(alloc: Global) -> Result<bool, Fail> {
-    let mut bins = B::open(alloc, 1)?;
-    let hash = hash_of(&key_of_pairs(0)?);
-    let mut apart = true;
-    for number in 0..32u8 {
-        let key = key_of_pairs(number)?;
-        apart &= hash_of(&key) == hash;
-        put(&mut bins, key.as_slice(), &[number])?;
-    }
-    for number in 0..32u8 {
-        if number % 3 == 0 {
-            let key = key_of_pairs(number)?;
-            let hash = hash_of(&key);
-            apart &= bins.remove(&key, hash).is_some();
+// One of 256 keys of five bytes: each has a hash of its own, and the lowest 16 bits of them all are 0.
+fn key_of_bin(number: u8) -> Result<Key, Fail> {
+    let begun = hash_of(&Key::from_slice(&[number])?);
+    let rest = begun.wrapping_mul(31 * 31 * 31 * 31).wrapping_neg() % 65_536;
+    Ok(Key::from_slice(&[
+        number,
+        (rest / 29_791) as u8,
+        (rest / 961 % 31) as u8,
+        (rest / 31 % 31) as u8,
+        (rest % 31) as u8,
+    ])?)
+}
+
+// How the hashes of keys are alike.
+#[derive(Clone, Copy)]
+enum Crowd {
+    /// Not at all: the keys are of one byte.
+    Apart,
+    /// They are one.
+    OneHash,
+    /// They are in one bin, however many bins there are.
+    OneBin,
+}
+
+impl Crowd {
+    // The key of a number.
+    fn key(self, number: u8) -> Result<Key, Fail> {
+        match self {
+            Crowd::Apart => Ok(Key::from_slice(&[number])?),
+            Crowd::OneHash => key_of_pairs(number),
+            Crowd::OneBin => key_of_bin(number),
         }
     }
-    for number in 0..32u8 {
-        let key = key_of_pairs(number)?;
-        let found = bins.find(&key, hash_of(&key)).map(Value::as_slice);
-        let wanted = [number];
-        apart &= found == (number % 3 != 0).then_some(wanted.as_slice());
+
+    // Whether the hashes of two keys are so alike.
+    fn is_of(self, one: &Key, other: &Key) -> bool {
+        let one = hash_of(one);
+        let other = hash_of(other);
+        match self {
+            Crowd::Apart => one != other,
+            Crowd::OneHash => one == other,
+            Crowd::OneBin => one != other && one % 65_536 == other % 65_536,
+        }
     }
-    Ok(apart)
+}
+
+// Puts 200 keys of a crowd; whether they are of that crowd.
+fn put_crowd<B: Bins>(bins: &mut B, crowd: Crowd) -> Result<bool, Fail> {
+    let other = crowd.key(255)?;
+    let mut all = true;
+    for number in 0..200u8 {
+        let key = crowd.key(number)?;
+        all &= crowd.is_of(&key, &other);
+        put(bins, key.as_slice(), &[number])?;
+    }
+    Ok(all)
+}
+
+// Removes every third key of a crowd; whether each had its value.
+fn remove_thirds<B: Bins>(bins: &mut B, crowd: Crowd) -> Result<bool, Fail> {
+    let mut there = true;
+    for number in 0..200u8 {
+        if number % 3 == 0 {
+            let key = crowd.key(number)?;
+            there &= bins.remove(&HashedKey::new(&key)) == Some(Value::from_slice(&[number])?);
+            there &= bins.remove(&HashedKey::new(&key)).is_none();
+        }
+    }
+    Ok(there)
+}
+
+// Whether a key has this value.
+fn has<B: Bins>(bins: &B, key: &Key, number: u8) -> bool {
+    bins.find(&HashedKey::new(key)) == Some([number].as_slice())
+}
+
+// Puts the keys of a crowd among others, removes every third, and finds just those that are left; whether it went so.
+fn stand_apart<B: Bins + Drop>(alloc: Global, crowd: Crowd) -> Result<bool, Fail> {
+    let mut bins = B::open(alloc, 1)?;
+    let mut apart = put_crowd(&mut bins, Crowd::Apart)? && put_crowd(&mut bins, crowd)?;
+    apart &= remove_thirds(&mut bins, crowd)?;
+    for number in 0..200u8 {
+        apart &= has(&bins, &crowd.key(number)?, number) == (number % 3 != 0);
+        apart &= has(&bins, &Crowd::Apart.key(number)?, number);
+    }
+    Ok(apart && bins.count() == 333)
 }
 
 #[test]
 fn keys_of_one_hash_stand_apart(rt: HostRuntime) -> Result<(), Fail> {
-    assert!(rt; stand_apart::<ListBins>(rt.alloc())?);
-    assert!(rt; stand_apart::<HashedBins>(rt.alloc())?);
+    assert!(rt; stand_apart::<ListBins>(rt.alloc(), Crowd::OneHash)?);
+    assert!(rt; stand_apart::<HashedBins>(rt.alloc(), Crowd::OneHash)?);
+    Ok(())
+}
+
+#[test]
+fn keys_of_one_bin_stand_apart(rt: HostRuntime) -> Result<(), Fail> {
+    assert!(rt; stand_apart::<ListBins>(rt.alloc(), Crowd::OneBin)?);
+    assert!(rt; stand_apart::<HashedBins>(rt.alloc(), Crowd::OneBin)?);
+    Ok(())
+}
+
+#[test]
+fn bins_say_for_how_many_stripes_they_are(rt: HostRuntime) -> Result<(), Fail> {
+    for stripes in [1, 4, 64] {
+        let mut bins = HashedBins::open(rt.alloc(), stripes)?;
+        assert_eq!(rt; bins.stripes(), stripes);
+        assert!(rt; put_crowd(&mut bins, Crowd::OneHash)?);
+        assert_eq!(rt; bins.stripes(), stripes);
+    }
     Ok(())
 }
 
@@ -225,7 +302,7 @@ fn bins_double_with_the_key_that_crowds_them(rt: HostRuntime) -> Result<(), Fail
             );
         }
         let mut bins = HashedBins::open(rt.alloc(), stripes)?;
-        for number in 0..32u8 {
+        for number in 0..40u8 {
             let key = key_of_pairs(number)?;
             assert!(rt;
                 double_in_time(&mut bins, &key, number)?,
@@ -244,29 +321,26 @@ fn opened<B: Bins>(alloc: Global) -> Result<B, NoMemory> {
     }
 }
 
-// Puts one byte's key, and once more where that was refused; whether the key was then not there.
-fn put_twice<B: Bins>(bins: &mut B, number: u8) -> Result<bool, Fail> {
-    let key = Key::from_slice(&[number])?;
-    let hash = hash_of(&key);
-    if bins.put(key.copied(), Value::new(), hash).is_ok() {
+// Puts a key, and once more where that was refused; whether it was then not there.
+fn put_twice<B: Bins>(bins: &mut B, key: &Key) -> Result<bool, Fail> {
+    let key = HashedKey::new(key);
+    if bins.put(&key, &Value::new()).is_ok() {
         return Ok(true);
     }
-    let absent = bins.find(&key, hash).is_none();
-    bins.put(key, Value::new(), hash)?;
+    let absent = bins.find(&key).is_none();
+    bins.put(&key, &Value::new())?;
     Ok(absent)
 }
 
-// Whether these keys of one byte are there, and not the next.
-fn has_first<B: Bins>(bins: &B, count: u8) -> Result<bool, Fail>
-    requires { count < 255 }
-{
+// Whether the first keys of a crowd are there, and not the next.
+fn has_first<B: Bins>(bins: &B, crowd: Crowd, count: u8) -> Result<bool, Fail> {
     let mut there = true;
     for number in 0..count {
-        let key = Key::from_slice(&[number])?;
-        there &= bins.find(&key, hash_of(&key)).is_some();
+        let key = crowd.key(number)?;
+        there &= bins.find(&HashedKey::new(&key)).is_some();
     }
-    let next = Key::from_slice(&[count])?;
-    Ok(there && bins.find(&next, hash_of(&next)).is_none())
+    let next = crowd.key(count)?;
+    Ok(there && bins.find(&HashedKey::new(&next)).is_none())
 }
 
 /// Also where one request for memory is refused: that put leaves the entries, and the next one enters.
@@ -274,8 +348,8 @@ fn has_first<B: Bins>(bins: &B, count: u8) -> Result<bool, Fail>
 fn a_refused_put_leaves_the_list(rt: HostRuntime) -> Result<(), Fail> {
     let mut bins = opened::<ListBins>(rt.alloc())?;
     for number in 0..40u8 {
-        assert!(rt; put_twice(&mut bins, number)?);
-        assert!(rt; has_first(&bins, number + 1)?);
+        assert!(rt; put_twice(&mut bins, &Crowd::Apart.key(number)?)?);
+        assert!(rt; has_first(&bins, Crowd::Apart, number + 1)?);
     }
     Ok(())
 }
@@ -287,13 +361,24 @@ fn a_refused_put_leaves_the_bins(rt: HostRuntime) -> Result<(), Fail> {
     let mut bins = opened::<HashedBins>(rt.alloc())?;
     let mut late = false;
     for number in 0..70u8 {
-        assert!(rt; put_twice(&mut bins, number)?);
-        assert!(rt; has_first(&bins, number + 1)?);
+        assert!(rt; put_twice(&mut bins, &Crowd::Apart.key(number)?)?);
+        assert!(rt; has_first(&bins, Crowd::Apart, number + 1)?);
         if bins.bins() != wanted_bins(number + 1) {
             assert!(rt; !late);
             late = true;
         }
     }
     assert_eq!(rt; bins.bins(), 64);
+    Ok(())
+}
+
+/// Also where one request for memory is refused, for the index, for the tree that takes its place, or for a node of it.
+#[test]
+fn a_refused_put_leaves_the_tree(rt: HostRuntime) -> Result<(), Fail> {
+    let mut bins = opened::<HashedBins>(rt.alloc())?;
+    for number in 0..70u8 {
+        assert!(rt; put_twice(&mut bins, &key_of_bin(number)?)?);
+        assert!(rt; has_first(&bins, Crowd::OneBin, number + 1)?);
+    }
     Ok(())
 }

@@ -85,9 +85,7 @@ impl Alone {
         let Ok(entries) = self.table.scan(alloc) else {
             return Answer::One(no_memory());
         };
-        let Ok(reply) = walk(alloc, kind, entries, program, arg) else {
-            return Answer::One(no_memory());
-        };
+        let reply = walk(kind, entries, program, arg);
         Answer::Walk(reply)
     }
 

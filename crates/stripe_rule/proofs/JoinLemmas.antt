@@ -141,16 +141,16 @@ module _ {D T B : Type 0} (does : ℕ → T → D → T → Type 0) (empty : T) 
         alone : (j : ℕ) (x : View D) (q : ℕ) → ((j ≢ id) × ((j ≢ other) × At views j x)) → Carries x q → Carries v q ⊎ Carries w q → ⊥
         alone j x q t c s = ⊎_elim (λ d. t.0 (apart j id x v q t.1.1 at c d)) (λ d. t.1.0 (apart j other x w q t.1.1 there c d)) s
 
-    united_place : other ≢ id → (k : ℕ) (log : List (Event D)) (word : ℕ) (home : Home B) → held_at v k ≡ false → held_at w k ≡ false → held_at u k ≡ false
+    united_holding : other ≢ id → (k : ℕ) (log : List (Event D)) (word : ℕ) (home : Home B) → held_at v k ≡ false → held_at w k ≡ false → held_at u k ≡ false
         → IsFree does empty content k log word home views ⊎ IsHeld does empty content k log word home views → IsFree does empty content k log word home left ⊎ IsHeld does empty content k log word home left
-    united_place two k log word home idle idle' idle_u (inl f) = inl record {
+    united_holding two k log word home idle idle' idle_u (inl f) = inl record {
       word_is = f.word_is;
       bins = f.bins;
       home_is = f.home_is;
       content_is = f.content_is;
       nobody = every (λ x. held_at x k ≡ false) refl idle_u f.nobody;
     }
-    united_place two k log word home idle idle' idle_u (inr b) =
+    united_holding two k log word home idle idle' idle_u (inr b) =
         let far : (i : ℕ) (x : View D) → At views i x → held_at x k ≡ false → b.who ≢ i = λ i x at_i off e.
         true≢false (sym b.held ∙ (ap (λ (z : View D). held_at z k) (same_view views i b.view x (subst (λ n. At views n b.view) e b.at) at_i) ∙ off)) in
         inr record {
@@ -189,7 +189,7 @@ module _ {D T B : Type 0} (does : ℕ → T → D → T → Type 0) (empty : T) 
               legal = t.legal;
               below = t.below;
               fits = every s.views id v other w u at there (FitsLog k t.log) (spent_fits k t.log) (both_fit k t.log v w wide clash (t.fits id v at) (t.fits other w there)) t.fits;
-              place = united_place s.views id v other w u at there two k t.log (get_or s.words (word_at k) 0) old.0 (idle k) (idle' k) (ap (λ (p : Part D). p.held) (part_united v w k wide) ∙ idle k) t.place;
+              holding = united_holding s.views id v other w u at there two k t.log (get_or s.words (word_at k) 0) old.0 (idle k) (idle' k) (ap (λ (p : Part D). p.held) (part_united v w k wide) ∙ idle k) t.holding;
             },
           ),
         );

@@ -100,7 +100,7 @@ module _ {D T B : Type 0} (does : ℕ → T → D → T → Type 0) (empty : T) 
           legal = (empty, refl);
           below = All-nil (IsBelow passes);
           fits = every_one (FitsLog k []) first (new_fits D stripes passes k (from_on 0 passes) [] (All-nil (IsOther (from_on 0 passes))));
-          place = inl record {
+          holding = inl record {
             word_is = zeros (word_at k) (omega arith);
             bins = b.1.1.0;
             home_is = ap maybe.some b.1.1.1.0;
@@ -146,16 +146,16 @@ module _ {D T B : Type 0} (does : ℕ → T → D → T → Type 0) (empty : T) 
         (from sub_l sub_w j y q ey cy))
         (from sub_l sub_w i x q ex cx)
 
-    fork_place : (k : ℕ) (log : List (Event D)) (word : ℕ) (home : Home B) → held_at v k ≡ false → held_at l k ≡ false → held_at w k ≡ false
+    fork_holding : (k : ℕ) (log : List (Event D)) (word : ℕ) (home : Home B) → held_at v k ≡ false → held_at l k ≡ false → held_at w k ≡ false
         → IsFree does empty content k log word home s.views ⊎ IsHeld does empty content k log word home s.views → IsFree does empty content k log word home both ⊎ IsHeld does empty content k log word home both
-    fork_place k log word home idle idle_l idle_w (inl f) = inl record {
+    fork_holding k log word home idle idle_l idle_w (inl f) = inl record {
       word_is = f.word_is;
       bins = f.bins;
       home_is = f.home_is;
       content_is = f.content_is;
       nobody = every_both (λ u. held_at u k ≡ false) idle_l idle_w f.nobody;
     }
-    fork_place k log word home idle idle_l idle_w (inr b) = let other : b.who ≢ id = λ e. true≢false (sym b.held ∙ (ap (λ (z : View D). held_at z k) (same_view s.views id b.view v (subst (λ i. At s.views i b.view) e b.at) at) ∙ idle)) in inr record {
+    fork_holding k log word home idle idle_l idle_w (inr b) = let other : b.who ≢ id = λ e. true≢false (sym b.held ∙ (ap (λ (z : View D). held_at z k) (same_view s.views id b.view v (subst (λ i. At s.views i b.view) e b.at) at) ∙ idle)) in inr record {
       word_is = b.word_is;
       home_is = b.home_is;
       who = b.who;
@@ -190,7 +190,7 @@ module _ {D T B : Type 0} (does : ℕ → T → D → T → Type 0) (empty : T) 
                   below = t.below;
                   fits = every_both s id v l w at (FitsLog k t.log) (new_fits D stripes passes k (i ∷ []) t.log (others_fewer v.numbers (i ∷ []) t.log sub_l others))
                       (new_fits D stripes passes k (from_on (i + 1) count) t.log (others_fewer v.numbers (from_on (i + 1) count) t.log sub_w others)) t.fits;
-                  place = fork_place s id v l w at k t.log (get_or s.words (word_at k) 0) old.0 (new_idle D stripes passes k v.numbers) (new_idle D stripes passes k l.numbers) (new_idle D stripes passes k w.numbers) t.place;
+                  holding = fork_holding s id v l w at k t.log (get_or s.words (word_at k) 0) old.0 (new_idle D stripes passes k v.numbers) (new_idle D stripes passes k l.numbers) (new_idle D stripes passes k w.numbers) t.holding;
                 },
               ),
             );

@@ -63,7 +63,7 @@ module _ {D T B : Type 0} (does : ℕ → T → D → T → Type 0) (empty : T) 
             (λ (x : (j ≡ id) × (w ≡ u)). subst (FitsLog k log) x.1 (grown_fits k t.log more v w (t.fits id v at) whole under sets))
             (λ (x : (j ≢ id) × At s.views j u). others_fit k t.log more u (t.fits j u x.1) (under_others v.numbers u.numbers more (λ q mine theirs. x.0 (r.apart j id u v q x.1 at theirs mine)) under))
             (at_set s.views id j w u e);
-        place = inl record {
+        holding = inl record {
           word_is = refl;
           bins = b;
           home_is = refl;
@@ -74,7 +74,7 @@ module _ {D T B : Type 0} (does : ℕ → T → D → T → Type 0) (empty : T) 
               (at_set s.views id j w u e);
         };
       })
-      t.place
+      t.holding
 
   module _ (slots id k : ℕ) where
     releases_at : (v : View D) (others : List (ℕ × Option B)) (b : B) (more : List (Event D)) (q : ℕ) → k < stripes → Carries v q → held_at v k ≡ true

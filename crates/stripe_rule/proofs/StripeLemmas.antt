@@ -47,16 +47,16 @@ module _ {D T B : Type 0} (does : ℕ → T → D → T → Type 0) (empty : T) 
   Place k log word home views = IsFree does empty content k log word home views ⊎ IsHeld does empty content k log word home views
 
   -- where one view changes that holds the stripe as before, and has seen all if it had
-  pub place_set : (k : ℕ) (log : List (Event D)) (word : ℕ) (home : Home B) (views : List (View D)) (id : ℕ) (v w : View D) → At views id v → held_at w k ≡ held_at v k
+  pub holding_set : (k : ℕ) (log : List (Event D)) (word : ℕ) (home : Home B) (views : List (View D)) (id : ℕ) (v w : View D) → At views id v → held_at w k ≡ held_at v k
       → (seen_of v k ≡ log → seen_of w k ≡ log) → Place k log word home views → Place k log word home (set views id w)
-  place_set k log word home views id v w at held seen (inl f) = inl record {
+  holding_set k log word home views id v w at held seen (inl f) = inl record {
     word_is = f.word_is;
     bins = f.bins;
     home_is = f.home_is;
     content_is = f.content_is;
     nobody = every_set (λ u. held_at u k ≡ false) views id w (held ∙ f.nobody id v at) f.nobody;
   }
-  place_set k log word home views id v w at held seen (inr b) = inr (dite (ℕ_discrete b.who id)
+  holding_set k log word home views id v w at held seen (inr b) = inr (dite (ℕ_discrete b.who id)
       (λ same. let is : b.view ≡ v = same_view views id b.view v (subst (λ i. At views i b.view) same b.at) at in record {
         word_is = b.word_is;
         home_is = b.home_is;
@@ -92,7 +92,7 @@ module _ {D T B : Type 0} (does : ℕ → T → D → T → Type 0) (empty : T) 
     legal = r.legal;
     below = r.below;
     fits = every_set (FitsLog k r.log) views id w fits r.fits;
-    place = place_set k r.log word home views id v w at held seen r.place;
+    holding = holding_set k r.log word home views id v w at held seen r.holding;
   }
 
   -- the stripe of which one view knows what it knew

@@ -59,7 +59,7 @@ module _ {D T B : Type 0} (does : ℕ → T → D → T → Type 0) (empty : T) 
         legal = t.legal;
         below = t.below;
         fits = every_set (FitsLog k t.log) s.views id w (fits_seen k t.log v w true f sets) t.fits;
-        place = inr record {
+        holding = inr record {
           word_is = refl;
           home_is = refl;
           who = id;
@@ -101,7 +101,7 @@ module _ {D T B : Type 0} (does : ℕ → T → D → T → Type 0) (empty : T) 
           λ j e. let same : k ≡ j = omega arith in ((λ _. subst (λ i. Takes does empty content i me (t.0, (k, Some f.bins) ∷ me.1)) same t.1.1), λ not. absurd (not hit)),
         ))
         (λ (b : IsHeld does empty content k here.1.1.log n here.0 s.views). absurd (let is = b.word_is in omega arith))
-        here.1.1.place)
+        here.1.1.holding)
         (λ miss. let t = look s id k me q r at inside c in (
           t.0,
           keeps,

@@ -14,7 +14,7 @@ abbrev pub from_on : ℕ → ℕ → List ℕ
 from_on n zero = []
 from_on n (suc count) = n ∷ from_on (n + 1) count
 
--- the value of the table's place, if it is at home
+-- the value of the table's slot, if it is at home
 abbrev pub Home : Type 0 → Type 0
 Home B = maybe.Option (Option B)
 
@@ -80,12 +80,12 @@ module _ {D T B : Type 0} (does : ℕ → T → D → T → Type 0) (empty : T) 
     pub legal : IsLegal (does k) empty log
     pub below : AreBelow passes log
     pub fits : (id : ℕ) (v : View D) → At views id v → FitsLog k log v
-    pub place : IsFree k log word home views ⊎ IsHeld k log word home views
+    pub holding : IsFree k log word home views ⊎ IsHeld k log word home views
 
   -- the rule
   pub record Kept (stripes passes : ℕ) (s : State (Option B) (View D)) : Type 0 where
     pub words : length s.words ≡ words_of stripes
-    pub between : (k i : ℕ) → k < stripes → 0 < i → i < 8 → slice_index s.words (word_at k + i) ≡ 0
+    pub between : (k i : ℕ) → k < stripes → 0 < i → i < 16 → slice_index s.words (word_at k + i) ≡ 0
     pub apart : AreApart s.views
     pub counted : (id : ℕ) (v : View D) → At s.views id v → IsCounted stripes passes v
     pub stripe : (k : ℕ) → k < stripes → (home : Home B)

@@ -54,14 +54,14 @@ module _ {D : Type 0} where
 
 -- `does` and `empty` as in the rule
 module _ {D T : Type 0} (does : ℕ → T → D → T → Type 0) (empty : T) where
-  -- a look at the word k, by a pass with these places out: it has seen then all that it was told of
+  -- a look at the word k, by a pass with these slots out: it has seen then all that it was told of
   pub record Looks {S : Type 0} (k : ℕ) (me me' : Me S (View D)) : Type 0 where
     pub extends : Extends me.0 k (held_at me.0 k) me'.0
     pub heard : StartsWith (seen_of me'.0 k) (told_of me.0 k)
     pub sound : IsSound does empty me'.0
     pub out : me'.1 ≡ me.1
 
-  -- the swap of the word to 0, which puts the place taken last back home and adds these events
+  -- the swap of the word to 0, which puts the slot taken last back home and adds these events
   pub record Releases {S : Type 0} (more : List (Event D)) (k : ℕ) (me me' : Me S (View D)) : Type 0 where
     pub sets : SetsPart me.0 k (grown (part_of me.0 k) more) me'.0
     pub sound : IsSound does empty me'.0
@@ -85,7 +85,7 @@ module _ {D T : Type 0} (does : ℕ → T → D → T → Type 0) (empty : T) wh
   released more st me found me' = (k : ℕ) → st.word ≡ word_at k → Releases more k me me'
 
   module _ {B : Type 0} (content : B → T) where
-    -- the place of the stripe k is out with the pass, which has seen all that was done there
+    -- the slot of the stripe k is out with the pass, which has seen all that was done there
     pub record IsOut (k : ℕ) (me me' : Me (Option B) (View D)) : Type 0 where
       pub bins : B
       pub out : me'.1 ≡ (k, Some bins) ∷ me.1

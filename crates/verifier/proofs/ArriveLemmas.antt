@@ -69,7 +69,7 @@ walk_visits program sizes unit i here later before after operation is forward at
   where
     leads : (s : State) → s.unit ≡ unit → IsKnown unit here before sizes s → LeadsOrEnds sizes i s (IsKnown (unit + units_of i) later after sizes)
     leads s same known = record {
-      leads = elim (visits.leads s same (known_here sizes unit here before none s same known)) [ inl ends ↦ inl ends | inr goes ↦ inr (goes.next, (goes.acts, goes.known)) ];
+      leads = elim (visits.leads s same (known_here sizes unit here before none s same known)) [ inl ends ↦ inl ends | inr on ↦ inr (on.next, (on.acts, on.known)) ];
     }
 
 -- no run comes to an instruction of which nothing is known

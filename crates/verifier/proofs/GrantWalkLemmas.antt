@@ -34,15 +34,15 @@ leaves_grants program unit next i a b apart at follows g leaves =
 
 -- so at the next instruction
 next_grants : (program : List Insn) (unit : ℕ) (i : Insn) (before after : Pending) (a b : AbstractState) (on : Bool) → ((w : Window) → written_by i ≢ Some (base_of w)) → instruction_at program unit ≡ Some i → Grants program unit a → Sends i unit before a after on b → GrantsThere program (unit + units_of i) (if on then Some b else None)
-next_grants program unit i before after a b true apart at g goes =
-    let next = goes.next refl in
+next_grants program unit i before after a b true apart at g sends =
+    let next = sends.next refl in
     leaves_grants program unit (unit + units_of i) i a b apart at (inl (i, (at, (next.0, refl)))) g next.1
-next_grants program unit i before after a b false apart at g goes = tt
+next_grants program unit i before after a b false apart at g sends = tt
 
 -- and at a jump's target
 kept_grants : (program : List Insn) (unit other : ℕ) (i : Insn) (before after : Pending) (a b : AbstractState) (on : Bool) → ((w : Window) → written_by i ≢ Some (base_of w)) → instruction_at program unit ≡ Some i → Grants program unit a → Sends i unit before a after on b → GrantsThere program other (kept_at before other) → GrantsThere program other (kept_at after other)
-kept_grants program unit other i before after a b on apart at g goes was =
-    elim (goes.kept other) [
+kept_grants program unit other i before after a b on apart at g sends was =
+    elim (sends.kept other) [
       | inl same ↦ rw same was
       | inr sent ↦
           let follows : IsNextUnit program unit other = inr (sent.distance, (rw at sent.jumps, sent.lands)) in
@@ -51,16 +51,16 @@ kept_grants program unit other i before after a b on apart at g goes was =
 
 -- past an instruction
 pub visit_grants : (program : List Insn) (unit : ℕ) (i : Insn) (before after : Pending) (here later : Option AbstractState) → ((w : Window) → written_by i ≢ Some (base_of w)) → instruction_at program unit ≡ Some i → GoesFrom i unit before here after later → GrantsAll program unit here before → GrantsAll program (unit + units_of i) later after
-visit_grants program unit i before after None later apart at goes g = record {
-  now = rw goes.0 tt;
-  kept = λ other. rw (goes.1 other) (g.kept other);
+visit_grants program unit i before after None later apart at sends g = record {
+  now = rw sends.0 tt;
+  kept = λ other. rw (sends.1 other) (g.kept other);
 }
-visit_grants program unit i before after (Some a) later apart at goes g =
-    let on = goes.0 in
-    let b = goes.1.0 in
+visit_grants program unit i before after (Some a) later apart at sends g =
+    let on = sends.0 in
+    let b = sends.1.0 in
     record {
-      now = rw goes.1.1.0 (next_grants program unit i before after a b on apart at g.now goes.1.1.1);
-      kept = λ other. kept_grants program unit other i before after a b on apart at g.now goes.1.1.1 (g.kept other);
+      now = rw sends.1.1.0 (next_grants program unit i before after a b on apart at g.now sends.1.1.1);
+      kept = λ other. kept_grants program unit other i before after a b on apart at g.now sends.1.1.1 (g.kept other);
     }
 
 -- at a unit where what was kept for it is joined

@@ -25,10 +25,10 @@ impl MadeUp {
     }
 }
 
-// The value after a change: one byte longer, and empty after eight.
+// The value after a change: 5 bytes longer, and short again after 40.
 fn changed(old: &Value) -> Result<Value, Fail> {
-    let bytes = [7; 8];
-    let long = (old.as_slice().len() + 1) % 9;
+    let bytes = [7; 40];
+    let long = (old.as_slice().len() + 5) % 41;
     Ok(Value::from_slice(&bytes[..long])?)
 }
 
@@ -40,7 +40,7 @@ fn step<B: Bins>(
 ) -> Result<bool, Fail> {
     let number = made_up.below(KEYS);
     let key = Key::from_slice(&number.to_be_bytes())?;
-    let hash = hash_of(&key);
+    let key = HashedKey::new(&key);
     let Some(entry) = list.get_mut(number as usize) else {
         return Ok(false);
     };
@@ -48,19 +48,19 @@ fn step<B: Bins>(
         0 => {
             let value = Value::from_slice(&made_up.below(KEYS).to_be_bytes())?;
             *entry = Some(value.copied());
-            bins.put(key, value, hash)?;
+            bins.put(&key, &value)?;
             Ok(true)
         }
-        1 => Ok(bins.find(&key, hash) == entry.as_ref()),
-        2 => Ok(bins.remove(&key, hash) == entry.take()),
-        _ => match (bins.find_mut(&key, hash), entry) {
-            (Some(found), Some(value)) => {
-                let same = *found == *value;
-                *found = changed(value)?;
-                *value = found.copied();
+        1 => Ok(bins.find(&key) == entry.as_ref().map(Value::as_slice)),
+        2 => Ok(bins.remove(&key) == entry.take()),
+        _ => match entry {
+            Some(value) => {
+                let same = bins.find(&key) == Some(value.as_slice());
+                *value = changed(value)?;
+                bins.put(&key, value)?;
                 Ok(same)
             }
-            (found, wanted) => Ok(found.is_none() && wanted.is_none()),
+            None => Ok(bins.find(&key).is_none()),
         },
     }
 }

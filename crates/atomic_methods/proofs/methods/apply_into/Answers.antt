@@ -1,11 +1,11 @@
-use Rattle.std.proofs.Common.{None}
-use Rattle.atomic_methods.proofs.TableLemmas.{remove-insert}
+use Rattle.std.proofs.Common.{◌≡◌, ℕ, List, Some, refl, ap, ◌∙◌}
+use Rattle.atomic_methods.specs.declared.reply.Reply.TheVariants.{Value}
 use Rattle.atomic_methods.proofs.methods.apply_into.Goals as goal
 
--- the key goes, whatever was left behind it
-pub returns-then-not-stays-clause-ok : goal.returns-then-not-stays-clause-ok
-returns-then-not-stays-clause-ok g c =
-    let old = rw c.key.ensures.value at c.in-Some.ensures.value in
-    let goes = rw c.if-not-stays.true at c.change_value-stays.ensures.follows in
-    let key = rw c.key-then-not-stays.ensures.value at c.remove_key.ensures.gone in
-    (None, (rw old at goes, rw (key, g.B.Bins.is_entered, c.key.ensures.value) (remove-insert _ _ _)))
+-- the value that is given is entered and replied
+pub returns-in_ok-put-in-Give-clause-ok : goal.returns-in_ok-put-in-Give-clause-ok
+returns-in_ok-put-in-Give-clause-ok g c =
+    let rule = rw (c.call.ensures.value) at c.in-Give.ensures.rule in
+    let found = rw (c.in-Some.is, c.key.ensures.value) at c.find.ensures.value in
+    let same : c.set_from-in-Give.new.self ≡ c.in-Give.new.now = c.set_from-in-Give.ensures ∙ c.as_slice.ensures.value in
+    (Some c.in-Give.new.now, (rw (← found, ← rule) (refl, ap (λ (v : List ℕ). Value (Some v)) same), rw (← c.key-in-Give.ensures.value) c.in_ok-put-in-Give.ensures.ok))

@@ -1,28 +1,37 @@
-use Rattle.std.proofs.Common.{◌≡◌, ◌++◌, List, [], ◌∷◌, refl, sym, subst, Some, None}
+use Rattle.std.proofs.Common.{◌≡◌, ◌++◌, ◌∷◌, [], List, Some, refl, sym, ap, ◌∙◌, subst}
 use Rattle.std.specs.FinMap as map
+use Rattle.atomic_table.specs.Table.{rest}
 use Rattle.stripe_rule.specs.Gains.{seen_of}
 use Rattle.bin_stripes.specs.Actions.{Action, scanned}
 use Rattle.bin_stripes.specs.Histories.{own_events, Leaves}
-use Rattle.bin_stripes.proofs.StepLemmas.{found_is, held_still, lets_from, lets_as}
+use Rattle.bin_stripes.proofs.StepLemmas.{found_is, lets_from, lets_as}
 use Rattle.bin_stripes.proofs.Making.{scan_made}
 use Rattle.bin_stripes.proofs.held.make_count.Goals as goal
 
-pub bins_home-requires-clause-held : goal.bins_home-requires-clause-held
-bins_home-requires-clause-held g c = let out = c.bins_out-bins.ensures in let mid = c.bins_out-bins.new.seat.me in
-    held_still g.B.Bins.table c.args.table.now.table_id.slots c.args.stripe c.args.seat.now.me mid.0 mid.1 out.out.0 c.requires.held out.same.2 out.out.1.1
+pub slot_mut-requires : goal.slot_mut-requires
+slot_mut-requires g c = let held = c.requires.held in
+    (c.requires.table.1, (Some held.bins, held.out ∙ ap (λ l. (c.args.stripe, Some held.bins) ∷ l) (sym (ap rest held.out))))
 
-pub bins_home-requires-clause-made : goal.bins_home-requires-clause-made
-bins_home-requires-clause-made g c = let out = c.bins_out-bins.ensures in let n = c.args.table.now.table_id.slots in let k = c.args.stripe in let w = c.bins_out-bins.new.seat.me.0 in
-    let there = g.B.Bins.table c.bins_out-bins.result in
-    subst (λ (b : g.row.B.Denot). (actions : List Action) × ((actions ≡ scanned (map.entries (g.B.Bins.table b)) ∷ []) × Leaves n k (seen_of w k ++ own_events w actions) there)) (sym c.of-found.ensures)
-    (scan_made n k c.args.seat.now.me.0 w there (map.entries there) out.same.2 (found_is g.B.Bins.table n k c.args.seat.now.me c.bins_out-bins.result out.out.0 c.requires.held out.out.1.0) refl)
+pub let_go-requires-clause-made : goal.let_go-requires-clause-made
+let_go-requires-clause-made g c = let v = c.args.seat.now.me.0 in let n = c.args.table.now.table_id.slots in let k = c.args.stripe in let there = g.B.Bins.table c.in-Some.bins in
+    let found = found_is g.B.Bins.table c.args.table.now.table_id.slots c.args.stripe c.args.seat.now.me c.in-Some.bins (rest c.args.seat.now.me.1) c.requires.held (c.slot_mut.ensures.value ∙ ap (λ s. (c.args.stripe, s) ∷ rest c.args.seat.now.me.1) c.in-Some.is) in (
+      c.in-Some.bins,
+      (
+        rest c.args.seat.now.me.1,
+        (
+          refl,
+          subst (λ (b : g.row.B.Denot). (actions : List Action) × ((actions ≡ scanned (map.entries (g.B.Bins.table b)) ∷ []) × Leaves n k (seen_of v k ++ own_events v actions) there)) (sym c.of-found.ensures)
+              (scan_made n k v v there (map.entries there) refl found refl),
+        ),
+      ),
+    )
 
 pub returns-clause-made : goal.returns-clause-made
-returns-clause-made g c = let out = c.bins_out-bins.ensures in let n = c.args.table.now.table_id.slots in let k = c.args.stripe in (
-  g.B.Bins.table c.bins_out-bins.result,
+returns-clause-made g c = let n = c.args.table.now.table_id.slots in let k = c.args.stripe in (
+  g.B.Bins.table c.in-Some.bins,
   (
-    lets_as n k _ _ c.args.seat.now.me c.bins_home.new.seat.me (λ actions a. subst (λ (b : g.row.B.Denot). actions ≡ scanned (map.entries (g.B.Bins.table b)) ∷ []) c.of-found.ensures a)
-        (lets_from n k _ c.args.seat.now.me c.bins_out-bins.new.seat.me c.bins_home.new.seat.me out.out.0 (Some c.bins_out-bins.result) None out.same.2 out.out.1.0 out.out.1.1 c.bins_home.ensures.made),
+    lets_as n k _ _ c.args.seat.now.me c.let_go.new.seat.me (λ actions a. subst (λ (b : g.row.B.Denot). actions ≡ scanned (map.entries (g.B.Bins.table b)) ∷ []) c.of-found.ensures a)
+        (lets_from n k _ c.args.seat.now.me _ c.let_go.new.seat.me (rest c.args.seat.now.me.1) (Some c.in-Some.bins) (Some c.in-Some.bins) refl (c.slot_mut.ensures.value ∙ ap (λ s. (c.args.stripe, s) ∷ rest c.args.seat.now.me.1) c.in-Some.is) refl c.let_go.ensures.made),
     c.count-count.ensures.value,
   ),
 )

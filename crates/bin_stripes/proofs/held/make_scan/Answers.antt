@@ -1,31 +1,7 @@
-use Rattle.std.proofs.Common.{refl, Some, None}
-use Rattle.bin_stripes.proofs.StepLemmas.{found_is, held_still, lets_from}
-use Rattle.bin_stripes.proofs.Making.{scan_made, nothing_made}
+use Rattle.std.proofs.Common.{List, ◌++◌, sum_by, ap, ◌∙◌}
+use Rattle.bins.specs.Table.{Entry}
 use Rattle.bin_stripes.proofs.held.make_scan.Goals as goal
 
-pub bins_home-requires-clause-held : goal.bins_home-requires-clause-held
-bins_home-requires-clause-held g c = let out = c.bins_out-bins.ensures in let mid = c.bins_out-bins.new.seat.me in
-    held_still g.B.Bins.table c.args.table.now.table_id.slots c.args.stripe c.args.seat.now.me mid.0 mid.1 out.out.0 c.requires.held out.same.2 out.out.1.1
-
-pub bins_home-requires-clause-made : goal.bins_home-requires-clause-made
-bins_home-requires-clause-made g c = let out = c.bins_out-bins.ensures in
-    scan_made c.args.table.now.table_id.slots c.args.stripe c.args.seat.now.me.0 c.bins_out-bins.new.seat.me.0 (g.B.Bins.table c.bins_out-bins.result) _ out.same.2 (found_is g.B.Bins.table c.args.table.now.table_id.slots c.args.stripe c.args.seat.now.me c.bins_out-bins.result out.out.0 c.requires.held out.out.1.0) c.in-Ok.ensures.ok
-
-pub returns-in-Ok-clause-ok : goal.returns-in-Ok-clause-ok
-returns-in-Ok-clause-ok g c = let out = c.bins_out-bins.ensures in
-    lets_from c.args.table.now.table_id.slots c.args.stripe _ c.args.seat.now.me c.bins_out-bins.new.seat.me c.bins_home.new.seat.me out.out.0 (Some c.bins_out-bins.result) None out.same.2 out.out.1.0 out.out.1.1 c.bins_home.ensures.made
-
-pub returns-in-Ok-clause-entries : goal.returns-in-Ok-clause-entries
-returns-in-Ok-clause-entries g c = (g.B.Bins.table c.bins_out-bins.result, (found_is g.B.Bins.table c.args.table.now.table_id.slots c.args.stripe c.args.seat.now.me c.bins_out-bins.result c.bins_out-bins.ensures.out.0 c.requires.held c.bins_out-bins.ensures.out.1.0, c.in-Ok.ensures.ok))
-
-pub bins_home-requires-in-Err-clause-held : goal.bins_home-requires-in-Err-clause-held
-bins_home-requires-in-Err-clause-held g c = let out = c.bins_out-bins.ensures in let mid = c.bins_out-bins.new.seat.me in
-    held_still g.B.Bins.table c.args.table.now.table_id.slots c.args.stripe c.args.seat.now.me mid.0 mid.1 out.out.0 c.requires.held out.same.2 out.out.1.1
-
-pub bins_home-requires-in-Err-clause-made : goal.bins_home-requires-in-Err-clause-made
-bins_home-requires-in-Err-clause-made g c = let out = c.bins_out-bins.ensures in let t = g.B.Bins.table c.bins_out-bins.result in
-    nothing_made c.args.table.now.table_id.slots c.args.stripe c.args.seat.now.me.0 c.bins_out-bins.new.seat.me.0 t t out.same.2 refl (found_is g.B.Bins.table c.args.table.now.table_id.slots c.args.stripe c.args.seat.now.me c.bins_out-bins.result out.out.0 c.requires.held out.out.1.0)
-
-pub returns-in-Err-clause-err : goal.returns-in-Err-clause-err
-returns-in-Err-clause-err g c = let out = c.bins_out-bins.ensures in
-    lets_from c.args.table.now.table_id.slots c.args.stripe _ c.args.seat.now.me c.bins_out-bins.new.seat.me c.bins_home-in-Err.new.seat.me out.out.0 (Some c.bins_out-bins.result) None out.same.2 out.out.1.0 out.out.1.1 c.bins_home-in-Err.ensures.made
+pub returns-clause-entries : goal.returns-clause-entries
+returns-clause-entries g c = let made = c.in_ok-make_copies.ensures.ok in
+    (made.0, (made.1.0, c.sort_entries.ensures.order made.0 (λ weight. ap (λ (es : List Entry). sum_by weight es) (made.1.2.added ∙ ap (λ (es : List Entry). es ++ made.1.2.copies) c.new-found.ensures.items) ∙ made.1.2.are weight)))

@@ -4,15 +4,15 @@ use Rattle.bins.specs.Table.{Entry}
 use Rattle.bin_stripes.specs.Passes.{PassState, stripes_of}
 use Rattle.bpf_model.specs.declared.memory.NoMemory.{NoMemory}
 use Rattle.bulk_walks.specs.Walks.{Walked, MayScan}
-use Rattle.bulk_walks.specs.Turns.{WorkerFinds, EachFinds}
+use Rattle.bulk_walks.specs.Turns.{FindsInOrder, EachFinds}
 use Rattle.bulk_walks.proofs.TeamLemmas.{head_of}
-use Rattle.bulk_walks.proofs.FoundLemmas.{all_of, finds_all}
+use Rattle.bulk_walks.proofs.FoundLemmas.{all_of}
 use Rattle.bulk_walks.proofs.finding.find.Goals as goal
 use Rattle.bulk_walks.proofs.finding.find.Goals.{In-Ok}
 
 -- what worker i did
 abbrev Does : TableId → ℕ → ℕ → PassState → Result (Vec Entry Global) NoMemory → PassState → Type 0
-Does map workers i x r y = (y.map ≡ map) × IfOk r (λ found. WorkerFinds (stripes_of map) (stripes_of map) workers i x.view y.view found.items) × Walked (stripes_of map) workers i MayScan x.view y.view
+Does map workers i x r y = (y.map ≡ map) × IfOk r (λ found. FindsInOrder (stripes_of map) workers i x.view y.view found.items) × Walked (stripes_of map) workers i MayScan x.view y.view
 
 each_of : (g : _) (c : In-Ok g) (i : ℕ) (d : PassState) (e : Result (Vec Entry Global) NoMemory) → i < length c.args.passes.items
     → Does c.args.map.now (length c.args.passes.items) i (slice_index_or c.args.passes.items i d) (slice_index_or c.in-Ok.answers.items i e) (slice_index_or c.work-passes.result.0.items i d)
@@ -37,17 +37,17 @@ pub returns-clause-found : goal.returns-clause-found
 returns-clause-found g c =
     let c' = (goal.at.returns-clause-found g c).In-Ok in
     let some : 0 < length c'.args.passes.items = omega (arith, c.requires.some, c.args.passes.ok.0) in
-    finds_all _ _ _ c'.in-Ok.answers.items c.in-Ok-merged.rows.items c.sort_rows.new.rows.items
-    (all_of (stripes_of c'.args.map.now) c'.args.passes.items c'.work-passes.result.0.items c'.in-Ok.answers.items (head_of _ some) (head_of c'.in-Ok.answers.items (omega (arith, (did g c').answers))) some (did g c') c.in-Ok-merged.ensures.ok) c.in-Ok-merged.ensures.all c.sort_rows.ensures.moved c.sort_rows.ensures.order
+    all_of (stripes_of c'.args.map.now) c'.args.passes.items c'.work-passes.result.0.items c'.in-Ok.answers.items (head_of _ some) (head_of c'.in-Ok.answers.items (omega (arith, (did g c').answers))) some (did g c')
+    c.in-Ok-unrun.ensures.ok _ c.in-Ok-unrun.ensures.items
 
 pub returns-clause-map : goal.returns-clause-map
 returns-clause-map g c = maps g (goal.at.returns-clause-map g c).In-Ok
 
-pub returns-in_default-merged-clause-map : goal.returns-in_default-merged-clause-map
-returns-in_default-merged-clause-map g c = maps g (goal.at.returns-in_default-merged-clause-map g c).In-Ok
+pub returns-in_default-unrun-clause-map : goal.returns-in_default-unrun-clause-map
+returns-in_default-unrun-clause-map g c = maps g (goal.at.returns-in_default-unrun-clause-map g c).In-Ok
 
-pub returns-in_default-merged-clause-found : goal.returns-in_default-merged-clause-found
-returns-in_default-merged-clause-found g c =
-    let c' = (goal.at.returns-in_default-merged-clause-found g c).In-Ok in
+pub returns-in_default-unrun-clause-found : goal.returns-in_default-unrun-clause-found
+returns-in_default-unrun-clause-found g c =
+    let c' = (goal.at.returns-in_default-unrun-clause-found g c).In-Ok in
     let all = did g c' in
     record { order = all.left; each = λ j d low. all.part j d low }

@@ -1,10 +1,11 @@
-use Rattle.std.proofs.Common.{arith, ◌≡◌, ◌+◌, List, refl, sym, ap, subst, ◌∙◌}
+use Rattle.std.proofs.Common.{arith, ◌+◌, List, refl, sym, ap, subst, ◌∙◌}
 use Rattle.bins.specs.Table.{Entry}
+use Rattle.bin_stripes.specs.Invoked.{AreOf}
 use Rattle.bin_stripes.specs.Passes.{PassState, stripes_of}
 use Rattle.bulk_walks.specs.Turns.{WorkerFinds}
-use Rattle.bulk_walks.proofs.FindingLemmas.{finds_none, finds_more, finds_past, finds_part, scans_cut, finds_at}
+use Rattle.bulk_walks.proofs.FindingLemmas.{finds_none, finds_copied, finds_past, finds_part, scans_cut, finds_at}
 use Rattle.bulk_walks.proofs.finding.scan_turns.Goals as goal
-use Rattle.bulk_walks.proofs.finding.scan_turns.Goals.{then-stripe-workers+in_ok-entries+in_ok-append, else-stripe-workers}
+use Rattle.bulk_walks.proofs.finding.scan_turns.Goals.{then-stripe-workers+in_ok-copy_stripe, else-stripe-workers}
 
 pub loop-stripe-init : goal.loop-stripe-init
 loop-stripe-init g c = record {
@@ -12,17 +13,11 @@ loop-stripe-init g c = record {
   done = subst (λ (es : List Entry). WorkerFinds (stripes_of c.args.map.now) 0 c.args.workers c.args.worker c.args.pass.now.view c.args.pass.now.view es) (sym c.new-found.ensures.items) (finds_none _ c.args.workers c.args.worker c.args.pass.now.view);
 }
 
-pub returns-in_err-entries-clause-part : goal.returns-in_err-entries-clause-part
-returns-in_err-entries-clause-part g c =
+pub returns-in_err-copy_stripe-clause-part : goal.returns-in_err-copy_stripe-clause-part
+returns-in_err-copy_stripe-clause-part g c =
     let found = c.loop-stripe.invariant.done in
-    scans_cut (stripes_of c.args.map.now) c.args.workers c.args.worker c.args.pass.now.view found.scans c.loop-stripe.stripe (stripes_of c.args.map.now) c.loop-stripe.pass.view c.scan_stripe.new.pass.view
-    (omega (arith, c.loop-stripe-test.true, c.stripes-stripes.ensures.value)) found.walked c.if-stripe-workers.true c.in_err-entries.ensures.same.passes c.in_err-entries.ensures.err
-
-pub returns-in_err-append-clause-part : goal.returns-in_err-append-clause-part
-returns-in_err-append-clause-part g c =
-    let n = c.loop-stripe.stripe in
-    finds_part (stripes_of c.args.map.now) c.args.workers c.args.worker c.args.pass.now.view (n + 1) _ c.scan_stripe.new.pass.view _ (omega (arith, c.stripes-stripes.ensures.value))
-    (finds_more (stripes_of c.args.map.now) c.args.workers c.args.worker c.args.pass.now.view n c.loop-stripe.pass.view _ _ _ c.loop-stripe.invariant.done c.if-stripe-workers.true c.in_ok-entries.ensures.same.passes c.in_ok-entries.ensures.ok c.in_ok-entries.ensures.entries)
+    scans_cut (stripes_of c.args.map.now) c.args.workers c.args.worker c.args.pass.now.view found.scans c.loop-stripe.stripe (stripes_of c.args.map.now) c.loop-stripe.pass.view c.copy_stripe.new.pass.view
+    (omega (arith, c.loop-stripe-test.true, c.stripes-stripes.ensures.value)) found.walked c.if-stripe-workers.true c.in_err-copy_stripe.ensures.same.passes c.in_err-copy_stripe.ensures.err.0
 
 pub returns-clause-part : goal.returns-clause-part
 returns-clause-part g c =
@@ -37,11 +32,15 @@ loop-stripe-preserved g c =
     let n = c.loop-stripe.stripe in
     let inv = c.loop-stripe.invariant in
     elim c.if-stripe-workers.branch [
-      | then-stripe-workers+in_ok-entries+in_ok-append w ↦ record {
-        map = ap (λ (p : PassState). p.map) w.pass-is ∙ w.in_ok-entries.ensures.same.map ∙ inv.map;
-        done = finds_at S (n + 1) W j v _ _ _ _ (finds_more S W j v n c.loop-stripe.pass.view w.scan_stripe.new.pass.view _ _ inv.done w.if-stripe-workers.true w.in_ok-entries.ensures.same.passes w.in_ok-entries.ensures.ok w.in_ok-entries.ensures.entries) w.pass-is
-            (let e : c.if-stripe-workers.found.items ≡ w.append.new.self.items = cc in e ∙ w.in_ok-append.ensures.items);
-      }
+      | then-stripe-workers+in_ok-copy_stripe w ↦
+          let made = w.in_ok-copy_stripe.ensures.ok in
+          record {
+            map = ap (λ (p : PassState). p.map) w.pass-is ∙ w.in_ok-copy_stripe.ensures.same.map ∙ inv.map;
+            done = finds_at S (n + 1) W j v _ _ _ _
+                (finds_copied S W j v n c.loop-stripe.pass.view w.copy_stripe.new.pass.view _ _ made.entries made.copies inv.done w.if-stripe-workers.true w.in_ok-copy_stripe.ensures.same.passes made.scans
+                (subst (λ m. AreOf (stripes_of m) n made.entries) (inv.map ∙ c.requires.map) made.are) made.bounded made.same made.added)
+                w.pass-is (cc);
+          }
       | else-stripe-workers w ↦ record {
         map = ap (λ (p : PassState). p.map) w.pass-is ∙ inv.map;
         done = finds_at S (n + 1) W j v _ _ _ _ (finds_past S W j v n c.loop-stripe.pass.view _ inv.done w.if-stripe-workers.false) w.pass-is (cc);

@@ -1,12 +1,9 @@
-use Rattle.std.proofs.Common.{rules, ◌≡◌, ℕ, List, sym, ap, ◌∙◌, subst}
-use Rattle.std.specs.FinMap as map
-use Rattle.std.proofs.lemmas.List.Sorted.{ranks_by, answers_always}
+use Rattle.std.proofs.Common.{◌≡◌, ℕ, sym, ap, ◌∙◌, subst}
 use Rattle.atomic_table.specs.Seated.{TableId}
 use Rattle.stripe_rule.specs.declared.view.View.{View}
 use Rattle.stripe_rule.specs.Steps.{view_of, HasTaken}
-use Rattle.bins.specs.Table.{Entry, by_bytes}
-use Rattle.bins.proofs.MapEdits.{total}
-use Rattle.bins.proofs.SortedCopies.{smaller, sorted_entries}
+use Rattle.bins.proofs.EntryCounts.{weighed_in_table}
+use Rattle.atomic_methods.specs.Whole.{all_entries, whole}
 use Rattle.atomic_methods.proofs.WholeLemmas.{Distinct-stripes}
 use Rattle.atomic_methods.specs.Hashes.{IsStripeCount}
 use Rattle.bin_stripes.specs.declared.ghost_action.GhostAction.{GhostAction}
@@ -24,8 +21,5 @@ returns g c = let known = c.pass.inside.known in let me = c.take-seat.result.me 
     let here : HasTaken (does (stripes_of known.table_id)) empty (view_of known.views) (stripes_of known.table_id) out.0 w =
     subst (λ (z : ℕ × View GhostAction). HasTaken (does z.0) empty z.1 z.0 out.0 w) (λ i. (n i, ap view_of (sym c.take-seat.ensures.2) i)) out.1.1.0 in
     let stripes = are_stripes (stripes_of known.table_id) (view_of known.views) w out.0 (subst (λ (t : TableId). IsStripeCount t.slots) (sym same) c.self.invariant.count) here in
-    let order = ranks_by total (λ (e : Entry). e.0) in
-    let up = c.in_ok-sort_by.ensures.sorted smaller order (answers_always _ _ _ (λ f a r q k. search rules)) in
-    let stable = c.in_ok-sort_by.ensures.stable smaller order (answers_always _ _ _ (λ f a r q k. search rules)) in
-    let sorted = sorted_entries _ _ (rw out.1.0 (Distinct-stripes out.0 stripes)) up stable ∙ ap (λ (es : List Entry). map.entries (map.from_entries {R = by_bytes} es)) out.1.0 in
+    let sorted = c.sort_entries.ensures.order (whole out.0) (λ weight. out.1.0 weight ∙ sym (weighed_in_table weight (all_entries out.0) (Distinct-stripes out.0 stripes))) in
     record { ok = rw (← c.pass.view_is) (closes_with (state known.table_id known.views) w out.0 _ here (subst (λ n. Sound n w) n out.1.1.1) sorted) }

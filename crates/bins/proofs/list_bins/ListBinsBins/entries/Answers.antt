@@ -7,4 +7,4 @@ use Rattle.bins.proofs.list_bins.ListBinsBins.entries.Goals as goal
 pub returns : goal.returns
 returns c =
     let listed = entries-from_sorted by_bytes c.self.inside.entries.items c.self.invariant in
-    record { ok = c.in_ok-copies_of.ensures ∙ c.deref.ensures.value ∙ sym listed ∙ ap (λ (t : Table). map.entries t) c.self.view_is }
+    record { ok = rw (c.in_ok-add_copies.ensures.ok, c.new-found.ensures.items) (c.deref.ensures.value ∙ sym listed ∙ ap (λ (t : Table). map.entries t) c.self.view_is) }

@@ -8,11 +8,11 @@ returns-in-Ok c =
     let bound = rw c.deref.ensures.value at c.in-Ok.ensures.bound in
     let found = rw c.deref.ensures.value at c.in-Ok.ensures.found in
     let value = get_at _ c.self.invariant _ _ bound found c.index.result.now in
-    record { value = rw (← c.self.view_is) (cc (c.index.ensures, value)) }
+    record { value = rw (← c.self.view_is) (cc (c.as_slice.ensures.value, c.index.ensures, value)); fits = c.as_slice.ensures.fits }
 
 -- the key has no value
 pub returns-in-Err : goal.returns-in-Err
 returns-in-Err c =
     let bound = rw c.deref.ensures.value at c.in-Err.ensures.bound in
     let absent = rw c.deref.ensures.value at c.in-Err.ensures.absent in
-    record { value = rw (← c.self.view_is) (sym (get_gap _ c.self.invariant _ _ bound absent)) }
+    record { value = rw (← c.self.view_is) (sym (get_gap _ c.self.invariant _ _ bound absent)); fits = tt }

@@ -12,7 +12,7 @@ pub returns-in-Ok-clause-ok : goal.returns-in-Ok-clause-ok
 returns-in-Ok-clause-ok c =
     let bound = rw c.deref.ensures.value at c.in-Ok.ensures.bound in
     let found = rw c.deref.ensures.value at c.in-Ok.ensures.found in
-    let written = insert_at _ c.self.invariant _ _ bound found c.index_mut.result.now c.args.value in
+    let written = insert_at _ c.self.invariant _ _ bound found c.index_mut.result.now c.args.value.now in
     rw (← c.self.view_is) (cc (written, c.index_mut.ensures.value))
 
 -- the entry is added in the gap
@@ -20,17 +20,17 @@ pub invariant_of-self-in-Err : goal.invariant_of-self-in-Err
 invariant_of-self-in-Err c =
     let bound = rw c.deref.ensures.value at c.in-Err.ensures.bound in
     let absent = rw c.deref.ensures.value at c.in-Err.ensures.absent in
-    rw c.in_ok-add_entry-in-Err.ensures.ok (sorted_insert _ c.self.invariant _ _ bound absent _)
+    rw (c.in_ok-add_entry-in-Err.ensures.ok, c.entry_of.ensures) (sorted_insert _ c.self.invariant _ _ bound absent _)
 
 pub returns-in_ok-add_entry-in-Err-clause-ok : goal.returns-in_ok-add_entry-in-Err-clause-ok
 returns-in_ok-add_entry-in-Err-clause-ok c =
     let bound = rw c.deref.ensures.value at c.in-Err.ensures.bound in
     let absent = rw c.deref.ensures.value at c.in-Err.ensures.absent in
-    rw (c.in_ok-add_entry-in-Err.ensures.ok, ← c.self.view_is) (insert_gap _ c.self.invariant _ _ bound absent _)
+    rw (c.in_ok-add_entry-in-Err.ensures.ok, c.entry_of.ensures, ← c.self.view_is) (insert_gap _ c.self.invariant _ _ bound absent _)
 
 -- memory fails only for a key that was not there
 pub returns-in_err-add_entry-in-Err-clause-memory : goal.returns-in_err-add_entry-in-Err-clause-memory
 returns-in_err-add_entry-in-Err-clause-memory c =
     let bound = rw c.deref.ensures.value at c.in-Err.ensures.bound in
     let absent = rw c.deref.ensures.value at c.in-Err.ensures.absent in
-    on_err_anyway _ (sym (ap (λ (table : Table). map.get table c.args.key) c.self.view_is) ∙ get_gap _ c.self.invariant _ _ bound absent)
+    on_err_anyway _ (sym (ap (λ (table : Table). map.get table c.args.key.now) c.self.view_is) ∙ get_gap _ c.self.invariant _ _ bound absent)

@@ -90,7 +90,7 @@ loop-insn-preserved c =
     let operation = c.in-Ok.field-0 in
     let was : c.visit.result ≡ Ok operation = c.in-Ok.is in
     let visits = rw (was, c.of-indices.ensures.value) at c.visit.ensures.ok in
-    let goes = rw was at c.visit.ensures.sends in
+    let sends = rw was at c.visit.ensures.sends in
     let more = knows_more p sizes l.unit k i here before l.states.items c.requires.program c.requires.forward at l.invariant.counted l.invariant.listed empty known l.invariant.knows in
     record {
       counted = rw add-one (omega (arith, next, l.invariant.counted, c.units-unit.ensures.value));
@@ -99,5 +99,5 @@ loop-insn-preserved c =
       knows = rw (c.in_ok-push.ensures.items, c.copy_of.ensures.value) more;
       granted = λ plain.
           let there = c.come.ensures.grants p (l.invariant.granted plain) in
-          rw c.units-unit.ensures.value (visit_grants p l.unit i before c.visit.new.pending here c.visit.new.state (λ w. plain.bases l.unit i w start) start goes there);
+          rw c.units-unit.ensures.value (visit_grants p l.unit i before c.visit.new.pending here c.visit.new.state (λ w. plain.bases l.unit i w start) start sends there);
     }

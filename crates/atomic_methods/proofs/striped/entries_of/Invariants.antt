@@ -1,7 +1,0 @@
-use Rattle.std.proofs.Common.{◌≡◌, take}
-use Rattle.atomic_methods.specs.Whole.{all_entries}
-use Rattle.atomic_methods.proofs.striped.entries_of.Given as goal
-
--- the entries of the stripes so far
-abbrev pub invariant-loop-stripe : goal.invariant-loop-stripe
-invariant-loop-stripe l = l.found.items ≡ all_entries (take l.stripe-index l.stripes)

@@ -1,4 +1,0 @@
-use Rattle.bin_stripes.proofs.steps.bins_home.Given as goal
-
-abbrev pub ghosts-release : goal.ghosts-release
-ghosts-release g a = record { may = λ actions. g.M.Shows.shows a.what.now actions }

@@ -1,0 +1,10 @@
+use Rattle.std.proofs.Common.{List, ℕ, Some, subst, arith}
+use Rattle.bins.specs.Trees.{Sets}
+use Rattle.bins.proofs.FinderLemmas.{locates_next}
+use Rattle.bins.proofs.tree.positions_of.Goals as goal
+
+-- the next key comes behind the others
+pub loop-position-preserved : goal.loop-position-preserved
+loop-position-preserved c =
+    let sets = subst (λ (key : List ℕ). Sets c.loop-position.positions c.add_position.new.positions key (Some c.loop-position.position)) c.key_at.ensures c.in_ok-add_position.ensures.ok in
+    locates_next c.args.keys.now.items c.loop-position.position _ _ c.requires (omega arith) c.loop-position.invariant sets

@@ -1,0 +1,7 @@
+use Rattle.std.proofs.Common.{take}
+use Rattle.bins.specs.Trees.{Locates}
+use Rattle.bins.proofs.tree.positions_of.Given as goal
+
+-- the keys so far are located
+abbrev pub invariant-loop-position : goal.invariant-loop-position
+invariant-loop-position l = Locates l.positions (take l.position l.keys.items)

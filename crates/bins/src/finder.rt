@@ -1,0 +1,158 @@
+//! Where keys stand in a column: found by chains of their hashes, or by a tree once chains have become long.
+ghost use Rattle.std.specs.Prelude.{◌≡◌, ◌≢◌, ◌<◌, ◌++◌, [], ◌∷◌, length, map, HoldsAt, IfOk, IfSome, IfNone, OnOk, OnErr};
+ghost use Rattle.std.specs.List.{AllWithin, swap_remove};
+ghost use Rattle.std.specs.Int.{IsPowerOfTwo};
+ghost use Rattle.bins.specs.Hashes.{hash as hash_of};
+ghost use Rattle.bins.specs.Chains.{IsBinCount};
+ghost use Rattle.bins.specs.Finders.{Finds};
+ghost use Rattle.bins.specs.Trees.{StandOnce};
+
+use crate::column::Column;
+use crate::hashes::HashedKey;
+use crate::index::Index;
+use crate::tree::Tree;
+use bpf_model::limits::KEY_BYTES;
+use bpf_model::{Key, NoMemory};
+use std::alloc::Global;
+
+/// How the keys of a column are found.
+#[derive(Drop)]
+pub(crate) enum Finder {
+    /// By chains of hashes: where hashes spread, the quickest.
+    Hashes(Index),
+    /// By a tree of keys, once chains had become long: a call takes O(log n), whatever keys are there.
+    Keys(Tree),
+}
+
+// The position of the key with this hash.
+#[inline(always)]
+fn position_with(index: &Index, keys: &Column<KEY_BYTES>, key: &Key, hash: u32) -> Option<usize>
+    requires index { index.now.hashes ≡ map hash_of keys.now.items }
+    requires hash { hash ≡ hash_of key.now }
+    ensures bound { IfSome result (λ position. position < length keys.now.items) }
+    ensures found { IfSome result (HoldsAt (λ k. k ≡ key.now) keys.now.items) }
+    ensures absent { IfNone result (AllWithin (λ k. k ≢ key.now) keys.now.items 0 (length keys.now.items)) }
+{
+    let mut next = index.last(hash);
+    while let Some(position) = next {
+        if keys.is_at(position, key.as_slice()) {
+            return Some(position);
+        }
+        next = index.before(position, hash);
+    }
+    None
+}
+
+impl Finder {
+    /// For no keys, of one of `stripes` stripes of a table. `NoMemory` where a request for memory was refused.
+    pub(crate) fn open(alloc: Global, stripes: u64) -> Result<Finder, NoMemory>
+        ensures ok { IfOk result (λ finder. Finds finder []) }
+    {
+        Ok(Finder::Hashes(Index::open(alloc, stripes)?))
+    }
+
+    /// The number of bins; a tree tells it as if bins still doubled. Takes no memory.
+    pub(crate) fn bins(&self) -> u64
+        ensures count { IsBinCount result }
+    {
+        match self {
+            Finder::Hashes(index) => index.bins(),
+            Finder::Keys(tree) => tree.bins(),
+        }
+    }
+
+    /// The number of stripes of the table. Takes no memory.
+    pub(crate) fn stripes(&self) -> u64
+        ensures power { IsPowerOfTwo result }
+    {
+        match self {
+            Finder::Hashes(index) => index.stripes(),
+            Finder::Keys(tree) => tree.stripes(),
+        }
+    }
+
+    /// The position of a key. Takes no memory.
+    #[inline(always)]
+    pub(crate) fn position(&self, keys: &Column<KEY_BYTES>, key: &HashedKey<'_>) -> Option<usize>
+        requires finds { Finds self.now keys.now.items }
+        ensures bound { IfSome result (λ position. position < length keys.now.items) }
+        ensures found { IfSome result (HoldsAt (λ k. k ≡ key.now) keys.now.items) }
+        ensures absent { IfNone result (AllWithin (λ k. k ≢ key.now) keys.now.items 0 (length keys.now.items)) }
+    {
+        match self {
+            Finder::Hashes(index) => position_with(index, keys, key.key(), key.hash()),
+            Finder::Keys(tree) => tree.position(key.key()),
+        }
+    }
+
+    /// Adds a key, at the position behind these. `NoMemory` where a request for memory was refused.
+    #[inline(always)]
+    pub(crate) fn push(
+        &mut self,
+        keys: &Column<KEY_BYTES>,
+        key: &HashedKey<'_>,
+    ) -> Result<(), NoMemory>
+        requires finds { Finds self.old keys.now.items }
+        requires new { AllWithin (λ k. k ≢ key.now) keys.now.items 0 (length keys.now.items) }
+        ensures ok { OnOk result (Finds self.new (keys.now.items ++ key.now ∷ [])) }
+        ensures err { OnErr result (Finds self.new keys.now.items) }
+    {
+        match self {
+            Finder::Hashes(index) => index.push(key.hash()),
+            Finder::Keys(tree) => tree.push(keys, key.key()),
+        }
+    }
+
+    /// Removes the key at a position; the last key takes that place. Takes no memory.
+    #[inline(always)]
+    pub(crate) fn swap_remove(&mut self, keys: &Column<KEY_BYTES>, position: usize)
+        requires finds { Finds self.old keys.now.items }
+        requires range { position < length keys.now.items }
+        ensures finds { Finds self.new (swap_remove keys.now.items position []) }
+    {
+        match self {
+            Finder::Hashes(index) => index.swap_remove(position),
+            Finder::Keys(tree) => tree.swap_remove(keys, position),
+        }
+    }
+
+    // Counts the steps along the chain that the last key came into; whether chains have become long.
+    #[inline(always)]
+    fn is_slow(&mut self) -> bool
+        ensures same { self.new ≡ self.old }
+    {
+        match self {
+            Finder::Hashes(index) => index.is_slow(),
+            Finder::Keys(_) => false,
+        }
+    }
+
+    // Takes a tree in place of the index, where there is memory for it.
+    #[cold]
+    fn plant(&mut self, keys: &Column<KEY_BYTES>)
+        requires finds { Finds self.old keys.now.items }
+        requires once { StandOnce keys.now.items }
+        ensures finds { Finds self.new keys.now.items }
+    {
+        let tree = match self {
+            Finder::Hashes(index) => Tree::of(index, keys),
+            Finder::Keys(_) => return,
+        };
+        if let Ok(tree) = tree {
+            *self = Finder::Keys(tree);
+        }
+    }
+
+    /// Looks at the chain that the last key came into, and takes a tree in place of the index once chains have become long and
+    /// memory for it is granted.
+    #[inline(always)]
+    pub(crate) fn settle(&mut self, keys: &Column<KEY_BYTES>)
+        requires finds { Finds self.old keys.now.items }
+        requires once { StandOnce keys.now.items }
+        ensures finds { Finds self.new keys.now.items }
+    {
+        if self.is_slow() {
+            self.plant(keys);
+        }
+    }
+}

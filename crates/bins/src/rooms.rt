@@ -1,0 +1,377 @@
+//! Places of byte strings. A short string lies in its place; a long one lies in a second list, where it tells whose it is.
+ghost use Rattle.std.specs.Prelude.{◌≡◌, ◌+◌, ◌<◌, ◌≤◌, ◌++◌, [], ◌∷◌, length, set, slice_index_or, OnOk, OnErr, vec_capacity};
+ghost use Rattle.std.specs.List.{swap_remove};
+ghost use Rattle.bins.specs.Columns.{AreMatched, EqualBut, IsLimit, IsShort, place_at, kept_at, bytes_of, strings_of};
+ghost use Rattle.bins.specs.declared.rooms.Place.TheVariants.{Short, Long};
+
+use arrayvec::ArrayVec;
+use bpf_model::NoMemory;
+use std::alloc::Global;
+use std::marker::Model;
+
+/// How many bytes lie in their place at most.
+pub const SHORT_BYTES: usize = 22;
+
+/// A string of at most `SHORT_BYTES` bytes.
+#[derive(Drop)]
+pub struct ShortBytes {
+    len: u8,
+    bytes: [u8; SHORT_BYTES],
+}
+
+impl Model for ShortBytes {
+    ghost use Rattle.std.specs.Prelude.{List, ℕ, ◌≤◌, take};
+    ghost use Rattle.bins.specs.declared.rooms.TheConstants.{SHORT_BYTES};
+
+    ghost Value = { List ℕ };
+
+    ghost view = { λ short. take short.len short.bytes };
+
+    ghost invariant = { λ short. short.len ≤ SHORT_BYTES };
+}
+
+impl ShortBytes {
+    // No bytes.
+    #[inline(always)]
+    fn new() -> ShortBytes
+        ensures { result ≡ [] }
+    {
+        ShortBytes {
+            len: 0,
+            bytes: [0; SHORT_BYTES],
+        }
+    }
+
+    // The bytes.
+    #[inline(always)]
+    fn as_slice(&self) -> &[u8]
+        ensures value { result.now ≡ self.now }
+        ensures fits { length result.now ≤ SHORT_BYTES }
+    {
+        &self.bytes[..self.len as usize]
+    }
+
+    // These bytes.
+    #[inline(always)]
+    fn copied(bytes: &[u8]) -> ShortBytes
+        requires { length bytes.now ≤ SHORT_BYTES }
+        ensures { result ≡ bytes.now }
+    {
+        let mut copy = [0; SHORT_BYTES];
+        copy[..bytes.len()].copy_from_slice(bytes);
+        ShortBytes {
+            len: bytes.len() as u8,
+            bytes: copy,
+        }
+    }
+}
+
+/// Where a string lies.
+#[derive(Drop)]
+pub enum Place {
+    /// In place.
+    Short(ShortBytes),
+    /// At this position of the long ones.
+    Long(usize),
+}
+
+const _: () = prove!(size_of::<Place>() == 24);
+
+/// A long string, and the position whose place names it.
+#[derive(Drop)]
+pub struct LongBytes<const MOST: usize> {
+    bytes: ArrayVec<u8, MOST>,
+    owner: usize,
+}
+
+impl<const MOST: usize> Model for LongBytes<MOST> {
+    ghost use Rattle.bins.specs.Columns.{Kept};
+
+    ghost Value = { Kept };
+
+    ghost view = { λ long. record { bytes = long.bytes.items; owner = long.owner } };
+}
+
+impl<const MOST: usize> LongBytes<MOST> {
+    // No bytes, for this position.
+    fn new(owner: usize) -> LongBytes<MOST>
+        ensures { result ≡ record { bytes = []; owner = owner } }
+    {
+        LongBytes {
+            bytes: ArrayVec::new(),
+            owner,
+        }
+    }
+
+    // The bytes.
+    #[inline(always)]
+    fn as_slice(&self) -> &[u8]
+        ensures value { result.now ≡ self.now.bytes }
+        ensures fits { length result.now ≤ MOST }
+    {
+        self.bytes.as_slice()
+    }
+
+    // The position whose place names it.
+    fn owner(&self) -> usize
+        ensures value { result ≡ self.now.owner }
+    {
+        self.owner
+    }
+
+    // Copies the bytes in place.
+    fn set_from(&mut self, bytes: &[u8])
+        requires { length bytes.now ≤ MOST }
+        ensures { self.new ≡ record { bytes = bytes.now; owner = self.old.owner } }
+    {
+        self.bytes.clear();
+        let _ = self.bytes.try_extend_from_slice(bytes);
+    }
+
+    // Another position names it from now on.
+    fn move_to(&mut self, owner: usize)
+        ensures { self.new ≡ record { bytes = self.old.bytes; owner = owner } }
+    {
+        self.owner = owner;
+    }
+}
+
+/// The places of strings, and the long ones among these.
+#[derive(Drop)]
+pub(crate) struct Rooms<const MOST: usize> {
+    places: Vec<Place>,
+    longs: Vec<LongBytes<MOST>>,
+}
+
+impl<const MOST: usize> Rooms<MOST> {
+    // No strings.
+    pub(crate) fn new(alloc: Global) -> Rooms<MOST>
+        ensures places { result.places.items ≡ [] }
+        ensures longs { result.longs.items ≡ [] }
+    {
+        Rooms {
+            places: Vec::new(alloc),
+            longs: Vec::new(alloc),
+        }
+    }
+
+    // How many strings there are.
+    #[inline(always)]
+    pub(crate) fn len(&self) -> usize
+        ensures value { result ≡ length self.now.places.items }
+    {
+        self.places.len()
+    }
+
+    // The string at a position.
+    #[inline(always)]
+    pub(crate) fn get(&self, position: usize) -> &[u8]
+        requires matched { AreMatched self.now.places.items self.now.longs.items }
+        requires range { position < length self.now.places.items }
+        requires most { IsLimit MOST }
+        ensures value { result.now ≡ bytes_of self.now.longs.items (place_at self.now.places.items position) }
+        ensures fits { length result.now ≤ MOST }
+    {
+        match &self.places[position] {
+            Place::Short(short) => short.as_slice(),
+            Place::Long(at) => {
+                let long = &self.longs[*at];
+                long.as_slice()
+            }
+        }
+    }
+
+    // Moves the long strings to where there are half as many places again. They are not grown where they are: that would copy
+    // what was never written, and so touch it.
+    #[inline(never)]
+    fn move_longs(&mut self) -> Result<(), NoMemory>
+        requires matched { AreMatched self.old.places.items self.old.longs.items }
+        ensures ok { OnOk result (length self.new.places.items < vec_capacity self.new.longs) }
+        ensures err { OnErr result (vec_capacity self.new.longs ≡ vec_capacity self.old.longs) }
+        ensures places { self.new.places ≡ self.old.places }
+        ensures longs { self.new.longs.items ≡ self.old.longs.items }
+    {
+        let many = self.places.len();
+        let mut longs = Vec::with_capacity(*self.longs.allocator(), many + many / 2 + 4)?;
+        longs.append(&mut self.longs)?;
+        self.longs = longs;
+        Ok(())
+    }
+
+    // Room for one more place, and for a long string in each.
+    pub(crate) fn reserve_one(&mut self) -> Result<(), NoMemory>
+        requires matched { AreMatched self.old.places.items self.old.longs.items }
+        ensures ok { OnOk result (length self.new.places.items < vec_capacity self.new.places) }
+        ensures ok_longs { OnOk result (length self.new.places.items < vec_capacity self.new.longs) }
+        ensures places { self.new.places.items ≡ self.old.places.items }
+        ensures longs { self.new.longs.items ≡ self.old.longs.items }
+        ensures room { length self.old.places.items ≤ vec_capacity self.old.longs
+            → length self.new.places.items ≤ vec_capacity self.new.longs }
+    {
+        if self.longs.capacity() <= self.places.len() {
+            self.move_longs()?;
+        }
+        self.places.try_reserve(1)?;
+        Ok(())
+    }
+
+    // Gives up a long string: its place is short and empty then. The last long string takes the gap.
+    #[inline(never)]
+    fn free(&mut self, position: usize, at: usize)
+        requires matched { AreMatched self.old.places.items self.old.longs.items }
+        requires named { place_at self.old.places.items position ≡ Long at }
+        requires most { IsLimit MOST }
+        ensures matched { AreMatched self.new.places.items self.new.longs.items }
+        ensures strings { strings_of self.new.places.items self.new.longs.items
+            ≡ set (strings_of self.old.places.items self.old.longs.items) position [] }
+        ensures short { IsShort (place_at self.new.places.items position) }
+        ensures places { vec_capacity self.new.places ≡ vec_capacity self.old.places }
+        ensures longs { vec_capacity self.new.longs ≡ vec_capacity self.old.longs }
+    {
+        let last = self.longs.len() - 1;
+        let long = &self.longs[last];
+        let owner = long.owner();
+        self.places[owner] = Place::Long(at);
+        self.places[position] = Place::Short(ShortBytes::new());
+        self.longs.swap_remove(at);
+    }
+
+    // Makes a place short, whatever lies there.
+    #[inline(always)]
+    fn shorten(&mut self, position: usize)
+        requires matched { AreMatched self.old.places.items self.old.longs.items }
+        requires range { position < length self.old.places.items }
+        requires most { IsLimit MOST }
+        ensures matched { AreMatched self.new.places.items self.new.longs.items }
+        ensures strings { EqualBut position (strings_of self.old.places.items self.old.longs.items)
+            (strings_of self.new.places.items self.new.longs.items) }
+        ensures short { IsShort (place_at self.new.places.items position) }
+        ensures places { vec_capacity self.new.places ≡ vec_capacity self.old.places }
+        ensures longs { vec_capacity self.new.longs ≡ vec_capacity self.old.longs }
+    {
+        if let Place::Long(at) = &self.places[position] {
+            let at = *at;
+            self.free(position, at);
+        }
+    }
+
+    // Writes a long string behind the others, and its position into its place, which is short.
+    #[inline(never)]
+    fn lengthen(&mut self, position: usize, bytes: &[u8])
+        requires matched { AreMatched self.old.places.items self.old.longs.items }
+        requires range { position < length self.old.places.items }
+        requires short { IsShort (place_at self.old.places.items position) }
+        requires room { length self.old.places.items ≤ vec_capacity self.old.longs }
+        requires fits { length bytes.now ≤ MOST }
+        requires most { IsLimit MOST }
+        ensures matched { AreMatched self.new.places.items self.new.longs.items }
+        ensures strings { strings_of self.new.places.items self.new.longs.items
+            ≡ set (strings_of self.old.places.items self.old.longs.items) position bytes.now }
+        ensures places { vec_capacity self.new.places ≡ vec_capacity self.old.places }
+        ensures longs { vec_capacity self.new.longs ≡ vec_capacity self.old.longs }
+    {
+        let at = self.longs.len();
+        let mut long = LongBytes::new(position);
+        long.set_from(bytes);
+        self.longs.push_reserved(long);
+        self.places[position] = Place::Long(at);
+    }
+
+    // Writes a long string. Apart from `set`, so that a short string clears no place for a long one.
+    #[inline(never)]
+    fn set_long(&mut self, position: usize, bytes: &[u8])
+        requires matched { AreMatched self.old.places.items self.old.longs.items }
+        requires range { position < length self.old.places.items }
+        requires room { length self.old.places.items ≤ vec_capacity self.old.longs }
+        requires fits { length bytes.now ≤ MOST }
+        requires most { IsLimit MOST }
+        ensures matched { AreMatched self.new.places.items self.new.longs.items }
+        ensures strings { strings_of self.new.places.items self.new.longs.items
+            ≡ set (strings_of self.old.places.items self.old.longs.items) position bytes.now }
+        ensures places { vec_capacity self.new.places ≡ vec_capacity self.old.places }
+        ensures longs { vec_capacity self.new.longs ≡ vec_capacity self.old.longs }
+    {
+        match &self.places[position] {
+            Place::Short(_) => self.lengthen(position, bytes),
+            Place::Long(at) => {
+                let long = &mut self.longs[*at];
+                long.set_from(bytes);
+            }
+        }
+    }
+
+    // Writes a string.
+    #[inline(always)]
+    pub(crate) fn set(&mut self, position: usize, bytes: &[u8])
+        requires matched { AreMatched self.old.places.items self.old.longs.items }
+        requires range { position < length self.old.places.items }
+        requires room { length self.old.places.items ≤ vec_capacity self.old.longs }
+        requires fits { length bytes.now ≤ MOST }
+        requires most { IsLimit MOST }
+        ensures matched { AreMatched self.new.places.items self.new.longs.items }
+        ensures strings { strings_of self.new.places.items self.new.longs.items
+            ≡ set (strings_of self.old.places.items self.old.longs.items) position bytes.now }
+        ensures places { vec_capacity self.new.places ≡ vec_capacity self.old.places }
+        ensures longs { vec_capacity self.new.longs ≡ vec_capacity self.old.longs }
+    {
+        if bytes.len() <= SHORT_BYTES {
+            self.shorten(position);
+            self.places[position] = Place::Short(ShortBytes::copied(bytes));
+        } else {
+            self.set_long(position, bytes);
+        }
+    }
+
+    // Writes a string behind the others.
+    pub(crate) fn push_reserved(&mut self, bytes: &[u8])
+        requires matched { AreMatched self.old.places.items self.old.longs.items }
+        requires room { length self.old.places.items < vec_capacity self.old.places }
+        requires room_longs { length self.old.places.items < vec_capacity self.old.longs }
+        requires fits { length bytes.now ≤ MOST }
+        requires most { IsLimit MOST }
+        ensures matched { AreMatched self.new.places.items self.new.longs.items }
+        ensures strings { strings_of self.new.places.items self.new.longs.items
+            ≡ strings_of self.old.places.items self.old.longs.items ++ bytes.now ∷ [] }
+        ensures places { vec_capacity self.new.places ≡ vec_capacity self.old.places }
+        ensures longs { vec_capacity self.new.longs ≡ vec_capacity self.old.longs }
+    {
+        let position = self.places.len();
+        self.places.push_reserved(Place::Short(ShortBytes::new()));
+        self.set(position, bytes);
+    }
+
+    // Takes out a short place; the last place takes the gap.
+    fn take_short(&mut self, position: usize)
+        requires matched { AreMatched self.old.places.items self.old.longs.items }
+        requires range { position < length self.old.places.items }
+        requires short { IsShort (place_at self.old.places.items position) }
+        requires most { IsLimit MOST }
+        ensures matched { AreMatched self.new.places.items self.new.longs.items }
+        ensures strings { strings_of self.new.places.items self.new.longs.items
+            ≡ swap_remove (strings_of self.old.places.items self.old.longs.items) position [] }
+        ensures places { vec_capacity self.new.places ≡ vec_capacity self.old.places }
+        ensures longs { vec_capacity self.new.longs ≡ vec_capacity self.old.longs }
+    {
+        let last = self.places.len() - 1;
+        if let Place::Long(at) = &self.places[last] {
+            let long = &mut self.longs[*at];
+            long.move_to(position);
+        }
+        self.places.swap_remove(position);
+    }
+
+    // Takes out a string; the last place takes the gap.
+    pub(crate) fn swap_remove(&mut self, position: usize)
+        requires matched { AreMatched self.old.places.items self.old.longs.items }
+        requires range { position < length self.old.places.items }
+        requires most { IsLimit MOST }
+        ensures matched { AreMatched self.new.places.items self.new.longs.items }
+        ensures strings { strings_of self.new.places.items self.new.longs.items
+            ≡ swap_remove (strings_of self.old.places.items self.old.longs.items) position [] }
+        ensures places { vec_capacity self.new.places ≡ vec_capacity self.old.places }
+        ensures longs { vec_capacity self.new.longs ≡ vec_capacity self.old.longs }
+    {
+        self.shorten(position);
+        self.take_short(position);
+    }
+}

@@ -1,0 +1,193 @@
+//! The positions of keys in a column, by a tree of the keys.
+ghost use Rattle.std.specs.Prelude.{◌≡◌, ◌≢◌, ◌<◌, ◌++◌, [], ◌∷◌, Some, length, IfOk, IsSome, OnOk, OnErr};
+ghost use Rattle.std.specs.List.{AllWithin, swap_remove};
+ghost use Rattle.std.specs.Int.{IsPowerOfTwo};
+ghost use Rattle.std.specs.BTreeMap.{get};
+ghost use Rattle.bins.specs.Chains.{IsBinCount};
+ghost use Rattle.bins.specs.Table.{by_bytes};
+ghost use Rattle.bins.specs.Trees.{Locates, Sets, StandOnce};
+
+use crate::chains::MOST_BINS;
+use crate::column::Column;
+use crate::copies::key_at;
+use crate::index::Index;
+use bpf_model::limits::KEY_BYTES;
+use bpf_model::{Key, NoMemory};
+use std::alloc::Global;
+use std::collections::BTreeMap;
+use std::marker::Model;
+
+/// The position of each key, and what is told in place of the index that was there before.
+#[derive(Drop)]
+pub(crate) struct Tree {
+    positions: BTreeMap<Key, usize>,
+    told: Told,
+}
+
+/// How many bins an index of these keys might have, and the number of stripes of the table.
+#[derive(Drop)]
+pub(crate) struct Told {
+    bins: u64,
+    stripes: u64,
+}
+
+impl Model for Told {
+    ghost use Rattle.std.specs.Int.{IsPowerOfTwo};
+    ghost use Rattle.bins.specs.Chains.{IsBinCount};
+    ghost use Rattle.bins.specs.Trees.{TreeNumbers};
+
+    ghost Value = { TreeNumbers };
+
+    ghost view = { λ told. record { bins = told.bins; stripes = told.stripes } };
+
+    ghost invariant = { λ told. IsBinCount told.bins × IsPowerOfTwo told.stripes };
+}
+
+// As many bins as before, or twice as many where so many entries are more than twice the bins.
+fn bins_for(bins: u64, entries: usize) -> u64
+    requires { IsBinCount bins }
+    ensures count { IsBinCount result }
+{
+    if bins < MOST_BINS as u64 && entries as u64 > 2 * bins {
+        2 * bins
+    } else {
+        bins
+    }
+}
+
+impl Told {
+    /// What an index told.
+    pub(crate) fn of(index: &Index) -> Told
+        ensures stripes { result.stripes ≡ index.now.stripes }
+        ensures bins { result.bins ≡ index.now.bins }
+    {
+        Told {
+            bins: index.bins(),
+            stripes: index.stripes(),
+        }
+    }
+
+    // How many bins.
+    fn bins(&self) -> u64
+        ensures value { result ≡ self.now.bins }
+        ensures count { IsBinCount result }
+    {
+        self.bins
+    }
+
+    // How many stripes.
+    fn stripes(&self) -> u64
+        ensures value { result ≡ self.now.stripes }
+        ensures power { IsPowerOfTwo result }
+    {
+        self.stripes
+    }
+
+    // The bins double where so many entries are more than twice the bins.
+    fn count_entries(&mut self, entries: usize)
+        ensures stripes { self.new.stripes ≡ self.old.stripes }
+    {
+        self.bins = bins_for(self.bins, entries);
+    }
+}
+
+// Enters a key with its position.
+fn add_position(
+    positions: &mut BTreeMap<Key, usize>,
+    key: Key,
+    position: usize,
+) -> Result<(), NoMemory>
+    ensures ok { OnOk result (Sets positions.old positions.new key (Some position)) }
+    ensures err { OnErr result (positions.new.entries ≡ positions.old.entries) }
+{
+    positions.insert(key, position)?;
+    Ok(())
+}
+
+// The position of each key. `NoMemory` where a request for memory was refused.
+fn positions_of(alloc: Global, keys: &Column<KEY_BYTES>) -> Result<BTreeMap<Key, usize>, NoMemory>
+    requires { StandOnce keys.now.items }
+    ensures { IfOk result (λ positions. Locates positions keys.now.items) }
+{
+    let mut positions = BTreeMap::new(alloc);
+    for position in 0..keys.len() {
+        add_position(&mut positions, key_at(keys, position), position)?;
+    }
+    Ok(positions)
+}
+
+// Gives a key that has a position another one.
+fn move_position(positions: &mut BTreeMap<Key, usize>, key: &Key, position: usize)
+    ensures { IsSome (get by_bytes positions.old key.now) → Sets positions.old positions.new key.now (Some position) }
+{
+    if let Some(place) = positions.get_mut(key) {
+        *place = position;
+    }
+}
+
+impl Tree {
+    /// The tree of these keys, which an index had found. `NoMemory` where a request for memory was refused.
+    pub(crate) fn of(index: &Index, keys: &Column<KEY_BYTES>) -> Result<Tree, NoMemory>
+        requires { StandOnce keys.now.items }
+        ensures locates { IfOk result (λ tree. Locates tree.positions keys.now.items) }
+        ensures stripes { IfOk result (λ tree. tree.told.stripes ≡ index.now.stripes) }
+    {
+        Ok(Tree {
+            positions: positions_of(index.alloc(), keys)?,
+            told: Told::of(index),
+        })
+    }
+
+    /// How many bins are told. Takes no memory.
+    pub(crate) fn bins(&self) -> u64
+        ensures value { result ≡ self.now.told.bins }
+        ensures count { IsBinCount result }
+    {
+        self.told.bins()
+    }
+
+    /// The number of stripes of the table. Takes no memory.
+    pub(crate) fn stripes(&self) -> u64
+        ensures value { result ≡ self.now.told.stripes }
+        ensures power { IsPowerOfTwo result }
+    {
+        self.told.stripes()
+    }
+
+    /// The position of a key. Takes no memory.
+    #[cold]
+    pub(crate) fn position(&self, key: &Key) -> Option<usize>
+        ensures value { result ≡ get by_bytes self.now.positions key.now }
+    {
+        self.positions.get(key).copied()
+    }
+
+    /// Adds a key, at the position behind these. `NoMemory` where a request for memory was refused.
+    #[cold]
+    pub(crate) fn push(&mut self, keys: &Column<KEY_BYTES>, key: &Key) -> Result<(), NoMemory>
+        requires locates { Locates self.old.positions keys.now.items }
+        requires new { AllWithin (λ k. k ≢ key.now) keys.now.items 0 (length keys.now.items) }
+        ensures ok { OnOk result (Locates self.new.positions (keys.now.items ++ key.now ∷ [])) }
+        ensures err { OnErr result (Locates self.new.positions keys.now.items) }
+        ensures stripes { self.new.told.stripes ≡ self.old.told.stripes }
+    {
+        let position = keys.len();
+        add_position(&mut self.positions, key.copied(), position)?;
+        self.told.count_entries(position + 1);
+        Ok(())
+    }
+
+    /// Removes the key at a position; the last key takes that place. Takes no memory.
+    #[cold]
+    pub(crate) fn swap_remove(&mut self, keys: &Column<KEY_BYTES>, position: usize)
+        requires locates { Locates self.old.positions keys.now.items }
+        requires range { position < length keys.now.items }
+        ensures locates { Locates self.new.positions (swap_remove keys.now.items position []) }
+        ensures stripes { self.new.told.stripes ≡ self.old.told.stripes }
+    {
+        let key = key_at(keys, position);
+        let last = key_at(keys, keys.len() - 1);
+        move_position(&mut self.positions, &last, position);
+        self.positions.remove(&key);
+    }
+}

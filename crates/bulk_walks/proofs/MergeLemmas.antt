@@ -1,0 +1,267 @@
+-- The merge of lists in key order, an entry at a time.
+use Rattle.std.proofs.Common.{◌≡◌, ℕ, ◌+◌, ◌<◌, ◌≤◌, List, [], ◌∷◌, ◌++◌, cond, true, false, All, get_or, set, append_assoc, map, length, length-append, length-set, inl, inr, take, sum_by, refl, sym, ap, ◌∙◌, subst, arith, T}
+use Rattle.std.specs.declared.cmp.Ordering.TheVariants.{Less, Equal, Greater}
+use Rattle.std.specs.Ordering.{is_eq, is_lt, ordering_reverse}
+use Rattle.std.specs.Cmp.{IsStrictWeakOrder}
+use Rattle.std.specs.Cmp.Lexicographic.{nat_list_cmp_total}
+use Rattle.std.specs.FinMap.{is_sorted, slice_cmp-IsAntisymmetric, nat_cmp-IsAntisymmetric}
+use Rattle.std.proofs.lemmas.Cmp.{tied_itself}
+use Rattle.std.proofs.lemmas.Bool.{false≢true, cases_eq}
+use Rattle.std.proofs.lemmas.List.{get_or-set_same, get_or-set_other, get_or_default, get_or-map, length-map, map-set, append-nil, take_all}
+use Rattle.std.proofs.Math.Seq.{take-append_seam}
+use Rattle.std.proofs.lemmas.List.MinMax.{ranks_by}
+use Rattle.std.proofs.lemmas.List.Elements.{All-from_get_or, All-head, All-tail}
+use Rattle.std.proofs.lemmas.List.Sums.{sum_by-cons, sum_by-le, sum_by-set}
+use Rattle.bins.specs.Table.{Entry, by_bytes}
+use Rattle.atomic_methods.specs.declared.walk_reply.WalkKind.{WalkKind}
+use Rattle.atomic_methods.specs.declared.walk_reply.WalkReply.{WalkReply}
+use Rattle.atomic_methods.specs.Replies.{chosen}
+use Rattle.bulk_walks.specs.Turns.{items_in}
+use denote.Ref.{Bor}
+use Rattle.bulk_walks.specs.Merges.{HasAll, comes_first, TakesFirst, IsMerge}
+use Rattle.bins.proofs.SameEntries.{one_if, at_key, first, second, above, at_entry, at_itself, none_above, at_most_key, tied_by_one, same_entries}
+use Rattle.bulk_walks.proofs.Sums.{sum_of_ones}
+use Rattle.bulk_walks.proofs.TeamLemmas.{head_of}
+
+-- the order of lists by their first keys
+ranks : IsStrictWeakOrder (λ (x y : Entry). is_lt (by_bytes x.0 y.0))
+ranks = ranks_by nat_list_cmp_total (λ (e : Entry). e.0)
+
+pub comes_first-one_way : (xs ys : List Entry) → comes_first xs ys ≡ true → comes_first ys xs ≡ false
+comes_first-one_way [] ys h = absurd (false≢true h)
+comes_first-one_way (x ∷ xs) [] h = refl
+comes_first-one_way (x ∷ xs) (y ∷ ys) h = ranks.one_way x y h
+
+pub comes_first-chain : (xs ys zs : List Entry) → comes_first xs ys ≡ false → comes_first ys zs ≡ false → comes_first xs zs ≡ false
+comes_first-chain [] ys zs h k = refl
+comes_first-chain (x ∷ xs) [] zs h k = absurd (false≢true (sym h))
+comes_first-chain (x ∷ xs) (y ∷ ys) [] h k = absurd (false≢true (sym k))
+comes_first-chain (x ∷ xs) (y ∷ ys) (z ∷ zs) h k = ranks.chain x y z h k
+
+pub comes_first-itself : (xs : List Entry) → comes_first xs xs ≡ false
+comes_first-itself [] = refl
+comes_first-itself (x ∷ xs) = ap is_lt (tied_itself nat_list_cmp_total x.0)
+
+-- a key below the first one, and so below all that come behind
+below_first : (key : List ℕ) (e x : Entry) → by_bytes key e.0 ≡ Less → is_lt (by_bytes x.0 e.0) ≡ false → by_bytes key x.0 ≡ Less
+below_first key e x p h = elim (by_bytes x.0 e.0) as (λ r. by_bytes x.0 e.0 ≡ r → by_bytes key x.0 ≡ Less) [
+  | Less ↦ λ q. absurd (false≢true (sym h ∙ ap is_lt q))
+  | Equal ↦ λ q. nat_list_cmp_total.antisymm key x.0 ∙ ap ordering_reverse (nat_list_cmp_total.congr x.0 e.0 key q) ∙ sym (nat_list_cmp_total.antisymm key e.0) ∙ p
+  | Greater ↦ λ q. nat_list_cmp_total.trans key e.0 x.0 p (nat_list_cmp_total.antisymm e.0 x.0 ∙ ap ordering_reverse q)
+] refl
+
+none_before : (key : List ℕ) (e : Entry) (behind es : List Entry) → by_bytes key e.0 ≡ Less → comes_first es (e ∷ behind) ≡ false → T (is_sorted by_bytes es) → sum_by (at_key key) es ≡ 0
+none_before key e behind [] p h sorted = refl
+none_before key e behind (x ∷ es) p h sorted =
+    let less = below_first key e x p h in
+    let here : at_key key x ≡ 0 = ap (λ r. one_if r) less in
+    let rest = none_above key x.0 es less (first _ _ sorted) in
+    let c = sum_by-cons (at_key key) x es in
+    omega (arith, here, rest, c)
+
+-- a list in key order that begins as others do: an entry, of which no lesser key is behind it
+module _ (e : Entry) (behind : (Entry → ℕ) → ℕ) (least : (key : List ℕ) → by_bytes key e.0 ≡ Less → behind (at_key key) ≡ 0) where
+  -- what is left of it
+  pub record Rest (all : List Entry) : Type 0 where
+    pub tail : List Entry
+    pub begins : all ≡ e ∷ tail
+    pub order : T (is_sorted by_bytes tail)
+    pub same : (weight : Entry → ℕ) → sum_by weight tail ≡ behind weight
+
+  greatest : (m : Entry) (ms : List Entry) → T (is_sorted by_bytes (m ∷ ms)) → ((weight : Entry → ℕ) → sum_by weight (m ∷ ms) ≡ weight e + behind weight) → e ≡ m
+  greatest m ms sorted same = elim (by_bytes e.0 m.0) as (λ r. by_bytes e.0 m.0 ≡ r → e ≡ m) [
+    | Less ↦ λ p.
+        let one : at_key e.0 e ≡ 1 = ap (λ r. one_if r) (tied_itself nat_list_cmp_total e.0) in
+        let none : at_key e.0 m ≡ 0 = ap (λ r. one_if r) p in
+        let rest = none_above e.0 m.0 ms p (first _ _ sorted) in
+        let c = sum_by-cons (at_key e.0) m ms in
+        let w = same (at_key e.0) in
+        absurd (omega (arith, one, none, rest, c, w))
+    | Equal ↦ λ p.
+        let key = slice_cmp-IsAntisymmetric nat_cmp-IsAntisymmetric e.0 m.0 p in
+        let one = at_itself e in
+        let rest = above e.0 m.0 ms p (first _ _ sorted) in
+        let most = at_most_key e ms in
+        let here : at_entry e m ≡ one_if (by_bytes e.1 m.1) = ap (λ r. cond (is_eq r) (one_if (by_bytes e.1 m.1)) 0) p in
+        let c = sum_by-cons (at_entry e) m ms in
+        let w = same (at_entry e) in
+        let value = tied_by_one e.1 m.1 (omega (arith, one, rest, most, here, c, w)) in
+        λ i. (key i, value i)
+    | Greater ↦ λ p.
+        let less : by_bytes m.0 e.0 ≡ Less = nat_list_cmp_total.antisymm m.0 e.0 ∙ ap ordering_reverse p in
+        let one : at_key m.0 m ≡ 1 = ap (λ r. one_if r) (tied_itself nat_list_cmp_total m.0) in
+        let none : at_key m.0 e ≡ 0 = ap (λ r. one_if r) less in
+        let rest = least m.0 less in
+        let c = sum_by-cons (at_key m.0) m ms in
+        let w = same (at_key m.0) in
+        absurd (omega (arith, one, none, rest, c, w))
+  ] refl
+
+  pub rest_of : (all : List Entry) → T (is_sorted by_bytes all) → ((weight : Entry → ℕ) → sum_by weight all ≡ weight e + behind weight) → Rest all
+  rest_of [] sorted same = absurd (let w = same (λ x. 1) in omega (arith, w))
+  rest_of (m ∷ ms) sorted same =
+      let is = greatest m ms sorted same in
+      record {
+        tail = ms;
+        begins = ap (λ (x : Entry). x ∷ ms) (sym is);
+        order = second _ _ sorted;
+        same = λ weight. let w = same weight in let c = sum_by-cons weight m ms in let h = ap weight is in omega (arith, w, c, h);
+      }
+
+abbrev weigh : (Entry → ℕ) → List (List Entry) → ℕ
+weigh weight lists = sum_by (λ es. sum_by weight es) lists
+
+-- the least of all first entries
+module _ (old new : List (List Entry)) (e : Entry) (takes : TakesFirst old e new) (sorted : All (λ es. T (is_sorted by_bytes es)) old) where
+  pub weighs : (weight : Entry → ℕ) → weigh weight old ≡ weight e + weigh weight new
+  weighs weight =
+      let f : List Entry → ℕ = λ es. sum_by weight es in
+      let m = sum_by-set f old takes.place takes.behind [] takes.inside in
+      let n = ap (λ (lists : List (List Entry)). sum_by f lists) takes.now in
+      let w = ap f takes.was in
+      let c = sum_by-cons weight e takes.behind in
+      omega (arith, m, n, w, c)
+
+  order_left : T (is_sorted by_bytes (e ∷ takes.behind))
+  order_left = subst (λ (es : List Entry). T (is_sorted by_bytes es)) takes.was (sorted takes.place [] takes.inside)
+
+  pub still_sorted : All (λ es. T (is_sorted by_bytes es)) new
+  still_sorted = subst (λ (lists : List (List Entry)). All (λ es. T (is_sorted by_bytes es)) lists) (sym takes.now)
+      (All-from_get_or (λ (es : List Entry). T (is_sorted by_bytes es)) (set old takes.place takes.behind) [] (λ i low. elim (cases_eq i takes.place) [
+        | inl e ↦ subst (λ m. T (is_sorted by_bytes (get_or (set old takes.place takes.behind) m []))) (sym e)
+            (subst (λ (es : List Entry). T (is_sorted by_bytes es)) (sym (get_or-set_same old takes.place takes.behind [] takes.inside)) (second _ _ order_left))
+        | inr ne ↦ subst (λ (es : List Entry). T (is_sorted by_bytes es)) (sym (get_or-set_other old takes.place i takes.behind [] ne))
+            (sorted i [] (let l = length-set old takes.place takes.behind in omega (arith, low, l)))
+      ]))
+
+  pub nothing_less : (key : List ℕ) → by_bytes key e.0 ≡ Less → weigh (at_key key) new ≡ 0
+  nothing_less key p =
+      let most = sum_by-le (λ es. sum_by (at_key key) es) 0 old (λ i d low. let z = none_before key e takes.behind (get_or old i d) p (takes.least i d low) (sorted i d low) in omega (arith, z)) in
+      let w = weighs (at_key key) in
+      omega (arith, most, w)
+
+  pub goes_on : (all : List Entry) → T (is_sorted by_bytes all) → HasAll all old → Rest e (λ weight. weigh weight new) nothing_less all
+  goes_on all order has = rest_of e (λ weight. weigh weight new) nothing_less all order (λ weight. has weight ∙ weighs weight)
+
+-- the items that were taken begin the whole list, and the rest of it has what the lists still have
+pub record Left (items : List Entry) (rests : List (List Entry)) (all : List Entry) : Type 0 where
+  pub tail : List Entry
+  pub begins : all ≡ items ++ tail
+  pub order : T (is_sorted by_bytes tail)
+  pub has : HasAll tail rests
+
+pub left_all : (all : List Entry) (lists : List (List Entry)) → T (is_sorted by_bytes all) → HasAll all lists → Left [] lists all
+left_all all lists order has = record { tail = all; begins = refl; order = order; has = has }
+
+-- one item more
+pub left_less : (items : List Entry) (old new : List (List Entry)) (e : Entry) (all : List Entry) → TakesFirst old e new → All (λ es. T (is_sorted by_bytes es)) old → Left items old all → Left (items ++ e ∷ []) new all
+left_less items old new e all takes sorted left =
+    let rest = goes_on old new e takes sorted left.tail left.order left.has in
+    record {
+      tail = rest.tail;
+      begins = left.begins ∙ ap (λ (es : List Entry). items ++ es) rest.begins ∙ sym (append_assoc items (e ∷ []) rest.tail);
+      order = rest.order;
+      has = rest.same;
+    }
+
+-- where nothing is left, the items are the whole list
+pub left_none : (items : List Entry) (rests : List (List Entry)) (all : List Entry) (most : ℕ) → Left items rests all → All (λ es. es ≡ []) rests → length items ≤ most → items ≡ take most all
+left_none items rests all most left empty many =
+    let none = sum_by-le (λ es. sum_by (λ _. 1) es) 0 rests (λ i d low. let z = ap (λ (es : List Entry). sum_by (λ _. 1) es) (empty i d low) in omega (arith, z)) in
+    let weighs = left.has (λ _. 1) in
+    let gone = nothing left.tail (omega (arith, none, weighs)) in
+    let whole : all ≡ items = left.begins ∙ ap (λ (es : List Entry). items ++ es) gone ∙ append-nil items in
+    sym (ap (take most) whole ∙ take_all most items many)
+  where
+    nothing : (es : List Entry) → sum_by (λ _. 1) es ≡ 0 → es ≡ []
+    nothing [] z = refl
+    nothing (x ∷ es) z = absurd (let c = sum_by-cons (λ (y : Entry). 1) x es in omega (arith, c, z))
+
+-- where as many are there as are wanted, they are the first of it
+pub left_enough : (items : List Entry) (rests : List (List Entry)) (all : List Entry) (most : ℕ) → Left items rests all → length items ≡ most → items ≡ take most all
+left_enough items rests all most left many = sym (ap (take most) left.begins ∙ ap (λ n. take n (items ++ left.tail)) (sym many) ∙ take-append_seam items left.tail)
+
+-- lists that are lent
+abbrev pub lists_in : List (Bor (List Entry)) → List (List Entry)
+lists_in rests = map (λ rest. rest.now) rests
+
+-- no list comes before the one at the place
+abbrev pub IsLeast : List (Bor (List Entry)) → ℕ → Type 0
+IsLeast rests place = All (λ rest. comes_first rest.now (get_or rests place rest).now ≡ false) rests
+
+module _ (rests : List (Bor (List Entry))) (place : ℕ) (d : Bor (List Entry)) (inside : place < length rests) (least : IsLeast rests place) where
+  least_at : (list : List Entry) → (get_or rests place d).now ≡ list → All (λ es. comes_first es list ≡ false) (lists_in rests)
+  least_at list is = λ k x low.
+      let len = length-map rests (λ (r : Bor (List Entry)). r.now) in
+      let one : k < length rests = omega (arith, len, low) in
+      let there : (get_or rests place (get_or rests k d)).now ≡ list = ap (λ (r : Bor (List Entry)). r.now) (get_or_default rests place (get_or rests k d) d inside) ∙ is in
+      subst (λ (es : List Entry). comes_first es list ≡ false) (sym (get_or-map (λ (r : Bor (List Entry)). r.now) rests k d x one))
+      (subst (λ (es : List Entry). comes_first (get_or rests k d).now es ≡ false) there (least k d one))
+
+  -- the first entry of that list is taken
+  pub taken : (e : Entry) (behind : Bor (List Entry)) → (get_or rests place d).now ≡ e ∷ behind.now → TakesFirst (lists_in rests) e (lists_in (set rests place behind))
+  taken e behind is = record {
+    place = place;
+    behind = behind.now;
+    inside = (let len = length-map rests (λ (r : Bor (List Entry)). r.now) in omega (arith, len, inside));
+    was = get_or-map (λ (r : Bor (List Entry)). r.now) rests place d [] inside ∙ is;
+    least = least_at (e ∷ behind.now) is;
+    now = map-set (λ (r : Bor (List Entry)). r.now) rests place behind;
+  }
+
+  -- it has none: then no list has
+  pub all_empty : (get_or rests place d).now ≡ [] → All (λ es. es ≡ []) (lists_in rests)
+  all_empty is = λ k x low. none (get_or (lists_in rests) k x) (least_at [] is k x low)
+    where
+      none : (es : List Entry) → comes_first es [] ≡ false → es ≡ []
+      none [] h = refl
+      none (e ∷ es) h = absurd (false≢true (sym h))
+
+sum_by_one : (h : List Entry → ℕ) (es : List Entry) → sum_by h (es ∷ []) ≡ h es
+sum_by_one h es = let c = sum_by-cons h es [] in omega (arith, c)
+
+-- of one reply
+pub merge_one : (kind : WalkKind) (replies : List WalkReply) (r reply : WalkReply) → replies ≡ r ∷ [] → T (is_sorted by_bytes r.items.items)
+    → reply.items.items ≡ chosen kind r.items.items → reply.counts.scanned ≡ r.counts.scanned → reply.counts.given ≡ length reply.items.items → reply.counts.unfit ≡ r.counts.unfit
+    → IsMerge kind replies reply
+merge_one kind replies r reply is order items scanned given unfit = record {
+  items = λ all sorted has.
+      let same : all ≡ r.items.items = same_entries all r.items.items sorted order (λ h. has h ∙ ap (λ (rs : List WalkReply). sum_by (λ es. sum_by h es) (items_in rs)) is ∙ sum_by_one (λ es. sum_by h es) r.items.items) in
+      items ∙ ap (λ (es : List Entry). chosen kind es) (sym same);
+  scanned = (let c = sum_by-cons (λ (x : WalkReply). x.counts.scanned) r [] in let e = ap (λ (rs : List WalkReply). sum_by (λ x. x.counts.scanned) rs) is in omega (arith, c, e, scanned));
+  given = given;
+  unfit = (let c = sum_by-cons (λ (x : WalkReply). x.counts.unfit) r [] in let e = ap (λ (rs : List WalkReply). sum_by (λ x. x.counts.unfit) rs) is in omega (arith, c, e, unfit));
+}
+
+-- what replies gave is how many items they have
+pub given_all : (replies : List WalkReply) → All (λ r. r.counts.given ≡ length r.items.items) replies → sum_by (λ (r : WalkReply). r.counts.given) replies ≡ sum_by (λ es. sum_by (λ _. 1) es) (items_in replies)
+given_all [] counted = refl
+given_all (r ∷ replies) counted =
+    let rest = given_all replies (All-tail (λ (x : WalkReply). x.counts.given ≡ length x.items.items) r replies counted) in
+    let here = All-head (λ (x : WalkReply). x.counts.given ≡ length x.items.items) r replies counted in
+    let a = sum_by-cons (λ (x : WalkReply). x.counts.given) r replies in
+    let b = sum_by-cons (λ (es : List Entry). sum_by (λ _. 1) es) r.items.items (items_in replies) in
+    let c = sum_of_ones r.items.items in
+    omega (arith, rest, here, a, b, c)
+
+-- so many of the whole list are all
+pub take_whole : (replies : List WalkReply) (all : List Entry) (given : ℕ) → All (λ r. r.counts.given ≡ length r.items.items) replies → HasAll all (items_in replies) → given ≡ sum_by (λ (r : WalkReply). r.counts.given) replies → take given all ≡ all
+take_whole replies all given counted has is =
+    take_all given all (let a = given_all replies counted in let b = has (λ _. 1) in let c = sum_of_ones all in omega (arith, a, b, c, is))
+
+pub empty_of : (es : List Entry) → length es ≡ 0 → es ≡ []
+empty_of [] none = refl
+empty_of (e ∷ es) none = absurd (omega (arith, none))
+
+-- the last of one is all
+pub last_of_one : (all before : List WalkReply) (r : WalkReply) → all ≡ before ++ r ∷ [] → length all ≡ 1 → all ≡ r ∷ []
+last_of_one all [] r is one = is
+last_of_one all (x ∷ before) r is one = absurd (let n = ap (λ (rs : List WalkReply). length rs) is in let m = length-append before (r ∷ []) in omega (arith, n, m, one))
+
+-- what holds of each reply's items
+pub sorted_items : (replies : List WalkReply) → All (λ r. T (is_sorted by_bytes r.items.items)) replies → All (λ es. T (is_sorted by_bytes es)) (items_in replies)
+sorted_items replies sorted = λ k d low.
+    let len = length-map replies (λ (r : WalkReply). r.items.items) in
+    let inside : k < length replies = omega (arith, len, low) in
+    let x = head_of replies (omega (arith, inside)) in
+    subst (λ (es : List Entry). T (is_sorted by_bytes es)) (sym (get_or-map (λ (r : WalkReply). r.items.items) replies k x d inside)) (sorted k x inside)
