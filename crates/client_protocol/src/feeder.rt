@@ -15,6 +15,9 @@ use bytes::BytesMut;
 use std::alloc::Global;
 use std::marker::Model;
 
+// Room for as many requests as end in 1,024 bytes, of 5 bytes each, and one that began before them.
+const ROOM: usize = 205;
+
 /// What a piece gave.
 #[derive(Drop)]
 pub struct Fed {
@@ -199,7 +202,8 @@ impl Feeder {
     }
 
     /// Reads a piece as `feed` does, and leaves the requests in this list, so that its room serves again. What the list held
-    /// is lost. Answers the fault, if any. `NoMemory` as `feed`.
+    /// is lost. Answers the fault, if any. `NoMemory` as `feed`. The first piece asks for room for 205 requests, so that pieces
+    /// of up to 1,024 bytes never ask for more: memory that others fill later refuses none of them.
     #[tactic(auto, using(crate::proofs::HeldLaws::sound_after))]
     pub fn feed_into(
         &mut self,
@@ -216,6 +220,7 @@ impl Feeder {
         if let Some(fault) = self.fault {
             return Ok(Some(fault));
         }
+        requests.try_reserve(ROOM)?;
         let taken = read_on(alloc, self.hello, requests, &mut self.rest, piece)?;
         self.hello = taken.hello;
         self.fault = taken.fault;
