@@ -107,29 +107,29 @@ module _ (ps : List Place) (ls : List Kept) (p at : ℕ) (m : AreMatched ps ls) 
       (λ q other. bytes_same ls over (place_at ps q) (λ i e. ap (λ (k : Kept). k.bytes) (get_or-set_other ls at i new nobody (not_this q i other e))))
 
 -- a short place behind the others
-module _ (ps : List Place) (ls : List Kept) (m : AreMatched ps ls) where
+module _ (ps : List Place) (ls : List Kept) (b : List ℕ) (m : AreMatched ps ls) where
   abbrev further : List Place
-  further = ps ++ Short [] ∷ []
+  further = ps ++ Short b ∷ []
 
   place_before : (q : ℕ) → q < length ps → place_at further q ≡ place_at ps q
-  place_before q below = get_or_append_left ps (Short [] ∷ []) nowhere q below
+  place_before q below = get_or_append_left ps (Short b ∷ []) nowhere q below
 
-  pub place_behind : place_at further (length ps) ≡ Short []
-  place_behind = get_or_push ps (Short []) nowhere (length ps) refl
+  pub place_behind : place_at further (length ps) ≡ Short b
+  place_behind = get_or_push ps (Short b) nowhere (length ps) refl
 
   long_before : (q i : ℕ) → place_at further q ≡ Long i → q < length ps
   long_before q i e = elim (cases_lt q (length ps)) [
     | inl below ↦ below
     | inr above ↦
-        let at : q ≡ length ps = omega (arith, above, inside further q i e, length_push ps (Short [])) in
-        absurd (not_both _ [] i place_behind (ap (place_at further) (sym at) ∙ e))
+        let at : q ≡ length ps = omega (arith, above, inside further q i e, length_push ps (Short b)) in
+        absurd (not_both _ b i place_behind (ap (place_at further) (sym at) ∙ e))
   ]
 
   pub pushed_matched : AreMatched further ls
   pushed_matched = record {
     named = λ q i e. m.named q i (sym (place_before q (long_before q i e)) ∙ e);
     owned = λ i within. let old = m.owned i within in place_before _ (inside ps _ i old) ∙ old;
-    counted = omega (arith, sum_by_push weight ps (Short []), m.counted);
+    counted = omega (arith, sum_by_push weight ps (Short b), m.counted);
   }
 
 -- where a place is short there are fewer long strings than places

@@ -1,7 +1,10 @@
 -- Copies of a table's entries, in any order.
-use Rattle.std.specs.Prelude.{◌≡◌, ℕ, List, ◌++◌, sum_by}
+use Rattle.std.specs.Prelude.{◌≡◌, ℕ, Bool, List, ◌++◌, length, sum_by}
+use Rattle.std.specs.List.{range_with_len}
+use Rattle.std.specs.Ordering.{is_lt}
 use Rattle.std.specs.FinMap as map
-use Rattle.bins.specs.Table.{Entry, Table}
+use Rattle.bins.specs.Columns.{string_at}
+use Rattle.bins.specs.Table.{Entry, Table, by_bytes}
 
 -- one list has each entry as often as the other: however entries are weighed, the sums agree
 abbrev pub WeighSame : List Entry → List Entry → Type 0
@@ -16,3 +19,15 @@ pub record AddsCopies (table : Table) (old new : List Entry) : Type 0 where
   pub copies : List Entry
   pub are : AreCopies table copies
   pub added : new ≡ old ++ copies
+
+-- the one entry comes before the other, by their keys
+abbrev pub comes_before : Entry → Entry → Bool
+comes_before one other = is_lt (by_bytes one.0 other.0)
+
+-- all positions of a list
+abbrev pub positions_of : List (List ℕ) → List ℕ
+positions_of keys = range_with_len 0 (length keys)
+
+-- the key at the one position comes before that at the other
+abbrev pub is_before : List (List ℕ) → ℕ → ℕ → Bool
+is_before keys one other = is_lt (by_bytes (string_at keys one) (string_at keys other))

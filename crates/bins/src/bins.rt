@@ -5,6 +5,7 @@ ghost use Rattle.bins.specs.Copies.{AddsCopies};
 ghost use Rattle.bins.specs.Replacements.{ReplacesEach};
 
 use crate::counts::Counts;
+use crate::entry_columns::EntryColumns;
 use crate::hashes::HashedKey;
 use bpf_model::limits::VALUE_BYTES;
 use bpf_model::{Key, NoMemory, Value};
@@ -44,6 +45,13 @@ pub trait Bins {
     fn copy_into(&self, list: &mut Vec<(Key, Value)>) -> Result<(), NoMemory>
         ensures ok { OnOk result (AddsCopies (table self.now) list.old.items list.new.items) }
         ensures err { OnErr result (list.new.items ≡ list.old.items) }
+        // As for `count`.
+        ensures bounded { length (map.entries (table self.now)) < 2 ^ 57 };
+
+    /// Adds copies of all entries to the columns, as `copy_into` does to a list, and writes no more bytes than they have.
+    fn copy_apart(&self, columns: &mut EntryColumns) -> Result<(), NoMemory>
+        ensures ok { OnOk result (AddsCopies (table self.now) columns.old columns.new) }
+        ensures err { OnErr result (columns.new ≡ columns.old) }
         // As for `count`.
         ensures bounded { length (map.entries (table self.now)) < 2 ^ 57 };
 

@@ -1,5 +1,5 @@
 //! Byte strings in a list, each in as many bytes as it needs.
-ghost use Rattle.std.specs.Prelude.{◌≡◌, ◌<◌, ◌≤◌, ◌++◌, [], ◌∷◌, length, set, slice_index_or, OnOk, IsTrue, ◌↔◌};
+ghost use Rattle.std.specs.Prelude.{◌≡◌, ◌+◌, ◌<◌, ◌≤◌, ◌++◌, [], ◌∷◌, length, set, slice_index_or, OnOk, IsTrue, ◌↔◌};
 ghost use Rattle.std.specs.List.{swap_remove};
 ghost use Rattle.bins.specs.Columns.{IsLimit, string_at};
 
@@ -64,6 +64,18 @@ impl<const MOST: usize> Column<MOST> {
         self.rooms.get(position)
     }
 
+    /// The string at a position; none of the bytes behind the last one. Takes no memory.
+    #[inline(always)]
+    pub(crate) fn get_any(&self, position: usize) -> &[u8]
+        ensures value { result.now ≡ string_at self.now.items position }
+        ensures fits { length result.now ≤ MOST }
+    {
+        if position < self.rooms.len() {
+            return self.rooms.get(position);
+        }
+        &[]
+    }
+
     /// Whether the string at a position is this one. Takes no memory.
     #[inline(always)]
     pub(crate) fn is_at(&self, position: usize, bytes: &[u8]) -> bool
@@ -73,15 +85,15 @@ impl<const MOST: usize> Column<MOST> {
         self.get(position) == bytes
     }
 
-    /// Room for one more string. `NoMemory` where a request for it was refused; the strings are as before.
-    pub(crate) fn reserve_one(&mut self) -> Result<(), NoMemory>
-        ensures ok { OnOk result (length self.new.items < self.new.room) }
+    /// Room for so many more strings. `NoMemory` where a request for it was refused; the strings are as before.
+    pub(crate) fn reserve(&mut self, more: usize) -> Result<(), NoMemory>
+        ensures ok { OnOk result (length self.new.items + more ≤ self.new.room) }
         ensures same { self.new.items ≡ self.old.items }
     {
-        if self.rooms.len() == MOST_STRINGS {
+        if more > MOST_STRINGS - self.rooms.len() {
             return Err(NoMemory);
         }
-        self.rooms.reserve_one()
+        self.rooms.reserve(more)
     }
 
     /// Sets the string at a position. Takes no memory.
@@ -99,8 +111,18 @@ impl<const MOST: usize> Column<MOST> {
         requires room { length self.old.items < self.old.room }
         requires fits { length bytes.now ≤ MOST }
         ensures items { self.new.items ≡ self.old.items ++ bytes.now ∷ [] }
+        ensures room { self.new.room ≡ self.old.room }
     {
         self.rooms.push_reserved(bytes);
+    }
+
+    /// Adds copies of another column's strings behind the others. Takes no memory.
+    pub(crate) fn push_all(&mut self, other: &Column<MOST>)
+        requires room { length self.old.items + length other.now.items ≤ self.old.room }
+        ensures items { self.new.items ≡ self.old.items ++ other.now.items }
+        ensures room { self.new.room ≡ self.old.room }
+    {
+        self.rooms.push_all(&other.rooms);
     }
 
     /// Takes out the string at a position; the last one takes the gap. Takes no memory.

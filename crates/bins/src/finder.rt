@@ -85,6 +85,25 @@ impl Finder {
         }
     }
 
+    /// The position of a key that was perhaps found before: where it stands as it did then, no search is made. Takes no memory.
+    #[inline(always)]
+    pub(crate) fn position_again(
+        &self,
+        keys: &Column<KEY_BYTES>,
+        key: &HashedKey<'_>,
+    ) -> Option<usize>
+        requires finds { Finds self.now keys.now.items }
+        ensures bound { IfSome result (λ position. position < length keys.now.items) }
+        ensures found { IfSome result (HoldsAt (λ k. k ≡ key.now) keys.now.items) }
+        ensures absent { IfNone result (AllWithin (λ k. k ≢ key.now) keys.now.items 0 (length keys.now.items)) }
+    {
+        let guess = key.guess();
+        if guess < keys.len() && keys.is_at(guess, key.key().as_slice()) {
+            return Some(guess);
+        }
+        self.position(keys, key)
+    }
+
     /// Adds a key, at the position behind these. `NoMemory` where a request for memory was refused.
     #[inline(always)]
     pub(crate) fn push(

@@ -6,6 +6,7 @@ use crate::bins::Bins;
 use crate::column::Column;
 use crate::copies::{add_paired, sort_entries};
 use crate::counts::Counts;
+use crate::entry_columns::EntryColumns;
 use crate::finder::Finder;
 use crate::hashes::HashedKey;
 use crate::replacement::replace_paired;
@@ -75,20 +76,23 @@ impl Bins for HashedBins {
 
     fn find(&self, key: &HashedKey<'_>) -> Option<&[u8]> {
         match self.finder.position(&self.keys, key) {
-            Some(position) => Some(self.values.get(position)),
+            Some(position) => {
+                key.remember(position);
+                Some(self.values.get(position))
+            }
             None => None,
         }
     }
 
     fn put(&mut self, key: &HashedKey<'_>, value: &Value) -> Result<(), NoMemory> {
-        match self.finder.position(&self.keys, key) {
+        match self.finder.position_again(&self.keys, key) {
             Some(position) => {
                 self.values.set(position, value.as_slice());
                 Ok(())
             }
             None => {
-                self.keys.reserve_one()?;
-                self.values.reserve_one()?;
+                self.keys.reserve(1)?;
+                self.values.reserve(1)?;
                 self.finder.push(&self.keys, key)?;
                 self.keys.push_reserved(key.key().as_slice());
                 self.values.push_reserved(value.as_slice());
@@ -100,7 +104,7 @@ impl Bins for HashedBins {
 
     #[inline(always)]
     fn remove(&mut self, key: &HashedKey<'_>) -> Option<Value> {
-        match self.finder.position(&self.keys, key) {
+        match self.finder.position_again(&self.keys, key) {
             Some(position) => {
                 let mut value = Value::new();
                 value.set_from(self.values.get(position));
@@ -115,6 +119,10 @@ impl Bins for HashedBins {
 
     fn copy_into(&self, list: &mut Vec<(Key, Value)>) -> Result<(), NoMemory> {
         add_paired(list, &self.keys, &self.values)
+    }
+
+    fn copy_apart(&self, columns: &mut EntryColumns) -> Result<(), NoMemory> {
+        columns.add_columns(&self.keys, &self.values)
     }
 
     fn entries(&self, alloc: Global) -> Result<Vec<(Key, Value)>, NoMemory> {

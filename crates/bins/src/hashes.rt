@@ -3,6 +3,7 @@ ghost use Rattle.std.specs.Prelude.{◌≡◌};
 ghost use Rattle.bins.specs.Hashes.{hash as hash_is};
 
 use bpf_model::Key;
+use std::cell::Cell;
 use std::marker::Model;
 
 /// The hash of a key: from 1, each byte in turn, the hash times 31 and the byte, modulo 2^32. Takes no memory.
@@ -16,11 +17,14 @@ pub fn hash_of(key: &Key) -> u32
     hash
 }
 
-/// A key beside its hash, so that whoever calls computes it once.
+/// A key beside its hash, so that whoever calls computes it once, and the position where it was found last, so that a
+/// change of what was found makes no second search.
 #[derive(Drop)]
 pub struct HashedKey<'a> {
     key: &'a Key,
     hash: u32,
+    // A guess: the key may stand elsewhere by now, or in other bins.
+    guess: Cell<usize>,
 }
 
 impl<'a> Model for HashedKey<'a> {
@@ -42,6 +46,7 @@ impl<'a> HashedKey<'a> {
         HashedKey {
             key,
             hash: hash_of(key),
+            guess: Cell::new(0),
         }
     }
 
@@ -59,5 +64,17 @@ impl<'a> HashedKey<'a> {
         ensures value { result ≡ hash_is self.now }
     {
         self.hash
+    }
+
+    /// Where the key may stand. Nothing is known of it.
+    #[inline(always)]
+    pub(crate) fn guess(&self) -> usize {
+        self.guess.get()
+    }
+
+    /// Remembers where the key stands.
+    #[inline(always)]
+    pub(crate) fn remember(&self, position: usize) {
+        self.guess.set(position);
     }
 }

@@ -5,7 +5,8 @@
 //! `specs/Replacements.antt`. `ListBins` keeps the entries in one list, sorted by key. `HashedBins` keeps keys
 //! and values in two columns (`specs/Columns.antt`), each in as many bytes as it needs, in no order, beside an index by the
 //! hashes of the keys (`hash_of`, `specs/Hashes.antt`), so that a search comes to the entries of one hash alone.
-//! A new key, `open`, `copy_into` and `entries` take memory, and no other call does; where it is refused, the entries are as before.
+//! A new key, `open`, `copy_into`, `copy_apart` and `entries` take memory, and no other call of theirs does; where it is refused,
+//! the entries are as before.
 //! No call waits.
 #![tactic(auto)]
 
@@ -14,6 +15,7 @@ mod chains;
 mod column;
 mod copies;
 mod counts;
+mod entry_columns;
 mod finder;
 mod hashed_bins;
 mod hashes;
@@ -26,6 +28,7 @@ mod tree;
 pub use bins::Bins;
 pub use copies::sort_entries;
 pub use counts::Counts;
+pub use entry_columns::EntryColumns;
 pub use hashed_bins::HashedBins;
 pub use hashes::{HashedKey, hash_of};
 pub use list_bins::ListBins;

@@ -8,6 +8,7 @@ ghost use Rattle.bins.specs.Positions.{IsAt, IsGapFor};
 use crate::bins::Bins;
 use crate::copies::{add_copies, entry_of};
 use crate::counts::Counts;
+use crate::entry_columns::EntryColumns;
 use crate::hashes::HashedKey;
 use crate::replacement::{count_of, replace_values};
 use bpf_model::{Key, NoMemory, Value};
@@ -110,6 +111,10 @@ impl Bins for ListBins {
 
     fn copy_into(&self, list: &mut Vec<(Key, Value)>) -> Result<(), NoMemory> {
         add_copies(list, &self.entries)
+    }
+
+    fn copy_apart(&self, columns: &mut EntryColumns) -> Result<(), NoMemory> {
+        columns.add_entries(&self.entries)
     }
 
     fn entries(&self, alloc: Global) -> Result<Vec<(Key, Value)>, NoMemory> {

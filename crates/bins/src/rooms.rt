@@ -1,5 +1,5 @@
 //! Places of byte strings. A short string lies in its place; a long one lies in a second list, where it tells whose it is.
-ghost use Rattle.std.specs.Prelude.{◌≡◌, ◌+◌, ◌<◌, ◌≤◌, ◌++◌, [], ◌∷◌, length, set, slice_index_or, OnOk, OnErr, vec_capacity};
+ghost use Rattle.std.specs.Prelude.{◌≡◌, ◌+◌, ◌<◌, ◌≤◌, ◌^◌, ◌++◌, [], ◌∷◌, length, set, slice_index_or, OnOk, OnErr, vec_capacity};
 ghost use Rattle.std.specs.List.{swap_remove};
 ghost use Rattle.bins.specs.Columns.{AreMatched, EqualBut, IsLimit, IsShort, place_at, kept_at, bytes_of, strings_of};
 ghost use Rattle.bins.specs.declared.rooms.Place.TheVariants.{Short, Long};
@@ -49,6 +49,17 @@ impl ShortBytes {
         ensures fits { length result.now ≤ SHORT_BYTES }
     {
         &self.bytes[..self.len as usize]
+    }
+
+    // The same bytes once more.
+    #[inline(always)]
+    fn duplicate(&self) -> ShortBytes
+        ensures { result ≡ self.now }
+    {
+        ShortBytes {
+            len: self.len,
+            bytes: self.bytes,
+        }
     }
 
     // These bytes.
@@ -181,37 +192,37 @@ impl<const MOST: usize> Rooms<MOST> {
         }
     }
 
-    // Moves the long strings to where there are half as many places again. They are not grown where they are: that would copy
-    // what was never written, and so touch it.
+    // Moves the long strings to where there is room for half as many again as these. They are not grown where they are: that
+    // would copy what was never written, and so touch it.
     #[inline(never)]
-    fn move_longs(&mut self) -> Result<(), NoMemory>
-        requires matched { AreMatched self.old.places.items self.old.longs.items }
-        ensures ok { OnOk result (length self.new.places.items < vec_capacity self.new.longs) }
+    fn move_longs(&mut self, many: usize) -> Result<(), NoMemory>
+        requires bounded { many ≤ 2 ^ 57 }
+        ensures ok { OnOk result (many < vec_capacity self.new.longs) }
         ensures err { OnErr result (vec_capacity self.new.longs ≡ vec_capacity self.old.longs) }
         ensures places { self.new.places ≡ self.old.places }
         ensures longs { self.new.longs.items ≡ self.old.longs.items }
     {
-        let many = self.places.len();
         let mut longs = Vec::with_capacity(*self.longs.allocator(), many + many / 2 + 4)?;
         longs.append(&mut self.longs)?;
         self.longs = longs;
         Ok(())
     }
 
-    // Room for one more place, and for a long string in each.
-    pub(crate) fn reserve_one(&mut self) -> Result<(), NoMemory>
-        requires matched { AreMatched self.old.places.items self.old.longs.items }
-        ensures ok { OnOk result (length self.new.places.items < vec_capacity self.new.places) }
-        ensures ok_longs { OnOk result (length self.new.places.items < vec_capacity self.new.longs) }
+    // Room for so many more places, and for a long string in each.
+    pub(crate) fn reserve(&mut self, more: usize) -> Result<(), NoMemory>
+        requires bounded { length self.old.places.items + more ≤ 2 ^ 57 }
+        ensures ok { OnOk result (length self.new.places.items + more ≤ vec_capacity self.new.places) }
+        ensures ok_longs { OnOk result (length self.new.places.items + more ≤ vec_capacity self.new.longs) }
         ensures places { self.new.places.items ≡ self.old.places.items }
         ensures longs { self.new.longs.items ≡ self.old.longs.items }
         ensures room { length self.old.places.items ≤ vec_capacity self.old.longs
             → length self.new.places.items ≤ vec_capacity self.new.longs }
     {
-        if self.longs.capacity() <= self.places.len() {
-            self.move_longs()?;
+        let many = self.places.len() + more;
+        if self.longs.capacity() < many {
+            self.move_longs(many)?;
         }
-        self.places.try_reserve(1)?;
+        self.places.try_reserve(more)?;
         Ok(())
     }
 
@@ -322,6 +333,20 @@ impl<const MOST: usize> Rooms<MOST> {
         }
     }
 
+    // Writes a string behind the others that lies in its place.
+    #[inline(always)]
+    fn push_short(&mut self, short: ShortBytes)
+        requires matched { AreMatched self.old.places.items self.old.longs.items }
+        requires room { length self.old.places.items < vec_capacity self.old.places }
+        ensures matched { AreMatched self.new.places.items self.new.longs.items }
+        ensures strings { strings_of self.new.places.items self.new.longs.items
+            ≡ strings_of self.old.places.items self.old.longs.items ++ short ∷ [] }
+        ensures places { vec_capacity self.new.places ≡ vec_capacity self.old.places }
+        ensures longs { vec_capacity self.new.longs ≡ vec_capacity self.old.longs }
+    {
+        self.places.push_reserved(Place::Short(short));
+    }
+
     // Writes a string behind the others.
     pub(crate) fn push_reserved(&mut self, bytes: &[u8])
         requires matched { AreMatched self.old.places.items self.old.longs.items }
@@ -338,6 +363,49 @@ impl<const MOST: usize> Rooms<MOST> {
         let position = self.places.len();
         self.places.push_reserved(Place::Short(ShortBytes::new()));
         self.set(position, bytes);
+    }
+
+    // Writes a copy of another list's string behind the others.
+    #[inline(always)]
+    fn push_from(&mut self, other: &Rooms<MOST>, position: usize)
+        requires matched { AreMatched self.old.places.items self.old.longs.items }
+        requires other { AreMatched other.now.places.items other.now.longs.items }
+        requires range { position < length other.now.places.items }
+        requires room { length self.old.places.items < vec_capacity self.old.places }
+        requires room_longs { length self.old.places.items < vec_capacity self.old.longs }
+        requires most { IsLimit MOST }
+        ensures matched { AreMatched self.new.places.items self.new.longs.items }
+        ensures strings { strings_of self.new.places.items self.new.longs.items
+            ≡ strings_of self.old.places.items self.old.longs.items
+            ++ bytes_of other.now.longs.items (place_at other.now.places.items position) ∷ [] }
+        ensures places { vec_capacity self.new.places ≡ vec_capacity self.old.places }
+        ensures longs { vec_capacity self.new.longs ≡ vec_capacity self.old.longs }
+    {
+        match &other.places[position] {
+            Place::Short(short) => self.push_short(short.duplicate()),
+            Place::Long(at) => {
+                let long = &other.longs[*at];
+                self.push_reserved(long.as_slice());
+            }
+        }
+    }
+
+    // Writes copies of all of another list's strings behind the others.
+    pub(crate) fn push_all(&mut self, other: &Rooms<MOST>)
+        requires matched { AreMatched self.old.places.items self.old.longs.items }
+        requires other { AreMatched other.now.places.items other.now.longs.items }
+        requires room { length self.old.places.items + length other.now.places.items ≤ vec_capacity self.old.places }
+        requires room_longs { length self.old.places.items + length other.now.places.items ≤ vec_capacity self.old.longs }
+        requires most { IsLimit MOST }
+        ensures matched { AreMatched self.new.places.items self.new.longs.items }
+        ensures strings { strings_of self.new.places.items self.new.longs.items
+            ≡ strings_of self.old.places.items self.old.longs.items ++ strings_of other.now.places.items other.now.longs.items }
+        ensures places { vec_capacity self.new.places ≡ vec_capacity self.old.places }
+        ensures longs { vec_capacity self.new.longs ≡ vec_capacity self.old.longs }
+    {
+        for position in 0..other.len() {
+            self.push_from(other, position);
+        }
     }
 
     // Takes out a short place; the last place takes the gap.

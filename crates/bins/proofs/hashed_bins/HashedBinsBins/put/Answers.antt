@@ -25,13 +25,13 @@ returns-in-Some-clause-ok c =
     rw (← c.self.view_is) (written ∙ ap (λ (v : List ℕ). map.insert (table_of (entries_in c.self.inside.keys.items c.self.inside.values.items)) c.args.key.now v) c.as_slice.ensures.value)
 
 -- memory fails only for a key that was not there
-pub returns-in_err-reserve_one-in-None-clause-memory : goal.returns-in_err-reserve_one-in-None-clause-memory
-returns-in_err-reserve_one-in-None-clause-memory c =
+pub returns-in_err-reserve-in-None-clause-memory : goal.returns-in_err-reserve-in-None-clause-memory
+returns-in_err-reserve-in-None-clause-memory c =
     let absent = entry_lacks _ _ c.self.invariant.2 _ c.in-None.ensures.absent in
     on_err_anyway _ (sym (ap (λ (table : Table). map.get table c.args.key.now) c.self.view_is) ∙ get_none _ _ absent)
 
-pub returns-in_err-reserve_one-in-None-2-clause-memory : goal.returns-in_err-reserve_one-in-None-2-clause-memory
-returns-in_err-reserve_one-in-None-2-clause-memory c =
+pub returns-in_err-reserve-in-None-2-clause-memory : goal.returns-in_err-reserve-in-None-2-clause-memory
+returns-in_err-reserve-in-None-2-clause-memory c =
     let absent = entry_lacks _ _ c.self.invariant.2 _ c.in-None.ensures.absent in
     on_err_anyway _ (sym (ap (λ (table : Table). map.get table c.args.key.now) c.self.view_is) ∙ get_none _ _ absent)
 
@@ -47,8 +47,8 @@ settle-requires-clause-once c =
     let vs = c.self.inside.values.items in
     let same = c.self.invariant.2 in
     let absent = entry_lacks ks vs same _ c.in-None.ensures.absent in
-    let keys = c.push_reserved.ensures.items ∙ (λ i. c.reserve_one.ensures.same i ++ (c.as_slice-in-None.ensures.value ∙ c.key.ensures.value) i ∷ []) in
-    let values = c.push_reserved-in-None.ensures.items ∙ (λ i. c.reserve_one-in-None.ensures.same i ++ c.as_slice-in-None-2.ensures.value i ∷ []) in
+    let keys = c.push_reserved.ensures.items ∙ (λ i. c.reserve.ensures.same i ++ (c.as_slice-in-None.ensures.value ∙ c.key.ensures.value) i ∷ []) in
+    let values = c.push_reserved-in-None.ensures.items ∙ (λ i. c.reserve-in-None.ensures.same i ++ c.as_slice-in-None-2.ensures.value i ∷ []) in
     let further = joined ks vs same _ _ _ _ keys values in
     stand_once _ _ (joined_length ks vs same _ _ _ _ keys values) (subst Distinct (sym further) (pushed_distinct _ _ _ c.self.invariant.1 absent))
 
@@ -58,8 +58,8 @@ invariant_of-self-in-None c =
     let vs = c.self.inside.values.items in
     let same = c.self.invariant.2 in
     let absent = entry_lacks ks vs same _ c.in-None.ensures.absent in
-    let keys = c.push_reserved.ensures.items ∙ (λ i. c.reserve_one.ensures.same i ++ (c.as_slice-in-None.ensures.value ∙ c.key.ensures.value) i ∷ []) in
-    let values = c.push_reserved-in-None.ensures.items ∙ (λ i. c.reserve_one-in-None.ensures.same i ++ c.as_slice-in-None-2.ensures.value i ∷ []) in
+    let keys = c.push_reserved.ensures.items ∙ (λ i. c.reserve.ensures.same i ++ (c.as_slice-in-None.ensures.value ∙ c.key.ensures.value) i ∷ []) in
+    let values = c.push_reserved-in-None.ensures.items ∙ (λ i. c.reserve-in-None.ensures.same i ++ c.as_slice-in-None-2.ensures.value i ∷ []) in
     let further = joined ks vs same _ _ _ _ keys values in
     (c.settle.ensures.finds, subst Distinct (sym further) (pushed_distinct _ _ _ c.self.invariant.1 absent), joined_length ks vs same _ _ _ _ keys values)
 
@@ -69,6 +69,6 @@ returns-in_ok-push-in-None-clause-ok c =
     let vs = c.self.inside.values.items in
     let same = c.self.invariant.2 in
     let absent = entry_lacks ks vs same _ c.in-None.ensures.absent in
-    let keys = c.push_reserved.ensures.items ∙ (λ i. c.reserve_one.ensures.same i ++ (c.as_slice-in-None.ensures.value ∙ c.key.ensures.value) i ∷ []) in
-    let values = c.push_reserved-in-None.ensures.items ∙ (λ i. c.reserve_one-in-None.ensures.same i ++ c.as_slice-in-None-2.ensures.value i ∷ []) in
+    let keys = c.push_reserved.ensures.items ∙ (λ i. c.reserve.ensures.same i ++ (c.as_slice-in-None.ensures.value ∙ c.key.ensures.value) i ∷ []) in
+    let values = c.push_reserved-in-None.ensures.items ∙ (λ i. c.reserve-in-None.ensures.same i ++ c.as_slice-in-None-2.ensures.value i ∷ []) in
     rw (← c.self.view_is) (ap table_of (joined ks vs same _ _ _ _ keys values) ∙ pushed_table _ _ _ absent)

@@ -11,7 +11,7 @@ set-requires g c =
     let at = c.len-position.ensures ∙ c.args.self.now.places.ok.0 in (
       omega arith,
       (
-        rw (c.push_reserved.ensures.items, c.new.ensures) (pushed_matched _ _ c.requires.matched),
+        rw (c.push_reserved.ensures.items, c.new.ensures) (pushed_matched _ _ _ c.requires.matched),
         (omega (arith, further, at), (omega (arith, further, c.requires.room_longs), (c.requires.fits, c.requires.most))),
       ),
     )

@@ -1,0 +1,56 @@
+-- Entries in the order of positions.
+use Rattle.std.proofs.Common.{◌≡◌, ℕ, zero, suc, ◌+◌, ◌<◌, List, [], ◌∷◌, ◌++◌, length, map, get_or, refl, sym, ap, subst, ◌∙◌, arith}
+use Rattle.std.specs.List.{range_with_len}
+use Rattle.std.specs.List.Sorted.{IsPermutation, IsSortedBy}
+use Rattle.std.proofs.lemmas.List.{ext_get_or, length-map, length_push, get_or-map}
+use Rattle.std.proofs.lemmas.List.FromFn.{length-map-range_with_len, get_or-map-range_with_len}
+use Rattle.std.proofs.lemmas.List.Sorted.{IsPermutation-map}
+use Rattle.bins.specs.Table.{Entry}
+use Rattle.bins.specs.Columns.{Kept, bytes_of, strings_of}
+use Rattle.bins.specs.declared.rooms.Place.{Place}
+use Rattle.bins.specs.Copies.{comes_before, is_before, positions_of}
+use Rattle.bins.specs.Entries.{entries_in, entry_at}
+use Rattle.bins.proofs.PairedEntries.{paired-length, paired-at}
+
+-- one number more
+pub range_more : (a n j : ℕ) → a + n ≡ j → range_with_len a (n + 1) ≡ range_with_len a n ++ j ∷ []
+range_more a zero j is = ap (λ (x : ℕ). x ∷ []) (omega (arith, is))
+range_more a (suc n) j is = let on : suc n + 1 ≡ suc (n + 1) = omega arith in
+    ap (range_with_len a) on ∙ ap (λ (xs : List ℕ). a ∷ xs) (range_more (a + 1) n j (omega (arith, is)))
+
+pub paired-append : (ks vs : List (List ℕ)) → length ks ≡ length vs → (ms ws : List (List ℕ)) → entries_in (ks ++ ms) (vs ++ ws) ≡ entries_in ks vs ++ entries_in ms ws
+paired-append [] [] same ms ws = refl
+paired-append [] (w ∷ vs) same ms ws = absurd (omega (arith, same))
+paired-append (k ∷ ks) [] same ms ws = absurd (omega (arith, same))
+paired-append (k ∷ ks) (v ∷ vs) same ms ws = ap (λ (es : List Entry). (k, v) ∷ es) (paired-append ks vs (omega (arith, same)) ms ws)
+
+module _ (ks vs : List (List ℕ)) (same : length ks ≡ length vs) where
+  abbrev nobody : Entry
+  nobody = ([], [])
+
+  -- at all positions stand all entries
+  pub all_entries : map (entry_at ks vs) (positions_of ks) ≡ entries_in ks vs
+  all_entries = ext_get_or nobody _ _ (length-map-range_with_len (entry_at ks vs) 0 (length ks) ∙ sym (paired-length ks vs same)) (λ i below.
+      let lt : i < length ks = omega (arith, below, length-map-range_with_len (entry_at ks vs) 0 (length ks)) in
+      get_or-map-range_with_len (entry_at ks vs) 0 (length ks) i i nobody lt (omega arith) ∙ sym (paired-at ks vs i nobody same lt))
+
+  -- in another order of the positions they are the same entries
+  pub moved : (order : List ℕ) → IsPermutation (positions_of ks) order → IsPermutation (entries_in ks vs) (map (entry_at ks vs) order)
+  moved order p = subst (λ (es : List Entry). IsPermutation es (map (entry_at ks vs) order)) all_entries (IsPermutation-map (entry_at ks vs) _ _ p)
+
+  -- and their keys rise as those at the positions do
+  pub rising : (order : List ℕ) → IsSortedBy (is_before ks) order → IsSortedBy comes_before (map (entry_at ks vs) order)
+  rising order sorted = λ k d low high.
+      let long = length-map order (entry_at ks vs) in
+      let one = get_or-map (entry_at ks vs) order k 0 d (omega (arith, high, long)) in
+      let next = get_or-map (entry_at ks vs) order (k + 1) 0 d (omega (arith, high, long)) in
+      (λ i. comes_before (next i) (one i)) ∙ sorted k 0 low (omega (arith, high, long))
+
+-- the entries whose keys and values these are
+pub entries_apart : (es : List Entry) → entries_in (map (λ (e : Entry). e.0) es) (map (λ (e : Entry). e.1) es) ≡ es
+entries_apart [] = refl
+entries_apart (e ∷ es) = ap (λ (xs : List Entry). e ∷ xs) (entries_apart es)
+
+-- a place more, where there is a string more
+pub one_more : (ps : List Place) (ls : List Kept) (qs : List Place) (ms : List Kept) (b : List ℕ) → strings_of qs ms ≡ strings_of ps ls ++ b ∷ [] → length qs ≡ length ps + 1
+one_more ps ls qs ms b is = omega (arith, ap (λ (xs : List (List ℕ)). length xs) is, length_push (strings_of ps ls) b, length-map ps (bytes_of ls), length-map qs (bytes_of ms))

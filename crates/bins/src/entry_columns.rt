@@ -1,0 +1,159 @@
+//! Copies of entries, each in as many bytes as it needs.
+ghost use Rattle.std.specs.Prelude.{◌≡◌, ◌+◌, ◌<◌, ◌≤◌, ◌^◌, ◌++◌, [], length, map, IfOk, OnOk, OnErr};
+ghost use Rattle.std.specs.List.Sorted.{IsPermutation, IsSortedBy};
+ghost use Rattle.bins.specs.Columns.{string_at};
+ghost use Rattle.bins.specs.Copies.{comes_before, is_before, positions_of};
+ghost use Rattle.bins.specs.Entries.{entries_in, entry_at};
+ghost use Rattle.bins.specs.Table.{by_bytes};
+
+use crate::column::Column;
+use bpf_model::limits::{KEY_BYTES, VALUE_BYTES};
+use bpf_model::{Key, NoMemory, Value};
+use std::alloc::Global;
+use std::cmp::Ordering;
+use std::marker::Model;
+
+/// Entries in two columns, the keys and their values. One whose key and value are short takes 48 bytes. Room for the
+/// longest is reserved, and not touched before it is needed.
+#[derive(Drop)]
+pub struct EntryColumns {
+    keys: Column<KEY_BYTES>,
+    values: Column<VALUE_BYTES>,
+}
+
+impl Model for EntryColumns {
+    ghost use Rattle.std.specs.Prelude.{◌≡◌, List, length};
+    ghost use Rattle.bins.specs.Table.{Entry};
+    ghost use Rattle.bins.specs.Entries.{entries_in};
+
+    ghost Value = { List Entry };
+
+    ghost view = { λ columns. entries_in columns.keys.items columns.values.items };
+
+    ghost invariant = { λ columns. length columns.keys.items ≡ length columns.values.items };
+}
+
+impl EntryColumns {
+    /// No entries. Takes no memory.
+    pub fn new(alloc: Global) -> EntryColumns
+        ensures { result ≡ [] }
+    {
+        EntryColumns {
+            keys: Column::new(alloc),
+            values: Column::new(alloc),
+        }
+    }
+
+    /// How many entries there are. Takes no memory.
+    pub fn len(&self) -> usize
+        ensures value { result ≡ length self.now }
+    {
+        self.keys.len()
+    }
+
+    /// Adds copies of the entries of these columns. Asks for memory where there is no room for them.
+    pub(crate) fn add_columns(
+        &mut self,
+        keys: &Column<KEY_BYTES>,
+        values: &Column<VALUE_BYTES>,
+    ) -> Result<(), NoMemory>
+        requires paired { length keys.now.items ≡ length values.now.items }
+        ensures ok { OnOk result (self.new ≡ self.old ++ entries_in keys.now.items values.now.items) }
+        ensures err { OnErr result (self.new ≡ self.old) }
+        ensures bounded { length keys.now.items < 2 ^ 57 }
+    {
+        let more = keys.len();
+        self.keys.reserve(more)?;
+        self.values.reserve(more)?;
+        self.keys.push_all(keys);
+        self.values.push_all(values);
+        Ok(())
+    }
+
+    /// Adds copies of these entries. Asks for memory where there is no room for them.
+    pub(crate) fn add_entries(&mut self, entries: &[(Key, Value)]) -> Result<(), NoMemory>
+        ensures ok { OnOk result (self.new ≡ self.old ++ entries.now) }
+        ensures err { OnErr result (self.new ≡ self.old) }
+        ensures bounded { length entries.now < 2 ^ 57 }
+    {
+        let more = entries.len();
+        self.keys.reserve(more)?;
+        self.values.reserve(more)?;
+        push_entries(&mut self.keys, &mut self.values, entries);
+        Ok(())
+    }
+
+    /// The entries in a list, in key order. Asks for memory for the list, and for an order of the positions.
+    pub fn sorted(&self, alloc: Global) -> Result<Vec<(Key, Value)>, NoMemory>
+        ensures moved { IfOk result (λ list. IsPermutation self.now list.items) }
+        ensures order { IfOk result (λ list. IsSortedBy comes_before list.items) }
+    {
+        let order = order_of(alloc, &self.keys)?;
+        let mut list = Vec::with_capacity(alloc, order.len())?;
+        push_ordered(&mut list, &self.keys, &self.values, &order)?;
+        Ok(list)
+    }
+}
+
+// Adds copies of these entries to the columns, in the room that is there.
+fn push_entries(
+    keys: &mut Column<KEY_BYTES>,
+    values: &mut Column<VALUE_BYTES>,
+    entries: &[(Key, Value)],
+)
+    requires keys { length keys.old.items + length entries.now ≤ keys.old.room }
+    requires values { length values.old.items + length entries.now ≤ values.old.room }
+    ensures keys { keys.new.items ≡ keys.old.items ++ map (λ entry. entry.0) entries.now }
+    ensures values { values.new.items ≡ values.old.items ++ map (λ entry. entry.1) entries.now }
+{
+    for entry in entries {
+        keys.push_reserved(entry.0.as_slice());
+        values.push_reserved(entry.1.as_slice());
+    }
+}
+
+// How the keys at two positions compare.
+#[inline(always)]
+fn compare_at(keys: &Column<KEY_BYTES>, one: usize, other: usize) -> Ordering
+    ensures { result ≡ by_bytes (string_at keys.now.items one) (string_at keys.now.items other) }
+{
+    keys.get_any(one).cmp(keys.get_any(other))
+}
+
+// All positions, in the order of the keys that stand there.
+fn order_of(alloc: Global, keys: &Column<KEY_BYTES>) -> Result<Vec<usize>, NoMemory>
+    ensures moved { IfOk result (λ order. IsPermutation (positions_of keys.now.items) order.items) }
+    ensures order { IfOk result (λ order. IsSortedBy (is_before keys.now.items) order.items) }
+{
+    let many = keys.len();
+    let mut order = Vec::with_capacity(alloc, many)?;
+    for position in 0..many {
+        order.push_reserved(position);
+    }
+    order.sort_unstable_by(|one, other| compare_at(keys, *one, *other));
+    Ok(order)
+}
+
+// A copy of the entry at a position.
+fn entry_at(keys: &Column<KEY_BYTES>, values: &Column<VALUE_BYTES>, position: usize) -> (Key, Value)
+    ensures { result ≡ entry_at keys.now.items values.now.items position }
+{
+    let key = Key::from_slice(keys.get_any(position));
+    let value = Value::from_slice(values.get_any(position));
+    (key.unwrap(), value.unwrap())
+}
+
+// Adds copies of the entries at these positions to the list.
+fn push_ordered(
+    list: &mut Vec<(Key, Value)>,
+    keys: &Column<KEY_BYTES>,
+    values: &Column<VALUE_BYTES>,
+    order: &[usize],
+) -> Result<(), NoMemory>
+    ensures ok { OnOk result (list.new.items ≡ list.old.items ++ map (entry_at keys.now.items values.now.items) order.now) }
+{
+    for position in order {
+        list.push(entry_at(keys, values, *position))?;
+    }
+    Ok(())
+}
