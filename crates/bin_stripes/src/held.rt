@@ -16,7 +16,7 @@ ghost use Rattle.bin_stripes.specs.Holding.{IsLaid, SeatHolds, SeatRefuses};
 use crate::gate::{Gate, Place};
 use crate::steps::{PassSeat, Shows, Stripes, let_go};
 use atomic_methods::{HashedCall, ReplyKind, Workspace, apply_into, replace_each};
-use bins::{Bins, Counts, sort_entries};
+use bins::{Bins, CopyList, Counts, sort_entries};
 use bpf_model::{Key, NoMemory, Value};
 use std::alloc::Global;
 use std::snapshot::Snapshot;
@@ -109,11 +109,11 @@ pub(crate) fn make_call<B: Bins + Drop>(
 
 /// Adds copies of the stripe's entries to the list, in an order of their own. `NoMemory` where a request for memory was
 /// refused; then nothing was done, and the list is as before.
-pub(crate) fn make_copies<B: Bins + Drop>(
+pub(crate) fn make_copies<B: Bins + Drop, C: CopyList>(
     table: &Stripes<B>,
     seat: &mut PassSeat<B>,
     stripe: usize,
-    list: &mut Vec<(Key, Value)>,
+    list: &mut C,
 ) -> Result<(), NoMemory>
     requires table { IsLaid table.now.table_id table.now.key × (seat.old.table_id ≡ table.now.table_id) }
     requires stripe { stripe < table.now.table_id.slots }
@@ -121,15 +121,15 @@ pub(crate) fn make_copies<B: Bins + Drop>(
     ensures same { (seat.new.table_id ≡ seat.old.table_id) × (seat.new.id ≡ seat.old.id) }
     ensures ok { OnOk result ((there : Table) × (Leaves table.now.table_id.slots stripe (seen_of seat.old.me.0 stripe) there
         × Lets (λ actions. actions ≡ scanned (map.entries there) ∷ []) table.now.table_id.slots stripe seat.old.me seat.new.me
-        × AddsCopies there list.old.items list.new.items × (length (map.entries there) < 2 ^ 57))) }
+        × AddsCopies there (C.entries list.old) (C.entries list.new) × (length (map.entries there) < 2 ^ 57))) }
     ensures err { OnErr result
         (Lets (λ actions. actions ≡ []) table.now.table_id.slots stripe seat.old.me seat.new.me
-        × (list.new.items ≡ list.old.items)) }
+        × (C.entries list.new ≡ C.entries list.old)) }
 {
     let Some(bins) = seat.slot_mut(table, stripe) else {
         unreachable!()
     };
-    match bins.copy_into(list) {
+    match list.add_from(bins) {
         Ok(()) => {
             let found = Snapshot::of(&*bins);
             let_go::<B, _, Scanning>(table, seat, stripe, &found);

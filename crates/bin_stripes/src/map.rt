@@ -16,7 +16,7 @@ use crate::seats::{try_call, try_replace, try_scan};
 use crate::steps::take_stripe;
 use atomic_methods::{Call, HashedCall, Reply, ReplyKind};
 use atomic_table::Table;
-use bins::{Counts, HashedBins};
+use bins::{Counts, EntryColumns, HashedBins};
 use bpf_model::{Key, NoMemory, Value};
 use std::alloc::Global;
 use std::marker::Model;
@@ -178,27 +178,27 @@ impl StripedMap {
         answer
     }
 
-    /// Adds copies of the entries of one stripe, which is below `stripes()`, to the list, in an order of their own: a scan
-    /// whose entries are not sorted. `NoMemory` where a request for memory was refused; nothing was made then, and the list
-    /// is as before. Waits until the stripe is free.
+    /// Adds copies of the entries of one stripe, which is below `stripes()`, to the columns, in an order of their own: a scan
+    /// whose entries are not sorted, and that writes no more bytes than they have. `NoMemory` where a request for memory was
+    /// refused; nothing was made then, and the columns are as before. Waits until the stripe is free.
     pub fn copy_stripe<R: Wait>(
         &self,
         rt: &R,
         pass: &mut Pass,
         stripe: u64,
-        list: &mut Vec<(Key, Value)>,
+        columns: &mut EntryColumns,
     ) -> Result<(), NoMemory>
         requires map { pass.old.map ≡ self.now }
         requires stripe { stripe < stripes_of self.now }
         ensures same { ServesSameMap pass.old pass.new }
-        ensures ok { OnOk result (CopiesStripe pass.old stripe list.old.items list.new.items pass.new) }
-        ensures err { OnErr result (Makes pass.old stripe [] pass.new × (list.new.items ≡ list.old.items)) }
+        ensures ok { OnOk result (CopiesStripe pass.old stripe columns.old columns.new pass.new) }
+        ensures err { OnErr result (Makes pass.old stripe [] pass.new × (columns.new ≡ columns.old)) }
     {
         let slot = stripe as usize;
         let table = &self.table.shared;
         let mut seat = pass.known.take();
         take_stripe(rt, table, &mut seat, slot);
-        let answer = make_copies(table, &mut seat, slot, list);
+        let answer = make_copies(table, &mut seat, slot, columns);
         pass.known.put(seat);
         answer
     }

@@ -2,11 +2,13 @@
 ghost use Rattle.std.specs.Prelude.{◌≡◌, ◌<◌, ◌^◌, ◌++◌, length, OnOk, OnErr};
 ghost use Rattle.std.specs.FinMap as map;
 ghost use Rattle.bins.specs.Columns.{string_at};
-ghost use Rattle.bins.specs.Copies.{AreCopies};
+ghost use Rattle.bins.specs.Copies.{AddsCopies, AreCopies};
 ghost use Rattle.bins.specs.Entries.{entries_in};
 ghost use Rattle.bins.specs.Table.{Table};
 
+use crate::bins::Bins;
 use crate::column::Column;
+use crate::entry_columns::EntryColumns;
 use crate::hashes::HashedKey;
 use bpf_model::limits::{KEY_BYTES, VALUE_BYTES};
 use bpf_model::{Key, NoMemory, Value};
@@ -71,6 +73,38 @@ pub(crate) fn add_paired(
         list.push_reserved(entry_at(keys, values, position));
     }
     Ok(())
+}
+
+/// What copies of a table's entries are added to.
+pub trait CopyList {
+    ghost use Rattle.std.specs.Prelude.{List};
+    ghost use Rattle.bins.specs.Table.{Entry};
+
+    /// The entries that it holds.
+    ghost entries: { Self → List Entry };
+
+    /// Adds copies of all entries of the bins, in an order of their own. Asks for memory where there is no room for them;
+    /// `NoMemory` where that was refused, and the list is as before.
+    fn add_from<B: Bins>(&mut self, bins: &B) -> Result<(), NoMemory>
+        ensures ok { OnOk result (AddsCopies (B.table bins.now) (entries self.old) (entries self.new)) }
+        ensures err { OnErr result (entries self.new ≡ entries self.old) }
+        ensures bounded { length (map.entries (B.table bins.now)) < 2 ^ 57 };
+}
+
+impl CopyList for Vec<(Key, Value)> {
+    ghost entries = { λ list. list.items };
+
+    fn add_from<B: Bins>(&mut self, bins: &B) -> Result<(), NoMemory> {
+        bins.copy_into(self)
+    }
+}
+
+impl CopyList for EntryColumns {
+    ghost entries = { λ columns. columns };
+
+    fn add_from<B: Bins>(&mut self, bins: &B) -> Result<(), NoMemory> {
+        bins.copy_apart(self)
+    }
 }
 
 /// Puts the entries of a table in key order. Takes no memory.

@@ -26,7 +26,7 @@ mod rooms;
 mod tree;
 
 pub use bins::Bins;
-pub use copies::sort_entries;
+pub use copies::{CopyList, sort_entries};
 pub use counts::Counts;
 pub use entry_columns::EntryColumns;
 pub use hashed_bins::HashedBins;

@@ -11,7 +11,8 @@ use Rattle.bin_stripes.specs.Invoked.{AreOf}
 use Rattle.bin_stripes.specs.Passes.{PassState}
 use Rattle.bpf_model.specs.declared.memory.NoMemory.{NoMemory}
 use Rattle.bulk_walks.specs.Walks.{IsTurn, Walked, Each, IsScan}
-use Rattle.bulk_walks.specs.Turns.{turn_sum, FindsInOrder, EachFinds, FindsAll, found_of, comes_before}
+use Rattle.bins.specs.Copies.{comes_before}
+use Rattle.bulk_walks.specs.Turns.{turn_sum, FindsInOrder, EachFinds, FindsAll, found_of}
 use Rattle.bulk_walks.proofs.Sums.{turn_sum-same, sums_of_turns, sum_by_mapped}
 use Rattle.bulk_walks.proofs.TeamLemmas.{Turn, together, all_walked, head_of}
 

@@ -16,7 +16,8 @@ use Rattle.atomic_methods.specs.declared.walk_reply.WalkKind.TheVariants.{ForEac
 use Rattle.atomic_methods.specs.declared.walk_reply.WalkReply.{WalkReply}
 use Rattle.atomic_methods.specs.Replies.{present, IsReply}
 use Rattle.bulk_walks.specs.Walks.{IsWalk, Walks}
-use Rattle.bulk_walks.specs.Turns.{FindsAll, AreReplies, comes_before}
+use Rattle.bins.specs.Copies.{comes_before}
+use Rattle.bulk_walks.specs.Turns.{FindsAll, AreReplies}
 use Rattle.bulk_walks.specs.Merges.{IsMerge}
 use Rattle.bins.proofs.SameEntries.{rises, at_key}
 use Rattle.bulk_walks.proofs.Order.{once_in_all}

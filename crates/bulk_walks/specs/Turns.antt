@@ -1,13 +1,13 @@
 -- What each worker of a walk answers.
-use Rattle.std.specs.Prelude.{◌≡◌, ◌<◌, ◌≤◌, ◌^◌, ◌+◌, ◌%◌, ◌==◌, if◌then◌else◌, ℕ, ⊤, zero, suc, All, Bool, List, [], ◌∷◌, Option, Result, Ok, Err, IfOk, length, map, sum_by, slice_index_or}
-use Rattle.std.specs.Ordering.{is_lt}
+use Rattle.std.specs.Prelude.{◌≡◌, ◌<◌, ◌≤◌, ◌^◌, ◌+◌, ◌%◌, ◌==◌, if◌then◌else◌, ℕ, ⊤, zero, suc, All, List, [], ◌∷◌, Option, Result, Ok, Err, IfOk, length, map, sum_by, slice_index_or}
 use Rattle.std.specs.List.Sorted.{IsSortedBy}
 use Rattle.std.proofs.Common.{Vec, Global}
 use Rattle.stripe_rule.specs.declared.view.View.{View}
 use Rattle.verifier.specs.Checked.{Checked}
 use Rattle.bpf_model.specs.declared.memory.NoMemory.{NoMemory}
 use Rattle.bins.specs.declared.counts.Counts.{Counts}
-use Rattle.bins.specs.Table.{Entry, by_bytes}
+use Rattle.bins.specs.Copies.{comes_before}
+use Rattle.bins.specs.Table.{Entry}
 use Rattle.bin_stripes.specs.declared.ghost_action.GhostAction.{GhostAction}
 use Rattle.bin_stripes.specs.Invoked.{AreOf}
 use Rattle.bin_stripes.specs.Passes.{PassState}
@@ -41,10 +41,6 @@ pub record WorkerFinds (all n workers worker : ℕ) (v w : View GhostAction) (fo
   pub stripes : (k : ℕ) → IsTurn n workers worker k → AreOf all k (scans k)
   pub bounded : (k : ℕ) → IsTurn n workers worker k → length (scans k) < 2 ^ 57
   pub sum : (weight : Entry → ℕ) → sum_by weight found ≡ turn_sum workers worker (λ k. sum_by weight (scans k)) n
-
--- by their keys
-abbrev pub comes_before : Entry → Entry → Bool
-comes_before x y = is_lt (by_bytes x.0 y.0)
 
 -- what a worker found on all of its stripes, sorted
 pub record FindsInOrder (n workers worker : ℕ) (v w : View GhostAction) (found : List Entry) : Type 0 where

@@ -1,14 +1,13 @@
 //! The entries of all stripes.
 ghost use Rattle.std.specs.Prelude.{◌≡◌, ◌<◌, All, IfOk, OnOk, IsOk, MatchResult, length, map, vec_len};
-ghost use Rattle.std.specs.List.Sorted.{IsPermutation, IsSortedBy};
 ghost use Rattle.bin_stripes.specs.Passes.{stripes_of};
 ghost use Rattle.bulk_walks.specs.Walks.{Walked, AllWalked, MayScan};
-ghost use Rattle.bulk_walks.specs.Turns.{WorkerFinds, FindsInOrder, FindsAll, found_of, items_in, comes_before};
+ghost use Rattle.bulk_walks.specs.Turns.{WorkerFinds, FindsInOrder, FindsAll, found_of, items_in};
 
 use crate::workers::work;
 use atomic_methods::WalkReply;
 use bin_stripes::{Gate, Pass, Place, StripedMap};
-use bins::Counts;
+use bins::{Counts, EntryColumns};
 use bpf_model::{Key, NoMemory, Value};
 use std::alloc::Global;
 use std::sync::Wait;
@@ -23,32 +22,24 @@ fn scan_turns<R: Wait, G: Gate>(
     worker: u64,
     workers: u64,
     pass: &mut Pass,
-) -> Result<Vec<(Key, Value)>, NoMemory>
+) -> Result<EntryColumns, NoMemory>
     requires map { pass.old.map ≡ map.now }
     requires worker { worker < workers }
     ensures map { pass.new.map ≡ pass.old.map }
-    ensures done { IfOk result (λ found. WorkerFinds (stripes_of map.now) (stripes_of map.now) workers worker pass.old.view pass.new.view found.items) }
+    ensures done { IfOk result (λ found. WorkerFinds (stripes_of map.now) (stripes_of map.now) workers worker pass.old.view pass.new.view found) }
     ensures part { Walked (stripes_of map.now) workers worker MayScan pass.old.view pass.new.view }
 {
     let stripes = map.stripes();
     if worker < stripes {
         gate.pass(Place::WalkStart, worker as u32);
     }
-    let mut found = Vec::new(alloc);
+    let mut found = EntryColumns::new(alloc);
     for stripe in 0..stripes {
         if stripe % workers == worker {
             map.copy_stripe(rt, pass, stripe, &mut found)?;
         }
     }
     Ok(found)
-}
-
-// Puts the entries in key order.
-fn sort_by_key(entries: &mut Vec<(Key, Value)>)
-    ensures moved { IsPermutation entries.old.items entries.new.items }
-    ensures order { IsSortedBy comes_before entries.new.items }
-{
-    entries.sort_unstable_by(|a, b| a.0.cmp(&b.0));
 }
 
 // The entries of the worker's stripes, in key order.
@@ -67,9 +58,9 @@ fn sorted_turns<R: Wait, G: Gate>(
     ensures done { IfOk result (λ found. FindsInOrder (stripes_of map.now) workers worker pass.old.view pass.new.view found.items) }
     ensures part { Walked (stripes_of map.now) workers worker MayScan pass.old.view pass.new.view }
 {
-    let mut found = scan_turns(rt, alloc, map, gate, worker, workers, pass)?;
-    sort_by_key(&mut found);
-    Ok(found)
+    let found = scan_turns(rt, alloc, map, gate, worker, workers, pass)?;
+    let sorted = found.sorted(alloc)?;
+    Ok(sorted)
 }
 
 // A reply for each worker's entries, on which no program has run: they are its items.

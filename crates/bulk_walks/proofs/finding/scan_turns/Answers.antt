@@ -10,7 +10,7 @@ use Rattle.bulk_walks.proofs.finding.scan_turns.Goals.{then-stripe-workers+in_ok
 pub loop-stripe-init : goal.loop-stripe-init
 loop-stripe-init g c = record {
   map = refl;
-  done = subst (λ (es : List Entry). WorkerFinds (stripes_of c.args.map.now) 0 c.args.workers c.args.worker c.args.pass.now.view c.args.pass.now.view es) (sym c.new-found.ensures.items) (finds_none _ c.args.workers c.args.worker c.args.pass.now.view);
+  done = subst (λ (es : List Entry). WorkerFinds (stripes_of c.args.map.now) 0 c.args.workers c.args.worker c.args.pass.now.view c.args.pass.now.view es) (sym c.new-found.ensures) (finds_none _ c.args.workers c.args.worker c.args.pass.now.view);
 }
 
 pub returns-in_err-copy_stripe-clause-part : goal.returns-in_err-copy_stripe-clause-part
