@@ -1,7 +1,7 @@
 //! Puts, changes, removals and replacements in both bodies of the trait, and what is copied out of them.
 ghost use Rattle.std.specs.Prelude.{◌≤◌, ◌<◌};
 
-use bins::{Bins, HashedBins, HashedKey, ListBins, hash_of};
+use bins::{Bins, CopyList, EntryColumns, HashedBins, HashedKey, ListBins, hash_of};
 use bpf_model::{Key, NoMemory, Value};
 use std::alloc::Global;
 use std::test::Fail;
@@ -127,6 +127,26 @@ fn both_bodies_are_scanned_alike(rt: HostRuntime) -> Result<(), Fail> {
     for (one, other) in listed.iter().zip(&hashed) {
         assert_eq!(rt; one, other);
     }
+    Ok(())
+}
+
+// Copies in columns of the entries of bins, twice over, and the entries; one key and one value are long.
+fn copied_twice<B: Bins + Drop>(alloc: Global) -> Result<bool, Fail> {
+    let mut bins = B::open(alloc, 4)?;
+    fill(&mut bins, 40)?;
+    put(&mut bins, &[1; 64], &[2; 200])?;
+    let mut columns = EntryColumns::new(alloc);
+    columns.add_from(&bins)?;
+    let mut same = columns.sorted(alloc)? == bins.entries(alloc)?;
+    columns.add_from(&bins)?;
+    same &= columns.len() == 82;
+    Ok(same)
+}
+
+#[test]
+fn copies_in_columns_are_the_entries(rt: HostRuntime) -> Result<(), Fail> {
+    assert!(rt; copied_twice::<ListBins>(rt.alloc())?);
+    assert!(rt; copied_twice::<HashedBins>(rt.alloc())?);
     Ok(())
 }
 
