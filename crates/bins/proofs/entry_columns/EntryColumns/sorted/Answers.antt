@@ -1,4 +1,4 @@
-use Rattle.std.proofs.Common.{◌≡◌, ◌++◌, [], List, ℕ, map, sym, ap, subst, ◌∙◌}
+use Rattle.std.proofs.Common.{◌++◌, List, map, sym, ap, subst, ◌∙◌}
 use Rattle.std.specs.List.Sorted.{IsPermutation, IsSortedBy}
 use Rattle.bins.specs.Table.{Entry}
 use Rattle.bins.specs.Copies.{comes_before}
