@@ -97,6 +97,8 @@ fn kept(kind: WalkKind, entries: &mut Vec<(Key, Value)>, given: usize, place: us
     if !wanted {
         return given;
     }
-    entries.swap(given, place);
+    if given != place {
+        entries.swap(given, place);
+    }
     given + 1
 }
