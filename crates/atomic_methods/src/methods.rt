@@ -153,7 +153,7 @@ fn apply_to_absent<B: Bins>(
     let (enters, kind) = new_value(call.call(), workspace, bytes);
     if enters {
         let key = call.key();
-        bins.put(key, bytes)?;
+        bins.add(key, bytes)?;
     }
     Ok(kind)
 }

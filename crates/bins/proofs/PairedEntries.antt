@@ -1,5 +1,5 @@
 -- Entries whose keys stand in one list and whose values stand in another, position by position.
-use Rattle.std.proofs.Common.{◌≡◌, ◌≢◌, ℕ, zero, suc, ◌+◌, ◌-◌, ◌<◌, List, [], ◌∷◌, ◌++◌, length, get_or, set, take, refl, sym, ap, subst, ◌∙◌, arith, HoldsAt, Some}
+use Rattle.std.proofs.Common.{◌≡◌, ◌≢◌, ℕ, zero, suc, ◌+◌, ◌-◌, ◌<◌, List, [], ◌∷◌, ◌++◌, length, get_or, set, take, refl, sym, ap, subst, ◌∙◌, arith, HoldsAt, Some, None}
 use Rattle.std.specs.List.{AllWithin, swap_remove}
 use Rattle.std.specs.FinMap as map
 use Rattle.std.proofs.lemmas.List.{get_or_default, length-set, length_push, append_assoc, take_more}
@@ -76,6 +76,13 @@ module _ (ks vs : List (List ℕ)) (same : length ks ≡ length vs) where
   found_here k i distinct lt at =
       get_here es i k nobody distinct (omega (arith, lt, paired-length ks vs same)) (entry_found k i lt at)
       ∙ ap (λ (e : Entry). Some e.1) (paired-at ks vs i nobody same lt)
+
+  -- a key without a value stands nowhere
+  pub none_within : (k : List ℕ) → Distinct es → map.get (table_of es) k ≡ None → AllWithin (λ (x : List ℕ). x ≢ k) ks 0 (length ks)
+  none_within k distinct none j d low high is =
+      let at : HoldsAt (λ (x : List ℕ). x ≡ k) ks j = λ e. get_or_default ks j e d high ∙ is in
+      let found = found_here k j distinct high at in
+      cc
 
   -- a value is written over
   module _ (i : ℕ) (lt : i < length ks) (v : List ℕ) (new : List (List ℕ)) (is : new ≡ set vs i v) where

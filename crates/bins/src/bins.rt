@@ -35,6 +35,13 @@ pub trait Bins {
         ensures err { OnErr result (table self.new ≡ table self.old) }
         ensures memory { OnErr result (map.get (table self.old) key.now ≡ None) };
 
+    /// Adds a key that is absent, with this value: as `put`, without a search. `NoMemory` where the room for it was refused; the
+    /// entries are as before.
+    fn add(&mut self, key: &HashedKey<'_>, value: &Value) -> Result<(), NoMemory>
+        requires absent { map.get (table self.old) key.now ≡ None }
+        ensures ok { OnOk result (table self.new ≡ map.insert (table self.old) key.now value.now) }
+        ensures err { OnErr result (table self.new ≡ table self.old) };
+
     /// Removes a key, and gives the value that it had. Takes no memory.
     fn remove(&mut self, key: &HashedKey<'_>) -> Option<Value>
         ensures value { result ≡ map.get (table self.old) key.now }

@@ -90,16 +90,18 @@ impl Bins for HashedBins {
                 self.values.set(position, value.as_slice());
                 Ok(())
             }
-            None => {
-                self.keys.reserve(1)?;
-                self.values.reserve(1)?;
-                self.finder.push(&self.keys, key)?;
-                self.keys.push_reserved(key.key().as_slice());
-                self.values.push_reserved(value.as_slice());
-                self.finder.settle(&self.keys);
-                Ok(())
-            }
+            None => self.add(key, value),
         }
+    }
+
+    fn add(&mut self, key: &HashedKey<'_>, value: &Value) -> Result<(), NoMemory> {
+        self.keys.reserve(1)?;
+        self.values.reserve(1)?;
+        self.finder.push(&self.keys, key)?;
+        self.keys.push_reserved(key.key().as_slice());
+        self.values.push_reserved(value.as_slice());
+        self.finder.settle(&self.keys);
+        Ok(())
     }
 
     #[inline(always)]

@@ -102,6 +102,10 @@ impl Bins for ListBins {
         }
     }
 
+    fn add(&mut self, key: &HashedKey<'_>, value: &Value) -> Result<(), NoMemory> {
+        self.put(key, value)
+    }
+
     fn remove(&mut self, key: &HashedKey<'_>) -> Option<Value> {
         match position_of(&self.entries, key) {
             Ok(position) => Some(self.entries.remove(position).1),
