@@ -32,8 +32,8 @@ pub fn apply<B: Bins>(bins: &mut B, call: &Call) -> Result<Reply, NoMemory>
 }
 
 /// Makes one call as `apply` does. Leaves the bytes of the replied value in `bytes`, so that no
-/// value is moved, and works in `workspace`, so that none is cleared; what both held is lost. A read makes one search and
-/// one copy; a new key takes one search more. A program runs before room is asked for.
+/// value is moved, and works in `workspace`, so that none is cleared; what both held is lost. Hashed bins make
+/// one search for a call, and what is replied is copied once. A program runs before room is asked for.
 pub fn apply_into<B: Bins>(
     bins: &mut B,
     call: &HashedCall<'_>,
