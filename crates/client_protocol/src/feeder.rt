@@ -15,8 +15,11 @@ use bytes::BytesMut;
 use std::alloc::Global;
 use std::marker::Model;
 
-// Room for as many requests as end in 1,024 bytes, of 5 bytes each, and one that began before them.
-const ROOM: usize = 205;
+// The shortest frame has a length and one byte.
+const LEAST_FRAME: usize = 5;
+
+// For so many requests there is room from the first piece on: those that end in 1,024 bytes, and one that began before them.
+const LEAST_ROOM: usize = 205;
 
 /// What a piece gave.
 #[derive(Drop)]
@@ -202,8 +205,9 @@ impl Feeder {
     }
 
     /// Reads a piece as `feed` does, and leaves the requests in this list, so that its room serves again. What the list held
-    /// is lost. Answers the fault, if any. `NoMemory` as `feed`. The first piece asks for room for 205 requests, so that pieces
-    /// of up to 1,024 bytes never ask for more: memory that others fill later refuses none of them.
+    /// is lost. Answers the fault, if any. `NoMemory` as `feed`. Room is asked for as many requests as so long a piece can bring, and
+    /// for 205 at least. So no piece asks for more that is no longer than one before it, nor one of up to 1,024 bytes: memory that
+    /// others fill later refuses none of them.
     #[tactic(auto, using(crate::proofs::HeldLaws::sound_after))]
     pub fn feed_into(
         &mut self,
@@ -220,7 +224,7 @@ impl Feeder {
         if let Some(fault) = self.fault {
             return Ok(Some(fault));
         }
-        requests.try_reserve(ROOM)?;
+        requests.try_reserve(LEAST_ROOM.max(piece.len() / LEAST_FRAME + 1))?;
         let taken = read_on(alloc, self.hello, requests, &mut self.rest, piece)?;
         self.hello = taken.hello;
         self.fault = taken.fault;
