@@ -179,8 +179,8 @@ impl StripedMap {
     }
 
     /// Adds copies of the entries of one stripe, which is below `stripes()`, to the columns, in an order of their own: a scan
-    /// whose entries are not sorted, and that writes no more bytes than they have. `NoMemory` where a request for memory was
-    /// refused; nothing was made then, and the columns are as before. Waits until the stripe is free.
+    /// whose entries are not sorted. `NoMemory` where a request for memory was refused; nothing was made then, and the columns are
+    /// as before. Waits until the stripe is free.
     pub fn copy_stripe<R: Wait>(
         &self,
         rt: &R,

@@ -17,30 +17,30 @@ use std::alloc::Global;
 use std::collections::BTreeMap;
 use std::marker::Model;
 
-/// The position of each key, and what is told in place of the index that was there before.
+/// The position of each key, and the size that an index of these keys would have.
 #[derive(Drop)]
 pub(crate) struct Tree {
     positions: BTreeMap<Key, usize>,
-    told: Told,
+    size: IndexSize,
 }
 
 /// How many bins an index of these keys might have, and the number of stripes of the table.
 #[derive(Drop)]
-pub(crate) struct Told {
+pub(crate) struct IndexSize {
     bins: u64,
     stripes: u64,
 }
 
-impl Model for Told {
+impl Model for IndexSize {
     ghost use Rattle.std.specs.Int.{IsPowerOfTwo};
     ghost use Rattle.bins.specs.Chains.{IsBinCount};
     ghost use Rattle.bins.specs.Trees.{TreeNumbers};
 
     ghost Value = { TreeNumbers };
 
-    ghost view = { λ told. record { bins = told.bins; stripes = told.stripes } };
+    ghost view = { λ size. record { bins = size.bins; stripes = size.stripes } };
 
-    ghost invariant = { λ told. IsBinCount told.bins × IsPowerOfTwo told.stripes };
+    ghost invariant = { λ size. IsBinCount size.bins × IsPowerOfTwo size.stripes };
 }
 
 // As many bins as before, or twice as many where so many entries are more than twice the bins.
@@ -55,13 +55,13 @@ fn bins_for(bins: u64, entries: usize) -> u64
     }
 }
 
-impl Told {
-    /// What an index told.
-    pub(crate) fn of(index: &Index) -> Told
+impl IndexSize {
+    /// That of an index.
+    pub(crate) fn of(index: &Index) -> IndexSize
         ensures stripes { result.stripes ≡ index.now.stripes }
         ensures bins { result.bins ≡ index.now.bins }
     {
-        Told {
+        IndexSize {
             bins: index.bins(),
             stripes: index.stripes(),
         }
@@ -130,28 +130,28 @@ impl Tree {
     pub(crate) fn of(index: &Index, keys: &Column<KEY_BYTES>) -> Result<Tree, NoMemory>
         requires { StandOnce keys.now.items }
         ensures locates { IfOk result (λ tree. Locates tree.positions keys.now.items) }
-        ensures stripes { IfOk result (λ tree. tree.told.stripes ≡ index.now.stripes) }
+        ensures stripes { IfOk result (λ tree. tree.size.stripes ≡ index.now.stripes) }
     {
         Ok(Tree {
             positions: positions_of(index.alloc(), keys)?,
-            told: Told::of(index),
+            size: IndexSize::of(index),
         })
     }
 
-    /// How many bins are told. Takes no memory.
+    /// How many bins an index would have. Takes no memory.
     pub(crate) fn bins(&self) -> u64
-        ensures value { result ≡ self.now.told.bins }
+        ensures value { result ≡ self.now.size.bins }
         ensures count { IsBinCount result }
     {
-        self.told.bins()
+        self.size.bins()
     }
 
     /// The number of stripes of the table. Takes no memory.
     pub(crate) fn stripes(&self) -> u64
-        ensures value { result ≡ self.now.told.stripes }
+        ensures value { result ≡ self.now.size.stripes }
         ensures power { IsPowerOfTwo result }
     {
-        self.told.stripes()
+        self.size.stripes()
     }
 
     /// The position of a key. Takes no memory.
@@ -169,11 +169,11 @@ impl Tree {
         requires new { AllWithin (λ k. k ≢ key.now) keys.now.items 0 (length keys.now.items) }
         ensures ok { OnOk result (Locates self.new.positions (keys.now.items ++ key.now ∷ [])) }
         ensures err { OnErr result (Locates self.new.positions keys.now.items) }
-        ensures stripes { self.new.told.stripes ≡ self.old.told.stripes }
+        ensures stripes { self.new.size.stripes ≡ self.old.size.stripes }
     {
         let position = keys.len();
         add_position(&mut self.positions, key.copied(), position)?;
-        self.told.count_entries(position + 1);
+        self.size.count_entries(position + 1);
         Ok(())
     }
 
@@ -183,7 +183,7 @@ impl Tree {
         requires locates { Locates self.old.positions keys.now.items }
         requires range { position < length keys.now.items }
         ensures locates { Locates self.new.positions (swap_remove keys.now.items position []) }
-        ensures stripes { self.new.told.stripes ≡ self.old.told.stripes }
+        ensures stripes { self.new.size.stripes ≡ self.old.size.stripes }
     {
         let key = key_at(keys, position);
         let last = key_at(keys, keys.len() - 1);
