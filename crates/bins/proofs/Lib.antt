@@ -2,6 +2,7 @@ pub mod SortedEntries
 pub mod MapEdits
 pub mod DistinctEntries
 pub mod PairedEntries
+pub mod AddedCopies
 pub mod OrderedEntries
 pub mod PlaceLemmas
 pub mod PlaceWrites

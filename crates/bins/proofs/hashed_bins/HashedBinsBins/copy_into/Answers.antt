@@ -1,28 +1,14 @@
-use Rattle.std.proofs.Common.{arith, length, sym, ap, ◌∙◌}
-use Rattle.std.specs.Prelude.{sum_by}
-use Rattle.std.specs.FinMap as map
-use Rattle.std.specs.FinMap.{len-entries}
-use Rattle.bins.specs.Table.{Table}
+use Rattle.std.proofs.Common.{arith}
 use Rattle.bins.specs.Copies.{AddsCopies}
-use Rattle.bins.specs.Entries.{entries_in}
 use Rattle.bins.proofs.SortedCopies.{on_ok_with}
-use Rattle.bins.proofs.DistinctEntries.{table_of}
-use Rattle.bins.proofs.EntryCounts.{weighed_in_table, len-table}
+use Rattle.bins.proofs.AddedCopies.{distinct_added, distinct_many}
 use Rattle.bins.proofs.PairedEntries.{paired-length}
 use Rattle.bins.proofs.hashed_bins.HashedBinsBins.copy_into.Goals as goal
 
 -- the entries, which the table has
 pub returns-clause-ok : goal.returns-clause-ok
-returns-clause-ok c = on_ok_with {Q = AddsCopies c.args.self.now c.args.list.now.items c.add_paired.new.list.items} _ c.add_paired.ensures.ok (λ added.
-    let entries = entries_in c.self.inside.keys.items c.self.inside.values.items in record {
-      copies = entries;
-      are = λ weight. sym (weighed_in_table weight entries c.self.invariant.1) ∙ ap (λ (t : Table). sum_by weight (map.entries t)) c.self.view_is;
-      added = added;
-    })
+returns-clause-ok c = on_ok_with {Q = AddsCopies c.args.self.now c.args.list.now.items c.add_paired.new.list.items} _ c.add_paired.ensures.ok (distinct_added _ c.self.invariant.1 _ c.self.view_is _ _)
 
 -- the table has as many entries as there are keys
 pub returns-clause-bounded : goal.returns-clause-bounded
-returns-clause-bounded c =
-    let entries = entries_in c.self.inside.keys.items c.self.inside.values.items in
-    let many = sym (len-table entries c.self.invariant.1) ∙ len-entries (table_of entries) ∙ ap (λ (t : Table). length (map.entries t)) c.self.view_is in
-    omega (arith, many, c.add_paired.ensures.bounded, paired-length _ _ c.self.invariant.2)
+returns-clause-bounded c = omega (arith, distinct_many _ c.self.invariant.1 _ c.self.view_is, c.add_paired.ensures.bounded, paired-length _ _ c.self.invariant.2)
