@@ -10,9 +10,9 @@ use arrayvec::ArrayVec;
 use bpf_model::{InputPart, Key, Value};
 
 /// The bytes of the longest frame of a response, an `Item`.
-pub const FRAME_BYTES: usize = 328;
+pub const FRAME_BYTES: usize = 1096;
 
-const BODY_BYTES: usize = 324;
+const BODY_BYTES: usize = 1092;
 
 /// A response, one frame. A walk has several: its items in order, and then one `End`.
 #[derive(Debug, PartialEq, Eq, Drop)]
