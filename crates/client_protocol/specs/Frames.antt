@@ -69,6 +69,10 @@ pub data Held : Type 0 where
   open_at : Option Version → List ℕ → Held
   failed : ProtocolFault → Held
 
+abbrev pub held_hello : Held → Option Version
+held_hello (open_at hello rest) = hello
+held_hello (failed fault) = None
+
 abbrev pub held_fault : Held → Option ProtocolFault
 held_fault (open_at hello rest) = None
 held_fault (failed fault) = Some fault

@@ -2,7 +2,7 @@
 ghost use Rattle.std.specs.Prelude.{◌≡◌, ◌<◌, ◌++◌, List, [], length, take, IfOk, IfErr, IfSome, IfNone, IsOk, IsSome, OnOk, OnErr, None};
 ghost use Rattle.client_protocol.specs.declared.request.Request.{Request as TheRequest};
 ghost use Rattle.client_protocol.specs.Reading.{IfFault};
-ghost use Rattle.client_protocol.specs.Frames.{Frames, Feeds, IsRequest, IsBeginning, IsFaulty, frame_of, held_of, held_fault, is_inside};
+ghost use Rattle.client_protocol.specs.Frames.{Frames, Feeds, IsRequest, IsBeginning, IsFaulty, frame_of, held_of, held_hello, held_fault, is_inside};
 ghost use Rattle.client_protocol.specs.Frames.Held.{open_at};
 
 use crate::fault::ProtocolFault;
@@ -229,6 +229,16 @@ impl Feeder {
         self.hello = taken.hello;
         self.fault = taken.fault;
         Ok(taken.fault)
+    }
+
+    /// The Hello that was taken, if any; none behind a fault.
+    pub fn hello(&self) -> Option<Version>
+        ensures { result ≡ held_hello self.now }
+    {
+        if self.fault.is_some() {
+            return None;
+        }
+        self.hello
     }
 
     /// Whether the stream so far ends inside a frame.

@@ -37,6 +37,7 @@ pub fn lacking(hello: Option<Version>, bytes: &[u8]) -> usize
     }
 }
 
+/// The Hello that was taken, behind this request.
 pub fn hello_after(hello: Option<Version>, request: &Request) -> Option<Version>
     ensures { result ≡ hello_after hello request.now }
 {

@@ -23,6 +23,7 @@ mod response;
 
 pub use fault::ProtocolFault;
 pub use feeder::{Fed, Feeder};
+pub use frames::hello_after;
 pub use limits::{Limits, Version};
 pub use request::Request;
 pub use response::{FRAME_BYTES, Response, value_head};

@@ -7,6 +7,7 @@ ghost use Rattle.client_protocol.specs.Bodies.{version_number, limits_after};
 #[derive(Clone, Copy, Debug, PartialEq, Eq)]
 pub enum Version {
     One,
+    Two,
 }
 
 impl Version {
@@ -17,6 +18,7 @@ impl Version {
     {
         match number {
             1 => Some(Version::One),
+            2 => Some(Version::Two),
             _ => None,
         }
     }
@@ -27,6 +29,7 @@ impl Version {
     {
         match self {
             Version::One => 1,
+            Version::Two => 2,
         }
     }
 }
@@ -47,6 +50,10 @@ impl Limits {
             None | Some(Version::One) => Limits {
                 body: 8192,
                 value: 256,
+            },
+            Some(Version::Two) => Limits {
+                body: 32_777,
+                value: 1024,
             },
         }
     }

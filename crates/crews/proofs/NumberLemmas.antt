@@ -1,5 +1,5 @@
 -- The numbers that a crew's passes carry stay as they are.
-use Rattle.std.proofs.Common.{◌≡◌, ◌⊎◌, ℕ, zero, suc, ◌<◌, List, [], ◌∷◌, length, slice_index_or, inl, inr, refl, sym, ap, subst, ◌∙◌, arith}
+use Rattle.std.proofs.Common.{◌≡◌, ◌⊎◌, ℕ, zero, suc, ◌<◌, List, [], ◌∷◌, length, slice_index_or, Option, inl, inr, refl, sym, ap, subst, ◌∙◌, arith}
 use Rattle.stripe_rule.specs.declared.view.View.{View}
 use Rattle.atomic_methods.specs.Invocations.{Invocation}
 use Rattle.atomic_methods.specs.declared.reply.Reply.{Reply}
@@ -7,6 +7,7 @@ use Rattle.bin_stripes.specs.Invoked.{Calls, RefusesCall}
 use Rattle.bin_stripes.specs.declared.ghost_action.GhostAction.{GhostAction}
 use Rattle.bin_stripes.specs.Passes.{PassState}
 use Rattle.bulk_walks.specs.Walks.{AllWalked, Events}
+use Rattle.client_protocol.specs.declared.limits.Version.{Version}
 use Rattle.client_protocol.specs.declared.request.Request.{Request}
 use Rattle.client_protocol.specs.declared.response.Response.{Response}
 use Rattle.client_protocol.specs.declared.response.Response.TheVariants as tell
@@ -82,24 +83,24 @@ called_numbers : (old new : Station) (responses : List Response) (invocation : I
 called_numbers old new responses invocation (inl (reply, calls, is)) = calls.numbers
 called_numbers old new responses invocation (inr (refuses, is)) = refuses.nothing.numbers
 
-meets : (old : Station) (asks : Asked) (responses : List Response) (new : Station) → CrewMeets old asks responses new → SameNumbers old new
-meets old (greeting version) responses new m = once old new _ responses m
-meets old (registration sizes bytes) responses new (inl (token, admits, is, same)) = subst (λ (s : Station). SameNumbers old s) (sym same) (record { map = refl; pass = refl; team = refl })
-meets old (registration sizes bytes) responses new (inr (inl (response, refuses, m))) = once old new response responses m
-meets old (registration sizes bytes) responses new (inr (inr m)) = once old new _ responses m
-meets old (call invocation) responses new m = record { map = m.same.map; pass = called_numbers old new responses invocation m.made; team = ap team_numbers m.team }
-meets old (walk kind program arg) responses new (inl (reply, walks, is)) = team_walks old new _ (λ before after walked. walked_numbers _ _ before after walked.walked) walks
-meets old (walk kind program arg) responses new (inr (walks, is)) = team_walks old new _ (λ before after walked. walked_numbers _ _ before after walked) walks
-meets old (replacement program arg) responses new (inl (reply, walks, is)) = team_walks old new _ (λ before after walked. walked_numbers _ _ before after walked.walked) walks
-meets old (replacement program arg) responses new (inr (walks, is)) = team_walks old new _ (λ before after walked. ap team_numbers walked) walks
-meets old count responses new (inl (reply, walks, is)) = team_walks old new _ (λ before after walked. walked_numbers _ _ before after walked.walked) walks
-meets old count responses new (inr (walks, is)) = team_walks old new _ (λ before after walked. walked_numbers _ _ before after walked) walks
-meets old unknown responses new m = once old new _ responses m
+meets : (hello : Option Version) (old : Station) (asks : Asked) (responses : List Response) (new : Station) → CrewMeets hello old asks responses new → SameNumbers old new
+meets hello old (greeting version) responses new m = once old new _ responses m
+meets hello old (registration sizes bytes) responses new (inl (token, admits, is, same)) = subst (λ (s : Station). SameNumbers old s) (sym same) (record { map = refl; pass = refl; team = refl })
+meets hello old (registration sizes bytes) responses new (inr (inl (response, refuses, m))) = once old new response responses m
+meets hello old (registration sizes bytes) responses new (inr (inr m)) = once old new _ responses m
+meets hello old (call invocation) responses new m = record { map = m.same.map; pass = called_numbers old new responses invocation m.made; team = ap team_numbers m.team }
+meets hello old (walk kind program arg) responses new (inl (reply, walks, is)) = team_walks old new _ (λ before after walked. walked_numbers _ _ before after walked.walked) walks
+meets hello old (walk kind program arg) responses new (inr (walks, is)) = team_walks old new _ (λ before after walked. walked_numbers _ _ before after walked) walks
+meets hello old (replacement program arg) responses new (inl (reply, walks, is)) = team_walks old new _ (λ before after walked. walked_numbers _ _ before after walked.walked) walks
+meets hello old (replacement program arg) responses new (inr (walks, is)) = team_walks old new _ (λ before after walked. ap team_numbers walked) walks
+meets hello old count responses new (inl (reply, walks, is)) = team_walks old new _ (λ before after walked. walked_numbers _ _ before after walked.walked) walks
+meets hello old count responses new (inr (walks, is)) = team_walks old new _ (λ before after walked. walked_numbers _ _ before after walked) walks
+meets hello old unknown responses new m = once old new _ responses m
 
-step : (old : Station) (request : Request) (responses : List Response) (new : Station) → CrewServes old request responses new → SameNumbers old new
-step old request responses new serves = meets old (asked (λ _. serves.found) request) responses new serves.meets
+step : (hello : Option Version) (old : Station) (request : Request) (responses : List Response) (new : Station) → CrewServes hello old request responses new → SameNumbers old new
+step hello old request responses new serves = meets hello old (asked (λ _. serves.found) request) responses new serves.meets
 
 -- a session's passes carry the numbers that they carried
 pub ended_same : (old : Station) (end : SessionEnd) (read : List ℕ) (last : ℕ) (written : List ℕ) (new : Station) → Ended CrewServes old end read last written new → SameNumbers old new
 ended_same old end read last written new ended =
-    session_leads CrewServes (λ _ _ _ _ _. no_numbers) (λ a _ b. SameNumbers a b) stays (λ a b c _ _ one more. goes_on a b c one more) step old new read written last end ended
+    session_leads CrewServes (λ _ _ _ _ _ _. no_numbers) (λ a _ b. SameNumbers a b) stays (λ a b c _ _ one more. goes_on a b c one more) step old new read written last end ended

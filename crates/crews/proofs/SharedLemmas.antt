@@ -1,5 +1,5 @@
 -- What a session adds to what its pass made, and what two joined passes then have seen.
-use Rattle.std.proofs.Common.{◌≡◌, ◌≢◌, ◌⊎◌, ◌==◌, if◌then◌else◌, inl, inr, ℕ, ◌<◌, List, [], ◌∷◌, ◌++◌, Bool, true, false, refl, sym, ap, subst, ◌∙◌, append-nil, append_assoc, eq-eqb, ne_eqb}
+use Rattle.std.proofs.Common.{◌≡◌, ◌≢◌, ◌⊎◌, ◌==◌, if◌then◌else◌, inl, inr, ℕ, ◌<◌, List, [], ◌∷◌, ◌++◌, Bool, true, false, Option, refl, sym, ap, subst, ◌∙◌, append-nil, append_assoc, eq-eqb, ne_eqb}
 use Rattle.std.proofs.lemmas.Bool.{cases_eq}
 use Rattle.stripe_rule.specs.declared.view.Event.{Event}
 use Rattle.stripe_rule.specs.History.{made_by}
@@ -12,6 +12,7 @@ use Rattle.bin_stripes.specs.declared.ghost_action.GhostAction.{GhostAction}
 use Rattle.bin_stripes.specs.Invoked.{Calls, RefusesCall}
 use Rattle.bin_stripes.specs.Histories.{Sound}
 use Rattle.bin_stripes.specs.Passes.{PassState, stripes_of}
+use Rattle.client_protocol.specs.declared.limits.Version.{Version}
 use Rattle.client_protocol.specs.declared.request.Request.{Request}
 use Rattle.client_protocol.specs.declared.response.Response.{Response}
 use Rattle.client_protocol.specs.declared.response.Response.TheVariants as tell
@@ -127,22 +128,22 @@ made old new responses invocation map (inr (refuses, is)) = record {
   mine = λ k lt. nowhere old.pass new.pass invocation k refuses (cases_eq (stripe_of (stripes_of old.pass.map) invocation.key) k);
 }
 
-asked_leads : (old : Station) (responses : List Response) (new : Station) (asks : Asked) (m : CrewMeets old asks responses new) → Leads old (call_asked old new responses asks m) new
-asked_leads old responses new (greeting version) m = once old new _ responses m
-asked_leads old responses new (registration sizes bytes) (inl (token, admits, is, same)) = subst (λ (s : Station). Leads old [] s) (sym same) (record { map = refl; numbers = refl; mine = λ k lt. sym (append-nil (mine_of old.pass.view k)) })
-asked_leads old responses new (registration sizes bytes) (inr (inl (response, refuses, m))) = once old new response responses m
-asked_leads old responses new (registration sizes bytes) (inr (inr m)) = once old new _ responses m
-asked_leads old responses new (call invocation) m = made old new responses invocation m.same.map m.made
-asked_leads old responses new (walk kind program arg) (inl (reply, walks, is)) = team_walks old new _ walks
-asked_leads old responses new (walk kind program arg) (inr (walks, is)) = team_walks old new _ walks
-asked_leads old responses new (replacement program arg) (inl (reply, walks, is)) = team_walks old new _ walks
-asked_leads old responses new (replacement program arg) (inr (walks, is)) = team_walks old new _ walks
-asked_leads old responses new count (inl (reply, walks, is)) = team_walks old new _ walks
-asked_leads old responses new count (inr (walks, is)) = team_walks old new _ walks
-asked_leads old responses new unknown m = once old new _ responses m
+asked_leads : (hello : Option Version) (old : Station) (responses : List Response) (new : Station) (asks : Asked) (m : CrewMeets hello old asks responses new) → Leads old (call_asked hello old new responses asks m) new
+asked_leads hello old responses new (greeting version) m = once old new _ responses m
+asked_leads hello old responses new (registration sizes bytes) (inl (token, admits, is, same)) = subst (λ (s : Station). Leads old [] s) (sym same) (record { map = refl; numbers = refl; mine = λ k lt. sym (append-nil (mine_of old.pass.view k)) })
+asked_leads hello old responses new (registration sizes bytes) (inr (inl (response, refuses, m))) = once old new response responses m
+asked_leads hello old responses new (registration sizes bytes) (inr (inr m)) = once old new _ responses m
+asked_leads hello old responses new (call invocation) m = made old new responses invocation m.same.map m.made
+asked_leads hello old responses new (walk kind program arg) (inl (reply, walks, is)) = team_walks old new _ walks
+asked_leads hello old responses new (walk kind program arg) (inr (walks, is)) = team_walks old new _ walks
+asked_leads hello old responses new (replacement program arg) (inl (reply, walks, is)) = team_walks old new _ walks
+asked_leads hello old responses new (replacement program arg) (inr (walks, is)) = team_walks old new _ walks
+asked_leads hello old responses new count (inl (reply, walks, is)) = team_walks old new _ walks
+asked_leads hello old responses new count (inr (walks, is)) = team_walks old new _ walks
+asked_leads hello old responses new unknown m = once old new _ responses m
 
-serves_leads : (old : Station) (request : Request) (responses : List Response) (new : Station) (one : CrewServes old request responses new) → Leads old (call_of_step old request responses new one) new
-serves_leads old request responses new one = asked_leads old responses new (asked (λ _. one.found) request) one.meets
+serves_leads : (hello : Option Version) (old : Station) (request : Request) (responses : List Response) (new : Station) (one : CrewServes hello old request responses new) → Leads old (call_of_step hello old request responses new one) new
+serves_leads hello old request responses new one = asked_leads hello old responses new (asked (λ _. one.found) request) one.meets
 
 -- what a session's pass has made behind it
 session_made : (old : Station) (pass : PassState) (s : SessionOf old pass) → Leads old (calls_of old pass s) s.new

@@ -4,6 +4,7 @@ use Rattle.std.proofs.lemmas.List.{take_all, take_more}
 use Rattle.std.proofs.lemmas.List.Elements.{All-append, All-from_recursion, All-get_or, All-from_get_or, All-weaker}
 use Rattle.bpf_model.specs.Meaning.{IsSafe}
 use Rattle.verifier.specs.Checked.{Checked}
+use Rattle.client_protocol.specs.declared.limits.Version.{Version}
 use Rattle.client_protocol.specs.declared.request.Request.{Request}
 use Rattle.client_protocol.specs.declared.request.Request.TheVariants.{Hello, Register, Get, Put, PutIfAbsent, Remove, RemoveIf, Replace, ReplaceIf, Compute, ComputeIfAbsent, ComputeIfPresent, Merge, Search, ForEach, ReplaceAll, Count}
 use Rattle.client_protocol.specs.declared.response.Response.{Response}
@@ -70,12 +71,12 @@ number_of_call (ForEach number arg threshold) call = absurd call
 number_of_call (ReplaceAll number arg) call = absurd call
 number_of_call Count call = absurd call
 
-pub names_none : (old : Station) (request : Request) (responses : List Response) (new : Station) → IsCall request → named request ≡ None
-    → CrewMeets old (asked (λ _. None) request) responses new → CrewServes old request responses new
-names_none old request responses new call is meets =
+pub names_none : (hello : Option Version) (old : Station) (request : Request) (responses : List Response) (new : Station) → IsCall request → named request ≡ None
+    → CrewMeets hello old (asked (λ _. None) request) responses new → CrewServes hello old request responses new
+names_none hello old request responses new call is meets =
     record { found = None; finds = rw (number_of_call request call ∙ is) tt; meets = meets }
 
-pub names_one : (old : Station) (request : Request) (number : ℕ) (found : Option Checked) (responses : List Response) (new : Station) → IsCall request → named request ≡ Some number
-    → Finds old.tokens number found → CrewMeets old (asked (λ _. found) request) responses new → CrewServes old request responses new
-names_one old request number found responses new call is finds meets =
+pub names_one : (hello : Option Version) (old : Station) (request : Request) (number : ℕ) (found : Option Checked) (responses : List Response) (new : Station) → IsCall request → named request ≡ Some number
+    → Finds old.tokens number found → CrewMeets hello old (asked (λ _. found) request) responses new → CrewServes hello old request responses new
+names_one hello old request number found responses new call is finds meets =
     record { found = found; finds = rw (number_of_call request call ∙ is) finds; meets = meets }

@@ -1,5 +1,5 @@
 -- What two crews' sessions have in common, once their passes are joined.
-use Rattle.std.specs.Prelude.{◌≡◌, ◌⊎◌, ◌==◌, if◌then◌else◌, ℕ, ◌<◌, List, [], ◌∷◌, ◌++◌}
+use Rattle.std.specs.Prelude.{◌≡◌, ◌⊎◌, ◌==◌, if◌then◌else◌, ℕ, ◌<◌, List, [], ◌∷◌, ◌++◌, Option}
 use Rattle.std.proofs.Common.{inl, inr}
 use Rattle.stripe_rule.specs.declared.view.Event.{Event}
 use Rattle.stripe_rule.specs.History.{made_by}
@@ -11,6 +11,7 @@ use Rattle.bin_stripes.specs.Actions.{called}
 use Rattle.bin_stripes.specs.declared.ghost_action.GhostAction.{GhostAction}
 use Rattle.bin_stripes.specs.Invoked.{Calls, RefusesCall}
 use Rattle.bin_stripes.specs.Passes.{PassState, stripes_of}
+use Rattle.client_protocol.specs.declared.limits.Version.{Version}
 use Rattle.client_protocol.specs.declared.request.Request.{Request}
 use Rattle.client_protocol.specs.declared.response.Response.{Response}
 use Rattle.client_protocol.specs.declared.response.Response.TheVariants as tell
@@ -33,18 +34,18 @@ abbrev pub made_call : (old new : PassState) (responses : List Response) (invoca
 made_call old new responses invocation (inl (reply, calls, is)) = record { invocation = invocation; reply = reply } ∷ []
 made_call old new responses invocation (inr refused) = []
 
-abbrev pub call_asked : (old new : Station) (responses : List Response) (asks : Asked) → CrewMeets old asks responses new → List AnsweredCall
-call_asked old new responses (greeting version) meets = []
-call_asked old new responses (registration sizes bytes) meets = []
-call_asked old new responses (call invocation) meets = made_call old.pass new.pass responses invocation meets.made
-call_asked old new responses (walk kind program arg) meets = []
-call_asked old new responses (replacement program arg) meets = []
-call_asked old new responses count meets = []
-call_asked old new responses unknown meets = []
+abbrev pub call_asked : (hello : Option Version) (old new : Station) (responses : List Response) (asks : Asked) → CrewMeets hello old asks responses new → List AnsweredCall
+call_asked hello old new responses (greeting version) meets = []
+call_asked hello old new responses (registration sizes bytes) meets = []
+call_asked hello old new responses (call invocation) meets = made_call old.pass new.pass responses invocation meets.made
+call_asked hello old new responses (walk kind program arg) meets = []
+call_asked hello old new responses (replacement program arg) meets = []
+call_asked hello old new responses count meets = []
+call_asked hello old new responses unknown meets = []
 
 -- the call that a request was answered by, if it was a call and was made
-abbrev pub call_of_step : (old : Station) (request : Request) (responses : List Response) (new : Station) → CrewServes old request responses new → List AnsweredCall
-call_of_step old request responses new serves = call_asked old new responses (asked (λ _. serves.found) request) serves.meets
+abbrev pub call_of_step : (hello : Option Version) (old : Station) (request : Request) (responses : List Response) (new : Station) → CrewServes hello old request responses new → List AnsweredCall
+call_of_step hello old request responses new serves = call_asked hello old new responses (asked (λ _. serves.found) request) serves.meets
 
 -- a session that led from a state to what this pass knows
 pub record SessionOf (old : Station) (pass : PassState) : Type 0 where

@@ -11,6 +11,7 @@ use Rattle.atomic_methods.specs.declared.walk_reply.WalkReply.{WalkReply}
 use Rattle.bin_stripes.specs.Invoked.{Calls, RefusesCall}
 use Rattle.bin_stripes.specs.Passes.{PassState, ServesSameMap, stripes_of}
 use Rattle.bulk_walks.specs.Walks.{IsWalk, CountsAll, ReplacesAll, AllWalked, MayScan}
+use Rattle.client_protocol.specs.declared.limits.Version.{Version}
 use Rattle.client_protocol.specs.declared.request.Request.{Request}
 use Rattle.client_protocol.specs.declared.request.Request.TheVariants.{Search, ForEach, ReplaceAll}
 use Rattle.client_protocol.specs.declared.response.Response.{Response}
@@ -83,37 +84,37 @@ pub record CrewAnswersCall (old : Station) (invocation : Invocation) (responses 
 
 -- the program is registered and its token kept, whose number is answered; or it is refused by the first step that refuses it;
 -- or memory is refused
-abbrev pub CrewAnswersRegister : Station → Sizes → List ℕ → List Response → Station → Type 0
-CrewAnswersRegister old sizes bytes responses new =
-    ((token : ProgramToken) × Admits sizes bytes (program_of token) × (responses ≡ tell.Registered (token_number token) ∷ [])
+abbrev pub CrewAnswersRegister : Option Version → Station → Sizes → List ℕ → List Response → Station → Type 0
+CrewAnswersRegister hello old sizes bytes responses new =
+    ((token : ProgramToken) × Admits hello sizes bytes (program_of token) × (responses ≡ tell.Registered (token_number token) ∷ [])
     × (new ≡ record { pass = old.pass; team = old.team; tokens = old.tokens ++ token ∷ [] }))
-    ⊎ (((response : Response) × RefusesProgram sizes bytes response × AnswersOnce old response responses new)
+    ⊎ (((response : Response) × RefusesProgram hello sizes bytes response × AnswersOnce old response responses new)
     ⊎ TellsNoMemory old responses new)
 
-abbrev pub CrewMeets : Station → Asked → List Response → Station → Type 0
-CrewMeets old (greeting version) responses new = AnswersOnce old (tell.Hello version) responses new
-CrewMeets old (registration sizes bytes) responses new = CrewAnswersRegister old sizes bytes responses new
-CrewMeets old (call invocation) responses new = CrewAnswersCall old invocation responses new
-CrewMeets old (walk kind program arg) responses new =
+abbrev pub CrewMeets : Option Version → Station → Asked → List Response → Station → Type 0
+CrewMeets hello old (greeting version) responses new = AnswersOnce old (tell.Hello version) responses new
+CrewMeets hello old (registration sizes bytes) responses new = CrewAnswersRegister hello old sizes bytes responses new
+CrewMeets hello old (call invocation) responses new = CrewAnswersCall old invocation responses new
+CrewMeets hello old (walk kind program arg) responses new =
     let n = stripes_of old.pass.map in
     CrewAnswersWalk old (λ before after reply. IsWalk kind n program arg before after reply) (λ before after. AllWalked n MayScan before after) responses new
-CrewMeets old (replacement program arg) responses new =
+CrewMeets hello old (replacement program arg) responses new =
     let n = stripes_of old.pass.map in
     CrewAnswersWalk old (λ before after reply. ReplacesAll n program arg before after reply) (λ before after. after ≡ before) responses new
-CrewMeets old count responses new =
+CrewMeets hello old count responses new =
     let n = stripes_of old.pass.map in
     CrewAnswersWalk old (λ before after reply. CountsAll n before after reply) (λ before after. AllWalked n MayScan before after) responses new
-CrewMeets old unknown responses new = AnswersOnce old (tell.Refused 66 0) responses new
+CrewMeets hello old unknown responses new = AnswersOnce old (tell.Refused 66 0) responses new
 
 -- what is asked for with the program that is found under the number is answered by these responses
-pub record AsksWithProgram (old : Station) (number : ℕ) (asks : Checked → Asked) (responses : List Response) (new : Station) : Type 0 where
+pub record AsksWithProgram (hello : Option Version) (old : Station) (number : ℕ) (asks : Checked → Asked) (responses : List Response) (new : Station) : Type 0 where
   pub found : Option Checked
   pub finds : Finds old.tokens number found
-  pub meets : CrewMeets old (with_program found asks) responses new
+  pub meets : CrewMeets hello old (with_program found asks) responses new
 
--- a request is answered by these responses, and the crew's passes and tokens are then so; what it asks for is by the program that
+-- a request behind this Hello is answered by these responses, and the crew's passes and tokens are then so; what it asks for is by the program that
 -- is found under the number that it names
-pub record CrewServes (old : Station) (request : Request) (responses : List Response) (new : Station) : Type 0 where
+pub record CrewServes (hello : Option Version) (old : Station) (request : Request) (responses : List Response) (new : Station) : Type 0 where
   pub found : Option Checked
   pub finds : IfSome (number_in request) (λ number. Finds old.tokens number found)
-  pub meets : CrewMeets old (asked (λ _. found) request) responses new
+  pub meets : CrewMeets hello old (asked (λ _. found) request) responses new

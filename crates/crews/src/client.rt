@@ -13,7 +13,7 @@ use crate::serving::Serving;
 use bin_stripes::{Gate, StripedMap};
 use bpf_model::{NoMemory, Value};
 use bulk_walks::Team;
-use client_protocol::{Feeder, Request};
+use client_protocol::{Feeder, Request, Requests, Version, hello_after};
 use program_registry::Registry;
 use sessions::{Failed, ReadBehind, SessionEnd, Sink, refuse, send};
 use std::alloc::Global;
@@ -21,15 +21,16 @@ use std::sync::Wait;
 use std::thread::Threads;
 
 /// At most so many bytes are read at once.
-const PIECE_BYTES: usize = 16384;
+const PIECE_BYTES: usize = 4096;
 
-// Answers the requests in turn: each answer is written before the next request is looked at. Values that are found are left
-// in `value`, one after the other.
+// Answers the requests, which came behind this Hello, in turn: each answer is written before the next request is looked at.
+// Values that are found are left in `value`, one after the other.
 fn answer_all<H: Threads + Wait + Sync, W: Sink, G: Gate + Sync>(
     rt: &H,
     alloc: Global,
     writer: &mut W,
     serving: &mut Serving<'_>,
+    hello: Option<Version>,
     requests: &[Request],
     value: &mut Value,
     gate: &G,
@@ -38,14 +39,16 @@ fn answer_all<H: Threads + Wait + Sync, W: Sink, G: Gate + Sync>(
     requires { CanWrite (W.state writer.old) }
     ensures ok { OnOk result ((written : List ℕ)
         × TakesBytes (W.state writer.old) (W.state writer.new) written
-        × Answered CrewServes serving.old requests.now written serving.new) }
+        × Answered CrewServes hello serving.old requests.now written serving.new) }
     ensures err { OnErr result ((written : List ℕ)
         × TakesThenFails (W.state writer.old) (W.state writer.new) written
-        × BreaksOff CrewServes serving.old requests.now written serving.new) }
+        × BreaksOff CrewServes hello serving.old requests.now written serving.new) }
 {
+    let mut taken = hello;
     for request in requests {
-        let answer = serving.answer(rt, alloc, request, value, gate, worker);
-        send(writer, &answer, value)?;
+        let answer = serving.answer(rt, alloc, taken, request, value, gate, worker);
+        send(writer, taken, &answer, value)?;
+        taken = hello_after(taken, request);
     }
     Ok(())
 }
@@ -76,7 +79,7 @@ fn run<H: Threads + Wait + Sync, R: ReadBehind<W>, W: Sink, G: Gate + Sync>(
 {
     let mut feeder = Feeder::new(alloc);
     let mut piece = [0; PIECE_BYTES];
-    let mut requests = Vec::new(alloc);
+    let mut requests = Requests::new(alloc);
     let mut value = Value::new();
     for _ in rt.forever() {
         let Ok(()) = writer.flush() else {
@@ -91,11 +94,13 @@ fn run<H: Threads + Wait + Sync, R: ReadBehind<W>, W: Sink, G: Gate + Sync>(
             }
             return SessionEnd::Closed;
         }
+        let hello = feeder.hello();
         let Ok(fault) = feeder.feed_into(alloc, &piece[..n], &mut requests) else {
             return refuse(writer, NoMemory::NUMBER, SessionEnd::NoMemory);
         };
+        let came = requests.as_slice();
         let answered = answer_all(
-            rt, alloc, writer, serving, &requests, &mut value, gate, worker,
+            rt, alloc, writer, serving, hello, came, &mut value, gate, worker,
         );
         let Ok(()) = answered else {
             return SessionEnd::WriteFailed;

@@ -1,7 +1,9 @@
 //! What answers the requests of a session: the crew's passes, and the programs that the session registered.
-ghost use Rattle.std.specs.Prelude.{◌≡◌, ℕ, List, [], ◌∷◌, All, MatchResult, option_copied};
+ghost use Rattle.std.specs.Prelude.{◌≡◌, ℕ, List, [], ◌∷◌, All, MatchResult, Option, option_copied};
 ghost use Rattle.bpf_model.specs.Meaning.{IsSafe};
 ghost use Rattle.program_registry.specs.Tokens.{IsOf};
+ghost use Rattle.client_protocol.specs.declared.limits.Version.{Version as TheVersion};
+ghost use Rattle.client_protocol.specs.Responses.{response_of};
 ghost use Rattle.sessions.specs.Answering.{responses_of, walk_responses};
 ghost use Rattle.sessions.specs.Asking.{asked, walk, replacement, count, IsCall};
 ghost use Rattle.client_protocol.specs.declared.response.Response.TheVariants as tell;
@@ -12,10 +14,10 @@ use atomic_methods::{WalkKind, WalkReply};
 use bin_stripes::{Gate, Pass, Place, StripedMap};
 use bpf_model::{NoMemory, Sizes, Value};
 use bulk_walks::{mapping_count, replace_all, walk};
-use client_protocol::{Request, Response};
+use client_protocol::{Request, RequestView, ShortResponse, Version};
 use program_registry::{ProgramToken, Registry};
 use sessions::{
-    Answer, admit_or_refuse, answer_to, call_of, named_program, no_memory, unknown_program,
+    Answer, admit_or_refuse, answer_to, argument_of, call_of, named_program, no_memory, unknown_program,
 };
 use std::alloc::Global;
 use std::marker::Model;
@@ -101,14 +103,21 @@ fn answer_of(reply: Result<WalkReply, NoMemory>) -> Answer
 }
 
 impl<'a> Serving<'a> {
-    // Registers the program that the bytes spell, and keeps its token; the room for that comes first.
-    fn register<H: Wait>(&mut self, rt: &H, alloc: Global, sizes: Sizes, bytes: &[u8]) -> Response
-        ensures { CrewAnswersRegister self.old sizes bytes.now (result ∷ []) self.new }
+    // Registers the program that the bytes spell, which came behind this Hello, and keeps its token; the room for that comes first.
+    fn register<H: Wait>(
+        &mut self,
+        rt: &H,
+        alloc: Global,
+        hello: Option<Version>,
+        sizes: Sizes,
+        bytes: &[u8],
+    ) -> ShortResponse
+        ensures { CrewAnswersRegister hello self.old sizes bytes.now (response_of result ∷ []) self.new }
     {
         let Ok(()) = self.tokens.reserve(1) else {
             return no_memory();
         };
-        let verified = match admit_or_refuse(alloc, bytes, sizes) {
+        let verified = match admit_or_refuse(alloc, hello, bytes, sizes) {
             Ok(verified) => verified,
             Err(response) => return response,
         };
@@ -118,7 +127,7 @@ impl<'a> Serving<'a> {
         let program = token.number();
         show_agrees(self.registry, &self.tokens, &token);
         self.tokens.push_reserved(token);
-        Response::Registered { program }
+        ShortResponse::Registered { program }
     }
 
     // Makes the call that is asked for, with this program where it names one. The value of its reply, if it has one, is left
@@ -131,7 +140,7 @@ impl<'a> Serving<'a> {
         value: &mut Value,
     ) -> Answer
         requires { IsCall request.now }
-        ensures { CrewMeets self.old (asked (λ _. option_copied program.entry) request.now) (responses_of result value.new) self.new }
+        ensures { (hello : Option TheVersion) → CrewMeets hello self.old (asked (λ _. option_copied program.entry) request.now) (responses_of result value.new) self.new }
     {
         let Some(call) = call_of(request, program) else {
             return Answer::One(unknown_program());
@@ -145,7 +154,7 @@ impl<'a> Serving<'a> {
     // Makes the call that is asked for, with the program that it names, if it names one.
     fn named_call<H: Wait>(&mut self, rt: &H, request: &Request, value: &mut Value) -> Answer
         requires { IsCall request.now }
-        ensures { CrewServes self.old request.now (responses_of result value.new) self.new }
+        ensures { (hello : Option TheVersion) → CrewServes hello self.old request.now (responses_of result value.new) self.new }
     {
         let Some(number) = named_program(request) else {
             return self.call(rt, request, None, value);
@@ -165,7 +174,7 @@ impl<'a> Serving<'a> {
         threshold: u64,
         gate: &G,
     ) -> Answer
-        ensures { (bytes : List ℕ) → AsksWithProgram self.old number (λ program. walk kind program arg.now) (responses_of result bytes) self.new }
+        ensures { (hello : Option TheVersion) (bytes : List ℕ) → AsksWithProgram hello self.old number (λ program. walk kind program arg.now) (responses_of result bytes) self.new }
     {
         let Some(program) = program_of(self.registry, &self.tokens, number) else {
             return Answer::One(unknown_program());
@@ -188,7 +197,7 @@ impl<'a> Serving<'a> {
         arg: &Option<Value>,
         gate: &G,
     ) -> Answer
-        ensures { (bytes : List ℕ) → AsksWithProgram self.old number (λ program. replacement program arg.now) (responses_of result bytes) self.new }
+        ensures { (hello : Option TheVersion) (bytes : List ℕ) → AsksWithProgram hello self.old number (λ program. replacement program arg.now) (responses_of result bytes) self.new }
     {
         let Some(program) = program_of(self.registry, &self.tokens, number) else {
             return Answer::One(unknown_program());
@@ -207,7 +216,7 @@ impl<'a> Serving<'a> {
         alloc: Global,
         gate: &G,
     ) -> Answer
-        ensures { (bytes : List ℕ) → CrewMeets self.old count (responses_of result bytes) self.new }
+        ensures { (hello : Option TheVersion) (bytes : List ℕ) → CrewMeets hello self.old count (responses_of result bytes) self.new }
     {
         let team = mem::replace(&mut self.team, Vec::new(alloc));
         let team = told(self.map, &self.pass, team);
@@ -216,47 +225,46 @@ impl<'a> Serving<'a> {
         answer_of(reply)
     }
 
-    /// Answers the request, behind the gate at `Request`. The value of an answer that found one is left in `value`; what that
+    /// Answers the request, which came behind this Hello, behind the gate at `Request`. The value of an answer that found one is left in `value`; what that
     /// held is lost.
     pub fn answer<H: Threads + Wait + Sync, G: Gate + Sync>(
         &mut self,
         rt: &H,
         alloc: Global,
+        hello: Option<Version>,
         request: &Request,
         value: &mut Value,
         gate: &G,
         worker: u32,
     ) -> Answer
-        ensures { CrewServes self.old request.now (responses_of result value.new) self.new }
+        ensures { CrewServes hello self.old request.now (responses_of result value.new) self.new }
     {
         gate.pass(Place::Request, worker);
-        match request {
-            Request::Hello { version } => Answer::One(Response::Hello { version: *version }),
-            Request::Register { sizes, program } => {
-                Answer::One(self.register(rt, alloc, *sizes, program.as_slice()))
+        match request.view() {
+            RequestView::Hello { version } => Answer::One(ShortResponse::Hello { version }),
+            RequestView::Register { sizes, program } => {
+                Answer::One(self.register(rt, alloc, hello, sizes, program))
             }
-            Request::Search {
+            RequestView::Search {
                 program,
                 arg,
                 threshold,
-            } => self.walk(rt, alloc, WalkKind::Search, *program, arg, *threshold, gate),
-            Request::ForEach {
+            } => {
+                let arg = argument_of(arg);
+                self.walk(rt, alloc, WalkKind::Search, program, &arg, threshold, gate)
+            }
+            RequestView::ForEach {
                 program,
                 arg,
                 threshold,
-            } => self.walk(
-                rt,
-                alloc,
-                WalkKind::ForEach,
-                *program,
-                arg,
-                *threshold,
-                gate,
-            ),
-            Request::ReplaceAll { program, arg } => {
-                self.replace_all(rt, alloc, *program, arg, gate)
+            } => {
+                let arg = argument_of(arg);
+                self.walk(rt, alloc, WalkKind::ForEach, program, &arg, threshold, gate)
             }
-            Request::Count => self.count(rt, alloc, gate),
+            RequestView::ReplaceAll { program, arg } => {
+                self.replace_all(rt, alloc, program, &argument_of(arg), gate)
+            }
+            RequestView::Count => self.count(rt, alloc, gate),
             _ => self.named_call(rt, request, value),
         }
     }

@@ -1,5 +1,5 @@
 -- A refused program's faulty unit is one of few.
-use Rattle.std.proofs.Common.{◌≡◌, ℕ, ◌+◌, ◌*◌, ◌<◌, ◌≤◌, ◌^◌, ◌/◌, ◌%◌, inl, inr, Bool, true, false, List, ◌++◌, length, Some, None, sym, ap, ◌∙◌, arith, ℤ}
+use Rattle.std.proofs.Common.{◌≡◌, ℕ, ◌+◌, ◌*◌, ◌<◌, ◌≤◌, ◌^◌, ◌/◌, ◌%◌, inl, inr, Bool, true, false, List, ◌++◌, length, Option, Some, None, sym, ap, ◌∙◌, arith, ℤ}
 use Rattle.std.specs.Prelude.{nat_eq, nat_lt, not, cond}
 use Rattle.std.proofs.lemmas.Bool.Decides.{nat_tests}
 use Rattle.std.proofs.lemmas.List.{length-append}
@@ -21,7 +21,11 @@ use Rattle.flow_shape.specs.declared.fault.FlowFault.TheVariants.{BackwardJump, 
 use Rattle.flow_shape.proofs.FaultLemmas.{starts_inside}
 use Rattle.sessions.specs.declared.admission.AdmissionFault.{AdmissionFault}
 use Rattle.sessions.specs.declared.admission.AdmissionFault.TheVariants.{Decode, Flow, Verify}
-use Rattle.sessions.specs.Admissions.{admission_fault_unit, IsNotAdmitted}
+use Rattle.verifier.specs.Faults.{ExceedLimits}
+use Rattle.client_protocol.specs.declared.limits.Version.{Version}
+use Rattle.client_protocol.specs.declared.limits.Version.TheVariants.{One, Two}
+use Rattle.client_protocol.specs.Bodies.{limits_after}
+use Rattle.sessions.specs.Admissions.{admission_fault_unit, HasLargeWindow, IsNotRegistered}
 
 -- ---- faults of decoding
 
@@ -69,8 +73,26 @@ flow_unit program (FallsOffEnd unit) has = starts_inside program unit (is_there 
 
 -- ---- refusals
 
-pub refused_unit : (bytes : List ℕ) (sizes : Sizes) (fault : AdmissionFault) → IsNotAdmitted bytes sizes fault → admission_fault_unit fault < 2 ^ 32
-refused_unit bytes sizes (Decode fault) (inl is) = let zero : decode.decode_fault_unit fault ≡ 0 = ap decode.decode_fault_unit is in omega (arith, zero)
-refused_unit bytes sizes (Decode fault) (inr first) = decode_unit bytes fault first
-refused_unit bytes sizes (Flow fault) (program, spelled, first) = let inside = flow_unit program fault first.has in omega (arith, inside, spelled.program.bounded)
-refused_unit bytes sizes (Verify fault) (program, spelled, shaped, inside, limits) = omega (arith, inside, spelled.program.bounded)
+pub refused_unit : (hello : Option Version) (bytes : List ℕ) (sizes : Sizes) (fault : AdmissionFault) → IsNotRegistered hello bytes sizes fault → admission_fault_unit fault < 2 ^ 32
+refused_unit hello bytes sizes (Decode fault) (inl (many, is)) = let zero : decode.decode_fault_unit fault ≡ 0 = ap decode.decode_fault_unit is in omega (arith, zero)
+refused_unit hello bytes sizes (Decode fault) (inr (few, inl is)) = let zero : decode.decode_fault_unit fault ≡ 0 = ap decode.decode_fault_unit is in omega (arith, zero)
+refused_unit hello bytes sizes (Decode fault) (inr (few, inr first)) = decode_unit bytes fault first
+refused_unit hello bytes sizes (Flow fault) (few, program, spelled, first) = let inside = flow_unit program fault first.has in omega (arith, inside, spelled.program.bounded)
+refused_unit hello bytes sizes (Verify fault) (few, program, spelled, shaped, inside, limits) = omega (arith, inside, spelled.program.bounded)
+
+-- sizes above the limits of all programs are above those of each version
+pub exceed_large : (hello : Option Version) (sizes : Sizes) → ExceedLimits sizes → HasLargeWindow hello sizes
+exceed_large hello sizes exceed =
+    let most : (limits_after hello).value ≤ 1024 = at_most hello in
+    by exceed most
+  where
+    at_most : (h : Option Version) → (limits_after h).value ≤ 1024
+    at_most None = omega arith
+    at_most (Some One) = omega arith
+    at_most (Some Two) = omega arith
+
+    by : ExceedLimits sizes → (limits_after hello).value ≤ 1024 → HasLargeWindow hello sizes
+    by (inl key) most = inl key
+    by (inr (inl old)) most = inr (inl (omega (arith, old, most)))
+    by (inr (inr (inl arg))) most = inr (inr (inl (omega (arith, arg, most))))
+    by (inr (inr (inr result))) most = inr (inr (inr (omega (arith, result, most))))

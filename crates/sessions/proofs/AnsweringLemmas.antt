@@ -1,13 +1,15 @@
 -- Requests answered one after the other, and what was written for them.
-use Rattle.std.proofs.Common.{◌≡◌, ℕ, ◌+◌, ◌<◌, map, get_or, List, [], ◌∷◌, ◌++◌, length, take, drop, refl, sym, ap, subst, ◌∙◌, append_assoc, append-nil, arith}
+use Rattle.std.proofs.Common.{◌≡◌, ℕ, ◌+◌, ◌<◌, map, get_or, List, [], ◌∷◌, ◌++◌, length, take, drop, Option, refl, sym, ap, subst, ◌∙◌, append_assoc, append-nil, arith}
 use Rattle.std.proofs.lemmas.List.{length-append, map-append, take_more, take-append-drop}
 use Rattle.std.proofs.lemmas.List.Concat.{flat_map-append}
 use Rattle.std.proofs.KnownBytes.{Appends-trans}
+use Rattle.client_protocol.specs.declared.limits.Version.{Version}
 use Rattle.client_protocol.specs.declared.request.Request.{Request}
+use Rattle.client_protocol.specs.Bodies.{hello_after}
 use Rattle.client_protocol.specs.declared.response.Response.{Response}
 use Rattle.client_protocol.specs.Responses.{response_frame, response_frames}
 use Rattle.sessions.specs.Devices.{SinkState, TakesBytes, TakesPart, TakesThenFails}
-use Rattle.sessions.specs.Answering.{item_of, AnswersInOrder, Answered, IsPart, BreaksOff}
+use Rattle.sessions.specs.Answering.{item_of, sendable, hello_behind, AnswersInOrder, Answered, IsPart, BreaksOff}
 
 -- the first bytes were taken, and then more
 pub takes_then : (a b c : SinkState) (first more : List ℕ) → TakesBytes a b first → TakesBytes b c more → TakesBytes a c (first ++ more)
@@ -70,25 +72,36 @@ pub walk_frames : (items : List (List ℕ × List ℕ)) (last : Response) → re
 walk_frames items last =
     flat_map-append response_frame (map item_of items) (last ∷ []) ∙ ap (λ (t : List ℕ). response_frames (map item_of items) ++ t) (append-nil (response_frame last))
 
-module _ {S : Type 0} (Answers : S → Request → List Response → S → Type 0) where
-  pub run_then : (old mid new : S) (rs ss : List Request) (a b : List Response) → AnswersInOrder Answers old rs a mid → AnswersInOrder Answers mid ss b new → AnswersInOrder Answers old (rs ++ ss) (a ++ b) new
-  run_then old mid new [] ss a b (nothing, same) later =
-      subst (λ (t : List Response). AnswersInOrder Answers old ss (t ++ b) new) (sym nothing) (subst (λ (m : S). AnswersInOrder Answers m ss b new) same later)
-  run_then old mid new (r ∷ rs) ss a b (first, rest, next, answers, run, is) later =
-      (first, rest ++ b, next, answers, run_then next mid new rs ss rest b run later, ap (λ (t : List Response). t ++ b) is ∙ append_assoc first rest b)
+-- behind the first requests and then the others
+pub hello_behind_both : (hello : Option Version) (rs ss : List Request) → hello_behind hello (rs ++ ss) ≡ hello_behind (hello_behind hello rs) ss
+hello_behind_both hello [] ss = refl
+hello_behind_both hello (r ∷ rs) ss = hello_behind_both (hello_after hello r) rs ss
 
-  pub answered_then : (old mid new : S) (rs ss : List Request) (v w : List ℕ) → Answered Answers old rs v mid → Answered Answers mid ss w new → Answered Answers old (rs ++ ss) (v ++ w) new
-  answered_then old mid new rs ss v w (a, first, v-is) (b, later, w-is) =
-      (a ++ b, run_then old mid new rs ss a b first later, ap (λ (t : List ℕ). t ++ w) v-is ∙ ap (λ (t : List ℕ). response_frames a ++ t) w-is ∙ sym (flat_map-append response_frame a b))
+module _ {S : Type 0} (Answers : Option Version → S → Request → List Response → S → Type 0) where
+  pub run_then : (hello : Option Version) (old mid new : S) (rs ss : List Request) (a b : List Response) → AnswersInOrder Answers hello old rs a mid
+      → AnswersInOrder Answers (hello_behind hello rs) mid ss b new → AnswersInOrder Answers hello old (rs ++ ss) (a ++ b) new
+  run_then hello old mid new [] ss a b (nothing, same) later =
+      subst (λ (t : List Response). AnswersInOrder Answers hello old ss (t ++ b) new) (sym nothing) (subst (λ (m : S). AnswersInOrder Answers hello m ss b new) same later)
+  run_then hello old mid new (r ∷ rs) ss a b (first, rest, next, answers, run, is) later =
+      (first, rest ++ b, next, answers, run_then (hello_after hello r) next mid new rs ss rest b run later,
+        ap (λ (t : List Response). t ++ b) is ∙ append_assoc (sendable hello first) rest b)
 
-  pub answered_one : (old new : S) (r : Request) (out : List Response) → Answers old r out new → Answered Answers old (r ∷ []) (response_frames out) new
-  answered_one old new r out answers = (out, (out, [], new, answers, (refl, refl), sym (append-nil out)), refl)
+  pub answered_then : (hello : Option Version) (old mid new : S) (rs ss : List Request) (v w : List ℕ) → Answered Answers hello old rs v mid
+      → Answered Answers (hello_behind hello rs) mid ss w new → Answered Answers hello old (rs ++ ss) (v ++ w) new
+  answered_then hello old mid new rs ss v w (a, first, v-is) (b, later, w-is) =
+      (a ++ b, run_then hello old mid new rs ss a b first later, ap (λ (t : List ℕ). t ++ w) v-is ∙ ap (λ (t : List ℕ). response_frames a ++ t) w-is ∙ sym (flat_map-append response_frame a b))
 
-  pub answered_none : (old : S) → Answered Answers old [] [] old
-  answered_none old = ([], (refl, refl), refl)
+  pub answered_one : (hello : Option Version) (old new : S) (r : Request) (out : List Response) → Answers hello old r out new
+      → Answered Answers hello old (r ∷ []) (response_frames (sendable hello out)) new
+  answered_one hello old new r out answers = (sendable hello out, (out, [], new, answers, (refl, refl), sym (append-nil (sendable hello out))), refl)
 
-  pub breaks_then : (old mid new : S) (rs ss : List Request) (v w : List ℕ) → Answered Answers old rs v mid → BreaksOff Answers mid ss w new → BreaksOff Answers old (rs ++ ss) (v ++ w) new
-  breaks_then old mid new rs ss v w first b =
+  pub answered_none : (hello : Option Version) (old : S) → Answered Answers hello old [] [] old
+  answered_none hello old = ([], (refl, refl), refl)
+
+  pub breaks_then : (hello : Option Version) (old mid new : S) (rs ss : List Request) (v w : List ℕ) → Answered Answers hello old rs v mid
+      → BreaksOff Answers (hello_behind hello rs) mid ss w new → BreaksOff Answers hello old (rs ++ ss) (v ++ w) new
+  breaks_then hello old mid new rs ss v w first b =
+      let behind : hello_behind (hello_behind hello rs) b.done ≡ hello_behind hello (rs ++ b.done) = sym (hello_behind_both hello rs b.done) in
       record {
         done = rs ++ b.done;
         request = b.request;
@@ -98,34 +111,41 @@ module _ {S : Type 0} (Answers : S → Request → List Response → S → Type 
         responses = b.responses;
         part = b.part;
         order = ap (λ (t : List Request). rs ++ t) b.order ∙ sym (append_assoc rs b.done (b.request ∷ b.left));
-        answered = answered_then old mid b.mid rs b.done v b.before first b.answered;
-        made = b.made;
-        cut = b.cut;
+        answered = answered_then hello old mid b.mid rs b.done v b.before first b.answered;
+        made = subst (λ (h : Option Version). Answers h b.mid b.request b.responses new) behind b.made;
+        cut = subst (λ (h : Option Version). IsPart b.part (response_frames (sendable h b.responses))) behind b.cut;
         written_is = ap (λ (t : List ℕ). v ++ t) b.written_is ∙ sym (append_assoc v b.before b.part);
       }
 
   -- the answer to one request, written in part
-  pub breaks_one : (old new : S) (r : Request) (later : List Request) (out : List Response) (part : List ℕ) → Answers old r out new → IsPart part (response_frames out) → BreaksOff Answers old (r ∷ later) part new
-  breaks_one old new r later out part answers cut =
-      record { done = []; request = r; left = later; before = []; mid = old; responses = out; part = part; order = refl; answered = answered_none old; made = answers; cut = cut; written_is = refl }
+  pub breaks_one : (hello : Option Version) (old new : S) (r : Request) (later : List Request) (out : List Response) (part : List ℕ) → Answers hello old r out new
+      → IsPart part (response_frames (sendable hello out)) → BreaksOff Answers hello old (r ∷ later) part new
+  breaks_one hello old new r later out part answers cut =
+      record { done = []; request = r; left = later; before = []; mid = old; responses = out; part = part; order = refl; answered = answered_none hello old; made = answers; cut = cut; written_is = refl }
 
   -- one more request is answered
-  pub answered_more : (a b c : SinkState) (old mid new : S) (xs : List Request) (i : ℕ) (r : Request) (out : List Response) (v : List ℕ) → i < length xs → r ≡ get_or xs i r
-      → TakesBytes a b v → Answered Answers old (take i xs) v mid → Answers mid r out new → TakesBytes b c (response_frames out)
-      → (w : List ℕ) × TakesBytes a c w × Answered Answers old (take (i + 1) xs) w new
-  answered_more a b c old mid new xs i r out v lt is taken before answers more = (
-    v ++ response_frames out,
-    takes_then a b c v (response_frames out) taken more,
-    subst (λ (t : List Request). Answered Answers old t (v ++ response_frames out) new) (sym (front_at xs i r lt is)) (answered_then old mid new (take i xs) (r ∷ []) v (response_frames out) before (answered_one mid new r out answers)),
+  pub answered_more : (a b c : SinkState) (hello here : Option Version) (old mid new : S) (xs : List Request) (i : ℕ) (r : Request) (out : List Response) (v : List ℕ) → i < length xs → r ≡ get_or xs i r
+      → here ≡ hello_behind hello (take i xs) → TakesBytes a b v → Answered Answers hello old (take i xs) v mid → Answers here mid r out new → TakesBytes b c (response_frames (sendable here out))
+      → (hello_after here r ≡ hello_behind hello (take (i + 1) xs)) × ((w : List ℕ) × TakesBytes a c w × Answered Answers hello old (take (i + 1) xs) w new)
+  answered_more a b c hello here old mid new xs i r out v lt is behind taken before answers more = (
+    ap (λ (h : Option Version). hello_after h r) behind ∙ sym (hello_behind_both hello (take i xs) (r ∷ [])) ∙ ap (λ (t : List Request). hello_behind hello t) (sym (front_at xs i r lt is)),
+    (
+      v ++ response_frames (sendable here out),
+      takes_then a b c v (response_frames (sendable here out)) taken more,
+      subst (λ (t : List Request). Answered Answers hello old t (v ++ response_frames (sendable here out)) new) (sym (front_at xs i r lt is))
+          (answered_then hello old mid new (take i xs) (r ∷ []) v (response_frames (sendable here out)) before
+          (subst (λ (h : Option Version). Answered Answers h mid (r ∷ []) (response_frames (sendable here out)) new) behind (answered_one here mid new r out answers))),
+    ),
   )
 
   -- the answer to the next is written in part
-  pub cut_at : (a b c : SinkState) (old mid new : S) (xs : List Request) (i : ℕ) (r : Request) (out : List Response) (v : List ℕ) → i < length xs → r ≡ get_or xs i r
-      → TakesBytes a b v → Answered Answers old (take i xs) v mid → Answers mid r out new → TakesPart b c (response_frames out)
-      → (w : List ℕ) × TakesThenFails a c w × BreaksOff Answers old xs w new
-  cut_at a b c old mid new xs i r out v lt taken-is taken before answers ((front, (rest, more, parts, some)), count) = (
+  pub cut_at : (a b c : SinkState) (hello here : Option Version) (old mid new : S) (xs : List Request) (i : ℕ) (r : Request) (out : List Response) (v : List ℕ) → i < length xs → r ≡ get_or xs i r
+      → here ≡ hello_behind hello (take i xs) → TakesBytes a b v → Answered Answers hello old (take i xs) v mid → Answers here mid r out new → TakesPart b c (response_frames (sendable here out))
+      → (w : List ℕ) × TakesThenFails a c w × BreaksOff Answers hello old xs w new
+  cut_at a b c hello here old mid new xs i r out v lt taken-is behind taken before answers ((front, (rest, more, parts, some)), count) = (
     v ++ front,
     (Appends-trans a.held b.held c.held v front taken.0 more, count ∙ ap (λ (n : ℕ). n + 1) taken.1),
-    subst (λ (t : List Request). BreaksOff Answers old t (v ++ front) new) (parted_at xs i r lt taken-is)
-        (breaks_then old mid new (take i xs) (r ∷ drop (i + 1) xs) v front before (breaks_one mid new r (drop (i + 1) xs) out front answers (rest, parts, some))),
+    subst (λ (t : List Request). BreaksOff Answers hello old t (v ++ front) new) (parted_at xs i r lt taken-is)
+        (breaks_then hello old mid new (take i xs) (r ∷ drop (i + 1) xs) v front before
+        (subst (λ (h : Option Version). BreaksOff Answers h mid (r ∷ drop (i + 1) xs) front new) behind (breaks_one here mid new r (drop (i + 1) xs) out front answers (rest, parts, some)))),
   )

@@ -1,5 +1,6 @@
 -- Which bytes are admitted as a program, and why others are refused. Our profile of RFC 9669.
-use Rattle.std.specs.Prelude.{◌≡◌, ◌↔◌, ◌⊎◌, ◌<◌, ℕ, List}
+use Rattle.std.specs.Prelude.{◌≡◌, ◌↔◌, ◌⊎◌, ◌<◌, ◌/◌, ◌%◌, ℕ, List, length, Option, Some, None}
+use Rattle.bpf_model.specs.declared.limits.TheConstants.{KEY_BYTES, PROGRAM_UNITS}
 use Rattle.bpf_model.specs.declared.input.Sizes.{Sizes}
 use Rattle.bpf_model.specs.declared.instruction.Insn.{Insn}
 use Rattle.bpf_model.specs.Meaning.{IsSafe}
@@ -7,12 +8,15 @@ use Rattle.bpf_model.specs.Program.{unit_count}
 use Rattle.bpf_model.specs.Spelling.{Spells}
 use Rattle.bpf_decode.specs.Faults as decode
 use Rattle.bpf_decode.specs.Messages as decode_messages
-use Rattle.bpf_decode.specs.declared.fault.DecodeFault.TheVariants.{NoMemory}
+use Rattle.bpf_decode.specs.declared.fault.DecodeFault.TheVariants.{NoMemory, TooManyUnits}
 use Rattle.flow_shape.specs.FlowShape as flow
 use Rattle.flow_shape.specs.Messages as flow_messages
 use Rattle.verifier.specs.Faults as verify
 use Rattle.verifier.specs.Messages as verify_messages
 use Rattle.verifier.specs.declared.fault.VerifyFault.TheVariants.{SizesTooLarge}
+use Rattle.client_protocol.specs.declared.limits.Version.{Version}
+use Rattle.client_protocol.specs.declared.limits.Version.TheVariants.{One, Two}
+use Rattle.client_protocol.specs.Bodies.{limits_after}
 use Rattle.sessions.specs.declared.admission.AdmissionFault.{AdmissionFault}
 use Rattle.sessions.specs.declared.admission.AdmissionFault.TheVariants.{Decode, Flow, Verify}
 
@@ -44,3 +48,33 @@ IsNotAdmitted bytes sizes (Flow fault) = (program : List Insn) × Spells bytes p
 IsNotAdmitted bytes sizes (Verify fault) =
     (program : List Insn) × Spells bytes program × flow.IsWellShaped program
     × (verify.verify_fault_unit fault < unit_count program) × ((fault ≡ SizesTooLarge) ↔ verify.ExceedLimits sizes)
+
+-- ---- what a client may register
+
+-- the most units of a program that is sent behind this Hello: those of any program, and in version 1 at most 512
+abbrev pub most_units : Option Version → ℕ
+most_units None = 512
+most_units (Some One) = 512
+most_units (Some Two) = PROGRAM_UNITS
+
+-- whole units, and more than that
+abbrev pub HasManyUnits : Option Version → List ℕ → Type 0
+HasManyUnits hello bytes = (length bytes % 8 ≡ 0) × (most_units hello < length bytes / 8)
+
+-- a declared size is above its limit, which for all but the key is that of a value sent behind this Hello
+abbrev pub HasLargeWindow : Option Version → Sizes → Type 0
+HasLargeWindow hello sizes =
+    let most = (limits_after hello).value in
+    (KEY_BYTES < sizes.key) ⊎ ((most < sizes.old) ⊎ ((most < sizes.arg) ⊎ (most < sizes.result)))
+
+-- why bytes that were sent behind this Hello are not registered: the first step that refuses. The number of units is looked at
+-- before any of them, and the sizes before the verifier walks
+abbrev pub IsNotRegistered : Option Version → List ℕ → Sizes → AdmissionFault → Type 0
+IsNotRegistered hello bytes sizes (Decode fault) =
+    (HasManyUnits hello bytes × (fault ≡ TooManyUnits))
+    ⊎ ((HasManyUnits hello bytes → ⊥) × ((fault ≡ NoMemory) ⊎ decode.IsFirstDecodeFault bytes fault))
+IsNotRegistered hello bytes sizes (Flow fault) =
+    (HasManyUnits hello bytes → ⊥) × ((program : List Insn) × Spells bytes program × flow.IsFirstFlowFault program fault)
+IsNotRegistered hello bytes sizes (Verify fault) =
+    (HasManyUnits hello bytes → ⊥) × ((program : List Insn) × Spells bytes program × flow.IsWellShaped program
+    × (verify.verify_fault_unit fault < unit_count program) × ((fault ≡ SizesTooLarge) ↔ HasLargeWindow hello sizes))

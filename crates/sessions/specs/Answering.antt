@@ -1,10 +1,12 @@
 -- What is written for requests that are answered one after the other, whatever answers them.
-use Rattle.std.specs.Prelude.{◌≡◌, ℕ, ◌≤◌, List, [], ◌∷◌, ◌++◌, length, map, Some}
+use Rattle.std.specs.Prelude.{◌≡◌, ℕ, ◌≤◌, Bool, false, ◌||◌, List, [], ◌∷◌, ◌++◌, length, map, nat_lt, Option, Some, if◌then◌else◌}
 use Rattle.bins.specs.declared.counts.Counts.{Counts}
+use Rattle.client_protocol.specs.declared.limits.Version.{Version}
 use Rattle.client_protocol.specs.declared.request.Request.{Request}
+use Rattle.client_protocol.specs.Bodies.{limits_after, hello_after}
 use Rattle.client_protocol.specs.declared.response.Response.{Response}
-use Rattle.client_protocol.specs.declared.response.Response.TheVariants.{Value, Item, End}
-use Rattle.client_protocol.specs.Responses.{response_frames}
+use Rattle.client_protocol.specs.declared.response.Response.TheVariants.{Value, Refused, Item, End}
+use Rattle.client_protocol.specs.Responses.{response_frames, response_of}
 use Rattle.atomic_methods.specs.declared.walk_reply.WalkReply.{WalkReply}
 use Rattle.sessions.specs.declared.session.service.Answer.{Answer}
 use Rattle.sessions.specs.declared.session.service.Answer.TheVariants.{One, Found, Walk}
@@ -23,7 +25,7 @@ walk_responses reply = map item_of reply.items.items ++ end_of reply.counts ∷ 
 
 -- the responses of an answer, in order, where the bytes of a value that was found were left here
 abbrev pub responses_of : Answer → List ℕ → List Response
-responses_of (One response) bytes = response ∷ []
+responses_of (One response) bytes = response_of response ∷ []
 responses_of Found bytes = Value (Some bytes) ∷ []
 responses_of (Walk reply) bytes = walk_responses reply
 
@@ -35,31 +37,51 @@ IsFront part whole = (missing : List ℕ) × (whole ≡ part ++ missing)
 abbrev pub IsPart : List ℕ → List ℕ → Type 0
 IsPart part whole = (missing : List ℕ) × (whole ≡ part ++ missing) × (1 ≤ length missing)
 
--- over what answers a request: what the first serves, the request, its responses, and what is served then
-module _ {S : Type 0} (Answers : S → Request → List Response → S → Type 0) where
+-- a value that is longer than may be sent behind this Hello
+abbrev pub is_too_long : Option Version → Response → Bool
+is_too_long hello (Value (Some bytes)) = nat_lt (limits_after hello).value (length bytes)
+is_too_long hello (Item key bytes) = nat_lt (limits_after hello).value (length bytes)
+is_too_long hello response = false
+
+abbrev pub has_too_long : Option Version → List Response → Bool
+has_too_long hello [] = false
+has_too_long hello (response ∷ responses) = is_too_long hello response || has_too_long hello responses
+
+-- what is sent in place of these responses: one refusal where a value is too long, else themselves
+abbrev pub sendable : Option Version → List Response → List Response
+sendable hello responses = if has_too_long hello responses then Refused 65 0 ∷ [] else responses
+
+-- the Hello taken, behind these requests
+abbrev pub hello_behind : Option Version → List Request → Option Version
+hello_behind hello [] = hello
+hello_behind hello (request ∷ requests) = hello_behind (hello_after hello request) requests
+
+-- over what answers a request behind this Hello: what the first serves, the request, its responses, and what is served then
+module _ {S : Type 0} (Answers : Option Version → S → Request → List Response → S → Type 0) where
   -- the requests, answered one after the other, have these responses in all
-  abbrev pub AnswersInOrder : S → List Request → List Response → S → Type 0
-  AnswersInOrder old [] responses new = (responses ≡ []) × (new ≡ old)
-  AnswersInOrder old (request ∷ requests) responses new =
+  abbrev pub AnswersInOrder : Option Version → S → List Request → List Response → S → Type 0
+  AnswersInOrder hello old [] responses new = (responses ≡ []) × (new ≡ old)
+  AnswersInOrder hello old (request ∷ requests) responses new =
       (first : List Response) × (later : List Response) × (next : S)
-      × Answers old request first next × AnswersInOrder next requests later new × (responses ≡ first ++ later)
+      × Answers hello old request first next × AnswersInOrder (hello_after hello request) next requests later new
+      × (responses ≡ sendable hello first ++ later)
 
   -- the requests were answered by these bytes
-  abbrev pub Answered : S → List Request → List ℕ → S → Type 0
-  Answered old requests written new =
-      (responses : List Response) × AnswersInOrder old requests responses new × (written ≡ response_frames responses)
+  abbrev pub Answered : Option Version → S → List Request → List ℕ → S → Type 0
+  Answered hello old requests written new =
+      (responses : List Response) × AnswersInOrder hello old requests responses new × (written ≡ response_frames responses)
 
   -- some of the requests were answered; the next was too, and its answer is not wholly written; no further one was made
-  pub record BreaksOff (old : S) (requests : List Request) (written : List ℕ) (new : S) : Type 0 where
+  pub record BreaksOff (hello : Option Version) (old : S) (requests : List Request) (written : List ℕ) (new : S) : Type 0 where
     pub done : List Request
     pub request : Request
     pub left : List Request
     pub order : requests ≡ done ++ request ∷ left
     pub before : List ℕ
     pub mid : S
-    pub answered : Answered old done before mid
+    pub answered : Answered hello old done before mid
     pub responses : List Response
-    pub made : Answers mid request responses new
+    pub made : Answers (hello_behind hello done) mid request responses new
     pub part : List ℕ
-    pub cut : IsPart part (response_frames responses)
+    pub cut : IsPart part (response_frames (sendable (hello_behind hello done) responses))
     pub written_is : written ≡ before ++ part

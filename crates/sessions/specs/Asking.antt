@@ -2,7 +2,6 @@
 use Rattle.std.specs.Prelude.{◌≡◌, ℕ, List, [], ◌∷◌, Option, Some, None}
 use Rattle.bpf_model.specs.declared.input.Sizes.{Sizes}
 use Rattle.verifier.specs.Checked.{Checked}
-use Rattle.verifier.specs.Faults.{ExceedLimits}
 use Rattle.atomic_methods.specs.Invocations.{Invocation, on_key, get, put, put_if_absent, remove, remove_if, replace, replace_if, compute, compute_if_absent, compute_if_present, merge}
 use Rattle.atomic_methods.specs.declared.reply.Reply.{Reply}
 use Rattle.atomic_methods.specs.declared.reply.Reply.TheVariants as replied
@@ -13,7 +12,7 @@ use Rattle.client_protocol.specs.declared.request.Request.{Request}
 use Rattle.client_protocol.specs.declared.request.Request.TheVariants.{Hello, Register, Get, Put, PutIfAbsent, Remove, RemoveIf, Replace, ReplaceIf, Compute, ComputeIfAbsent, ComputeIfPresent, Merge, Search, ForEach, ReplaceAll, Count}
 use Rattle.client_protocol.specs.declared.response.Response.{Response}
 use Rattle.client_protocol.specs.declared.response.Response.TheVariants as tell
-use Rattle.sessions.specs.Admissions.{admission_fault_number, admission_fault_unit, IsAdmitted, IsNotAdmitted}
+use Rattle.sessions.specs.Admissions.{admission_fault_number, admission_fault_unit, IsAdmitted, HasManyUnits, HasLargeWindow, IsNotRegistered}
 use Rattle.sessions.specs.declared.admission.AdmissionFault.{AdmissionFault}
 
 -- what is asked for, with the program in place of its number
@@ -90,14 +89,17 @@ response_to (replied.Value value) = tell.Value value
 response_to (replied.Done done) = tell.Done done
 response_to (replied.Unfit part) = tell.Unfit part
 
--- the bytes spell this program, which is safe with these sizes, and they are within their limits
-abbrev pub Admits : Sizes → List ℕ → Checked → Type 0
-Admits sizes bytes program = IsAdmitted bytes sizes program.program × (program.sizes ≡ sizes) × (ExceedLimits sizes → ⊥)
+-- the bytes, sent behind this Hello, spell this program, which is safe with these sizes; they are within their limits
+pub record Admits (hello : Option Version) (sizes : Sizes) (bytes : List ℕ) (program : Checked) : Type 0 where
+  pub admitted : IsAdmitted bytes sizes program.program
+  pub sizes : program.sizes ≡ sizes
+  pub units : HasManyUnits hello bytes → ⊥
+  pub windows : HasLargeWindow hello sizes → ⊥
 
 -- the response tells the first step that refuses the program, and where
-abbrev pub RefusesProgram : Sizes → List ℕ → Response → Type 0
-RefusesProgram sizes bytes response =
-    (fault : AdmissionFault) × IsNotAdmitted bytes sizes fault
+abbrev pub RefusesProgram : Option Version → Sizes → List ℕ → Response → Type 0
+RefusesProgram hello sizes bytes response =
+    (fault : AdmissionFault) × IsNotRegistered hello bytes sizes fault
     × (response ≡ tell.Refused (admission_fault_number fault) (admission_fault_unit fault))
 
 module _ {S : Type 0} where

@@ -12,6 +12,7 @@ use Rattle.atomic_methods.specs.Methods.{Answers, WouldAdd}
 use Rattle.atomic_methods.specs.declared.reply.Reply.{Reply}
 use Rattle.atomic_methods.specs.Replies.{IsReply, IsCount}
 use Rattle.atomic_methods.specs.declared.walk_reply.WalkReply.{WalkReply}
+use Rattle.client_protocol.specs.declared.limits.Version.{Version}
 use Rattle.client_protocol.specs.declared.request.Request.{Request}
 use Rattle.client_protocol.specs.declared.response.Response.{Response}
 use Rattle.client_protocol.specs.declared.response.Response.TheVariants as tell
@@ -25,11 +26,11 @@ pub record IsNew (alone : Alone) : Type 0 where
   pub programs : alone.programs ≡ []
 
 -- the program is kept under the next number, or is refused by the first step that refuses it
-abbrev pub AnswersRegister : Alone → Sizes → List ℕ → List Response → Alone → Type 0
-AnswersRegister old sizes bytes responses new =
-    ((program : Checked) × Admits sizes bytes program × (responses ≡ tell.Registered (length old.programs) ∷ [])
+abbrev pub AnswersRegister : Option Version → Alone → Sizes → List ℕ → List Response → Alone → Type 0
+AnswersRegister hello old sizes bytes responses new =
+    ((program : Checked) × Admits hello sizes bytes program × (responses ≡ tell.Registered (length old.programs) ∷ [])
     × (new.programs ≡ old.programs ++ program ∷ []) × (new.table ≡ old.table))
-    ⊎ (((response : Response) × RefusesProgram sizes bytes response × AnswersOnce old response responses new)
+    ⊎ (((response : Response) × RefusesProgram hello sizes bytes response × AnswersOnce old response responses new)
     ⊎ TellsNoMemory old responses new)
 
 -- the call is made; memory may be refused to one that would add its key, and to no other
@@ -51,16 +52,16 @@ AnswersReplaceAll old program arg responses new =
     (counts : Counts) × ReplacesEach program arg old.table new.table counts × (new.programs ≡ old.programs)
     × (responses ≡ end_of counts ∷ [])
 
-abbrev pub Meets : Alone → Asked → List Response → Alone → Type 0
-Meets old (greeting version) responses new = AnswersOnce old (tell.Hello version) responses new
-Meets old (registration sizes bytes) responses new = AnswersRegister old sizes bytes responses new
-Meets old (call invocation) responses new = AnswersCall old invocation responses new
-Meets old (walk kind program arg) responses new = AnswersWalk old (λ entries reply. IsReply kind program arg entries reply) responses new
-Meets old (replacement program arg) responses new = AnswersReplaceAll old program arg responses new
-Meets old count responses new = AnswersWalk old (λ entries reply. IsCount (length entries) reply) responses new
-Meets old unknown responses new = AnswersOnce old (tell.Refused 66 0) responses new
+abbrev pub Meets : Option Version → Alone → Asked → List Response → Alone → Type 0
+Meets hello old (greeting version) responses new = AnswersOnce old (tell.Hello version) responses new
+Meets hello old (registration sizes bytes) responses new = AnswersRegister hello old sizes bytes responses new
+Meets hello old (call invocation) responses new = AnswersCall old invocation responses new
+Meets hello old (walk kind program arg) responses new = AnswersWalk old (λ entries reply. IsReply kind program arg entries reply) responses new
+Meets hello old (replacement program arg) responses new = AnswersReplaceAll old program arg responses new
+Meets hello old count responses new = AnswersWalk old (λ entries reply. IsCount (length entries) reply) responses new
+Meets hello old unknown responses new = AnswersOnce old (tell.Refused 66 0) responses new
 
--- a request is answered by these responses, and this is served then; the first program registered has the number 0, the
--- next 1
-abbrev pub Serves : Alone → Request → List Response → Alone → Type 0
-Serves old request responses new = Meets old (asked (λ number. slice_get old.programs number) request) responses new
+-- a request behind this Hello is answered by these responses, and this is served then; the first program registered has the
+-- number 0, the next 1
+abbrev pub Serves : Option Version → Alone → Request → List Response → Alone → Type 0
+Serves hello old request responses new = Meets hello old (asked (λ number. slice_get old.programs number) request) responses new

@@ -58,11 +58,11 @@ refusal number = response_frame (reply.Refused number 0)
 abbrev pub LacksLast : List ℕ → ℕ → List ℕ → Type 0
 LacksLast read last taken = (piece : List ℕ) × (read ≡ taken ++ piece) × (length piece ≡ last) × (1 ≤ last)
 
-module _ {S : Type 0} (Answers : S → Request → List Response → S → Type 0) where
+module _ {S : Type 0} (Answers : Option Version → S → Request → List Response → S → Type 0) where
   -- what was read is requests, which were all answered by these bytes, and behind them what is held
   abbrev pub AllAnswered : S → List ℕ → Held → List ℕ → S → Type 0
   AllAnswered old read held written new =
-      (requests : List Request) × Frames None read requests held × Answered Answers old requests written new
+      (requests : List Request) × Frames None read requests held × Answered Answers None old requests written new
 
   -- memory was refused to the piece of the last read, and to nothing that was asked before: all that is answered
   abbrev pub RunsOut : S → List ℕ → ℕ → List ℕ → S → Type 0
@@ -87,7 +87,7 @@ module _ {S : Type 0} (Answers : S → Request → List Response → S → Type 
   Ended old ReadFailed read last written new =
       (hello : Option Version) × (rest : List ℕ) × AllAnswered old read (open_at hello rest) written new
   Ended old WriteFailed read last written new =
-      ((requests : List Request) × (held : Held) × Frames None read requests held × BreaksOff Answers old requests written new)
+      ((requests : List Request) × (held : Held) × Frames None read requests held × BreaksOff Answers None old requests written new)
       ⊎ (((number : ℕ) × (before : List ℕ) × (part : List ℕ)
       × Owes old read last number before new × IsFront part (refusal number) × (written ≡ before ++ part))
       ⊎ ((hello : Option Version) × (rest : List ℕ) × AllAnswered old read (open_at hello rest) written new))

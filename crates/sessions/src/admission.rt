@@ -2,12 +2,14 @@
 //!
 //! It knows no text and prints nothing, so that whatever takes programs can stand on it. A program is decoded, its flow
 //! is tested, and it is verified with its sizes, in this order; the first refusal is answered.
-ghost use Rattle.std.specs.Prelude.{◌≡◌, IfOk, OnOk, IfErr};
+ghost use Rattle.std.specs.Prelude.{◌≡◌, ◌↔◌, IfOk, OnOk, IfErr, IsTrue};
 ghost use Rattle.verifier.specs.Faults.{ExceedLimits};
-ghost use Rattle.sessions.specs.Admissions.{admission_fault_number, admission_fault_unit, IsAdmitted, IsNotAdmitted};
+ghost use Rattle.sessions.specs.Admissions.{admission_fault_number, admission_fault_unit, IsAdmitted, IsNotAdmitted, most_units, HasManyUnits, HasLargeWindow, IsNotRegistered};
 
 use bpf_decode::{DecodeFault, decode};
 use bpf_model::Sizes;
+use bpf_model::limits::{KEY_BYTES, PROGRAM_UNITS};
+use client_protocol::{Limits, Version};
 use flow_shape::{FlowFault, shape};
 use std::alloc::Global;
 use std::error::Error;
@@ -109,5 +111,64 @@ pub fn admit(alloc: Global, bytes: &[u8], sizes: Sizes) -> Result<Verified, Admi
 {
     let program = decode(alloc, bytes)?;
     let shaped = shape(program)?;
+    Ok(verify(alloc, shaped, sizes)?)
+}
+
+// The bytes of a unit.
+const UNIT_BYTES: usize = 8;
+
+// The most units of a program that a client of version 1 may register.
+const UNITS_OF_VERSION_ONE: usize = 512;
+
+// The most units of a program that is sent behind this Hello.
+fn most_units(hello: Option<Version>) -> usize
+    ensures { result ≡ most_units hello }
+{
+    match hello {
+        None | Some(Version::One) => UNITS_OF_VERSION_ONE,
+        Some(Version::Two) => PROGRAM_UNITS,
+    }
+}
+
+// Whether the bytes are whole units, and more than may be sent behind this Hello.
+fn has_many_units(hello: Option<Version>, bytes: &[u8]) -> bool
+    ensures { IsTrue result ↔ HasManyUnits hello bytes.now }
+{
+    bytes.len() % UNIT_BYTES == 0 && bytes.len() / UNIT_BYTES > most_units(hello)
+}
+
+// Whether a declared size is above its limit behind this Hello.
+fn has_large_window(hello: Option<Version>, sizes: Sizes) -> bool
+    ensures { IsTrue result ↔ HasLargeWindow hello sizes }
+{
+    let most = Limits::after(hello).value;
+    usize::from(sizes.key) > KEY_BYTES
+        || usize::from(sizes.old) > most
+        || usize::from(sizes.arg) > most
+        || usize::from(sizes.result) > most
+}
+
+/// The program as `admit` gives it, where a client who said this Hello may register it: its units and its sizes are within the
+/// limits of the version. Too many units are refused before any is looked at, and sizes behind the test of the flow.
+pub fn admit_behind(
+    alloc: Global,
+    hello: Option<Version>,
+    bytes: &[u8],
+    sizes: Sizes,
+) -> Result<Verified, AdmissionFault>
+    ensures ok { IfOk result (λ v. IsAdmitted bytes.now sizes v.program) }
+    ensures sizes { IfOk result (λ v. v.sizes ≡ sizes) }
+    ensures units { OnOk result (HasManyUnits hello bytes.now → ⊥) }
+    ensures windows { OnOk result (HasLargeWindow hello sizes → ⊥) }
+    ensures err { IfErr result (λ fault. IsNotRegistered hello bytes.now sizes fault) }
+{
+    if has_many_units(hello, bytes) {
+        return Err(AdmissionFault::Decode(DecodeFault::TooManyUnits));
+    }
+    let program = decode(alloc, bytes)?;
+    let shaped = shape(program)?;
+    if has_large_window(hello, sizes) {
+        return Err(AdmissionFault::Verify(VerifyFault::SizesTooLarge));
+    }
     Ok(verify(alloc, shaped, sizes)?)
 }

@@ -1,7 +1,9 @@
 //! What one client is served: a table of its own, and the programs that it registers.
-ghost use Rattle.std.specs.Prelude.{◌≡◌, ◌≢◌, ◌+◌, ◌↔◌, ℕ, List, [], ◌∷◌, false, slice_get, IfOk, IsErrOf};
+ghost use Rattle.std.specs.Prelude.{◌≡◌, ◌≢◌, ◌+◌, ◌↔◌, ℕ, List, [], ◌∷◌, Option, false, slice_get, IfOk, IsErrOf};
 ghost use Rattle.std.specs.Io.KnownBytes.{Appends, Consumes, IsAtEnd};
 ghost use Rattle.atomic_methods.specs.Hashes.{IsStripeCount};
+ghost use Rattle.client_protocol.specs.declared.limits.Version.{Version as TheVersion};
+ghost use Rattle.client_protocol.specs.Responses.{response_of};
 ghost use Rattle.sessions.specs.Answering.{responses_of};
 ghost use Rattle.sessions.specs.Asking.{walk, replacement, count, asked, with_program, IsCall};
 ghost use Rattle.sessions.specs.Requests.{Meets, AnswersRegister, Serves, IsNew};
@@ -11,13 +13,13 @@ ghost use Rattle.sessions.specs.Sessions.{Ended, HasToldEnd, ends_after, failed_
 mod programs;
 
 use crate::alone::programs::Programs;
-use crate::calls::call_of;
+use crate::calls::{argument_of, call_of};
 use crate::devices::{ReadBehind, Sink};
 use crate::responses::{admit_or_refuse, answer_to, no_memory, unknown_program};
 use crate::session::{Answer, Service, SessionEnd, end_of, run_session};
 use atomic_methods::{OpenFault, Striped, WalkKind, count_of, walk};
 use bpf_model::{NoMemory, Sizes, Value};
-use client_protocol::{Request, Response};
+use client_protocol::{Request, RequestView, ShortResponse, Version};
 use std::alloc::Global;
 use std::sync::Wait;
 
@@ -43,16 +45,22 @@ impl Alone {
 }
 
 impl Alone {
-    /// Keeps the program that the bytes spell under the next number.
-    fn register(&mut self, alloc: Global, sizes: Sizes, bytes: &[u8]) -> Response
-        ensures { AnswersRegister self.old sizes bytes.now (result ∷ []) self.new }
+    /// Keeps the program that the bytes spell, which came behind this Hello, under the next number.
+    fn register(
+        &mut self,
+        alloc: Global,
+        hello: Option<Version>,
+        sizes: Sizes,
+        bytes: &[u8],
+    ) -> ShortResponse
+        ensures { AnswersRegister hello self.old sizes bytes.now (response_of result ∷ []) self.new }
     {
-        let program = match admit_or_refuse(alloc, bytes, sizes) {
+        let program = match admit_or_refuse(alloc, hello, bytes, sizes) {
             Ok(program) => program,
             Err(response) => return response,
         };
         match self.programs.add(program) {
-            Ok(program) => Response::Registered { program },
+            Ok(program) => ShortResponse::Registered { program },
             Err(NoMemory) => no_memory(),
         }
     }
@@ -60,8 +68,8 @@ impl Alone {
     /// Makes the call that is asked for. The value of its reply, if it has one, is left in `value`.
     fn call(&mut self, request: &Request, value: &mut Value) -> Answer
         requires { IsCall request.now }
-        ensures { Meets self.old (asked (λ number. slice_get self.old.programs number) request.now)
-            (responses_of result value.new) self.new }
+        ensures { (hello : Option TheVersion) → Meets hello self.old
+            (asked (λ number. slice_get self.old.programs number) request.now) (responses_of result value.new) self.new }
     {
         let program = self.programs.named_by(request);
         let Some(call) = call_of(request, program) else {
@@ -75,7 +83,7 @@ impl Alone {
 
     /// Runs the program of this number over all entries.
     fn walk(&self, alloc: Global, kind: WalkKind, number: u64, arg: &Option<Value>) -> Answer
-        ensures { (bytes : List ℕ) → Meets self.now
+        ensures { (hello : Option TheVersion) (bytes : List ℕ) → Meets hello self.now
             (with_program (slice_get self.now.programs number) (λ program. walk kind program arg.now))
             (responses_of result bytes) self.now }
     {
@@ -91,16 +99,16 @@ impl Alone {
 
     /// Counts all entries.
     fn count(&self, alloc: Global) -> Answer
-        ensures { (bytes : List ℕ) → Meets self.now count (responses_of result bytes) self.now }
+        ensures { (hello : Option TheVersion) (bytes : List ℕ) → Meets hello self.now count (responses_of result bytes) self.now }
     {
         Answer::Walk(count_of(alloc, self.table.count()))
     }
 
     /// Replaces the value of each key by what the program of this number answers.
-    fn replace_all(&mut self, number: u64, arg: &Option<Value>) -> Response
-        ensures { Meets self.old
+    fn replace_all(&mut self, number: u64, arg: &Option<Value>) -> ShortResponse
+        ensures { (hello : Option TheVersion) → Meets hello self.old
             (with_program (slice_get self.old.programs number) (λ program. replacement program arg.now))
-            (result ∷ []) self.new }
+            (response_of result ∷ []) self.new }
     {
         match self.programs.get(number) {
             Some(program) => end_of(self.table.replace_each(program, arg)),
@@ -114,20 +122,28 @@ impl Service for Alone {
 
     ghost answers = { Serves };
 
-    fn answer(&mut self, alloc: Global, request: &Request, value: &mut Value) -> Answer {
-        match request {
-            Request::Hello { version } => Answer::One(Response::Hello { version: *version }),
-            Request::Register { sizes, program } => {
-                Answer::One(self.register(alloc, *sizes, program.as_slice()))
+    fn answer(
+        &mut self,
+        alloc: Global,
+        hello: Option<Version>,
+        request: &Request,
+        value: &mut Value,
+    ) -> Answer {
+        match request.view() {
+            RequestView::Hello { version } => Answer::One(ShortResponse::Hello { version }),
+            RequestView::Register { sizes, program } => {
+                Answer::One(self.register(alloc, hello, sizes, program))
             }
-            Request::Search { program, arg, .. } => {
-                self.walk(alloc, WalkKind::Search, *program, arg)
+            RequestView::Search { program, arg, .. } => {
+                self.walk(alloc, WalkKind::Search, program, &argument_of(arg))
             }
-            Request::ForEach { program, arg, .. } => {
-                self.walk(alloc, WalkKind::ForEach, *program, arg)
+            RequestView::ForEach { program, arg, .. } => {
+                self.walk(alloc, WalkKind::ForEach, program, &argument_of(arg))
             }
-            Request::ReplaceAll { program, arg } => Answer::One(self.replace_all(*program, arg)),
-            Request::Count => self.count(alloc),
+            RequestView::ReplaceAll { program, arg } => {
+                Answer::One(self.replace_all(program, &argument_of(arg)))
+            }
+            RequestView::Count => self.count(alloc),
             _ => self.call(request, value),
         }
     }

@@ -4,18 +4,19 @@ ghost use Rattle.atomic_methods.specs.Invocations.{invocation_of};
 ghost use Rattle.sessions.specs.Asking.{call, unknown, asked, named, IsCall, NamesProgram};
 
 use atomic_methods::Call;
-use client_protocol::Request;
+use bpf_model::Value;
+use client_protocol::{Request, RequestView};
 use verifier::Verified;
 
 /// The number of the program that a call names, if it names one.
 pub fn named_program(request: &Request) -> Option<u64>
     ensures { result ≡ named request.now }
 {
-    match request {
-        Request::Compute { program, .. } => Some(*program),
-        Request::ComputeIfAbsent { program, .. } => Some(*program),
-        Request::ComputeIfPresent { program, .. } => Some(*program),
-        Request::Merge { program, .. } => Some(*program),
+    match request.view() {
+        RequestView::Compute { program, .. } => Some(program),
+        RequestView::ComputeIfAbsent { program, .. } => Some(program),
+        RequestView::ComputeIfPresent { program, .. } => Some(program),
+        RequestView::Merge { program, .. } => Some(program),
         _ => None,
     }
 }
@@ -27,23 +28,23 @@ fn program_call<'a>(request: &'a Request, program: Option<&'a Verified>) -> Opti
         (λ made. asked (λ _. option_copied program.entry) request.now ≡ call (invocation_of made)) }
 {
     let program = program?;
-    let made = match request {
-        Request::Compute { key, arg, .. } => Call::Compute {
+    let made = match request.view() {
+        RequestView::Compute { key, arg, .. } => Call::Compute {
             key,
             program,
-            arg: arg.as_ref(),
+            arg,
         },
-        Request::ComputeIfAbsent { key, arg, .. } => Call::ComputeIfAbsent {
+        RequestView::ComputeIfAbsent { key, arg, .. } => Call::ComputeIfAbsent {
             key,
             program,
-            arg: arg.as_ref(),
+            arg,
         },
-        Request::ComputeIfPresent { key, arg, .. } => Call::ComputeIfPresent {
+        RequestView::ComputeIfPresent { key, arg, .. } => Call::ComputeIfPresent {
             key,
             program,
-            arg: arg.as_ref(),
+            arg,
         },
-        Request::Merge { key, value, .. } => Call::Merge {
+        RequestView::Merge { key, value, .. } => Call::Merge {
             key,
             value,
             program,
@@ -60,14 +61,14 @@ pub fn call_of<'a>(request: &'a Request, program: Option<&'a Verified>) -> Optio
     ensures { MatchOption result (asked (λ _. option_copied program.entry) request.now ≡ unknown)
         (λ made. asked (λ _. option_copied program.entry) request.now ≡ call (invocation_of made)) }
 {
-    let made = match request {
-        Request::Get { key } => Call::Get { key },
-        Request::Put { key, value } => Call::Put { key, value },
-        Request::PutIfAbsent { key, value } => Call::PutIfAbsent { key, value },
-        Request::Remove { key } => Call::Remove { key },
-        Request::RemoveIf { key, expected } => Call::RemoveIf { key, expected },
-        Request::Replace { key, value } => Call::Replace { key, value },
-        Request::ReplaceIf {
+    let made = match request.view() {
+        RequestView::Get { key } => Call::Get { key },
+        RequestView::Put { key, value } => Call::Put { key, value },
+        RequestView::PutIfAbsent { key, value } => Call::PutIfAbsent { key, value },
+        RequestView::Remove { key } => Call::Remove { key },
+        RequestView::RemoveIf { key, expected } => Call::RemoveIf { key, expected },
+        RequestView::Replace { key, value } => Call::Replace { key, value },
+        RequestView::ReplaceIf {
             key,
             expected,
             value,
@@ -79,4 +80,14 @@ pub fn call_of<'a>(request: &'a Request, program: Option<&'a Verified>) -> Optio
         _ => return program_call(request, program),
     };
     Some(made)
+}
+
+/// The argument of a walk once more, for who keeps it. Takes no memory.
+pub fn argument_of(arg: Option<&Value>) -> Option<Value>
+    ensures { result ≡ option_copied arg.entry }
+{
+    match arg {
+        Some(value) => Some(value.copied()),
+        None => None,
+    }
 }

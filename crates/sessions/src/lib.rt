@@ -13,9 +13,9 @@ mod devices;
 mod responses;
 mod session;
 
-pub use admission::{AdmissionFault, admit};
+pub use admission::{AdmissionFault, admit, admit_behind};
 pub use alone::{Alone, session_alone};
-pub use calls::{call_of, named_program};
+pub use calls::{argument_of, call_of, named_program};
 pub use devices::{
     Failed, ReadBehind, ReadFault, Sink, Source, StreamSink, StreamSource, read_all, write_all,
 };

@@ -13,7 +13,7 @@ mod service;
 use crate::devices::{Failed, ReadBehind, Sink};
 use crate::session::send::{refuse, send};
 use bpf_model::{NoMemory, Value};
-use client_protocol::{Feeder, ProtocolFault, Request};
+use client_protocol::{Feeder, ProtocolFault, Request, Requests, Version, hello_after};
 pub use send::end_of;
 pub use service::{Answer, Service};
 use std::alloc::Global;
@@ -36,26 +36,29 @@ pub enum SessionEnd {
     NoMemory,
 }
 
-/// Answers the requests in turn: each answer is written before the next request is looked at. Values that are found are left
-/// in `value`, one after the other.
+/// Answers the requests, which came behind this Hello, in turn: each answer is written before the next request is looked at.
+/// Values that are found are left in `value`, one after the other.
 fn answer_all<W: Sink, S: Service>(
     alloc: Global,
     writer: &mut W,
     service: &mut S,
+    hello: Option<Version>,
     requests: &[Request],
     value: &mut Value,
 ) -> Result<(), Failed>
     requires { CanWrite (W.state writer.old) }
     ensures ok { OnOk result ((written : List ℕ)
         × TakesBytes (W.state writer.old) (W.state writer.new) written
-        × Answered S.answers service.old requests.now written service.new) }
+        × Answered S.answers hello service.old requests.now written service.new) }
     ensures err { OnErr result ((written : List ℕ)
         × TakesThenFails (W.state writer.old) (W.state writer.new) written
-        × BreaksOff S.answers service.old requests.now written service.new) }
+        × BreaksOff S.answers hello service.old requests.now written service.new) }
 {
+    let mut taken = hello;
     for request in requests {
-        let answer = service.answer(alloc, request, value);
-        send(writer, &answer, value)?;
+        let answer = service.answer(alloc, taken, request, value);
+        send(writer, taken, &answer, value)?;
+        taken = hello_after(taken, request);
     }
     Ok(())
 }
@@ -86,7 +89,7 @@ pub fn run_session<H: Wait, R: ReadBehind<W>, W: Sink, S: Service>(
 {
     let mut feeder = Feeder::new(alloc);
     let mut piece = [0; PIECE_BYTES];
-    let mut requests = Vec::new(alloc);
+    let mut requests = Requests::new(alloc);
     let mut value = Value::new();
     for _ in rt.forever() {
         let Ok(()) = writer.flush() else {
@@ -101,10 +104,12 @@ pub fn run_session<H: Wait, R: ReadBehind<W>, W: Sink, S: Service>(
             }
             return SessionEnd::Closed;
         }
+        let hello = feeder.hello();
         let Ok(fault) = feeder.feed_into(alloc, &piece[..n], &mut requests) else {
             return refuse(writer, NoMemory::NUMBER, SessionEnd::NoMemory);
         };
-        let Ok(()) = answer_all(alloc, writer, service, &requests, &mut value) else {
+        let came = requests.as_slice();
+        let Ok(()) = answer_all(alloc, writer, service, hello, came, &mut value) else {
             return SessionEnd::WriteFailed;
         };
         if let Some(fault) = fault {

@@ -1,26 +1,52 @@
 //! Responses on their way to a writer.
-ghost use Rattle.std.specs.Prelude.{◌≡◌, ◌≢◌, ◌⊎◌, false, map, Some, OnOk, OnErr};
-ghost use Rattle.client_protocol.specs.declared.response.Response.TheVariants.{Value as Answered};
-ghost use Rattle.client_protocol.specs.Responses.{response_frame, response_frames};
-ghost use Rattle.sessions.specs.Answering.{item_of, end_of, responses_of};
+ghost use Rattle.std.specs.Prelude.{◌≡◌, ◌≢◌, ◌⊎◌, ◌∷◌, [], false, map, Some, OnOk, OnErr};
+ghost use Rattle.client_protocol.specs.declared.response.Response.TheVariants.{Value as Answered, Item};
+ghost use Rattle.client_protocol.specs.Responses.{response_frame, response_frames, response_of};
+ghost use Rattle.sessions.specs.Answering.{item_of, end_of, has_too_long, responses_of, sendable, walk_responses};
 ghost use Rattle.sessions.specs.Devices.{CanWrite, TakesBytes, TakesFront, TakesPart};
 ghost use Rattle.sessions.specs.Sessions.{refusal};
 
 use crate::devices::{Failed, Sink, write_all};
 use crate::session::SessionEnd;
 use crate::session::service::Answer;
+use atomic_methods::WalkReply;
 use bins::Counts;
 use bpf_model::{Key, Value};
-use client_protocol::{Response, value_head};
+use client_protocol::{Limits, ShortResponse, Version, item_head, value_head};
+
+// The refusal that stands for responses with a value that is too long for the session's version.
+const VALUE_TOO_LONG: u8 = 65;
 
 /// Writes the response's frame.
-fn send_one<W: Sink>(writer: &mut W, response: &Response) -> Result<(), Failed>
+fn send_one<W: Sink>(writer: &mut W, response: &ShortResponse) -> Result<(), Failed>
     requires { CanWrite (W.state writer.old) }
-    ensures ok { OnOk result (TakesBytes (W.state writer.old) (W.state writer.new) (response_frame response.now)) }
-    ensures err { OnErr result (TakesPart (W.state writer.old) (W.state writer.new) (response_frame response.now)) }
+    ensures ok { OnOk result (TakesBytes (W.state writer.old) (W.state writer.new) (response_frame (response_of response.now))) }
+    ensures err { OnErr result (TakesPart (W.state writer.old) (W.state writer.new) (response_frame (response_of response.now))) }
 {
     let frame = response.frame();
     write_all(writer, frame.as_slice())
+}
+
+/// Writes the frame that stands for responses with a value that is too long.
+fn send_too_long<W: Sink>(writer: &mut W) -> Result<(), Failed>
+    requires { CanWrite (W.state writer.old) }
+    ensures ok { OnOk result (TakesBytes (W.state writer.old) (W.state writer.new) (refusal 65)) }
+    ensures err { OnErr result (TakesPart (W.state writer.old) (W.state writer.new) (refusal 65)) }
+{
+    let number = VALUE_TOO_LONG;
+    send_one(writer, &ShortResponse::Refused { number, place: 0 })
+}
+
+/// Writes the frame of an item, whose value is written from where it lies.
+fn send_item<W: Sink>(writer: &mut W, key: &Key, value: &Value) -> Result<(), Failed>
+    requires { CanWrite (W.state writer.old) }
+    ensures ok { OnOk result (TakesBytes (W.state writer.old) (W.state writer.new) (response_frame (Item key.now value.now))) }
+    ensures err { OnErr result (TakesPart (W.state writer.old) (W.state writer.new) (response_frame (Item key.now value.now))) }
+{
+    let head = item_head(key, value.as_slice());
+    write_all(writer, head.as_slice())?;
+    write_all(writer, value.as_slice())?;
+    Ok(())
 }
 
 /// Writes a frame for each item.
@@ -30,51 +56,95 @@ fn send_items<W: Sink>(writer: &mut W, items: &[(Key, Value)]) -> Result<(), Fai
     ensures err { OnErr result (TakesPart (W.state writer.old) (W.state writer.new) (response_frames (map item_of items.now))) }
 {
     for item in items {
-        let response = Response::Item {
-            key: item.0.copied(),
-            value: item.1.copied(),
-        };
-        send_one(writer, &response)?;
+        send_item(writer, &item.0, &item.1)?;
     }
     Ok(())
 }
 
-/// The response behind the items of a walk.
-pub fn end_of(counts: Counts) -> Response
-    ensures { result ≡ end_of counts }
+/// Whether the value of an item is longer than may be sent behind this Hello.
+fn have_too_long(hello: Option<Version>, items: &[(Key, Value)]) -> bool
+    ensures { result ≡ has_too_long hello (map item_of items.now) }
 {
-    Response::End {
+    let most = Limits::after(hello).value;
+    for item in items {
+        if item.1.as_slice().len() > most {
+            return true;
+        }
+    }
+    false
+}
+
+/// The response behind the items of a walk.
+pub fn end_of(counts: Counts) -> ShortResponse
+    ensures { response_of result ≡ end_of counts }
+{
+    ShortResponse::End {
         scanned: counts.scanned,
         given: counts.given,
         unfit: counts.unfit,
     }
 }
 
-// Writes the frame of the response with this value, whose bytes are written from where they lie.
-fn send_value<W: Sink>(writer: &mut W, value: &Value) -> Result<(), Failed>
+// Writes the frame of the response with this value, whose bytes are written from where they lie; or one refusal, where it is too
+// long.
+fn send_value<W: Sink>(
+    writer: &mut W,
+    hello: Option<Version>,
+    value: &Value,
+) -> Result<(), Failed>
     requires { CanWrite (W.state writer.old) }
-    ensures ok { OnOk result (TakesBytes (W.state writer.old) (W.state writer.new) (response_frame (Answered (Some value.now)))) }
-    ensures err { OnErr result (TakesPart (W.state writer.old) (W.state writer.new) (response_frame (Answered (Some value.now)))) }
+    ensures ok { OnOk result (TakesBytes (W.state writer.old) (W.state writer.new)
+        (response_frames (sendable hello (Answered (Some value.now) ∷ [])))) }
+    ensures err { OnErr result (TakesPart (W.state writer.old) (W.state writer.new)
+        (response_frames (sendable hello (Answered (Some value.now) ∷ [])))) }
 {
-    write_all(writer, &value_head(value))?;
-    write_all(writer, value.as_slice())?;
+    let bytes = value.as_slice();
+    if bytes.len() > Limits::after(hello).value {
+        return send_too_long(writer);
+    }
+    write_all(writer, &value_head(bytes))?;
+    write_all(writer, bytes)?;
     Ok(())
 }
 
-/// Writes the frames of all responses of an answer; that of a value that was found has this one.
-pub fn send<W: Sink>(writer: &mut W, answer: &Answer, value: &Value) -> Result<(), Failed>
+// Writes the frames of all items of a walk, and of its end; or one refusal, where a value is too long.
+fn send_walk<W: Sink>(
+    writer: &mut W,
+    hello: Option<Version>,
+    reply: &WalkReply,
+) -> Result<(), Failed>
     requires { CanWrite (W.state writer.old) }
-    ensures ok { OnOk result (TakesBytes (W.state writer.old) (W.state writer.new) (response_frames (responses_of answer.now value.now))) }
-    ensures err { OnErr result (TakesPart (W.state writer.old) (W.state writer.new) (response_frames (responses_of answer.now value.now))) }
+    ensures ok { OnOk result (TakesBytes (W.state writer.old) (W.state writer.new)
+        (response_frames (sendable hello (walk_responses reply.now)))) }
+    ensures err { OnErr result (TakesPart (W.state writer.old) (W.state writer.new)
+        (response_frames (sendable hello (walk_responses reply.now)))) }
+{
+    if have_too_long(hello, &reply.items) {
+        return send_too_long(writer);
+    }
+    send_items(writer, &reply.items)?;
+    send_one(writer, &end_of(reply.counts))?;
+    Ok(())
+}
+
+/// Writes the frames of all responses of an answer to a request behind this Hello; that of a value that was found has this one.
+/// A value that is longer than the version allows is not sent: one refusal stands for all responses then.
+pub fn send<W: Sink>(
+    writer: &mut W,
+    hello: Option<Version>,
+    answer: &Answer,
+    value: &Value,
+) -> Result<(), Failed>
+    requires { CanWrite (W.state writer.old) }
+    ensures ok { OnOk result (TakesBytes (W.state writer.old) (W.state writer.new)
+        (response_frames (sendable hello (responses_of answer.now value.now)))) }
+    ensures err { OnErr result (TakesPart (W.state writer.old) (W.state writer.new)
+        (response_frames (sendable hello (responses_of answer.now value.now)))) }
 {
     match answer {
         Answer::One(response) => send_one(writer, response),
-        Answer::Found => send_value(writer, value),
-        Answer::Walk(reply) => {
-            send_items(writer, &reply.items)?;
-            send_one(writer, &end_of(reply.counts))?;
-            Ok(())
-        }
+        Answer::Found => send_value(writer, hello, value),
+        Answer::Walk(reply) => send_walk(writer, hello, reply),
     }
 }
 
@@ -85,7 +155,7 @@ fn send_refusal<W: Sink>(writer: &mut W, number: u8) -> Result<(), Failed>
     ensures sent { OnOk result ((W.state writer.new).keeps_back ≡ false) }
     ensures err { OnErr result (TakesFront (W.state writer.old) (W.state writer.new) (refusal number)) }
 {
-    send_one(writer, &Response::Refused { number, place: 0 })?;
+    send_one(writer, &ShortResponse::Refused { number, place: 0 })?;
     writer.flush()?;
     Ok(())
 }

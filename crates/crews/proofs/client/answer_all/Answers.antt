@@ -8,10 +8,10 @@ use Rattle.crews.proofs.client.answer_all.Goals as goal
 pub returns-in_err-send-clause-err : goal.returns-in_err-send-clause-err
 returns-in_err-send-clause-err g c =
     let p = err_from_is_err_and c.from_residual.result c.from_residual.ensures.1 in
-    let (v, taken, before) = c.loop-request.invariant in
-    rw p.1 (cut_at CrewServes (g.W.Sink.state c.args.writer.now) (g.W.Sink.state c.loop-request.writer) (g.W.Sink.state c.send.new.writer) _ _ _ c.args.requests.now c.loop-request.request-index c.request-item.result (responses_of c.answer-answer.result c.answer-answer.new.value) v (omega arith) c.request-item.is taken before c.answer-answer.ensures c.in_err-send.ensures.err)
+    let (behind, (v, taken, before)) = c.loop-request.invariant in
+    rw p.1 (cut_at CrewServes (g.W.Sink.state c.args.writer.now) (g.W.Sink.state c.loop-request.writer) (g.W.Sink.state c.send.new.writer) c.args.hello c.loop-request.taken _ _ _ c.args.requests.now c.loop-request.request-index c.request-item.result (responses_of c.answer-answer.result c.answer-answer.new.value) v (omega arith) c.request-item.is behind taken before c.answer-answer.ensures c.in_err-send.ensures.err)
 
 pub loop-request-preserved : goal.loop-request-preserved
 loop-request-preserved g c =
-    let (v, taken, before) = c.loop-request.invariant in
-    answered_more CrewServes (g.W.Sink.state c.args.writer.now) (g.W.Sink.state c.loop-request.writer) (g.W.Sink.state c.send.new.writer) _ _ _ c.args.requests.now c.loop-request.request-index c.request-item.result (responses_of c.answer-answer.result c.answer-answer.new.value) v (omega arith) c.request-item.is taken before c.answer-answer.ensures c.in_ok-send.ensures.ok
+    let (behind, (v, taken, before)) = c.loop-request.invariant in
+    answered_more CrewServes (g.W.Sink.state c.args.writer.now) (g.W.Sink.state c.loop-request.writer) (g.W.Sink.state c.send.new.writer) c.args.hello c.loop-request.taken _ _ _ c.args.requests.now c.loop-request.request-index c.request-item.result (responses_of c.answer-answer.result c.answer-answer.new.value) v (omega arith) c.request-item.is behind taken before c.answer-answer.ensures c.in_ok-send.ensures.ok

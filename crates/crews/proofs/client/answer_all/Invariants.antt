@@ -1,11 +1,11 @@
 -- the requests so far are answered
-use Rattle.std.proofs.Common.{ℕ, List, take}
-use Rattle.sessions.specs.Answering.{Answered}
+use Rattle.std.proofs.Common.{◌≡◌, ℕ, List, take}
+use Rattle.sessions.specs.Answering.{hello_behind, Answered}
 use Rattle.sessions.specs.Devices.{TakesBytes}
 use Rattle.crews.specs.Steps.{CrewServes}
 use Rattle.crews.proofs.client.answer_all.Given as goal
 
 abbrev pub invariant-loop-request : goal.invariant-loop-request
 invariant-loop-request g l =
-    (written : List ℕ) × TakesBytes (g.W.Sink.state l.fn.writer) (g.W.Sink.state l.writer) written
-    × Answered CrewServes l.fn.serving (take l.request-index l.requests) written l.serving
+    (l.taken ≡ hello_behind l.fn.hello (take l.request-index l.requests)) × ((written : List ℕ) × TakesBytes (g.W.Sink.state l.fn.writer) (g.W.Sink.state l.writer) written
+    × Answered CrewServes l.fn.hello l.fn.serving (take l.request-index l.requests) written l.serving)
