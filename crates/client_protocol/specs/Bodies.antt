@@ -4,7 +4,7 @@ use Rattle.std.specs.Int.{w16, w32, w64, to_be_bytes}
 use Rattle.bpf_model.specs.declared.limits.TheConstants.{KEY_BYTES}
 use Rattle.bpf_model.specs.declared.input.Sizes.{Sizes}
 use Rattle.client_protocol.specs.declared.limits.Version.{Version}
-use Rattle.client_protocol.specs.declared.limits.Version.TheVariants.{One}
+use Rattle.client_protocol.specs.declared.limits.Version.TheVariants.{One, Two}
 use Rattle.client_protocol.specs.declared.limits.Limits.{Limits}
 use Rattle.client_protocol.specs.declared.request.Request.{Request}
 use Rattle.client_protocol.specs.declared.request.Request.TheVariants.{Hello, Register, Get, Put, PutIfAbsent, Remove, RemoveIf, Replace, ReplaceIf, Compute, ComputeIfAbsent, ComputeIfPresent, Merge, Search, ForEach, ReplaceAll, Count}
@@ -12,13 +12,15 @@ use Rattle.client_protocol.specs.declared.fault.ProtocolFault.{ProtocolFault}
 use Rattle.client_protocol.specs.declared.fault.ProtocolFault.TheVariants.{BadLength, UnknownRequest, BadField, TrailingBytes, WrongVersion}
 
 -- what may be sent after this Hello was taken, or before any: in version 1, and until then, bodies of at most 8,192
--- bytes and values of at most 256
+-- bytes and values of at most 256; in version 2, bodies of at most 32,777 bytes and values of at most 1,024
 abbrev pub limits_after : Option Version → Limits
 limits_after None = record { body = 8192; value = 256 }
 limits_after (Some One) = record { body = 8192; value = 256 }
+limits_after (Some Two) = record { body = 32777; value = 1024 }
 
 abbrev pub version_number : Version → ℕ
 version_number One = 1
+version_number Two = 2
 
 -- ---- fields
 

@@ -6,7 +6,10 @@ ghost use Rattle.client_protocol.specs.Bodies.{version_number, limits_after};
 /// A version of the protocol, which a client names in its Hello.
 #[derive(Clone, Copy, Debug, PartialEq, Eq)]
 pub enum Version {
+    /// Short values alone.
     One,
+    /// Longer values and programs.
+    Two,
 }
 
 impl Version {
@@ -17,6 +20,7 @@ impl Version {
     {
         match number {
             1 => Some(Version::One),
+            2 => Some(Version::Two),
             _ => None,
         }
     }
@@ -27,6 +31,7 @@ impl Version {
     {
         match self {
             Version::One => 1,
+            Version::Two => 2,
         }
     }
 }
@@ -47,6 +52,10 @@ impl Limits {
             None | Some(Version::One) => Limits {
                 body: 8192,
                 value: 256,
+            },
+            Some(Version::Two) => Limits {
+                body: 32777,
+                value: 1024,
             },
         }
     }
