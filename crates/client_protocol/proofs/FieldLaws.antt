@@ -4,7 +4,7 @@ use Rattle.std.proofs.lemmas.List.{take_at, drop_at, length-append}
 use Rattle.std.proofs.lemmas.Nat.{from_be_bytes-to_be_bytes_8}
 use Rattle.std.specs.Int.{w16, w64, to_be_bytes, from_be_bytes}
 use Rattle.client_protocol.specs.declared.limits.Version.{Version}
-use Rattle.client_protocol.specs.declared.limits.Version.TheVariants.{One}
+use Rattle.client_protocol.specs.declared.limits.Version.TheVariants.{One, Two}
 use Rattle.client_protocol.specs.declared.limits.Limits.{Limits}
 use Rattle.client_protocol.specs.Bodies.{limits_after, Kind, Field, field_bytes, fields_bytes, value_bytes, IsValue, IsField, AreFields, TakesAll}
 use Rattle.client_protocol.specs.Bodies.Kind.{a_byte, a_short, a_long, a_key, a_value, an_opt}
@@ -120,6 +120,7 @@ takes_three limits kind next last bytes field second third rest more tail first 
 pub small_value : (hello : Option Version) → (limits_after hello).value < 65535
 small_value None = omega arith
 small_value (Some One) = omega arith
+small_value (Some Two) = omega arith
 
 -- no field: too few bytes, or too long
 pub no_byte : (limits : Limits) (bytes : List ℕ) → bytes ≡ [] → NoField limits a_byte bytes

@@ -6,14 +6,14 @@ use Rattle.std.proofs.lemmas.List.{length-append}
 use Rattle.std.proofs.lemmas.Nat.{from_be_bytes-to_be_bytes_4}
 use Rattle.bpf_model.specs.declared.input.Sizes.{Sizes}
 use Rattle.client_protocol.specs.declared.limits.Version.{Version}
-use Rattle.client_protocol.specs.declared.limits.Version.TheVariants.{One}
+use Rattle.client_protocol.specs.declared.limits.Version.TheVariants.{One, Two}
 use Rattle.client_protocol.specs.declared.limits.Limits.{Limits}
 use Rattle.client_protocol.specs.declared.request.Request.{Request}
 use Rattle.client_protocol.specs.declared.request.Request.TheVariants.{Hello, Register, Get, Put, PutIfAbsent, Remove, RemoveIf, Replace, ReplaceIf, Compute, ComputeIfAbsent, ComputeIfPresent, Merge, Search, ForEach, ReplaceAll, Count}
 use Rattle.client_protocol.specs.declared.fault.ProtocolFault.{ProtocolFault}
 use Rattle.client_protocol.specs.declared.fault.ProtocolFault.TheVariants.{BadLength, UnknownRequest, BadField, TrailingBytes, WrongVersion}
 use Rattle.client_protocol.specs.Bodies.{limits_after, Kind, Field, kinds_of, takes_tail, fields_bytes, AreFields, Body, body_of, body_bytes, IsBody, BodyHas, IsBodyOf, IsUnknown, HasBadField, HasTrailing, hello_after}
-use Rattle.client_protocol.specs.Bodies.Field.{short, long, key, value, opt}
+use Rattle.client_protocol.specs.Bodies.Field.{byte, short, long, key, value, opt}
 use Rattle.client_protocol.specs.Frames.{framed, length_bytes, frame_of, frames_of, IsLength, IsRequest, Follow, IsBeginning, HasBadLength, IsFaulty, Held, Ends, Frames}
 use Rattle.client_protocol.specs.Frames.Held.{open_at, failed}
 use Rattle.client_protocol.proofs.FieldLaws.{same_split, fields_unique}
@@ -23,6 +23,13 @@ use Rattle.client_protocol.proofs.FieldLaws.{same_split, fields_unique}
 abbrev later : List Field → List Field
 later (f ∷ fields) = fields
 later [] = []
+
+abbrev version_of : ℕ → Version
+version_of n = if nat_eq n 2 then Two else One
+
+abbrev version_in : List Field → Version
+version_in (byte n ∷ fields) = version_of n
+version_in fields = One
 
 abbrev short_in : List Field → ℕ
 short_in (short n ∷ fields) = n
@@ -50,7 +57,7 @@ sizes_in fields = record { key = short_in fields; old = short_in (later fields);
 -- the request of a tag with these fields and this tail
 abbrev request_with : ℕ → List Field → List ℕ → Request
 request_with tag fields tail =
-    if nat_eq tag 0x00 then Hello One
+    if nat_eq tag 0x00 then Hello (version_in fields)
     else (if nat_eq tag 0x01 then Register (sizes_in fields) tail
     else (if nat_eq tag 0x10 then Get (key_in fields)
     else (if nat_eq tag 0x11 then Put (key_in fields) (value_in (later fields))
@@ -73,6 +80,7 @@ request_of b = request_with b.tag b.fields b.tail
 
 pub request_again : (r : Request) → request_of (body_of r) ≡ r
 request_again (Hello One) = refl
+request_again (Hello Two) = refl
 request_again r = refl
 
 one_request : (r q : Request) → body_of r ≡ body_of q → r ≡ q
@@ -177,6 +185,7 @@ same_length m n x y lm ln e =
 pub allowed_small : (hello : Option Version) (n : ℕ) → IsLength hello n → n < 2 ^ 32
 allowed_small None n h = omega (arith, h.1)
 allowed_small (Some One) n h = omega (arith, h.1)
+allowed_small (Some Two) n h = omega (arith, h.1)
 
 same_frame : (hello : Option Version) (a b x y : List ℕ) → IsLength hello (length a) → IsLength hello (length b) → framed a ++ x ≡ framed b ++ y → (a ≡ b) × (x ≡ y)
 same_frame hello a b x y p q e =

@@ -12,7 +12,7 @@ use Rattle.client_protocol.specs.declared.fault.ProtocolFault.{ProtocolFault}
 use Rattle.client_protocol.specs.declared.fault.ProtocolFault.TheVariants.{BadLength, UnknownRequest, BadField, TrailingBytes, WrongVersion}
 
 -- what may be sent after this Hello was taken, or before any: in version 1, and until then, bodies of at most 8,192
--- bytes and values of at most 256
+-- bytes and values of at most 256; in version 2, bodies of at most 32,777 bytes and values of at most 1,024
 abbrev pub limits_after : Option Version → Limits
 limits_after None = record { body = 8192; value = 256 }
 limits_after (Some One) = record { body = 8192; value = 256 }

@@ -1,9 +1,11 @@
 -- The bytes of a response's frame.
-use Rattle.std.specs.Prelude.{ℕ, List, [], ◌∷◌, flat_map, Bool, true, false}
+use Rattle.std.specs.Prelude.{ℕ, List, [], ◌∷◌, flat_map, Bool, true, false, None}
 use Rattle.bpf_model.specs.declared.input.InputPart.{InputPart}
 use Rattle.bpf_model.specs.declared.input.InputPart.TheVariants as part
 use Rattle.client_protocol.specs.declared.response.Response.{Response}
 use Rattle.client_protocol.specs.declared.response.Response.TheVariants.{Hello, Registered, Value, Done, Unfit, Refused, Item, End}
+use Rattle.client_protocol.specs.declared.response.ShortResponse.{ShortResponse}
+use Rattle.client_protocol.specs.declared.response.ShortResponse.TheVariants as short
 use Rattle.client_protocol.specs.Bodies.{Field, fields_bytes, version_number}
 use Rattle.client_protocol.specs.Bodies.Field.{byte, word, long, key, value, opt}
 use Rattle.client_protocol.specs.Frames.{framed}
@@ -48,3 +50,13 @@ response_frame response = framed (response_body response)
 
 abbrev pub response_frames : List Response → List ℕ
 response_frames responses = flat_map response_frame responses
+
+-- the response that a short one is
+abbrev pub response_of : ShortResponse → Response
+response_of (short.Hello version) = Hello version
+response_of (short.Registered program) = Registered program
+response_of short.Nothing = Value None
+response_of (short.Done done) = Done done
+response_of (short.Unfit part) = Unfit part
+response_of (short.Refused number place) = Refused number place
+response_of (short.End scanned given unfit) = End scanned given unfit

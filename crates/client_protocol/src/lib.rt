@@ -26,4 +26,6 @@ pub use feeder::{Fed, Feeder};
 pub use frames::hello_after;
 pub use limits::{Limits, Version};
 pub use request::Request;
-pub use response::{FRAME_BYTES, Response, value_head};
+pub use response::{
+    FRAME_BYTES, ITEM_HEAD_BYTES, Response, SHORT_FRAME_BYTES, ShortResponse, item_head, value_head,
+};

@@ -6,7 +6,9 @@ ghost use Rattle.client_protocol.specs.Bodies.{version_number, limits_after};
 /// A version of the protocol, which a client names in its Hello.
 #[derive(Clone, Copy, Debug, PartialEq, Eq)]
 pub enum Version {
+    /// Short values alone.
     One,
+    /// Longer values and programs.
     Two,
 }
 
@@ -52,7 +54,7 @@ impl Limits {
                 value: 256,
             },
             Some(Version::Two) => Limits {
-                body: 32_777,
+                body: 32777,
                 value: 1024,
             },
         }

@@ -1,9 +1,9 @@
 //! What is answered.
 ghost use Rattle.std.specs.Prelude.{◌≡◌, ◌+◌, ◌≤◌, ◌<◌, ◌^◌, ◌++◌, length, Some};
 ghost use Rattle.arrayvec.specs.ArrayVec.{array_vec_len};
-ghost use Rattle.client_protocol.specs.Bodies.{value_bytes};
-ghost use Rattle.client_protocol.specs.declared.response.Response.TheVariants.{Value as Answered};
-ghost use Rattle.client_protocol.specs.Responses.{response_frame, response_body, part_number};
+ghost use Rattle.bpf_model.specs.declared.limits.TheConstants.{VALUE_BYTES};
+ghost use Rattle.client_protocol.specs.declared.response.Response.TheVariants.{Value as Answered, Item};
+ghost use Rattle.client_protocol.specs.Responses.{response_frame, response_body, response_of, part_number};
 
 use crate::limits::Version;
 use arrayvec::ArrayVec;
@@ -12,7 +12,13 @@ use bpf_model::{InputPart, Key, Value};
 /// The bytes of the longest frame of a response, an `Item`.
 pub const FRAME_BYTES: usize = 1096;
 
-const BODY_BYTES: usize = 1092;
+/// The bytes of the longest frame of a short response, an `End`.
+pub const SHORT_FRAME_BYTES: usize = 29;
+
+/// The most bytes that stand before a value's own in the frame of an `Item`.
+pub const ITEM_HEAD_BYTES: usize = 72;
+
+const SHORT_BODY_BYTES: usize = 25;
 
 /// A response, one frame. A walk has several: its items in order, and then one `End`.
 #[derive(Debug, PartialEq, Eq, Drop)]
@@ -55,6 +61,40 @@ pub enum Response {
     },
 }
 
+/// A response without the bytes of a key or of a value: a few words, which are copied freely.
+#[derive(Clone, Copy, Debug, PartialEq, Eq)]
+pub enum ShortResponse {
+    /// The Hello was taken: tag 80.
+    Hello {
+        version: Version,
+    },
+    /// The program is registered under this number: tag 81.
+    Registered {
+        program: u64,
+    },
+    /// A value that is absent: tag 82.
+    Nothing,
+    /// Whether the call changed the entry: tag 83.
+    Done {
+        done: bool,
+    },
+    /// The program's first window that is too small for its bytes: tag 84.
+    Unfit {
+        part: InputPart,
+    },
+    /// A refusal by its number, at a unit of a program, else at 0: tag 85.
+    Refused {
+        number: u8,
+        place: u32,
+    },
+    /// The end of a walk, and its counts: tag 87.
+    End {
+        scanned: u64,
+        given: u64,
+        unfit: u64,
+    },
+}
+
 fn put<const N: usize>(out: &mut ArrayVec<u8, N>, bytes: &[u8])
     requires { array_vec_len out.old + length bytes.now ≤ N }
     ensures items { out.new.items ≡ out.old.items ++ bytes.now }
@@ -64,16 +104,6 @@ fn put<const N: usize>(out: &mut ArrayVec<u8, N>, bytes: &[u8])
         Ok(()) => {}
         Err(_) => unreachable!(),
     }
-}
-
-fn put_value<const N: usize>(out: &mut ArrayVec<u8, N>, bytes: &[u8])
-    requires room { array_vec_len out.old + 2 + length bytes.now ≤ N }
-    requires short { length bytes.now < 2 ^ 16 }
-    ensures items { out.new.items ≡ out.old.items ++ value_bytes bytes.now }
-    ensures len { array_vec_len out.new ≡ array_vec_len out.old + 2 + length bytes.now }
-{
-    put(out, &(bytes.len() as u16).to_be_bytes());
-    put(out, bytes);
 }
 
 fn part_number(part: InputPart) -> u8
@@ -86,52 +116,42 @@ fn part_number(part: InputPart) -> u8
     }
 }
 
-impl Response {
+impl ShortResponse {
     // How many bytes the body has.
-    fn body_len(&self) -> usize
-        ensures value { result ≡ length (response_body self.now) }
-        ensures fits { result ≤ BODY_BYTES }
+    fn body_len(self) -> usize
+        ensures value { result ≡ length (response_body (response_of self)) }
+        ensures fits { result ≤ SHORT_BODY_BYTES }
     {
         match self {
-            Response::Hello { .. } | Response::Done { .. } | Response::Unfit { .. } => 2,
-            Response::Registered { .. } => 9,
-            Response::Value { value: None } => 3,
-            Response::Value { value: Some(value) } => 3 + value.as_slice().len(),
-            Response::Refused { .. } => 6,
-            Response::Item { key, value } => 4 + key.as_slice().len() + value.as_slice().len(),
-            Response::End { .. } => 25,
+            ShortResponse::Hello { .. }
+            | ShortResponse::Done { .. }
+            | ShortResponse::Unfit { .. } => 2,
+            ShortResponse::Registered { .. } => 9,
+            ShortResponse::Nothing => 3,
+            ShortResponse::Refused { .. } => 6,
+            ShortResponse::End { .. } => 25,
         }
     }
 
     // Adds the bytes of the body.
-    fn put_body(&self, out: &mut ArrayVec<u8, FRAME_BYTES>)
+    fn put_body(self, out: &mut ArrayVec<u8, SHORT_FRAME_BYTES>)
         requires { array_vec_len out.old ≡ 4 }
-        ensures { out.new.items ≡ out.old.items ++ response_body self.now }
+        ensures { out.new.items ≡ out.old.items ++ response_body (response_of self) }
     {
         match self {
-            Response::Hello { version } => put(out, &[0x80, version.number()]),
-            Response::Registered { program } => {
+            ShortResponse::Hello { version } => put(out, &[0x80, version.number()]),
+            ShortResponse::Registered { program } => {
                 put(out, &[0x81]);
                 put(out, &program.to_be_bytes());
             }
-            Response::Value { value: None } => put(out, &[0x82, 0xFF, 0xFF]),
-            Response::Value { value: Some(value) } => {
-                put(out, &[0x82]);
-                put_value(out, value.as_slice());
-            }
-            Response::Done { done } => put(out, &[0x83, u8::from(*done)]),
-            Response::Unfit { part } => put(out, &[0x84, part_number(*part)]),
-            Response::Refused { number, place } => {
-                put(out, &[0x85, *number]);
+            ShortResponse::Nothing => put(out, &[0x82, 0xFF, 0xFF]),
+            ShortResponse::Done { done } => put(out, &[0x83, u8::from(done)]),
+            ShortResponse::Unfit { part } => put(out, &[0x84, part_number(part)]),
+            ShortResponse::Refused { number, place } => {
+                put(out, &[0x85, number]);
                 put(out, &place.to_be_bytes());
             }
-            Response::Item { key, value } => {
-                let bytes = key.as_slice();
-                put(out, &[0x86, bytes.len() as u8]);
-                put(out, bytes);
-                put_value(out, value.as_slice());
-            }
-            Response::End {
+            ShortResponse::End {
                 scanned,
                 given,
                 unfit,
@@ -145,8 +165,8 @@ impl Response {
     }
 
     /// The response's frame. Takes no memory.
-    pub fn frame(&self) -> ArrayVec<u8, FRAME_BYTES>
-        ensures { result.items ≡ response_frame self.now }
+    pub fn frame(&self) -> ArrayVec<u8, SHORT_FRAME_BYTES>
+        ensures { result.items ≡ response_frame (response_of self.now) }
     {
         let mut frame = ArrayVec::new();
         put(&mut frame, &(self.body_len() as u32).to_be_bytes());
@@ -156,11 +176,99 @@ impl Response {
 }
 
 /// The bytes before a value's own in the frame of the response with it, for who sends the value from where it lies.
-pub fn value_head(value: &Value) -> [u8; 7]
+pub fn value_head(value: &[u8]) -> [u8; 7]
+    requires { length value.now ≤ VALUE_BYTES }
     ensures { response_frame (Answered (Some value.now)) ≡ result ++ value.now }
 {
-    let len = value.as_slice().len();
+    let len = value.len();
     let [a, b, c, d] = (3 + len as u32).to_be_bytes();
     let [e, f] = (len as u16).to_be_bytes();
     [a, b, c, d, 0x82, e, f]
+}
+
+/// The bytes before a value's own in the frame of the item with this key and it, for who sends the value from where it
+/// lies. Takes no memory.
+pub fn item_head(key: &Key, value: &[u8]) -> ArrayVec<u8, ITEM_HEAD_BYTES>
+    requires { length value.now ≤ VALUE_BYTES }
+    ensures { response_frame (Item key.now value.now) ≡ result.items ++ value.now }
+{
+    let key = key.as_slice();
+    let mut head = ArrayVec::new();
+    put(
+        &mut head,
+        &((4 + key.len() + value.len()) as u32).to_be_bytes(),
+    );
+    put(&mut head, &[0x86, key.len() as u8]);
+    put(&mut head, key);
+    put(&mut head, &(value.len() as u16).to_be_bytes());
+    head
+}
+
+// Adds a value behind what stands before it.
+fn put_behind(frame: &mut ArrayVec<u8, FRAME_BYTES>, head: &[u8], value: &[u8])
+    requires none { array_vec_len frame.old ≡ 0 }
+    requires fits { length head.now + length value.now ≤ FRAME_BYTES }
+    ensures { frame.new.items ≡ head.now ++ value.now }
+{
+    put(frame, head);
+    put(frame, value);
+}
+
+// Adds the frame of a short response.
+fn put_short(frame: &mut ArrayVec<u8, FRAME_BYTES>, short: ShortResponse)
+    requires none { array_vec_len frame.old ≡ 0 }
+    ensures { frame.new.items ≡ response_frame (response_of short) }
+{
+    put(frame, short.frame().as_slice());
+}
+
+impl Response {
+    /// The response's frame. Takes no memory.
+    pub fn frame(&self) -> ArrayVec<u8, FRAME_BYTES>
+        ensures { result.items ≡ response_frame self.now }
+    {
+        let mut frame = ArrayVec::new();
+        let out = &mut frame;
+        match self {
+            Response::Hello { version } => put_short(
+                out,
+                ShortResponse::Hello { version: *version },
+            ),
+            Response::Registered { program } => put_short(
+                out,
+                ShortResponse::Registered { program: *program },
+            ),
+            Response::Value { value: None } => put_short(out, ShortResponse::Nothing),
+            Response::Value { value: Some(value) } => {
+                let value = value.as_slice();
+                put_behind(out, &value_head(value), value);
+            }
+            Response::Done { done } => put_short(out, ShortResponse::Done { done: *done }),
+            Response::Unfit { part } => put_short(out, ShortResponse::Unfit { part: *part }),
+            Response::Refused { number, place } => put_short(
+                out,
+                ShortResponse::Refused {
+                    number: *number,
+                    place: *place,
+                },
+            ),
+            Response::Item { key, value } => {
+                let value = value.as_slice();
+                put_behind(out, item_head(key, value).as_slice(), value);
+            }
+            Response::End {
+                scanned,
+                given,
+                unfit,
+            } => put_short(
+                out,
+                ShortResponse::End {
+                    scanned: *scanned,
+                    given: *given,
+                    unfit: *unfit,
+                },
+            ),
+        }
+        frame
+    }
 }
