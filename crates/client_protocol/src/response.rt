@@ -1,7 +1,7 @@
 //! What is answered.
 ghost use Rattle.std.specs.Prelude.{◌≡◌, ◌+◌, ◌≤◌, ◌<◌, ◌^◌, ◌++◌, length, Some};
 ghost use Rattle.arrayvec.specs.ArrayVec.{array_vec_len};
-ghost use Rattle.bpf_model.specs.declared.limits.TheConstants.{VALUE_BYTES};
+ghost use Rattle.bpf_model.specs.declared.limits.TheConstants.{KEY_BYTES, VALUE_BYTES};
 ghost use Rattle.client_protocol.specs.declared.response.Response.TheVariants.{Value as Answered, Item};
 ghost use Rattle.client_protocol.specs.Responses.{response_frame, response_body, response_of, part_number};
 
@@ -188,11 +188,11 @@ pub fn value_head(value: &[u8]) -> [u8; 7]
 
 /// The bytes before a value's own in the frame of the item with this key and it, for who sends the value from where it
 /// lies. Takes no memory.
-pub fn item_head(key: &Key, value: &[u8]) -> ArrayVec<u8, ITEM_HEAD_BYTES>
-    requires { length value.now ≤ VALUE_BYTES }
+pub fn item_head(key: &[u8], value: &[u8]) -> ArrayVec<u8, ITEM_HEAD_BYTES>
+    requires key { length key.now ≤ KEY_BYTES }
+    requires value { length value.now ≤ VALUE_BYTES }
     ensures { response_frame (Item key.now value.now) ≡ result.items ++ value.now }
 {
-    let key = key.as_slice();
     let mut head = ArrayVec::new();
     put(
         &mut head,
@@ -254,7 +254,7 @@ impl Response {
             ),
             Response::Item { key, value } => {
                 let value = value.as_slice();
-                put_behind(out, item_head(key, value).as_slice(), value);
+                put_behind(out, item_head(key.as_slice(), value).as_slice(), value);
             }
             Response::End {
                 scanned,

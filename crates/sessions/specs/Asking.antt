@@ -92,7 +92,7 @@ response_to (replied.Unfit part) = tell.Unfit part
 -- the bytes, sent behind this Hello, spell this program, which is safe with these sizes; they are within their limits
 pub record Admits (hello : Option Version) (sizes : Sizes) (bytes : List ℕ) (program : Checked) : Type 0 where
   pub admitted : IsAdmitted bytes sizes program.program
-  pub sizes : program.sizes ≡ sizes
+  pub declared : program.sizes ≡ sizes
   pub units : HasManyUnits hello bytes → ⊥
   pub windows : HasLargeWindow hello sizes → ⊥
 

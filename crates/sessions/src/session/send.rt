@@ -1,5 +1,6 @@
 //! Responses on their way to a writer.
-ghost use Rattle.std.specs.Prelude.{◌≡◌, ◌≢◌, ◌⊎◌, ◌∷◌, [], false, map, Some, OnOk, OnErr};
+ghost use Rattle.std.specs.Prelude.{◌≡◌, ◌≢◌, ◌≤◌, ◌⊎◌, ◌∷◌, ◌++◌, [], false, length, map, Some, OnOk, OnErr};
+ghost use Rattle.bpf_model.specs.declared.limits.TheConstants.{KEY_BYTES, VALUE_BYTES};
 ghost use Rattle.client_protocol.specs.declared.response.Response.TheVariants.{Value as Answered, Item};
 ghost use Rattle.client_protocol.specs.Responses.{response_frame, response_frames, response_of};
 ghost use Rattle.sessions.specs.Answering.{item_of, end_of, has_too_long, responses_of, sendable, walk_responses};
@@ -37,16 +38,27 @@ fn send_too_long<W: Sink>(writer: &mut W) -> Result<(), Failed>
     send_one(writer, &ShortResponse::Refused { number, place: 0 })
 }
 
-/// Writes the frame of an item, whose value is written from where it lies.
-fn send_item<W: Sink>(writer: &mut W, key: &Key, value: &Value) -> Result<(), Failed>
+/// Writes the bytes before a value's own in a frame, and then the value, from where it lies.
+fn send_parts<W: Sink>(writer: &mut W, head: &[u8], value: &[u8]) -> Result<(), Failed>
     requires { CanWrite (W.state writer.old) }
+    ensures ok { OnOk result (TakesBytes (W.state writer.old) (W.state writer.new) (head.now ++ value.now)) }
+    ensures err { OnErr result (TakesPart (W.state writer.old) (W.state writer.new) (head.now ++ value.now)) }
+{
+    write_all(writer, head)?;
+    write_all(writer, value)?;
+    Ok(())
+}
+
+/// Writes the frame of an item.
+fn send_item<W: Sink>(writer: &mut W, key: &[u8], value: &[u8]) -> Result<(), Failed>
+    requires writer { CanWrite (W.state writer.old) }
+    requires key { length key.now ≤ KEY_BYTES }
+    requires value { length value.now ≤ VALUE_BYTES }
     ensures ok { OnOk result (TakesBytes (W.state writer.old) (W.state writer.new) (response_frame (Item key.now value.now))) }
     ensures err { OnErr result (TakesPart (W.state writer.old) (W.state writer.new) (response_frame (Item key.now value.now))) }
 {
-    let head = item_head(key, value.as_slice());
-    write_all(writer, head.as_slice())?;
-    write_all(writer, value.as_slice())?;
-    Ok(())
+    let head = item_head(key, value);
+    send_parts(writer, head.as_slice(), value)
 }
 
 /// Writes a frame for each item.
@@ -56,7 +68,7 @@ fn send_items<W: Sink>(writer: &mut W, items: &[(Key, Value)]) -> Result<(), Fai
     ensures err { OnErr result (TakesPart (W.state writer.old) (W.state writer.new) (response_frames (map item_of items.now))) }
 {
     for item in items {
-        send_item(writer, &item.0, &item.1)?;
+        send_item(writer, item.0.as_slice(), item.1.as_slice())?;
     }
     Ok(())
 }
@@ -102,9 +114,7 @@ fn send_value<W: Sink>(
     if bytes.len() > Limits::after(hello).value {
         return send_too_long(writer);
     }
-    write_all(writer, &value_head(bytes))?;
-    write_all(writer, bytes)?;
-    Ok(())
+    send_parts(writer, &value_head(bytes), bytes)
 }
 
 // Writes the frames of all items of a walk, and of its end; or one refusal, where a value is too long.
