@@ -4,8 +4,8 @@ use Rattle.std.specs.Prelude.{nat_eq}
 use Rattle.bpf_model.specs.declared.input.Sizes.{Sizes}
 use Rattle.client_protocol.specs.declared.limits.Version.{Version}
 use Rattle.client_protocol.specs.declared.limits.Limits.{Limits}
-use Rattle.client_protocol.specs.declared.request.Request.{Request}
-use Rattle.client_protocol.specs.declared.request.Request.TheVariants.{Hello, Register}
+use Rattle.client_protocol.specs.Requests.{Request}
+use Rattle.client_protocol.specs.Requests.Request.{Hello, Register}
 use Rattle.client_protocol.specs.declared.fault.ProtocolFault.TheVariants.{BadField, TrailingBytes}
 use Rattle.client_protocol.specs.Bodies.{limits_after, Kind, Field, kinds_of, takes_tail, Body, body_of, body_of_fields, sizes_fields, fields_bytes, TakesAll, BodyHas, IsMisplaced, is_hello, is_none, version_number}
 use Rattle.client_protocol.specs.Bodies.Kind.{a_short}

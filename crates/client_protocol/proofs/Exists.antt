@@ -5,7 +5,7 @@ use Rattle.std.specs.Int.{w16, w32, w64, to_be_bytes, from_be_bytes}
 use Rattle.std.proofs.lemmas.Nat.{be_bytes_2, be_bytes_4, be_bytes_8}
 use Rattle.client_protocol.specs.declared.limits.Version.{Version}
 use Rattle.client_protocol.specs.declared.limits.Limits.{Limits}
-use Rattle.client_protocol.specs.declared.request.Request.{Request}
+use Rattle.client_protocol.specs.Requests.{Request}
 use Rattle.client_protocol.specs.declared.fault.ProtocolFault.{ProtocolFault}
 use Rattle.client_protocol.specs.declared.fault.ProtocolFault.TheVariants.{BadLength, UnknownRequest, BadField, TrailingBytes, WrongVersion}
 use Rattle.client_protocol.specs.Bodies.{limits_after, Kind, Field, kinds_of, takes_tail, TakesAll, Body, body_of, body_bytes, IsBody, IsBodyOf, BodyHas, is_hello, is_none, hello_after}

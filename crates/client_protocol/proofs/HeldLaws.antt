@@ -2,14 +2,14 @@
 use Rattle.std.proofs.Common.{◌≡◌, ℕ, ◌+◌, ◌-◌, ◌^◌, ◌<◌, ◌≤◌, arith, List, [], ◌∷◌, ◌++◌, length, take, drop, Option, refl, sym, ap, subst, ◌∙◌, inl, inr, append_assoc, append-nil}
 use Rattle.std.proofs.lemmas.List.{length-append, length-take, take_all, take-append-le, take-append-drop}
 use Rattle.client_protocol.specs.declared.limits.Version.{Version}
-use Rattle.client_protocol.specs.declared.request.Request.{Request}
+use Rattle.client_protocol.specs.Requests.{Request}
 use Rattle.client_protocol.specs.declared.fault.ProtocolFault.{ProtocolFault}
 use Rattle.client_protocol.specs.Bodies.{body_of, body_bytes, hello_after}
 use Rattle.client_protocol.specs.Frames.{length_bytes, frame_of, frames_of, IsLength, IsRequest, IsBeginning, IsFaulty, Held, Frames, IsSoundHeld}
 use Rattle.client_protocol.specs.Frames.Held.{open_at, failed}
 use Rattle.client_protocol.specs.declared.reading.ReadFault.{ReadFault}
 use Rattle.client_protocol.specs.declared.reading.ReadFault.TheVariants.{NoMemory, Fault}
-use Rattle.client_protocol.specs.Reading.{Lacks, IfFault}
+use Rattle.client_protocol.specs.Reading.{Lacks, IfFault, Adds}
 use Rattle.client_protocol.proofs.FrameLaws.{faulty_more}
 use Rattle.client_protocol.proofs.Unique.{same_length, allowed_small}
 
@@ -86,9 +86,9 @@ refused : (hello : Option Version) (all rest piece : List ℕ) (n : ℕ) (fault 
 refused hello all rest piece n fault e bad =
     subst (λ (t : List ℕ). IsFaulty hello t fault) (sym (moved all rest piece n e)) (faulty_more hello (rest ++ take n piece) (drop n piece) fault bad)
 
-pub refused_if : (hello : Option Version) (all rest piece : List ℕ) (n : ℕ) (fault : ReadFault) → all ≡ rest ++ piece → IfFault fault (IsFaulty hello (rest ++ take n piece)) → IfFault fault (IsFaulty hello all)
-refused_if hello all rest piece n NoMemory e bad = tt
-refused_if hello all rest piece n (Fault fault) e bad = refused hello all rest piece n fault e bad
+pub refused_if : (hello : Option Version) (all rest piece : List ℕ) (n : ℕ) (fault : ReadFault) (old mid new : List Request) → mid ≡ old → all ≡ rest ++ piece → IfFault fault (λ f. (new ≡ mid) × IsFaulty hello (rest ++ take n piece) f) → IfFault fault (λ f. (new ≡ old) × IsFaulty hello all f)
+refused_if hello all rest piece n NoMemory old mid new same e bad = tt
+refused_if hello all rest piece n (Fault fault) old mid new same e bad = (bad.0 ∙ same, refused hello all rest piece n fault e bad.1)
 
 -- one request, and then the others
 pub frames_first : (hello : Option Version) (bytes behind : List ℕ) (r : Request) (rs : List Request) (held : Held) → IsRequest hello r → bytes ≡ frame_of r ++ behind → Frames (hello_after hello r) behind rs held → Frames hello bytes (r ∷ rs) held
@@ -100,6 +100,13 @@ frames_first hello bytes behind r rs held is e later =
       spelled = e ∙ ap (λ (t : List ℕ). frame_of r ++ t) later.spelled ∙ sym (append_assoc (frame_of r) (frames_of rs) later.rest);
       ends = later.ends;
     }
+
+-- the request that was added to no other, and then those behind it
+pub frames_added : (hello after : Option Version) (bytes behind : List ℕ) (old mid later : List Request) (held : Held) → Adds hello bytes old mid after behind → old ≡ [] → Frames after behind later held → Frames hello bytes (mid ++ later) held
+frames_added hello after bytes behind old mid later held adds none frames =
+    let first = frames_first hello bytes behind adds.request later held adds.comes adds.spelled (subst (λ (h : Option Version). Frames h behind later held) adds.taken frames) in
+    let list : adds.request ∷ later ≡ mid ++ later = ap (λ (t : List Request). t ++ later) (sym (adds.added ∙ ap (λ (t : List Request). t ++ adds.request ∷ []) none)) in
+    subst (λ (t : List Request). Frames hello bytes t held) list first
 
 -- no request: a beginning, or a fault
 pub frames_begun : (hello : Option Version) (bytes rest : List ℕ) → rest ≡ bytes → IsBeginning hello rest → Frames hello bytes [] (open_at hello rest)

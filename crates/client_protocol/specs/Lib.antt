@@ -1,3 +1,5 @@
+pub mod Requests
+pub mod Places
 pub mod Faults
 pub mod Bodies
 pub mod Frames

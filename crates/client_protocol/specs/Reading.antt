@@ -3,11 +3,11 @@ use Rattle.std.specs.Prelude.{◌≡◌, ℕ, ◌≤◌, ◌<◌, length, List, 
 use Rattle.bpf_model.specs.declared.input.Sizes.{Sizes}
 use Rattle.client_protocol.specs.declared.limits.Version.{Version}
 use Rattle.client_protocol.specs.declared.limits.Limits.{Limits}
-use Rattle.client_protocol.specs.declared.request.Request.{Request}
+use Rattle.client_protocol.specs.Requests.{Request}
 use Rattle.client_protocol.specs.declared.fault.ProtocolFault.{ProtocolFault}
 use Rattle.client_protocol.specs.declared.reading.ReadFault.{ReadFault}
 use Rattle.client_protocol.specs.declared.reading.ReadFault.TheVariants.{NoMemory, Fault}
-use Rattle.client_protocol.specs.Bodies.{Kind, Field, field_bytes, IsField, TakesAll, Body, IsBody, body_bytes, sizes_fields}
+use Rattle.client_protocol.specs.Bodies.{Kind, Field, field_bytes, IsField, TakesAll, Body, IsBody, body_bytes, sizes_fields, hello_after}
 use Rattle.client_protocol.specs.Bodies.Kind.{a_short}
 use Rattle.client_protocol.specs.Frames.{frame_of, IsRequest, IsBeginning}
 
@@ -44,3 +44,12 @@ pub record Lacks (hello : Option Version) (bytes : List ℕ) (n : ℕ) : Type 0 
   pub fewer : (more : List ℕ) → length more < n → IsBeginning hello (bytes ++ more)
   pub no_more : (more : List ℕ) (request : Request) (behind : List ℕ) → length more ≤ n → IsRequest hello request
       → bytes ++ more ≡ frame_of request ++ behind → behind ≡ []
+
+-- the first frame of the bytes is a request that may come: it was added to the list. The Hello taken then, and the bytes
+-- behind the frame
+pub record Adds (hello : Option Version) (bytes : List ℕ) (old new : List Request) (after : Option Version) (behind : List ℕ) : Type 0 where
+  pub request : Request
+  pub comes : IsRequest hello request
+  pub spelled : bytes ≡ frame_of request ++ behind
+  pub taken : after ≡ hello_after hello request
+  pub added : new ≡ old ++ request ∷ []

@@ -1,15 +1,17 @@
 //! Requests from a stream that comes in pieces.
 ghost use Rattle.std.specs.Prelude.{◌≡◌, ◌<◌, ◌++◌, List, [], length, take, IfOk, IfErr, IfSome, IfNone, IsOk, IsSome, OnOk, OnErr, None};
-ghost use Rattle.client_protocol.specs.declared.request.Request.{Request as TheRequest};
-ghost use Rattle.client_protocol.specs.Reading.{IfFault};
+ghost use Rattle.client_protocol.specs.Requests.{Request as TheRequest};
+ghost use Rattle.client_protocol.specs.Reading.{IfFault, Adds};
 ghost use Rattle.client_protocol.specs.Frames.{Frames, Feeds, IsRequest, IsBeginning, IsFaulty, frame_of, held_of, held_hello, held_fault, is_inside};
 ghost use Rattle.client_protocol.specs.Frames.Held.{open_at};
 
+use crate::copies::replace;
 use crate::fault::ProtocolFault;
-use crate::frames::{hello_after, lacking, next, take_frames};
+use crate::frames::{lacking, take_frames};
 use crate::limits::Version;
 use crate::reading::ReadFault;
 use crate::request::Request;
+use crate::requests::{Behind, Requests};
 use bpf_model::NoMemory;
 use bytes::BytesMut;
 use std::alloc::Global;
@@ -35,27 +37,16 @@ struct Taken {
     fault: Option<ProtocolFault>,
 }
 
-// Copies these bytes over the others. Asks for memory where there is no room for them.
-fn replace(bytes: &mut BytesMut, by: &[u8]) -> Result<(), NoMemory>
-    ensures ok { IfOk result (λ _. bytes.new.items ≡ by.now) }
-    ensures err { OnErr result (bytes.new.items ≡ bytes.old.items) }
-{
-    bytes.reserve(by.len())?;
-    bytes.clear();
-    bytes.extend_reserved(by);
-    Ok(())
-}
-
 // Adds the requests of the bytes, whose frames are read where they lie; keeps in `rest` the beginning of one that isn't
 // whole.
 fn take_whole(
     alloc: Global,
     hello: Option<Version>,
-    requests: &mut Vec<Request>,
+    requests: &mut Requests,
     rest: &mut BytesMut,
     bytes: &[u8],
 ) -> Result<Taken, NoMemory>
-    ensures ok { IfOk result (λ t. (new : List TheRequest) × (requests.new.items ≡ requests.old.items ++ new)
+    ensures ok { IfOk result (λ t. (new : List TheRequest) × (requests.new ≡ requests.old ++ new)
         × Frames hello bytes.now new (held_of t.hello rest.new.items t.fault)) }
     ensures err { OnErr result (rest.new.items ≡ rest.old.items) }
 {
@@ -69,23 +60,24 @@ fn take_whole(
     })
 }
 
-// Reads the request of the first frame of the bytes held and the piece behind them into this place, and answers what is
-// behind it in the piece. None where it isn't whole; then all of the piece is held. No byte behind the frame is copied.
-#[tactic(auto, using(crate::proofs::HeldLaws::all_front, crate::proofs::HeldLaws::still_front, crate::proofs::HeldLaws::moved, crate::proofs::HeldLaws::completed, crate::proofs::HeldLaws::refused_if))]
+// Adds the request of the first frame of the bytes held and the piece behind them, and answers what is behind it in the
+// piece. None where it isn't whole; then all of the piece is held. No byte behind the frame is copied.
+#[tactic(auto, using(crate::proofs::HeldLaws::all_front, crate::proofs::HeldLaws::still_front, crate::proofs::HeldLaws::moved, crate::proofs::HeldLaws::completed))]
 fn complete<'a>(
     alloc: Global,
     hello: Option<Version>,
+    requests: &mut Requests,
     rest: &mut BytesMut,
     piece: &'a [u8],
-    request: &mut Request,
-) -> Result<Option<&'a [u8]>, ReadFault>
+) -> Result<Option<Behind<'a>>, ReadFault>
     requires begun { IsBeginning hello rest.old.items }
     ensures grown { take (length rest.old.items) rest.new.items ≡ rest.old.items }
-    ensures frame { IfOk result (λ next. IfSome next (λ behind. IsRequest hello request.new
-        × (rest.old.items ++ piece.now ≡ frame_of request.new ++ behind.now))) }
-    ensures begun { IfOk result (λ next. IfNone next ((rest.new.items ≡ rest.old.items ++ piece.now)
-        × IsBeginning hello rest.new.items)) }
-    ensures fault { IfErr result (λ e. IfFault e (IsFaulty hello (rest.old.items ++ piece.now))) }
+    ensures frame { IfOk result (λ next. IfSome next (λ behind.
+        Adds hello (rest.old.items ++ piece.now) requests.old requests.new behind.hello behind.bytes.now)) }
+    ensures begun { IfOk result (λ next. IfNone next ((requests.new ≡ requests.old)
+        × (rest.new.items ≡ rest.old.items ++ piece.now) × IsBeginning hello rest.new.items)) }
+    ensures fault { IfErr result (λ e. IfFault e (λ fault. (requests.new ≡ requests.old)
+        × IsFaulty hello (rest.old.items ++ piece.now) fault)) }
 {
     let mut piece = piece;
     loop {
@@ -97,8 +89,13 @@ fn complete<'a>(
         let (front, back) = piece.split_at(lacks);
         rest.extend_from_slice(front)?;
         piece = back;
-        match next(alloc, hello, rest.as_slice(), request) {
-            Ok(Some(_)) => return Ok(Some(piece)),
+        match requests.read_next(alloc, hello, rest.as_slice()) {
+            Ok(Some(behind)) => {
+                return Ok(Some(Behind {
+                    hello: behind.hello,
+                    bytes: piece,
+                }));
+            }
             Ok(None) => {}
             Err(fault) => return Err(fault),
         }
@@ -106,27 +103,22 @@ fn complete<'a>(
 }
 
 // Reads on where the beginning of a frame is held.
-#[tactic(auto, using(crate::proofs::HeldLaws::frames_first, crate::proofs::HeldLaws::frames_begun, crate::proofs::HeldLaws::frames_failed))]
+#[tactic(auto, using(crate::proofs::HeldLaws::frames_added, crate::proofs::HeldLaws::frames_begun, crate::proofs::HeldLaws::frames_failed))]
 fn read_held(
     alloc: Global,
     hello: Option<Version>,
-    requests: &mut Vec<Request>,
+    requests: &mut Requests,
     rest: &mut BytesMut,
     piece: &[u8],
 ) -> Result<Taken, NoMemory>
-    requires none { requests.old.items ≡ [] }
+    requires none { requests.old ≡ [] }
     requires begun { IsBeginning hello rest.old.items }
-    ensures ok { IfOk result (λ t. Frames hello (rest.old.items ++ piece.now) requests.new.items
+    ensures ok { IfOk result (λ t. Frames hello (rest.old.items ++ piece.now) requests.new
         (held_of t.hello rest.new.items t.fault)) }
     ensures err { OnErr result (take (length rest.old.items) rest.new.items ≡ rest.old.items) }
 {
-    let mut request = Request::Count;
-    match complete(alloc, hello, rest, piece, &mut request) {
-        Ok(Some(behind)) => {
-            let hello = hello_after(hello, &request);
-            requests.push(request)?;
-            take_whole(alloc, hello, requests, rest, behind)
-        }
+    match complete(alloc, hello, requests, rest, piece) {
+        Ok(Some(behind)) => take_whole(alloc, behind.hello, requests, rest, behind.bytes),
         Ok(None) => Ok(Taken { hello, fault: None }),
         Err(ReadFault::Fault(fault)) => Ok(Taken {
             hello,
@@ -140,13 +132,13 @@ fn read_held(
 fn read_on(
     alloc: Global,
     hello: Option<Version>,
-    requests: &mut Vec<Request>,
+    requests: &mut Requests,
     rest: &mut BytesMut,
     piece: &[u8],
 ) -> Result<Taken, NoMemory>
-    requires none { requests.old.items ≡ [] }
+    requires none { requests.old ≡ [] }
     requires begun { IsBeginning hello rest.old.items }
-    ensures ok { IfOk result (λ t. Frames hello (rest.old.items ++ piece.now) requests.new.items
+    ensures ok { IfOk result (λ t. Frames hello (rest.old.items ++ piece.now) requests.new
         (held_of t.hello rest.new.items t.fault)) }
     ensures err { OnErr result (rest.new.items ≡ rest.old.items) }
 {
@@ -199,9 +191,12 @@ impl Feeder {
         ensures err { OnErr result (self.new ≡ self.old) }
         ensures still { IsSome (held_fault self.old) → IsOk result }
     {
-        let mut requests = Vec::new(alloc);
+        let mut requests = Requests::new(alloc);
         let fault = self.feed_into(alloc, piece, &mut requests)?;
-        Ok(Fed { requests, fault })
+        Ok(Fed {
+            requests: requests.into_vec(),
+            fault,
+        })
     }
 
     /// Reads a piece as `feed` does, and leaves the requests in this list, so that its room serves again. What the list held
@@ -213,9 +208,9 @@ impl Feeder {
         &mut self,
         alloc: Global,
         piece: &[u8],
-        requests: &mut Vec<Request>,
+        requests: &mut Requests,
     ) -> Result<Option<ProtocolFault>, NoMemory>
-        ensures requests { OnOk result (Feeds self.old piece.now requests.new.items self.new) }
+        ensures requests { OnOk result (Feeds self.old piece.now requests.new self.new) }
         ensures fault { IfOk result (λ fault. fault ≡ held_fault self.new) }
         ensures err { OnErr result (self.new ≡ self.old) }
         ensures still { IsSome (held_fault self.old) → IsOk result }
@@ -224,7 +219,7 @@ impl Feeder {
         if let Some(fault) = self.fault {
             return Ok(Some(fault));
         }
-        requests.try_reserve(LEAST_ROOM.max(piece.len() / LEAST_FRAME + 1))?;
+        requests.reserve(LEAST_ROOM.max(piece.len() / LEAST_FRAME + 1))?;
         let taken = read_on(alloc, self.hello, requests, &mut self.rest, piece)?;
         self.hello = taken.hello;
         self.fault = taken.fault;

@@ -3,9 +3,12 @@ ghost use Rattle.std.specs.Prelude.{◌≡◌, ◌+◌, ◌≤◌, ◌<◌, [], 
 ghost use Rattle.client_protocol.specs.Bodies.{Kind, Field as TheField, limits_after};
 ghost use Rattle.client_protocol.specs.Bodies.Kind.{a_byte, a_short, a_long, a_key, a_value, an_opt};
 ghost use Rattle.client_protocol.specs.Bodies.Field.{byte, short, long, key as the_key, value as the_value, opt};
+ghost use Rattle.client_protocol.specs.Places.{optional};
 ghost use Rattle.client_protocol.specs.Reading.{TakesField, NoField};
 
 use crate::limits::{Limits, Version};
+use crate::request::OptionalValue;
+use bpf_model::limits::KEY_BYTES;
 use bpf_model::{Key, Value};
 
 /// The length that stands for an absent value.
@@ -90,17 +93,12 @@ impl Field for Key {
     fn read<'b>(&mut self, _: Option<Version>, bytes: &'b [u8]) -> Option<&'b [u8]> {
         let (len, rest) = bytes.split_first()?;
         let len = usize::from(*len);
-        if len > rest.len() {
+        if len > rest.len() || len > KEY_BYTES {
             return None;
         }
         let (front, rest) = rest.split_at(len);
-        match Key::from_slice(front) {
-            Ok(key) => {
-                *self = key;
-                Some(rest)
-            }
-            Err(_) => None,
-        }
+        self.set_from(front);
+        Some(rest)
     }
 }
 
@@ -140,24 +138,23 @@ impl Field for Value {
     }
 }
 
-impl Field for Option<Value> {
+impl Field for OptionalValue {
     ghost kind = { an_opt };
 
-    ghost field = { opt };
+    ghost field = { λ other. opt (optional other) };
 
     fn read<'b>(&mut self, hello: Option<Version>, bytes: &'b [u8]) -> Option<&'b [u8]> {
         let Some((len, rest)) = short_at(hello, bytes) else {
             return None;
         };
         if len == ABSENT {
-            *self = None;
+            self.is_there = false;
             return Some(rest);
         }
-        let mut value = Value::new();
-        let Some(rest) = read_value(&mut value, hello, len, rest) else {
+        let Some(rest) = read_value(&mut self.value, hello, len, rest) else {
             return None;
         };
-        *self = Some(value);
+        self.is_there = true;
         Some(rest)
     }
 }

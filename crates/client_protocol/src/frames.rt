@@ -1,6 +1,6 @@
 //! Whole frames at the front of bytes.
 ghost use Rattle.std.specs.Prelude.{◌≡◌, ◌++◌, ◌<◌, ◌≤◌, ◌^◌, List, length, IfOk, IfErr, IfSome, IfNone};
-ghost use Rattle.client_protocol.specs.declared.request.Request.{Request as TheRequest};
+ghost use Rattle.client_protocol.specs.Requests.{Request as TheRequest};
 ghost use Rattle.client_protocol.specs.Bodies.{hello_after};
 ghost use Rattle.client_protocol.specs.Frames.{length_bytes, frame_of, IsRequest, IsBeginning, IsFaulty, Frames, held_of};
 ghost use Rattle.client_protocol.specs.Reading.{IfFault, Lacks};
@@ -8,7 +8,8 @@ ghost use Rattle.client_protocol.specs.Reading.{IfFault, Lacks};
 use crate::fault::ProtocolFault;
 use crate::limits::{Limits, Version};
 use crate::reading::{ReadFault, read_request};
-use crate::request::Request;
+use crate::request::{Request, RequestKind};
+use crate::requests::Requests;
 use bpf_model::NoMemory;
 use std::alloc::Global;
 
@@ -41,8 +42,8 @@ pub fn lacking(hello: Option<Version>, bytes: &[u8]) -> usize
 pub fn hello_after(hello: Option<Version>, request: &Request) -> Option<Version>
     ensures { result ≡ hello_after hello request.now }
 {
-    match request {
-        Request::Hello { version } => Some(*version),
+    match request.kind {
+        RequestKind::Hello { version } => Some(version),
         _ => hello,
     }
 }
@@ -50,7 +51,6 @@ pub fn hello_after(hello: Option<Version>, request: &Request) -> Option<Version>
 /// Reads the request of the frame that begins the bytes into this place, and answers what is behind it; none where the
 /// frame has only begun. What the place held is lost.
 pub fn next<'b>(
-    alloc: Global,
     hello: Option<Version>,
     bytes: &'b [u8],
     request: &mut Request,
@@ -71,7 +71,7 @@ pub fn next<'b>(
         return Ok(None);
     }
     let (body, behind) = rest.split_at(len);
-    read_request(alloc, hello, body, request)?;
+    read_request(hello, body, request)?;
     Ok(Some(behind))
 }
 
@@ -87,23 +87,21 @@ pub struct Left<'a> {
 pub fn take_frames<'a>(
     alloc: Global,
     hello: Option<Version>,
-    requests: &mut Vec<Request>,
+    requests: &mut Requests,
     bytes: &'a [u8],
 ) -> Result<Left<'a>, NoMemory>
     ensures within { IfOk result (λ left. length left.rest.now ≤ length bytes.now) }
     ensures ok { IfOk result (λ left. (new : List TheRequest)
-        × ((requests.new.items ≡ requests.old.items ++ new)
+        × ((requests.new ≡ requests.old ++ new)
         × Frames hello bytes.now new (held_of left.hello left.rest.now left.fault))) }
 {
     let mut hello = hello;
     let mut rest = bytes;
     loop {
-        let mut request = Request::Count;
-        match next(alloc, hello, rest, &mut request) {
+        match requests.read_next(alloc, hello, rest) {
             Ok(Some(behind)) => {
-                hello = hello_after(hello, &request);
-                requests.push(request)?;
-                rest = behind;
+                hello = behind.hello;
+                rest = behind.bytes;
             }
             Ok(None) => {
                 return Ok(Left {

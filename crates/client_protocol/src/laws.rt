@@ -1,7 +1,7 @@
 //! Laws of the grammar.
 ghost use Rattle.std.specs.Prelude.{◌≡◌, ℕ, ◌++◌, List, Option};
 ghost use Rattle.client_protocol.specs.declared.limits.Version.{Version as TheVersion};
-ghost use Rattle.client_protocol.specs.declared.request.Request.{Request as TheRequest};
+ghost use Rattle.client_protocol.specs.Requests.{Request as TheRequest};
 ghost use Rattle.client_protocol.specs.Frames.{AreBytes, Held, Frames, Feeds};
 
 /// Some list of requests, and some rest or fault, belong to bytes.

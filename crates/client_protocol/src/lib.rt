@@ -10,6 +10,7 @@
 //! and fields, `specs/Frames.antt` what a stream is. Nothing here waits.
 #![tactic(auto)]
 
+mod copies;
 mod fault;
 mod feeder;
 mod field;
@@ -19,13 +20,15 @@ pub mod laws;
 mod limits;
 mod reading;
 mod request;
+mod requests;
 mod response;
 
 pub use fault::ProtocolFault;
 pub use feeder::{Fed, Feeder};
 pub use frames::hello_after;
 pub use limits::{Limits, Version};
-pub use request::Request;
+pub use request::{Request, RequestView};
+pub use requests::Requests;
 pub use response::{
     FRAME_BYTES, ITEM_HEAD_BYTES, Response, SHORT_FRAME_BYTES, ShortResponse, item_head, value_head,
 };

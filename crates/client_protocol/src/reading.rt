@@ -3,14 +3,14 @@ ghost use Rattle.std.specs.Prelude.{◌≡◌, ◌≢◌, ◌≤◌, ◌<◌, �
 ghost use Rattle.client_protocol.specs.Bodies.{is_hello, is_none, MayCome, body_of, IsBodyOf, BodyHas, limits_after};
 ghost use Rattle.client_protocol.specs.Reading.{SpellsBody, TakesSizes, NoSizes, IfFault};
 
+use crate::copies::replace;
 use crate::fault::ProtocolFault;
 use crate::field::short_at;
 use crate::fields::{no_field, one_field, three_fields, two_fields};
 use crate::limits::Version;
-use crate::request::Request;
-use bpf_model::{Key, Sizes, Value};
-use bytes::BytesMut;
-use std::alloc::{AllocError, AllocFailed, Global};
+use crate::request::{Request, RequestKind, Walk};
+use bpf_model::{NoMemory, Sizes};
+use std::alloc::AllocError;
 
 /// Why a body gives no request.
 #[derive(Clone, Copy, Debug, PartialEq, Eq)]
@@ -41,22 +41,14 @@ impl From<AllocError> for ReadFault {
     }
 }
 
-impl<T: Drop> From<AllocFailed<T>> for ReadFault {
+impl From<NoMemory> for ReadFault {
     ghost use Rattle.std.specs.Prelude.{◌≡◌};
     ghost use Rattle.client_protocol.specs.declared.reading.ReadFault.TheVariants.{NoMemory};
 
     ghost from_gives = { λ _ e. e ≡ NoMemory };
 
-    fn from(_: AllocFailed<T>) -> ReadFault {
+    fn from(_: NoMemory) -> ReadFault {
         ReadFault::NoMemory
-    }
-}
-
-// A key without a byte: a place for one that is read.
-fn empty_key() -> Key {
-    match Key::from_slice(&[]) {
-        Ok(key) => key,
-        Err(_) => unreachable!(),
     }
 }
 
@@ -75,7 +67,7 @@ fn hello_request(
     one_field(hello, tag, rest, &mut number)?;
     match Version::from_number(number) {
         Some(version) => {
-            *request = Request::Hello { version };
+            request.kind = RequestKind::Hello { version };
             Ok(())
         }
         None => Err(ProtocolFault::WrongVersion),
@@ -95,35 +87,26 @@ fn early_request(
     ensures err { IfErr result (BodyHas hello (tag ∷ rest.now)) }
 {
     match tag {
-        0x00 => hello_request(hello, tag, rest, request),
+        0x00 => hello_request(hello, tag, rest, request)?,
         0x10 => {
-            let mut key = empty_key();
-            one_field(hello, tag, rest, &mut key)?;
-            *request = Request::Get { key };
-            Ok(())
+            one_field(hello, tag, rest, &mut request.key)?;
+            request.kind = RequestKind::Get;
         }
         0x11 => {
-            let mut key = empty_key();
-            let mut value = Value::new();
-            two_fields(hello, tag, rest, &mut key, &mut value)?;
-            *request = Request::Put { key, value };
-            Ok(())
+            two_fields(hello, tag, rest, &mut request.key, &mut request.value)?;
+            request.kind = RequestKind::Put;
         }
         0x12 => {
-            let mut key = empty_key();
-            let mut value = Value::new();
-            two_fields(hello, tag, rest, &mut key, &mut value)?;
-            *request = Request::PutIfAbsent { key, value };
-            Ok(())
+            two_fields(hello, tag, rest, &mut request.key, &mut request.value)?;
+            request.kind = RequestKind::PutIfAbsent;
         }
         0x13 => {
-            let mut key = empty_key();
-            one_field(hello, tag, rest, &mut key)?;
-            *request = Request::Remove { key };
-            Ok(())
+            one_field(hello, tag, rest, &mut request.key)?;
+            request.kind = RequestKind::Remove;
         }
-        _ => Err(ProtocolFault::UnknownRequest),
+        _ => return Err(ProtocolFault::UnknownRequest),
     }
+    Ok(())
 }
 
 // The request with a tag from 0x14 to 0x16: a call on what the key has already.
@@ -137,34 +120,29 @@ fn present_request(
     ensures ok { OnOk result (SpellsBody (limits_after hello) (tag ∷ rest.now) (body_of request.new)) }
     ensures err { IfErr result (BodyHas hello (tag ∷ rest.now)) }
 {
-    let mut key = empty_key();
-    let mut value = Value::new();
     match tag {
         0x14 => {
-            two_fields(hello, tag, rest, &mut key, &mut value)?;
-            *request = Request::RemoveIf {
-                key,
-                expected: value,
-            };
-            Ok(())
+            two_fields(hello, tag, rest, &mut request.key, &mut request.other.value)?;
+            request.kind = RequestKind::RemoveIf;
         }
         0x15 => {
-            two_fields(hello, tag, rest, &mut key, &mut value)?;
-            *request = Request::Replace { key, value };
-            Ok(())
+            two_fields(hello, tag, rest, &mut request.key, &mut request.value)?;
+            request.kind = RequestKind::Replace;
         }
         0x16 => {
-            let mut expected = Value::new();
-            three_fields(hello, tag, rest, &mut key, &mut expected, &mut value)?;
-            *request = Request::ReplaceIf {
-                key,
-                expected,
-                value,
-            };
-            Ok(())
+            three_fields(
+                hello,
+                tag,
+                rest,
+                &mut request.key,
+                &mut request.other.value,
+                &mut request.value,
+            )?;
+            request.kind = RequestKind::ReplaceIf;
         }
-        _ => Err(ProtocolFault::UnknownRequest),
+        _ => return Err(ProtocolFault::UnknownRequest),
     }
+    Ok(())
 }
 
 // The request with a tag from 0x17 to 0x1F: a call with a program.
@@ -178,45 +156,55 @@ fn program_request(
     ensures ok { OnOk result (SpellsBody (limits_after hello) (tag ∷ rest.now) (body_of request.new)) }
     ensures err { IfErr result (BodyHas hello (tag ∷ rest.now)) }
 {
+    let mut program: u64 = 0;
     match tag {
         0x17 => {
-            let mut key = empty_key();
-            let mut program: u64 = 0;
-            let mut arg = None;
-            three_fields(hello, tag, rest, &mut key, &mut program, &mut arg)?;
-            *request = Request::Compute { key, program, arg };
-            Ok(())
+            three_fields(
+                hello,
+                tag,
+                rest,
+                &mut request.key,
+                &mut program,
+                &mut request.other,
+            )?;
+            request.kind = RequestKind::Compute { program };
         }
         0x18 => {
-            let mut key = empty_key();
-            let mut program: u64 = 0;
-            let mut arg = None;
-            three_fields(hello, tag, rest, &mut key, &mut program, &mut arg)?;
-            *request = Request::ComputeIfAbsent { key, program, arg };
-            Ok(())
+            three_fields(
+                hello,
+                tag,
+                rest,
+                &mut request.key,
+                &mut program,
+                &mut request.other,
+            )?;
+            request.kind = RequestKind::ComputeIfAbsent { program };
         }
         0x19 => {
-            let mut key = empty_key();
-            let mut program: u64 = 0;
-            let mut arg = None;
-            three_fields(hello, tag, rest, &mut key, &mut program, &mut arg)?;
-            *request = Request::ComputeIfPresent { key, program, arg };
-            Ok(())
+            three_fields(
+                hello,
+                tag,
+                rest,
+                &mut request.key,
+                &mut program,
+                &mut request.other,
+            )?;
+            request.kind = RequestKind::ComputeIfPresent { program };
         }
         0x1A => {
-            let mut key = empty_key();
-            let mut value = Value::new();
-            let mut program: u64 = 0;
-            three_fields(hello, tag, rest, &mut key, &mut value, &mut program)?;
-            *request = Request::Merge {
-                key,
-                value,
-                program,
-            };
-            Ok(())
+            three_fields(
+                hello,
+                tag,
+                rest,
+                &mut request.key,
+                &mut request.value,
+                &mut program,
+            )?;
+            request.kind = RequestKind::Merge { program };
         }
-        _ => Err(ProtocolFault::UnknownRequest),
+        _ => return Err(ProtocolFault::UnknownRequest),
     }
+    Ok(())
 }
 
 // The request with a tag from 0x20 on: a walk.
@@ -230,45 +218,42 @@ fn walk_request(
     ensures ok { OnOk result (SpellsBody (limits_after hello) (tag ∷ rest.now) (body_of request.new)) }
     ensures err { IfErr result (BodyHas hello (tag ∷ rest.now)) }
 {
+    let mut program: u64 = 0;
+    let mut threshold: u64 = 0;
     match tag {
         0x20 => {
-            let mut program: u64 = 0;
-            let mut arg = None;
-            let mut threshold: u64 = 0;
-            three_fields(hello, tag, rest, &mut program, &mut arg, &mut threshold)?;
-            *request = Request::Search {
-                program,
-                arg,
-                threshold,
-            };
-            Ok(())
+            three_fields(
+                hello,
+                tag,
+                rest,
+                &mut program,
+                &mut request.other,
+                &mut threshold,
+            )?;
+            request.kind = RequestKind::Walk(Walk::Search { program, threshold });
         }
         0x21 => {
-            let mut program: u64 = 0;
-            let mut arg = None;
-            let mut threshold: u64 = 0;
-            three_fields(hello, tag, rest, &mut program, &mut arg, &mut threshold)?;
-            *request = Request::ForEach {
-                program,
-                arg,
-                threshold,
-            };
-            Ok(())
+            three_fields(
+                hello,
+                tag,
+                rest,
+                &mut program,
+                &mut request.other,
+                &mut threshold,
+            )?;
+            request.kind = RequestKind::Walk(Walk::ForEach { program, threshold });
         }
         0x22 => {
-            let mut program: u64 = 0;
-            let mut arg = None;
-            two_fields(hello, tag, rest, &mut program, &mut arg)?;
-            *request = Request::ReplaceAll { program, arg };
-            Ok(())
+            two_fields(hello, tag, rest, &mut program, &mut request.other)?;
+            request.kind = RequestKind::Walk(Walk::ReplaceAll { program });
         }
         0x23 => {
             no_field(hello, tag, rest)?;
-            *request = Request::Count;
-            Ok(())
+            request.kind = RequestKind::Walk(Walk::Count);
         }
-        _ => Err(ProtocolFault::UnknownRequest),
+        _ => return Err(ProtocolFault::UnknownRequest),
     }
+    Ok(())
 }
 
 // The sizes that a Register begins with, and the program behind them; none where the bytes are too few.
@@ -297,9 +282,8 @@ fn sizes_at(hello: Option<Version>, bytes: &[u8]) -> Option<(Sizes, &[u8])>
     Some((sizes, program))
 }
 
-// A Register. Asks for memory for a copy of the program.
+// A Register. Asks for memory for a copy of the program where the place has no room for it.
 fn register_request(
-    alloc: Global,
     hello: Option<Version>,
     rest: &[u8],
     request: &mut Request,
@@ -310,18 +294,13 @@ fn register_request(
     let Some((sizes, program)) = sizes_at(hello, rest) else {
         return Err(ReadFault::Fault(ProtocolFault::BadField));
     };
-    let program = BytesMut::copy_from_slice(alloc, program)?.freeze()?;
-    *request = Request::Register { sizes, program };
+    replace(&mut request.program, program)?;
+    request.kind = RequestKind::Register { sizes };
     Ok(())
 }
 
 // The request of a body, if it were its turn.
-fn request_of(
-    alloc: Global,
-    hello: Option<Version>,
-    body: &[u8],
-    request: &mut Request,
-) -> Result<(), ReadFault>
+fn request_of(hello: Option<Version>, body: &[u8], request: &mut Request) -> Result<(), ReadFault>
     requires { 1 ≤ length body.now }
     ensures ok { OnOk result (SpellsBody (limits_after hello) body.now (body_of request.new)) }
     ensures err { IfErr result (λ e. IfFault e (BodyHas hello body.now)) }
@@ -331,7 +310,7 @@ fn request_of(
     };
     let tag = *tag;
     if tag == 0x01 {
-        return register_request(alloc, hello, rest, request);
+        return register_request(hello, rest, request);
     }
     let read = if tag < 0x14 {
         early_request(hello, tag, rest, request)
@@ -351,7 +330,7 @@ fn request_of(
 fn is_hello(request: &Request) -> bool
     ensures { result ≡ is_hello request.now }
 {
-    matches!(request, Request::Hello { .. })
+    matches!(request.kind, RequestKind::Hello { .. })
 }
 
 // Whether it is the request's turn.
@@ -369,7 +348,6 @@ fn may_come(hello: Option<Version>, request: &Request) -> bool
 /// one byte.
 #[tactic(auto, using(crate::proofs::BodyLaws::misplaced))]
 pub fn read_request(
-    alloc: Global,
     hello: Option<Version>,
     body: &[u8],
     request: &mut Request,
@@ -378,7 +356,7 @@ pub fn read_request(
     ensures ok { OnOk result (IsBodyOf hello body.now request.new) }
     ensures err { IfErr result (λ fault. IfFault fault (BodyHas hello body.now)) }
 {
-    request_of(alloc, hello, body, request)?;
+    request_of(hello, body, request)?;
     if !may_come(hello, request) {
         return Err(ReadFault::Fault(ProtocolFault::WrongVersion));
     }

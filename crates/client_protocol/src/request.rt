@@ -1,12 +1,19 @@
-//! What clients ask.
+//! What clients ask, in places that serve again.
+ghost use Rattle.std.specs.Prelude.{◌≡◌, Option, option_copied};
+ghost use Rattle.client_protocol.specs.Requests.{viewed};
+ghost use Rattle.client_protocol.specs.Requests.Request.{Count};
+ghost use Rattle.client_protocol.specs.Places.{optional, walk_with};
+
 use crate::limits::Version;
 use bpf_model::{Key, Sizes, Value};
-use bytes::Bytes;
+use bytes::BytesMut;
+use std::alloc::Global;
+use std::marker::Model;
 
-/// A request of a client. A program is named by the number under which it was registered; an `arg` is an argument, or
-/// absent.
-#[derive(Debug, PartialEq, Eq, Drop)]
-pub enum Request {
+/// A request of a client, as its place shows it: a few words, which lend the key, the values and the bytes. A program is
+/// named by the number under which it was registered; an `arg` is an argument, or absent.
+#[derive(Clone, Copy)]
+pub enum RequestView<'a> {
     /// Comes first, and once: tag 00.
     Hello {
         version: Version,
@@ -14,83 +21,248 @@ pub enum Request {
     /// Registers the program that these bytes spell, with these sizes: tag 01.
     Register {
         sizes: Sizes,
-        program: Bytes,
+        program: &'a [u8],
     },
     /// Tag 10.
     Get {
-        key: Key,
+        key: &'a Key,
     },
     /// Tag 11.
     Put {
-        key: Key,
-        value: Value,
+        key: &'a Key,
+        value: &'a Value,
     },
     /// Tag 12.
     PutIfAbsent {
-        key: Key,
-        value: Value,
+        key: &'a Key,
+        value: &'a Value,
     },
     /// Tag 13.
     Remove {
-        key: Key,
+        key: &'a Key,
     },
     /// Tag 14.
     RemoveIf {
-        key: Key,
-        expected: Value,
+        key: &'a Key,
+        expected: &'a Value,
     },
     /// Tag 15.
     Replace {
-        key: Key,
-        value: Value,
+        key: &'a Key,
+        value: &'a Value,
     },
     /// Tag 16.
     ReplaceIf {
-        key: Key,
-        expected: Value,
-        value: Value,
+        key: &'a Key,
+        expected: &'a Value,
+        value: &'a Value,
     },
     /// Tag 17.
     Compute {
-        key: Key,
+        key: &'a Key,
         program: u64,
-        arg: Option<Value>,
+        arg: Option<&'a Value>,
     },
     /// Tag 18.
     ComputeIfAbsent {
-        key: Key,
+        key: &'a Key,
         program: u64,
-        arg: Option<Value>,
+        arg: Option<&'a Value>,
     },
     /// Tag 19.
     ComputeIfPresent {
-        key: Key,
+        key: &'a Key,
         program: u64,
-        arg: Option<Value>,
+        arg: Option<&'a Value>,
     },
     /// Tag 1a.
     Merge {
-        key: Key,
-        value: Value,
+        key: &'a Key,
+        value: &'a Value,
         program: u64,
     },
     /// The least key with an answer, over the whole table: tag 20.
     Search {
         program: u64,
-        arg: Option<Value>,
+        arg: Option<&'a Value>,
         threshold: u64,
     },
     /// All answers, over the whole table: tag 21.
     ForEach {
         program: u64,
-        arg: Option<Value>,
+        arg: Option<&'a Value>,
         threshold: u64,
     },
     /// Each value is replaced by its answer: tag 22.
     ReplaceAll {
         program: u64,
-        arg: Option<Value>,
+        arg: Option<&'a Value>,
     },
     /// How many entries there are: tag 23.
     Count,
+}
+
+/// What a request is beside its bytes.
+#[derive(Clone, Copy)]
+pub enum RequestKind {
+    Hello { version: Version },
+    Register { sizes: Sizes },
+    Get,
+    Put,
+    PutIfAbsent,
+    Remove,
+    RemoveIf,
+    Replace,
+    ReplaceIf,
+    Compute { program: u64 },
+    ComputeIfAbsent { program: u64 },
+    ComputeIfPresent { program: u64 },
+    Merge { program: u64 },
+    Walk(Walk),
+}
+
+/// A request that is about no key.
+#[derive(Clone, Copy)]
+pub enum Walk {
+    Search { program: u64, threshold: u64 },
+    ForEach { program: u64, threshold: u64 },
+    ReplaceAll { program: u64 },
+    Count,
+}
+
+impl Walk {
+    // The walk with this argument.
+    #[inline(always)]
+    fn view<'a>(self, arg: Option<&'a Value>) -> RequestView<'a>
+        ensures { viewed result ≡ walk_with self (option_copied arg.entry) }
+    {
+        match self {
+            Walk::Search { program, threshold } => RequestView::Search {
+                program,
+                arg,
+                threshold,
+            },
+            Walk::ForEach { program, threshold } => RequestView::ForEach {
+                program,
+                arg,
+                threshold,
+            },
+            Walk::ReplaceAll { program } => RequestView::ReplaceAll { program, arg },
+            Walk::Count => RequestView::Count,
+        }
+    }
+}
+
+/// A value that may be absent. Its place stays then.
+#[derive(Drop)]
+pub struct OptionalValue {
+    pub is_there: bool,
+    pub value: Value,
+}
+
+impl OptionalValue {
+    #[inline(always)]
+    fn as_option(&self) -> Option<&Value>
+        ensures { option_copied result ≡ optional self.now }
+    {
+        if self.is_there {
+            Some(&self.value)
+        } else {
+            None
+        }
+    }
+}
+
+// A key without a byte: a place for one that is read.
+fn empty_key() -> Key {
+    match Key::from_slice(&[]) {
+        Ok(key) => key,
+        Err(_) => unreachable!(),
+    }
+}
+
+/// A place for a request of a client, some 2,200 bytes. A request is read into it where it stays, and `view` lends it, so
+/// reading and answering copy no more than the bytes that came.
+#[derive(Drop)]
+pub struct Request {
+    pub(crate) kind: RequestKind,
+    pub(crate) key: Key,
+    pub(crate) value: Value,
+    // The argument, or the value that is expected.
+    pub(crate) other: OptionalValue,
+    // The bytes of a Register's program.
+    pub(crate) program: BytesMut,
+}
+
+impl Model for Request {
+    ghost use Rattle.client_protocol.specs.Requests.{Request};
+    ghost use Rattle.client_protocol.specs.Places.{request_in};
+
+    ghost Value = { Request };
+
+    ghost view = { λ r. request_in r.kind r.key r.value r.other r.program.items };
+}
+
+impl Request {
+    /// A place, which holds a `Count`. Takes no memory; a `Register` that is read into it asks for some.
+    pub fn new(alloc: Global) -> Request
+        ensures { result ≡ Count }
+    {
+        Request {
+            kind: RequestKind::Walk(Walk::Count),
+            key: empty_key(),
+            value: Value::new(),
+            other: OptionalValue {
+                is_there: false,
+                value: Value::new(),
+            },
+            program: BytesMut::new(alloc),
+        }
+    }
+
+    /// The request, lent. Takes no memory, and copies a few words.
+    #[inline(always)]
+    pub fn view(&self) -> RequestView<'_>
+        ensures { viewed result ≡ self.now }
+    {
+        let key = &self.key;
+        let value = &self.value;
+        let expected = &self.other.value;
+        let arg = self.other.as_option();
+        match self.kind {
+            RequestKind::Hello { version } => RequestView::Hello { version },
+            RequestKind::Register { sizes } => RequestView::Register {
+                sizes,
+                program: self.program.as_slice(),
+            },
+            RequestKind::Get => RequestView::Get { key },
+            RequestKind::Put => RequestView::Put { key, value },
+            RequestKind::PutIfAbsent => RequestView::PutIfAbsent { key, value },
+            RequestKind::Remove => RequestView::Remove { key },
+            RequestKind::RemoveIf => RequestView::RemoveIf { key, expected },
+            RequestKind::Replace => RequestView::Replace { key, value },
+            RequestKind::ReplaceIf => RequestView::ReplaceIf {
+                key,
+                expected,
+                value,
+            },
+            RequestKind::Compute { program } => RequestView::Compute { key, program, arg },
+            RequestKind::ComputeIfAbsent { program } => RequestView::ComputeIfAbsent {
+                key,
+                program,
+                arg,
+            },
+            RequestKind::ComputeIfPresent { program } => RequestView::ComputeIfPresent {
+                key,
+                program,
+                arg,
+            },
+            RequestKind::Merge { program } => RequestView::Merge {
+                key,
+                value,
+                program,
+            },
+            RequestKind::Walk(walk) => walk.view(arg),
+        }
+    }
 }

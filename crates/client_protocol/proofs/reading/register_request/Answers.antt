@@ -1,4 +1,4 @@
-use Rattle.std.proofs.Common.{[], ◌∷◌, refl, ◌∙◌}
+use Rattle.std.proofs.Common.{[], ◌∷◌, refl}
 use Rattle.client_protocol.specs.Bodies.{limits_after}
 use Rattle.client_protocol.specs.Bodies.Kind.{a_short}
 use Rattle.client_protocol.proofs.BodyLaws.{bad_fields, register_found}
@@ -9,5 +9,4 @@ returns-in_default-clause-err c = bad_fields c.args.hello 1 (a_short ∷ a_short
 
 pub returns-clause-ok : goal.returns-clause-ok
 returns-clause-ok c =
-    register_found (limits_after c.args.hello) c.args.rest.now c.in-Some.sizes c.in_ok-program.program c.in-Some.program.now c.in-Some.ensures.some
-    (c.in_ok-program.ensures.ok ∙ c.in_ok-copy_from_slice.ensures)
+    register_found (limits_after c.args.hello) c.args.rest.now c.in-Some.sizes c.replace.new.bytes.items c.in-Some.program.now c.in-Some.ensures.some c.in_ok-replace.ensures.ok

@@ -1,6 +1,6 @@
 use Rattle.client_protocol.specs.Bodies.{limits_after}
 use Rattle.client_protocol.proofs.FieldLaws.{no_opt-short, no_opt, value_found}
-use Rattle.client_protocol.proofs.field.OptionValueField.read.Goals as goal
+use Rattle.client_protocol.proofs.field.OptionalValueField.read.Goals as goal
 
 pub returns-in_default-clause-none : goal.returns-in_default-clause-none
 returns-in_default-clause-none c = no_opt-short (limits_after c.args.hello) c.args.bytes.now c.in_default.ensures.none
