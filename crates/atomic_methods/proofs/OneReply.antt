@@ -37,10 +37,10 @@ one_list checked arg (e ∷ es) (x ∷ xs) (y ∷ ys) same first second =
 
 -- two replies to one walk over the same entries have the same items and counts
 pub one_reply : (kind : WalkKind) (checked : Checked) (arg : Option (List ℕ)) (es : List Entry) (r s : WalkReply) → IsReply kind checked arg es r → IsReply kind checked arg es s
-    → (r.items.items ≡ s.items.items) × (r.counts ≡ s.counts)
+    → (r.items ≡ s.items) × (r.counts ≡ s.counts)
 one_reply kind checked arg es r s first second =
     let same = one_list checked arg es first.outcomes second.outcomes (first.one_each ∙ sym second.one_each) first.are_outcomes second.are_outcomes in
-    let items : r.items.items ≡ s.items.items = first.items ∙ ap (λ (xs : List Outcome). chosen kind (present es xs)) same ∙ sym second.items in
+    let items : r.items ≡ s.items = first.items ∙ ap (λ (xs : List Outcome). chosen kind (present es xs)) same ∙ sym second.items in
     let scanned : r.counts.scanned ≡ s.counts.scanned = first.scanned ∙ sym second.scanned in
     let given : r.counts.given ≡ s.counts.given = first.given ∙ ap length items ∙ sym second.given in
     let unfit : r.counts.unfit ≡ s.counts.unfit = first.unfit ∙ ap (λ (xs : List Outcome). count_by is_unfit xs) same ∙ sym second.unfit in

@@ -1,14 +1,15 @@
--- A walk in the place of its entries: one entry more.
-use Rattle.std.proofs.Common.{◌≡◌, ◌≢◌, ℕ, ◌+◌, ◌<◌, ◌≤◌, List, [], ◌∷◌, ◌++◌, length, get_or, set, take, Option, Some, Bool, true, Result, Ok, Err, refl, sym, ap, subst, ◌∙◌, arith}
-use Rattle.std.proofs.lemmas.List.{append-nil, take-set-le, get_or-set_same, get_or-set_other}
+-- A walk over entries: one entry more.
+use Rattle.std.proofs.Common.{◌≡◌, ℕ, ◌+◌, ◌<◌, List, [], ◌∷◌, ◌++◌, length, length-append, get_or, Option, Some, Bool, false, cond, Ok, Err, refl, sym, ap, subst, ◌∙◌, arith}
+use Rattle.std.specs.List.{count_by}
+use Rattle.std.proofs.lemmas.List.{append-nil}
 use Rattle.bpf_model.specs.declared.input.Answer.TheVariants.{Nothing, Bytes}
-use Rattle.bpf_model.specs.declared.input.InputPart.{InputPart}
 use Rattle.bpf_model.specs.Fits.{input_of}
 use Rattle.verifier.specs.Checked.{Checked}
+use Rattle.bins.specs.Entries.{entry_of}
 use Rattle.bins.specs.Table.{Entry}
-use Rattle.bins.specs.Replacements.{Outcome, ComesTo, value_after}
-use Rattle.bins.specs.Passes.{AreOutcomes, entered_of}
-use Rattle.bins.proofs.ReplacementLemmas.{AreOutcomes-push}
+use Rattle.bins.specs.Replacements.{Outcome, ComesTo, is_unfit}
+use Rattle.bins.specs.Passes.{AreOutcomes}
+use Rattle.bins.proofs.ReplacementLemmas.{AreOutcomes-push, count_one_more}
 use Rattle.atomic_methods.specs.declared.walk_reply.WalkKind.{WalkKind}
 use Rattle.atomic_methods.specs.declared.walk_reply.WalkKind.TheVariants.{Search, ForEach}
 use Rattle.atomic_methods.specs.Replies.{present, chosen}
@@ -19,12 +20,12 @@ given_at key (Ok (Bytes answer)) = (key, answer) ∷ []
 given_at key (Ok Nothing) = []
 given_at key (Err part) = []
 
-pub present-nil : (es : List Entry) → present es [] ≡ []
+present-nil : (es : List Entry) → present es [] ≡ []
 present-nil [] = refl
 present-nil (e ∷ es) = refl
 
 -- one outcome more, at the entry in its place
-pub present-push : (es : List Entry) (os : List Outcome) (o : Outcome) (d : Entry) → length os < length es → present es (os ++ o ∷ []) ≡ present es os ++ given_at (get_or es (length os) d).0 o
+present-push : (es : List Entry) (os : List Outcome) (o : Outcome) (d : Entry) → length os < length es → present es (os ++ o ∷ []) ≡ present es os ++ given_at (get_or es (length os) d).0 o
 present-push [] os o d lt = absurd (omega (arith, lt))
 present-push (e ∷ es) [] (Ok (Bytes answer)) d lt = ap (λ (xs : List Entry). (e.0, answer) ∷ xs) (present-nil es)
 present-push (e ∷ es) [] (Ok Nothing) d lt = present-nil es
@@ -34,54 +35,66 @@ present-push (e ∷ es) (Ok Nothing ∷ os) o d lt = present-push es os o d (ome
 present-push (e ∷ es) (Err part ∷ os) o d lt = present-push es os o d (omega (arith, lt))
 
 -- of no answer none is chosen
-pub chosen-nil : (kind : WalkKind) → chosen kind [] ≡ []
+chosen-nil : (kind : WalkKind) → chosen kind [] ≡ []
 chosen-nil Search = refl
 chosen-nil ForEach = refl
 
--- from the place on the entries are as they were
-abbrev pub IsBehind : ℕ → List Entry → List Entry → Type 0
-IsBehind place here es = (k : ℕ) (d : Entry) → place ≤ k → get_or here k d ≡ get_or es k d
+-- what a walk of this kind keeps after the program's runs on the first entries
+pub record Walked (kind : WalkKind) (checked : Checked) (arg : Option (List ℕ)) (entries items : List Entry) (place unfit : ℕ) : Type 0 where
+  pub outcomes : List Outcome
+  pub one_each : length outcomes ≡ place
+  pub are_outcomes : AreOutcomes checked arg entries outcomes
+  pub answers : items ≡ chosen kind (present entries outcomes)
+  pub unfit_is : unfit ≡ count_by is_unfit outcomes
 
--- the program's run on the entry at one place
-module _ (es here : List Entry) (os : List Outcome) (place : ℕ) (at : length os ≡ place) (lt : place < length here) (same : length here ≡ length es) (behind : IsBehind place here es) (entry : Entry) (is : entry ≡ get_or here place entry) where
-  low : length os < length es
-  low = omega (arith, at, lt, same)
+module _ (kind : WalkKind) (checked : Checked) (arg : Option (List ℕ)) (entries : List Entry) where
+  pub walked_none : (items : List Entry) → items ≡ [] → Walked kind checked arg entries items 0 0
+  walked_none items is = record {
+    outcomes = [];
+    one_each = refl;
+    are_outcomes = tt;
+    answers = is ∙ sym (ap (λ (xs : List Entry). chosen kind xs) (present-nil entries) ∙ chosen-nil kind);
+    unfit_is = refl;
+  }
 
-  as_before : entry ≡ get_or es (length os) entry
-  as_before = is ∙ behind place entry (omega arith) ∙ ap (λ (n : ℕ). get_or es n entry) (sym at)
+  -- the program's run on the next entry
+  module _ (items : List Entry) (place unfit : ℕ) (before : Walked kind checked arg entries items place unfit) (lt : place < length entries) (entry : Entry) (is : entry ≡ entry_of entries place) where
+    abbrev here : Entry
+    here = get_or entries (length before.outcomes) ([], [])
 
-  -- one outcome more
-  pub outcomes_grow : (checked : Checked) (arg : Option (List ℕ)) (o : Outcome) → AreOutcomes checked arg es os → ComesTo checked (input_of entry.0 (Some entry.1) arg) o → AreOutcomes checked arg es (os ++ o ∷ [])
-  outcomes_grow checked arg o are comes = AreOutcomes-push checked arg es os o entry low are (subst (λ (e : Entry). ComesTo checked (input_of e.0 (Some e.1) arg) o) as_before comes)
+    low : length before.outcomes < length entries
+    low = omega (arith, before.one_each, lt)
 
-  -- it answered bytes, and the walk was offered them
-  pub answers_grow : (kind : WalkKind) (answer : List ℕ) (given more : ℕ) (after : List Entry) → given ≤ place → take given here ≡ chosen kind (present es os)
-      → (take given (set here place (entry.0, answer)) ≡ chosen kind (present es os) → take more after ≡ chosen kind (present es os ++ get_or (set here place (entry.0, answer)) place entry ∷ []))
-      → take more after ≡ chosen kind (present es (os ++ Ok (Bytes answer) ∷ []))
-  answers_grow kind answer given more after le had kept =
-      kept (take-set-le given here place (entry.0, answer) le ∙ had)
-      ∙ ap (λ (e : Entry). chosen kind (present es os ++ e ∷ [])) (get_or-set_same here place (entry.0, answer) entry lt)
-      ∙ ap (λ (e : Entry). chosen kind (present es os ++ (e.0, answer) ∷ [])) as_before
-      ∙ ap (λ (xs : List Entry). chosen kind xs) (sym (present-push es os (Ok (Bytes answer)) entry low))
+    at : entry ≡ here
+    at = is ∙ ap (λ (n : ℕ). entry_of entries n) (sym before.one_each)
 
-  -- it answered none
-  pub answers_stay : (kind : WalkKind) (o : Outcome) (value : List ℕ) (given : ℕ) → given ≤ place → take given here ≡ chosen kind (present es os) → ((key : List ℕ) → given_at key o ≡ [])
-      → take given (set here place (entry.0, value)) ≡ chosen kind (present es (os ++ o ∷ []))
-  answers_stay kind o value given le had none =
-      take-set-le given here place (entry.0, value) le ∙ had
-      ∙ ap (λ (xs : List Entry). chosen kind xs) (sym (present-push es os o entry low ∙ ap (λ (xs : List Entry). present es os ++ xs) (none (get_or es (length os) entry).0) ∙ append-nil (present es os)))
+    each : (o : Outcome) → length (before.outcomes ++ o ∷ []) ≡ place + 1
+    each o = omega (arith, ap (λ (n : ℕ). n + 1) before.one_each, length-append before.outcomes (o ∷ []))
 
-  -- the entries behind the place stay
-  pub behind_stays : (e : Entry) → IsBehind (place + 1) (set here place e) es
-  behind_stays e k x le = get_or-set_other here place k e x (λ same. omega arith) ∙ behind k x (omega arith)
+    come : (o : Outcome) → ComesTo checked (input_of entry.0 (Some entry.1) arg) o → AreOutcomes checked arg entries (before.outcomes ++ o ∷ [])
+    come o comes = AreOutcomes-push checked arg entries before.outcomes o ([], []) low before.are_outcomes (subst (λ (e : Entry). ComesTo checked (input_of e.0 (Some e.1) arg) o) at comes)
 
--- what is told of an outcome tells what is given
-pub told_bytes : (o : Outcome) (value new : List ℕ) → Ok true ≡ entered_of o → new ≡ value_after o value → o ≡ Ok (Bytes new)
-told_bytes (Ok (Bytes answer)) value new told is = ap (λ (v : List ℕ). Ok (Bytes v)) (sym is)
-told_bytes (Ok Nothing) value new told is = cc
-told_bytes (Err part) value new told is = cc
+    -- it answered bytes, and the walk was offered them
+    pub walked_given : (answer : List ℕ) (after : List Entry) → ComesTo checked (input_of entry.0 (Some entry.1) arg) (Ok (Bytes answer))
+        → ((found : List Entry) → items ≡ chosen kind found → after ≡ chosen kind (found ++ (entry.0, answer) ∷ [])) → Walked kind checked arg entries after (place + 1) unfit
+    walked_given answer after comes kept = record {
+      outcomes = before.outcomes ++ Ok (Bytes answer) ∷ [];
+      one_each = each (Ok (Bytes answer));
+      are_outcomes = come (Ok (Bytes answer)) comes;
+      answers = kept (present entries before.outcomes) before.answers
+          ∙ ap (λ (e : Entry). chosen kind (present entries before.outcomes ++ (e.0, answer) ∷ [])) at
+          ∙ ap (λ (xs : List Entry). chosen kind xs) (sym (present-push entries before.outcomes (Ok (Bytes answer)) ([], []) low));
+      unfit_is = omega (arith, before.unfit_is, count_one_more is_unfit before.outcomes (Ok (Bytes answer)) false refl);
+    }
 
-pub told_nothing : (o : Outcome) (told : Result Bool InputPart) → told ≢ Ok true → told ≡ entered_of o → (key : List ℕ) → given_at key o ≡ []
-told_nothing (Ok (Bytes answer)) told not is key = absurd (not is)
-told_nothing (Ok Nothing) told not is key = refl
-told_nothing (Err part) told not is key = refl
+    -- it answered none
+    pub walked_none_given : (o : Outcome) (b : Bool) (after : ℕ) → ComesTo checked (input_of entry.0 (Some entry.1) arg) o → ((key : List ℕ) → given_at key o ≡ []) → is_unfit o ≡ b
+        → after ≡ unfit + cond b 1 0 → Walked kind checked arg entries items (place + 1) after
+    walked_none_given o b after comes none is_b counted = record {
+      outcomes = before.outcomes ++ o ∷ [];
+      one_each = each o;
+      are_outcomes = come o comes;
+      answers = before.answers
+          ∙ ap (λ (xs : List Entry). chosen kind xs) (sym (present-push entries before.outcomes o ([], []) low ∙ ap (λ (xs : List Entry). present entries before.outcomes ++ xs) (none here.0) ∙ append-nil (present entries before.outcomes)));
+      unfit_is = omega (arith, counted, before.unfit_is, count_one_more is_unfit before.outcomes o b is_b);
+    }

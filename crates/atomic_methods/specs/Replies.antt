@@ -31,14 +31,14 @@ pub record IsReply (kind : WalkKind) (checked : Checked) (arg : Option (List ℕ
   pub outcomes : List Outcome
   pub one_each : length outcomes ≡ length entries
   pub are_outcomes : AreOutcomes checked arg entries outcomes
-  pub items : reply.items.items ≡ chosen kind (present entries outcomes)
+  pub items : reply.items ≡ chosen kind (present entries outcomes)
   pub scanned : reply.counts.scanned ≡ length entries
-  pub given : reply.counts.given ≡ length reply.items.items
+  pub given : reply.counts.given ≡ length reply.items
   pub unfit : reply.counts.unfit ≡ count_by is_unfit outcomes
 
 -- the reply to a count of so many entries
 pub record IsCount (entries : ℕ) (reply : WalkReply) : Type 0 where
-  pub items : reply.items.items ≡ []
+  pub items : reply.items ≡ []
   pub scanned : reply.counts.scanned ≡ entries
   pub given : reply.counts.given ≡ 0
   pub unfit : reply.counts.unfit ≡ 0

@@ -3,8 +3,8 @@
 //! The promise to the layers above: `apply` does to the entries, and replies, what the definition of its method says
 //! (`Answers`), and so does `Striped::apply` to a whole table; `Striped::run` makes a list of calls as the sequential map
 //! would, one after the other (`AnswersInTurn`).
-//! `search`, `for_each` and `count` answer what a walk over entries gives (`IsReply`, `IsCount` of `specs/Replies.antt`), in
-//! the place of the entries (`keep_answers`): a walk takes no memory.
+//! `walk` and `count_of` answer what a walk over entries gives (`IsReply`, `IsCount` of `specs/Replies.antt`), and
+//! `Striped::walk` what one over a whole table does.
 //! `NoMemory` comes only where a call would have added its key, and the entries are then as before. A call that adds no
 //! key takes no memory, and none waits. What each method does: `specs/Methods.antt`; lists of calls: `specs/Runs.antt`.
 #![tactic(auto)]
@@ -30,5 +30,5 @@ pub use reply::{Reply, ReplyKind};
 pub use striped::{Stopped, Striped};
 pub use stripes::{MAX_STRIPES, is_stripe_count, stripe_of};
 pub use walk_reply::{WalkKind, WalkReply, count_of};
-pub use walks::{count, for_each, keep_answers, search, walk};
+pub use walks::walk;
 pub use workspace::Workspace;

@@ -7,6 +7,7 @@ ghost use Rattle.atomic_methods.specs.Hashes.{IsStripeCount};
 ghost use Rattle.atomic_methods.specs.Invocations.{invocation_of};
 ghost use Rattle.atomic_methods.specs.Methods.{Answers, WouldAdd};
 ghost use Rattle.atomic_methods.specs.Plans.{reply_by};
+ghost use Rattle.atomic_methods.specs.Replies.{IsReply};
 ghost use Rattle.atomic_methods.specs.Runs.{AnswersInTurn, first_of, IsCallRefused};
 ghost use Rattle.atomic_methods.specs.Whole.{stripe_at, all_entries, whole, AreStripes, ReplacesStripes};
 
@@ -16,8 +17,10 @@ use crate::hashed_call::HashedCall;
 use crate::methods;
 use crate::reply::{Reply, ReplyKind};
 use crate::stripes::{MAX_STRIPES, is_stripe_count};
+use crate::walk_reply::{WalkKind, WalkReply};
+use crate::walks::walk;
 use crate::workspace::Workspace;
-use bins::{Bins, Counts, HashedBins, sort_entries};
+use bins::{Bins, Counts, EntryColumns, HashedBins, SortedColumns, sort_entries};
 use bpf_model::{Key, NoMemory, Value};
 use std::alloc::Global;
 use std::marker::Model;
@@ -124,6 +127,22 @@ impl Striped {
         sorted_entries(alloc, &self.stripes)
     }
 
+    /// Runs the program on each entry in key order, and gives the answers of this kind of walk. `NoMemory` where a request
+    /// for memory was refused. Never waits.
+    pub fn walk(
+        &self,
+        alloc: Global,
+        kind: WalkKind,
+        program: &Verified,
+        arg: &Option<Value>,
+    ) -> Result<WalkReply, NoMemory>
+        ensures ok { IfOk result (λ reply. IsReply kind program.now arg.now (finmap.entries self.now) reply) }
+    {
+        let entries = sorted_columns(alloc, &self.stripes)?;
+        let reply = walk(alloc, kind, &entries, program, arg)?;
+        Ok(reply)
+    }
+
     /// How many entries there are. Takes no memory. Never waits.
     pub fn count(&self) -> u64
         ensures value { result ≡ length (finmap.entries self.now) }
@@ -205,4 +224,27 @@ fn sorted_entries(alloc: Global, stripes: &[HashedBins]) -> Result<Vec<(Key, Val
     let mut found = copies_of(alloc, stripes)?;
     sort_entries(&mut found);
     Ok(found)
+}
+
+// The entries of each stripe in columns, for which room is asked first.
+fn columns_of(alloc: Global, stripes: &[HashedBins]) -> Result<EntryColumns, NoMemory>
+    requires { length stripes.now ≤ MAX_STRIPES }
+    ensures ok { IfOk result (λ found. WeighSame found (all_entries stripes.now)) }
+{
+    let mut found = EntryColumns::new(alloc);
+    found.reserve(count_of(stripes) as usize)?;
+    for stripe in stripes {
+        stripe.copy_apart(&mut found)?;
+    }
+    Ok(found)
+}
+
+// The entries of all stripes in key order, each in as many bytes as it needs.
+fn sorted_columns(alloc: Global, stripes: &[HashedBins]) -> Result<SortedColumns, NoMemory>
+    requires { AreStripes stripes.now }
+    ensures ok { IfOk result (λ found. found ≡ finmap.entries (whole stripes.now)) }
+{
+    let found = columns_of(alloc, stripes)?;
+    let sorted = SortedColumns::new(alloc, found)?;
+    Ok(sorted)
 }

@@ -5,15 +5,14 @@ ghost use Rattle.bins.specs.Table.{Entry};
 ghost use Rattle.atomic_methods.specs.declared.walk_reply.WalkKind.{WalkKind as AnyKind};
 ghost use Rattle.atomic_methods.specs.Replies.{IsReply, IsCount};
 
-use bins::Counts;
-use bpf_model::{Key, Value};
+use bins::{Counts, EntryColumns};
 use std::alloc::Global;
 
 /// What a walk answers.
 #[derive(Drop)]
 pub struct WalkReply {
     /// Keys with the answers that the walk gives, in key order.
-    pub items: Vec<(Key, Value)>,
+    pub items: EntryColumns,
     /// `scanned` and `unfit` count entries, and `given` the items.
     pub counts: Counts,
 }
@@ -21,21 +20,14 @@ pub struct WalkReply {
 impl WalkReply {
     /// Whether two replies are the same: those to one walk over the same entries are, and those to a count of as many.
     pub fn is_same(&self, other: &WalkReply) -> bool
-        ensures exact { IsTrue result ↔ (self.now.items.items ≡ other.now.items.items) × (self.now.counts ≡ other.now.counts) }
+        ensures exact { IsTrue result ↔ (self.now.items ≡ other.now.items) × (self.now.counts ≡ other.now.counts) }
         ensures one { (kind : AnyKind) (checked : Checked) (arg : Option (List ℕ)) (entries : List Entry) →
             IsReply kind checked arg entries self.now → IsReply kind checked arg entries other.now →
             IsTrue result }
         ensures one_count { (entries : ℕ) → IsCount entries self.now → IsCount entries other.now → IsTrue result }
     {
-        are_same(&self.items, &other.items) && self.counts == other.counts
+        self.items.is_same(&other.items) && self.counts == other.counts
     }
-}
-
-// Whether the entries are the same.
-fn are_same(one: &[(Key, Value)], other: &[(Key, Value)]) -> bool
-    ensures { IsTrue result ↔ (one.now ≡ other.now) }
-{
-    one == other
 }
 
 /// Which of the present answers a walk gives.
@@ -51,7 +43,7 @@ pub enum WalkKind {
 pub fn count_of(alloc: Global, scanned: u64) -> WalkReply
     ensures { IsCount scanned result }
 {
-    let items = Vec::new(alloc);
+    let items = EntryColumns::new(alloc);
     let counts = Counts {
         scanned,
         given: 0,

@@ -1,104 +1,109 @@
-//! Walks over the entries of one client.
-ghost use Rattle.std.specs.Prelude.{◌≡◌, ℕ, ◌+◌, ◌<◌, ◌≤◌, ◌++◌, ◌∷◌, [], List, length, slice_index_or, take, vec_len};
+//! Walks over entries in key order.
+ghost use Rattle.std.specs.Prelude.{◌≡◌, ◌≤◌, ◌++◌, ◌∷◌, [], List, Some, IfOk, OnOk, length};
+ghost use Rattle.bpf_model.specs.Fits.{input_of};
+ghost use Rattle.bins.specs.Replacements.{ComesTo};
 ghost use Rattle.bins.specs.Table.{Entry};
-ghost use Rattle.atomic_methods.specs.declared.walk_reply.WalkKind.TheVariants.{Search, ForEach};
-ghost use Rattle.atomic_methods.specs.Replies.{chosen, IsReply, IsCount};
+ghost use Rattle.atomic_methods.specs.Plans.{outcome_by};
+ghost use Rattle.atomic_methods.specs.Replies.{chosen, IsReply};
 
-use crate::walk_reply::{WalkKind, WalkReply, count_of};
-use bins::{Counts, replace_value};
+use crate::program::answer_into;
+use crate::walk_reply::{WalkKind, WalkReply};
+use bins::{Counts, EntryColumns, SortedColumns};
 use bpf_machine::Machine;
-use bpf_model::{Key, Value};
+use bpf_model::limits::{KEY_BYTES, VALUE_BYTES};
+use bpf_model::{InputPart, Key, NoMemory, Value};
 use std::alloc::Global;
 use verifier::Verified;
 
-/// The first present answer with its key, of entries in key order: the one at the least key. Takes no memory. Never
-/// waits.
-pub fn search(entries: Vec<(Key, Value)>, program: &Verified, arg: &Option<Value>) -> WalkReply
-    ensures reply { IsReply Search program.now arg.now entries.items result }
-{
-    walk(WalkKind::Search, entries, program, arg)
+/// Where a program runs on one entry after the other: no value is made for an entry, or moved. What it holds makes no
+/// difference.
+#[derive(Drop)]
+struct Workbench {
+    machine: Machine,
+    value: Value,
+    answer: Value,
 }
 
-/// All present answers with their keys, in the order of the entries. Takes no memory. Never waits.
-pub fn for_each(entries: Vec<(Key, Value)>, program: &Verified, arg: &Option<Value>) -> WalkReply
-    ensures reply { IsReply ForEach program.now arg.now entries.items result }
-{
-    walk(WalkKind::ForEach, entries, program, arg)
-}
-
-/// How many entries there are. Takes no memory. Never waits.
-pub fn count(alloc: Global, entries: &[(Key, Value)]) -> WalkReply
-    ensures reply { IsCount (length entries.now) result }
-{
-    count_of(alloc, entries.len() as u64)
-}
-
-/// Runs the program on each entry in turn, and gives the answers of this kind of walk, in the order of the entries.
-/// Takes no memory. Never waits.
+/// Runs the program on each entry in turn, and gives the answers of this kind of walk, in the order of the entries. Asks
+/// for room for the answers first; `NoMemory` where a request for memory was refused. Never waits.
 pub fn walk(
+    alloc: Global,
     kind: WalkKind,
-    mut entries: Vec<(Key, Value)>,
+    entries: &SortedColumns,
     program: &Verified,
     arg: &Option<Value>,
-) -> WalkReply
-    ensures reply { IsReply kind program.now arg.now entries.items result }
+) -> Result<WalkReply, NoMemory>
+    ensures ok { IfOk result (λ reply. IsReply kind program.now arg.now entries.now reply) }
 {
-    let counts = keep_answers(kind, &mut entries, program, arg);
-    let items = entries;
-    WalkReply { items, counts }
-}
-
-/// A walk in the place of its entries: what the walk gives is left in the list, and counted. The list keeps its room.
-/// Takes no memory. Never waits.
-pub fn keep_answers(
-    kind: WalkKind,
-    entries: &mut Vec<(Key, Value)>,
-    program: &Verified,
-    arg: &Option<Value>,
-) -> Counts
-    ensures reply { IsReply kind program.now arg.now entries.old.items (record { items = entries.new; counts = result }) }
-{
+    let mut items = EntryColumns::new(alloc);
     let count = entries.len();
-    let mut machine = Machine::new();
-    let mut answer = Value::new();
-    let mut given = 0;
+    items.reserve(most_given(kind, count))?;
+    let mut bench = Workbench {
+        machine: Machine::new(),
+        value: Value::new(),
+        answer: Value::new(),
+    };
     let mut unfit = 0;
     for place in 0..count {
-        let entry = &mut entries[place];
-        let (key, value) = (&entry.0, &mut entry.1);
-        match replace_value(program, key, value, arg, &mut machine, &mut answer) {
-            Ok(true) => given = kept(kind, entries, given, place),
+        let (key, value) = entries.get(place);
+        match answer(program, key, value, arg, &mut bench) {
+            Ok(true) => keep(kind, &mut items, key, bench.answer.as_slice())?,
             Ok(false) => {}
             Err(_) => unfit += 1,
         }
     }
-    entries.truncate(given);
-    Counts {
+    let counts = Counts {
         scanned: count as u64,
-        given: given as u64,
+        given: items.len() as u64,
         unfit,
+    };
+    Ok(WalkReply { items, counts })
+}
+
+// How many answers a walk over so many entries gives at most.
+fn most_given(kind: WalkKind, count: usize) -> usize {
+    match kind {
+        WalkKind::Search => 1,
+        WalkKind::ForEach => count,
     }
 }
 
-// Moves the answer at the place behind the first `given` entries, where the walk gives it; how many it gives then.
-fn kept(kind: WalkKind, entries: &mut Vec<(Key, Value)>, given: usize, place: usize) -> usize
-    requires given { given ≤ place }
-    requires place { place < vec_len entries.old }
-    ensures answers { (found : List Entry) (d : Entry) → take given entries.old.items ≡ chosen kind found →
-        take result entries.new.items ≡ chosen kind (found ++ slice_index_or entries.old.items place d ∷ []) }
-    ensures behind { (k : ℕ) (d : Entry) → place < k → slice_index_or entries.new.items k d ≡ slice_index_or entries.old.items k d }
-    ensures len { vec_len entries.new ≡ vec_len entries.old }
-    ensures most { result ≤ place + 1 }
+// Runs the program on a key, its value and the argument: whether it answers bytes, which then lie on the bench.
+fn answer(
+    program: &Verified,
+    key: &[u8],
+    value: &[u8],
+    arg: &Option<Value>,
+    bench: &mut Workbench,
+) -> Result<bool, InputPart>
+    requires key { length key.now ≤ KEY_BYTES }
+    requires value { length value.now ≤ VALUE_BYTES }
+    ensures outcome { ComesTo program.now (input_of key.now (Some value.now) arg.now) (outcome_by result bench.new.answer) }
+{
+    let key = Key::from_slice(key);
+    let key = key.unwrap();
+    let Workbench {
+        machine,
+        value: old,
+        answer,
+    } = bench;
+    old.set_from(value);
+    answer_into(program, &key, Some(old), arg.as_ref(), machine, answer)
+}
+
+// Adds an answer behind the ones before it, where the walk gives it.
+fn keep(kind: WalkKind, items: &mut EntryColumns, key: &[u8], answer: &[u8]) -> Result<(), NoMemory>
+    requires key { length key.now ≤ KEY_BYTES }
+    requires value { length answer.now ≤ VALUE_BYTES }
+    ensures ok { OnOk result ((found : List Entry) → items.old ≡ chosen kind found →
+        items.new ≡ chosen kind (found ++ (key.now, answer.now) ∷ [])) }
 {
     let wanted = match kind {
-        WalkKind::Search => given == 0,
+        WalkKind::Search => items.is_empty(),
         WalkKind::ForEach => true,
     };
-    if !wanted {
-        return given;
+    if wanted {
+        items.push(key, answer)?;
     }
-    if given != place {
-        entries.swap(given, place);
-    }
-    given + 1
+    Ok(())
 }

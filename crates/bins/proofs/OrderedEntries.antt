@@ -1,16 +1,16 @@
 -- Entries in the order of positions.
-use Rattle.std.proofs.Common.{◌≡◌, ℕ, zero, suc, ◌+◌, ◌<◌, List, [], ◌∷◌, ◌++◌, length, map, refl, sym, ap, subst, ◌∙◌, arith}
+use Rattle.std.proofs.Common.{◌≡◌, ℕ, zero, suc, ◌+◌, ◌<◌, List, [], ◌∷◌, ◌++◌, length, map, get_or, refl, sym, ap, subst, ◌∙◌, arith}
 use Rattle.std.specs.List.{range_with_len}
 use Rattle.std.specs.List.Sorted.{IsPermutation, IsSortedBy}
 use Rattle.std.proofs.lemmas.List.{ext_get_or, length-map, length_push, get_or-map}
 use Rattle.std.proofs.lemmas.List.FromFn.{length-map-range_with_len, get_or-map-range_with_len}
 use Rattle.std.proofs.lemmas.List.Sorted.{IsPermutation-map}
 use Rattle.bins.specs.Table.{Entry}
-use Rattle.bins.specs.Columns.{Kept, bytes_of, strings_of}
+use Rattle.bins.specs.Columns.{Kept, bytes_of, string_at, strings_of}
 use Rattle.bins.specs.declared.rooms.Place.{Place}
 use Rattle.bins.specs.Copies.{comes_before, is_before, positions_of}
-use Rattle.bins.specs.Entries.{entries_in, entry_at}
-use Rattle.bins.proofs.PairedEntries.{paired-length, paired-at}
+use Rattle.bins.specs.Entries.{entries_at, entries_in, entry_of}
+use Rattle.bins.proofs.PairedEntries.{paired-length}
 
 -- one number more
 pub range_more : (a n j : ℕ) → a + n ≡ j → range_with_len a (n + 1) ≡ range_with_len a n ++ j ∷ []
@@ -24,26 +24,38 @@ paired-append [] (w ∷ vs) same ms ws = absurd (omega (arith, same))
 paired-append (k ∷ ks) [] same ms ws = absurd (omega (arith, same))
 paired-append (k ∷ ks) (v ∷ vs) same ms ws = ap (λ (es : List Entry). (k, v) ∷ es) (paired-append ks vs (omega (arith, same)) ms ws)
 
+-- an entry stands where its key and its value stand
+pub paired-entry : (ks vs : List (List ℕ)) → length ks ≡ length vs → (p : ℕ) → entry_of (entries_in ks vs) p ≡ (string_at ks p, string_at vs p)
+paired-entry [] [] same p = refl
+paired-entry [] (w ∷ vs) same p = absurd (omega (arith, same))
+paired-entry (k ∷ ks) [] same p = absurd (omega (arith, same))
+paired-entry (k ∷ ks) (v ∷ vs) same zero = refl
+paired-entry (k ∷ ks) (v ∷ vs) same (suc p) = paired-entry ks vs (omega (arith, same)) p
+
 module _ (ks vs : List (List ℕ)) (same : length ks ≡ length vs) where
+  abbrev es : List Entry
+  es = entries_in ks vs
+
   abbrev nobody : Entry
   nobody = ([], [])
 
   -- at all positions stand all entries
-  pub all_entries : map (entry_at ks vs) (positions_of ks) ≡ entries_in ks vs
-  all_entries = ext_get_or nobody _ _ (length-map-range_with_len (entry_at ks vs) 0 (length ks) ∙ sym (paired-length ks vs same)) (λ i below.
-      let lt : i < length ks = omega (arith, below, length-map-range_with_len (entry_at ks vs) 0 (length ks)) in
-      get_or-map-range_with_len (entry_at ks vs) 0 (length ks) i i nobody lt (omega arith) ∙ sym (paired-at ks vs i nobody same lt))
+  all_entries : entries_at es (positions_of ks) ≡ es
+  all_entries = ext_get_or nobody _ _ (length-map-range_with_len (entry_of es) 0 (length ks) ∙ sym (paired-length ks vs same)) (λ i below.
+      let lt : i < length ks = omega (arith, below, length-map-range_with_len (entry_of es) 0 (length ks)) in
+      get_or-map-range_with_len (entry_of es) 0 (length ks) i i nobody lt (omega arith))
 
   -- in another order of the positions they are the same entries
-  pub moved : (order : List ℕ) → IsPermutation (positions_of ks) order → IsPermutation (entries_in ks vs) (map (entry_at ks vs) order)
-  moved order p = subst (λ (es : List Entry). IsPermutation es (map (entry_at ks vs) order)) all_entries (IsPermutation-map (entry_at ks vs) _ _ p)
+  pub moved : (order : List ℕ) → IsPermutation (positions_of ks) order → IsPermutation es (entries_at es order)
+  moved order p = subst (λ (xs : List Entry). IsPermutation xs (entries_at es order)) all_entries (IsPermutation-map (entry_of es) _ _ p)
 
   -- and their keys rise as those at the positions do
-  pub rising : (order : List ℕ) → IsSortedBy (is_before ks) order → IsSortedBy comes_before (map (entry_at ks vs) order)
+  pub rising : (order : List ℕ) → IsSortedBy (is_before ks) order → IsSortedBy comes_before (entries_at es order)
   rising order sorted = λ k d low high.
-      let long = length-map order (entry_at ks vs) in
-      let one = get_or-map (entry_at ks vs) order k 0 d (omega (arith, high, long)) in
-      let next = get_or-map (entry_at ks vs) order (k + 1) 0 d (omega (arith, high, long)) in
+      let long = length-map order (entry_of es) in
+      let entry = λ (p : ℕ). paired-entry ks vs same p in
+      let one = get_or-map (entry_of es) order k 0 d (omega (arith, high, long)) ∙ entry (get_or order k 0) in
+      let next = get_or-map (entry_of es) order (k + 1) 0 d (omega (arith, high, long)) ∙ entry (get_or order (k + 1) 0) in
       (λ i. comes_before (next i) (one i)) ∙ sorted k 0 low (omega (arith, high, long))
 
 -- the entries whose keys and values these are

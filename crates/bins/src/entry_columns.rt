@@ -1,10 +1,10 @@
-//! Copies of entries, each in as many bytes as it needs.
-ghost use Rattle.std.specs.Prelude.{◌≡◌, ◌+◌, ◌<◌, ◌≤◌, ◌^◌, ◌++◌, [], length, map, IfOk, OnOk, OnErr};
+//! Entries in a list, each in as many bytes as it needs.
+ghost use Rattle.std.specs.Prelude.{◌≡◌, ◌+◌, ◌<◌, ◌≤◌, ◌^◌, ◌++◌, ◌∷◌, ◌↔◌, [], length, map, IfOk, IsTrue, OnOk, OnErr};
 ghost use Rattle.std.specs.List.Sorted.{IsPermutation, IsSortedBy};
 ghost use Rattle.bins.specs.Columns.{string_at};
 ghost use Rattle.bins.specs.Copies.{comes_before, is_before, positions_of};
-ghost use Rattle.bins.specs.Entries.{entries_in, entry_at};
-ghost use Rattle.bins.specs.Table.{by_bytes};
+ghost use Rattle.bins.specs.Entries.{entries_at, entries_in, entry_of};
+ghost use Rattle.bins.specs.Table.{Entry, by_bytes};
 
 use crate::column::Column;
 use bpf_model::limits::{KEY_BYTES, VALUE_BYTES};
@@ -45,10 +45,88 @@ impl EntryColumns {
     }
 
     /// How many entries there are. Takes no memory.
+    #[inline(always)]
     pub fn len(&self) -> usize
         ensures value { result ≡ length self.now }
     {
         self.keys.len()
+    }
+
+    /// Whether there is no entry. Takes no memory.
+    pub fn is_empty(&self) -> bool
+        ensures exact { IsTrue result ↔ (length self.now ≡ 0) }
+    {
+        self.len() == 0
+    }
+
+    /// The key and the value at a position. Takes no memory.
+    #[inline(always)]
+    pub fn get(&self, position: usize) -> (&[u8], &[u8])
+        requires { position < length self.now }
+        ensures entry { ◌≡◌ {A = Entry} (result.0.now, result.1.now) (entry_of self.now position) }
+        ensures key { length result.0.now ≤ KEY_BYTES }
+        ensures value { length result.1.now ≤ VALUE_BYTES }
+    {
+        self.get_any(position)
+    }
+
+    /// The key and the value at a position; none of the bytes behind the last one. Takes no memory.
+    #[inline(always)]
+    pub(crate) fn get_any(&self, position: usize) -> (&[u8], &[u8])
+        ensures entry { ◌≡◌ {A = Entry} (result.0.now, result.1.now) (entry_of self.now position) }
+        ensures key { length result.0.now ≤ KEY_BYTES }
+        ensures value { length result.1.now ≤ VALUE_BYTES }
+    {
+        (self.keys.get_any(position), self.values.get_any(position))
+    }
+
+    /// Whether these are the same entries in the same order. Takes no memory.
+    pub fn is_same(&self, other: &EntryColumns) -> bool
+        ensures exact { IsTrue result ↔ (self.now ≡ other.now) }
+    {
+        if self.len() != other.len() {
+            return false;
+        }
+        for position in 0..self.len() {
+            let (key, value) = other.get(position);
+            if !self.is_at(position, key, value) {
+                return false;
+            }
+        }
+        true
+    }
+
+    // Whether the entry at a position has this key and this value.
+    fn is_at(&self, position: usize, key: &[u8], value: &[u8]) -> bool
+        requires { position < length self.now }
+        ensures exact { IsTrue result ↔ (entry_of self.now position ≡ (key.now, value.now)) }
+    {
+        let entry = self.get(position);
+        entry.0 == key && entry.1 == value
+    }
+
+    /// Asks for memory for so many more entries. `NoMemory` where that was refused; the entries are as before.
+    pub fn reserve(&mut self, more: usize) -> Result<(), NoMemory>
+        ensures same { self.new ≡ self.old }
+    {
+        self.keys.reserve(more)?;
+        self.values.reserve(more)?;
+        Ok(())
+    }
+
+    /// Adds an entry behind the others. Asks for memory where there is no room for it.
+    #[inline(always)]
+    pub fn push(&mut self, key: &[u8], value: &[u8]) -> Result<(), NoMemory>
+        requires key { length key.now ≤ KEY_BYTES }
+        requires value { length value.now ≤ VALUE_BYTES }
+        ensures ok { OnOk result (self.new ≡ self.old ++ (key.now, value.now) ∷ []) }
+        ensures err { OnErr result (self.new ≡ self.old) }
+    {
+        self.keys.reserve(1)?;
+        self.values.reserve(1)?;
+        self.keys.push_reserved(key);
+        self.values.push_reserved(value);
+        Ok(())
     }
 
     /// Adds copies of the entries of these columns. Asks for memory where there is no room for them.
@@ -83,15 +161,13 @@ impl EntryColumns {
         Ok(())
     }
 
-    /// The entries in a list, in key order. Asks for memory for the list, and for an order of the positions.
-    pub fn sorted(&self, alloc: Global) -> Result<Vec<(Key, Value)>, NoMemory>
-        ensures moved { IfOk result (λ list. IsPermutation self.now list.items) }
-        ensures order { IfOk result (λ list. IsSortedBy comes_before list.items) }
+    /// All positions, in the order of the keys that stand there. Asks for memory for them, and once more for as many.
+    pub(crate) fn order(&self, alloc: Global) -> Result<Vec<usize>, NoMemory>
+        ensures moved { IfOk result (λ order. IsPermutation self.now (entries_at self.now order.items)) }
+        ensures order { IfOk result (λ order. IsSortedBy comes_before (entries_at self.now order.items)) }
     {
         let order = order_of(alloc, &self.keys)?;
-        let mut list = Vec::with_capacity(alloc, order.len())?;
-        push_ordered(&mut list, &self.keys, &self.values, &order)?;
-        Ok(list)
+        Ok(order)
     }
 }
 
@@ -155,30 +231,4 @@ fn order_of(alloc: Global, keys: &Column<KEY_BYTES>) -> Result<Vec<usize>, NoMem
     let mut order = nearly_ordered(alloc, keys)?;
     order.sort_unstable_by(|one, other| compare_at(keys, *one, *other));
     Ok(order)
-}
-
-// A copy of the entry at a position.
-#[inline(always)]
-fn entry_at(keys: &Column<KEY_BYTES>, values: &Column<VALUE_BYTES>, position: usize) -> (Key, Value)
-    ensures { result ≡ entry_at keys.now.items values.now.items position }
-{
-    let key = Key::from_slice(keys.get_any(position));
-    let mut value = Value::new();
-    value.set_from(values.get_any(position));
-    (key.unwrap(), value)
-}
-
-// Adds copies of the entries at these positions to the list.
-fn push_ordered(
-    list: &mut Vec<(Key, Value)>,
-    keys: &Column<KEY_BYTES>,
-    values: &Column<VALUE_BYTES>,
-    order: &[usize],
-) -> Result<(), NoMemory>
-    ensures ok { OnOk result (list.new.items ≡ list.old.items ++ map (entry_at keys.now.items values.now.items) order.now) }
-{
-    for position in order {
-        list.push(entry_at(keys, values, *position))?;
-    }
-    Ok(())
 }

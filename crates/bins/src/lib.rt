@@ -23,6 +23,7 @@ mod index;
 mod list_bins;
 mod replacement;
 mod rooms;
+mod sorted_columns;
 mod tree;
 
 pub use bins::Bins;
@@ -33,3 +34,4 @@ pub use hashed_bins::HashedBins;
 pub use hashes::{HashedKey, hash_of};
 pub use list_bins::ListBins;
 pub use replacement::replace_value;
+pub use sorted_columns::SortedColumns;
