@@ -5,8 +5,8 @@ use Rattle.std.proofs.lemmas.List.Elements.{All-append, All-from_recursion, All-
 use Rattle.bpf_model.specs.Meaning.{IsSafe}
 use Rattle.verifier.specs.Checked.{Checked}
 use Rattle.client_protocol.specs.declared.limits.Version.{Version}
-use Rattle.client_protocol.specs.declared.request.Request.{Request}
-use Rattle.client_protocol.specs.declared.request.Request.TheVariants.{Hello, Register, Get, Put, PutIfAbsent, Remove, RemoveIf, Replace, ReplaceIf, Compute, ComputeIfAbsent, ComputeIfPresent, Merge, Search, ForEach, ReplaceAll, Count}
+use Rattle.client_protocol.specs.Requests.{Request}
+use Rattle.client_protocol.specs.Requests.Request.{Hello, Register, Get, Put, PutIfAbsent, Remove, RemoveIf, Replace, ReplaceIf, Compute, ComputeIfAbsent, ComputeIfPresent, Merge, Search, ForEach, ReplaceAll, Count}
 use Rattle.client_protocol.specs.declared.response.Response.{Response}
 use Rattle.program_registry.specs.declared.registry.ProgramToken.{ProgramToken}
 use Rattle.program_registry.specs.Tokens.{program_of, token_number}

@@ -12,8 +12,8 @@ use Rattle.bin_stripes.specs.Invoked.{Calls, RefusesCall}
 use Rattle.bin_stripes.specs.Passes.{PassState, ServesSameMap, stripes_of}
 use Rattle.bulk_walks.specs.Walks.{IsWalk, CountsAll, ReplacesAll, AllWalked, MayScan}
 use Rattle.client_protocol.specs.declared.limits.Version.{Version}
-use Rattle.client_protocol.specs.declared.request.Request.{Request}
-use Rattle.client_protocol.specs.declared.request.Request.TheVariants.{Search, ForEach, ReplaceAll}
+use Rattle.client_protocol.specs.Requests.{Request}
+use Rattle.client_protocol.specs.Requests.Request.{Search, ForEach, ReplaceAll}
 use Rattle.client_protocol.specs.declared.response.Response.{Response}
 use Rattle.client_protocol.specs.declared.response.Response.TheVariants as tell
 use Rattle.program_registry.specs.declared.registry.ProgramToken.{ProgramToken}

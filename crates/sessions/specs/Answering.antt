@@ -2,7 +2,7 @@
 use Rattle.std.specs.Prelude.{◌≡◌, ℕ, ◌≤◌, Bool, false, ◌||◌, List, [], ◌∷◌, ◌++◌, length, map, nat_lt, Option, Some, if◌then◌else◌}
 use Rattle.bins.specs.declared.counts.Counts.{Counts}
 use Rattle.client_protocol.specs.declared.limits.Version.{Version}
-use Rattle.client_protocol.specs.declared.request.Request.{Request}
+use Rattle.client_protocol.specs.Requests.{Request}
 use Rattle.client_protocol.specs.Bodies.{limits_after, hello_after}
 use Rattle.client_protocol.specs.declared.response.Response.{Response}
 use Rattle.client_protocol.specs.declared.response.Response.TheVariants.{Value, Refused, Item, End}
@@ -21,7 +21,7 @@ end_of counts = End counts.scanned counts.given counts.unfit
 
 -- the responses of a walk, in order
 abbrev pub walk_responses : WalkReply → List Response
-walk_responses reply = map item_of reply.items.items ++ end_of reply.counts ∷ []
+walk_responses reply = map item_of reply.items ++ end_of reply.counts ∷ []
 
 -- the responses of an answer, in order, where the bytes of a value that was found were left here
 abbrev pub responses_of : Answer → List ℕ → List Response

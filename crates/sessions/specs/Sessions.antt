@@ -1,7 +1,7 @@
 -- How a session ends: what it has read and written, and what is served then, whatever answers its requests. Our profile.
 use Rattle.std.specs.Prelude.{◌≡◌, ◌≢◌, ℕ, ◌≤◌, ◌⊎◌, List, [], ◌++◌, length, Option, None}
 use Rattle.client_protocol.specs.declared.limits.Version.{Version}
-use Rattle.client_protocol.specs.declared.request.Request.{Request}
+use Rattle.client_protocol.specs.Requests.{Request}
 use Rattle.client_protocol.specs.declared.fault.ProtocolFault.{ProtocolFault}
 use Rattle.client_protocol.specs.declared.response.Response.TheVariants as reply
 use Rattle.client_protocol.specs.declared.response.Response.{Response}

@@ -17,7 +17,7 @@ use crate::calls::{argument_of, call_of};
 use crate::devices::{ReadBehind, Sink};
 use crate::responses::{admit_or_refuse, answer_to, no_memory, unknown_program};
 use crate::session::{Answer, Service, SessionEnd, end_of, run_session};
-use atomic_methods::{OpenFault, Striped, WalkKind, count_of, walk};
+use atomic_methods::{OpenFault, Striped, WalkKind, count_of};
 use bpf_model::{NoMemory, Sizes, Value};
 use client_protocol::{Request, RequestView, ShortResponse, Version};
 use std::alloc::Global;
@@ -90,11 +90,10 @@ impl Alone {
         let Some(program) = self.programs.get(number) else {
             return Answer::One(unknown_program());
         };
-        let Ok(entries) = self.table.scan(alloc) else {
-            return Answer::One(no_memory());
-        };
-        let reply = walk(kind, entries, program, arg);
-        Answer::Walk(reply)
+        match self.table.walk(alloc, kind, program, arg) {
+            Ok(reply) => Answer::Walk(reply),
+            Err(NoMemory) => Answer::One(no_memory()),
+        }
     }
 
     /// Counts all entries.

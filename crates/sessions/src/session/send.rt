@@ -11,8 +11,8 @@ use crate::devices::{Failed, Sink, write_all};
 use crate::session::SessionEnd;
 use crate::session::service::Answer;
 use atomic_methods::WalkReply;
-use bins::Counts;
-use bpf_model::{Key, Value};
+use bins::{Counts, EntryColumns};
+use bpf_model::Value;
 use client_protocol::{Limits, ShortResponse, Version, item_head, value_head};
 
 // The refusal that stands for responses with a value that is too long for the session's version.
@@ -62,24 +62,25 @@ fn send_item<W: Sink>(writer: &mut W, key: &[u8], value: &[u8]) -> Result<(), Fa
 }
 
 /// Writes a frame for each item.
-fn send_items<W: Sink>(writer: &mut W, items: &[(Key, Value)]) -> Result<(), Failed>
+fn send_items<W: Sink>(writer: &mut W, items: &EntryColumns) -> Result<(), Failed>
     requires { CanWrite (W.state writer.old) }
     ensures ok { OnOk result (TakesBytes (W.state writer.old) (W.state writer.new) (response_frames (map item_of items.now))) }
     ensures err { OnErr result (TakesPart (W.state writer.old) (W.state writer.new) (response_frames (map item_of items.now))) }
 {
-    for item in items {
-        send_item(writer, item.0.as_slice(), item.1.as_slice())?;
+    for position in 0..items.len() {
+        let (key, value) = items.get(position);
+        send_item(writer, key, value)?;
     }
     Ok(())
 }
 
 /// Whether the value of an item is longer than may be sent behind this Hello.
-fn have_too_long(hello: Option<Version>, items: &[(Key, Value)]) -> bool
+fn have_too_long(hello: Option<Version>, items: &EntryColumns) -> bool
     ensures { result ≡ has_too_long hello (map item_of items.now) }
 {
     let most = Limits::after(hello).value;
-    for item in items {
-        if item.1.as_slice().len() > most {
+    for position in 0..items.len() {
+        if items.get(position).1.len() > most {
             return true;
         }
     }

@@ -21,7 +21,7 @@ pub enum Answer {
 pub trait Service {
     ghost use Rattle.std.specs.Prelude.{List, Option};
     ghost use Rattle.client_protocol.specs.declared.limits.Version.{Version};
-    ghost use Rattle.client_protocol.specs.declared.request.Request.{Request};
+    ghost use Rattle.client_protocol.specs.Requests.{Request};
     ghost use Rattle.client_protocol.specs.declared.response.Response.{Response};
 
     /// What the first serves, it may answer to the request, which came behind this Hello, by these responses, and then serves

@@ -1,4 +1,5 @@
 use Rattle.std.proofs.Common.{arith, refl}
+use Rattle.bpf_model.proofs.ProgramLemmas.{length-unit_count}
 use Rattle.sessions.proofs.admission.admit_behind.Goals as goal
 
 -- the bytes spell a program whose flow is right, and a size is too large
@@ -7,9 +8,11 @@ returns-then-has_large_window-clause-err c =
     let spelled = c.in_ok-program.ensures.found in
     let large = c.has_large_window.ensures.0 c.if-has_large_window.true in (
       λ many. let told = c.has_many_units.ensures.1 many in let not = c.if-has_many_units.false in absurd cc,
-      c.in_ok-program.program,
-      spelled,
-      c.in_ok-shaped.ensures.ok,
-      omega (arith, spelled.program.some),
-      (λ same. large, λ large2. refl),
+      (
+        c.in_ok-program.program,
+        spelled,
+        c.in_ok-shaped.ensures.ok,
+        omega (arith, spelled.program.some, length-unit_count c.in_ok-program.program),
+        (λ same. large, λ large2. refl),
+      ),
     )

@@ -5,6 +5,6 @@ use Rattle.sessions.specs.Answering.{item_of}
 use Rattle.sessions.specs.Devices.{TakesBytes}
 use Rattle.sessions.proofs.session.send.send_items.Given as goal
 
-abbrev pub invariant-loop-item : goal.invariant-loop-item
-invariant-loop-item g l =
-    TakesBytes (g.W.Sink.state l.fn.writer) (g.W.Sink.state l.writer) (response_frames (map item_of (take l.item-index l.items)))
+abbrev pub invariant-loop-position : goal.invariant-loop-position
+invariant-loop-position g l =
+    TakesBytes (g.W.Sink.state l.fn.writer) (g.W.Sink.state l.writer) (response_frames (map item_of (take l.position l.items)))
