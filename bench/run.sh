@@ -75,18 +75,20 @@ measure() {
 measure_verify() {
     local units
     units=$(($($bench hex "$1" | tr -d '\n' | wc -c) / 16))
-    medians "$1" "$2" shape verify | paste -s | awk -v n=$(($2 * units)) -v what="$1" '{
-        printf "verify, %s: %.2f ns a unit (shape before it %.2f ns)\n", what, ($2 - $1) / n, $1 / n }'
+    medians "$1" "$2" shape verify | paste -s | awk -v times="$2" -v units="$units" -v what="$1" '{
+        n = times * units
+        printf "verify, %s: %.2f ns a unit, %.2f ms for %d units (shape before it %.2f ns a unit)\n",
+            what, ($2 - $1) / n, ($2 - $1) / times / 1e6, units, $1 / n }'
 }
 
 measure sum 0300000000000000 2000000 2048
 measure alu e1218400fffdfbf7 50000 256
 measure eight 55c0829753f0720a 50000 256
 measure mix 7c00000000000000 50000 256
-measure_verify straight 2000
-measure_verify jumps 1000
-measure_verify ladder 1000
-measure_verify spills 1000
+measure_verify straight 250
+measure_verify jumps 125
+measure_verify ladder 125
+measure_verify spills 125
 
 # a call on a table of one entry: how often, how often for callgrind
 measure_call() {
