@@ -11,7 +11,7 @@ returns-then-has_large_window-clause-err c =
       (
         c.in_ok-program.program,
         spelled,
-        c.in_ok-shaped.ensures.ok,
+        c.in_ok-shaped.ensures.ok.0 refl,
         omega (arith, spelled.program.some, length-unit_count c.in_ok-program.program),
         (λ same. large, λ large2. refl),
       ),
