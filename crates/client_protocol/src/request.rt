@@ -187,9 +187,9 @@ fn empty_key() -> Key {
 pub struct Request {
     pub(crate) kind: RequestKind,
     pub(crate) key: Key,
-    pub(crate) value: Value,
     // The argument, or the value that is expected.
     pub(crate) other: OptionalValue,
+    pub(crate) value: Value,
     // The bytes of a Register's program.
     pub(crate) program: BytesMut,
 }
