@@ -8,7 +8,7 @@ use crate::fault::ProtocolFault;
 use crate::field::short_at;
 use crate::fields::{compute_fields, no_field, one_field, three_fields, two_fields, walk_fields};
 use crate::limits::Version;
-use crate::request::{Request, RequestKind, Walk};
+use crate::request::{Request, RequestKind, Run, Walk};
 use bpf_model::{NoMemory, Sizes};
 use std::alloc::AllocError;
 
@@ -154,27 +154,27 @@ fn program_request(
 {
     let key = &mut request.key;
     let arg = &mut request.other;
-    match tag {
+    let run = match tag {
         0x17 => {
             let program = compute_fields(hello, tag, rest, key, arg)?;
-            request.kind = RequestKind::Compute { program };
+            Run::Compute { program }
         }
         0x18 => {
             let program = compute_fields(hello, tag, rest, key, arg)?;
-            request.kind = RequestKind::ComputeIfAbsent { program };
+            Run::ComputeIfAbsent { program }
         }
         0x19 => {
             let program = compute_fields(hello, tag, rest, key, arg)?;
-            request.kind = RequestKind::ComputeIfPresent { program };
+            Run::ComputeIfPresent { program }
         }
         0x1A => {
             let mut program: u64 = 0;
-            let value = &mut request.value;
-            three_fields(hello, tag, rest, key, value, &mut program)?;
-            request.kind = RequestKind::Merge { program };
+            three_fields(hello, tag, rest, key, &mut request.value, &mut program)?;
+            Run::Merge { program }
         }
         _ => return Err(ProtocolFault::UnknownRequest),
-    }
+    };
+    request.kind = RequestKind::Run(run);
     Ok(())
 }
 

@@ -2,7 +2,7 @@
 ghost use Rattle.std.specs.Prelude.{◌≡◌, Option, option_copied};
 ghost use Rattle.client_protocol.specs.Requests.{viewed};
 ghost use Rattle.client_protocol.specs.Requests.Request.{Count};
-ghost use Rattle.client_protocol.specs.Places.{optional, walk_with};
+ghost use Rattle.client_protocol.specs.Places.{optional, run_with, walk_with};
 
 use crate::limits::Version;
 use bpf_model::{Key, Sizes, Value};
@@ -114,11 +114,17 @@ pub enum RequestKind {
     RemoveIf,
     Replace,
     ReplaceIf,
+    Run(Run),
+    Walk(Walk),
+}
+
+/// A request that runs a program on one key.
+#[derive(Clone, Copy)]
+pub enum Run {
     Compute { program: u64 },
     ComputeIfAbsent { program: u64 },
     ComputeIfPresent { program: u64 },
     Merge { program: u64 },
-    Walk(Walk),
 }
 
 /// A request that is about no key.
@@ -128,6 +134,29 @@ pub enum Walk {
     ForEach { program: u64, threshold: u64 },
     ReplaceAll { program: u64 },
     Count,
+}
+
+impl Run {
+    // The request on this key, with this value or this argument.
+    #[inline(always)]
+    fn view<'a>(self, key: &'a Key, value: &'a Value, arg: Option<&'a Value>) -> RequestView<'a>
+        ensures { viewed result ≡ run_with self key.now value.now (option_copied arg.entry) }
+    {
+        match self {
+            Run::Compute { program } => RequestView::Compute { key, program, arg },
+            Run::ComputeIfAbsent { program } => RequestView::ComputeIfAbsent { key, program, arg },
+            Run::ComputeIfPresent { program } => RequestView::ComputeIfPresent {
+                key,
+                program,
+                arg,
+            },
+            Run::Merge { program } => RequestView::Merge {
+                key,
+                value,
+                program,
+            },
+        }
+    }
 }
 
 impl Walk {
@@ -246,22 +275,7 @@ impl Request {
                 expected,
                 value,
             },
-            RequestKind::Compute { program } => RequestView::Compute { key, program, arg },
-            RequestKind::ComputeIfAbsent { program } => RequestView::ComputeIfAbsent {
-                key,
-                program,
-                arg,
-            },
-            RequestKind::ComputeIfPresent { program } => RequestView::ComputeIfPresent {
-                key,
-                program,
-                arg,
-            },
-            RequestKind::Merge { program } => RequestView::Merge {
-                key,
-                value,
-                program,
-            },
+            RequestKind::Run(run) => run.view(key, value, arg),
             RequestKind::Walk(walk) => walk.view(arg),
         }
     }
