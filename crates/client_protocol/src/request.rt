@@ -8,11 +8,12 @@ use crate::limits::Version;
 use bpf_model::{Key, Sizes, Value};
 use bytes::BytesMut;
 use std::alloc::Global;
+use std::fmt;
 use std::marker::Model;
 
 /// A request of a client, as its place shows it: a few words, which lend the key, the values and the bytes. A program is
 /// named by the number under which it was registered; an `arg` is an argument, or absent.
-#[derive(Clone, Copy)]
+#[derive(Clone, Copy, Debug, PartialEq, Eq)]
 pub enum RequestView<'a> {
     /// Comes first, and once: tag 00.
     Hello {
@@ -230,6 +231,12 @@ impl Model for Request {
     ghost Value = { Request };
 
     ghost view = { λ r. request_in r.kind r.key r.value r.other r.program.items };
+}
+
+impl fmt::Debug for Request {
+    fn fmt<W: fmt::Write>(&self, f: &mut fmt::Formatter<W>) -> fmt::Result {
+        self.view().fmt(f)
+    }
 }
 
 impl Request {
