@@ -1,6 +1,8 @@
 -- The request that a place holds.
 use Rattle.std.specs.Prelude.{ℕ, List, Option, Some, None, if◌then◌else◌}
 use Rattle.client_protocol.specs.declared.request.OptionalValue.{OptionalValue}
+use Rattle.client_protocol.specs.declared.request.Run.{Run}
+use Rattle.client_protocol.specs.declared.request.Run.TheVariants as run
 use Rattle.client_protocol.specs.declared.request.Walk.{Walk}
 use Rattle.client_protocol.specs.declared.request.Walk.TheVariants as walk
 use Rattle.client_protocol.specs.declared.request.RequestKind.{RequestKind}
@@ -11,6 +13,13 @@ use Rattle.client_protocol.specs.Requests.Request.{Hello, Register, Get, Put, Pu
 -- the value where it is there
 abbrev pub optional : OptionalValue → Option (List ℕ)
 optional other = if other.is_there then Some other.value else None
+
+-- a run of a program on this key, with this value or this argument
+abbrev pub run_with : Run → List ℕ → List ℕ → Option (List ℕ) → Request
+run_with (run.Compute program) key value arg = Compute key program arg
+run_with (run.ComputeIfAbsent program) key value arg = ComputeIfAbsent key program arg
+run_with (run.ComputeIfPresent program) key value arg = ComputeIfPresent key program arg
+run_with (run.Merge program) key value arg = Merge key value program
 
 -- a walk with this argument
 abbrev pub walk_with : Walk → Option (List ℕ) → Request
@@ -30,8 +39,5 @@ request_in kind.Remove key value other bytes = Remove key
 request_in kind.RemoveIf key value other bytes = RemoveIf key other.value
 request_in kind.Replace key value other bytes = Replace key value
 request_in kind.ReplaceIf key value other bytes = ReplaceIf key other.value value
-request_in (kind.Compute program) key value other bytes = Compute key program (optional other)
-request_in (kind.ComputeIfAbsent program) key value other bytes = ComputeIfAbsent key program (optional other)
-request_in (kind.ComputeIfPresent program) key value other bytes = ComputeIfPresent key program (optional other)
-request_in (kind.Merge program) key value other bytes = Merge key value program
+request_in (kind.Run r) key value other bytes = run_with r key value (optional other)
 request_in (kind.Walk w) key value other bytes = walk_with w (optional other)

@@ -6,9 +6,9 @@ ghost use Rattle.client_protocol.specs.Reading.{SpellsBody, TakesSizes, NoSizes,
 use crate::copies::replace;
 use crate::fault::ProtocolFault;
 use crate::field::short_at;
-use crate::fields::{no_field, one_field, three_fields, two_fields};
+use crate::fields::{compute_fields, no_field, one_field, three_fields, two_fields, walk_fields};
 use crate::limits::Version;
-use crate::request::{Request, RequestKind, Walk};
+use crate::request::{Request, RequestKind, Run, Walk};
 use bpf_model::{NoMemory, Sizes};
 use std::alloc::AllocError;
 
@@ -120,24 +120,20 @@ fn present_request(
     ensures ok { OnOk result (SpellsBody (limits_after hello) (tag ∷ rest.now) (body_of request.new)) }
     ensures err { IfErr result (BodyHas hello (tag ∷ rest.now)) }
 {
+    let key = &mut request.key;
+    let expected = &mut request.other.value;
+    let value = &mut request.value;
     match tag {
         0x14 => {
-            two_fields(hello, tag, rest, &mut request.key, &mut request.other.value)?;
+            two_fields(hello, tag, rest, key, expected)?;
             request.kind = RequestKind::RemoveIf;
         }
         0x15 => {
-            two_fields(hello, tag, rest, &mut request.key, &mut request.value)?;
+            two_fields(hello, tag, rest, key, value)?;
             request.kind = RequestKind::Replace;
         }
         0x16 => {
-            three_fields(
-                hello,
-                tag,
-                rest,
-                &mut request.key,
-                &mut request.other.value,
-                &mut request.value,
-            )?;
+            three_fields(hello, tag, rest, key, expected, value)?;
             request.kind = RequestKind::ReplaceIf;
         }
         _ => return Err(ProtocolFault::UnknownRequest),
@@ -156,54 +152,29 @@ fn program_request(
     ensures ok { OnOk result (SpellsBody (limits_after hello) (tag ∷ rest.now) (body_of request.new)) }
     ensures err { IfErr result (BodyHas hello (tag ∷ rest.now)) }
 {
-    let mut program: u64 = 0;
-    match tag {
+    let key = &mut request.key;
+    let arg = &mut request.other;
+    let run = match tag {
         0x17 => {
-            three_fields(
-                hello,
-                tag,
-                rest,
-                &mut request.key,
-                &mut program,
-                &mut request.other,
-            )?;
-            request.kind = RequestKind::Compute { program };
+            let program = compute_fields(hello, tag, rest, key, arg)?;
+            Run::Compute { program }
         }
         0x18 => {
-            three_fields(
-                hello,
-                tag,
-                rest,
-                &mut request.key,
-                &mut program,
-                &mut request.other,
-            )?;
-            request.kind = RequestKind::ComputeIfAbsent { program };
+            let program = compute_fields(hello, tag, rest, key, arg)?;
+            Run::ComputeIfAbsent { program }
         }
         0x19 => {
-            three_fields(
-                hello,
-                tag,
-                rest,
-                &mut request.key,
-                &mut program,
-                &mut request.other,
-            )?;
-            request.kind = RequestKind::ComputeIfPresent { program };
+            let program = compute_fields(hello, tag, rest, key, arg)?;
+            Run::ComputeIfPresent { program }
         }
         0x1A => {
-            three_fields(
-                hello,
-                tag,
-                rest,
-                &mut request.key,
-                &mut request.value,
-                &mut program,
-            )?;
-            request.kind = RequestKind::Merge { program };
+            let mut program: u64 = 0;
+            three_fields(hello, tag, rest, key, &mut request.value, &mut program)?;
+            Run::Merge { program }
         }
         _ => return Err(ProtocolFault::UnknownRequest),
-    }
+    };
+    request.kind = RequestKind::Run(run);
     Ok(())
 }
 
@@ -218,41 +189,28 @@ fn walk_request(
     ensures ok { OnOk result (SpellsBody (limits_after hello) (tag ∷ rest.now) (body_of request.new)) }
     ensures err { IfErr result (BodyHas hello (tag ∷ rest.now)) }
 {
-    let mut program: u64 = 0;
-    let mut threshold: u64 = 0;
-    match tag {
+    let arg = &mut request.other;
+    let walk = match tag {
         0x20 => {
-            three_fields(
-                hello,
-                tag,
-                rest,
-                &mut program,
-                &mut request.other,
-                &mut threshold,
-            )?;
-            request.kind = RequestKind::Walk(Walk::Search { program, threshold });
+            let (program, threshold) = walk_fields(hello, tag, rest, arg)?;
+            Walk::Search { program, threshold }
         }
         0x21 => {
-            three_fields(
-                hello,
-                tag,
-                rest,
-                &mut program,
-                &mut request.other,
-                &mut threshold,
-            )?;
-            request.kind = RequestKind::Walk(Walk::ForEach { program, threshold });
+            let (program, threshold) = walk_fields(hello, tag, rest, arg)?;
+            Walk::ForEach { program, threshold }
         }
         0x22 => {
-            two_fields(hello, tag, rest, &mut program, &mut request.other)?;
-            request.kind = RequestKind::Walk(Walk::ReplaceAll { program });
+            let mut program: u64 = 0;
+            two_fields(hello, tag, rest, &mut program, arg)?;
+            Walk::ReplaceAll { program }
         }
         0x23 => {
             no_field(hello, tag, rest)?;
-            request.kind = RequestKind::Walk(Walk::Count);
+            Walk::Count
         }
         _ => return Err(ProtocolFault::UnknownRequest),
-    }
+    };
+    request.kind = RequestKind::Walk(walk);
     Ok(())
 }
 

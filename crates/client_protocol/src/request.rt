@@ -2,17 +2,18 @@
 ghost use Rattle.std.specs.Prelude.{◌≡◌, Option, option_copied};
 ghost use Rattle.client_protocol.specs.Requests.{viewed};
 ghost use Rattle.client_protocol.specs.Requests.Request.{Count};
-ghost use Rattle.client_protocol.specs.Places.{optional, walk_with};
+ghost use Rattle.client_protocol.specs.Places.{optional, run_with, walk_with};
 
 use crate::limits::Version;
 use bpf_model::{Key, Sizes, Value};
 use bytes::BytesMut;
 use std::alloc::Global;
+use std::fmt;
 use std::marker::Model;
 
 /// A request of a client, as its place shows it: a few words, which lend the key, the values and the bytes. A program is
 /// named by the number under which it was registered; an `arg` is an argument, or absent.
-#[derive(Clone, Copy)]
+#[derive(Clone, Copy, Debug, PartialEq, Eq)]
 pub enum RequestView<'a> {
     /// Comes first, and once: tag 00.
     Hello {
@@ -114,11 +115,17 @@ pub enum RequestKind {
     RemoveIf,
     Replace,
     ReplaceIf,
+    Run(Run),
+    Walk(Walk),
+}
+
+/// A request that runs a program on one key.
+#[derive(Clone, Copy)]
+pub enum Run {
     Compute { program: u64 },
     ComputeIfAbsent { program: u64 },
     ComputeIfPresent { program: u64 },
     Merge { program: u64 },
-    Walk(Walk),
 }
 
 /// A request that is about no key.
@@ -128,6 +135,29 @@ pub enum Walk {
     ForEach { program: u64, threshold: u64 },
     ReplaceAll { program: u64 },
     Count,
+}
+
+impl Run {
+    // The request on this key, with this value or this argument.
+    #[inline(always)]
+    fn view<'a>(self, key: &'a Key, value: &'a Value, arg: Option<&'a Value>) -> RequestView<'a>
+        ensures { viewed result ≡ run_with self key.now value.now (option_copied arg.entry) }
+    {
+        match self {
+            Run::Compute { program } => RequestView::Compute { key, program, arg },
+            Run::ComputeIfAbsent { program } => RequestView::ComputeIfAbsent { key, program, arg },
+            Run::ComputeIfPresent { program } => RequestView::ComputeIfPresent {
+                key,
+                program,
+                arg,
+            },
+            Run::Merge { program } => RequestView::Merge {
+                key,
+                value,
+                program,
+            },
+        }
+    }
 }
 
 impl Walk {
@@ -187,9 +217,9 @@ fn empty_key() -> Key {
 pub struct Request {
     pub(crate) kind: RequestKind,
     pub(crate) key: Key,
-    pub(crate) value: Value,
     // The argument, or the value that is expected.
     pub(crate) other: OptionalValue,
+    pub(crate) value: Value,
     // The bytes of a Register's program.
     pub(crate) program: BytesMut,
 }
@@ -201,6 +231,12 @@ impl Model for Request {
     ghost Value = { Request };
 
     ghost view = { λ r. request_in r.kind r.key r.value r.other r.program.items };
+}
+
+impl fmt::Debug for Request {
+    fn fmt<W: fmt::Write>(&self, f: &mut fmt::Formatter<W>) -> fmt::Result {
+        self.view().fmt(f)
+    }
 }
 
 impl Request {
@@ -246,22 +282,7 @@ impl Request {
                 expected,
                 value,
             },
-            RequestKind::Compute { program } => RequestView::Compute { key, program, arg },
-            RequestKind::ComputeIfAbsent { program } => RequestView::ComputeIfAbsent {
-                key,
-                program,
-                arg,
-            },
-            RequestKind::ComputeIfPresent { program } => RequestView::ComputeIfPresent {
-                key,
-                program,
-                arg,
-            },
-            RequestKind::Merge { program } => RequestView::Merge {
-                key,
-                value,
-                program,
-            },
+            RequestKind::Run(run) => run.view(key, value, arg),
             RequestKind::Walk(walk) => walk.view(arg),
         }
     }

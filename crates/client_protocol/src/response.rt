@@ -230,42 +230,36 @@ impl Response {
         let mut frame = ArrayVec::new();
         let out = &mut frame;
         match self {
-            Response::Hello { version } => put_short(
+            &Response::Hello { version } => put_short(out, ShortResponse::Hello { version }),
+            &Response::Registered { program } => put_short(
                 out,
-                ShortResponse::Hello { version: *version },
-            ),
-            Response::Registered { program } => put_short(
-                out,
-                ShortResponse::Registered { program: *program },
+                ShortResponse::Registered { program },
             ),
             Response::Value { value: None } => put_short(out, ShortResponse::Nothing),
             Response::Value { value: Some(value) } => {
                 let value = value.as_slice();
                 put_behind(out, &value_head(value), value);
             }
-            Response::Done { done } => put_short(out, ShortResponse::Done { done: *done }),
-            Response::Unfit { part } => put_short(out, ShortResponse::Unfit { part: *part }),
-            Response::Refused { number, place } => put_short(
+            &Response::Done { done } => put_short(out, ShortResponse::Done { done }),
+            &Response::Unfit { part } => put_short(out, ShortResponse::Unfit { part }),
+            &Response::Refused { number, place } => put_short(
                 out,
-                ShortResponse::Refused {
-                    number: *number,
-                    place: *place,
-                },
+                ShortResponse::Refused { number, place },
             ),
             Response::Item { key, value } => {
                 let value = value.as_slice();
                 put_behind(out, item_head(key.as_slice(), value).as_slice(), value);
             }
-            Response::End {
+            &Response::End {
                 scanned,
                 given,
                 unfit,
             } => put_short(
                 out,
                 ShortResponse::End {
-                    scanned: *scanned,
-                    given: *given,
-                    unfit: *unfit,
+                    scanned,
+                    given,
+                    unfit,
                 },
             ),
         }
