@@ -1,5 +1,5 @@
 -- From what each worker found to what the team found.
-use Rattle.std.proofs.Common.{◌≡◌, ℕ, ◌^◌, ◌%◌, ◌<◌, List, [], length, map, sum_by, get_or, Result, Ok, Err, IfOk, IsOk, All, Vec, Global, refl, sym, ap, ◌∙◌, subst, arith}
+use Rattle.std.proofs.Common.{◌≡◌, ℕ, ◌^◌, ◌%◌, ◌<◌, List, [], length, map, sum_by, get_or, Result, Ok, Err, IfOk, IsOk, All, refl, sym, ap, ◌∙◌, subst, arith}
 use Rattle.std.specs.List.Sorted.{IsSortedBy}
 use Rattle.std.proofs.lemmas.List.{get_or-map, length-map}
 use Rattle.std.proofs.lemmas.Bool.{false≢true}
@@ -17,20 +17,20 @@ use Rattle.bulk_walks.proofs.Sums.{turn_sum-same, sums_of_turns, sum_by_mapped}
 use Rattle.bulk_walks.proofs.TeamLemmas.{Turn, together, all_walked, head_of}
 
 -- what is known of one worker that found all of its own
-record Own (n workers j : ℕ) (r : Result (Vec Entry Global) NoMemory) (scans : ℕ → List Entry) : Type 0 where
+record Own (n workers j : ℕ) (r : Result (List Entry) NoMemory) (scans : ℕ → List Entry) : Type 0 where
   stripes : (k : ℕ) → IsTurn n workers j k → AreOf n k (scans k)
   bounded : (k : ℕ) → IsTurn n workers j k → length (scans k) < 2 ^ 57
   sum : (h : Entry → ℕ) → sum_by h (found_of r) ≡ turn_sum workers j (λ k. sum_by h (scans k)) n
 
-own_of : (n workers j : ℕ) (v w : View GhostAction) (r : Result (Vec Entry Global) NoMemory) → IsOk r → IfOk r (λ found. FindsInOrder n workers j v w found.items) → (scans : ℕ → List Entry) × (Walked n workers j (Each IsScan scans) v w × Own n workers j r scans)
+own_of : (n workers j : ℕ) (v w : View GhostAction) (r : Result (List Entry) NoMemory) → IsOk r → IfOk r (λ found. FindsInOrder n workers j v w found) → (scans : ℕ → List Entry) × (Walked n workers j (Each IsScan scans) v w × Own n workers j r scans)
 own_of n workers j v w (Ok found) ok f = (f.finds.scans, (f.finds.walked, record { stripes = f.finds.stripes; bounded = f.finds.bounded; sum = f.finds.sum }))
 own_of n workers j v w (Err e) ok f = absurd (false≢true ok)
 
-sorted_of : (n workers j : ℕ) (v w : View GhostAction) (r : Result (Vec Entry Global) NoMemory) → IsOk r → IfOk r (λ found. FindsInOrder n workers j v w found.items) → IsSortedBy comes_before (found_of r)
+sorted_of : (n workers j : ℕ) (v w : View GhostAction) (r : Result (List Entry) NoMemory) → IsOk r → IfOk r (λ found. FindsInOrder n workers j v w found) → IsSortedBy comes_before (found_of r)
 sorted_of n workers j v w (Ok found) ok f = f.order
 sorted_of n workers j v w (Err e) ok f = absurd (false≢true ok)
 
-all_sorted : (n : ℕ) (before after : List PassState) (rs : List (Result (Vec Entry Global) NoMemory)) → PassState → EachFinds n before rs after → All (λ r. IsOk r) rs → All (λ entries. IsSortedBy comes_before entries) (map found_of rs)
+all_sorted : (n : ℕ) (before after : List PassState) (rs : List (Result (List Entry) NoMemory)) → PassState → EachFinds n before rs after → All (λ r. IsOk r) rs → All (λ entries. IsSortedBy comes_before entries) (map found_of rs)
 all_sorted n before after rs p did ok = λ i d low.
     let len = length-map rs found_of in
     let inside : i < length rs = omega (arith, len, low) in
@@ -38,10 +38,10 @@ all_sorted n before after rs p did ok = λ i d low.
     subst (λ (es : List Entry). IsSortedBy comes_before es) (sym (get_or-map found_of rs i x d inside))
     (sorted_of n (length before) i (get_or before i p).view (get_or after i p).view (get_or rs i x) (ok i x inside) (did.done i p x (omega (arith, did.answers, inside))))
 
-pub all_of : (n : ℕ) (before after : List PassState) (rs : List (Result (Vec Entry Global) NoMemory)) (d : PassState) (x : Result (Vec Entry Global) NoMemory) → 0 < length before → EachFinds n before rs after → All (λ r. IsOk r) rs → (lists : List (List Entry)) → lists ≡ map found_of rs → FindsAll n before after lists
+pub all_of : (n : ℕ) (before after : List PassState) (rs : List (Result (List Entry) NoMemory)) (d : PassState) (x : Result (List Entry) NoMemory) → 0 < length before → EachFinds n before rs after → All (λ r. IsOk r) rs → (lists : List (List Entry)) → lists ≡ map found_of rs → FindsAll n before after lists
 all_of n before after rs d x some did ok lists are =
     let W = length before in
-    let r : ℕ → Result (Vec Entry Global) NoMemory = λ j. get_or rs j x in
+    let r : ℕ → Result (List Entry) NoMemory = λ j. get_or rs j x in
     let G : ℕ → (ℕ → List Entry) → Type 0 = λ j scans. Turn IsScan n before after d j scans × Own n W j (r j) scans in
     let of : (j : ℕ) → j < W → (scans : ℕ → List Entry) × G j scans = λ j low. own_of n W j _ _ (r j) (ok j x (omega (arith, did.answers))) (did.done j d x low) in
     let all = together [] W G of in

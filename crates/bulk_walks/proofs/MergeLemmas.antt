@@ -1,5 +1,5 @@
 -- The merge of lists in key order, an entry at a time.
-use Rattle.std.proofs.Common.{◌≡◌, ℕ, ◌+◌, ◌<◌, ◌≤◌, List, [], ◌∷◌, ◌++◌, cond, true, false, All, get_or, set, append_assoc, map, length, length-append, length-set, inl, inr, take, sum_by, refl, sym, ap, ◌∙◌, subst, arith, T}
+use Rattle.std.proofs.Common.{◌≡◌, ℕ, zero, suc, ◌+◌, ◌<◌, ◌≤◌, List, [], ◌∷◌, ◌++◌, cond, true, false, All, get_or, set, append_assoc, map, length, length-append, length-set, inl, inr, take, sum_by, refl, sym, ap, ◌∙◌, subst, arith, T}
 use Rattle.std.specs.declared.cmp.Ordering.TheVariants.{Less, Equal, Greater}
 use Rattle.std.specs.Ordering.{is_eq, is_lt, ordering_reverse}
 use Rattle.std.specs.Cmp.{IsStrictWeakOrder}
@@ -11,14 +11,11 @@ use Rattle.std.proofs.lemmas.List.{get_or-set_same, get_or-set_other, get_or_def
 use Rattle.std.proofs.Math.Seq.{take-append_seam}
 use Rattle.std.proofs.lemmas.List.MinMax.{ranks_by}
 use Rattle.std.proofs.lemmas.List.Elements.{All-from_get_or, All-head, All-tail}
-use Rattle.std.proofs.lemmas.List.Sums.{sum_by-cons, sum_by-le, sum_by-set}
+use Rattle.std.proofs.lemmas.List.Sums.{sum_by-cons, sum_by-le, sum_by-set, get_or-le-sum_by}
 use Rattle.bins.specs.Table.{Entry, by_bytes}
-use Rattle.atomic_methods.specs.declared.walk_reply.WalkKind.{WalkKind}
 use Rattle.atomic_methods.specs.declared.walk_reply.WalkReply.{WalkReply}
-use Rattle.atomic_methods.specs.Replies.{chosen}
 use Rattle.bulk_walks.specs.Turns.{items_in}
-use denote.Ref.{Bor}
-use Rattle.bulk_walks.specs.Merges.{HasAll, comes_first, TakesFirst, IsMerge}
+use Rattle.bulk_walks.specs.Merges.{HasAll, comes_first, TakesFirst}
 use Rattle.bins.proofs.SameEntries.{one_if, at_key, first, second, above, at_entry, at_itself, none_above, at_most_key, tied_by_one, same_entries}
 use Rattle.bulk_walks.proofs.Sums.{sum_of_ones}
 use Rattle.bulk_walks.proofs.TeamLemmas.{head_of}
@@ -181,87 +178,88 @@ left_none items rests all most left empty many =
 pub left_enough : (items : List Entry) (rests : List (List Entry)) (all : List Entry) (most : ℕ) → Left items rests all → length items ≡ most → items ≡ take most all
 left_enough items rests all most left many = sym (ap (take most) left.begins ∙ ap (λ n. take n (items ++ left.tail)) (sym many) ∙ take-append_seam items left.tail)
 
--- lists that are lent
-abbrev pub lists_in : List (Bor (List Entry)) → List (List Entry)
-lists_in rests = map (λ rest. rest.now) rests
-
 -- no list comes before the one at the place
-abbrev pub IsLeast : List (Bor (List Entry)) → ℕ → Type 0
-IsLeast rests place = All (λ rest. comes_first rest.now (get_or rests place rest).now ≡ false) rests
+abbrev pub IsLeast : List (List Entry) → ℕ → Type 0
+IsLeast rests place = All (λ rest. comes_first rest (get_or rests place rest) ≡ false) rests
 
-module _ (rests : List (Bor (List Entry))) (place : ℕ) (d : Bor (List Entry)) (inside : place < length rests) (least : IsLeast rests place) where
-  least_at : (list : List Entry) → (get_or rests place d).now ≡ list → All (λ es. comes_first es list ≡ false) (lists_in rests)
+module _ (rests : List (List Entry)) (place : ℕ) (inside : place < length rests) (least : IsLeast rests place) where
+  least_at : (list : List Entry) → get_or rests place [] ≡ list → All (λ es. comes_first es list ≡ false) rests
   least_at list is = λ k x low.
-      let len = length-map rests (λ (r : Bor (List Entry)). r.now) in
-      let one : k < length rests = omega (arith, len, low) in
-      let there : (get_or rests place (get_or rests k d)).now ≡ list = ap (λ (r : Bor (List Entry)). r.now) (get_or_default rests place (get_or rests k d) d inside) ∙ is in
-      subst (λ (es : List Entry). comes_first es list ≡ false) (sym (get_or-map (λ (r : Bor (List Entry)). r.now) rests k d x one))
-      (subst (λ (es : List Entry). comes_first (get_or rests k d).now es ≡ false) there (least k d one))
+      let there : get_or rests place (get_or rests k x) ≡ list = get_or_default rests place (get_or rests k x) [] inside ∙ is in
+      subst (λ (es : List Entry). comes_first (get_or rests k x) es ≡ false) there (least k x low)
 
   -- the first entry of that list is taken
-  pub taken : (e : Entry) (behind : Bor (List Entry)) → (get_or rests place d).now ≡ e ∷ behind.now → TakesFirst (lists_in rests) e (lists_in (set rests place behind))
-  taken e behind is = record {
-    place = place;
-    behind = behind.now;
-    inside = (let len = length-map rests (λ (r : Bor (List Entry)). r.now) in omega (arith, len, inside));
-    was = get_or-map (λ (r : Bor (List Entry)). r.now) rests place d [] inside ∙ is;
-    least = least_at (e ∷ behind.now) is;
-    now = map-set (λ (r : Bor (List Entry)). r.now) rests place behind;
-  }
+  pub taken : (e : Entry) (behind : List Entry) → get_or rests place [] ≡ e ∷ behind → TakesFirst rests e (set rests place behind)
+  taken e behind is = record { place = place; behind = behind; inside = inside; was = is; least = least_at (e ∷ behind) is; now = refl }
 
   -- it has none: then no list has
-  pub all_empty : (get_or rests place d).now ≡ [] → All (λ es. es ≡ []) (lists_in rests)
-  all_empty is = λ k x low. none (get_or (lists_in rests) k x) (least_at [] is k x low)
+  pub all_empty : get_or rests place [] ≡ [] → All (λ es. es ≡ []) rests
+  all_empty is = λ k x low. none (get_or rests k x) (least_at [] is k x low)
     where
       none : (es : List Entry) → comes_first es [] ≡ false → es ≡ []
       none [] h = refl
       none (e ∷ es) h = absurd (false≢true (sym h))
 
-sum_by_one : (h : List Entry → ℕ) (es : List Entry) → sum_by h (es ∷ []) ≡ h es
-sum_by_one h es = let c = sum_by-cons h es [] in omega (arith, c)
-
--- of one reply
-pub merge_one : (kind : WalkKind) (replies : List WalkReply) (r reply : WalkReply) → replies ≡ r ∷ [] → T (is_sorted by_bytes r.items.items)
-    → reply.items.items ≡ chosen kind r.items.items → reply.counts.scanned ≡ r.counts.scanned → reply.counts.given ≡ length reply.items.items → reply.counts.unfit ≡ r.counts.unfit
-    → IsMerge kind replies reply
-merge_one kind replies r reply is order items scanned given unfit = record {
-  items = λ all sorted has.
-      let same : all ≡ r.items.items = same_entries all r.items.items sorted order (λ h. has h ∙ ap (λ (rs : List WalkReply). sum_by (λ es. sum_by h es) (items_in rs)) is ∙ sum_by_one (λ es. sum_by h es) r.items.items) in
-      items ∙ ap (λ (es : List Entry). chosen kind es) (sym same);
-  scanned = (let c = sum_by-cons (λ (x : WalkReply). x.counts.scanned) r [] in let e = ap (λ (rs : List WalkReply). sum_by (λ x. x.counts.scanned) rs) is in omega (arith, c, e, scanned));
-  given = given;
-  unfit = (let c = sum_by-cons (λ (x : WalkReply). x.counts.unfit) r [] in let e = ap (λ (rs : List WalkReply). sum_by (λ x. x.counts.unfit) rs) is in omega (arith, c, e, unfit));
-}
-
--- what replies gave is how many items they have
-pub given_all : (replies : List WalkReply) → All (λ r. r.counts.given ≡ length r.items.items) replies → sum_by (λ (r : WalkReply). r.counts.given) replies ≡ sum_by (λ es. sum_by (λ _. 1) es) (items_in replies)
-given_all [] counted = refl
-given_all (r ∷ replies) counted =
-    let rest = given_all replies (All-tail (λ (x : WalkReply). x.counts.given ≡ length x.items.items) r replies counted) in
-    let here = All-head (λ (x : WalkReply). x.counts.given ≡ length x.items.items) r replies counted in
-    let a = sum_by-cons (λ (x : WalkReply). x.counts.given) r replies in
-    let b = sum_by-cons (λ (es : List Entry). sum_by (λ _. 1) es) r.items.items (items_in replies) in
-    let c = sum_of_ones r.items.items in
-    omega (arith, rest, here, a, b, c)
-
--- so many of the whole list are all
-pub take_whole : (replies : List WalkReply) (all : List Entry) (given : ℕ) → All (λ r. r.counts.given ≡ length r.items.items) replies → HasAll all (items_in replies) → given ≡ sum_by (λ (r : WalkReply). r.counts.given) replies → take given all ≡ all
-take_whole replies all given counted has is =
-    take_all given all (let a = given_all replies counted in let b = has (λ _. 1) in let c = sum_of_ones all in omega (arith, a, b, c, is))
-
 pub empty_of : (es : List Entry) → length es ≡ 0 → es ≡ []
 empty_of [] none = refl
 empty_of (e ∷ es) none = absurd (omega (arith, none))
 
--- the last of one is all
-pub last_of_one : (all before : List WalkReply) (r : WalkReply) → all ≡ before ++ r ∷ [] → length all ≡ 1 → all ≡ r ∷ []
-last_of_one all [] r is one = is
-last_of_one all (x ∷ before) r is one = absurd (let n = ap (λ (rs : List WalkReply). length rs) is in let m = length-append before (r ∷ []) in omega (arith, n, m, one))
+-- lists that have no entry weigh nothing
+weightless : (h : Entry → ℕ) (lists : List (List Entry)) → sum_by (λ es. length es) lists ≡ 0 → weigh h lists ≡ 0
+weightless h [] none = refl
+weightless h ([] ∷ lists) none = weightless h lists (omega (arith, none, sum_by-cons (λ (es : List Entry). length es) [] lists)) ∙ refl
+weightless h ((e ∷ es) ∷ lists) none = absurd (let c = sum_by-cons (λ (xs : List Entry). length xs) (e ∷ es) lists in omega (arith, none, c))
+
+-- one list has as many entries as all lists: then it weighs as much
+pub one_has_all : (h : Entry → ℕ) (lists : List (List Entry)) (place : ℕ) → place < length lists → length (get_or lists place []) ≡ sum_by (λ es. length es) lists
+    → weigh h lists ≡ sum_by h (get_or lists place [])
+one_has_all h [] place low all = absurd (omega (arith, low))
+one_has_all h (es ∷ lists) zero low all =
+    let c = sum_by-cons (λ (xs : List Entry). length xs) es lists in
+    let rest = weightless h lists (omega (arith, all, c)) in
+    let w = sum_by-cons (λ (xs : List Entry). sum_by h xs) es lists in
+    omega (arith, rest, w)
+one_has_all h (es ∷ lists) (suc place) low all =
+    let c = sum_by-cons (λ (xs : List Entry). length xs) es lists in
+    let most = get_or-le-sum_by (λ (xs : List Entry). length xs) lists place [] (omega (arith, low)) in
+    let rest = one_has_all h lists place (omega (arith, low)) (omega (arith, all, c, most)) in
+    let empty : sum_by h es ≡ 0 = ap (λ (xs : List Entry). sum_by h xs) (empty_of es (omega (arith, all, c, most))) in
+    let w = sum_by-cons (λ (xs : List Entry). sum_by h xs) es lists in
+    omega (arith, rest, empty, w)
+
+-- so it is the list in key order that has the entries of all
+pub one_is_all : (lists : List (List Entry)) (place : ℕ) → place < length lists → length (get_or lists place []) ≡ sum_by (λ es. length es) lists
+    → T (is_sorted by_bytes (get_or lists place [])) → (all : List Entry) → T (is_sorted by_bytes all) → HasAll all lists → get_or lists place [] ≡ all
+one_is_all lists place low count order all sorted has = sym (same_entries all (get_or lists place []) sorted order (λ h. has h ∙ one_has_all h lists place low count))
+
+-- what replies gave is how many items they have
+pub given_all : (replies : List WalkReply) → All (λ r. r.counts.given ≡ length r.items) replies → sum_by (λ (r : WalkReply). r.counts.given) replies ≡ sum_by (λ es. length es) (items_in replies)
+given_all [] counted = refl
+given_all (r ∷ replies) counted =
+    let rest = given_all replies (All-tail (λ (x : WalkReply). x.counts.given ≡ length x.items) r replies counted) in
+    let here = All-head (λ (x : WalkReply). x.counts.given ≡ length x.items) r replies counted in
+    let a = sum_by-cons (λ (x : WalkReply). x.counts.given) r replies in
+    let b = sum_by-cons (λ (es : List Entry). length es) r.items (items_in replies) in
+    omega (arith, rest, here, a, b)
+
+-- so many of the whole list are all
+pub take_whole : (lists : List (List Entry)) (all : List Entry) (count : ℕ) → HasAll all lists → count ≡ sum_by (λ es. length es) lists → take count all ≡ all
+take_whole lists all count has is =
+    take_all count all (let a = ones lists in let b = has (λ _. 1) in let c = sum_of_ones all in omega (arith, a, b, c, is))
+  where
+    ones : (ls : List (List Entry)) → weigh (λ _. 1) ls ≡ sum_by (λ es. length es) ls
+    ones [] = refl
+    ones (es ∷ ls) =
+        let rest = ones ls in
+        let a = sum_by-cons (λ (xs : List Entry). sum_by (λ _. 1) xs) es ls in
+        let b = sum_by-cons (λ (xs : List Entry). length xs) es ls in
+        let c = sum_of_ones es in
+        omega (arith, rest, a, b, c)
 
 -- what holds of each reply's items
-pub sorted_items : (replies : List WalkReply) → All (λ r. T (is_sorted by_bytes r.items.items)) replies → All (λ es. T (is_sorted by_bytes es)) (items_in replies)
+pub sorted_items : (replies : List WalkReply) → All (λ r. T (is_sorted by_bytes r.items)) replies → All (λ es. T (is_sorted by_bytes es)) (items_in replies)
 sorted_items replies sorted = λ k d low.
-    let len = length-map replies (λ (r : WalkReply). r.items.items) in
+    let len = length-map replies (λ (r : WalkReply). r.items) in
     let inside : k < length replies = omega (arith, len, low) in
     let x = head_of replies (omega (arith, inside)) in
-    subst (λ (es : List Entry). T (is_sorted by_bytes es)) (sym (get_or-map (λ (r : WalkReply). r.items.items) replies k x d inside)) (sorted k x inside)
+    subst (λ (es : List Entry). T (is_sorted by_bytes es)) (sym (get_or-map (λ (r : WalkReply). r.items) replies k x d inside)) (sorted k x inside)

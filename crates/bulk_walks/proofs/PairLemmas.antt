@@ -216,7 +216,7 @@ all_pairs checked arg (es ∷ lists) (r ∷ replies) are =
           let a = sum_by-append (answer_weight h) ps rest.pairs in
           let b = here.answers h in
           let c = rest.answers h in
-          let d = sum_by-cons (λ (xs : List Entry). sum_by h xs) r.items.items (items_in replies) in
+          let d = sum_by-cons (λ (xs : List Entry). sum_by h xs) r.items (items_in replies) in
           let e = ap (λ (xs : List Entry). sum_by h xs) are.0.items in
           omega (arith, a, b, c, d, e);
       scanned =

@@ -1,5 +1,5 @@
 -- Replies that were made in their places.
-use Rattle.std.proofs.Common.{◌≡◌, ℕ, suc, ◌<◌, List, [], ◌∷◌, Option, length, slice_index_or, arith}
+use Rattle.std.proofs.Common.{◌≡◌, ℕ, suc, ◌<◌, List, [], ◌∷◌, Option, Some, None, IfSome, length, map, drop, get_or, slice_index_or, sym, ap, subst, arith}
 use Rattle.verifier.specs.Checked.{Checked}
 use Rattle.atomic_methods.specs.declared.walk_reply.WalkKind.TheVariants.{ForEach}
 use Rattle.atomic_methods.specs.declared.walk_reply.WalkReply.{WalkReply}
@@ -7,15 +7,25 @@ use Rattle.atomic_methods.specs.Replies.{IsReply}
 use Rattle.bin_stripes.specs.Passes.{PassState}
 use Rattle.bins.specs.Table.{Entry}
 use Rattle.bulk_walks.specs.Walks.{AllWalked, Each, IsScan, MayScan}
-use Rattle.bulk_walks.specs.Turns.{items_in, AreReplies}
+use Rattle.bulk_walks.specs.declared.running.Part.{Part}
+use Rattle.bulk_walks.specs.Turns.{found_in, AreReplies}
 use Rattle.bulk_walks.proofs.FindingLemmas.{may_scan}
 
-pub are_replies : (checked : Checked) (arg : Option (List ℕ)) (old new : List WalkReply) → length new ≡ length old
-    → ((i : ℕ) (d : WalkReply) → i < length old → IsReply ForEach checked arg (slice_index_or old i d).items.items (slice_index_or new i d)) → AreReplies checked arg (items_in old) new
-are_replies checked arg [] [] len each = tt
-are_replies checked arg [] (y ∷ new) len each = absurd (omega (arith, len))
-are_replies checked arg (x ∷ old) [] len each = absurd (omega (arith, len))
-are_replies checked arg (x ∷ old) (y ∷ new) len each = (each 0 x (omega arith), are_replies checked arg old new (omega (arith, len)) (λ i d low. each (suc i) d (omega (arith, low))))
+-- where each part has its reply, they are the replies to what the parts held
+pub are_replies : (checked : Checked) (arg : Option (List ℕ)) (old new : List Part) (replies : List WalkReply) → length new ≡ length old
+    → ((i : ℕ) (d : Part) → i < length old → IfSome (slice_index_or new i d).reply (λ reply. IsReply ForEach checked arg (slice_index_or old i d).found reply))
+    → map Some replies ≡ map (λ part. part.reply) new → AreReplies checked arg (found_in old) replies
+are_replies checked arg [] [] [] len each told = tt
+are_replies checked arg [] [] (r ∷ replies) len each told = absurd (let n = ap (λ (rs : List (Option WalkReply)). length rs) told in omega (arith, n))
+are_replies checked arg [] (y ∷ new) replies len each told = absurd (omega (arith, len))
+are_replies checked arg (x ∷ old) [] replies len each told = absurd (omega (arith, len))
+are_replies checked arg (x ∷ old) (y ∷ new) [] len each told = absurd (let n = ap (λ (rs : List (Option WalkReply)). length rs) told in omega (arith, n))
+are_replies checked arg (x ∷ old) (y ∷ new) (r ∷ replies) len each told =
+    let here : Some r ≡ y.reply = ap (λ (rs : List (Option WalkReply)). get_or rs 0 None) told in
+    let rest : map Some replies ≡ map (λ part. part.reply) new = ap (λ (rs : List (Option WalkReply)). drop 1 rs) told in (
+      subst (λ (o : Option WalkReply). IfSome o (λ reply. IsReply ForEach checked arg x.found reply)) (sym here) (each 0 x (omega arith)),
+      are_replies checked arg old new replies (omega (arith, len)) (λ i d low. each (suc i) d (omega (arith, low))) rest,
+    )
 
 -- what was scanned may have been
 pub may_all : (n : ℕ) (scans : ℕ → List Entry) (before after : List PassState) → AllWalked n (Each IsScan scans) before after → AllWalked n MayScan before after

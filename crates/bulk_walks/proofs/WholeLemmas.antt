@@ -58,13 +58,13 @@ module _ (n : ℕ) (before after : List PassState) (lists : List (List Entry)) (
   list_sorted : (i : ℕ) (d : List Entry) → i < length lists → T (is_sorted by_bytes (get_or lists i d))
   list_sorted i d low = rises (get_or lists i d) (near_of (get_or lists i d) (found.order i d low)) (λ key. let part = get_or-le-sum_by (λ es. sum_by (at_key key) es) lists i d low in let all = once key in omega (arith, part, all))
 
-  pub items_sorted : All (λ reply. T (is_sorted by_bytes reply.items.items)) replies
+  pub items_sorted : All (λ reply. T (is_sorted by_bytes reply.items)) replies
   items_sorted = λ i e low.
       let r = reply_at checked arg lists replies are i [] e low in
       let len = length-AreReplies checked arg lists replies are in
       subst (λ (es : List Entry). T (is_sorted by_bytes es)) (sym r.items) (sorted-present (get_or lists i []) r.outcomes (list_sorted i [] (omega (arith, low, len))))
 
-  pub all_counted : All (λ reply. reply.counts.given ≡ length reply.items.items) replies
+  pub all_counted : All (λ reply. reply.counts.given ≡ length reply.items) replies
   all_counted = λ i e low. (reply_at checked arg lists replies are i [] e low).given
 
   -- the sums fit

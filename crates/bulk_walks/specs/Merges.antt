@@ -30,8 +30,8 @@ pub record TakesFirst (old : List (List Entry)) (entry : Entry) (new : List (Lis
   pub now : new ≡ slice_set old place behind
 
 -- or none, since all lists are empty
-abbrev pub TakesLeast : List (List Entry) → Option (Bor Entry) → List (List Entry) → Type 0
-TakesLeast old taken new = MatchOption taken (All (λ list. list ≡ []) old) (λ entry. TakesFirst old entry.now new)
+abbrev pub TakesLeast : List (List Entry) → Option (Bor (List ℕ) × Bor (List ℕ)) → List (List Entry) → Type 0
+TakesLeast old taken new = MatchOption taken (All (λ list. list ≡ []) old) (λ entry. TakesFirst old (entry.0.now, entry.1.now) new)
 
 -- one number of each kind is the sum of what the replies counted
 pub record CountsAdd (replies : List WalkReply) (total : Counts) : Type 0 where
@@ -41,7 +41,7 @@ pub record CountsAdd (replies : List WalkReply) (total : Counts) : Type 0 where
 
 -- what a walk of this kind gives of all items of the replies, in key order, and what they counted
 pub record IsMerge (kind : WalkKind) (replies : List WalkReply) (merged : WalkReply) : Type 0 where
-  pub items : (all : List Entry) → T (finmap.is_sorted by_bytes all) → HasAll all (items_in replies) → merged.items.items ≡ chosen kind all
+  pub items : (all : List Entry) → T (finmap.is_sorted by_bytes all) → HasAll all (items_in replies) → merged.items ≡ chosen kind all
   pub scanned : merged.counts.scanned ≡ sum_by (λ reply. reply.counts.scanned) replies
-  pub given : merged.counts.given ≡ length merged.items.items
+  pub given : merged.counts.given ≡ length merged.items
   pub unfit : merged.counts.unfit ≡ sum_by (λ reply. reply.counts.unfit) replies

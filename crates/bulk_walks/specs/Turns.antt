@@ -1,7 +1,6 @@
 -- What each worker of a walk answers.
 use Rattle.std.specs.Prelude.{◌≡◌, ◌<◌, ◌≤◌, ◌^◌, ◌+◌, ◌%◌, ◌==◌, if◌then◌else◌, ℕ, ⊤, zero, suc, All, List, [], ◌∷◌, Option, Result, Ok, Err, IfOk, length, map, sum_by, slice_index_or}
 use Rattle.std.specs.List.Sorted.{IsSortedBy}
-use Rattle.std.proofs.Common.{Vec, Global}
 use Rattle.stripe_rule.specs.declared.view.View.{View}
 use Rattle.verifier.specs.Checked.{Checked}
 use Rattle.bpf_model.specs.declared.memory.NoMemory.{NoMemory}
@@ -14,6 +13,7 @@ use Rattle.bin_stripes.specs.Passes.{PassState}
 use Rattle.atomic_methods.specs.declared.walk_reply.WalkKind.TheVariants.{ForEach}
 use Rattle.atomic_methods.specs.declared.walk_reply.WalkReply.{WalkReply}
 use Rattle.atomic_methods.specs.Replies.{IsReply}
+use Rattle.bulk_walks.specs.declared.running.Part.{Part}
 use Rattle.bulk_walks.specs.Walks.{IsTurn, Walked, AllWalked, Each, IsScan, MayScan, IsReplaced, sum_below}
 
 -- f of each stripe below n whose turn is this worker's, added up
@@ -48,15 +48,15 @@ pub record FindsInOrder (n workers worker : ℕ) (v w : View GhostAction) (found
   pub order : IsSortedBy comes_before found
 
 -- the entries of a worker's answer
-abbrev pub found_of : Result (Vec Entry Global) NoMemory → List Entry
-found_of (Ok found) = found.items
+abbrev pub found_of : Result (List Entry) NoMemory → List Entry
+found_of (Ok found) = found
 found_of (Err e) = []
 
 -- what each worker found
-pub record EachFinds (n : ℕ) (before : List PassState) (rs : List (Result (Vec Entry Global) NoMemory)) (after : List PassState) : Type 0 where
+pub record EachFinds (n : ℕ) (before : List PassState) (rs : List (Result (List Entry) NoMemory)) (after : List PassState) : Type 0 where
   pub answers : length rs ≡ length before
   pub left : length after ≡ length before
-  pub done : (i : ℕ) (d : PassState) (e : Result (Vec Entry Global) NoMemory) → i < length before → IfOk (slice_index_or rs i e) (λ found. FindsInOrder n (length before) i (slice_index_or before i d).view (slice_index_or after i d).view found.items)
+  pub done : (i : ℕ) (d : PassState) (e : Result (List Entry) NoMemory) → i < length before → IfOk (slice_index_or rs i e) (λ found. FindsInOrder n (length before) i (slice_index_or before i d).view (slice_index_or after i d).view found)
   pub part : (i : ℕ) (d : PassState) → i < length before → Walked n (length before) i MayScan (slice_index_or before i d).view (slice_index_or after i d).view
 
 -- all stripes were scanned. These lists are sorted, and have the entries of all scans, each as often as the scans
@@ -70,7 +70,11 @@ pub record FindsAll (n : ℕ) (before after : List PassState) (lists : List (Lis
 
 -- the items of each reply
 abbrev pub items_in : List WalkReply → List (List Entry)
-items_in replies = map (λ reply. reply.items.items) replies
+items_in replies = map (λ reply. reply.items) replies
+
+-- the entries of each part
+abbrev pub found_in : List Part → List (List Entry)
+found_in parts = map (λ part. part.found) parts
 
 -- each reply is that to a walk for each of the entries in its place
 abbrev pub AreReplies : Checked → Option (List ℕ) → List (List Entry) → List WalkReply → Type 0

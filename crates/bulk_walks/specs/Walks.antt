@@ -100,7 +100,7 @@ pub record ReplacesAll (n : ℕ) (checked : Checked) (arg : Option (List ℕ)) (
     : Type 0 where
   pub counts : ℕ → Counts
   pub walked : AllWalked n (Each (IsReplaced n checked arg) counts) before after
-  pub items : reply.items.items ≡ []
+  pub items : reply.items ≡ []
   pub scanned : reply.counts.scanned ≡ sum_below n (λ k. (counts k).scanned)
   pub given : reply.counts.given ≡ sum_below n (λ k. (counts k).given)
   pub unfit : reply.counts.unfit ≡ sum_below n (λ k. (counts k).unfit)

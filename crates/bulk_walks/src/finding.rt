@@ -2,13 +2,13 @@
 ghost use Rattle.std.specs.Prelude.{◌≡◌, ◌<◌, All, IfOk, OnOk, IsOk, MatchResult, length, map, vec_len};
 ghost use Rattle.bin_stripes.specs.Passes.{stripes_of};
 ghost use Rattle.bulk_walks.specs.Walks.{Walked, AllWalked, MayScan};
-ghost use Rattle.bulk_walks.specs.Turns.{WorkerFinds, FindsInOrder, FindsAll, found_of, items_in};
+ghost use Rattle.bulk_walks.specs.Turns.{WorkerFinds, FindsInOrder, FindsAll, found_in, found_of};
 
+use crate::running::Part;
 use crate::workers::work;
-use atomic_methods::WalkReply;
 use bin_stripes::{Gate, Pass, Place, StripedMap};
-use bins::{Counts, EntryColumns};
-use bpf_model::{Key, NoMemory, Value};
+use bins::{EntryColumns, SortedColumns};
+use bpf_model::NoMemory;
 use std::alloc::Global;
 use std::sync::Wait;
 use std::thread::Threads;
@@ -51,66 +51,60 @@ fn sorted_turns<R: Wait, G: Gate>(
     worker: u64,
     workers: u64,
     pass: &mut Pass,
-) -> Result<Vec<(Key, Value)>, NoMemory>
+) -> Result<SortedColumns, NoMemory>
     requires map { pass.old.map ≡ map.now }
     requires worker { worker < workers }
     ensures map { pass.new.map ≡ pass.old.map }
-    ensures done { IfOk result (λ found. FindsInOrder (stripes_of map.now) workers worker pass.old.view pass.new.view found.items) }
+    ensures done { IfOk result (λ found. FindsInOrder (stripes_of map.now) workers worker pass.old.view pass.new.view found) }
     ensures part { Walked (stripes_of map.now) workers worker MayScan pass.old.view pass.new.view }
 {
     let found = scan_turns(rt, alloc, map, gate, worker, workers, pass)?;
-    let sorted = found.sorted(alloc)?;
+    let sorted = SortedColumns::new(alloc, found)?;
     Ok(sorted)
 }
 
-// A reply for each worker's entries, on which no program has run: they are its items.
-fn unrun(
+// A part for each worker's entries, without a reply.
+fn parts_of(
     alloc: Global,
-    answers: Vec<Result<Vec<(Key, Value)>, NoMemory>>,
-) -> Result<Vec<WalkReply>, NoMemory>
-    ensures items { IfOk result (λ replies. items_in replies.items ≡ map found_of answers.items) }
+    answers: Vec<Result<SortedColumns, NoMemory>>,
+) -> Result<Vec<Part>, NoMemory>
+    ensures items { IfOk result (λ parts. found_in parts.items ≡ map found_of answers.items) }
     ensures ok { OnOk result (All (λ r. IsOk r) answers.items) }
 {
-    let mut replies = Vec::with_capacity(alloc, answers.len())?;
+    let mut parts = Vec::with_capacity(alloc, answers.len())?;
     for answer in answers {
-        let items = answer?;
-        let scanned = items.len() as u64;
-        let counts = Counts {
-            scanned,
-            given: 0,
-            unfit: 0,
-        };
-        replies.push(WalkReply { items, counts })?;
+        let found = answer?;
+        parts.push(Part { found, reply: None })?;
     }
-    Ok(replies)
+    Ok(parts)
 }
 
-// The entries of all stripes, each scanned once by the worker whose turn it is: for each worker a reply on which no program
-// has run, with its entries in key order.
+// The entries of all stripes, each scanned once by the worker whose turn it is: for each worker its part, with its entries in
+// key order.
 pub(crate) fn find<R: Threads + Wait + Sync, G: Gate + Sync>(
     rt: &R,
     alloc: Global,
     map: &StripedMap,
     passes: Vec<Pass>,
     gate: &G,
-) -> (Vec<Pass>, Result<Vec<WalkReply>, NoMemory>)
+) -> (Vec<Pass>, Result<Vec<Part>, NoMemory>)
     requires map { All (λ pass. pass.map ≡ map.now) passes.items }
     requires some { 0 < vec_len passes }
     ensures map { All (λ pass. pass.map ≡ map.now) result.0.items }
     ensures order { length result.0.items ≡ length passes.items }
-    ensures found { MatchResult result.1 (λ replies. FindsAll (stripes_of map.now) passes.items result.0.items (items_in replies.items)) (λ _. AllWalked (stripes_of map.now) MayScan passes.items result.0.items) }
+    ensures found { MatchResult result.1 (λ parts. FindsAll (stripes_of map.now) passes.items result.0.items (found_in parts.items)) (λ _. AllWalked (stripes_of map.now) MayScan passes.items result.0.items) }
 {
     let workers = passes.len() as u64;
-    let call = move |worker: usize, pass: &mut Pass| -> Result<Vec<(Key, Value)>, NoMemory>
+    let call = move |worker: usize, pass: &mut Pass| -> Result<SortedColumns, NoMemory>
         requires { (pass.old.map ≡ map.now) × (worker < workers) }
-        ensures { (pass.new.map ≡ map.entry.now) × IfOk result (λ found. FindsInOrder (stripes_of map.entry.now) workers worker pass.old.view pass.new.view found.items) × Walked (stripes_of map.entry.now) workers worker MayScan pass.old.view pass.new.view }
+        ensures { (pass.new.map ≡ map.entry.now) × IfOk result (λ found. FindsInOrder (stripes_of map.entry.now) workers worker pass.old.view pass.new.view found) × Walked (stripes_of map.entry.now) workers worker MayScan pass.old.view pass.new.view }
     { sorted_turns(rt, alloc, map, gate, worker as u64, workers, pass) };
     let (passes, answers) = work(rt, alloc, passes, &call);
     let Ok(answers) = answers else {
         return (passes, Err(NoMemory));
     };
-    let Ok(replies) = unrun(alloc, answers) else {
+    let Ok(parts) = parts_of(alloc, answers) else {
         return (passes, Err(NoMemory));
     };
-    (passes, Ok(replies))
+    (passes, Ok(parts))
 }

@@ -1,62 +1,40 @@
 //! One reply from those of the workers.
-ghost use Rattle.std.specs.Prelude.{◌≡◌, ℕ, ◌+◌, ◌<◌, ◌≤◌, ◌^◌, All, IfOk, List, MatchOption, T, length, map, slice_index_or, sum_by, take, vec_len, false};
+ghost use Rattle.std.specs.Prelude.{◌≡◌, ℕ, ◌+◌, ◌<◌, ◌≤◌, ◌^◌, ◌∷◌, [], All, IfOk, IfSome, List, MatchOption, T, length, slice_index_or, sum_by, take, false};
 ghost use Rattle.std.specs.FinMap as finmap;
 ghost use Rattle.bins.specs.Table.{Entry, by_bytes};
-ghost use Rattle.atomic_methods.specs.Replies.{chosen};
 ghost use Rattle.bulk_walks.specs.Turns.{items_in};
 ghost use Rattle.bulk_walks.specs.Merges.{comes_first, HasAll, TakesLeast, IsMerge, CountsAdd};
 
 use crate::replace::{ZERO, add};
 use atomic_methods::{WalkKind, WalkReply};
-use bins::Counts;
-use bpf_model::{Key, NoMemory, Value};
+use bins::{Counts, EntryColumns};
+use bpf_model::NoMemory;
+use bpf_model::limits::{KEY_BYTES, VALUE_BYTES};
 use std::alloc::Global;
+use std::marker::Model;
 
 // The reply of this kind that is made of replies of the kind `ForEach`, each with its items in key order. `NoMemory` where
-// a request for memory was refused; where there is one reply none is asked for, and no item is copied.
+// a request for memory was refused. Where one reply has all items none is copied.
 pub(crate) fn merged(
     alloc: Global,
     kind: WalkKind,
-    mut replies: Vec<WalkReply>,
+    replies: Vec<WalkReply>,
 ) -> Result<WalkReply, NoMemory>
-    requires order { All (λ reply. T (finmap.is_sorted by_bytes reply.items.items)) replies.items }
-    requires counted { All (λ reply. reply.counts.given ≡ length reply.items.items) replies.items }
+    requires order { All (λ reply. T (finmap.is_sorted by_bytes reply.items)) replies.items }
+    requires counted { All (λ reply. reply.counts.given ≡ length reply.items) replies.items }
     requires scanned { sum_by (λ reply. reply.counts.scanned) replies.items < 2 ^ 64 }
     requires given { sum_by (λ reply. reply.counts.given) replies.items < 2 ^ 64 }
     requires unfit { sum_by (λ reply. reply.counts.unfit) replies.items < 2 ^ 64 }
     ensures { IfOk result (λ reply. IsMerge kind replies.items reply) }
 {
-    if replies.len() == 1 {
-        let Some(reply) = replies.pop() else {
-            unreachable!()
-        };
-        return Ok(cut(kind, reply));
-    }
     let total = total_of(&replies);
-    let most = match kind {
-        WalkKind::Search => 1,
-        WalkKind::ForEach => total.given as usize,
+    let items = match kind {
+        WalkKind::Search => first_items(alloc, &replies, 1)?,
+        WalkKind::ForEach => all_items(alloc, replies, total.given as usize)?,
     };
-    let items = first_items(alloc, &replies, most)?;
     let given = items.len() as u64;
     let counts = Counts { given, ..total };
     Ok(WalkReply { items, counts })
-}
-
-// What this kind of walk gives of a reply's items.
-fn cut(kind: WalkKind, reply: WalkReply) -> WalkReply
-    ensures items { result.items.items ≡ chosen kind reply.items.items }
-    ensures scanned { result.counts.scanned ≡ reply.counts.scanned }
-    ensures given { result.counts.given ≡ length result.items.items }
-    ensures unfit { result.counts.unfit ≡ reply.counts.unfit }
-{
-    let WalkReply { mut items, counts } = reply;
-    if let WalkKind::Search = kind {
-        items.truncate(1);
-    }
-    let given = items.len() as u64;
-    let counts = Counts { given, ..counts };
-    WalkReply { items, counts }
 }
 
 // What all replies counted.
@@ -73,76 +51,150 @@ fn total_of(replies: &[WalkReply]) -> Counts
     total
 }
 
-// Copies of the first `most` items of all replies, in key order.
-fn first_items(
+// All items of all replies, so many, in key order: those of one reply where it has all of them, and else copies.
+fn all_items(
     alloc: Global,
-    replies: &[WalkReply],
-    most: usize,
-) -> Result<Vec<(Key, Value)>, NoMemory>
-    requires order { All (λ reply. T (finmap.is_sorted by_bytes reply.items.items)) replies.now }
-    ensures { IfOk result (λ items. (all : List Entry) → T (finmap.is_sorted by_bytes all) → HasAll all (items_in replies.now) → items.items ≡ take most all) }
+    mut replies: Vec<WalkReply>,
+    count: usize,
+) -> Result<EntryColumns, NoMemory>
+    requires order { All (λ reply. T (finmap.is_sorted by_bytes reply.items)) replies.items }
+    requires counted { count ≡ sum_by (λ items. length items) (items_in replies.items) }
+    ensures { IfOk result (λ items. (all : List Entry) → T (finmap.is_sorted by_bytes all) → HasAll all (items_in replies.items) → items ≡ all) }
 {
-    let mut rests = lists_of(alloc, replies)?;
-    let mut items = Vec::with_capacity(alloc, most)?;
+    if let Some(place) = place_with(&replies, count) {
+        let WalkReply { items, .. } = replies.swap_remove(place);
+        return Ok(items);
+    }
+    let items = first_items(alloc, &replies, count)?;
+    Ok(items)
+}
+
+// The place of a reply that has so many items.
+fn place_with(replies: &[WalkReply], count: usize) -> Option<usize>
+    ensures range { IfSome result (λ place. place < length replies.now) }
+    ensures count { IfSome result (λ place. length (slice_index_or (items_in replies.now) place []) ≡ count) }
+{
+    for place in 0..replies.len() {
+        if replies[place].items.len() == count {
+            return Some(place);
+        }
+    }
+    None
+}
+
+// Copies of the first `most` items of all replies, in key order.
+fn first_items(alloc: Global, replies: &[WalkReply], most: usize) -> Result<EntryColumns, NoMemory>
+    requires order { All (λ reply. T (finmap.is_sorted by_bytes reply.items)) replies.now }
+    ensures { IfOk result (λ items. (all : List Entry) → T (finmap.is_sorted by_bytes all) → HasAll all (items_in replies.now) → items ≡ take most all) }
+{
+    let mut rests = rests_of(alloc, replies)?;
+    let mut items = EntryColumns::new(alloc);
+    items.reserve(most)?;
     for given in 0..most {
-        let Some(item) = take_least(&mut rests) else {
+        let Some((key, value)) = take_least(&mut rests) else {
             return Ok(items);
         };
-        items.push((item.0.copied(), item.1.copied()))?;
+        items.push(key, value)?;
     }
     Ok(items)
 }
 
-// The items of each reply.
-fn lists_of<'a>(
-    alloc: Global,
-    replies: &'a [WalkReply],
-) -> Result<Vec<&'a [(Key, Value)]>, NoMemory>
-    ensures { IfOk result (λ lists. map (λ list. list.now) lists.items ≡ items_in replies.now) }
-{
-    let mut lists = Vec::with_capacity(alloc, replies.len())?;
-    for reply in replies {
-        lists.push(reply.items.as_slice())?;
-    }
-    Ok(lists)
+/// Items that are lent, but for the first ones.
+#[derive(Drop)]
+struct Rest<'a> {
+    items: &'a EntryColumns,
+    next: usize,
 }
 
-// Takes the first entry of a list, with the least key of all; none where all lists are empty.
-fn take_least<'a>(rests: &mut Vec<&'a [(Key, Value)]>) -> Option<&'a (Key, Value)>
-    ensures { TakesLeast (map (λ rest. rest.now) rests.old.items) result (map (λ rest. rest.now) rests.new.items) }
+impl<'a> Model for Rest<'a> {
+    ghost use Rattle.std.specs.Prelude.{List, drop};
+    ghost use Rattle.bins.specs.Table.{Entry};
+
+    ghost Value = { List Entry };
+
+    ghost view = { λ rest. drop rest.next rest.items.now };
+}
+
+impl<'a> Rest<'a> {
+    // All of these items.
+    fn new(items: &'a EntryColumns) -> Rest<'a>
+        ensures { result ≡ items.now }
+    {
+        Rest { items, next: 0 }
+    }
+
+    // The first entry, where there is one.
+    #[inline(always)]
+    fn first(&self) -> Option<(&'a [u8], &'a [u8])>
+        ensures { MatchOption result (self.now ≡ []) (λ entry. (behind : List Entry) × (self.now ≡ (entry.0.now, entry.1.now) ∷ behind)) }
+    {
+        if self.next < self.items.len() {
+            return Some(self.items.get(self.next));
+        }
+        None
+    }
+
+    // Takes the first entry, where there is one.
+    #[inline(always)]
+    fn take_first(&mut self) -> Option<(&'a [u8], &'a [u8])>
+        ensures first { MatchOption result (self.old ≡ []) (λ entry. self.old ≡ (entry.0.now, entry.1.now) ∷ self.new) }
+        ensures fits { IfSome result (λ entry. (length entry.0.now ≤ KEY_BYTES) × (length entry.1.now ≤ VALUE_BYTES)) }
+    {
+        if self.next < self.items.len() {
+            let entry = self.items.get(self.next);
+            self.next += 1;
+            return Some(entry);
+        }
+        None
+    }
+}
+
+// The items of each reply.
+fn rests_of<'a>(alloc: Global, replies: &'a [WalkReply]) -> Result<Vec<Rest<'a>>, NoMemory>
+    ensures { IfOk result (λ rests. rests.items ≡ items_in replies.now) }
+{
+    let mut rests = Vec::with_capacity(alloc, replies.len())?;
+    for reply in replies {
+        rests.push(Rest::new(&reply.items))?;
+    }
+    Ok(rests)
+}
+
+// Takes the first entry of a rest, with the least key of all; none where all are empty.
+fn take_least<'a>(rests: &mut Vec<Rest<'a>>) -> Option<(&'a [u8], &'a [u8])>
+    ensures least { TakesLeast rests.old.items result rests.new.items }
+    ensures fits { IfSome result (λ entry. (length entry.0.now ≤ KEY_BYTES) × (length entry.1.now ≤ VALUE_BYTES)) }
 {
     if rests.is_empty() {
         return None;
     }
     let place = least(rests);
-    let Some((first, behind)) = rests[place].split_first() else {
-        return None;
-    };
-    rests[place] = behind;
-    Some(first)
+    let rest = &mut rests[place];
+    rest.take_first()
 }
 
-// The place of a list before which no other comes.
-fn least(rests: &[&[(Key, Value)]]) -> usize
+// The place of a rest before which no other comes.
+fn least(rests: &[Rest<'_>]) -> usize
     requires { 0 < length rests.now }
     ensures place { result < length rests.now }
-    ensures least { All (λ rest. comes_first rest.now (slice_index_or rests.now result rest).now ≡ false) rests.now }
+    ensures least { All (λ rest. comes_first rest (slice_index_or rests.now result rest) ≡ false) rests.now }
 {
     let mut place = 0;
     for other in 1..rests.len() {
-        if is_first(rests[other], rests[place]) {
+        if is_first(&rests[other], &rests[place]) {
             place = other;
         }
     }
     place
 }
 
-// Whether the one list's first key comes before the other's. An empty list comes last.
-fn is_first(one: &[(Key, Value)], other: &[(Key, Value)]) -> bool
+// Whether the one rest's first key comes before the other's. An empty rest comes last.
+#[inline(always)]
+fn is_first(one: &Rest<'_>, other: &Rest<'_>) -> bool
     ensures { result ≡ comes_first one.now other.now }
 {
     match (one.first(), other.first()) {
-        (Some(a), Some(b)) => a.0.cmp(&b.0).is_lt(),
+        (Some(a), Some(b)) => a.0.cmp(b.0).is_lt(),
         (Some(_), None) => true,
         (None, _) => false,
     }

@@ -1,56 +1,94 @@
 //! The program on the entries of a walk, run by threads.
-ghost use Rattle.std.specs.Prelude.{◌≡◌, ℕ, ◌<◌, length, slice_index_or};
+ghost use Rattle.std.specs.Prelude.{◌≡◌, ℕ, ◌<◌, IfOk, IfSome, Some, length, map, slice_index_or};
 ghost use Rattle.atomic_methods.specs.declared.walk_reply.WalkKind.TheVariants.{ForEach};
-ghost use Rattle.atomic_methods.specs.declared.walk_reply.WalkReply.{WalkReply as Reply};
 ghost use Rattle.atomic_methods.specs.Replies.{IsReply};
-ghost use Rattle.bulk_walks.specs.Turns.{items_in, AreReplies};
+ghost use Rattle.bulk_walks.specs.Turns.{found_in, AreReplies};
+ghost use Rattle.bulk_walks.specs.declared.running.Part.{Part as WorkersPart};
 
-use atomic_methods::{WalkKind, WalkReply, keep_answers};
-use bpf_model::Value;
+use atomic_methods::{WalkKind, WalkReply, walk};
+use bins::SortedColumns;
+use bpf_model::{NoMemory, Value};
+use std::alloc::Global;
 use std::thread;
 use std::thread::Threads;
 use verifier::Verified;
 
-// Runs the program on the entries of one reply. The answers take their place.
-fn run(program: &Verified, arg: &Option<Value>, reply: &mut WalkReply)
-    ensures { IsReply ForEach program.now arg.now reply.old.items.items reply.new }
-{
-    reply.counts = keep_answers(WalkKind::ForEach, &mut reply.items, program, arg);
+/// What one worker found, and the reply to a walk over it. There is none before the program has run, and where memory
+/// was refused to it.
+#[derive(Drop)]
+pub(crate) struct Part {
+    pub(crate) found: SortedColumns,
+    pub(crate) reply: Option<WalkReply>,
 }
 
-// The same of each reply, by so many threads.
+// Runs the program on the entries of one part.
+fn run(alloc: Global, program: &Verified, arg: &Option<Value>, part: &mut Part)
+    ensures { IfSome part.new.reply (λ reply. IsReply ForEach program.now arg.now part.old.found reply) }
+{
+    if let Ok(reply) = walk(alloc, WalkKind::ForEach, &part.found, program, arg) {
+        part.reply = Some(reply);
+    } else {
+        part.reply = None;
+    }
+}
+
+// The same of each part, by so many threads.
 fn run_each<R: Threads + Sync>(
     rt: &R,
+    alloc: Global,
     program: &Verified,
     arg: &Option<Value>,
-    replies: &mut [WalkReply],
+    parts: &mut [Part],
     threads: usize,
 )
     requires { 0 < threads }
-    ensures each { (i : ℕ) (d : Reply) → i < length replies.old → IsReply ForEach program.now arg.now (slice_index_or replies.old i d).items.items (slice_index_or replies.new i d) }
+    ensures each { (i : ℕ) (d : WorkersPart) → i < length parts.old → IfSome (slice_index_or parts.new i d).reply (λ reply. IsReply ForEach program.now arg.now (slice_index_or parts.old i d).found reply) }
 {
-    thread::for_each_mut(rt, replies, threads, &|_, reply| run(program, arg, reply));
+    thread::for_each_mut(
+        rt,
+        parts,
+        threads,
+        &|_, part| run(alloc, program, arg, part),
+    );
 }
 
-// The same of all replies of a walk.
+// The replies of all parts. `NoMemory` where one has none.
+fn replies_of(alloc: Global, parts: Vec<Part>) -> Result<Vec<WalkReply>, NoMemory>
+    ensures { IfOk result (λ replies. map Some replies.items ≡ map (λ part. part.reply) parts.items) }
+{
+    let mut replies = Vec::with_capacity(alloc, parts.len())?;
+    for part in parts {
+        let Part { reply, .. } = part;
+        let Some(reply) = reply else {
+            return Err(NoMemory);
+        };
+        replies.push(reply)?;
+    }
+    Ok(replies)
+}
+
+// Runs the program on the entries of all parts: the reply of each. `NoMemory` where a request for memory was refused.
 pub(crate) fn run_all<R: Threads + Sync>(
     rt: &R,
+    alloc: Global,
     program: &Verified,
     arg: &Option<Value>,
-    replies: &mut Vec<WalkReply>,
+    mut parts: Vec<Part>,
     threads: usize,
-)
+) -> Result<Vec<WalkReply>, NoMemory>
     requires { 0 < threads }
-    ensures { AreReplies program.now arg.now (items_in replies.old.items) replies.new.items }
+    ensures { IfOk result (λ replies. AreReplies program.now arg.now (found_in parts.items) replies.items) }
 {
-    run_each(rt, program, arg, replies, threads);
+    run_each(rt, alloc, program, arg, &mut parts, threads);
+    let replies = replies_of(alloc, parts)?;
+    Ok(replies)
 }
 
-// How many entries the replies hold; not more than the greatest number.
-pub(crate) fn held_in(replies: &[WalkReply]) -> u64 {
+// How many entries the parts hold; not more than the greatest number.
+pub(crate) fn held_in(parts: &[Part]) -> u64 {
     let mut held: u64 = 0;
-    for reply in replies {
-        held = held.saturating_add(reply.items.len() as u64);
+    for part in parts {
+        held = held.saturating_add(part.found.len() as u64);
     }
     held
 }

@@ -40,15 +40,17 @@ pub fn walk<R: Threads + Wait + Sync, G: Gate + Sync>(
     prove!(stripes <= 64);
     let (passes, found) = find(rt, alloc, map, passes, gate);
     let team = Team { passes };
-    let Ok(mut replies) = found else {
+    let Ok(parts) = found else {
         return (team, Err(NoMemory));
     };
-    let threads = if held_in(&replies) >= threshold {
+    let threads = if held_in(&parts) >= threshold {
         workers
     } else {
         1
     };
-    run_all(rt, program, arg, &mut replies, threads);
+    let Ok(replies) = run_all(rt, alloc, program, arg, parts, threads) else {
+        return (team, Err(NoMemory));
+    };
     (team, merged(alloc, kind, replies))
 }
 

@@ -1,4 +1,4 @@
-use Rattle.std.proofs.Common.{◌≡◌, ℕ, ◌<◌, Result, Vec, Global, IfOk, All, length, arith, subst, slice_index_or}
+use Rattle.std.proofs.Common.{◌≡◌, ℕ, ◌<◌, List, Result, IfOk, All, length, arith, subst, slice_index_or}
 use Rattle.atomic_table.specs.Seated.{TableId}
 use Rattle.bins.specs.Table.{Entry}
 use Rattle.bin_stripes.specs.Passes.{PassState, stripes_of}
@@ -11,10 +11,10 @@ use Rattle.bulk_walks.proofs.finding.find.Goals as goal
 use Rattle.bulk_walks.proofs.finding.find.Goals.{In-Ok}
 
 -- what worker i did
-abbrev Does : TableId → ℕ → ℕ → PassState → Result (Vec Entry Global) NoMemory → PassState → Type 0
-Does map workers i x r y = (y.map ≡ map) × IfOk r (λ found. FindsInOrder (stripes_of map) workers i x.view y.view found.items) × Walked (stripes_of map) workers i MayScan x.view y.view
+abbrev Does : TableId → ℕ → ℕ → PassState → Result (List Entry) NoMemory → PassState → Type 0
+Does map workers i x r y = (y.map ≡ map) × IfOk r (λ found. FindsInOrder (stripes_of map) workers i x.view y.view found) × Walked (stripes_of map) workers i MayScan x.view y.view
 
-each_of : (g : _) (c : In-Ok g) (i : ℕ) (d : PassState) (e : Result (Vec Entry Global) NoMemory) → i < length c.args.passes.items
+each_of : (g : _) (c : In-Ok g) (i : ℕ) (d : PassState) (e : Result (List Entry) NoMemory) → i < length c.args.passes.items
     → Does c.args.map.now (length c.args.passes.items) i (slice_index_or c.args.passes.items i d) (slice_index_or c.in-Ok.answers.items i e) (slice_index_or c.work-passes.result.0.items i d)
 each_of g c i d e low =
     let one = (rw c.in-Ok.is at c.work-passes.ensures).each i d e low in
@@ -38,16 +38,16 @@ returns-clause-found g c =
     let c' = (goal.at.returns-clause-found g c).In-Ok in
     let some : 0 < length c'.args.passes.items = omega (arith, c.requires.some, c.args.passes.ok.0) in
     all_of (stripes_of c'.args.map.now) c'.args.passes.items c'.work-passes.result.0.items c'.in-Ok.answers.items (head_of _ some) (head_of c'.in-Ok.answers.items (omega (arith, (did g c').answers))) some (did g c')
-    c.in-Ok-unrun.ensures.ok _ c.in-Ok-unrun.ensures.items
+    c.in-Ok-parts_of.ensures.ok _ c.in-Ok-parts_of.ensures.items
 
 pub returns-clause-map : goal.returns-clause-map
 returns-clause-map g c = maps g (goal.at.returns-clause-map g c).In-Ok
 
-pub returns-in_default-unrun-clause-map : goal.returns-in_default-unrun-clause-map
-returns-in_default-unrun-clause-map g c = maps g (goal.at.returns-in_default-unrun-clause-map g c).In-Ok
+pub returns-in_default-parts_of-clause-map : goal.returns-in_default-parts_of-clause-map
+returns-in_default-parts_of-clause-map g c = maps g (goal.at.returns-in_default-parts_of-clause-map g c).In-Ok
 
-pub returns-in_default-unrun-clause-found : goal.returns-in_default-unrun-clause-found
-returns-in_default-unrun-clause-found g c =
-    let c' = (goal.at.returns-in_default-unrun-clause-found g c).In-Ok in
+pub returns-in_default-parts_of-clause-found : goal.returns-in_default-parts_of-clause-found
+returns-in_default-parts_of-clause-found g c =
+    let c' = (goal.at.returns-in_default-parts_of-clause-found g c).In-Ok in
     let all = did g c' in
     record { order = all.left; each = λ j d low. all.part j d low }

@@ -1,7 +1,6 @@
 use Rattle.std.proofs.Common.{◌≡◌, List, inl, inr, false, get_or, sym, ap, ◌∙◌, subst, arith}
 use Rattle.std.proofs.lemmas.Bool.{cases_eq}
 use Rattle.std.proofs.lemmas.List.{get_or_default}
-use denote.Ref.{Bor}
 use Rattle.bins.specs.Table.{Entry}
 use Rattle.bulk_walks.specs.Merges.{comes_first}
 use Rattle.bulk_walks.proofs.MergeLemmas.{comes_first-itself, comes_first-one_way, comes_first-chain}
@@ -11,7 +10,7 @@ use Rattle.bulk_walks.proofs.merging.least.Goals.{then-is_first, else-is_first}
 pub loop-other-init : goal.loop-other-init
 loop-other-init c = record {
   inside = c.requires;
-  least = λ i d low. let zero : i ≡ 0 = omega (arith, low) in subst (λ k. comes_first (get_or c.args.rests.now k d).now (get_or c.args.rests.now 0 d).now ≡ false) (sym zero) (comes_first-itself (get_or c.args.rests.now 0 d).now);
+  least = λ i d low. let zero : i ≡ 0 = omega (arith, low) in subst (λ k. comes_first (get_or c.args.rests.now k d) (get_or c.args.rests.now 0 d) ≡ false) (sym zero) (comes_first-itself (get_or c.args.rests.now 0 d));
 }
 
 -- the other list comes before the least so far, or it does not
@@ -21,23 +20,23 @@ loop-other-preserved c =
     let rests = c.args.rests.now in
     let other = c.loop-other.other in
     let place = c.loop-other.place in
-    let test : (d : _) → c.is_first.result ≡ comes_first (get_or rests other d).now (get_or rests place d).now = λ d.
+    let test : (d : List Entry) → c.is_first.result ≡ comes_first (get_or rests other d) (get_or rests place d) = λ d.
     c.is_first.ensures
-    ∙ ap (λ (one : Bor (List Entry)). comes_first one.now c.index-rests-place.result.now) (c.index-rests-other.is ∙ get_or_default rests other _ d (omega (arith, c.loop-other-test.true)))
-    ∙ ap (λ (two : Bor (List Entry)). comes_first (get_or rests other d).now two.now) (c.index-rests-place.is ∙ get_or_default rests place _ d before.inside) in
+    ∙ ap (λ (one : List Entry). comes_first one c.index-rests-place.result) (c.index-rests-other.is ∙ get_or_default rests other _ d (omega (arith, c.loop-other-test.true)))
+    ∙ ap (λ (two : List Entry). comes_first (get_or rests other d) two) (c.index-rests-place.is ∙ get_or_default rests place _ d before.inside) in
     elim c.if-is_first.branch [
       | then-is_first w ↦ rw w.place-is (record {
         inside = omega arith;
         least = λ i d low. elim (cases_eq i other) [
-          | inl e ↦ subst (λ k. comes_first (get_or rests k d).now (get_or rests other d).now ≡ false) (sym e) (comes_first-itself (get_or rests other d).now)
-          | inr ne ↦ comes_first-chain (get_or rests i d).now (get_or rests place d).now (get_or rests other d).now (before.least i d (omega (arith, low, ne)))
-              (comes_first-one_way (get_or rests other d).now (get_or rests place d).now (sym (test d) ∙ w.if-is_first.true))
+          | inl e ↦ subst (λ k. comes_first (get_or rests k d) (get_or rests other d) ≡ false) (sym e) (comes_first-itself (get_or rests other d))
+          | inr ne ↦ comes_first-chain (get_or rests i d) (get_or rests place d) (get_or rests other d) (before.least i d (omega (arith, low, ne)))
+              (comes_first-one_way (get_or rests other d) (get_or rests place d) (sym (test d) ∙ w.if-is_first.true))
         ];
       })
       | else-is_first w ↦ rw w.place-is (record {
         inside = before.inside;
         least = λ i d low. elim (cases_eq i other) [
-          | inl e ↦ subst (λ k. comes_first (get_or rests k d).now (get_or rests place d).now ≡ false) (sym e) (sym (test d) ∙ w.if-is_first.false)
+          | inl e ↦ subst (λ k. comes_first (get_or rests k d) (get_or rests place d) ≡ false) (sym e) (sym (test d) ∙ w.if-is_first.false)
           | inr ne ↦ before.least i d (omega (arith, low, ne))
         ];
       })

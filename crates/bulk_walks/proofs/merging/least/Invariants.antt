@@ -6,5 +6,5 @@ use Rattle.bulk_walks.proofs.merging.least.Given as goal
 abbrev pub invariant-loop-other : goal.invariant-loop-other
 invariant-loop-other l = record {
   inside : l.place < length l.rests;
-  least : (i : ℕ) (d : _) → i < l.other → comes_first (get_or l.rests i d).now (get_or l.rests l.place d).now ≡ false;
+  least : (i : ℕ) (d : _) → i < l.other → comes_first (get_or l.rests i d) (get_or l.rests l.place d) ≡ false;
 }

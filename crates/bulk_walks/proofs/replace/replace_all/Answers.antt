@@ -57,7 +57,7 @@ returns-clause-walked g c =
     record {
       counts = all.counts;
       walked = all.walked;
-      items = c.new-items.ensures.items;
+      items = c.new-items.ensures;
       scanned = sums.scanned ∙ ap (λ (rs : List Counts). sum_by (λ c. c.scanned) rs) list ∙ all.scanned;
       given = sums.given ∙ ap (λ (rs : List Counts). sum_by (λ c. c.given) rs) list ∙ all.given;
       unfit = sums.unfit ∙ ap (λ (rs : List Counts). sum_by (λ c. c.unfit) rs) list ∙ all.unfit;
