@@ -5,4 +5,5 @@ pub mod WholeLemmas
 pub mod RunLemmas
 pub mod ReplaceLemmas
 pub mod OneReply
+pub mod ProgramLemmas
 pub mod WalkLemmas

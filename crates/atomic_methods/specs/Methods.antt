@@ -78,3 +78,10 @@ abbrev pub WouldAdd : Table → Invocation → Type 0
 WouldAdd table invocation =
     (map.get table invocation.key ≡ None)
     × ((value : List ℕ) × ((reply : Reply) × LeavesAtKey table invocation (Some value) reply))
+
+-- the invocation, made on the table, runs a program that comes to this
+abbrev pub RunsTo : Table → Invocation → Result Answer InputPart → Type 0
+RunsTo table invocation outcome =
+    let old = map.get table invocation.key in
+    (program : Checked) × ((arg : Option (List ℕ)) × ((rule_of invocation.method old ≡ runs program arg)
+    × ComesTo program (record { key = invocation.key; old = old; arg = arg }) outcome))

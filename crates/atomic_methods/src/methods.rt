@@ -1,11 +1,10 @@
 //! The methods, over whatever keeps the entries.
 ghost use Rattle.std.specs.Prelude.{◌≡◌, ◌<◌, ◌^◌, ℕ, List, IfOk, OnOk, OnErr, Some, None};
-ghost use Rattle.std.specs.Option.{option_copied};
 ghost use Rattle.std.specs.FinMap as map;
 ghost use Rattle.bins.specs.Replacements.{ReplacesEach};
 ghost use Rattle.atomic_methods.specs.Invocations.{invocation_of};
-ghost use Rattle.atomic_methods.specs.Methods.{rule_of, runs, with_value, Follows, Answers, WouldAdd};
-ghost use Rattle.atomic_methods.specs.Plans.{changed, reply_by, reply_planned, where_true};
+ghost use Rattle.atomic_methods.specs.Methods.{rule_of, with_value, Follows, Answers, RunsTo, WouldAdd};
+ghost use Rattle.atomic_methods.specs.Plans.{changed, outcome_by, reply_by, reply_planned, where_true};
 
 use crate::call::Call;
 use crate::hashed_call::HashedCall;
@@ -14,7 +13,7 @@ use crate::program::answer_into;
 use crate::reply::{Reply, ReplyKind};
 use crate::workspace::Workspace;
 use bins::{Bins, Counts, HashedKey};
-use bpf_model::{Key, NoMemory, Value};
+use bpf_model::{InputPart, Key, NoMemory, Value, value_bytes};
 use std::alloc::Global;
 use verifier::Verified;
 
@@ -31,9 +30,9 @@ pub fn apply<B: Bins>(bins: &mut B, call: &Call) -> Result<Reply, NoMemory>
     Ok(kind.with(bytes))
 }
 
-/// Makes one call as `apply` does. Leaves the bytes of the replied value in `bytes`, so that no
-/// value is moved, and works in `workspace`, so that none is cleared; what both held is lost. Hashed bins make
-/// one search for a call, and what is replied is copied once. A program runs before room is asked for.
+/// Makes one call as `apply` does. Leaves the bytes of the replied value in `bytes`, so that no value is moved, and works
+/// in `workspace`, so that none is cleared; what both held is lost. A program is run on the old value where that lies, before
+/// room is asked for. Hashed bins make one search for a call, and what is replied is copied once.
 pub fn apply_into<B: Bins>(
     bins: &mut B,
     call: &HashedCall<'_>,
@@ -60,36 +59,34 @@ pub fn apply_into<B: Bins>(
             Ok(ReplyKind::Some)
         }
         Plan::Run(program, arg) => {
-            workspace.old.set_from(old);
-            run_on_present(bins, call, (program, arg), workspace, bytes)
+            let (key, arg) = (call.call().key(), value_bytes(arg));
+            let machine = &mut workspace.machine;
+            let answered = answer_into(program, key, Some(old), arg, machine, bytes);
+            enter_answer(bins, call, answered, bytes)
         }
     }
 }
 
-// Runs a program on a present key, its value, which lies in the workspace, and the argument: the key has the answer then.
-fn run_on_present<B: Bins>(
+// Enters what a program came to: an answer of bytes, which are in `bytes`, is the key's value then, and is replied.
+fn enter_answer<B: Bins>(
     bins: &mut B,
     call: &HashedCall<'_>,
-    run: (&Verified, Option<&Value>),
-    workspace: &mut Workspace,
-    bytes: &mut Value,
+    answered: Result<bool, InputPart>,
+    bytes: &Value,
 ) -> Result<ReplyKind, NoMemory>
-    requires present { map.get (B.table bins.old) call.now.key ≡ Some workspace.now.old }
-    requires runs { rule_of call.now.method (Some workspace.now.old) ≡ runs run.0.now (option_copied run.1) }
+    requires came_to { RunsTo (B.table bins.old) call.now (outcome_by answered bytes.now) }
     ensures ok { IfOk result (λ kind.
-        Answers (B.table bins.old) call.now (B.table bins.new) (reply_by kind bytes.new)) }
+        Answers (B.table bins.old) call.now (B.table bins.new) (reply_by kind bytes.now)) }
     ensures err { OnErr result (B.table bins.new ≡ B.table bins.old) }
     ensures memory { OnErr result (WouldAdd (B.table bins.old) call.now) }
 {
-    let (program, arg) = run;
-    let Workspace { machine, old } = workspace;
-    match answer_into(program, call.call().key(), Some(old), arg, machine, bytes) {
+    match answered {
         Ok(true) => {
             bins.put(call.key(), bytes)?;
             Ok(ReplyKind::Some)
         }
         Ok(false) => {
-            remove_key(bins, call.key());
+            bins.discard(call.key());
             Ok(ReplyKind::None)
         }
         Err(part) => Ok(ReplyKind::Unfit(part)),
@@ -120,19 +117,11 @@ fn make_change<B: Bins>(
     match change {
         Change::Keep => Ok(()),
         Change::Remove => {
-            remove_key(bins, key);
+            bins.discard(key);
             Ok(())
         }
         Change::Enter(value) => bins.put(key, value),
     }
-}
-
-// Removes a key. Apart from `apply_into`, so that calls which remove none clear no place for a removed value.
-#[inline(never)]
-fn remove_key<B: Bins>(bins: &mut B, key: &HashedKey<'_>)
-    ensures gone { B.table bins.new ≡ map.remove (B.table bins.old) key.now }
-{
-    bins.remove(key);
 }
 
 // Makes a call whose key is absent, as `apply_into` does. Apart from it, so that calls on present keys clear no place for
@@ -198,7 +187,7 @@ fn new_value(call: &Call, workspace: &mut Workspace, bytes: &mut Value) -> (bool
             program,
             call.key(),
             None,
-            arg,
+            value_bytes(arg),
             &mut workspace.machine,
             bytes,
         ) {

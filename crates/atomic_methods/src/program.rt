@@ -14,8 +14,8 @@ use verifier::Verified;
 pub fn answer_into(
     program: &Verified,
     key: &Key,
-    old: Option<&Value>,
-    arg: Option<&Value>,
+    old: Option<&[u8]>,
+    arg: Option<&[u8]>,
     machine: &mut Machine,
     answer: &mut Value,
 ) -> Result<bool, InputPart>

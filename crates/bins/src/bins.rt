@@ -42,7 +42,11 @@ pub trait Bins {
         ensures ok { OnOk result (table self.new ≡ map.insert (table self.old) key.now value.now) }
         ensures err { OnErr result (table self.new ≡ table self.old) };
 
-    /// Removes a key, and gives the value that it had. Takes no memory.
+    /// Removes a key. Takes no memory.
+    fn discard(&mut self, key: &HashedKey<'_>)
+        ensures others { table self.new ≡ map.remove (table self.old) key.now };
+
+    /// Removes a key as `discard` does, and gives the value that it had, which is moved. Takes no memory.
     fn remove(&mut self, key: &HashedKey<'_>) -> Option<Value>
         ensures value { result ≡ map.get (table self.old) key.now }
         ensures others { table self.new ≡ map.remove (table self.old) key.now };

@@ -104,19 +104,19 @@ impl Bins for HashedBins {
         Ok(())
     }
 
-    #[inline(always)]
-    fn remove(&mut self, key: &HashedKey<'_>) -> Option<Value> {
-        match self.finder.position_again(&self.keys, key) {
-            Some(position) => {
-                let mut value = Value::new();
-                value.set_from(self.values.get(position));
-                self.finder.swap_remove(&self.keys, position);
-                self.keys.swap_remove(position);
-                self.values.swap_remove(position);
-                Some(value)
-            }
-            None => None,
+    fn discard(&mut self, key: &HashedKey<'_>) {
+        if let Some(position) = self.finder.position_again(&self.keys, key) {
+            self.finder.swap_remove(&self.keys, position);
+            self.keys.swap_remove(position);
+            self.values.swap_remove(position);
         }
+    }
+
+    fn remove(&mut self, key: &HashedKey<'_>) -> Option<Value> {
+        let mut value = Value::new();
+        value.set_from(self.find(key)?);
+        self.discard(key);
+        Some(value)
     }
 
     fn copy_into(&self, list: &mut Vec<(Key, Value)>) -> Result<(), NoMemory> {

@@ -106,6 +106,12 @@ impl Bins for ListBins {
         self.put(key, value)
     }
 
+    fn discard(&mut self, key: &HashedKey<'_>) {
+        if let Ok(position) = position_of(&self.entries, key) {
+            self.entries.remove(position);
+        }
+    }
+
     fn remove(&mut self, key: &HashedKey<'_>) -> Option<Value> {
         match position_of(&self.entries, key) {
             Ok(position) => Some(self.entries.remove(position).1),

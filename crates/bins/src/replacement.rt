@@ -8,7 +8,7 @@ use crate::column::Column;
 use crate::counts::Counts;
 use bpf_machine::{Machine, run_into};
 use bpf_model::limits::{KEY_BYTES, VALUE_BYTES};
-use bpf_model::{InputPart, Key, Value, fits_parts};
+use bpf_model::{InputPart, Key, Value, fits_parts, value_bytes};
 use verifier::Verified;
 
 /// Enters what the program answers on the key, its value and the argument; whether it answered bytes. The value stays
@@ -24,8 +24,9 @@ pub fn replace_value(
 ) -> Result<bool, InputPart>
     ensures by_outcome { Replaces program.now key.now arg.now value.old value.new result }
 {
-    fits_parts(&program.sizes(), key, Some(value), arg.as_ref())?;
-    let given = run_into(program, key, Some(value), arg.as_ref(), machine, answer);
+    let (old, arg) = (Some(value.as_slice()), value_bytes(arg.as_ref()));
+    fits_parts(&program.sizes(), key, old, arg)?;
+    let given = run_into(program, key, old, arg, machine, answer);
     if given {
         value.set_from(answer.as_slice());
     }
@@ -72,7 +73,6 @@ pub fn count_of(entries: &[(Key, Value)]) -> u64
 #[derive(Drop)]
 struct Workbench {
     machine: Machine,
-    old: Value,
     answer: Value,
 }
 
@@ -93,14 +93,10 @@ fn replace_at(
 {
     let key = Key::from_slice(keys.get(position));
     let key = key.unwrap();
-    let Workbench {
-        machine,
-        old,
-        answer,
-    } = bench;
-    old.set_from(values.get(position));
-    fits_parts(&program.sizes(), &key, Some(old), arg.as_ref())?;
-    let given = run_into(program, &key, Some(old), arg.as_ref(), machine, answer);
+    let (old, arg) = (Some(values.get(position)), value_bytes(arg.as_ref()));
+    let Workbench { machine, answer } = bench;
+    fits_parts(&program.sizes(), &key, old, arg)?;
+    let given = run_into(program, &key, old, arg, machine, answer);
     if given {
         values.set(position, answer.as_slice());
     }
@@ -122,7 +118,6 @@ pub(crate) fn replace_paired(
 {
     let mut bench = Workbench {
         machine: Machine::new(),
-        old: Value::new(),
         answer: Value::new(),
     };
     let mut given = 0;

@@ -22,7 +22,7 @@ pub mod program;
 pub mod window;
 
 pub use accesses::{AccessSize, LoadKind};
-pub use bytes::{Key, TooLong, Value};
+pub use bytes::{Key, TooLong, Value, value_bytes};
 pub use conditions::{Condition, JumpOp};
 pub use input::{Answer, Input, InputPart, Sizes, fits, fits_parts};
 pub use instruction::{Insn, Operand, Reg, immediate_word};

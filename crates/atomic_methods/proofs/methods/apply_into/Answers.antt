@@ -1,5 +1,6 @@
 use Rattle.std.proofs.Common.{◌≡◌, ℕ, List, Some, refl, ap, ◌∙◌}
 use Rattle.atomic_methods.specs.declared.reply.Reply.TheVariants.{Value}
+use Rattle.atomic_methods.proofs.ProgramLemmas.{runs_to}
 use Rattle.atomic_methods.proofs.methods.apply_into.Goals as goal
 
 -- the value that is given is entered and replied
@@ -9,3 +10,11 @@ returns-in_ok-put-in-Give-clause-ok g c =
     let found = rw (c.in-Some.is, c.key.ensures.value) at c.find.ensures.value in
     let same : c.set_from-in-Give.new.self ≡ c.in-Give.new.now = c.set_from-in-Give.ensures ∙ c.as_slice.ensures.value in
     (Some c.in-Give.new.now, (rw (← found, ← rule) (refl, ap (λ (v : List ℕ). Value (Some v)) same), rw (← c.key-in-Give.ensures.value) c.in_ok-put-in-Give.ensures.ok))
+
+-- the program runs on the value that was found
+pub enter_answer-requires : goal.enter_answer-requires
+enter_answer-requires g c =
+    let rule = rw (c.call.ensures.value) at c.in-Run.ensures.rule in
+    let found = rw (c.in-Some.is, c.key.ensures.value) at c.find.ensures.value in
+    let comes = rw (c.value_bytes-arg.ensures.value, c.key-key.ensures.value, c.call-in-Run.ensures.value) at c.answer_into-answered.ensures.outcome in
+    record { came_to = runs_to _ _ _ _ _ _ found rule comes }

@@ -1,4 +1,5 @@
 use Rattle.std.proofs.Common.{◌≡◌, ℕ, List, [], rules, refl, ap, ◌∙◌, Ok, Err, get_or-set_same}
+use Rattle.std.specs.Option.{option_copied}
 use Rattle.bpf_model.specs.declared.input.Answer.TheVariants.{Nothing, Bytes}
 use Rattle.bins.specs.Columns.{string_at}
 use Rattle.bins.proofs.replacement.replace_at.Goals as goal
@@ -8,7 +9,7 @@ pub returns-in_err-fits_parts-clause-by_outcome : goal.returns-in_err-fits_parts
 returns-in_err-fits_parts-clause-by_outcome c =
     let made = rw c.unwrap-key.ensures at c.from_slice-key.ensures.value in
     let key : c.unwrap-key.result ≡ string_at c.args.keys.now.items c.args.position = made ∙ c.get.ensures.value in
-    let old : c.set_from.new.self ≡ string_at c.args.values.now.items c.args.position = c.set_from.ensures ∙ c.get-2.ensures.value in
+    let old : c.get-2.result.now ≡ string_at c.args.values.now.items c.args.position = c.get-2.ensures.value in
     record { outcome = Err c.in_err-fits_parts.field-0.0; comes_to = rw (← key, ← old) (search rules); entered = refl; is_told = search rules }
 
 -- the answer is bytes: they are entered
@@ -16,8 +17,9 @@ pub returns-then-given-clause-by_outcome : goal.returns-then-given-clause-by_out
 returns-then-given-clause-by_outcome c =
     let made = rw c.unwrap-key.ensures at c.from_slice-key.ensures.value in
     let key : c.unwrap-key.result ≡ string_at c.args.keys.now.items c.args.position = made ∙ c.get.ensures.value in
-    let old : c.set_from.new.self ≡ string_at c.args.values.now.items c.args.position = c.set_from.ensures ∙ c.get-2.ensures.value in
-    let means = rw c.if-given.true at c.run_into-given.ensures.value in
+    let old : c.get-2.result.now ≡ string_at c.args.values.now.items c.args.position = c.get-2.ensures.value in
+    let arg : option_copied c.value_bytes-arg.result ≡ c.args.arg.now = c.value_bytes-arg.ensures.value ∙ c.as_ref.ensures.value in
+    let means = rw (c.if-given.true, arg) at c.run_into-given.ensures.value in
     record {
       outcome = Ok (Bytes c.run_into-given.new.answer);
       comes_to = rw (← key, ← old) (search rules, search rules);
@@ -30,6 +32,7 @@ pub returns-else-given-clause-by_outcome : goal.returns-else-given-clause-by_out
 returns-else-given-clause-by_outcome c =
     let made = rw c.unwrap-key.ensures at c.from_slice-key.ensures.value in
     let key : c.unwrap-key.result ≡ string_at c.args.keys.now.items c.args.position = made ∙ c.get.ensures.value in
-    let old : c.set_from.new.self ≡ string_at c.args.values.now.items c.args.position = c.set_from.ensures ∙ c.get-2.ensures.value in
-    let means = rw c.if-given.false at c.run_into-given.ensures.value in
+    let old : c.get-2.result.now ≡ string_at c.args.values.now.items c.args.position = c.get-2.ensures.value in
+    let arg : option_copied c.value_bytes-arg.result ≡ c.args.arg.now = c.value_bytes-arg.ensures.value ∙ c.as_ref.ensures.value in
+    let means = rw (c.if-given.false, arg) at c.run_into-given.ensures.value in
     record { outcome = Ok Nothing; comes_to = rw (← key, ← old) (search rules, search rules); entered = refl; is_told = search rules }
