@@ -61,6 +61,43 @@ while IFS='|' read -r commands text status output errors name; do
     esac
 done < "$work/rows"
 
+# A text so many times.
+times() {
+    local text
+    printf -v text "%$1s" ""
+    printf '%s' "${text// /$2}"
+}
+
+# At the limit of units: the line that passes it is told, and bytes that pass it. All but the last two units jump to the next one.
+units=4096
+exits=$(times $units 'exit\n')
+jumps=$(times $((units - 2)) '4506000001000000')
+answer='b7000000ffffffff9500000000000000'
+try asm "$exits" 0 ... "" "all units"
+try asm "${exits}exit\n" 1 "refused 24 at $((units + 1))" ... "a unit too many"
+try asm "${exits%exit*}wide r0, 1\n" 1 "refused 24 at $units" ... "wide, of which one unit has room"
+try asm "${exits%exit*exit*}wide r0, 1\n" 0 ... "" "wide as the last"
+try asm "${exits}nop\n" 1 "refused 20 at $((units + 1))" ... "no name where no unit has room"
+try "check ; check --explain --key 0 --old 0 --arg 0 --result 0" "$jumps$answer" 0 ... "" "jumps to the next unit up to the limit"
+try run "$jumps$answer" 0 nothing "" "a run of the most units"
+try check "asm $(times $((units - 2)) 'jset64 r6, 1, +0\n')mov64 r0, -1\nexit\n" 0 accepted "" "the same as a text"
+try "check ; disasm ; run --with-key zz" "4506000001000000$jumps$answer" 1 "refused 12 at 0" "more than 4096 units" "one jump more"
+try "check ; disasm" "8500000001000000$jumps$answer" 1 "refused 12 at 0" "more than 4096 units" "too many units, and one of no instruction"
+try "check ; disasm" "$jumps${answer}00" 1 "refused 11 at 0" ... "all units and a byte"
+try "check --old 1025" "$jumps$answer" 1 "refused 47 at 0" ... "all units, and a size above its limit"
+
+# At the limit of values, in hex as long as a word of a command line may be.
+value=$(times 1024 00)
+try "run --old 1024 --arg 1024 --with-old $value --with-arg $value" "$answer" 0 nothing "" "the longest values"
+try "run --old 1024 --with-old ${value}00 ; run --arg 1024 --with-arg ${value}00" "$answer" 1 "refused 1 at 0" "too many bytes" "a byte too many"
+try "run --with-old $value" "$answer" 1 "unfit old" "" "the longest old value, in a window of 256"
+try "run --with-arg $value" "$answer" 1 "unfit arg" "" "the longest argument, in a window of 256"
+try "run --old 1024 --result 1024 --with-old ${value}" "79200000000000007b04000000000000b7000000080000009500000000000000" 0 "bytes 00 00 00 00 00 00 00 00" "" \
+    "a load from the largest window"
+try "run --old 1024 --result 8 --with-old ${value%????????????????}0102030405060708" "7920f803000000007b04000000000000b7000000080000009500000000000000" 0 \
+    "bytes 01 02 03 04 05 06 07 08" "" "the last bytes of the largest window"
+try "check --old 1024" "7920f903000000009500000000000000" 1 "refused 43 at 0" ... "a byte past the largest window"
+
 # All instructions as one program, and back.
 grep -v '^#' tests/instructions.txt | sed 's/ | .*//' > "$work/text"
 grep -v '^#' tests/instructions.txt | sed 's/.* | //; s/\(.\{23\}\) /\1\n/' > "$work/hex"

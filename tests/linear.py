@@ -22,11 +22,12 @@ MOST_PLACES = 20_000_000
 
 @dataclass(frozen=True)
 class Event:
-    """A call, what was answered, and when it was sent and its answer read, by one clock."""
+    """A call, what was answered, and when it was sent and its answer read, by one clock; and the version of its session."""
     begun: int
     ended: int
     call: Call
     answer: Held
+    version: int = 2
 
 
 class Undecided(Exception):
@@ -54,7 +55,7 @@ class Search:
         places = []
         for client, event in self.open_events(taken):
             answer, new = model.step(event.call, held)
-            if answer != event.answer:
+            if model.carried(answer, event.version) != event.answer:
                 continue
             place = taken[:client] + (taken[client] + 1,) + taken[client + 1:], new
             if model.changes_nothing(event.call, answer):
@@ -118,9 +119,13 @@ REMOVE = Call(model.REMOVE, KEY)
 REMOVE_QUIETLY = Call(model.COMPUTE, KEY, program=model.NOTHING_AT_ALL)
 EACH = Call(model.FOR_EACH, KEY, program=model.LOOK)
 ADD_TO_ALL = Call(model.REPLACE_ALL, KEY, program=model.ADD, arg=ONE)
+LONG = bytes(257)
+TAKE_LONG = Call(model.COMPUTE, KEY, program=model.TAKE, arg=LONG)
+HAS_LONG, TOO_LONG = wire.value(LONG), wire.VALUE_TOO_LONG
 NONE, HAS_ONE, HAS_TWO, HAS_THREE = wire.NOTHING, wire.value(ONE), wire.value(TWO), wire.value(THREE)
 
-# What a history shows, whether it has an order, and each client's events: when sent, when answered, the call and the answer.
+# What a history shows, whether it has an order, and each client's events: when sent, when answered, the call and the answer, and the
+# version where it is 1.
 ROWS = [
     ("nothing at all", True, []),
     ("a value that was put is read", True, [[(0, 1, put(ONE), NONE)], [(2, 3, GET, HAS_ONE)]]),
@@ -154,6 +159,19 @@ ROWS = [
      [[(0, 1, put(ONE), NONE), (2, 9, ADD_TO_ALL, None)], [(3, 4, GET, HAS_TWO), (5, 6, GET, HAS_THREE)]]),
     ("a replacement undone", False,
      [[(0, 1, put(ONE), NONE), (2, 9, ADD_TO_ALL, None)], [(3, 4, GET, HAS_TWO), (5, 6, GET, HAS_ONE)]]),
+    ("a long value, to either version", True, [[(0, 1, put(LONG), NONE), (2, 3, GET, HAS_LONG)], [(4, 5, GET, TOO_LONG, 1)]]),
+    ("a long value that version 1 is given", False, [[(0, 1, put(LONG), NONE)], [(2, 3, GET, HAS_LONG, 1)]]),
+    ("a long value that version 2 is refused", False, [[(0, 1, put(LONG), NONE)], [(2, 3, GET, TOO_LONG)]]),
+    ("a short value that version 1 is refused", False, [[(0, 1, put(ONE), NONE)], [(2, 3, GET, TOO_LONG, 1)]]),
+    ("a put that is answered by 65 is made", True,
+     [[(0, 1, put(LONG), NONE)], [(2, 3, put(ONE), TOO_LONG, 1), (4, 5, GET, HAS_ONE, 1)]]),
+    ("a put that is answered by 65 is not made", False,
+     [[(0, 1, put(LONG), NONE), (4, 5, GET, HAS_LONG)], [(2, 3, put(ONE), TOO_LONG, 1)]]),
+    ("a removal that is answered by 65 is made", True,
+     [[(0, 1, put(LONG), NONE)], [(2, 3, REMOVE, TOO_LONG, 1), (4, 5, GET, NONE, 1)]]),
+    ("a removal that is answered by 65 is made twice", False,
+     [[(0, 1, put(LONG), NONE)], [(2, 3, REMOVE, TOO_LONG, 1), (4, 5, REMOVE, TOO_LONG, 1)]]),
+    ("a program's long answer stands", True, [[(0, 1, TAKE_LONG, HAS_LONG)], [(2, 3, GET, TOO_LONG, 1)]]),
     ("a replacement that is not made", False, [[(0, 1, put(ONE), NONE), (2, 3, ADD_TO_ALL, None), (4, 5, GET, HAS_ONE)]]),
 ]
 

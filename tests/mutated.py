@@ -29,29 +29,29 @@ import plain  # noqa: E402
 import server_rows  # noqa: E402
 import wire  # noqa: E402
 
-HELLO = bytes([0, 0, 0, 2, 0, 1])
+VERSIONS = (1, 2)
 KEYS = [bytes([byte]) * length for byte in (0x61, 0x62) for length in (0, 1, 64)]
 ENDED, REFUSED = 0, 1
 RESPONSES = range(0x80, 0x88)
-# The numbers that a Refused may have: of memory, of programs, of frames, and of a program that is not there.
+# The numbers that a Refused may have: of memory, of programs, of frames, of a value that is too long, and of a program that is not there.
 FAULTS = range(60, 65)
-NUMBERS = {9, *range(10, 18), *range(30, 34), *range(40, 48), *FAULTS, 66}
+NUMBERS = {9, *range(10, 18), *range(30, 34), *range(40, 48), *FAULTS, 65, 66}
 # How long one session may take, in seconds, and how much memory any process may take, in KiB, the server beyond what it took at first.
 PATIENCE = 20
 MOST_MEMORY = 64 * 1024
 PROGRAMS = 200
 THREADS = os.cpu_count() or 1
-# The longest request to begin from.
-MOST_BYTES = 1024
+# The longest request to begin from: a ReplaceIf of the longest values has 2,122 bytes.
+MOST_BYTES = 2122
 # The server has a worker for each sender and two for good clients, one of whom is there all the while. For each program that it keeps
 # it may take so many KiB more.
 SENDERS = 4
 OPTIONS = ["--workers", str(SENDERS + 2), "--team", "2", "--stripes", "4"]
-KIB_A_PROGRAM = 8
+KIB_A_PROGRAM = 16
 # How many streams each sender sends before good clients look at the server.
 ROUND = 500
 # A program that answers no byte, so that a ForEach by it gives each key.
-EACH_KEY = wire.register((64, 256, 256, 256), bytes.fromhex("b700000000000000 9500000000000000"))
+EACH_KEY = wire.register((64, 1024, 0, 0), bytes.fromhex("b700000000000000 9500000000000000"))
 
 
 class Wrong(Exception):
@@ -124,14 +124,14 @@ def served(program, sent, stripes):
 
 def programs_session(program, dice, seeds):
     """Registers changed programs, and calls and walks by any that were taken; how many were sent, and taken."""
-    sent, requests = [wire.HELLO], 1
+    sent, requests = [wire.hello(dice.choice(VERSIONS))], 1
     for _ in range(PROGRAMS):
         code, sizes = dice.choice(seeds)
         code = mutated(code, dice)
         if not dice.randrange(4):
-            sizes = tuple(dice.choice((0, 1, 8, 64)) for _ in range(4))
+            sizes = tuple(dice.choice((0, 1, 8, 64, 1024)) for _ in range(4))
         sent.append(wire.register(sizes, code))
-        sent.append(wire.put(dice.choice(KEYS), dice.randbytes(dice.choice((0, 1, 8, 64)))))
+        sent.append(wire.put(dice.choice(KEYS), dice.randbytes(dice.choice((0, 1, 8, 64, 256)))))
         sent.append(wire.compute(dice.choice(KEYS), dice.randrange(40), None))
         requests += 3
     sent.append(wire.walk(0x22, 0, None))
@@ -155,8 +155,9 @@ def check(program, dice, seeds):
 
 def stream(dice, seeds):
     """A changed stream of frames."""
+    hello = wire.frame(wire.hello(dice.choice(VERSIONS)))
     data = b"".join(dice.choices(seeds, k=dice.randrange(1, 6)))
-    return HELLO + mutated(data, dice) if dice.randrange(8) else mutated(HELLO + data, dice)
+    return hello + mutated(data, dice) if dice.randrange(8) else mutated(hello + data, dice)
 
 
 def frames_session(program, dice, seeds):
@@ -282,7 +283,7 @@ def registered(client, body):
 
 def cleared(client, number, dice):
     """A good client puts and gets, and removes every entry; how many there were."""
-    key, value = dice.randbytes(64), dice.randbytes(256)
+    key, value = dice.randbytes(64), dice.randbytes(1024)
     asked(client, wire.put(key, value), wire.NOTHING)
     asked(client, wire.get(key), wire.value(value))
     answers = client.walk(wire.walk(0x21, number, None))
@@ -316,7 +317,7 @@ def look(address, first, number, dice):
     """Good clients look at the server: one that was there from the start, and new ones, who take all other workers, so that no changed
     stream is served any more. How many entries there were."""
     with contextlib.ExitStack() as stack:
-        others = [stack.enter_context(wire.opened(address)) for _ in range(SENDERS + 1)]
+        others = [stack.enter_context(wire.opened(address, 2)) for _ in range(SENDERS + 1)]
         return cleared(first, number, dice) + cleared(others[-1], number, dice)
 
 
@@ -324,7 +325,7 @@ def try_server(server, seconds, count, seed, kib):
     """Frames to the server in rounds, beside a good client and with a look behind each."""
     seeds, dice, is_enough = requests_to_change(), random.Random(seed), goal(seconds, count)
     sums, entries, rounds = [0, 0, 0], 0, 0
-    with wire.opened(server.address) as first, ThreadPoolExecutor(1) as pool:
+    with wire.opened(server.address, 2) as first, ThreadPoolExecutor(1) as pool:
         number = registered(first, EACH_KEY)
         begun = memory_of(server)
         while not is_enough(sums[1]):

@@ -3,7 +3,8 @@
 eleven calls on them, with programs, as the dice fall, in sessions of the built `bpfmap exec` over 4, 1 and 64 stripes. Each answer is
 that of a map without hashes (sequential.py), and so is what a walk finds at the end. server.py plays such calls to `mapd`.
 
-By hand, after `rt run` in crates/bpfmap: python3 tests/one_hash.py [CALLS [SEED]]. Another program is tried by --program."""
+By hand, after `rt run` in crates/bpfmap: python3 tests/one_hash.py [CALLS [SEED]]. Another program is tried by --program, and version 1 of
+the protocol by --protocol 1."""
 from __future__ import annotations
 
 import argparse
@@ -74,9 +75,10 @@ def end(scanned: int, given: int, unfit: int) -> bytes:
     return bytes([wire.END]) + b"".join(map(wire.number_field, (scanned, given, unfit)))
 
 
-def calls_on(dice: random.Random, keys: Sequence[bytes], count: int) -> list[Call]:
-    """So many calls on these keys."""
-    return [model.some_call(dice, keys) for _ in range(count)]
+def calls_on(dice: random.Random, keys: Sequence[bytes], count: int, version: int) -> list[Call]:
+    """So many calls on these keys, by programs that a session of this version registers."""
+    programs = len(model.REGISTERED_BY[version])
+    return [model.some_call(dice, keys, version, programs) for _ in range(count)]
 
 
 def check_shown(maps: Iterable[Map]) -> None:
@@ -88,13 +90,14 @@ def check_shown(maps: Iterable[Map]) -> None:
             raise Wrong(f"too few calls: {tag:#x} came to {kinds} alone, which shows nothing")
 
 
-def session(dice: random.Random, count: int) -> tuple[list[bytes], list[bytes]]:
+def session(dice: random.Random, count: int, version: int) -> tuple[list[bytes], list[bytes]]:
     """Requests of a session of so many calls, and their answers."""
     table = Map()
-    calls = calls_on(dice, KEYS, count)
-    numbers = range(len(model.PROGRAMS))
-    sent = [wire.HELLO, *(wire.register(program.sizes, program.code) for program in model.PROGRAMS)]
-    wanted = [wire.WELCOME, *(b"\x81" + wire.number_field(number) for number in numbers)]
+    calls = calls_on(dice, KEYS, count, version)
+    programs = model.REGISTERED_BY[version]
+    numbers = range(len(programs))
+    sent = [wire.hello(version), *(wire.register(program.sizes, program.code) for program in programs)]
+    wanted = [wire.welcome(version), *(b"\x81" + wire.number_field(number) for number in numbers)]
     for call in calls:
         sent.append(call.body(numbers))
         wanted.append(table.answer(call))
@@ -126,12 +129,13 @@ def main() -> None:
     words.add_argument("calls", nargs="?", type=int, default=20_000)
     words.add_argument("seed", nargs="?", type=int, default=1)
     words.add_argument("--program", default=full.PROGRAM)
+    words.add_argument("--protocol", type=int, choices=(1, 2), default=2)
     asked = words.parse_args()
     try:
         if len(set(map(hash_of, KEYS))) != 1 or len(set(KEYS)) != 32 or {hash_of(b"Aa"), hash_of(b"BB")} != {3073}:
             raise Wrong("the keys are not of one hash")
         for stripes in STRIPES:
-            sent, wanted = session(random.Random(f"{asked.seed} {stripes}"), asked.calls)
+            sent, wanted = session(random.Random(f"{asked.seed} {stripes}"), asked.calls, asked.protocol)
             compare(sent, executed(asked.program, sent, stripes), wanted)
     except (Wrong, subprocess.TimeoutExpired) as wrong:
         sys.exit(f"one_hash: FAILED, seed {asked.seed}: {wrong}")

@@ -11,10 +11,15 @@ import sys
 from pathlib import Path
 
 PROGRAM = Path(__file__).resolve().parent.parent / "crates/bpfmap/out/bpfmap"
-UNITS = 512
+UNITS = 4096
 KEY_BYTES = 64
-VALUE_BYTES = 256
+VALUE_BYTES = 1024
 STACK_BYTES = 512
+
+# About how many units a program has; and those of one in so many, about as many as there may be.
+ROOMS = (10, 20, 20, 40, 40, 40, 80, 80, 160, 440)
+LONG_ROOM = 3900
+SHORT_FOR_A_LONG = 50
 
 # The register that points into a window at entry, and how far behind the window's first byte.
 BASES = {"key": 1, "old": 2, "arg": 3, "result": 4, "stack": 10}
@@ -253,14 +258,14 @@ def is_plain(program, sizes):
 class Maker:
     """Makes one program, keeping what is written and stored on every path to its end."""
 
-    def __init__(self, rng, sizes):
+    def __init__(self, rng, sizes, room):
         self.rng = rng
         self.sizes = sizes
         self.program = []
         self.units = 0
         self.here = (AT_ENTRY, 0)
         self.open = []
-        self.room = rng.choice([10, 20, 20, 40, 40, 40, 80, 80, 160, 440])
+        self.room = room
 
     def put(self, insn):
         self.program.append(insn)
@@ -421,15 +426,16 @@ def changed(rng, program):
 
 def sizes_at_random(rng):
     few = [0, 1, 8, 16]
-    sizes = {window: rng.choice(few + [VALUE_BYTES, rng.randint(0, VALUE_BYTES)]) for window in ("old", "arg", "result")}
+    sizes = {window: rng.choice(few + [256, VALUE_BYTES, rng.randint(0, VALUE_BYTES)]) for window in ("old", "arg", "result")}
     return sizes | {"key": rng.choice(few + [KEY_BYTES]), "stack": STACK_BYTES}
 
 
-def plain_programs(rng):
-    """Plain programs with their sizes, without end."""
+def plain_programs(rng, has_long=False):
+    """Plain programs with their sizes, without end; some of them long, where that is asked for."""
     while True:
         sizes = sizes_at_random(rng)
-        program = Maker(rng, sizes).made()
+        is_long = has_long and rng.randrange(SHORT_FOR_A_LONG) == 0
+        program = Maker(rng, sizes, LONG_ROOM if is_long else rng.choice(ROOMS)).made()
         if not is_plain(program, sizes):
             raise AssertionError(f"made a program that is not plain: {program}")
         yield program, sizes
@@ -455,7 +461,7 @@ def main():
     rng = random.Random(seed)
     refused = 0
     kinds = collections.Counter()
-    for (program, sizes), _ in zip(plain_programs(rng), range(count)):
+    for (program, sizes), _ in zip(plain_programs(rng, has_long=True), range(count)):
         kinds.update({insn.kind for insn in program})
         said, text = verdict(program, sizes)
         if said != "accepted":

@@ -97,7 +97,13 @@ PROGRAMS: list[Program] = [
         7920000000000000 7b04000000000000 7b74080000000000 b700000010000000 9500000000000000"""),
         lambda key, old, arg: spelled(word(old), -1 if old is None else len(old))),
 ]
-NOTHING_AT_ALL, ADD, COMPARE_AND_SET, APPEND, TOUCH, LOOK = range(len(PROGRAMS))
+# A program whose windows only version 2 registers: the argument as it is.
+TAKE_CODE = b"".join(bytes([0x79, 0x30, at % 256, at // 256, 0, 0, 0, 0, 0x7B, 0x04, at % 256, at // 256, 0, 0, 0, 0])
+                     for at in range(0, 1024, 8)) + bytes.fromhex("bf80000000000000 9500000000000000")
+PROGRAMS.append(Program((64, 1024, 1024, 1024), TAKE_CODE, lambda key, old, arg: arg))
+NOTHING_AT_ALL, ADD, COMPARE_AND_SET, APPEND, TOUCH, LOOK, TAKE = range(len(PROGRAMS))
+# Those that a session of this version may register.
+REGISTERED_BY = {1: PROGRAMS[:TAKE], 2: PROGRAMS}
 
 
 @dataclass(frozen=True)
@@ -128,6 +134,12 @@ class Call:
 def told(held: Held) -> bytes:
     """The answer Value."""
     return b"\x82" + wire.arg_field(held)
+
+
+def carried(answer: Held, version: int) -> Held:
+    """An answer as a session of this version has it: one whose value is too long for it is refused."""
+    is_long = answer is not None and answer[0] == 0x82 and len(answer) - 3 > wire.LONGEST_VALUE[version]
+    return wire.VALUE_TOO_LONG if is_long else answer
 
 
 def stored(call: Call, old: Held) -> Step:
@@ -188,7 +200,7 @@ def step(call: Call, old: Held) -> Step:
 
 
 def changes_nothing(call: Call, answer: Held) -> bool:
-    """Whether a call that has this answer leaves every value as it is."""
+    """Whether a call that has this answer, of version 2, leaves every value as it is."""
     if call.tag in (GET, SEARCH, FOR_EACH) or answer == wire.NO:
         return True
     if call.tag in (PUT_IF_ABSENT, REPLACE):
@@ -196,28 +208,29 @@ def changes_nothing(call: Call, answer: Held) -> bool:
     return call.program is not None and answer is not None and answer[0] == 0x84
 
 
-def some_value(dice: random.Random) -> bytes:
-    """A value that is often met again: a small number, a version and a payload, a list of bytes, or a longer one."""
+def some_value(dice: random.Random, version: int) -> bytes:
+    """A value that is often met again: a small number, a version and a payload, a list of bytes, or a longer one, up to the longest of
+    this version of the protocol."""
     kind = dice.randrange(8)
     if kind < 4:
         return spelled(dice.randrange(4))
     if kind < 6:
         return spelled(dice.randrange(3), dice.randrange(3))
-    return dice.choice((b"", b"\x01", b"\xff" * 17, b"\x00" * 256))
+    return dice.choice((b"", b"\x01", b"\xff" * 17, b"\x00" * wire.LONGEST_VALUE[version]))
 
 
-def some_call(dice: random.Random, keys: Sequence[bytes]) -> Call:
-    """One of the eleven calls on one of the keys."""
+def some_call(dice: random.Random, keys: Sequence[bytes], version: int = 1, programs: int = len(PROGRAMS)) -> Call:
+    """One of the eleven calls on one of the keys, as a session of this version may send it, by one of the first so many programs."""
     tag, key = dice.choice(CALLS), dice.choice(keys)
     if tag in (GET, REMOVE):
         return Call(tag, key)
     if tag in (PUT, PUT_IF_ABSENT, REPLACE):
-        return Call(tag, key, value=some_value(dice))
+        return Call(tag, key, value=some_value(dice, version))
     if tag == REMOVE_IF:
-        return Call(tag, key, expected=some_value(dice))
+        return Call(tag, key, expected=some_value(dice, version))
     if tag == REPLACE_IF:
-        return Call(tag, key, value=some_value(dice), expected=some_value(dice))
-    program = dice.randrange(len(PROGRAMS))
+        return Call(tag, key, value=some_value(dice, version), expected=some_value(dice, version))
+    program = dice.randrange(programs)
     if tag == MERGE:
-        return Call(tag, key, value=some_value(dice), program=program)
-    return Call(tag, key, program=program, arg=dice.choice((None, some_value(dice))))
+        return Call(tag, key, value=some_value(dice, version), program=program)
+    return Call(tag, key, program=program, arg=dice.choice((None, some_value(dice, version))))

@@ -263,9 +263,9 @@ def calls_on(address: str, numbers: list[int], keys: list[bytes]) -> one_hash.Ma
     """Fifty pipelines of 64 calls on these keys by a client of its own: each answer is that of a map without hashes, which is given."""
     table = one_hash.Map()
     dice = random.Random(keys[0])
-    with wire.opened(address) as client:
+    with wire.opened(address, 2) as client:
         for _ in range(50):
-            calls = one_hash.calls_on(dice, keys, DEPTH)
+            calls = one_hash.calls_on(dice, keys, DEPTH, 2)
             client.send(*[call.body(numbers) for call in calls])
             for call in calls:
                 same(f"the answer to {call}", client.answer(), table.answer(call))
@@ -275,7 +275,7 @@ def calls_on(address: str, numbers: list[int], keys: list[bytes]) -> one_hash.Ma
 def keys_of_one_hash(address: str) -> None:
     """Four clients at once make all calls on 32 keys of one hash, each on eight of them, and a walk finds what they left."""
     whole = one_hash.Map()
-    with wire.opened(address) as client:
+    with wire.opened(address, 2) as client:
         numbers = [registered(client, program) for program in model.PROGRAMS]
         with ThreadPoolExecutor(4) as pool:
             tables = list(pool.map(lambda part: calls_on(address, numbers, one_hash.KEYS[part::4]), range(4)))
@@ -287,6 +287,40 @@ def keys_of_one_hash(address: str) -> None:
         same("a Count", client.ask(wire.COUNT), one_hash.end(len(whole.values), 0, 0))
 
 
+def most_units(answer: bytes) -> bytes:
+    """A program of 4,096 units, of which all but the last two jump to the next one; it answers this number of bytes, or nothing."""
+    return bytes.fromhex("4506000001000000") * 4094 + bytes.fromhex("b7000000") + answer + bytes.fromhex("9500000000000000")
+
+
+def use_longest(address: str, numbers: tuple[int, int], name: int) -> None:
+    """A client of version 2 makes each kind of call with the longest values and programs, and walks."""
+    nothing, take = numbers
+    with wire.opened(address, 2) as client:
+        for count in range(20):
+            key, data = bytes([name]) * 64, bytes([count]) * 1024
+            same("a Compute", client.ask(wire.compute(key, take, data)), wire.value(data))
+            same("a Put", client.ask(wire.put(key, data)), wire.value(data))
+            same("a Merge", client.ask(wire.merge(key, data[::-1], take)), wire.value(data))
+            same("a ReplaceIf", client.ask(b"\x16" + wire.key_field(key) + wire.value_field(data) * 2), wire.YES)
+            answers = client.walk(wire.walk(model.FOR_EACH, take, data))
+            same("each item of a walk", {answer[-1024:] for answer in answers[:-1]}, {data})
+            same("a Compute of the longest program", client.ask(wire.compute(key, nothing, data)), wire.NOTHING)
+            same("a Get", client.ask(wire.get(key)), wire.NOTHING)
+
+
+def longest(address: str) -> None:
+    """The longest programs and values by four clients at once, and a walk by each over what all have."""
+    with wire.opened(address, 2) as client:
+        nothing = registered(client, model.Program((64, 1024, 1024, 1024), most_units(b"\xff" * 4), lambda key, old, arg: None))
+        take = registered(client, model.PROGRAMS[model.TAKE])
+        for number in range(100):
+            same("a Put", client.ask(wire.put(model.spelled(number), bytes(1024))), wire.NOTHING)
+        refused = client.ask(wire.register((64, 1024, 1024, 1024), most_units(b"\x01\x00\x00\x00")))
+        same("a program of 4,096 units that is refused", refused, wire.refused(46, 4095))
+    with ThreadPoolExecutor(4) as pool:
+        list(pool.map(lambda name: use_longest(address, (nothing, take), name), range(4)))
+
+
 def idle(address: str) -> None:
     """A session that says nothing for a while, and then is answered."""
     with wire.Client(address) as client:
@@ -296,7 +330,7 @@ def idle(address: str) -> None:
 
 PARTS = {part.__name__: part for part in (
     crowd, sessions, pipelines, reset, cut, unread, at_once, byte_by_byte, fault, descriptors, memory, keys_of_one_hash,
-    idle)}
+    idle, longest)}
 
 
 def main() -> None:

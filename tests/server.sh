@@ -129,6 +129,7 @@ if command -v xxd > /dev/null; then
     judge "the exchange of docs/SERVER.md: it ends" ended 0 "ready"$'\n'"served 1" ""
 fi
 judge "the sessions of frames.txt" python3 tests/server_rows.py --program "$program"
+judge "sessions of both versions on one map" python3 tests/versions.py --program "$program"
 judge "connections that are cut and reset everywhere" python3 tests/server_cut.py --program "$program"
 
 serve_all "a hundred sessions" sessions 100
@@ -140,6 +141,8 @@ serve "32 clients at once" crowd --workers 32
 serve "keys of one hash" keys_of_one_hash --workers 5 --stripes 4
 serve "deep pipelines" pipelines --workers 5 --stripes 1
 serve "a client that does not read" unread --workers 2
+[ -n "${MAPD_IS_CHECKED:-}" ] || limits="ulimit -s 256" serve "a stack of 256 KiB" longest --workers 4 --team 2
+serve "the longest programs and values" longest --workers 4 --team 8 --stripes 64
 limits="ulimit -n 16" errors="*failed accept*" serve "no descriptors" descriptors --workers 32
 kib=65536
 [ -z "${MAPD_IS_CHECKED:-}" ] || kib=1000000

@@ -1,6 +1,6 @@
 #!/usr/bin/env python3
 """Eight clients of the built mapd make all eleven calls on eight keys at once, with programs, alone and in pipelines, and now and then a
-walk. Each writes down its calls, their answers and when it had them. Then each key's history must be linearizable: linear.py decides.
+walk, in sessions of both versions of the protocol, or by --protocol of one alone. Each writes down its calls, their answers and when it had them. Then each key's history must be linearizable: linear.py decides.
 
 By hand, after `rt run` in crates/mapd: python3 tests/torture.py [SECONDS [SEED]]. It runs in rounds of at most two seconds of calls;
 what a round leaves is read at its end, and is where the next one begins. Another server is tried by --program."""
@@ -45,6 +45,7 @@ class Round:
     numbers: list[int]
     until: float
     seed: str
+    versions: Sequence[int]
 
 
 class Player:
@@ -55,17 +56,18 @@ class Player:
         self.dice = random.Random(todo.seed)
         self.events: list[Event] = []
         self.numbers = list(todo.numbers)
+        self.version = 0
         self.client: wire.Client
 
     def pipeline(self) -> None:
         """Sends some calls in one piece, and reads their answers."""
-        calls = [model.some_call(self.dice, KEYS) for _ in range(self.dice.choice(DEPTHS))]
+        calls = [model.some_call(self.dice, KEYS, self.version) for _ in range(self.dice.choice(DEPTHS))]
         bodies = [call.body(self.numbers) for call in calls]
         begun = time.monotonic_ns()
         self.client.send(*bodies)
         for call in calls:
             answer = self.client.answer()
-            self.events.append(Event(begun, time.monotonic_ns(), call, answer))
+            self.events.append(Event(begun, time.monotonic_ns(), call, answer, self.version))
 
     def walk(self) -> None:
         """A walk: an event of each key of which it tells something."""
@@ -80,14 +82,15 @@ class Player:
         for key in KEYS:
             if key <= last:
                 call = Call(tag, key, program=program, arg=arg)
-                self.events.append(Event(begun, ended, call, items.pop(key, None)))
+                self.events.append(Event(begun, ended, call, items.pop(key, None), self.version))
         if items:
             raise Wrong(f"a walk gives keys that nobody put: {items}")
 
     def session(self) -> None:
         """A session, with one program of its own beside those of another."""
-        with wire.opened(self.todo.address) as self.client:
-            place = self.dice.randrange(len(model.PROGRAMS))
+        self.version = self.dice.choice(self.todo.versions)
+        with wire.opened(self.todo.address, self.version) as self.client:
+            place = self.dice.randrange(len(model.REGISTERED_BY[self.version]))
             self.numbers[place] = registered(self.client, model.PROGRAMS[place])
             for _ in range(SESSION):
                 if time.monotonic() > self.todo.until:
@@ -144,14 +147,14 @@ def judged(history: tuple[bytes, Sequence[Sequence[Event]], Held]) -> str:
 
 def registered_first(address: str) -> list[int]:
     """The numbers of all programs, which another session registers than those that call them."""
-    with wire.opened(address) as client:
+    with wire.opened(address, 2) as client:
         return [registered(client, program) for program in model.PROGRAMS]
 
 
 def left(address: str) -> list[Event]:
     """A Get of each key."""
     events = []
-    with wire.opened(address) as client:
+    with wire.opened(address, 2) as client:
         for key in KEYS:
             begun = time.monotonic_ns()
             answer = client.ask(wire.get(key))
@@ -172,7 +175,8 @@ def history_of(key: bytes, players: list[list[Event]], last: Event) -> list[list
 class Torture:
     """Rounds of calls to one server, and what each key had at the end of the last one."""
 
-    def __init__(self, address: str, pool: multiprocessing.pool.Pool, seed: int) -> None:
+    def __init__(self, address: str, pool: multiprocessing.pool.Pool, seed: int, versions: Sequence[int]) -> None:
+        self.versions = versions
         self.address = address
         self.pool = pool
         self.seed = seed
@@ -184,7 +188,7 @@ class Torture:
     def round(self, seconds: float) -> None:
         """Makes calls for so long, and judges what came of them."""
         until = time.monotonic() + seconds
-        players = self.pool.map(play, [Round(self.address, self.numbers, until, f"{self.seed} {self.rounds} {client}")
+        players = self.pool.map(play, [Round(self.address, self.numbers, until, f"{self.seed} {self.rounds} {client}", self.versions)
                                        for client in range(CLIENTS)], 1)
         ends = {event.call.key: event for event in left(self.address)}
         histories = [(key, history_of(key, players, ends[key]), self.first[key]) for key in KEYS]
@@ -196,10 +200,10 @@ class Torture:
         self.rounds += 1
 
 
-def tortured(address: str, seconds: float, seed: int) -> str:
+def tortured(address: str, seconds: float, seed: int, versions: Sequence[int]) -> str:
     """Makes calls for so many seconds; what was found."""
     with multiprocessing.Pool(CLIENTS) as pool:
-        torture = Torture(address, pool, seed)
+        torture = Torture(address, pool, seed, versions)
         rest = seconds
         while rest > 0:
             torture.round(min(ROUND, rest))
@@ -212,13 +216,15 @@ def main() -> None:
     words.add_argument("seconds", nargs="?", type=float, default=20)
     words.add_argument("seed", nargs="?", type=int, default=1)
     words.add_argument("--program", default=wire.SERVER)
+    words.add_argument("--protocol", type=int, choices=(1, 2), help="sessions of this version alone")
     asked = words.parse_args()
     wrong = linear.wrong_rows()
     if wrong:
         sys.exit(f"torture: FAILED, linear.py is wrong on {wrong}")
+    versions = (asked.protocol,) if asked.protocol else (1, 2)
     server = wire.Server(asked.program, OPTIONS)
     try:
-        print(f"torture: {tortured(server.address, asked.seconds, asked.seed)}")
+        print(f"torture: {tortured(server.address, asked.seconds, asked.seed, versions)}")
     except (Wrong, wire.Ended, OSError) as wrong:
         sys.exit(f"torture: FAILED, seed {asked.seed}: {wrong}")
     finally:

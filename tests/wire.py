@@ -15,6 +15,8 @@ SERVER = Path(__file__).resolve().parent.parent / "crates/mapd/out/mapd"
 # How long a client waits for an answer, and whoever starts a server for its first line, in seconds.
 PATIENCE = 20.0
 
+# The versions of the protocol, each with the longest value that it carries.
+LONGEST_VALUE = {1: 256, 2: 1024}
 HELLO = b"\x00\x01"
 WELCOME = b"\x80\x01"
 COUNT = b"\x23"
@@ -53,6 +55,16 @@ def arg_field(arg: bytes | None) -> bytes:
 def number_field(number: int) -> bytes:
     """A number of 64 bits."""
     return number.to_bytes(8, "big")
+
+
+def hello(version: int) -> bytes:
+    """The body of a Hello."""
+    return bytes([0x00, version])
+
+
+def welcome(version: int) -> bytes:
+    """The answer to a Hello."""
+    return bytes([0x80, version])
 
 
 def get(key: bytes) -> bytes:
@@ -94,6 +106,10 @@ def value(data: bytes) -> bytes:
 def refused(number: int, place: int = 0) -> bytes:
     """The answer that refuses."""
     return b"\x85" + bytes([number]) + place.to_bytes(4, "big")
+
+
+# What stands in version 1 for an answer whose value is too long.
+VALUE_TOO_LONG = refused(65)
 
 
 class Ended(Exception):
@@ -152,9 +168,9 @@ class Client:
             answers.append(self.answer())
         return answers
 
-    def hello(self) -> Client:
+    def hello(self, version: int = 1) -> Client:
         """Begins the session."""
-        if self.ask(HELLO) != WELCOME:
+        if self.ask(hello(version)) != welcome(version):
             raise Ended("the Hello is not answered by one")
         return self
 
@@ -190,9 +206,9 @@ class Client:
         self.socket.close()
 
 
-def opened(address: str) -> Client:
+def opened(address: str, version: int = 1) -> Client:
     """A client whose session has begun."""
-    return Client(address).hello()
+    return Client(address).hello(version)
 
 
 def bound(kib: int) -> Callable[[], None]:

@@ -5,12 +5,13 @@ from .assembler import assemble
 from .client import Client, Walk
 from .errors import BpfmapError, ConnectionBroken, ObjectFault, ProtocolFault, Refused, TimedOut, Unfit
 from .pipeline import Pipeline
-from .programs import COPY, SUM, Program, program_bytes
-from .protocol import Counts, Entry, Pending, Walked
+from .programs import COPY, SUM, Program, copy_text, program_bytes
+from .protocol import VERSIONS, Counts, Entry, Limits, Pending, Walked
 
 __all__ = [
     "COPY",
     "SUM",
+    "VERSIONS",
     "AsyncClient",
     "AsyncPipeline",
     "AsyncWalk",
@@ -19,6 +20,7 @@ __all__ = [
     "ConnectionBroken",
     "Counts",
     "Entry",
+    "Limits",
     "ObjectFault",
     "Pending",
     "Pipeline",
@@ -30,5 +32,6 @@ __all__ = [
     "Walk",
     "Walked",
     "assemble",
+    "copy_text",
     "program_bytes",
 ]

@@ -5,11 +5,11 @@ from collections import deque
 from types import TracebackType
 from typing import Deque, List, Optional, Sequence, Tuple, Type, TypeVar
 
-from . import requests
 from .errors import BpfmapError, ConnectionBroken, ProtocolFault, TimedOut
 from .pipeline import PipelineCalls
 from .programs import Program
-from .protocol import Counts, Entry, FrameReader, Pending, Request, Walked
+from .protocol import LATEST, Counts, Entry, FrameReader, Limits, Pending, Request, Walked, limits_of
+from .requests import Requests
 
 T = TypeVar("T")
 Value = Optional[bytes]
@@ -23,7 +23,8 @@ class AsyncClient:
     all calls that wait where one of them has waited `timeout` seconds. A call whose task is cancelled may still be made.
     """
 
-    def __init__(self, host: str, port: int, *, timeout: Optional[float] = 10.0) -> None:
+    def __init__(self, host: str, port: int, *, timeout: Optional[float] = 10.0, version: int = LATEST) -> None:
+        self._requests = Requests(limits_of(version))
         self._host = host
         self._port = port
         self._timeout = timeout
@@ -40,7 +41,7 @@ class AsyncClient:
 
     async def open(self) -> None:
         """Connects, and begins the session."""
-        connecting = asyncio.get_running_loop().create_connection(_Session, self._host, self._port)
+        connecting = asyncio.get_running_loop().create_connection(lambda: _Session(self.limits), self._host, self._port)
         try:
             _, self._session = await asyncio.wait_for(connecting, self._timeout)
         except asyncio.TimeoutError as error:
@@ -48,10 +49,15 @@ class AsyncClient:
         except OSError as error:
             raise ConnectionBroken(f"no connection to {self._host}:{self._port}: {error}") from error
         try:
-            await self._call(requests.hello())
+            await self._call(self._requests.hello())
         except BpfmapError:
             await self.close()
             raise
+
+    @property
+    def limits(self) -> Limits:
+        """See Client.limits."""
+        return self._requests.limits
 
     async def close(self) -> None:
         """Ends the session. Calls that wait for an answer raise ConnectionBroken."""
@@ -62,71 +68,71 @@ class AsyncClient:
 
     async def register(self, program: Program, key: int = 64, old: int = 256, arg: int = 256, result: int = 256) -> int:
         """See Client.register."""
-        return await self._call(requests.register(program, key, old, arg, result))
+        return await self._call(self._requests.register(program, key, old, arg, result))
 
     async def get(self, key: bytes) -> Value:
         """See Client.get."""
-        return await self._call(requests.get(key))
+        return await self._call(self._requests.get(key))
 
     async def put(self, key: bytes, value: bytes) -> Value:
         """See Client.put."""
-        return await self._call(requests.put(key, value))
+        return await self._call(self._requests.put(key, value))
 
     async def put_if_absent(self, key: bytes, value: bytes) -> Value:
         """See Client.put_if_absent."""
-        return await self._call(requests.put_if_absent(key, value))
+        return await self._call(self._requests.put_if_absent(key, value))
 
     async def remove(self, key: bytes) -> Value:
         """See Client.remove."""
-        return await self._call(requests.remove(key))
+        return await self._call(self._requests.remove(key))
 
     async def remove_if(self, key: bytes, expected: bytes) -> bool:
         """See Client.remove_if."""
-        return await self._call(requests.remove_if(key, expected))
+        return await self._call(self._requests.remove_if(key, expected))
 
     async def replace(self, key: bytes, value: bytes) -> Value:
         """See Client.replace."""
-        return await self._call(requests.replace(key, value))
+        return await self._call(self._requests.replace(key, value))
 
     async def replace_if(self, key: bytes, expected: bytes, value: bytes) -> bool:
         """See Client.replace_if."""
-        return await self._call(requests.replace_if(key, expected, value))
+        return await self._call(self._requests.replace_if(key, expected, value))
 
     async def compute(self, key: bytes, program: int, arg: Value = None) -> Value:
         """See Client.compute."""
-        return await self._call(requests.compute(key, program, arg))
+        return await self._call(self._requests.compute(key, program, arg))
 
     async def compute_if_absent(self, key: bytes, program: int, arg: Value = None) -> Value:
         """See Client.compute_if_absent."""
-        return await self._call(requests.compute_if_absent(key, program, arg))
+        return await self._call(self._requests.compute_if_absent(key, program, arg))
 
     async def compute_if_present(self, key: bytes, program: int, arg: Value = None) -> Value:
         """See Client.compute_if_present."""
-        return await self._call(requests.compute_if_present(key, program, arg))
+        return await self._call(self._requests.compute_if_present(key, program, arg))
 
     async def merge(self, key: bytes, value: bytes, program: int) -> Value:
         """See Client.merge."""
-        return await self._call(requests.merge(key, value, program))
+        return await self._call(self._requests.merge(key, value, program))
 
     async def search(self, program: int, arg: Value = None, threshold: int = 1) -> "AsyncWalk":
         """See Client.search."""
-        return await self._begin_walk(requests.search(program, arg, threshold))
+        return await self._begin_walk(self._requests.search(program, arg, threshold))
 
     async def for_each(self, program: int, arg: Value = None, threshold: int = 1) -> "AsyncWalk":
         """See Client.for_each."""
-        return await self._begin_walk(requests.for_each(program, arg, threshold))
+        return await self._begin_walk(self._requests.for_each(program, arg, threshold))
 
     async def replace_all(self, program: int, arg: Value = None) -> Counts:
         """See Client.replace_all."""
-        return await self._call(requests.replace_all(program, arg))
+        return await self._call(self._requests.replace_all(program, arg))
 
     async def count(self) -> int:
         """See Client.count."""
-        return await self._call(requests.count())
+        return await self._call(self._requests.count())
 
     def pipeline(self) -> "AsyncPipeline":
         """Calls that are sent together: see AsyncPipeline."""
-        return AsyncPipeline(self)
+        return AsyncPipeline(self, self._requests)
 
     async def _call(self, request: Request[T]) -> T:
         pending = Pending(request)
@@ -149,12 +155,12 @@ class AsyncClient:
 class _Session(asyncio.Protocol):
     """A connection, and the calls that wait for its frames in the order in which they were sent."""
 
-    def __init__(self) -> None:
+    def __init__(self, limits: Limits) -> None:
         self.closed = asyncio.Event()
         self._loop = asyncio.get_running_loop()
         self._heard = self._loop.time()
         self._transport: Optional[asyncio.Transport] = None
-        self._frames = FrameReader()
+        self._frames = FrameReader(limits.body)
         self._waiting: "Deque[Tuple[Pending[object], asyncio.Event]]" = deque()
 
     def connection_made(self, transport: asyncio.BaseTransport) -> None:
@@ -279,8 +285,8 @@ class AsyncWalk:
 class AsyncPipeline(PipelineCalls):
     """A pipeline of an AsyncClient, executed where its `async with` block ends, or by `await execute()`."""
 
-    def __init__(self, client: AsyncClient) -> None:
-        super().__init__()
+    def __init__(self, client: AsyncClient, requests: Requests) -> None:
+        super().__init__(requests)
         self._client = client
 
     async def __aenter__(self) -> "AsyncPipeline":

@@ -6,7 +6,7 @@ from typing import Dict, Tuple
 
 from .errors import Refused
 
-_MOST_BYTES = 512 * 8
+_MOST_BYTES = 4096 * 8
 _DIGITS = frozenset("0123456789")
 
 

@@ -24,6 +24,7 @@ class Bench(NamedTuple):
     pipeline: int
     keys: int
     size: int
+    version: int
 
 
 def _get(calls: _Calls, key: bytes, _: bytes, __: int) -> object:
@@ -44,7 +45,7 @@ CALLS = tuple(_MAKE)
 
 def run_bench(bench: Bench) -> str:
     """Runs it, and says what came of it in three lines."""
-    with Client(bench.host, bench.port) as client:
+    with Client(bench.host, bench.port, version=bench.version) as client:
         program = client.register(SUM)
         _fill(client, bench)
     with ProcessPoolExecutor(bench.clients) as pool:
@@ -77,7 +78,7 @@ def _run_client(bench: Bench, program: int) -> _Run:
     keys = [_key(number) for number in range(bench.keys)]
     value = (1).to_bytes(8, "little")[: bench.size].ljust(bench.size, b"\0")
     latencies = []
-    with Client(bench.host, bench.port) as client:
+    with Client(bench.host, bench.port, version=bench.version) as client:
         began = time.monotonic()
         for first in range(0, share * bench.pipeline, bench.pipeline):
             before = time.monotonic()

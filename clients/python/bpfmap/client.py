@@ -5,29 +5,32 @@ from collections import deque
 from types import TracebackType
 from typing import Deque, Iterator, Optional, Type, TypeVar
 
-from . import requests
 from .connection import Connection
 from .errors import BpfmapError, ConnectionBroken, TimedOut
 from .pipeline import Pipeline
 from .programs import Program
-from .protocol import Counts, Entry, Pending, Request, Walked
+from .protocol import LATEST, Counts, Entry, Limits, Pending, Request, Walked, limits_of
+from .requests import Requests
 
 T = TypeVar("T")
 
 
 class Client:
-    """A session with a map server. Keys have up to 64 bytes, values and arguments up to 256.
+    """A session with a map server. Keys have up to 64 bytes, values and arguments up to 1,024; up to 256 in version 1 of the protocol.
+
+    An older server refuses version 2 with 64: it takes `version=1`.
 
     Threads may share a client: their calls take turns. A call that raises ConnectionBroken may have been made or not, it is never
     made again, and the client is closed; open another one to go on. `timeout` is in seconds without any byte of an answer.
     """
 
-    def __init__(self, host: str, port: int, *, timeout: Optional[float] = 10.0) -> None:
+    def __init__(self, host: str, port: int, *, timeout: Optional[float] = 10.0, version: int = LATEST) -> None:
         self._lock = threading.RLock()
         self._walk: Optional[Walk] = None
-        self._connection = Connection(host, port, timeout)
+        self._requests = Requests(limits_of(version))
+        self._connection = Connection(host, port, timeout, self.limits.body)
         try:
-            self._call(requests.hello())
+            self._call(self._requests.hello())
         except TimedOut as error:
             raise TimedOut(f"{error}: is each worker of the server taken by a client?") from error
         except BpfmapError:
@@ -40,6 +43,11 @@ class Client:
     def __exit__(self, kind: Optional[Type[BaseException]], error: Optional[BaseException], trace: Optional[TracebackType]) -> None:
         self.close()
 
+    @property
+    def limits(self) -> Limits:
+        """The version of the protocol, and what it can carry."""
+        return self._requests.limits
+
     def close(self) -> None:
         """Ends the session. Entries and programs stay."""
         self._connection.close()
@@ -50,74 +58,74 @@ class Client:
         The program is bytes of units or of an object file by clang, a str of assembler text, or a path to a file of an object, of
         hex or of text. Refused 10 to 47 says what is wrong with it.
         """
-        return self._call(requests.register(program, key, old, arg, result))
+        return self._call(self._requests.register(program, key, old, arg, result))
 
     def get(self, key: bytes) -> Optional[bytes]:
         """The key's value, or None."""
-        return self._call(requests.get(key))
+        return self._call(self._requests.get(key))
 
     def put(self, key: bytes, value: bytes) -> Optional[bytes]:
         """Enters the value, and answers the one before, or None."""
-        return self._call(requests.put(key, value))
+        return self._call(self._requests.put(key, value))
 
     def put_if_absent(self, key: bytes, value: bytes) -> Optional[bytes]:
         """Enters the value where the key is absent, and answers None; else answers the value that stays."""
-        return self._call(requests.put_if_absent(key, value))
+        return self._call(self._requests.put_if_absent(key, value))
 
     def remove(self, key: bytes) -> Optional[bytes]:
         """Removes the key, and answers its value, or None."""
-        return self._call(requests.remove(key))
+        return self._call(self._requests.remove(key))
 
     def remove_if(self, key: bytes, expected: bytes) -> bool:
         """Removes the key if it has this value; whether it did."""
-        return self._call(requests.remove_if(key, expected))
+        return self._call(self._requests.remove_if(key, expected))
 
     def replace(self, key: bytes, value: bytes) -> Optional[bytes]:
         """Enters the value where the key is present, and answers the one before; else answers None."""
-        return self._call(requests.replace(key, value))
+        return self._call(self._requests.replace(key, value))
 
     def replace_if(self, key: bytes, expected: bytes, value: bytes) -> bool:
         """Enters the value if the key has the expected one; whether it did."""
-        return self._call(requests.replace_if(key, expected, value))
+        return self._call(self._requests.replace_if(key, expected, value))
 
     def compute(self, key: bytes, program: int, arg: Optional[bytes] = None) -> Optional[bytes]:
         """The program's answer becomes the key's value, and is answered; an answer of nothing removes the key.
 
         This and the calls below that run a program raise Unfit where one of its windows is too small.
         """
-        return self._call(requests.compute(key, program, arg))
+        return self._call(self._requests.compute(key, program, arg))
 
     def compute_if_absent(self, key: bytes, program: int, arg: Optional[bytes] = None) -> Optional[bytes]:
         """As compute, where the key is absent; else no program runs, and the key's value is answered."""
-        return self._call(requests.compute_if_absent(key, program, arg))
+        return self._call(self._requests.compute_if_absent(key, program, arg))
 
     def compute_if_present(self, key: bytes, program: int, arg: Optional[bytes] = None) -> Optional[bytes]:
         """As compute, where the key is present; else no program runs, and None is answered."""
-        return self._call(requests.compute_if_present(key, program, arg))
+        return self._call(self._requests.compute_if_present(key, program, arg))
 
     def merge(self, key: bytes, value: bytes, program: int) -> Optional[bytes]:
         """As compute with the value as the argument, where the key is present; else the value is entered and answered."""
-        return self._call(requests.merge(key, value, program))
+        return self._call(self._requests.merge(key, value, program))
 
     def search(self, program: int, arg: Optional[bytes] = None, threshold: int = 1) -> "Walk":
         """The entry of the least key for which the program has an answer: a walk of at most one entry."""
-        return self._begin_walk(requests.search(program, arg, threshold))
+        return self._begin_walk(self._requests.search(program, arg, threshold))
 
     def for_each(self, program: int, arg: Optional[bytes] = None, threshold: int = 1) -> "Walk":
         """The program's answers for all entries, in the order of keys. They are read as the walk is gone through."""
-        return self._begin_walk(requests.for_each(program, arg, threshold))
+        return self._begin_walk(self._requests.for_each(program, arg, threshold))
 
     def replace_all(self, program: int, arg: Optional[bytes] = None) -> Counts:
         """Each value becomes the program's answer for its entry; an answer of nothing keeps the value."""
-        return self._call(requests.replace_all(program, arg))
+        return self._call(self._requests.replace_all(program, arg))
 
     def count(self) -> int:
         """How many entries there are."""
-        return self._call(requests.count())
+        return self._call(self._requests.count())
 
     def pipeline(self) -> Pipeline:
         """Calls that are sent together: see Pipeline."""
-        return Pipeline(self._execute)
+        return Pipeline(self._requests, self._execute)
 
     def _call(self, request: Request[T]) -> T:
         pending = Pending(request)

@@ -10,7 +10,8 @@ from typing import Callable, Dict, Iterable, Iterator, List, Optional, Sequence,
 from .bench import CALLS, Bench, run_bench
 from .client import Client
 from .errors import BpfmapError, ConnectionBroken
-from .programs import COPY, SUM, Program
+from .programs import SUM, Program, copy_text
+from .protocol import LATEST, VERSIONS
 
 _DEFAULT_SERVER = "127.0.0.1:7070"
 _BATCH = 1_000
@@ -91,8 +92,13 @@ def _load(client: Client, words: argparse.Namespace, _: _Format) -> None:
 
 
 def _dump(client: Client, _: argparse.Namespace, __: _Format) -> None:
-    for key, value in client.for_each(client.register(COPY)):
+    longest = client.limits.value
+    walk = client.for_each(client.register(copy_text(longest), old=longest, arg=0, result=longest))
+    for key, value in walk:
         print(key.hex() or "-", value.hex() or "-")
+    if walk.counts.unfit:
+        told = f"entries have values above {longest} bytes, which version {client.limits.version} does not carry"
+        raise BpfmapError(f"{walk.counts.unfit} {told}; all others were printed")
 
 
 def _program(word: str) -> Program:
@@ -182,7 +188,8 @@ def _address(word: str) -> Tuple[str, int]:
 
 def _bench(words: argparse.Namespace) -> None:
     host, port = words.server
-    print(run_bench(Bench(host, port, words.call, words.requests, words.clients, words.pipeline, words.keys, words.size)))
+    bench = Bench(host, port, words.call, words.requests, words.clients, words.pipeline, words.keys, words.size, words.protocol)
+    print(run_bench(bench))
 
 
 _COMMANDS: "Dict[str, Callable[[Client, argparse.Namespace, _Format], None]]" = {
@@ -205,6 +212,8 @@ def _parser() -> argparse.ArgumentParser:
     told = f"default: BPFMAP_SERVER, or {_DEFAULT_SERVER}"
     parser.add_argument("--server", type=_address, default=server, metavar="HOST:PORT", help=told)
     parser.add_argument("--timeout", type=float, default=60.0, metavar="SECONDS", help="without an answer; default: 60")
+    told = f"version of the protocol; default: {LATEST}"
+    parser.add_argument("--protocol", type=int, choices=sorted(VERSIONS), default=LATEST, help=told)
     parser.add_argument("--as", dest="form", choices=("text", "hex", "number"), default="text", help="default: text")
     commands = parser.add_subparsers(dest="command", required=True, metavar="COMMAND")
     commands.add_parser("get", help="print a key's value").add_argument("key")
@@ -244,7 +253,7 @@ def main(arguments: Optional[Sequence[str]] = None) -> int:
         if words.command == "bench":
             _bench(words)
             return 0
-        with Client(*words.server, timeout=words.timeout) as client:
+        with Client(*words.server, timeout=words.timeout, version=words.protocol) as client:
             _COMMANDS[words.command](client, words, _Format(words.form))
         return 0
     except ConnectionBroken as error:

@@ -14,8 +14,8 @@ _ENDED = "the server ended the connection"
 class Connection:
     """Frames over TCP. After any fault it is closed for good."""
 
-    def __init__(self, host: str, port: int, timeout: Optional[float]) -> None:
-        self._reader = FrameReader()
+    def __init__(self, host: str, port: int, timeout: Optional[float], longest_body: int) -> None:
+        self._reader = FrameReader(longest_body)
         self._timeout = timeout
         self._socket: Optional[socket.socket] = None
         try:

@@ -3,13 +3,13 @@
 from typing import Dict, Tuple
 
 # Number, name and sentence of each refusal that a client can meet: those of docs/REFUSALS.md, of 40 to 47 how to mend the
-# program, and of 60 to 66 those of docs/PROTOCOL.md.
+# program, and of 60 to 64 and 66 those of docs/PROTOCOL.md.
 REFUSALS: Dict[int, Tuple[str, str]] = {
-    1: ("TooLong", "a key has more than 64 bytes, a value or argument more than 256"),
+    1: ("TooLong", "a key has more than 64 bytes, a value or argument more than 1,024 (in version 1 of the protocol 256)"),
     9: ("NoMemory", "a request for memory was refused"),
     10: ("Empty", "there is no byte"),
     11: ("NotWholeUnits", "the number of bytes is no multiple of 8"),
-    12: ("TooManyUnits", "there are more than 512 units"),
+    12: ("TooManyUnits", "there are more than 4,096 units (in version 1 of the protocol 512)"),
     13: ("UnknownOpcode", "the opcode is no instruction's"),
     14: ("BadRegister", "a register field that the instruction uses is above 10"),
     15: ("UnusedNotZero", "a field that the instruction doesn't use is not zero"),
@@ -28,7 +28,7 @@ REFUSALS: Dict[int, Tuple[str, str]] = {
     23: ("Trailing", "after the last operand stands anything but a newline, the text's end included"),
     24: (
         "BadCount",
-        "the text is empty (line 0), or this line has no other fault and its instruction passes 512 units",
+        "the text is empty (line 0), or this line has no other fault and its instruction passes 4,096 units",
     ),
     30: ("BackwardJump", "a jump's distance is below 0"),
     31: ("JumpOut", "a jump goes to the number of units or past it"),
@@ -51,17 +51,19 @@ REFUSALS: Dict[int, Tuple[str, str]] = {
         "write the answer's bytes without a gap on every way, or give each answer an EXIT of its own",
     ),
     47: ("SizesTooLarge", "declare less"),
-    60: ("BadLength", "a length of 0 or above 8,192"),
+    60: ("BadLength", "a length of 0, or above 32,777 (in version 1 and before a Hello 8,192)"),
     61: ("UnknownRequest", "a tag that is not in the table"),
     62: (
         "BadField",
-        "fields that are cut short, a key above 64 bytes, a value above 256, or ff ff where a value must be",
+        "fields that are cut short, a key above 64 bytes, a value above 1,024 (in version 1 and before a Hello 256), "
+        "or ff ff where a value must be",
     ),
     63: ("TrailingBytes", "bytes behind the last field"),
     64: (
         "WrongVersion",
-        "a Hello of another version, a first request that is no Hello, or a second Hello",
+        "a Hello of a version other than 1 and 2, a first request that is no Hello, or a second Hello",
     ),
+    65: ("ValueTooLong", "the answer has a value of more than 256 bytes, which version 1 does not carry; the call was made"),
     66: ("UnknownProgram", "no program has this number"),
 }
 
@@ -73,7 +75,9 @@ class BpfmapError(Exception):
 
 
 class Refused(BpfmapError):
-    """The server, or this package in its place, refused a request. Nothing was done.
+    """The server, or this package in its place, refused a request. Nothing was done, unless the number is 65.
+
+    65 comes in version 1 alone, in place of an answer whose value is too long for it: the call was made, and its change stands.
 
     `number` is the refusal's, `place` the unit of a program or the line of a text, else 0; `name` and `sentence` say what it means.
     """

@@ -4,9 +4,9 @@ from collections import deque
 from types import TracebackType
 from typing import Callable, Deque, List, Optional, Type, TypeVar
 
-from . import requests
 from .programs import Program
 from .protocol import Counts, Pending, Request, Walked
+from .requests import Requests
 
 T = TypeVar("T")
 Value = Optional[bytes]
@@ -18,7 +18,8 @@ class PipelineCalls:
     Nothing is sent before the pipeline is executed. A key, a value or a text that is refused without the server is raised at once.
     """
 
-    def __init__(self) -> None:
+    def __init__(self, requests: Requests) -> None:
+        self._requests = requests
         self._waiting: "Deque[Pending[object]]" = deque()
 
     def _add(self, request: Request[T]) -> "Pending[T]":
@@ -32,74 +33,74 @@ class PipelineCalls:
 
     def register(self, program: Program, key: int = 64, old: int = 256, arg: int = 256, result: int = 256) -> "Pending[int]":
         """See Client.register."""
-        return self._add(requests.register(program, key, old, arg, result))
+        return self._add(self._requests.register(program, key, old, arg, result))
 
     def get(self, key: bytes) -> "Pending[Value]":
         """See Client.get."""
-        return self._add(requests.get(key))
+        return self._add(self._requests.get(key))
 
     def put(self, key: bytes, value: bytes) -> "Pending[Value]":
         """See Client.put."""
-        return self._add(requests.put(key, value))
+        return self._add(self._requests.put(key, value))
 
     def put_if_absent(self, key: bytes, value: bytes) -> "Pending[Value]":
         """See Client.put_if_absent."""
-        return self._add(requests.put_if_absent(key, value))
+        return self._add(self._requests.put_if_absent(key, value))
 
     def remove(self, key: bytes) -> "Pending[Value]":
         """See Client.remove."""
-        return self._add(requests.remove(key))
+        return self._add(self._requests.remove(key))
 
     def remove_if(self, key: bytes, expected: bytes) -> "Pending[bool]":
         """See Client.remove_if."""
-        return self._add(requests.remove_if(key, expected))
+        return self._add(self._requests.remove_if(key, expected))
 
     def replace(self, key: bytes, value: bytes) -> "Pending[Value]":
         """See Client.replace."""
-        return self._add(requests.replace(key, value))
+        return self._add(self._requests.replace(key, value))
 
     def replace_if(self, key: bytes, expected: bytes, value: bytes) -> "Pending[bool]":
         """See Client.replace_if."""
-        return self._add(requests.replace_if(key, expected, value))
+        return self._add(self._requests.replace_if(key, expected, value))
 
     def compute(self, key: bytes, program: int, arg: Value = None) -> "Pending[Value]":
         """See Client.compute."""
-        return self._add(requests.compute(key, program, arg))
+        return self._add(self._requests.compute(key, program, arg))
 
     def compute_if_absent(self, key: bytes, program: int, arg: Value = None) -> "Pending[Value]":
         """See Client.compute_if_absent."""
-        return self._add(requests.compute_if_absent(key, program, arg))
+        return self._add(self._requests.compute_if_absent(key, program, arg))
 
     def compute_if_present(self, key: bytes, program: int, arg: Value = None) -> "Pending[Value]":
         """See Client.compute_if_present."""
-        return self._add(requests.compute_if_present(key, program, arg))
+        return self._add(self._requests.compute_if_present(key, program, arg))
 
     def merge(self, key: bytes, value: bytes, program: int) -> "Pending[Value]":
         """See Client.merge."""
-        return self._add(requests.merge(key, value, program))
+        return self._add(self._requests.merge(key, value, program))
 
     def search(self, program: int, arg: Value = None, threshold: int = 1) -> "Pending[Walked]":
         """See Client.search; its answer is a Walked, with all items."""
-        return self._add(requests.search(program, arg, threshold))
+        return self._add(self._requests.search(program, arg, threshold))
 
     def for_each(self, program: int, arg: Value = None, threshold: int = 1) -> "Pending[Walked]":
         """See Client.for_each; its answer is a Walked, with all items."""
-        return self._add(requests.for_each(program, arg, threshold))
+        return self._add(self._requests.for_each(program, arg, threshold))
 
     def replace_all(self, program: int, arg: Value = None) -> "Pending[Counts]":
         """See Client.replace_all."""
-        return self._add(requests.replace_all(program, arg))
+        return self._add(self._requests.replace_all(program, arg))
 
     def count(self) -> "Pending[int]":
         """See Client.count."""
-        return self._add(requests.count())
+        return self._add(self._requests.count())
 
 
 class Pipeline(PipelineCalls):
     """A pipeline of a Client: made by Client.pipeline(), executed where its `with` block ends, or by `execute()`."""
 
-    def __init__(self, execute: "Callable[[Deque[Pending[object]]], None]") -> None:
-        super().__init__()
+    def __init__(self, requests: Requests, execute: "Callable[[Deque[Pending[object]]], None]") -> None:
+        super().__init__(requests)
         self._execute = execute
 
     def __enter__(self) -> "Pipeline":

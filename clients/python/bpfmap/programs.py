@@ -33,14 +33,17 @@ def _file_bytes(content: bytes) -> bytes:
     return bytes.fromhex(text) if _HEX.fullmatch(text) else assemble(text)
 
 
-def _copy_text() -> str:
-    """Eight bytes after eight, all 256 of them; the answer is as long as the old value."""
-    words = [f"ldd r0, [r2+{at}]\nstxd [r4+{at}], r0\n" for at in range(0, 256, 8)]
+def copy_text(longest: int) -> str:
+    """A program that answers the old value as it is, where that has at most so many bytes, a multiple of 8.
+
+    The windows of old value and result are declared that long: `client.register(copy_text(1024), old=1024, result=1024)`.
+    """
+    words = [f"ldd r0, [r2+{at}]\nstxd [r4+{at}], r0\n" for at in range(0, longest, 8)]
     return "".join(words) + "mov64 r0, r7\nexit\n"
 
 
 # Adds the argument to the old value, as numbers of 8 bytes, little-endian; an absent one counts as 0.
 SUM = "ldd r0, [r2+0]\nldd r9, [r3+0]\nadd64 r0, r9\nstxd [r4+0], r0\nmov64 r0, 8\nexit\n"
 
-# Answers the old value as it is; for_each with it gives all entries.
-COPY = _copy_text()
+# Answers an old value of at most 256 bytes as it is; for_each with it gives all such entries, and counts the others as unfit.
+COPY = copy_text(256)

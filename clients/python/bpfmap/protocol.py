@@ -2,20 +2,42 @@
 
 import struct
 from collections import deque
-from typing import Callable, Deque, Generic, List, NamedTuple, Optional, TypeVar
+from typing import Callable, Deque, Dict, Generic, List, NamedTuple, Optional, TypeVar
 
 from .errors import ProtocolFault, Refused, Unfit
 
-VERSION = 1
 LONGEST_KEY = 64
-LONGEST_VALUE = 256
-LONGEST_PROGRAM = 8_192 - 9
-_LONGEST_BODY = 8_192
+# What a Register's body has before its program: the tag and four sizes.
+_BEFORE_PROGRAM = 9
 _WINDOWS = {1: "key", 2: "old", 3: "arg"}
 _ABSENT = b"\xff\xff"
 _HELLO, _REGISTERED, _VALUE, _DONE, _UNFIT, _REFUSED, _ITEM, _END = range(0x80, 0x88)
 
 T = TypeVar("T")
+
+
+class Limits(NamedTuple):
+    """A version of the protocol, and what it can carry: the longest value or argument and the longest body of a frame, in bytes."""
+
+    version: int
+    value: int
+    body: int
+
+    @property
+    def program(self) -> int:
+        """The longest program that a frame can hold, in bytes."""
+        return self.body - _BEFORE_PROGRAM
+
+
+VERSIONS: Dict[int, Limits] = {1: Limits(1, 256, 8_192), 2: Limits(2, 1_024, 32_777)}
+LATEST = 2
+
+
+def limits_of(version: int) -> Limits:
+    """The limits of a version; ValueError where there is no such version."""
+    if version not in VERSIONS:
+        raise ValueError(f"this client knows no version {version} of the protocol")
+    return VERSIONS[version]
 
 
 class Entry(NamedTuple):
@@ -107,9 +129,10 @@ class Pending(Generic[T]):
 
 
 class FrameReader:
-    """Cuts what a stream brings into the bodies of frames."""
+    """Cuts what a stream brings into the bodies of frames, none longer than this."""
 
-    def __init__(self) -> None:
+    def __init__(self, longest_body: int) -> None:
+        self._longest_body = longest_body
         self._bytes = bytearray()
         self._start = 0
         self._bodies: Deque[bytes] = deque()
@@ -126,7 +149,7 @@ class FrameReader:
         if len(self._bytes) - self._start < 4:
             return False
         (length,) = struct.unpack_from(">I", self._bytes, self._start)
-        if not 1 <= length <= _LONGEST_BODY:
+        if not 1 <= length <= self._longest_body:
             raise ProtocolFault(f"the server sent a frame of length {length}")
         end = self._start + 4 + length
         if len(self._bytes) < end:
@@ -153,16 +176,16 @@ def key_field(key: bytes) -> bytes:
     return bytes([len(key)]) + key
 
 
-def value_field(value: bytes) -> bytes:
+def value_field(value: bytes, longest: int) -> bytes:
     """A value with its length; one that is too long is refused with 1."""
-    if len(value) > LONGEST_VALUE:
+    if len(value) > longest:
         raise Refused(1)
     return struct.pack(">H", len(value)) + value
 
 
-def arg_field(arg: Optional[bytes]) -> bytes:
+def arg_field(arg: Optional[bytes], longest: int) -> bytes:
     """An argument, or that there is none."""
-    return _ABSENT if arg is None else value_field(arg)
+    return _ABSENT if arg is None else value_field(arg, longest)
 
 
 def number_field(number: int, size: int = 8) -> bytes:
@@ -171,11 +194,8 @@ def number_field(number: int, size: int = 8) -> bytes:
 
 
 def read_hello(_: Deque[Entry], body: bytes) -> int:
-    """The version that the server speaks, which is this one."""
-    version = _fields(_HELLO, ">B", body)[0]
-    if version != VERSION:
-        raise ProtocolFault(f"the server speaks version {version}, this client {VERSION}")
-    return version
+    """The version that the server answers."""
+    return _fields(_HELLO, ">B", body)[0]
 
 
 def read_registered(_: Deque[Entry], body: bytes) -> int:

@@ -12,8 +12,7 @@ from typing import Callable, Optional
 ROOT = Path(__file__).resolve().parents[3]
 MAPD = Path(os.environ.get("MAPD", ROOT / "crates/mapd/out/mapd"))
 HOST = "127.0.0.1"
-HELLO = bytes.fromhex("000000020001")
-WELCOME = bytes.fromhex("000000028001")
+HELLO_BYTES = 6
 WORKERS = "16"
 
 
@@ -62,10 +61,11 @@ class MapdTest(unittest.TestCase):
 
 
 class PlayedServer:
-    """A server that answers the Hello of one connection, and then plays what a test says."""
+    """A server that answers the Hello of one connection, by a version or by these frames, and then plays what a test says."""
 
-    def __init__(self, play: Callable[[socket.socket], None]) -> None:
+    def __init__(self, play: Callable[[socket.socket], None], version: int = 2, answer: str = "") -> None:
         self._play = play
+        self._answer = bytes.fromhex(answer or f"0000000280{version:02x}")
         self._listener = socket.create_server((HOST, 0))
         self.port: int = self._listener.getsockname()[1]
         self.error: Optional[BaseException] = None
@@ -95,8 +95,8 @@ class PlayedServer:
         try:
             connection, _ = self._listener.accept()
             with connection:
-                receive_exactly(connection, len(HELLO))
-                connection.sendall(WELCOME)
+                receive_exactly(connection, HELLO_BYTES)
+                connection.sendall(self._answer)
                 self._play(connection)
         except BaseException as error:  # pylint: disable=broad-except
             self.error = error

@@ -2,7 +2,7 @@
 
 from typing import Callable, List, NamedTuple, Optional, Tuple
 
-from bpfmap import Counts, Entry, Refused, Unfit
+from bpfmap import VERSIONS, Counts, Entry, Refused, Unfit
 
 from .server import ROOT
 
@@ -42,6 +42,12 @@ def rows() -> List[Row]:
     """All rows, in order."""
     lines = (ROOT / "tests/requests.txt").read_text().splitlines()
     return [_row(line) for line in lines if line and not line.startswith("#")]
+
+
+def calls_of(version: int) -> List[Row]:
+    """The rows of a session of this version, in order."""
+    others = tuple(f"version {other}: " for other in VERSIONS if other != version)
+    return [row for row in rows() if row.call != "raw" and not row.name.startswith(others)]
 
 
 def _row(line: str) -> Row:

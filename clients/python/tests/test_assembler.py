@@ -4,7 +4,7 @@ import re
 import unittest
 from typing import Iterator, List, NamedTuple
 
-from bpfmap import COPY, SUM, Refused, assemble
+from bpfmap import COPY, SUM, Refused, assemble, copy_text
 
 from .server import ROOT
 
@@ -95,10 +95,10 @@ class TextTest(unittest.TestCase):
     """Texts beside the rows."""
 
     def test_limits(self) -> None:
-        self.assertEqual(len(assemble("exit\n" * 512)), 4096)
-        self.assertEqual(outcome("exit\n" * 513), "refused 24 at 513")
-        self.assertEqual(outcome("exit\n" * 511 + "wide r0, 1\n"), "refused 24 at 512")
-        self.assertEqual(outcome("exit\n" * 512 + "nop\n"), "refused 20 at 513")
+        self.assertEqual(len(assemble("exit\n" * 4_096)), 32_768)
+        self.assertEqual(outcome("exit\n" * 4_097), "refused 24 at 4097")
+        self.assertEqual(outcome("exit\n" * 4_095 + "wide r0, 1\n"), "refused 24 at 4096")
+        self.assertEqual(outcome("exit\n" * 4_096 + "nop\n"), "refused 20 at 4097")
 
     def test_long_digits(self) -> None:
         for text in ("mov64 r0, " + "9" * 10_000, "mov64 r" + "9" * 10_000, "ja +" + "9" * 10_000):
@@ -111,3 +111,4 @@ class TextTest(unittest.TestCase):
         sums = "7920000000000000 7939000000000000 0f90000000000000 7b04000000000000 b700000008000000 9500000000000000"
         self.assertEqual(assemble(SUM), bytes.fromhex(sums))
         self.assertEqual(len(assemble(COPY)), 66 * 8)
+        self.assertEqual(len(assemble(copy_text(1_024))), 258 * 8)

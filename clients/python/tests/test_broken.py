@@ -200,7 +200,7 @@ class FaultTest(unittest.TestCase):
     def test_what_is_no_answer(self) -> None:
         faults = {
             "a length of 0": "00000000",
-            "a length that is too great": "00002001",
+            "a length that is too great": "0000800a",
             "an unknown tag": "0000000188",
             "the answer of another request": "000000028301",
             "a value that is cut short": "000000048200" + "0278",
@@ -214,6 +214,10 @@ class FaultTest(unittest.TestCase):
             with self.subTest(name), self.assertRaises(ProtocolFault):
                 self._answer(response)
 
+
+    def test_length_that_is_too_great_for_version_1(self) -> None:
+        with PlayedServer(sending("00002001"), 1) as server, Client(HOST, server.port, version=1) as client:
+            self.assertRaises(ProtocolFault, client.get, b"a")
 
     def test_walk_whose_counts_are_wrong(self) -> None:
         def play(connection: socket.socket) -> None:

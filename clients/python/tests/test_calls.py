@@ -196,9 +196,9 @@ class FrameReaderTest(unittest.TestCase):
     """Streams that are cut."""
 
     def test_bytes_one_by_one(self) -> None:
-        bodies = [bytes([length % 256]) * length for length in (1, 2, 255, 256, 8_192, 1)]
+        bodies = [bytes([length % 256]) * length for length in (1, 2, 255, 256, 8_192, 32_777, 1)]
         stream = b"".join(len(body).to_bytes(4, "big") + body for body in bodies)
-        reader = FrameReader()
+        reader = FrameReader(32_777)
         found = []
         for byte in stream:
             reader.feed(bytes([byte]))
@@ -206,7 +206,7 @@ class FrameReaderTest(unittest.TestCase):
         self.assertEqual([body for body in found if body is not None], bodies)
 
     def test_one_piece(self) -> None:
-        reader = FrameReader()
+        reader = FrameReader(8_192)
         reader.feed(bytes.fromhex("00000001" + "23" + "00000002" + "8301" + "0000"))
         self.assertEqual([reader.next(), reader.next(), reader.next()], [b"\x23", b"\x83\x01", None])
 
@@ -221,4 +221,6 @@ class WrongArgumentsTest(MapdTest):
             self.assertRaises(OverflowError, client.compute, b"a", -1)
             self.assertRaises(OverflowError, client.compute, b"a", 1 << 64)
             self.assertRaises(OverflowError, client.register, SUM, 1 << 16)
+            self.assertRaises(ValueError, Client, HOST, self.port, version=3)
+            self.assertRaises(ValueError, AsyncClient, HOST, self.port, version=0)
             self.assertIsNone(client.get(b"a"))

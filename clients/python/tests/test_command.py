@@ -63,6 +63,23 @@ class CommandTest(MapdTest):
         self.assertEqual(self._run("load", "-", typed="63 07\n"), (0, "", ""))
         self._prints(entries + "63 07\n", "dump")
 
+    def test_versions(self) -> None:
+        """A value that version 1 does not carry is loaded and printed by version 2; by version 1 the call is made all the same."""
+        line = "61 " + "07" * 1_024 + "\n"
+        self.assertEqual(self._run("load", "-", typed="60 01\n" + line), (0, "", ""))
+        self._prints("60 01\n" + line, "dump")
+        status, out, errors = self._run("--protocol", "1", "dump")
+        self.assertEqual((status, out), (1, "60 01\n"))
+        self.assertRegex(errors, "1 entries have values above 256 bytes, which version 1 does not carry")
+        status, out, errors = self._run("--protocol", "1", "remove", "a")
+        self.assertEqual((status, out), (1, ""))
+        self.assertRegex(errors, "refused 65 ValueTooLong")
+        self._prints("nothing\n", "--protocol", "2", "get", "a")
+        status, _, errors = self._run("--protocol", "1", "load", "-", typed=line)
+        self.assertEqual(status, 1)
+        self.assertRegex(errors, "line 1: refused 1 TooLong")
+        self.assertEqual(self._run("--protocol", "3", "count")[0], 2)
+
     def test_faulty_line(self) -> None:
         for line in ("6", "61", "61 6", "61 01 02", "zz 01", "61" * 65 + " 01"):
             status, out, errors = self._run("load", "-", typed=f"60 01\n{line}\n")

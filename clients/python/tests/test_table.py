@@ -5,7 +5,7 @@ import socket
 import unittest
 from typing import Callable, List, Tuple
 
-from bpfmap import AsyncClient, AsyncWalk, Client, Walk
+from bpfmap import VERSIONS, AsyncClient, AsyncWalk, Client, Walk
 
 from . import table
 from .server import HOST, MapdTest, receive_all
@@ -16,15 +16,21 @@ _RAW = [row for row in _ROWS if row.call == "raw"]
 
 
 class TableTest(MapdTest):
-    """Each test runs all rows of one session against a fresh server."""
+    """Each test runs all rows of one session of a version against a fresh server."""
+
+    version = 1
 
     def _compare(self, row: table.Row, outcome: table.Outcome) -> None:
         with self.subTest(row.name):
             self.assertEqual(outcome, table.wanted(row), table.difference(row, outcome))
 
+    def setUp(self) -> None:
+        super().setUp()
+        self.calls = table.calls_of(self.version)
+
     def test_client(self) -> None:
-        with Client(HOST, self.port) as client:
-            for row in _CALLS:
+        with Client(HOST, self.port, version=self.version) as client:
+            for row in self.calls:
                 self._compare(row, table.came_to(row, lambda: _run(client, row)))
 
     def test_raw(self) -> None:
@@ -42,9 +48,9 @@ class TableTest(MapdTest):
 
     def test_pipeline(self) -> None:
         """All rows in one pipeline."""
-        with Client(HOST, self.port) as client:
+        with Client(HOST, self.port, version=self.version) as client:
             pipeline = client.pipeline()
-            sent = [(row, _result_of(pipeline, row)) for row in _CALLS]
+            sent = [(row, _result_of(pipeline, row)) for row in self.calls]
             with self.assertRaises(Exception):
                 pipeline.execute()
         for row, result in sent:
@@ -55,20 +61,26 @@ class TableTest(MapdTest):
             self._compare(row, outcome)
 
     async def _run_async(self) -> List[Tuple[table.Row, table.Outcome]]:
-        async with AsyncClient(HOST, self.port) as client:
-            return [(row, await _outcome_async(client, row)) for row in _CALLS]
+        async with AsyncClient(HOST, self.port, version=self.version) as client:
+            return [(row, await _outcome_async(client, row)) for row in self.calls]
 
     def test_async_pipeline(self) -> None:
         for row, result in asyncio.run(self._run_async_pipeline()):
             self._compare(row, table.came_to(row, result))
 
     async def _run_async_pipeline(self) -> List[Tuple[table.Row, Callable[[], object]]]:
-        async with AsyncClient(HOST, self.port) as client:
+        async with AsyncClient(HOST, self.port, version=self.version) as client:
             pipeline = client.pipeline()
-            sent = [(row, _result_of(pipeline, row)) for row in _CALLS]
+            sent = [(row, _result_of(pipeline, row)) for row in self.calls]
             with self.assertRaises(Exception):
                 await pipeline.execute()
             return sent
+
+
+class SecondTableTest(TableTest):
+    """The same of version 2."""
+
+    version = 2
 
 
 class RowsTest(unittest.TestCase):
@@ -80,7 +92,11 @@ class RowsTest(unittest.TestCase):
         answers = {row.answer[0] for row in _CALLS}
         self.assertEqual(answers, {"program", "nothing", "value", "true", "false", "unfit", "refused", "items", "counts"})
 
-    def test_each_refusal_but_of_memory_has_a_row(self) -> None:
+    def test_each_version_has_rows_of_its_own(self) -> None:
+        for version in VERSIONS:
+            self.assertTrue(any(row.name.startswith(f"version {version}: ") for row in table.calls_of(version)))
+
+    def test_each_refusal_but_of_memory_and_long_values_has_a_row(self) -> None:
         told = {int(row.answer[1]) for row in _CALLS if row.answer[0] == "refused"}
         told |= {table.joined(row.answer)[-5] for row in _RAW if table.joined(row.answer)[-6:-5] == b"\x85"}
         self.assertEqual(told, {1, *range(10, 18), *range(30, 34), *range(40, 48), *range(60, 65), 66})
