@@ -77,8 +77,8 @@ pub refused_unit : (hello : Option Version) (bytes : List ℕ) (sizes : Sizes) (
 refused_unit hello bytes sizes (Decode fault) (inl (many, is)) = let zero : decode.decode_fault_unit fault ≡ 0 = ap decode.decode_fault_unit is in omega (arith, zero)
 refused_unit hello bytes sizes (Decode fault) (inr (few, inl is)) = let zero : decode.decode_fault_unit fault ≡ 0 = ap decode.decode_fault_unit is in omega (arith, zero)
 refused_unit hello bytes sizes (Decode fault) (inr (few, inr first)) = decode_unit bytes fault first
-refused_unit hello bytes sizes (Flow fault) (few, program, spelled, first) = let inside = flow_unit program fault first.has in omega (arith, inside, spelled.program.bounded)
-refused_unit hello bytes sizes (Verify fault) (few, program, spelled, shaped, inside, limits) = omega (arith, inside, spelled.program.bounded)
+refused_unit hello bytes sizes (Flow fault) (few, (program, spelled, first)) = let inside = flow_unit program fault first.has in omega (arith, inside, spelled.program.bounded)
+refused_unit hello bytes sizes (Verify fault) (few, (program, spelled, shaped, inside, limits)) = omega (arith, inside, spelled.program.bounded)
 
 -- sizes above the limits of all programs are above those of each version
 pub exceed_large : (hello : Option Version) (sizes : Sizes) → ExceedLimits sizes → HasLargeWindow hello sizes

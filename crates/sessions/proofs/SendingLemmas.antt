@@ -4,12 +4,13 @@ use Rattle.std.specs.Prelude.{nat_lt, ◌||◌}
 use Rattle.std.proofs.lemmas.Bool.Decides.{nat_tests}
 use Rattle.std.proofs.lemmas.List.{map-append}
 use Rattle.bins.specs.Entries.{entry_of}
+use Rattle.atomic_methods.specs.declared.walk_reply.WalkReply.{WalkReply}
 use Rattle.client_protocol.specs.declared.limits.Version.{Version}
 use Rattle.client_protocol.specs.declared.response.Response.{Response}
 use Rattle.client_protocol.specs.declared.response.Response.TheVariants.{Value, Refused}
 use Rattle.client_protocol.specs.Bodies.{limits_after}
 use Rattle.client_protocol.specs.Responses.{response_frame, response_frames}
-use Rattle.sessions.specs.Answering.{item_of, is_too_long, has_too_long, sendable}
+use Rattle.sessions.specs.Answering.{item_of, end_of, is_too_long, has_too_long, sendable, walk_responses}
 use Rattle.sessions.specs.Sessions.{refusal}
 use Rattle.sessions.proofs.AnsweringLemmas.{front_at, parted_at}
 
@@ -78,3 +79,21 @@ pub end_is_short : (hello : Option Version) (items : List (List ℕ × List ℕ)
     → has_too_long hello (map item_of items ++ last ∷ []) ≡ has_too_long hello (map item_of items)
 end_is_short hello items last none =
     too_long_both hello (map item_of items) (last ∷ []) ∙ rw none (or_false (has_too_long hello (map item_of items)))
+
+-- an entry stands at its position
+pub stands : (items : List (List ℕ × List ℕ)) (i : ℕ) (key value : List ℕ) → i < length items → (key, value) ≡ entry_of items i → (key, value) ≡ get_or items i (key, value)
+stands items i key value lt is = is ∙ same items i ([], []) (key, value) lt
+
+-- what is sent of a walk's responses
+pub walk_refused : (hello : Option Version) (reply : WalkReply) → has_too_long hello (map item_of reply.items) ≡ true → response_frames (sendable hello (walk_responses reply)) ≡ refusal 65
+walk_refused hello reply long = sends_refusal hello (walk_responses reply) (end_is_short hello reply.items (end_of reply.counts) refl ∙ long)
+
+pub walk_whole : (hello : Option Version) (reply : WalkReply) → has_too_long hello (map item_of reply.items) ≡ false
+    → response_frames (sendable hello (walk_responses reply)) ≡ response_frames (walk_responses reply)
+walk_whole hello reply short = sends_all hello (walk_responses reply) (end_is_short hello reply.items (end_of reply.counts) refl ∙ short)
+
+-- a value that is short enough is sent
+pub value_whole : (hello : Option Version) (value : List ℕ) → length value ≤ (limits_after hello).value
+    → response_frames (sendable hello (Value (Some value) ∷ [])) ≡ response_frame (Value (Some value))
+value_whole hello value short =
+    sends_all hello (Value (Some value) ∷ []) (found_short hello value short) ∙ append-nil (response_frame (Value (Some value)))

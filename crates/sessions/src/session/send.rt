@@ -80,7 +80,8 @@ fn have_too_long(hello: Option<Version>, items: &EntryColumns) -> bool
 {
     let most = Limits::after(hello).value;
     for position in 0..items.len() {
-        if items.get(position).1.len() > most {
+        let (_, value) = items.get(position);
+        if value.len() > most {
             return true;
         }
     }
@@ -118,7 +119,18 @@ fn send_value<W: Sink>(
     send_parts(writer, &value_head(bytes), bytes)
 }
 
-// Writes the frames of all items of a walk, and of its end; or one refusal, where a value is too long.
+// Writes the frames of all items of a walk, and of its end.
+fn send_whole<W: Sink>(writer: &mut W, reply: &WalkReply) -> Result<(), Failed>
+    requires { CanWrite (W.state writer.old) }
+    ensures ok { OnOk result (TakesBytes (W.state writer.old) (W.state writer.new) (response_frames (walk_responses reply.now))) }
+    ensures err { OnErr result (TakesPart (W.state writer.old) (W.state writer.new) (response_frames (walk_responses reply.now))) }
+{
+    send_items(writer, &reply.items)?;
+    send_one(writer, &end_of(reply.counts))?;
+    Ok(())
+}
+
+// As `send_whole`; or one refusal, where a value is too long.
 fn send_walk<W: Sink>(
     writer: &mut W,
     hello: Option<Version>,
@@ -133,9 +145,7 @@ fn send_walk<W: Sink>(
     if have_too_long(hello, &reply.items) {
         return send_too_long(writer);
     }
-    send_items(writer, &reply.items)?;
-    send_one(writer, &end_of(reply.counts))?;
-    Ok(())
+    send_whole(writer, reply)
 }
 
 /// Writes the frames of all responses of an answer to a request behind this Hello; that of a value that was found has this one.

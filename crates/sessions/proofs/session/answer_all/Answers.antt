@@ -1,4 +1,4 @@
-use Rattle.std.proofs.Common.{arith}
+use Rattle.std.proofs.Common.{◌∙◌, arith}
 use Rattle.std.proofs.lemmas.Result.{err_from_is_err_and}
 use Rattle.sessions.specs.Answering.{responses_of}
 use Rattle.sessions.proofs.AnsweringLemmas.{answered_more, cut_at}
@@ -13,4 +13,5 @@ returns-in_err-send-clause-err g c =
 pub loop-request-preserved : goal.loop-request-preserved
 loop-request-preserved g c =
     let (behind, (v, taken, before)) = c.loop-request.invariant in
-    answered_more g.S.Service.answers (g.W.Sink.state c.args.writer.now) (g.W.Sink.state c.loop-request.writer) (g.W.Sink.state c.send.new.writer) c.args.hello c.loop-request.taken _ _ _ c.args.requests.now c.loop-request.request-index c.request-item.result (responses_of c.answer-answer.result c.answer-answer.new.value) v (omega arith) c.request-item.is behind taken before c.answer-answer.ensures c.in_ok-send.ensures.ok
+    let (next, more) = answered_more g.S.Service.answers (g.W.Sink.state c.args.writer.now) (g.W.Sink.state c.loop-request.writer) (g.W.Sink.state c.send.new.writer) c.args.hello c.loop-request.taken _ _ _ c.args.requests.now c.loop-request.request-index c.request-item.result (responses_of c.answer-answer.result c.answer-answer.new.value) v (omega arith) c.request-item.is behind taken before c.answer-answer.ensures c.in_ok-send.ensures.ok in
+    (c.hello_after-taken.ensures ∙ next, more)
