@@ -11,7 +11,7 @@ use crate::walk_reply::{WalkKind, WalkReply};
 use bins::{Counts, EntryColumns, SortedColumns};
 use bpf_machine::Machine;
 use bpf_model::limits::{KEY_BYTES, VALUE_BYTES};
-use bpf_model::{InputPart, Key, NoMemory, Value};
+use bpf_model::{InputPart, Key, NoMemory, Value, value_bytes};
 use std::alloc::Global;
 use verifier::Verified;
 
@@ -20,8 +20,18 @@ use verifier::Verified;
 #[derive(Drop)]
 struct Workbench {
     machine: Machine,
-    value: Value,
+    key: Key,
     answer: Value,
+}
+
+impl Workbench {
+    fn new() -> Workbench {
+        Workbench {
+            machine: Machine::new(),
+            key: Key::from_slice(&[]).unwrap(),
+            answer: Value::new(),
+        }
+    }
 }
 
 /// Runs the program on each entry in turn, and gives the answers of this kind of walk, in the order of the entries. Asks
@@ -38,11 +48,7 @@ pub fn walk(
     let mut items = EntryColumns::new(alloc);
     let count = entries.len();
     items.reserve(most_given(kind, count))?;
-    let mut bench = Workbench {
-        machine: Machine::new(),
-        value: Value::new(),
-        answer: Value::new(),
-    };
+    let mut bench = Workbench::new();
     let mut unfit = 0;
     for place in 0..count {
         let (key, value) = entries.get(place);
@@ -80,15 +86,14 @@ fn answer(
     requires value { length value.now ≤ VALUE_BYTES }
     ensures outcome { ComesTo program.now (input_of key.now (Some value.now) arg.now) (outcome_by result bench.new.answer) }
 {
-    let key = Key::from_slice(key);
-    let key = key.unwrap();
+    let arg = value_bytes(arg.as_ref());
     let Workbench {
         machine,
-        value: old,
+        key: place,
         answer,
     } = bench;
-    old.set_from(value);
-    answer_into(program, &key, Some(old), arg.as_ref(), machine, answer)
+    place.set_from(key);
+    answer_into(program, place, Some(value), arg, machine, answer)
 }
 
 // Adds an answer behind the ones before it, where the walk gives it.
