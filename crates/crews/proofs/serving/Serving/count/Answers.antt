@@ -4,7 +4,7 @@ use Rattle.crews.proofs.StepLemmas.{walked_by_team}
 use Rattle.crews.proofs.serving.Serving.count.Goals as goal
 
 pub returns : goal.returns
-returns g c bytes =
+returns g c hello bytes =
     let s = c.self.inside in
     walked_by_team (λ n before after reply. CountsAll n before after reply) (λ n before after. AllWalked n MayScan before after)
     c.args.self.now s.pass s.team.items s.tokens.items s.map.now c.replace-team.result.items c.told-team.result.passes.items c.mapping_count-team.result.0.passes.items c.heard.result.items

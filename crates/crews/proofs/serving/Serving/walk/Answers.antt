@@ -7,7 +7,7 @@ use Rattle.crews.proofs.StepLemmas.{walked_by_team}
 use Rattle.crews.proofs.serving.Serving.walk.Goals as goal
 
 pub returns : goal.returns
-returns g c bytes =
+returns g c hello bytes =
     let s = c.self.inside in
     record {
       found = Some c.in-Some.program.now;
