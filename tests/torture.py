@@ -183,6 +183,7 @@ class Torture:
         self.numbers = registered_first(address)
         self.first: dict[bytes, Held] = dict.fromkeys(KEYS)
         self.made = 0
+        self.too_long = 0
         self.rounds = 0
 
     def round(self, seconds: float) -> None:
@@ -197,6 +198,7 @@ class Torture:
             raise Wrong("\n".join(wrong))
         self.first = {key: value_of(event.answer) for key, event in ends.items()}
         self.made += sum(map(len, players))
+        self.too_long += sum(event.answer == wire.VALUE_TOO_LONG for events in players for event in events)
         self.rounds += 1
 
 
@@ -208,7 +210,10 @@ def tortured(address: str, seconds: float, seed: int, versions: Sequence[int]) -
         while rest > 0:
             torture.round(min(ROUND, rest))
             rest -= ROUND
-    return f"{torture.made} events of {CLIENTS} clients on {len(KEYS)} keys in {torture.rounds} rounds are linearizable"
+    if len(versions) > 1 and not torture.too_long:
+        raise Wrong("no answer was too long for version 1, which shows nothing")
+    return (f"{torture.made} events of {CLIENTS} clients on {len(KEYS)} keys in {torture.rounds} rounds are linearizable; "
+            f"{torture.too_long} answers were too long for version 1")
 
 
 def main() -> None:
