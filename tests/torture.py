@@ -1,10 +1,11 @@
 #!/usr/bin/env python3
 """Eight clients of the built mapd make all eleven calls on eight keys at once, with programs, alone and in pipelines, and now and then a
-walk, in sessions of both versions of the protocol. Each writes down its calls, their answers and when it had them. Then each key's history must be linearizable: linear.py decides.
+walk, in sessions of both versions of the protocol. Each writes down its calls, their answers and when it had them. Then each key's
+history must be linearizable: linear.py decides.
 
 By hand, after `rt run` in crates/mapd: python3 tests/torture.py [SECONDS [SEED]]. It runs in rounds of at most two seconds of calls;
-what a round leaves is read at its end, and is where the next one begins. Another server is tried by --program, and one version alone by
---protocol."""
+what a round leaves is read at its end, and is where the next one begins. Another server is tried by --program, and one version alone
+by --protocol."""
 from __future__ import annotations
 
 import argparse

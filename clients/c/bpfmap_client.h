@@ -14,8 +14,8 @@
  * Include it before any other header, or define _POSIX_C_SOURCE as 200809L yourself. One thread at a time uses a client. A client
  * has fixed buffers, 54 KB in all, and takes no memory after bpfmap_connect.
  *
- * It speaks version 2 of the protocol, or by bpfmap_connect_version version 1, the only one that an older server knows. In version 1
- * values have at most 256 bytes, and an answer whose value is longer is refused with 65: only then the call was made all the
+ * It speaks version 2 of the protocol, or by bpfmap_connect_version version 1, the only one that an older server knows. In version
+ * 1 values have at most 256 bytes, and an answer whose value is longer is refused with 65: only then the call was made all the
  * same.
  *
  * A connection that fails is an error for each request that waits for its answer, and for all later ones. Such a call may have
