@@ -90,6 +90,40 @@ answers_one_of() {
     return 1
 }
 
+# Bytes in hex, so many times.
+times() {
+    local text
+    printf -v text "%$1s" ""
+    printf '%s' "${text// /$2}"
+}
+
+# A frame of a body in hex.
+framed() {
+    local body=${1// /}
+    printf '%08x%s' "$((${#body} / 2))" "$body"
+}
+
+# The longest program and values, with a walk, under a stack of 256 KiB: a program of 4,096 units that answers nothing, one that answers
+# 1,024 bytes, two Puts of as many, a Compute of each program and a ForEach.
+serve_longest() {
+    local windows='0040 0400 0400 0400' value answer stores='' at
+    for at in $(seq 0 8 1016); do
+        printf -v at '%04x' "$at"
+        stores+="7a04${at:2}${at:0:2}07000000"
+    done
+    value=0400$(times 1024 61)
+    answer=0400$(times 128 0700000000000000)
+    frames "$(framed '0002')$(framed "01 $windows $(times 4094 4506000001000000) b7000000ffffffff9500000000000000")$(
+        framed "01 $windows $stores b7000000000400009500000000000000")$(framed "11 0161 $value")$(framed "11 0162 $value")$(
+        framed "17 0161 0000000000000001 $value")$(framed '21 0000000000000001 ffff 0000000000000000')$(
+        framed "17 0162 0000000000000000 $value")$(framed '10 0162')$(framed '10 0161')"
+    got=0
+    (ulimit -s 256 && exec "$program" exec) < "$work/in" > "$work/out" 2> "$work/err" || got=$?
+    judge "the longest program and values under a stack of 256 KiB" answered 0 "$(framed '8002')$registered$(
+        framed '81 0000000000000001')$nothing$nothing$(framed "82 $answer")$(framed "86 0161 $answer")$(framed "86 0162 $answer")$(
+        framed '87 0000000000000002 0000000000000002 0000000000000000')$nothing$nothing$(framed "82 $answer")" ""
+}
+
 # Refuses each request for memory in turn to a session: it answers one of the lists, of which the first is that of ample memory.
 refuse_each_answer() {
     local name=$1 requests number
@@ -194,6 +228,7 @@ serve "a session" "$hello $put_and_get" 0 "$welcome 00000003 82ffff 00000005 820
 serve "a session with a program" "$hello $register $compute" 0 "$welcome 00000009 810000000000000000 00000003 82ffff" ""
 serve "a session that is refused" "$hello $hello" 1 "$welcome 00000006 854000000000" ""
 serve "a session that is cut" "$hello 00000003 10" 1 "$welcome" ""
+serve_longest
 serve_in_turns "a client that waits" "$hello" "$welcome" "00000007 11016100027879" "00000003 82ffff" \
     "00000003 100161" "00000005 8200027879" "$register" "00000009 810000000000000000" "$compute" "00000003 82ffff" \
     "00000001 23" "00000019 87 000000000000000000000000000000000000000000000000"

@@ -25,8 +25,9 @@ from sequential import Call  # noqa: E402
 NO_MEMORY = wire.refused(9)
 UNKNOWN = wire.refused(66)
 ENDED = "a session that ended with 9"
-A, B, C, D = b"a", b"b", b"c", b"d"
+A, B, C, D, E = b"a", b"b", b"c", b"d", b"e"
 ONE, TWO = model.spelled(1), model.spelled(2)
+LONGEST = bytes(range(256)) * 4
 MOST_REQUESTS = 5000
 
 
@@ -61,13 +62,14 @@ def walks(number: int, arg: bytes | None) -> list[Walk]:
     return [Walk(tag, number, arg) for tag in (model.SEARCH, model.FOR_EACH, model.REPLACE_ALL)]
 
 
-# What each session asks for behind its Hello. Programs are named by the numbers that they have where all are registered.
+# What each session asks for behind its Hello, of version 2. Programs are named by the numbers that they have where all are registered.
 SESSIONS: list[list[Asked]] = [
     [Call(model.PUT, A, value=b"xy"), Call(model.GET, A)],
     [Register(model.NOTHING_AT_ALL), computed(B, 0), computed(B, 5)],
     [Call(model.GET, A), Call(model.PUT, B, value=b"z"), Count(), *walks(0, None), computed(A, 0), Call(model.GET, A)],
     [Register(model.ADD), Call(model.PUT, C, value=ONE), Call(model.PUT, D, value=TWO), *walks(1, ONE), Count()],
-    [Call(model.GET, key) for key in (A, B, C, D)],
+    [Register(model.TAKE), Call(model.PUT, E, value=LONGEST), Call(model.GET, E), *walks(2, LONGEST), Call(model.GET, A)],
+    [Call(model.GET, key) for key in (A, B, C, D, E)],
 ]
 OPTIONS = ["--workers", "1", "--team", "2", "--sessions", str(len(SESSIONS))]
 
@@ -158,7 +160,7 @@ class Known:
 def said(address: str, session: list[Asked]) -> list[bytes]:
     """The answers to a session that is sent in one piece."""
     with wire.Client(address) as client:
-        return list(full.bodies_of(client.exchange(wire.frames([wire.HELLO, *map(body_of, session)]))))
+        return list(full.bodies_of(client.exchange(wire.frames([wire.hello(2), *map(body_of, session)]))))
 
 
 def hear_session(known: Known, session: list[Asked], answers: list[bytes]) -> str:
@@ -167,7 +169,7 @@ def hear_session(known: Known, session: list[Asked], answers: list[bytes]) -> st
         return "a client without answers"
     if answers == [NO_MEMORY]:
         return ENDED
-    if answers[0] != wire.WELCOME:
+    if answers[0] != wire.welcome(2):
         raise Wrong(f"the Hello is answered {answers[0].hex()}")
     left, went = answers[1:], "no matter"
     for asked in session:

@@ -1,9 +1,11 @@
 #!/usr/bin/env python3
 """Eight clients of the built mapd make all eleven calls on eight keys at once, with programs, alone and in pipelines, and now and then a
-walk, in sessions of both versions of the protocol, or by --protocol of one alone. Each writes down its calls, their answers and when it had them. Then each key's history must be linearizable: linear.py decides.
+walk, in sessions of both versions of the protocol. Each writes down its calls, their answers and when it had them. Then each key's
+history must be linearizable: linear.py decides.
 
 By hand, after `rt run` in crates/mapd: python3 tests/torture.py [SECONDS [SEED]]. It runs in rounds of at most two seconds of calls;
-what a round leaves is read at its end, and is where the next one begins. Another server is tried by --program."""
+what a round leaves is read at its end, and is where the next one begins. Another server is tried by --program, and one version alone
+by --protocol."""
 from __future__ import annotations
 
 import argparse
@@ -183,6 +185,7 @@ class Torture:
         self.numbers = registered_first(address)
         self.first: dict[bytes, Held] = dict.fromkeys(KEYS)
         self.made = 0
+        self.too_long = 0
         self.rounds = 0
 
     def round(self, seconds: float) -> None:
@@ -197,6 +200,7 @@ class Torture:
             raise Wrong("\n".join(wrong))
         self.first = {key: value_of(event.answer) for key, event in ends.items()}
         self.made += sum(map(len, players))
+        self.too_long += sum(event.answer == wire.VALUE_TOO_LONG for events in players for event in events)
         self.rounds += 1
 
 
@@ -208,7 +212,10 @@ def tortured(address: str, seconds: float, seed: int, versions: Sequence[int]) -
         while rest > 0:
             torture.round(min(ROUND, rest))
             rest -= ROUND
-    return f"{torture.made} events of {CLIENTS} clients on {len(KEYS)} keys in {torture.rounds} rounds are linearizable"
+    if len(versions) > 1 and not torture.too_long:
+        raise Wrong("no answer was too long for version 1, which shows nothing")
+    return (f"{torture.made} events of {CLIENTS} clients on {len(KEYS)} keys in {torture.rounds} rounds are linearizable; "
+            f"{torture.too_long} answers were too long for version 1")
 
 
 def main() -> None:

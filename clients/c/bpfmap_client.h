@@ -12,7 +12,11 @@
  *     bpfmap_close(&client);
  *
  * Include it before any other header, or define _POSIX_C_SOURCE as 200809L yourself. One thread at a time uses a client. A client
- * has fixed buffers, 33 KB in all, and takes no memory after bpfmap_connect.
+ * has fixed buffers, 54 KB in all, and takes no memory after bpfmap_connect.
+ *
+ * It speaks version 2 of the protocol, or by bpfmap_connect_version version 1, the only one that an older server knows. In version
+ * 1 values have at most 256 bytes, and an answer whose value is longer is refused with 65: only then the call was made all the
+ * same.
  *
  * A connection that fails is an error for each request that waits for its answer, and for all later ones. Such a call may have
  * been made or not. It is never sent a second time. */
@@ -41,19 +45,23 @@
 #endif
 
 enum {
-    BPFMAP_KEY_BYTES = 64,       /* the longest key */
-    BPFMAP_VALUE_BYTES = 256,    /* the longest value or argument */
-    BPFMAP_PROGRAM_BYTES = 8183, /* the longest program that a frame can hold */
-    BPFMAP_RESPONSE_BYTES = 1 + 1 + BPFMAP_KEY_BYTES + 2 + BPFMAP_VALUE_BYTES, /* the longest body of an answer: an Item's */
-    BPFMAP_DEPTH = 1024,         /* so many requests may wait for their answers */
-    BPFMAP_BUFFER_BYTES = 16384
+    BPFMAP_VERSION = 2,             /* of the protocol, where no other is asked for */
+    BPFMAP_KEY_BYTES = 64,          /* the longest key */
+    BPFMAP_VALUE_BYTES = 1024,      /* the longest value or argument; in version 1 */
+    BPFMAP_VALUE_BYTES_1 = 256,
+    BPFMAP_PROGRAM_BYTES = 32768,   /* the longest program that a frame can hold; in version 1 */
+    BPFMAP_PROGRAM_BYTES_1 = 8183,
+    BPFMAP_DEPTH = 1024,            /* so many requests may wait for their answers */
+    BPFMAP_SENT_BYTES = 36864,      /* room for requests that are not sent, the longest one at least */
+    BPFMAP_BUFFER_BYTES = 16384     /* room for answers that are not read */
 };
 
 /* ---- what is asked, and what is answered */
 
 enum bpfmap_status {
     BPFMAP_OK,         /* the reply has the answer */
-    BPFMAP_REFUSED,    /* by the server, or by this client before it sent anything: `refusal` of the client. Nothing was done */
+    BPFMAP_REFUSED,    /* by the server, or by this client before it sent anything: `refusal` of the client. Nothing was done,
+                          unless the number is 65 */
     BPFMAP_UNREAD,     /* nothing was sent: receive the answers to earlier requests first */
     BPFMAP_NOT_ASKED,  /* no request waits for an answer */
     BPFMAP_NO_ADDRESS, /* the host and port stand for no address */
@@ -127,12 +135,13 @@ struct bpfmap_client {
     struct bpfmap_refusal refusal; /* the last one */
 
     int socket, timeout;
+    int version; /* of the protocol */
     int takes_nothing; /* a send failed: what the server sent before is still read */
     size_t first_waiting, waiting;
     size_t out_end;          /* requests that are not sent */
     size_t in_begin, in_end; /* answers that are not read */
     uint8_t calls[BPFMAP_DEPTH]; /* those that wait, from first_waiting on, round the end */
-    uint8_t out[BPFMAP_BUFFER_BYTES], in[BPFMAP_BUFFER_BYTES];
+    uint8_t out[BPFMAP_SENT_BYTES], in[BPFMAP_BUFFER_BYTES];
 };
 
 static inline struct bpfmap_bytes bpfmap_bytes(const void *bytes, size_t length)
@@ -175,11 +184,11 @@ static inline void bpfmap_store64(void *bytes, uint64_t number)
 static inline const char *bpfmap_sentence(uint8_t number)
 {
     switch (number) {
-    case 1: return "a key has more than 64 bytes, a value or argument more than 256";
+    case 1: return "a key has more than 64 bytes, a value or argument more than 1,024 (in version 1 of the protocol 256)";
     case 9: return "a request for memory was refused";
     case 10: return "there is no byte";
     case 11: return "the number of bytes is no multiple of 8";
-    case 12: return "there are more than 512 units";
+    case 12: return "there are more than 4,096 units (in version 1 of the protocol 512)";
     case 13: return "the opcode is no instruction's";
     case 14: return "a register field that the instruction uses is above 10";
     case 15: return "a field that the instruction doesn't use is not zero";
@@ -198,11 +207,13 @@ static inline const char *bpfmap_sentence(uint8_t number)
     case 45: return "store all bytes that the load may touch first, at fixed places, on every way";
     case 46: return "write the answer's bytes without a gap on every way, or give each answer an EXIT of its own";
     case 47: return "declare less";
-    case 60: return "a length of 0 or above 8,192";
+    case 60: return "a length of 0, or above 32,777 (in version 1 and before a Hello 8,192)";
     case 61: return "a tag that is not in the table";
-    case 62: return "fields that are cut short, a key above 64 bytes, a value above 256, or ff ff where a value must be";
+    case 62: return "fields that are cut short, a key above 64 bytes, a value above 1,024 (in version 1 and before a Hello 256), "
+                    "or ff ff where a value must be";
     case 63: return "bytes behind the last field";
-    case 64: return "a Hello of another version, a first request that is no Hello, or a second Hello";
+    case 64: return "a Hello of a version other than 1 and 2, a first request that is no Hello, or a second Hello";
+    case 65: return "the answer has a value of more than 256 bytes, which version 1 does not carry; the call was made";
     case 66: return "no program has this number";
     default: return "this client knows no refusal of this number";
     }
@@ -419,15 +430,27 @@ static inline struct bpfmap_bytes bpfmap_value_field(const struct bpfmap_request
     return request->arg.bytes ? request->arg : bpfmap_none();
 }
 
-/* The bytes of one field. Of one that is too long the refusal's number is set. */
-static inline size_t bpfmap_field_size(const struct bpfmap_request *request, char field, uint8_t *refused)
+/* The longest value or argument, and the longest program, of a client's version of the protocol. */
+static inline size_t bpfmap_longest_value(const struct bpfmap_client *client)
+{
+    return client->version == 1 ? BPFMAP_VALUE_BYTES_1 : BPFMAP_VALUE_BYTES;
+}
+
+static inline size_t bpfmap_longest_program(const struct bpfmap_client *client)
+{
+    return client->version == 1 ? BPFMAP_PROGRAM_BYTES_1 : BPFMAP_PROGRAM_BYTES;
+}
+
+/* The bytes of one field. Of one that is too long for the client's version the refusal's number is set. */
+static inline size_t bpfmap_field_size(const struct bpfmap_client *client, const struct bpfmap_request *request, char field,
+                                       uint8_t *refused)
 {
     struct bpfmap_bytes bytes;
     switch (field) {
     case 'h': return 1;
     case 'p': case 't': return 8;
     case 's':
-        if (request->code.length > BPFMAP_PROGRAM_BYTES)
+        if (request->code.length > bpfmap_longest_program(client))
             *refused = request->code.length % 8 ? 11 : 12;
         return 8 + request->code.length;
     case 'k':
@@ -436,17 +459,18 @@ static inline size_t bpfmap_field_size(const struct bpfmap_request *request, cha
         return 1 + request->key.length;
     default:
         bytes = bpfmap_value_field(request, field);
-        if (bytes.length > BPFMAP_VALUE_BYTES)
+        if (bytes.length > bpfmap_longest_value(client))
             *refused = 1;
         return 2 + bytes.length;
     }
 }
 
-static inline uint8_t *bpfmap_write_field(uint8_t *to, const struct bpfmap_request *request, char field)
+static inline uint8_t *bpfmap_write_field(uint8_t *to, const struct bpfmap_client *client, const struct bpfmap_request *request,
+                                          char field)
 {
     struct bpfmap_bytes bytes;
     switch (field) {
-    case 'h': return bpfmap_write_number(to, 1, 1);
+    case 'h': return bpfmap_write_number(to, (uint64_t)client->version, 1);
     case 'p': return bpfmap_write_number(to, request->program, 8);
     case 't': return bpfmap_write_number(to, request->threshold, 8);
     case 'k': return bpfmap_write_bytes(bpfmap_write_number(to, request->key.length, 1), request->key);
@@ -465,22 +489,23 @@ static inline uint8_t *bpfmap_write_field(uint8_t *to, const struct bpfmap_reque
 }
 
 /* The bytes of a request's body. Of one that no frame can hold the refusal's number is set. */
-static inline size_t bpfmap_body_size(const struct bpfmap_request *request, uint8_t *refused)
+static inline size_t bpfmap_body_size(const struct bpfmap_client *client, const struct bpfmap_request *request, uint8_t *refused)
 {
     size_t size = 1;
     const char *field;
     for (field = bpfmap_fields(request->call); *field; field++)
-        size += bpfmap_field_size(request, *field, refused);
+        size += bpfmap_field_size(client, request, *field, refused);
     return size;
 }
 
-static inline void bpfmap_write_frame(uint8_t *to, const struct bpfmap_request *request, size_t body_size)
+static inline void bpfmap_write_frame(uint8_t *to, const struct bpfmap_client *client, const struct bpfmap_request *request,
+                                      size_t body_size)
 {
     const char *field;
     to = bpfmap_write_number(to, body_size, 4);
     to = bpfmap_write_number(to, request->call, 1);
     for (field = bpfmap_fields(request->call); *field; field++)
-        to = bpfmap_write_field(to, request, *field);
+        to = bpfmap_write_field(to, client, request, *field);
 }
 
 /* ---- answers from bytes */
@@ -494,24 +519,26 @@ static inline uint64_t bpfmap_read_number(const uint8_t *from, int bytes)
 }
 
 /* Takes a value and nothing behind it. Whether it is one. */
-static inline int bpfmap_read_value(const uint8_t *from, size_t size, struct bpfmap_reply *reply)
+static inline int bpfmap_read_value(const struct bpfmap_client *client, const uint8_t *from, size_t size,
+                                    struct bpfmap_reply *reply)
 {
     if (size < 2)
         return 0;
     reply->value_length = (size_t)bpfmap_read_number(from, 2);
-    if (reply->value_length > BPFMAP_VALUE_BYTES || size != 2 + reply->value_length)
+    if (reply->value_length > bpfmap_longest_value(client) || size != 2 + reply->value_length)
         return 0;
     memcpy(reply->value, from + 2, reply->value_length);
     return 1;
 }
 
-static inline int bpfmap_read_item(const uint8_t *from, size_t size, struct bpfmap_reply *reply)
+static inline int bpfmap_read_item(const struct bpfmap_client *client, const uint8_t *from, size_t size,
+                                   struct bpfmap_reply *reply)
 {
     if (size < 1 || from[0] > BPFMAP_KEY_BYTES || size < 1 + (size_t)from[0])
         return 0;
     reply->key_length = from[0];
     memcpy(reply->key, from + 1, reply->key_length);
-    return bpfmap_read_value(from + 1 + reply->key_length, size - 1 - reply->key_length, reply);
+    return bpfmap_read_value(client, from + 1 + reply->key_length, size - 1 - reply->key_length, reply);
 }
 
 static inline int bpfmap_read_counts(const uint8_t *from, size_t size, struct bpfmap_reply *reply)
@@ -525,19 +552,20 @@ static inline int bpfmap_read_counts(const uint8_t *from, size_t size, struct bp
 }
 
 /* Takes the body of an answer, but for that of a refusal. Whether it is one. */
-static inline int bpfmap_read_body(const uint8_t *body, size_t size, struct bpfmap_reply *reply)
+static inline int bpfmap_read_body(const struct bpfmap_client *client, const uint8_t *body, size_t size,
+                                   struct bpfmap_reply *reply)
 {
     switch (body[0]) {
     case 0x80:
         reply->kind = BPFMAP_WELCOME;
-        return size == 2 && body[1] == 1;
+        return size == 2 && body[1] == client->version;
     case 0x81:
         reply->kind = BPFMAP_PROGRAM;
         reply->program = size == 9 ? bpfmap_read_number(body + 1, 8) : 0;
         return size == 9;
     case 0x82:
         reply->kind = size == 3 && body[1] == 0xff && body[2] == 0xff ? BPFMAP_NOTHING : BPFMAP_VALUE;
-        return reply->kind == BPFMAP_NOTHING || bpfmap_read_value(body + 1, size - 1, reply);
+        return reply->kind == BPFMAP_NOTHING || bpfmap_read_value(client, body + 1, size - 1, reply);
     case 0x83:
         reply->kind = BPFMAP_DONE;
         reply->done = size == 2 && body[1] == 1;
@@ -548,7 +576,7 @@ static inline int bpfmap_read_body(const uint8_t *body, size_t size, struct bpfm
         return size == 2 && body[1] >= BPFMAP_KEY_WINDOW && body[1] <= BPFMAP_ARG_WINDOW;
     case 0x86:
         reply->kind = BPFMAP_ITEM;
-        return bpfmap_read_item(body + 1, size - 1, reply);
+        return bpfmap_read_item(client, body + 1, size - 1, reply);
     case 0x87:
         reply->kind = BPFMAP_COUNTS;
         return bpfmap_read_counts(body + 1, size - 1, reply);
@@ -573,14 +601,15 @@ static inline int bpfmap_may_answer(enum bpfmap_kind kind, enum bpfmap_call call
     return 0;
 }
 
-/* Waits until the next answer's frame is there as a whole; then its body has so many bytes. */
+/* Waits until the next answer's frame is there as a whole; then its body has so many bytes. The longest is an Item's. */
 static inline enum bpfmap_status bpfmap_await_frame(struct bpfmap_client *client, size_t *size)
 {
     enum bpfmap_status status = BPFMAP_OK;
+    size_t longest = 1 + 1 + BPFMAP_KEY_BYTES + 2 + bpfmap_longest_value(client);
     while (status == BPFMAP_OK) {
         size_t there = client->in_end - client->in_begin;
         *size = there < 4 ? 0 : (size_t)bpfmap_read_number(client->in + client->in_begin, 4);
-        if (there >= 4 && (*size == 0 || *size > BPFMAP_RESPONSE_BYTES))
+        if (there >= 4 && (*size == 0 || *size > longest))
             return bpfmap_fail(client, BPFMAP_GARBLED, 0);
         if (there >= 4 && there - 4 >= *size)
             return BPFMAP_OK;
@@ -596,7 +625,7 @@ static inline enum bpfmap_status bpfmap_await_frame(struct bpfmap_client *client
 static inline enum bpfmap_status bpfmap_send(struct bpfmap_client *client, const struct bpfmap_request *request)
 {
     uint8_t refused = 0;
-    size_t size = bpfmap_body_size(request, &refused);
+    size_t size = bpfmap_body_size(client, request, &refused);
     enum bpfmap_status status = client->status;
     if (status == BPFMAP_OK && refused) {
         client->refusal = (struct bpfmap_refusal){.number = refused};
@@ -604,13 +633,13 @@ static inline enum bpfmap_status bpfmap_send(struct bpfmap_client *client, const
     }
     if (status == BPFMAP_OK && client->waiting == BPFMAP_DEPTH)
         return BPFMAP_UNREAD;
-    while (status == BPFMAP_OK && !client->takes_nothing && BPFMAP_BUFFER_BYTES - client->out_end < 4 + size)
+    while (status == BPFMAP_OK && !client->takes_nothing && BPFMAP_SENT_BYTES - client->out_end < 4 + size)
         status = bpfmap_exchange(client);
     if (status == BPFMAP_OK && client->takes_nothing)
         status = BPFMAP_BROKEN;
     if (status != BPFMAP_OK)
         return status;
-    bpfmap_write_frame(client->out + client->out_end, request, size);
+    bpfmap_write_frame(client->out + client->out_end, client, request, size);
     client->out_end += 4 + size;
     client->calls[(client->first_waiting + client->waiting) % BPFMAP_DEPTH] = (uint8_t)request->call;
     client->waiting++;
@@ -633,7 +662,7 @@ static inline enum bpfmap_status bpfmap_receive(struct bpfmap_client *client, st
     body = client->in + client->in_begin + 4;
     reply->call = (enum bpfmap_call)client->calls[client->first_waiting];
     is_refused = body[0] == 0x85 && size == 6;
-    if (!is_refused && (!bpfmap_read_body(body, size, reply) || !bpfmap_may_answer(reply->kind, reply->call)))
+    if (!is_refused && (!bpfmap_read_body(client, body, size, reply) || !bpfmap_may_answer(reply->kind, reply->call)))
         return bpfmap_fail(client, BPFMAP_GARBLED, 0);
     if (is_refused) {
         client->refusal.number = body[1];
@@ -657,15 +686,17 @@ static inline enum bpfmap_status bpfmap_ask(struct bpfmap_client *client, const 
     return status == BPFMAP_OK ? bpfmap_receive(client, reply) : status;
 }
 
-/* Connects, and begins a session. The timeout in milliseconds is for each wait for the server's next bytes, or until it takes
- * more; 0 waits without end. A server whose workers all serve other clients answers when one of them is free. */
-static inline enum bpfmap_status bpfmap_connect(struct bpfmap_client *client, const char *host, const char *port, int timeout)
+/* Connects, and begins a session of this version of the protocol, 1 or 2. A server that does not know it refuses it with 64;
+ * nothing is tried a second time. */
+static inline enum bpfmap_status bpfmap_connect_version(struct bpfmap_client *client, const char *host, const char *port,
+                                                        int timeout, int version)
 {
     struct bpfmap_request hello = {.call = BPFMAP_HELLO};
     struct bpfmap_reply reply;
     enum bpfmap_status status;
     client->status = BPFMAP_OK;
     client->timeout = timeout;
+    client->version = version;
     client->takes_nothing = 0;
     client->first_waiting = client->waiting = 0;
     client->out_end = client->in_begin = client->in_end = 0;
@@ -679,6 +710,13 @@ static inline enum bpfmap_status bpfmap_connect(struct bpfmap_client *client, co
     if (status != BPFMAP_OK)
         bpfmap_close(client);
     return status;
+}
+
+/* Connects, and begins a session of version 2. The timeout in milliseconds is for each wait for the server's next bytes, or until
+ * it takes more; 0 waits without end. A server whose workers all serve other clients answers when one of them is free. */
+static inline enum bpfmap_status bpfmap_connect(struct bpfmap_client *client, const char *host, const char *port, int timeout)
+{
+    return bpfmap_connect_version(client, host, port, timeout, BPFMAP_VERSION);
 }
 
 /* Registers a program's bytes: the reply has its number. Programs are shared by all clients of the server. */

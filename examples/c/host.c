@@ -11,6 +11,8 @@
 
 enum { KEY, OLD, ARG, RESULT, WINDOWS };
 
+enum { KEY_BYTES = 64, VALUE_BYTES = 1024 };
+
 static const char *const names[] = {"--key", "--old", "--arg", "--result"};
 
 static int sizes[WINDOWS];
@@ -42,20 +44,20 @@ static u64 made_up(void)
 }
 
 /* Fills a window, the other bytes with zeros, and says how many bytes it has: all, as a rule. */
-static s64 fill(u8 window[256], int size)
+static s64 fill(u8 window[VALUE_BYTES], int size)
 {
     s64 length = next() % 4 ? size : (s64)(next() % (size + 1));
-    memset(window, 0, 256);
-    for (int i = 0; i < 256; i += 8) {
+    memset(window, 0, VALUE_BYTES);
+    for (int i = 0; i < size; i += 8) {
         u64 word = made_up();
         memcpy(window + i, &word, 8);
     }
-    memset(window + length, 0, 256 - length);
+    memset(window + length, 0, VALUE_BYTES - length);
     return length;
 }
 
 /* Some words of the argument are those of the old value, so that versions agree. */
-static void repeat(u8 arg[256], s64 length, const u8 old[256])
+static void repeat(u8 arg[VALUE_BYTES], s64 length, const u8 old[VALUE_BYTES])
 {
     for (s64 i = 0; i + 8 <= length; i += 8)
         if (next() % 3 == 0)
@@ -82,7 +84,7 @@ static void print_answer(const u8 *result, s64 length)
 
 static void run_once(void)
 {
-    static u8 windows[WINDOWS][256];
+    static u8 windows[WINDOWS][VALUE_BYTES];
     s64 lengths[RESULT];
     for (int i = KEY; i < RESULT; i++)
         lengths[i] = fill(windows[i], sizes[i]);
@@ -90,9 +92,9 @@ static void run_once(void)
     for (int i = OLD; i < RESULT; i++)
         if (next() % 5 == 0) {
             lengths[i] = -1;
-            memset(windows[i], 0, 256);
+            memset(windows[i], 0, VALUE_BYTES);
         }
-    memset(windows[RESULT], 0xee, 256);
+    memset(windows[RESULT], 0xee, VALUE_BYTES);
     for (int i = KEY; i < RESULT; i++)
         print_words(names[i], windows[i], lengths[i]);
     s64 answer = program_body(windows[KEY], windows[OLD], windows[ARG], windows[RESULT], lengths[KEY], lengths[OLD],
@@ -106,7 +108,7 @@ int main(int argc, char **argv)
         return 2;
     for (int i = 0; i < WINDOWS; i++) {
         sizes[i] = atoi(argv[3 + 2 * i]);
-        if (strcmp(argv[2 + 2 * i], names[i]) != 0 || sizes[i] < 0 || sizes[i] > 256)
+        if (strcmp(argv[2 + 2 * i], names[i]) != 0 || sizes[i] < 0 || sizes[i] > (i == KEY ? KEY_BYTES : VALUE_BYTES))
             return 2;
     }
     for (int left = atoi(argv[1]); left > 0; left--)

@@ -4,7 +4,7 @@
 #include "played.h"
 #include <time.h>
 
-enum { LITTLE_TIME = 500, MANY_ENTRIES = 300, MANY_WALKS = 30, MANY_PROGRAMS = 900 };
+enum { LITTLE_TIME = 500, MANY_ENTRIES = 300, MANY_WALKS = 30, MANY_PROGRAMS = 300 };
 
 static struct bpfmap_client client;
 static struct bpfmap_reply reply;
@@ -17,7 +17,7 @@ static int is_failure(enum bpfmap_status status)
 /* Connects to a server that plays this after the Hello. */
 static void play(struct played *played, void (*part)(int, const void *), const void *given, int timeout)
 {
-    *played = (struct played){.play = part, .given = given, .greets = 1};
+    *played = (struct played){.play = part, .given = given, .greets = BPFMAP_VERSION};
     start_played(played);
     CHECK_STATUS(&client, BPFMAP_OK, bpfmap_connect(&client, "127.0.0.1", played->port, timeout));
 }
@@ -161,7 +161,7 @@ static void take_nothing(int connection, const void *given)
     CHECK(read(*(const int *)given, &told, 1) == 0, "a pipe tells a byte");
 }
 
-/* Eight megabytes do not fit into any buffer on the way. */
+/* 32 megabytes do not fit into any buffer on the way. */
 static void server_that_takes_nothing_is_left(void)
 {
     static const uint8_t code[BPFMAP_PROGRAM_BYTES];
@@ -190,7 +190,7 @@ struct frame {
 
 static const struct frame no_answers[] = {
     {"a length of 0", BPFMAP_GET, 4, {0, 0, 0, 0}},
-    {"a length above the longest", BPFMAP_GET, 4, {0, 0, 1, 69}},
+    {"a length above the longest", BPFMAP_GET, 4, {0, 0, 4, 69}},
     {"the greatest length", BPFMAP_GET, 4, {255, 255, 255, 255}},
     {"an unknown tag", BPFMAP_GET, 5, {0, 0, 0, 1, 0x88}},
     {"the tag of a request", BPFMAP_GET, 8, {0, 0, 0, 4, 0x10, 2, 97, 98}},
@@ -280,16 +280,28 @@ static void answer_may_come_by_bytes(void)
     CHECK(client.error == ENOTCONN, "a closed client has errno %d", client.error);
 }
 
-/* Answers the Hello with what is no answer to it, or a refusal. */
-static void hello_is_not_answered(uint8_t tag, uint8_t number, enum bpfmap_status wanted)
+/* Answers the Hello of a version with what is no answer to it, or a refusal. */
+static void hello_is_not_answered(int version, uint8_t tag, uint8_t number, enum bpfmap_status wanted)
 {
     struct frame frame = {.length = tag == 0x85 ? 10 : 6, .bytes = {0, 0, 0, tag == 0x85 ? 6 : 2, tag, number}};
     struct played played = {.play = send_frame, .given = &frame};
     start_played(&played);
-    CHECK_STATUS(&client, wanted, bpfmap_connect(&client, "127.0.0.1", played.port, TIMEOUT));
+    CHECK_STATUS(&client, wanted, bpfmap_connect_version(&client, "127.0.0.1", played.port, TIMEOUT, version));
     CHECK(client.socket < 0, "a client that is not connected has a socket");
     CHECK(is_failure(bpfmap_get(&client, bpfmap_text("ab"), &reply)), "a client that is not connected asks");
     bpfmap_close(&client);
+    end_played(&played);
+}
+
+/* An answer that is too long for version 1, though not for version 2. */
+static void long_answer_ends_version_1(const uint8_t *bytes)
+{
+    struct frame frame = {.length = 6};
+    struct played played = {.play = send_frame, .given = &frame, .greets = 1};
+    memcpy(frame.bytes, bytes, frame.length);
+    start_played(&played);
+    CHECK_STATUS(&client, BPFMAP_OK, bpfmap_connect_version(&client, "127.0.0.1", played.port, TIMEOUT, 1));
+    CHECK_STATUS(&client, BPFMAP_GARBLED, bpfmap_get(&client, bpfmap_text("ab"), &reply));
     end_played(&played);
 }
 
@@ -351,30 +363,30 @@ static void take_answer(void)
     CHECK(items == walks * MANY_ENTRIES, "a walk gave %d items", items);
 }
 
-/* Puts entries, and registers a program that answers 256 bytes. Its number. */
+/* Puts entries, and registers a program that answers the longest value. Its number. */
 static uint64_t fill_and_register(void)
 {
     uint8_t value[BPFMAP_VALUE_BYTES] = {0}, code[8 * (BPFMAP_VALUE_BYTES / 8 + 2)] = {0};
-    struct bpfmap_sizes sizes = {.key = 64, .old = 256, .arg = 0, .result = 256};
+    struct bpfmap_sizes sizes = {.key = 64, .old = BPFMAP_VALUE_BYTES, .arg = 0, .result = BPFMAP_VALUE_BYTES};
     for (uint64_t i = 0; i < MANY_ENTRIES; i++) {
         uint8_t key[8];
         bpfmap_store64(key, i);
         CHECK_STATUS(&client, BPFMAP_OK, bpfmap_put(&client, bpfmap_bytes(key, 8), bpfmap_bytes(value, sizeof value), &reply));
     }
     for (int i = 0; i < BPFMAP_VALUE_BYTES / 8; i++) { /* std [r4+8*i], 1 */
-        uint8_t unit[8] = {0x7a, 4, (uint8_t)(8 * i), 0, 1};
+        uint8_t unit[8] = {0x7a, 4, (uint8_t)(8 * i), (uint8_t)(8 * i >> 8), 1};
         memcpy(code + 8 * i, unit, sizeof unit);
     }
-    memcpy(code + BPFMAP_VALUE_BYTES, "\xb7\0\0\0\0\1\0\0\x95", 9); /* mov64 r0, 256; exit */
+    memcpy(code + BPFMAP_VALUE_BYTES, "\xb7\0\0\0\0\4\0\0\x95", 9); /* mov64 r0, 1024; exit */
     CHECK_STATUS(&client, BPFMAP_OK, bpfmap_register(&client, sizes, bpfmap_bytes(code, sizeof code), &reply));
     return reply.program;
 }
 
-/* Two megabytes of answers are asked for and not received, and seven megabytes of requests follow: neither side waits for the
+/* Ten megabytes of answers are asked for and not received, and ten megabytes of requests follow: neither side waits for the
  * other for ever, and all answers come, in order. */
 static void more_is_sent_than_fits(void)
 {
-    static const uint8_t code[BPFMAP_PROGRAM_BYTES];
+    static const uint8_t code[BPFMAP_PROGRAM_BYTES - 1];
     struct bpfmap_request walk = {.call = BPFMAP_FOR_EACH}, large = {.call = BPFMAP_REGISTER};
     int unread = 0;
     start_server();
@@ -431,8 +443,11 @@ int main(void)
     for (size_t i = 0; i < count; i++)
         garbled_answer_ends_the_connection(&no_answers[i]);
     answer_may_come_by_bytes();
-    hello_is_not_answered(0x80, 2, BPFMAP_GARBLED);
-    hello_is_not_answered(0x85, 64, BPFMAP_REFUSED);
+    hello_is_not_answered(2, 0x80, 1, BPFMAP_GARBLED);
+    hello_is_not_answered(1, 0x80, 2, BPFMAP_GARBLED);
+    hello_is_not_answered(2, 0x85, 64, BPFMAP_REFUSED);
+    long_answer_ends_version_1((const uint8_t[]){0, 0, 1, 69, 0x82, 1});
+    long_answer_ends_version_1((const uint8_t[]){0, 0, 4, 68, 0x82, 4});
     nobody_listens();
     so_many_requests_may_wait();
     more_is_sent_than_fits();

@@ -1,5 +1,5 @@
-/* A server in a thread of the test, which answers the Hello of one connection and then plays what a test says. Included after
- * server.h. */
+/* A server in a thread of the test, which answers the Hello of one connection by a version and then plays what a test says.
+ * Included after server.h. */
 #ifndef PLAYED_H
 #define PLAYED_H
 
@@ -11,7 +11,7 @@ struct played {
     int listener;
     void (*play)(int connection, const void *given);
     const void *given;
-    int greets;
+    int greets; /* the version, or 0 */
     char port[8];
 };
 
@@ -30,8 +30,8 @@ static inline void skip_bytes(int connection, size_t length)
 
 static inline void *serve_once(void *given)
 {
-    static const uint8_t welcome[] = {0, 0, 0, 2, 0x80, 1};
     struct played *played = (struct played *)given;
+    uint8_t welcome[] = {0, 0, 0, 2, 0x80, (uint8_t)played->greets};
     int connection = accept(played->listener, NULL, NULL);
     CHECK(connection >= 0, "a played server can't accept");
     skip_bytes(connection, 6);

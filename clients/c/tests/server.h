@@ -96,6 +96,11 @@ static inline void connect_to_server(struct bpfmap_client *client)
     CHECK_STATUS(client, BPFMAP_OK, bpfmap_connect(client, "127.0.0.1", server_port, TIMEOUT));
 }
 
+static inline void connect_by_version(struct bpfmap_client *client, int version)
+{
+    CHECK_STATUS(client, BPFMAP_OK, bpfmap_connect_version(client, "127.0.0.1", server_port, TIMEOUT, version));
+}
+
 /* The program of sums: it adds its argument to the old value. */
 static const uint8_t sum_code[] = {
     0x79, 0x20, 0, 0, 0, 0, 0, 0, /* ldd r0, [r2+0] */

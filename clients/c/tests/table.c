@@ -1,8 +1,9 @@
-/* Runs the rows of tests/requests.txt, which says how they read, against one fresh server: table FILE */
+/* Runs the rows of tests/requests.txt, which says how they read, by each version of the protocol, against a fresh server each time:
+ * table FILE */
 #include "../bpfmap_client.h"
 #include "server.h"
 
-enum { LINE_BYTES = 2048, MOST_WORDS = 64, MOST_BYTES = 16384, TEXT_BYTES = 2 * MOST_BYTES };
+enum { LINE_BYTES = 2048, MOST_WORDS = 64, MOST_BYTES = 65536, TEXT_BYTES = 2 * MOST_BYTES };
 
 /* A call's name, and its arguments in the row's order, as bpfmap_fields has them. */
 struct call_name {
@@ -283,19 +284,26 @@ static int run_row(struct bpfmap_client *client, char *name, char *request_text,
     return 0;
 }
 
-int main(int count, char **word)
+/* Whether a session of this version has the row: its name begins with another version where it has not. */
+static int has_row(const char *name, int version)
+{
+    return strncmp(name, version == 1 ? "version 2: " : "version 1: ", 11) != 0;
+}
+
+/* Runs the rows of a session of this version. How many there are. */
+static unsigned run_rows(const char *name, int version)
 {
     static struct bpfmap_client client;
     static char line[LINE_BYTES];
     unsigned rows = 0, differences = 0;
-    FILE *file = count == 2 ? fopen(word[1], "r") : NULL;
-    CHECK(file, "table FILE: no such file");
+    FILE *file = fopen(name, "r");
+    CHECK(file, "there is no %s", name);
     start_server();
-    connect_to_server(&client);
+    connect_by_version(&client, version);
     while (fgets(line, sizeof line, file)) {
         char *request, *answer;
         line[strcspn(line, "\n")] = 0;
-        if (*line == 0 || *line == '#')
+        if (*line == 0 || *line == '#' || !has_row(line, version))
             continue;
         request = strstr(line, " | ");
         answer = request ? strstr(request + 3, " | ") : NULL;
@@ -306,7 +314,17 @@ int main(int count, char **word)
     }
     fclose(file);
     bpfmap_close(&client);
-    CHECK(rows > 0 && differences == 0, "%u of %u rows differ", differences, rows);
-    printf("client c: %u rows of requests\n", rows);
+    stop_server();
+    CHECK(rows > 0 && differences == 0, "version %d: %u of %u rows differ", version, differences, rows);
+    return rows;
+}
+
+int main(int count, char **word)
+{
+    unsigned first, second;
+    CHECK(count == 2, "table FILE");
+    first = run_rows(word[1], 1);
+    second = run_rows(word[1], 2);
+    printf("client c: %u rows of requests by version 1, %u by version 2\n", first, second);
     return 0;
 }

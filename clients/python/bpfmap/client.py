@@ -16,9 +16,10 @@ T = TypeVar("T")
 
 
 class Client:
-    """A session with a map server. Keys have up to 64 bytes, values and arguments up to 1,024; up to 256 in version 1 of the protocol.
+    """A session with a map server. Keys have up to 64 bytes, values and arguments up to 1,024.
 
-    An older server refuses version 2 with 64: it takes `version=1`.
+    In version 1 of the protocol values have up to 256. An older server knows that one alone, and refuses 2 with 64: ask for
+    `version=1`. No other version is tried.
 
     Threads may share a client: their calls take turns. A call that raises ConnectionBroken may have been made or not, it is never
     made again, and the client is closed; open another one to go on. `timeout` is in seconds without any byte of an answer.

@@ -6,8 +6,6 @@ import java.util.HexFormat;
 
 /** The body of a frame that the server sent: a tag and its fields, taken one after the other. */
 final class Body {
-    static final int LONGEST = 8192;
-
     static final int HELLO = 0x80;
     static final int REGISTERED = 0x81;
     static final int VALUE = 0x82;

@@ -22,12 +22,14 @@ public final class Connection implements AutoCloseable {
     private final Socket socket;
     private final DataInputStream input;
     private final OutputStream output;
+    private final Version version;
     private final Map<Program, Long> programs = new HashMap<>();
     private boolean isBetweenCalls;
     private boolean mayHaveEnded;
 
-    private Connection(Socket socket) throws IOException {
+    private Connection(Socket socket, Version version) throws IOException {
         this.socket = socket;
+        this.version = version;
         input = new DataInputStream(new BufferedInputStream(socket.getInputStream(), PIECE));
         output = socket.getOutputStream();
     }
@@ -37,9 +39,10 @@ public final class Connection implements AutoCloseable {
      *
      * @param host the server's name or address
      * @param port its port
-     * @param settings the times
+     * @param settings the times and the version of the protocol
      * @return the connection
      * @throws IOException where there is no server, or it has no worker left for this connection
+     * @throws RefusedException where the server does not know the version
      */
     public static Connection open(String host, int port, Settings settings) throws IOException {
         Socket socket = new Socket();
@@ -47,7 +50,7 @@ public final class Connection implements AutoCloseable {
             socket.setTcpNoDelay(true);
             socket.setSoTimeout(Settings.milliseconds(settings.answerTimeout()));
             socket.connect(new InetSocketAddress(host, port), Settings.milliseconds(settings.connectTimeout()));
-            Connection connection = new Connection(socket);
+            Connection connection = new Connection(socket, settings.version());
             connection.begin();
             return connection;
         } catch (IOException | RuntimeException e) {
@@ -58,7 +61,7 @@ public final class Connection implements AutoCloseable {
 
     private void begin() throws IOException {
         try {
-            call(Request.hello());
+            call(Request.hello(version));
         } catch (SocketTimeoutException e) {
             throw (IOException) new SocketTimeoutException("no Hello came: the server may have no worker left for this connection")
                     .initCause(e);
@@ -73,9 +76,11 @@ public final class Connection implements AutoCloseable {
      * @return the answer
      * @throws RefusedException where the server refused the request
      * @throws UnfitException where the program's windows are too small
+     * @throws TooLongException where the version does not carry its value; nothing was sent
      * @throws IOException where the connection broke
      */
     public <T> T call(Request<T> request) throws IOException {
+        request.check(version);
         Reply<T> reply = new Reply<>(request);
         exchange(() -> {
             output.write(request.frame());
@@ -101,6 +106,11 @@ public final class Connection implements AutoCloseable {
         long number = call(Request.register(program));
         programs.put(program, number);
         return number;
+    }
+
+    /** @return the version of the protocol */
+    public Version version() {
+        return version;
     }
 
     /** @return an empty pipeline of this connection */
@@ -158,7 +168,7 @@ public final class Connection implements AutoCloseable {
     private Body nextBody() throws IOException {
         try {
             int length = input.readInt();
-            if (length < 1 || length > Body.LONGEST) {
+            if (length < 1 || length > version.longestBody()) {
                 throw new ProtocolException("the server sent a frame of length " + Integer.toUnsignedString(length));
             }
             byte[] body = new byte[length];

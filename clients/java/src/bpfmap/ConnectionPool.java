@@ -22,6 +22,11 @@ final class ConnectionPool implements AutoCloseable {
         free = new Semaphore(settings.connections(), true);
     }
 
+    /** The version of the protocol that its connections speak. */
+    Version version() {
+        return settings.version();
+    }
+
     /** What is done with a connection. */
     interface Use<T> {
         T on(Connection connection) throws IOException;

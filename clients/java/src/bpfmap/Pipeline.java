@@ -31,8 +31,11 @@ public final class Pipeline {
      * @param request the request
      * @param <T> the answer
      * @return what will come of it
+     * @throws TooLongException where the connection's version does not carry its value; it was not added
+     * @throws RefusedException where that version's frames do not hold its program; it was not added
      */
     public <T> Reply<T> add(Request<T> request) {
+        request.check(connection.version());
         Reply<T> reply = new Reply<>(request);
         waiting.add(reply);
         return reply;

@@ -21,9 +21,9 @@ public final class Program {
      * The declared sizes of a program's windows.
      *
      * @param key 0 to 64
-     * @param oldValue 0 to 256
-     * @param argument 0 to 256
-     * @param result 0 to 256
+     * @param oldValue 0 to 1,024, in version 1 of the protocol to 256
+     * @param argument the same
+     * @param result the same
      */
     public record Sizes(int key, int oldValue, int argument, int result) {
         // Sizes above the limits are the server's to refuse; larger ones no frame can hold.

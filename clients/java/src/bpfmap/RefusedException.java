@@ -3,8 +3,9 @@ package bpfmap;
 import java.util.Map;
 
 /**
- * The server refused a request; nothing was done. Numbers and sentences are those of docs/REFUSALS.md and, from 60 on, of
- * docs/PROTOCOL.md.
+ * The server refused a request; nothing was done, unless the number is 65. That one comes in version 1 alone, in place of an
+ * answer whose value is too long for it: the call was made, and its change stands. Numbers and sentences are those of
+ * docs/REFUSALS.md and, of 60 to 64, of docs/PROTOCOL.md.
  */
 public final class RefusedException extends RuntimeException {
     private static final long serialVersionUID = 1;
@@ -12,6 +13,7 @@ public final class RefusedException extends RuntimeException {
     static final int NO_MEMORY = 9;
     static final int NOT_WHOLE_UNITS = 11;
     static final int TOO_MANY_UNITS = 12;
+    static final int VALUE_TOO_LONG = 65;
     private static final int FIRST_OF_UNITS = 10;
     private static final int LAST_OF_UNITS = 47;
     private static final int FIRST_OF_FRAMES = 60;
@@ -21,7 +23,7 @@ public final class RefusedException extends RuntimeException {
             meaning(9, "NoMemory", "a request for memory was refused"),
             meaning(10, "Empty", "there is no byte"),
             meaning(11, "NotWholeUnits", "the number of bytes is no multiple of 8"),
-            meaning(12, "TooManyUnits", "there are more than 512 units"),
+            meaning(12, "TooManyUnits", "there are more than 4,096 units (in version 1 of the protocol 512)"),
             meaning(13, "UnknownOpcode", "the opcode is no instruction's"),
             meaning(14, "BadRegister", "a register field that the instruction uses is above 10"),
             meaning(15, "UnusedNotZero", "a field that the instruction doesn't use is not zero"),
@@ -42,12 +44,15 @@ public final class RefusedException extends RuntimeException {
             meaning(46, "BadExitValue", "write the answer's bytes without a gap on every way, or give each answer an EXIT of its "
                     + "own"),
             meaning(47, "SizesTooLarge", "declare less"),
-            meaning(60, "BadLength", "a length of 0 or above 8,192"),
+            meaning(60, "BadLength", "a length of 0, or above 32,777 (in version 1 and before a Hello 8,192)"),
             meaning(61, "UnknownRequest", "a tag that is not in the table"),
-            meaning(62, "BadField", "fields that are cut short, a key above 64 bytes, a value above 256, or ff ff where a value "
-                    + "must be"),
+            meaning(62, "BadField", "fields that are cut short, a key above 64 bytes, a value above 1,024 (in version 1 and before "
+                    + "a Hello 256), or ff ff where a value must be"),
             meaning(63, "TrailingBytes", "bytes behind the last field"),
-            meaning(64, "WrongVersion", "a Hello of another version, a first request that is no Hello, or a second Hello"),
+            meaning(64, "WrongVersion", "a Hello of a version other than 1 and 2, a first request that is no Hello, or a second "
+                    + "Hello"),
+            meaning(65, "ValueTooLong", "the answer has a value of more than 256 bytes, which version 1 does not carry; the call "
+                    + "was made"),
             meaning(66, "UnknownProgram", "no program has this number"));
 
     private final int number;

@@ -28,9 +28,9 @@ import java.util.function.Function;
  * <p>Neither keys nor values are null. What all calls throw:
  * <ul>
  * <li>{@link NullPointerException} for a null key, value or function, {@link TooLongException} for a key above 64 bytes or a value
- *     or argument above 256: nothing was sent.
+ *     or argument above 1,024, in version 1 above 256: nothing was sent.
  * <li>{@link RefusedException} where the server refuses, {@link UnfitException} where a program's windows are too small: nothing
- *     was done.
+ *     was done. But behind a refusal 65, which version 1 alone meets, the call was made: its answer is a longer value.
  * <li>{@link UncheckedIOException} where the connection breaks or the time is over: the call was made or it was not, and it is not
  *     made again. The next call takes another connection.
  * <li>{@link IllegalArgumentException} by a codec that can't read what the server has: the call was made.
@@ -46,11 +46,13 @@ public final class RemoteMap<K, V> extends AbstractMap<K, V> implements Concurre
     private final ConnectionPool pool;
     private final Codec<K> keys;
     private final Codec<V> values;
+    private final WalkPrograms walks;
 
     private RemoteMap(ConnectionPool pool, Codec<K> keys, Codec<V> values) {
         this.pool = pool;
         this.keys = Objects.requireNonNull(keys);
         this.values = Objects.requireNonNull(values);
+        walks = new WalkPrograms(pool.version());
     }
 
     /**
@@ -75,7 +77,7 @@ public final class RemoteMap<K, V> extends AbstractMap<K, V> implements Concurre
      * @param port its port
      * @param keys how keys are sent
      * @param values how values are sent
-     * @param settings how many connections, and the times
+     * @param settings how many connections, the times, and the version of the protocol
      * @param <K> the keys
      * @param <V> the values
      * @return the map
@@ -300,7 +302,7 @@ public final class RemoteMap<K, V> extends AbstractMap<K, V> implements Concurre
     @Override
     public boolean containsValue(Object value) {
         byte[] wanted = valueOf(value);
-        return walk(WalkPrograms.ENTRIES).stream().anyMatch(item -> Arrays.equals(item.getValue(), wanted));
+        return walk(walks.entries()).stream().anyMatch(item -> Arrays.equals(item.getValue(), wanted));
     }
 
     /** {@inheritDoc} The puts are sent together. Where one fails, those before it and some behind it may have been made. */
@@ -315,7 +317,7 @@ public final class RemoteMap<K, V> extends AbstractMap<K, V> implements Concurre
     @Override
     public void clear() {
         List<Request<byte[]>> removals = new ArrayList<>();
-        walk(WalkPrograms.KEYS).forEach(item -> removals.add(Request.remove(item.getKey())));
+        walk(walks.keys()).forEach(item -> removals.add(Request.remove(item.getKey())));
         pool.use(connection -> callAll(connection, removals));
     }
 
@@ -339,12 +341,12 @@ public final class RemoteMap<K, V> extends AbstractMap<K, V> implements Concurre
 
     /** The keys of a walk, in the order of their bytes. */
     List<K> walkKeys() {
-        return walk(WalkPrograms.KEYS).stream().map(item -> keys.decode(item.getKey())).toList();
+        return walk(walks.keys()).stream().map(item -> keys.decode(item.getKey())).toList();
     }
 
     /** The entries of a walk, in the order of the keys' bytes. */
     List<Map.Entry<K, V>> walkEntries() {
-        return walk(WalkPrograms.ENTRIES).stream().map(this::entryOf).toList();
+        return walk(walks.entries()).stream().map(this::entryOf).toList();
     }
 
     /** Whether two values are the same to the server. */
@@ -356,8 +358,13 @@ public final class RemoteMap<K, V> extends AbstractMap<K, V> implements Concurre
         return Map.entry(keys.decode(item.getKey()), values.decode(item.getValue()));
     }
 
+    /** Walks over all entries; where version 1 does not carry the value of one, that is refused as an answer with it is. */
     private List<Map.Entry<byte[], byte[]>> walk(Program program) {
-        return withNumber(program, number -> Request.forEach(number, null, Long.MAX_VALUE)).items();
+        Walk<byte[], byte[]> walk = withNumber(program, number -> Request.forEach(number, null, Long.MAX_VALUE));
+        if (walk.counts().unfit() > 0) {
+            throw new RefusedException(RefusedException.VALUE_TOO_LONG, 0);
+        }
+        return walk.items();
     }
 
     // ---- bytes and requests
@@ -405,11 +412,11 @@ public final class RemoteMap<K, V> extends AbstractMap<K, V> implements Concurre
 
     @SuppressWarnings("unchecked")
     private byte[] valueOf(Object value) {
-        return Request.checkValue(values.encode((V) Objects.requireNonNull(value)));
+        return Request.checkValue(values.encode((V) Objects.requireNonNull(value)), pool.version());
     }
 
-    private static byte[] argumentOf(byte[] argument) {
-        return argument == null ? null : Request.checkValue(argument);
+    private byte[] argumentOf(byte[] argument) {
+        return argument == null ? null : Request.checkValue(argument, pool.version());
     }
 
     private V decoded(byte[] value) {

@@ -3,26 +3,33 @@ package bpfmap;
 import java.io.IOException;
 import java.nio.ByteBuffer;
 import java.util.ArrayList;
+import java.util.Arrays;
 import java.util.List;
 import java.util.Map;
 
 /**
  * A request of docs/PROTOCOL.md as a frame, with how its answer is read. What no frame can hold is refused here, and nothing is
- * sent: a key, value or argument that is too long by {@link TooLongException}.
+ * sent: a key, value or argument that is too long by {@link TooLongException}. What version 1 alone does not carry is refused by a
+ * connection of that version.
  *
  * @param <T> the answer; null stands for nothing
  */
 public final class Request<T> {
     static final int LONGEST_KEY = 64;
-    static final int LONGEST_VALUE = 256;
 
-    private static final int VERSION = 1;
     private static final int UNIT = 8;
-    private static final int LONGEST_PROGRAM = Body.LONGEST - 9;
-    private static final byte[] ABSENT = {(byte) 0xff, (byte) 0xff};
+    private static final Field ABSENT = new Field(new byte[] {(byte) 0xff, (byte) 0xff}, 0);
 
     private final byte[] frame;
     private final Reading<T> reading;
+    private final int longestValue;
+
+    /** A field as a frame has it, and the length of the value that it brings. */
+    private record Field(byte[] bytes, int valueLength) {
+        Field(byte[] bytes) {
+            this(bytes, 0);
+        }
+    }
 
     /** Reads an answer from the bodies of its frames. */
     private interface Reading<T> {
@@ -34,17 +41,34 @@ public final class Request<T> {
         Body next() throws IOException;
     }
 
-    private Request(Reading<T> reading, int tag, byte[]... fields) {
-        int length = 1;
-        for (byte[] field : fields) {
-            length += field.length;
-        }
+    private Request(Reading<T> reading, int tag, Field... fields) {
+        int length = 1 + Arrays.stream(fields).mapToInt(field -> field.bytes.length).sum();
         ByteBuffer bytes = ByteBuffer.allocate(Integer.BYTES + length).putInt(length).put((byte) tag);
-        for (byte[] field : fields) {
-            bytes.put(field);
+        for (Field field : fields) {
+            bytes.put(field.bytes);
         }
         this.frame = bytes.array();
         this.reading = reading;
+        longestValue = Arrays.stream(fields).mapToInt(Field::valueLength).max().orElse(0);
+    }
+
+    /** Throws where a version does not carry this request. No other than Register has a body that is too long. */
+    void check(Version version) {
+        checkValue(longestValue, version);
+        checkProgram(frame.length - Integer.BYTES - Version.BEFORE_PROGRAM, version);
+    }
+
+    private static void checkValue(int length, Version version) {
+        if (length > version.longestValue()) {
+            throw new TooLongException("value", length, version.longestValue());
+        }
+    }
+
+    private static void checkProgram(int length, Version version) {
+        if (length > version.longestProgram()) {
+            boolean whole = length % UNIT == 0;
+            throw new RefusedException(whole ? RefusedException.TOO_MANY_UNITS : RefusedException.NOT_WHOLE_UNITS, 0);
+        }
     }
 
     byte[] frame() {
@@ -57,16 +81,16 @@ public final class Request<T> {
     }
 
     /** Begins a session; it is answered with the same version. */
-    static Request<Integer> hello() {
+    static Request<Integer> hello(Version spoken) {
         return new Request<>(bodies -> {
             Body body = expect(bodies.next(), Body.HELLO);
             int version = body.takeByte();
             body.expectEnd();
-            if (version != VERSION) {
+            if (version != spoken.number()) {
                 throw body.fault("it is of another version");
             }
             return version;
-        }, 0x00, new byte[] {VERSION});
+        }, 0x00, new Field(new byte[] {(byte) spoken.number()}));
     }
 
     /**
@@ -76,10 +100,7 @@ public final class Request<T> {
      */
     public static Request<Long> register(Program program) {
         byte[] units = program.units();
-        if (units.length > LONGEST_PROGRAM) {
-            boolean whole = units.length % UNIT == 0;
-            throw new RefusedException(whole ? RefusedException.TOO_MANY_UNITS : RefusedException.NOT_WHOLE_UNITS, 0);
-        }
+        checkProgram(units.length, Version.TWO);
         Program.Sizes sizes = program.sizes();
         ByteBuffer declared = ByteBuffer.allocate(4 * Short.BYTES).putShort((short) sizes.key())
                 .putShort((short) sizes.oldValue()).putShort((short) sizes.argument()).putShort((short) sizes.result());
@@ -88,7 +109,7 @@ public final class Request<T> {
             long number = body.takeLong();
             body.expectEnd();
             return number;
-        }, 0x01, declared.array(), units);
+        }, 0x01, new Field(declared.array()), new Field(units));
     }
 
     /**
@@ -235,28 +256,28 @@ public final class Request<T> {
         return key;
     }
 
-    /** The value or argument, if it isn't too long. */
-    static byte[] checkValue(byte[] value) {
-        if (value.length > LONGEST_VALUE) {
-            throw new TooLongException("value", value.length, LONGEST_VALUE);
-        }
+    /** The value or argument, if it isn't too long for a version. */
+    static byte[] checkValue(byte[] value, Version version) {
+        checkValue(value.length, version);
         return value;
     }
 
-    private static byte[] keyField(byte[] key) {
-        return ByteBuffer.allocate(1 + key.length).put((byte) checkKey(key).length).put(key).array();
+    private static Field keyField(byte[] key) {
+        return new Field(ByteBuffer.allocate(1 + key.length).put((byte) checkKey(key).length).put(key).array());
     }
 
-    private static byte[] valueField(byte[] value) {
-        return ByteBuffer.allocate(2 + value.length).putShort((short) checkValue(value).length).put(value).array();
+    private static Field valueField(byte[] value) {
+        checkValue(value.length, Version.TWO);
+        ByteBuffer bytes = ByteBuffer.allocate(2 + value.length).putShort((short) value.length).put(value);
+        return new Field(bytes.array(), value.length);
     }
 
-    private static byte[] argumentField(byte[] argument) {
+    private static Field argumentField(byte[] argument) {
         return argument == null ? ABSENT : valueField(argument);
     }
 
-    private static byte[] number(long number) {
-        return ByteBuffer.allocate(Long.BYTES).putLong(number).array();
+    private static Field number(long number) {
+        return new Field(ByteBuffer.allocate(Long.BYTES).putLong(number).array());
     }
 
     /** The body, if it has this tag. */

@@ -1,6 +1,7 @@
 package bpfmap;
 
 import java.time.Duration;
+import java.util.Objects;
 
 /**
  * How a map reaches its server.
@@ -9,9 +10,10 @@ import java.time.Duration;
  *     so all clients together may have as many as the server has workers.
  * @param connectTimeout how long a connection may take to come up
  * @param answerTimeout how long an answer may take to come on, counted from its last byte
+ * @param version the version of the protocol; no other one is tried where the server refuses it
  */
-public record Settings(int connections, Duration connectTimeout, Duration answerTimeout) {
-    /** Two connections, 5 seconds to come up, and 10 seconds for an answer. */
+public record Settings(int connections, Duration connectTimeout, Duration answerTimeout, Version version) {
+    /** Two connections, 5 seconds to come up, 10 seconds for an answer, and version 2. */
     public static final Settings DEFAULT = new Settings(2, Duration.ofSeconds(5), Duration.ofSeconds(10));
 
     // Sockets take milliseconds as a positive int.
@@ -21,6 +23,18 @@ public record Settings(int connections, Duration connectTimeout, Duration answer
         }
         milliseconds(connectTimeout);
         milliseconds(answerTimeout);
+        Objects.requireNonNull(version);
+    }
+
+    /**
+     * Settings with version 2.
+     *
+     * @param connections how many connections at most
+     * @param connectTimeout how long a connection may take to come up
+     * @param answerTimeout how long an answer may take to come on
+     */
+    public Settings(int connections, Duration connectTimeout, Duration answerTimeout) {
+        this(connections, connectTimeout, answerTimeout, Version.TWO);
     }
 
     /**
@@ -28,7 +42,7 @@ public record Settings(int connections, Duration connectTimeout, Duration answer
      * @return these settings with that many
      */
     public Settings withConnections(int most) {
-        return new Settings(most, connectTimeout, answerTimeout);
+        return new Settings(most, connectTimeout, answerTimeout, version);
     }
 
     /**
@@ -36,7 +50,7 @@ public record Settings(int connections, Duration connectTimeout, Duration answer
      * @return these settings with that time
      */
     public Settings withConnectTimeout(Duration time) {
-        return new Settings(connections, time, answerTimeout);
+        return new Settings(connections, time, answerTimeout, version);
     }
 
     /**
@@ -44,7 +58,15 @@ public record Settings(int connections, Duration connectTimeout, Duration answer
      * @return these settings with that time
      */
     public Settings withAnswerTimeout(Duration time) {
-        return new Settings(connections, connectTimeout, time);
+        return new Settings(connections, connectTimeout, time, version);
+    }
+
+    /**
+     * @param spoken the version of the protocol
+     * @return these settings with that version
+     */
+    public Settings withVersion(Version spoken) {
+        return new Settings(connections, connectTimeout, answerTimeout, spoken);
     }
 
     /** A time as sockets take it, for which 0 would mean no end. */

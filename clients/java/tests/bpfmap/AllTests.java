@@ -22,6 +22,7 @@ public final class AllTests {
         AllTests tests = new AllTests();
         tests.runTable(server, Path.of("tests", "requests.txt"));
         tests.runMap(server);
+        tests.runVersions(server);
         tests.runBroken(server);
         tests.judge("sentences of refusals", () -> RefusalTest.sentences(Path.of("docs")));
         tests.judge("examples", () -> ExamplesTest.printed(server, Path.of("examples", "clients", "README.md")));
@@ -30,8 +31,20 @@ public final class AllTests {
     }
 
     private void runTable(Path server, Path table) {
-        judge("table by a connection", () -> TableTest.byConnection(server, table));
-        judge("table by a map", () -> TableTest.byMap(server, table));
+        for (Version version : Version.values()) {
+            String by = ", version " + version.number();
+            judge("table by a connection" + by, () -> TableTest.byConnection(server, table, version));
+            judge("table by a map" + by, () -> TableTest.byMap(server, table, version));
+        }
+    }
+
+    private void runVersions(Path server) {
+        judge("limits of a version", () -> VersionsTest.limits(server));
+        judge("calls that are made all the same", () -> VersionsTest.calls(server));
+        judge("programs and walks of both versions", () -> VersionsTest.programs(server));
+        judge("views of version 1", () -> VersionsTest.views(server));
+        judge("a pipeline of version 1", () -> VersionsTest.pipeline(server));
+        judge("servers of one version", VersionsTest::oneVersion);
     }
 
     private void runMap(Path server) {

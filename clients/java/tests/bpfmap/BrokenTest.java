@@ -78,7 +78,7 @@ final class BrokenTest {
     /** Passes requests on to a server, and so many bytes of its answers back. */
     private static void passOn(PlayedServer.Peer peer, int port, int answers) throws Exception {
         try (Socket server = new Socket(Mapd.HOST, port)) {
-            server.getOutputStream().write(Request.hello().frame());
+            server.getOutputStream().write(Request.hello(Version.TWO).frame());
             server.getInputStream().readNBytes(6);
             Thread requests = new Thread(() -> copy(peer.socket(), server));
             requests.start();
@@ -127,7 +127,7 @@ final class BrokenTest {
 
     /** Answers are read while requests are sent: more of both than any buffer of the system takes. */
     static String longPipeline(Path server) throws Exception {
-        byte[] value = new byte[Request.LONGEST_VALUE];
+        byte[] value = new byte[Version.ONE.longestValue()];
         try (Mapd mapd = Mapd.start(server); Connection connection = mapd.connect()) {
             Pipeline pipeline = connection.pipeline();
             List<Reply<byte[]>> replies = new ArrayList<>();
@@ -238,7 +238,7 @@ final class BrokenTest {
 
     /** An answer that is none breaks the connection; so does one that was cut. */
     static String faultyAnswers() throws Exception {
-        for (String answer : List.of("00000000", "00002001", "00000002 8301", "00000003 820001", "00000004 82ffff00",
+        for (String answer : List.of("00000000", "0000800a", "00000002 8301", "00000003 820001", "00000004 82ffff00",
                 "00000002 8401", "00000006 85 3d 000000", "0000000a 82 ffff")) {
             PlayedServer.Play thenEnding = peer -> {
                 peer.read();
@@ -255,12 +255,12 @@ final class BrokenTest {
 
     /** Refusals behind which a session may end take the connection out of use; others do not. */
     static String refusalsThatEnd() throws Exception {
-        for (int number : new int[] {9, 60, 61, 62, 63, 64, 66}) {
+        for (int number : new int[] {9, 60, 61, 62, 63, 64, 65, 66}) {
             try (PlayedServer server = new PlayedServer(answering(refused(number))); Connection connection = server.connect()) {
                 RefusedException refusal = Check.raises("a refusal", RefusedException.class,
                         () -> connection.call(Request.get(KEY)));
                 Check.equal("its number", number, refusal.number());
-                Check.equal("whether the connection goes on after " + number, number == 66, connection.isUsable());
+                Check.equal("whether the connection goes on after " + number, number >= 65, connection.isUsable());
             }
         }
         try (PlayedServer server = new PlayedServer(answering(refused(9)), answering(NOTHING));
@@ -268,7 +268,7 @@ final class BrokenTest {
             Check.raises("a refusal", RefusedException.class, () -> map.get(KEY));
             Check.equal("a call of another connection", null, map.get(KEY));
         }
-        return "and one that does not";
+        return "and two that do not";
     }
 
     private static String refused(int number) {

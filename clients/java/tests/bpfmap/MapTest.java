@@ -15,7 +15,8 @@ import java.util.concurrent.ConcurrentMap;
 /** A map does what {@code ConcurrentHashMap} does, its views and codecs included. */
 final class MapTest {
     private static final int STEPS = 3000;
-    private static final int ENTRIES = 600;
+    private static final int ENTRIES = 1200;
+    private static final int LONGEST = Version.TWO.longestValue();
     private static final long SEED = 36;
 
     private MapTest() {}
@@ -115,7 +116,7 @@ final class MapTest {
                 RemoteMap<Long, byte[]> map = mapd.open(Codec.longs(), Codec.bytes(), 1)) {
             Map<Long, byte[]> wanted = new HashMap<>();
             for (long key = 0; key < ENTRIES; key++) {
-                byte[] value = new byte[(int) key % (Request.LONGEST_VALUE + 1)];
+                byte[] value = new byte[(int) key % (LONGEST + 1)];
                 Arrays.fill(value, (byte) (key + 1));
                 wanted.put(key, value);
             }
@@ -172,7 +173,7 @@ final class MapTest {
     /** What is null or too long is thrown back, and the server gets no byte of it. */
     static String refusedHere() throws Exception {
         byte[] longKey = new byte[Request.LONGEST_KEY + 1];
-        byte[] longValue = new byte[Request.LONGEST_VALUE + 1];
+        byte[] longValue = new byte[LONGEST + 1];
         byte[] fits = new byte[1];
         try (PlayedServer server = new PlayedServer(PlayedServer.Peer::waitForEnd)) {
             try (RemoteMap<byte[], byte[]> map = RemoteMap.open(Mapd.HOST, server.port(), Codec.bytes(), Codec.bytes())) {

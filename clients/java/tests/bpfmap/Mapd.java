@@ -58,11 +58,19 @@ final class Mapd implements AutoCloseable {
     }
 
     Connection connect() throws IOException {
-        return Connection.open(HOST, port, PATIENT);
+        return connect(Version.TWO);
+    }
+
+    Connection connect(Version version) throws IOException {
+        return Connection.open(HOST, port, PATIENT.withVersion(version));
     }
 
     <K, V> RemoteMap<K, V> open(Codec<K> keys, Codec<V> values, int connections) {
-        return RemoteMap.open(HOST, port, keys, values, PATIENT.withConnections(connections));
+        return open(keys, values, connections, Version.TWO);
+    }
+
+    <K, V> RemoteMap<K, V> open(Codec<K> keys, Codec<V> values, int connections, Version version) {
+        return RemoteMap.open(HOST, port, keys, values, PATIENT.withConnections(connections).withVersion(version));
     }
 
     /** Ends the server at once. */

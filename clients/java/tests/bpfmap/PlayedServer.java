@@ -14,12 +14,15 @@ import java.util.concurrent.CompletionException;
 import java.util.concurrent.CopyOnWriteArrayList;
 import java.util.concurrent.TimeUnit;
 
-/** A server that answers the Hello of each connection, and then plays what a test says: one play a connection, in order. */
+/**
+ * A server that answers the Hello of each connection by a version, and then plays what a test says: one play a connection, in order.
+ */
 final class PlayedServer implements AutoCloseable {
     private static final HexFormat HEX = HexFormat.of();
     private static final int PATIENCE = 10_000;
 
     private final ServerSocket listener;
+    private final Version version;
     private final List<Play> plays;
     private final List<String> requests = new CopyOnWriteArrayList<>();
     private final CompletableFuture<Void> playing;
@@ -79,6 +82,11 @@ final class PlayedServer implements AutoCloseable {
     }
 
     PlayedServer(Play... plays) throws IOException {
+        this(Version.TWO, plays);
+    }
+
+    PlayedServer(Version version, Play... plays) throws IOException {
+        this.version = version;
         listener = new ServerSocket(0, plays.length, InetAddress.getByName(Mapd.HOST));
         this.plays = List.of(plays);
         playing = CompletableFuture.runAsync(this::playAll, work -> new Thread(work, "played-server").start())
@@ -90,7 +98,7 @@ final class PlayedServer implements AutoCloseable {
     }
 
     Connection connect() throws IOException {
-        return Connection.open(Mapd.HOST, port(), Settings.DEFAULT);
+        return Connection.open(Mapd.HOST, port(), Settings.DEFAULT.withVersion(version));
     }
 
     /** The bodies of all requests that plays have read. */
@@ -108,9 +116,9 @@ final class PlayedServer implements AutoCloseable {
         try (Socket socket = listener.accept()) {
             socket.setSoTimeout(PATIENCE);
             Peer peer = new Peer(socket, requests);
-            Check.equal("the Hello", "0001", peer.read());
+            Check.equal("the Hello", "000" + version.number(), peer.read());
             requests.clear();
-            peer.send("00000002 8001");
+            peer.send("00000002 800" + version.number());
             play.with(peer);
         } catch (Exception e) {
             throw new CompletionException(e);

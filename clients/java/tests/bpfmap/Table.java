@@ -52,10 +52,12 @@ final class Table {
         }
     }
 
-    static List<Row> read(Path file) throws IOException {
+    /** The rows of a session of this version: those of the other one have its name before theirs. */
+    static List<Row> read(Path file, Version version) throws IOException {
+        String other = "version " + (version == Version.ONE ? 2 : 1) + ": ";
         List<Row> rows = new ArrayList<>();
         for (String line : Files.readAllLines(file)) {
-            if (!line.isEmpty() && !line.startsWith("#")) {
+            if (!line.isEmpty() && !line.startsWith("#") && !line.startsWith(other)) {
                 rows.add(row(line));
             }
         }

@@ -11,7 +11,7 @@ import java.util.HashMap;
 import java.util.List;
 import java.util.Map;
 
-/** Runs the rows of tests/requests.txt, once by a connection and once by a map, each against a fresh server. */
+/** Runs the rows of tests/requests.txt by each version, once by a connection and once by a map, each against a fresh server. */
 final class TableTest {
     private static final int PATIENCE = 10_000;
 
@@ -30,17 +30,18 @@ final class TableTest {
         this.rows = rows;
     }
 
-    static String byConnection(Path server, Path table) throws IOException {
-        TableTest test = new TableTest(Table.read(table));
-        try (Mapd mapd = Mapd.start(server); Connection connection = mapd.connect()) {
+    static String byConnection(Path server, Path table, Version version) throws IOException {
+        TableTest test = new TableTest(Table.read(table, version));
+        try (Mapd mapd = Mapd.start(server); Connection connection = mapd.connect(version)) {
             return test.run("java's connection", row -> row.call().equals("raw")
                     ? rawAnswer(row, mapd.port()) : answer(row, connection));
         }
     }
 
-    static String byMap(Path server, Path table) throws IOException {
-        TableTest test = new TableTest(Table.read(table));
-        try (Mapd mapd = Mapd.start(server); RemoteMap<byte[], byte[]> map = mapd.open(Codec.bytes(), Codec.bytes(), 1)) {
+    static String byMap(Path server, Path table, Version version) throws IOException {
+        TableTest test = new TableTest(Table.read(table, version));
+        try (Mapd mapd = Mapd.start(server);
+                RemoteMap<byte[], byte[]> map = mapd.open(Codec.bytes(), Codec.bytes(), 1, version)) {
             Map<Long, Program> programs = new HashMap<>();
             return test.run("java's map", row -> answer(row, map, programs));
         }
