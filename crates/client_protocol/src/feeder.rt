@@ -199,10 +199,10 @@ impl Feeder {
         })
     }
 
-    /// Reads a piece as `feed` does, and leaves the requests in this list, so that its room serves again. What the list held
-    /// is lost. Answers the fault, if any. `NoMemory` as `feed`. Asks for room for all requests that so long a piece can bring, and for
-    /// 205 at least. A later piece asks for more only where it is longer than all before it and than 1,024 bytes, so memory that
-    /// others fill in between does not refuse it.
+    /// Reads a piece as `feed` does, and leaves the requests in this list, whose places serve again. What the list held is
+    /// lost. Answers the fault, if any. `NoMemory` as `feed`. Asks for room for all requests that so long a piece can
+    /// bring, and for 205 at least. A later piece asks for more only where it is longer than all before it and than 1,024
+    /// bytes, or for a program, so memory that others fill in between does not refuse it.
     #[tactic(auto, using(crate::proofs::HeldLaws::sound_after))]
     pub fn feed_into(
         &mut self,

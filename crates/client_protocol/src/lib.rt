@@ -1,8 +1,9 @@
 //! The protocol between a client and the map: frames of requests, and frames of responses.
 //!
 //! A frame is a length of 32 bits and a body; a body is a tag, the fields that the tag's request has, and behind a
-//! `Register` a program. Numbers are big-endian. `Feeder` makes requests of a stream of bytes that comes in pieces;
-//! `Response::frame` spells a response.
+//! `Register` a program. Numbers are big-endian. `Feeder` makes requests of a stream of bytes that comes in pieces.
+//! They are read into places that serve again, `Requests`, and `Request::view` lends one. `Response::frame` spells a
+//! response; a `ShortResponse` is one of a few words.
 //!
 //! The promise to the layer above: `feed` gives the requests, the rest and the fault that the grammar gives to the
 //! bytes taken so far, however they were cut (clause `requests`); a refused piece was not taken (`err`); a response's
