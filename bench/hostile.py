@@ -25,10 +25,11 @@ sys.path.insert(0, str(TOP / "tests"))
 sys.dont_write_bytecode = True
 import wire  # noqa: E402
 
-UNITS = 512
+UNITS = 4096
+LONGEST = wire.LONGEST_VALUE[2]
 STRIPES = 16
 DEPTH = 64
-SIZES = (64, 256, 256, 256)
+SIZES = (64, LONGEST, LONGEST, LONGEST)
 KEY = b"k" * 64
 
 
@@ -80,7 +81,7 @@ CHECKS = {
 
 def elapsed(program: str, bodies: list[bytes]) -> float:
     """The least time of three that a session takes, in seconds."""
-    sent = wire.frames([wire.HELLO, *bodies])
+    sent = wire.frames([wire.hello(2), *bodies])
     times = []
     for _ in range(3):
         begun = time.perf_counter()
@@ -94,8 +95,8 @@ def elapsed(program: str, bodies: list[bytes]) -> float:
 def time_runs(program: str, calls: int) -> None:
     """Computes on one key with full windows."""
     for name, code in RUNS.items():
-        ready = [wire.register(SIZES, code), wire.put(KEY, bytes(256))]
-        took = elapsed(program, ready + [wire.compute(KEY, 0, bytes(256))] * calls) - elapsed(program, ready)
+        ready = [wire.register(SIZES, code), wire.put(KEY, bytes(LONGEST))]
+        took = elapsed(program, ready + [wire.compute(KEY, 0, bytes(LONGEST))] * calls) - elapsed(program, ready)
         print(f"a run of {len(code) // 8} units, {name}: {took / calls * 1e6:.2f} us a call", flush=True)
 
 
@@ -109,7 +110,7 @@ def memory_of(program: str, code: bytes) -> int:
     """How much more memory, in KiB, a session has had at most behind the Register of a program than before."""
     with subprocess.Popen([program, "exec"], stdin=subprocess.PIPE, stdout=subprocess.PIPE, bufsize=0) as session:
         found = []
-        for bodies, answers in (([wire.HELLO, wire.register(SIZES, ANSWER)], 6 + 13), ([wire.register(SIZES, code)], 13)):
+        for bodies, answers in (([wire.hello(2), wire.register(SIZES, ANSWER)], 6 + 13), ([wire.register(SIZES, code)], 13)):
             session.stdin.write(wire.frames(bodies))
             while answers > 0:
                 answers -= len(session.stdout.read(answers))
@@ -175,7 +176,7 @@ def asked(client: wire.Client, bodies: list[bytes], answer: bytes) -> float:
 
 def flood(address: str, bodies: list[bytes]) -> None:
     """Sends these requests again and again, and reads what is answered."""
-    with wire.opened(address) as client:
+    with wire.opened(address, 2) as client:
         sent = wire.frames(bodies)
 
         def read() -> None:
@@ -206,7 +207,7 @@ def flooded(address: str, bodies: list[bytes], clients: int) -> Iterator[None]:
 def waits(address: str, key: bytes, single: int) -> str:
     """What Gets of a key take, one by one and in pipelines."""
     times = []
-    with wire.opened(address) as client:
+    with wire.opened(address, 2) as client:
         client.ask(wire.put(key, bytes(8)))
         for _ in range(single):
             begun = time.perf_counter()
@@ -229,12 +230,12 @@ def time_waits(address: str, hot: bytes, bodies: list[bytes], clients: list[int]
 
 def time_hot_key(server: str, clients: list[int], single: int) -> None:
     """Computes of each of the longest programs on one key, and what others wait."""
-    call = wire.compute(KEY, 0, bytes(256))
+    call = wire.compute(KEY, 0, bytes(LONGEST))
     for name, code in RUNS.items():
         with started(server) as address:
-            with wire.opened(address) as client:
+            with wire.opened(address, 2) as client:
                 client.ask(wire.register(SIZES, code))
-                client.ask(wire.put(KEY, bytes(256)))
+                client.ask(wire.put(KEY, bytes(LONGEST)))
                 answer = client.ask(call)
                 took = asked(client, [call] * single, answer)
             print(f"a hot key, {len(code) // 8} units, {name}: {took:.2f} us a call alone", flush=True)
@@ -248,7 +249,7 @@ def time_keys(server: str, count: int, clients: list[int], single: int) -> None:
     for name, made in sides.items():
         new, keys = made[:more], made[more:]
         some = dice.choices(keys, k=min(count, 1000))
-        with started(server) as address, wire.opened(address) as client:
+        with started(server) as address, wire.opened(address, 2) as client:
             begun = time.perf_counter()
             asked(client, [wire.put(key, bytes(8)) for key in keys], wire.NOTHING)
             fill = time.perf_counter() - begun
