@@ -101,7 +101,7 @@ returns-in_default-answered-clause-ended g c =
           Consumes-trans _ _ _ read piece consumed c.in-Ok-read_behind.ensures.bytes.0,
           (
             Appends-trans _ _ _ before part (Appends-kept _ _ _ before appended c.in-Ok.ensures.bytes) more.0,
-            write_failed_end CrewServes c.args.serving.now c.loop.serving c.answer_all-answered.new.serving c.loop.feeder c.feed_into.new.self read piece last before part _ c.loop.invariant.faultless all c.in-Ok-feed_into.ensures.requests (rw (c.as_slice-came.ensures, c.hello.ensures) at breaks),
+            write_failed_end CrewServes c.args.serving.now c.loop.serving c.answer_all-answered.new.serving c.loop.feeder c.feed_into.new.self read piece last before part _ c.loop.invariant.faultless all c.in-Ok-feed_into.ensures.requests (rw (c.as_slice-came.ensures, c.hello-hello.ensures) at breaks),
           ),
         ),
       ),
@@ -113,7 +113,7 @@ returns-in-Some-fault-clause-ended g c =
     let last : ℕ = (g.R.ReadBehind.source c.read_behind.new.self).last in
     let piece = take c.in-Ok-read_behind.n c.read_behind.new.buffer in
     let (written, more, answered) = c.in-Ok-answered.ensures.ok in
-    let all2 = goes_on CrewServes c.args.serving.now c.loop.serving c.answer_all-answered.new.serving read piece before written c.loop.feeder c.feed_into.new.self _ c.loop.invariant.faultless all c.in-Ok-feed_into.ensures.requests (rw (c.as_slice-came.ensures, c.hello.ensures) at answered) in
+    let all2 = goes_on CrewServes c.args.serving.now c.loop.serving c.answer_all-answered.new.serving read piece before written c.loop.feeder c.feed_into.new.self _ c.loop.invariant.faultless all c.in-Ok-feed_into.ensures.requests (rw (c.as_slice-came.ensures, c.hello-hello.ensures) at answered) in
     let (w, rest) = fault_ends CrewServes c.args.serving.now c.answer_all-answered.new.serving c.refuse-in-Some-fault.result c.in-Some-fault.fault c.number.result (g.W.Sink.state c.args.writer.now) (g.W.Sink.state c.answer_all-answered.new.writer) (g.W.Sink.state c.refuse-in-Some-fault.new.writer) c.feed_into.new.self (read ++ piece) last (before ++ written) c.number.ensures
     c.refuse-in-Some-fault.ensures.either c.refuse-in-Some-fault.ensures.whole c.refuse-in-Some-fault.ensures.front (Appends-trans _ _ _ before written (Appends-kept _ _ _ before appended c.in-Ok.ensures.bytes) more.0) (sym c.in-Ok-feed_into.ensures.fault ∙ c.in-Some-fault.is) all2 in
     (read ++ piece, (w, (Consumes-trans _ _ _ read piece consumed c.in-Ok-read_behind.ensures.bytes.0, rest)))
@@ -134,6 +134,6 @@ loop-preserved g c =
         before ++ written,
         Consumes-trans _ _ _ read piece consumed c.in-Ok-read_behind.ensures.bytes.0,
         Appends-trans _ _ _ before written (Appends-kept _ _ _ before appended c.in-Ok.ensures.bytes) more.0,
-        goes_on CrewServes c.args.serving.now c.loop.serving c.answer_all-answered.new.serving read piece before written c.loop.feeder c.feed_into.new.self _ c.loop.invariant.faultless all c.in-Ok-feed_into.ensures.requests (rw (c.as_slice-came.ensures, c.hello.ensures) at answered),
+        goes_on CrewServes c.args.serving.now c.loop.serving c.answer_all-answered.new.serving read piece before written c.loop.feeder c.feed_into.new.self _ c.loop.invariant.faultless all c.in-Ok-feed_into.ensures.requests (rw (c.as_slice-came.ensures, c.hello-hello.ensures) at answered),
       );
     }
