@@ -3,6 +3,7 @@ ghost use Rattle.std.specs.Prelude.{◌≡◌, ◌≤◌, All, IfOk, IfSome};
 
 use atomic_methods::{Call, Reply};
 use bin_stripes::{Gate, OpenGate, Pass, Place, StripedMap};
+use bins::EntryColumns;
 use bpf_model::{Key, NoMemory, Value};
 use bulk_walks::{Team, WalkReply, for_each, is_same_reply, mapping_count, replace_all, search};
 use map_tests::programs::{NINE, ONE, THREE, TWO, summed, summing};
@@ -89,11 +90,21 @@ fn number_of(bytes: &[u8]) -> Option<u64> {
     }
 }
 
+// Whether these are the items, in their order.
+fn are_items(found: &EntryColumns, items: &[(&[u8], &[u8])]) -> bool {
+    if found.len() != items.len() {
+        return false;
+    }
+    for position in 0..found.len() {
+        if found.get(position) != items[position] {
+            return false;
+        }
+    }
+    true
+}
+
 // Whether the reply has these items and counts.
 fn is_reply(reply: &WalkReply, items: &[(&[u8], &[u8])], counts: (u64, u64, u64)) -> bool {
     let found = &reply.counts;
-    reply.items.len() == items.len()
-        && reply.items.iter().zip(items).all(|(entry, item)| entry.0.as_slice() == item.0
-            && entry.1.as_slice() == item.1)
-        && (found.scanned, found.given, found.unfit) == counts
+    are_items(&reply.items, items) && (found.scanned, found.given, found.unfit) == counts
 }

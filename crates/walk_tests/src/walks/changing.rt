@@ -93,11 +93,13 @@ fn change<R: Threads + Wait + Sync>(rt: &R, map: &StripedMap, mut passes: Vec<Pa
 
 // The number at the key among the items.
 fn number_at(reply: &WalkReply, key: u8) -> Option<u64> {
-    let found = reply
-        .items
-        .iter()
-        .find(|item| matches!(item.0.as_slice(), [byte] if *byte == key))?;
-    number_of(found.1.as_slice())
+    for position in 0..reply.items.len() {
+        let (found, value) = reply.items.get(position);
+        if matches!(found, [byte] if *byte == key) {
+            return number_of(value);
+        }
+    }
+    None
 }
 
 // Which state of its thread's stripe was found, counted from the first; 0 where neither key was there. None where the thread
@@ -127,9 +129,9 @@ fn are_states(reply: &WalkReply, last: &mut [u64; 8]) -> bool {
 }
 
 // Whether the keys of the items rise.
-fn keys_rise(items: &[(Key, Value)]) -> bool {
+fn keys_rise(items: &EntryColumns) -> bool {
     for i in 1..items.len() {
-        if items[i - 1].0 >= items[i].0 {
+        if items.key(i - 1) >= items.key(i) {
             return false;
         }
     }
