@@ -116,6 +116,17 @@ impl<const MOST: usize> Column<MOST> {
         self.rooms.push_reserved(bytes);
     }
 
+    /// Adds a copy of another column's string at a position behind the others: its place as it lies. Takes no memory.
+    #[inline(always)]
+    pub(crate) fn push_from(&mut self, other: &Column<MOST>, position: usize)
+        requires room { length self.old.items < self.old.room }
+        requires range { position < length other.now.items }
+        ensures items { self.new.items ≡ self.old.items ++ string_at other.now.items position ∷ [] }
+        ensures room { self.new.room ≡ self.old.room }
+    {
+        self.rooms.push_from(&other.rooms, position);
+    }
+
     /// Adds copies of another column's strings behind the others. Takes no memory.
     pub(crate) fn push_all(&mut self, other: &Column<MOST>)
         requires room { length self.old.items + length other.now.items ≤ self.old.room }

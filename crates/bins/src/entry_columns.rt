@@ -96,6 +96,15 @@ impl EntryColumns {
         true
     }
 
+    /// The key at a position; none of the bytes behind the last one. Takes no memory.
+    #[inline(always)]
+    pub fn key(&self, position: usize) -> &[u8]
+        ensures value { result.now ≡ (entry_of self.now position).0 }
+        ensures fits { length result.now ≤ KEY_BYTES }
+    {
+        self.get_any(position).0
+    }
+
     // Whether the entry at a position has this key and this value.
     fn is_at(&self, position: usize, key: &[u8], value: &[u8]) -> bool
         requires { position < length self.now }
@@ -126,6 +135,20 @@ impl EntryColumns {
         self.values.reserve(1)?;
         self.keys.push_reserved(key);
         self.values.push_reserved(value);
+        Ok(())
+    }
+
+    /// Adds a copy of the entry at a position of other columns behind these. Asks for memory where there is no room for it.
+    #[inline(always)]
+    pub fn push_from(&mut self, other: &EntryColumns, position: usize) -> Result<(), NoMemory>
+        requires { position < length other.now }
+        ensures ok { OnOk result (self.new ≡ self.old ++ entry_of other.now position ∷ []) }
+        ensures err { OnErr result (self.new ≡ self.old) }
+    {
+        self.keys.reserve(1)?;
+        self.values.reserve(1)?;
+        self.keys.push_from(&other.keys, position);
+        self.values.push_from(&other.values, position);
         Ok(())
     }
 

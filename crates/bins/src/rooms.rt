@@ -367,7 +367,7 @@ impl<const MOST: usize> Rooms<MOST> {
 
     // Writes a copy of another list's string behind the others.
     #[inline(always)]
-    fn push_from(&mut self, other: &Rooms<MOST>, position: usize)
+    pub(crate) fn push_from(&mut self, other: &Rooms<MOST>, position: usize)
         requires matched { AreMatched self.old.places.items self.old.longs.items }
         requires other { AreMatched other.now.places.items other.now.longs.items }
         requires range { position < length other.now.places.items }

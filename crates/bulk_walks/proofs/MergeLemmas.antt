@@ -1,5 +1,5 @@
 -- The merge of lists in key order, an entry at a time.
-use Rattle.std.proofs.Common.{◌≡◌, ℕ, zero, suc, ◌+◌, ◌<◌, ◌≤◌, List, [], ◌∷◌, ◌++◌, cond, true, false, All, get_or, set, append_assoc, map, length, length-append, length-set, inl, inr, take, sum_by, refl, sym, ap, ◌∙◌, subst, arith, T}
+use Rattle.std.proofs.Common.{◌≡◌, ◌≢◌, ℕ, zero, suc, ◌+◌, ◌<◌, ◌≤◌, List, [], ◌∷◌, ◌++◌, cond, true, false, All, get_or, set, append_assoc, map, length, length-append, length-set, inl, inr, take, sum_by, refl, sym, ap, ◌∙◌, subst, arith, T}
 use Rattle.std.specs.declared.cmp.Ordering.TheVariants.{Less, Equal, Greater}
 use Rattle.std.specs.Ordering.{is_eq, is_lt, ordering_reverse}
 use Rattle.std.specs.Cmp.{IsStrictWeakOrder}
@@ -12,6 +12,7 @@ use Rattle.std.proofs.Math.Seq.{take-append_seam}
 use Rattle.std.proofs.lemmas.List.MinMax.{ranks_by}
 use Rattle.std.proofs.lemmas.List.Elements.{All-from_get_or, All-head, All-tail}
 use Rattle.std.proofs.lemmas.List.Sums.{sum_by-cons, sum_by-le, sum_by-set, get_or-le-sum_by}
+use Rattle.bins.specs.Entries.{entry_of}
 use Rattle.bins.specs.Table.{Entry, by_bytes}
 use Rattle.atomic_methods.specs.declared.walk_reply.WalkReply.{WalkReply}
 use Rattle.bulk_walks.specs.Turns.{items_in}
@@ -23,6 +24,21 @@ use Rattle.bulk_walks.proofs.TeamLemmas.{head_of}
 -- the order of lists by their first keys
 ranks : IsStrictWeakOrder (λ (x y : Entry). is_lt (by_bytes x.0 y.0))
 ranks = ranks_by nat_list_cmp_total (λ (e : Entry). e.0)
+
+-- lists that have a first entry are compared by its key
+pub comes_first-by_key : (xs ys : List Entry) → length xs ≢ 0 → length ys ≢ 0 → comes_first xs ys ≡ is_lt (by_bytes (entry_of xs 0).0 (entry_of ys 0).0)
+comes_first-by_key [] ys some more = absurd (some refl)
+comes_first-by_key (x ∷ xs) [] some more = absurd (more refl)
+comes_first-by_key (x ∷ xs) (y ∷ ys) some more = refl
+
+pub comes_first-over : (xs ys : List Entry) → length xs ≡ 0 → comes_first xs ys ≡ false
+comes_first-over [] ys none = refl
+comes_first-over (x ∷ xs) ys none = absurd (omega (arith, none))
+
+pub comes_first-before_none : (xs ys : List Entry) → length xs ≢ 0 → length ys ≡ 0 → comes_first xs ys ≡ true
+comes_first-before_none [] ys some none = absurd (some refl)
+comes_first-before_none (x ∷ xs) [] some none = refl
+comes_first-before_none (x ∷ xs) (y ∷ ys) some none = absurd (omega (arith, none))
 
 pub comes_first-one_way : (xs ys : List Entry) → comes_first xs ys ≡ true → comes_first ys xs ≡ false
 comes_first-one_way [] ys h = absurd (false≢true h)

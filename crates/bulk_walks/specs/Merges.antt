@@ -4,6 +4,7 @@ use Rattle.std.specs.FinMap as finmap
 use Rattle.std.specs.Ordering.{is_lt}
 use denote.Ref.{Bor}
 use Rattle.bins.specs.declared.counts.Counts.{Counts}
+use Rattle.bins.specs.Entries.{entry_of}
 use Rattle.bins.specs.Table.{Entry, by_bytes}
 use Rattle.atomic_methods.specs.declared.walk_reply.WalkKind.{WalkKind}
 use Rattle.atomic_methods.specs.declared.walk_reply.WalkReply.{WalkReply}
@@ -30,8 +31,8 @@ pub record TakesFirst (old : List (List Entry)) (entry : Entry) (new : List (Lis
   pub now : new ≡ slice_set old place behind
 
 -- or none, since all lists are empty
-abbrev pub TakesLeast : List (List Entry) → Option (Bor (List ℕ) × Bor (List ℕ)) → List (List Entry) → Type 0
-TakesLeast old taken new = MatchOption taken (All (λ list. list ≡ []) old) (λ entry. TakesFirst old (entry.0.now, entry.1.now) new)
+abbrev pub TakesLeast : List (List Entry) → Option (Bor (List Entry) × ℕ) → List (List Entry) → Type 0
+TakesLeast old taken new = MatchOption taken (All (λ list. list ≡ []) old) (λ at. TakesFirst old (entry_of at.0.now at.1) new)
 
 -- one number of each kind is the sum of what the replies counted
 pub record CountsAdd (replies : List WalkReply) (total : Counts) : Type 0 where

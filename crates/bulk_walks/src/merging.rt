@@ -1,6 +1,7 @@
 //! One reply from those of the workers.
-ghost use Rattle.std.specs.Prelude.{◌≡◌, ℕ, ◌+◌, ◌<◌, ◌≤◌, ◌^◌, ◌∷◌, [], All, IfOk, IfSome, List, MatchOption, T, length, slice_index_or, sum_by, take, false};
+ghost use Rattle.std.specs.Prelude.{◌≡◌, ℕ, ◌+◌, ◌<◌, ◌≤◌, ◌^◌, ◌∷◌, ◌↔◌, [], All, IfOk, IfSome, IsTrue, List, MatchOption, T, length, slice_index_or, sum_by, take, false};
 ghost use Rattle.std.specs.FinMap as finmap;
+ghost use Rattle.bins.specs.Entries.{entry_of};
 ghost use Rattle.bins.specs.Table.{Entry, by_bytes};
 ghost use Rattle.bulk_walks.specs.Turns.{items_in};
 ghost use Rattle.bulk_walks.specs.Merges.{comes_first, HasAll, TakesLeast, IsMerge, CountsAdd};
@@ -9,7 +10,6 @@ use crate::replace::{ZERO, add};
 use atomic_methods::{WalkKind, WalkReply};
 use bins::{Counts, EntryColumns};
 use bpf_model::NoMemory;
-use bpf_model::limits::{KEY_BYTES, VALUE_BYTES};
 use std::alloc::Global;
 use std::marker::Model;
 
@@ -91,28 +91,32 @@ fn first_items(alloc: Global, replies: &[WalkReply], most: usize) -> Result<Entr
     let mut items = EntryColumns::new(alloc);
     items.reserve(most)?;
     for given in 0..most {
-        let Some((key, value)) = take_least(&mut rests) else {
+        let Some((found, position)) = take_least(&mut rests) else {
             return Ok(items);
         };
-        items.push(key, value)?;
+        items.push_from(found, position)?;
     }
     Ok(items)
 }
 
-/// Items that are lent, but for the first ones.
+/// Items that are lent, but for the first ones. The first key that is left is kept at hand.
 #[derive(Drop)]
 struct Rest<'a> {
     items: &'a EntryColumns,
     next: usize,
+    key: &'a [u8],
 }
 
 impl<'a> Model for Rest<'a> {
-    ghost use Rattle.std.specs.Prelude.{List, drop};
+    ghost use Rattle.std.specs.Prelude.{◌≡◌, List, drop};
+    ghost use Rattle.bins.specs.Entries.{entry_of};
     ghost use Rattle.bins.specs.Table.{Entry};
 
     ghost Value = { List Entry };
 
     ghost view = { λ rest. drop rest.next rest.items.now };
+
+    ghost invariant = { λ rest. rest.key.now ≡ (entry_of rest.items.now rest.next).0 };
 }
 
 impl<'a> Rest<'a> {
@@ -120,32 +124,42 @@ impl<'a> Rest<'a> {
     fn new(items: &'a EntryColumns) -> Rest<'a>
         ensures { result ≡ items.now }
     {
-        Rest { items, next: 0 }
+        Rest {
+            items,
+            next: 0,
+            key: items.key(0),
+        }
     }
 
-    // The first entry, where there is one.
+    // Whether nothing is left.
     #[inline(always)]
-    fn first(&self) -> Option<(&'a [u8], &'a [u8])>
-        ensures { MatchOption result (self.now ≡ []) (λ entry. (behind : List Entry) × (self.now ≡ (entry.0.now, entry.1.now) ∷ behind)) }
+    fn is_over(&self) -> bool
+        ensures exact { IsTrue result ↔ (length self.now ≡ 0) }
     {
-        if self.next < self.items.len() {
-            return Some(self.items.get(self.next));
-        }
-        None
+        self.next >= self.items.len()
     }
 
-    // Takes the first entry, where there is one.
+    // The first key; no bytes where nothing is left.
     #[inline(always)]
-    fn take_first(&mut self) -> Option<(&'a [u8], &'a [u8])>
-        ensures first { MatchOption result (self.old ≡ []) (λ entry. self.old ≡ (entry.0.now, entry.1.now) ∷ self.new) }
-        ensures fits { IfSome result (λ entry. (length entry.0.now ≤ KEY_BYTES) × (length entry.1.now ≤ VALUE_BYTES)) }
+    fn key(&self) -> &'a [u8]
+        ensures value { result.now ≡ (entry_of self.now 0).0 }
     {
-        if self.next < self.items.len() {
-            let entry = self.items.get(self.next);
-            self.next += 1;
-            return Some(entry);
+        self.key
+    }
+
+    // Takes the first entry, where there is one: it stands at that position of these columns.
+    #[inline(always)]
+    fn take_first(&mut self) -> Option<(&'a EntryColumns, usize)>
+        ensures first { MatchOption result (self.old ≡ []) (λ at. self.old ≡ entry_of at.0.now at.1 ∷ self.new) }
+        ensures range { IfSome result (λ at. at.1 < length at.0.now) }
+    {
+        if self.next >= self.items.len() {
+            return None;
         }
-        None
+        let at = (self.items, self.next);
+        self.next += 1;
+        self.key = self.items.key(self.next);
+        Some(at)
     }
 }
 
@@ -160,10 +174,10 @@ fn rests_of<'a>(alloc: Global, replies: &'a [WalkReply]) -> Result<Vec<Rest<'a>>
     Ok(rests)
 }
 
-// Takes the first entry of a rest, with the least key of all; none where all are empty.
-fn take_least<'a>(rests: &mut Vec<Rest<'a>>) -> Option<(&'a [u8], &'a [u8])>
+// Takes the first entry of a rest, with the least key of all: where it stands. None where all rests are empty.
+fn take_least<'a>(rests: &mut Vec<Rest<'a>>) -> Option<(&'a EntryColumns, usize)>
     ensures least { TakesLeast rests.old.items result rests.new.items }
-    ensures fits { IfSome result (λ entry. (length entry.0.now ≤ KEY_BYTES) × (length entry.1.now ≤ VALUE_BYTES)) }
+    ensures range { IfSome result (λ at. at.1 < length at.0.now) }
 {
     if rests.is_empty() {
         return None;
@@ -193,9 +207,11 @@ fn least(rests: &[Rest<'_>]) -> usize
 fn is_first(one: &Rest<'_>, other: &Rest<'_>) -> bool
     ensures { result ≡ comes_first one.now other.now }
 {
-    match (one.first(), other.first()) {
-        (Some(a), Some(b)) => a.0.cmp(b.0).is_lt(),
-        (Some(_), None) => true,
-        (None, _) => false,
+    if one.is_over() {
+        return false;
     }
+    if other.is_over() {
+        return true;
+    }
+    one.key().cmp(other.key()).is_lt()
 }

@@ -90,21 +90,21 @@ fn number_of(bytes: &[u8]) -> Option<u64> {
     }
 }
 
-// Whether the reply has these items and counts.
-fn is_reply(reply: &WalkReply, items: &[(&[u8], &[u8])], counts: (u64, u64, u64)) -> bool {
-    let found = &reply.counts;
-    are_items(&reply.items, items) && (found.scanned, found.given, found.unfit) == counts
-}
-
-// Whether the entries are these, in this order.
-fn are_items(entries: &EntryColumns, items: &[(&[u8], &[u8])]) -> bool {
-    if entries.len() != items.len() {
+// Whether these are the items, in their order.
+fn are_items(found: &EntryColumns, items: &[(&[u8], &[u8])]) -> bool {
+    if found.len() != items.len() {
         return false;
     }
-    for (place, item) in items.iter().enumerate() {
-        if entries.get(place) != *item {
+    for position in 0..found.len() {
+        if found.get(position) != items[position] {
             return false;
         }
     }
     true
+}
+
+// Whether the reply has these items and counts.
+fn is_reply(reply: &WalkReply, items: &[(&[u8], &[u8])], counts: (u64, u64, u64)) -> bool {
+    let found = &reply.counts;
+    are_items(&reply.items, items) && (found.scanned, found.given, found.unfit) == counts
 }

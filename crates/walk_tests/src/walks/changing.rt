@@ -93,9 +93,9 @@ fn change<R: Threads + Wait + Sync>(rt: &R, map: &StripedMap, mut passes: Vec<Pa
 
 // The number at the key among the items.
 fn number_at(reply: &WalkReply, key: u8) -> Option<u64> {
-    for place in 0..reply.items.len() {
-        let (found, value) = reply.items.get(place);
-        if found == [key].as_slice() {
+    for position in 0..reply.items.len() {
+        let (found, value) = reply.items.get(position);
+        if matches!(found, [byte] if *byte == key) {
             return number_of(value);
         }
     }
@@ -131,7 +131,7 @@ fn are_states(reply: &WalkReply, last: &mut [u64; 8]) -> bool {
 // Whether the keys of the items rise.
 fn keys_rise(items: &EntryColumns) -> bool {
     for i in 1..items.len() {
-        if items.get(i - 1).0 >= items.get(i).0 {
+        if items.key(i - 1) >= items.key(i) {
             return false;
         }
     }

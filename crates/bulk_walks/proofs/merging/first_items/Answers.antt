@@ -1,5 +1,6 @@
 use Rattle.std.proofs.Common.{◌≡◌, ◌+◌, List, [], ◌∷◌, ◌++◌, All, T, length, length-append, sym, ap, ◌∙◌, subst, arith}
 use Rattle.std.specs.FinMap.{is_sorted}
+use Rattle.bins.specs.Entries.{entry_of}
 use Rattle.bins.specs.Table.{Entry, by_bytes}
 use Rattle.bulk_walks.specs.Merges.{HasAll}
 use Rattle.bulk_walks.proofs.MergeLemmas.{Left, left_all, left_less, left_none, still_sorted, sorted_items}
@@ -25,10 +26,10 @@ returns-in_default c all order has =
 pub loop-given-preserved : goal.loop-given-preserved
 loop-given-preserved c =
     let before = c.loop-given.invariant in
-    let item : Entry = (c.in-Some.key.now, c.in-Some.value.now) in
+    let item = entry_of c.in-Some.found.now c.in-Some.position in
     let old = c.loop-given.rests.items in
     let new = c.take_least.new.rests.items in
-    let items = c.in_ok-push.ensures.ok in
+    let items = c.in_ok-push_from.ensures.ok in
     record {
       sorted = still_sorted old new item c.in-Some.ensures.least before.sorted;
       left = λ all order has. subst (λ (es : List Entry). Left es new all) (sym items) (left_less c.loop-given.items old new item all c.in-Some.ensures.least before.sorted (before.left all order has));
