@@ -41,6 +41,7 @@ pub enum Plan<'c> {
 }
 
 /// The rule of each method: what the call makes of its key, which has this value or none.
+#[inline(always)]
 pub fn plan_of<'c>(call: &Call<'c>, old: Option<&[u8]>) -> Plan<'c>
     ensures rule { let value = option_copied old.entry in
         rule_by result value ≡ rule_of (invocation_of call.now).method value }

@@ -6,7 +6,7 @@ use anyhow::{Result, bail, ensure};
 use bpf_machine::{Machine, run_into};
 use bpf_model::{
     AccessSize, AluOp, ByteOrder, Input, Insn, JumpOp, Key, LoadKind, Operand, Program, Reg,
-    SignExtension, Sizes, SwapWidth, Value, Width, fits,
+    SignExtension, Sizes, SwapWidth, Value, Width, fits, value_bytes,
 };
 use flow_shape::shape;
 use std::alloc::Global;
@@ -390,7 +390,10 @@ impl Answers {
         };
         ensure!(fits(&verified.sizes(), &input).is_ok(), "unfit");
         self.safe = self.safe.saturating_add(1);
-        let (old, arg) = (input.old.as_ref(), input.arg.as_ref());
+        let (old, arg) = (
+            value_bytes(input.old.as_ref()),
+            value_bytes(input.arg.as_ref()),
+        );
         let (machine, answer) = (&mut self.machine, &mut self.answer);
         if run_into(&verified, &input.key, old, arg, machine, answer) {
             self.sum = mixed(self.sum, self.answer.as_slice());

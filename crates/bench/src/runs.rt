@@ -4,7 +4,7 @@ use crate::programs::{SIZES, Sample, program, verified};
 use anyhow::{Result, bail, ensure};
 use bpf_decode::encode;
 use bpf_machine::{Machine, run, run_into};
-use bpf_model::{Answer, Input, Insn, Key, Program, Value, fits};
+use bpf_model::{Answer, Input, Insn, Key, Program, Value, fits, value_bytes};
 use flow_shape::{Shaped, shape};
 use std::alloc::Global;
 use verifier::verify;
@@ -86,7 +86,10 @@ fn run_all_into(alloc: Global, sample: Sample, count: u64) -> Result<()> {
     for turn in 0..count {
         let input = &inputs[(turn % INPUTS) as usize];
         ensure!(fits(&verified.sizes(), input).is_ok(), "unfit");
-        let (old, arg) = (input.old.as_ref(), input.arg.as_ref());
+        let (old, arg) = (
+            value_bytes(input.old.as_ref()),
+            value_bytes(input.arg.as_ref()),
+        );
         ensure!(
             run_into(&verified, &input.key, old, arg, &mut machine, &mut answer),
             "no bytes"

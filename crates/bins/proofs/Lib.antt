@@ -11,6 +11,7 @@ pub mod EntryCounts
 pub mod SameEntries
 pub mod SortedCopies
 pub mod HashSearch
+pub mod HashesLemmas
 pub mod ReplacementLemmas
 pub mod ChainLemmas
 pub mod ChainMoves

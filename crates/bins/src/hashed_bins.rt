@@ -74,6 +74,7 @@ impl Bins for HashedBins {
         })
     }
 
+    #[inline(always)]
     fn find(&self, key: &HashedKey<'_>) -> Option<&[u8]> {
         match self.finder.position(&self.keys, key) {
             Some(position) => {
@@ -84,6 +85,7 @@ impl Bins for HashedBins {
         }
     }
 
+    #[inline(always)]
     fn put(&mut self, key: &HashedKey<'_>, value: &Value) -> Result<(), NoMemory> {
         match self.finder.position_again(&self.keys, key) {
             Some(position) => {

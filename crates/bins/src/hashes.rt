@@ -1,17 +1,40 @@
 //! Hashes of keys.
-ghost use Rattle.std.specs.Prelude.{◌≡◌};
-ghost use Rattle.bins.specs.Hashes.{hash as hash_is};
+ghost use Rattle.std.specs.Prelude.{◌≡◌, [], ◌∷◌, fold};
+ghost use Rattle.bins.specs.Hashes.{hash as hash_is, hash_more};
 
 use bpf_model::Key;
 use std::cell::Cell;
 use std::marker::Model;
 
+// A hash with four bytes more: it is multiplied once, by 31 to the fourth.
+#[inline(always)]
+fn with_four(hash: u32, a: u8, b: u8, c: u8, d: u8) -> u32
+    ensures { result ≡ fold hash_more hash (a ∷ b ∷ c ∷ d ∷ []) }
+{
+    let added = u32::from(a) * 29_791 + u32::from(b) * 961 + u32::from(c) * 31 + u32::from(d);
+    hash.wrapping_mul(923_521).wrapping_add(added)
+}
+
+// The hash of all bytes but three at most, and these.
+#[inline(always)]
+fn hash_fours(bytes: &[u8]) -> (u32, &[u8])
+    ensures { fold hash_more result.0 result.1.now ≡ fold hash_more 1 bytes.now }
+{
+    let mut hash = 1;
+    let mut rest = bytes;
+    while let [a, b, c, d, after @ ..] = rest {
+        hash = with_four(hash, *a, *b, *c, *d);
+        rest = after;
+    }
+    (hash, rest)
+}
+
 /// The hash of a key: from 1, each byte in turn, the hash times 31 and the byte, modulo 2^32. Takes no memory.
 pub fn hash_of(key: &Key) -> u32
     ensures value { result ≡ hash_is key.now }
 {
-    let mut hash: u32 = 1;
-    for byte in key.as_slice() {
+    let (mut hash, rest) = hash_fours(key.as_slice());
+    for byte in rest {
         hash = hash.wrapping_mul(31).wrapping_add(u32::from(*byte));
     }
     hash

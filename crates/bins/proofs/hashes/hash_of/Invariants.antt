@@ -5,4 +5,4 @@ use Rattle.bins.proofs.hashes.hash_of.Given as goal
 
 -- the bytes that are left lead to the hash
 abbrev pub invariant-loop-byte : goal.invariant-loop-byte
-invariant-loop-byte l = fold hash_more l.hash (drop l.byte-index l.byte-items) ≡ fold hash_more 1 l.byte-items
+invariant-loop-byte l = fold hash_more l.hash (drop l.byte-index l.rest) ≡ fold hash_more 1 l.fn.key
