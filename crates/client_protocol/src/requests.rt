@@ -1,5 +1,5 @@
 //! A list of requests whose places serve again.
-ghost use Rattle.std.specs.Prelude.{◌≡◌, [], ◌∷◌, ◌++◌, OnOk, IfOk, IfErr, OnErr, IfSome, IfNone};
+ghost use Rattle.std.specs.Prelude.{◌≡◌, ◌≤◌, ◌<◌, [], ◌∷◌, ◌++◌, vec_len, vec_capacity, IsOk, OnOk, IfOk, IfErr, OnErr, IfSome, IfNone};
 ghost use Rattle.client_protocol.specs.Frames.{IsBeginning, IsFaulty};
 ghost use Rattle.client_protocol.specs.Reading.{IfFault, Adds};
 ghost use Rattle.client_protocol.specs.Requests.{Request as TheRequest};
@@ -39,11 +39,22 @@ pub struct Behind<'b> {
     pub bytes: &'b [u8],
 }
 
-// Adds a place behind the others. Asks for memory where the list has no room for it.
+// Makes room for so many places in all. Asks for no memory where there is so much.
+fn make_room(places: &mut Vec<Request>, count: usize) -> Result<(), NoMemory>
+    ensures items { places.new.items ≡ places.old.items }
+    ensures room { OnOk result (count ≤ vec_capacity places.new) }
+    ensures enough { count ≤ vec_capacity places.old → IsOk result }
+{
+    places.reserve(count.saturating_sub(places.len()))?;
+    Ok(())
+}
+
+// Adds a place behind the others. Asks for no memory where there is room for it.
 #[inline(never)]
 fn add_place(places: &mut Vec<Request>, alloc: Global) -> Result<(), NoMemory>
     ensures ok { OnOk result ((place : TheRequest) × (places.new.items ≡ places.old.items ++ place ∷ [])) }
     ensures err { OnErr result (places.new.items ≡ places.old.items) }
+    ensures enough { vec_len places.old < vec_capacity places.old → IsOk result }
 {
     places.reserve(1)?;
     places.push_reserved(Request::new(alloc));
@@ -79,9 +90,7 @@ impl Requests {
     pub(crate) fn reserve(&mut self, count: usize) -> Result<(), NoMemory>
         ensures { self.new ≡ self.old }
     {
-        self.places
-            .reserve(count.saturating_sub(self.places.len()))?;
-        Ok(())
+        make_room(&mut self.places, count)
     }
 
     /// Adds the request of the frame that begins the bytes, and answers what is behind it; none where the frame has only
