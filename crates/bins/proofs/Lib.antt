@@ -20,4 +20,5 @@ pub mod ChainBins
 pub mod ChainEdits
 pub mod TreeLemmas
 pub mod FinderLemmas
+pub mod FrontLemmas
 pub mod Examples

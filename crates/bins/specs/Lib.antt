@@ -9,3 +9,4 @@ pub mod Hashes
 pub mod Chains
 pub mod Trees
 pub mod Finders
+pub mod Fronts

@@ -4,9 +4,11 @@ ghost use Rattle.std.specs.List.Sorted.{IsPermutation, IsSortedBy};
 ghost use Rattle.bins.specs.Columns.{string_at};
 ghost use Rattle.bins.specs.Copies.{comes_before, is_before, positions_of};
 ghost use Rattle.bins.specs.Entries.{entries_at, entries_in, entry_of};
+ghost use Rattle.bins.specs.Fronts.{front, AreBytes};
 ghost use Rattle.bins.specs.Table.{Entry, by_bytes};
 
 use crate::column::Column;
+use crate::fronts::front_of;
 use bpf_model::limits::{KEY_BYTES, VALUE_BYTES};
 use bpf_model::{Key, NoMemory, Value};
 use std::alloc::Global;
@@ -103,6 +105,16 @@ impl EntryColumns {
         ensures fits { length result.now ≤ KEY_BYTES }
     {
         self.get_any(position).0
+    }
+
+    /// The first eight bytes of the key at a position, as a number: where it is less than another key's, the key comes before
+    /// that one. Takes no memory.
+    #[inline(always)]
+    pub fn front(&self, position: usize) -> u64
+        ensures value { result ≡ front 8 (entry_of self.now position).0 }
+        ensures bytes { AreBytes (entry_of self.now position).0 }
+    {
+        front_of(self.key(position))
     }
 
     // Whether the entry at a position has this key and this value.
@@ -217,15 +229,6 @@ fn compare_at(keys: &Column<KEY_BYTES>, one: usize, other: usize) -> Ordering
     ensures { result ≡ by_bytes (string_at keys.now.items one) (string_at keys.now.items other) }
 {
     keys.get_any(one).cmp(keys.get_any(other))
-}
-
-// The first eight bytes of a string, as a number; zeros stand for those that it lacks.
-#[inline(always)]
-fn front_of(bytes: &[u8]) -> u64 {
-    let mut front = [0; 8];
-    let len = bytes.len().min(8);
-    front[..len].copy_from_slice(&bytes[..len]);
-    u64::from_be_bytes(front)
 }
 
 // All positions, sorted by the first bytes of the keys that stand there. That is nearly the order of the keys, and quick,

@@ -17,6 +17,7 @@ mod copies;
 mod counts;
 mod entry_columns;
 mod finder;
+mod fronts;
 mod hashed_bins;
 mod hashes;
 mod index;

@@ -1,0 +1,44 @@
+//! The first bytes of a key as a number, by which most keys are compared.
+ghost use Rattle.std.specs.Prelude.{◌≡◌, ◌<◌, slice_index_or};
+ghost use Rattle.bins.specs.Fronts.{front, AreBytes};
+
+// The byte at a position; zero behind the last one.
+#[inline(always)]
+fn byte_at(bytes: &[u8], position: usize) -> u64
+    ensures value { result ≡ slice_index_or bytes.now position 0 }
+    ensures small { result < 256 }
+{
+    if position < bytes.len() {
+        return bytes[position] as u64;
+    }
+    0
+}
+
+// Eight bytes as a number, the first one weighing most.
+#[inline(always)]
+fn number_of(bytes: &[u8]) -> u64
+    ensures value { result ≡ front 8 bytes.now }
+{
+    let mut number = byte_at(bytes, 0);
+    number = number * 256 + byte_at(bytes, 1);
+    number = number * 256 + byte_at(bytes, 2);
+    number = number * 256 + byte_at(bytes, 3);
+    number = number * 256 + byte_at(bytes, 4);
+    number = number * 256 + byte_at(bytes, 5);
+    number = number * 256 + byte_at(bytes, 6);
+    number * 256 + byte_at(bytes, 7)
+}
+
+/// The first eight bytes as a number; zeros stand for those that are lacking. Where one string's number is less than
+/// another's it comes first.
+#[inline(always)]
+pub(crate) fn front_of(bytes: &[u8]) -> u64
+    ensures value { result ≡ front 8 bytes.now }
+    ensures bytes { AreBytes bytes.now }
+{
+    // Where all of them are there they are read as one word.
+    if bytes.len() >= 8 {
+        return number_of(bytes);
+    }
+    number_of(bytes)
+}
