@@ -1,9 +1,10 @@
 //! Where keys stand in a column: found by chains of their hashes, or by a tree once chains have become long.
-ghost use Rattle.std.specs.Prelude.{◌≡◌, ◌≢◌, ◌<◌, ◌++◌, [], ◌∷◌, length, map, HoldsAt, IfOk, IfSome, IfNone, OnOk, OnErr};
+ghost use Rattle.std.specs.Prelude.{◌≡◌, ◌≢◌, ◌<◌, ◌++◌, ◌↔◌, [], ◌∷◌, length, map, HoldsAt, IfOk, IfSome, IfNone, IsTrue, OnOk, OnErr};
 ghost use Rattle.std.specs.List.{AllWithin, swap_remove};
-ghost use Rattle.std.specs.Int.{IsPowerOfTwo};
+ghost use Rattle.std.specs.Int.{IsPowerOfTwo, from_le_bytes, to_le_bytes, w64};
 ghost use Rattle.bins.specs.Hashes.{hash as hash_of};
 ghost use Rattle.bins.specs.Chains.{IsBinCount};
+ghost use Rattle.bins.specs.Columns.{string_at};
 ghost use Rattle.bins.specs.Finders.{Finds};
 ghost use Rattle.bins.specs.Trees.{StandOnce};
 
@@ -24,6 +25,38 @@ pub(crate) enum Finder {
     Keys(Tree),
 }
 
+// The word of eight bytes; none of another number of them.
+#[inline(always)]
+fn word_of(bytes: &[u8]) -> Option<u64>
+    ensures word { IfSome result (λ word. word ≡ from_le_bytes w64 bytes.now) }
+    ensures bytes { IfSome result (λ word. to_le_bytes w64 word ≡ bytes.now) }
+{
+    match <[u8; 8]>::try_from(bytes) {
+        Ok(bytes) => Some(u64::from_le_bytes(bytes)),
+        Err(_) => None,
+    }
+}
+
+// Whether these are the same bytes. Eight are compared as one word, without a call.
+#[inline(always)]
+fn are_same(one: &[u8], other: &[u8]) -> bool
+    ensures { IsTrue result ↔ (one.now ≡ other.now) }
+{
+    match (word_of(one), word_of(other)) {
+        (Some(word), Some(another)) => word == another,
+        _ => one == other,
+    }
+}
+
+// Whether the key at a position is these bytes.
+#[inline(always)]
+fn is_at(keys: &Column<KEY_BYTES>, position: usize, bytes: &[u8]) -> bool
+    requires { position < length keys.now.items }
+    ensures exact { IsTrue result ↔ (string_at keys.now.items position ≡ bytes.now) }
+{
+    are_same(keys.get(position), bytes)
+}
+
 // The position of the key with this hash.
 #[inline(always)]
 fn position_with(index: &Index, keys: &Column<KEY_BYTES>, key: &Key, hash: u32) -> Option<usize>
@@ -35,7 +68,7 @@ fn position_with(index: &Index, keys: &Column<KEY_BYTES>, key: &Key, hash: u32) 
 {
     let mut next = index.last(hash);
     while let Some(position) = next {
-        if keys.is_at(position, key.as_slice()) {
+        if is_at(keys, position, key.as_slice()) {
             return Some(position);
         }
         next = index.before(position, hash);
@@ -98,7 +131,7 @@ impl Finder {
         ensures absent { IfNone result (AllWithin (λ k. k ≢ key.now) keys.now.items 0 (length keys.now.items)) }
     {
         let guess = key.guess();
-        if guess < keys.len() && keys.is_at(guess, key.key().as_slice()) {
+        if guess < keys.len() && is_at(keys, guess, key.key().as_slice()) {
             return Some(guess);
         }
         self.position(keys, key)
