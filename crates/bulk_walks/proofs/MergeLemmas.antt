@@ -13,6 +13,8 @@ use Rattle.std.proofs.lemmas.List.MinMax.{ranks_by}
 use Rattle.std.proofs.lemmas.List.Elements.{All-from_get_or, All-head, All-tail}
 use Rattle.std.proofs.lemmas.List.Sums.{sum_by-cons, sum_by-le, sum_by-set, get_or-le-sum_by}
 use Rattle.bins.specs.Entries.{entry_of}
+use Rattle.bins.specs.Fronts.{front, AreBytes}
+use Rattle.bins.proofs.FrontLemmas.{by_front}
 use Rattle.bins.specs.Table.{Entry, by_bytes}
 use Rattle.atomic_methods.specs.declared.walk_reply.WalkReply.{WalkReply}
 use Rattle.bulk_walks.specs.Turns.{items_in}
@@ -30,6 +32,10 @@ pub comes_first-by_key : (xs ys : List Entry) → length xs ≢ 0 → length ys 
 comes_first-by_key [] ys some more = absurd (some refl)
 comes_first-by_key (x ∷ xs) [] some more = absurd (more refl)
 comes_first-by_key (x ∷ xs) (y ∷ ys) some more = refl
+
+-- and by the first bytes of these, where they differ
+pub comes_first-by_front : (xs ys : List Entry) → length xs ≢ 0 → length ys ≢ 0 → AreBytes (entry_of ys 0).0 → front 8 (entry_of xs 0).0 < front 8 (entry_of ys 0).0 → comes_first xs ys ≡ true
+comes_first-by_front xs ys some more bytes lt = comes_first-by_key xs ys some more ∙ ap is_lt (by_front 8 (entry_of xs 0).0 (entry_of ys 0).0 bytes lt)
 
 pub comes_first-over : (xs ys : List Entry) → length xs ≡ 0 → comes_first xs ys ≡ false
 comes_first-over [] ys none = refl

@@ -2,6 +2,7 @@
 ghost use Rattle.std.specs.Prelude.{◌≡◌, ℕ, ◌+◌, ◌<◌, ◌≤◌, ◌^◌, ◌∷◌, ◌↔◌, [], All, IfOk, IfSome, IsTrue, List, MatchOption, T, length, slice_index_or, sum_by, take, false};
 ghost use Rattle.std.specs.FinMap as finmap;
 ghost use Rattle.bins.specs.Entries.{entry_of};
+ghost use Rattle.bins.specs.Fronts.{front, AreBytes};
 ghost use Rattle.bins.specs.Table.{Entry, by_bytes};
 ghost use Rattle.bulk_walks.specs.Turns.{items_in};
 ghost use Rattle.bulk_walks.specs.Merges.{comes_first, HasAll, TakesLeast, IsMerge, CountsAdd};
@@ -99,24 +100,27 @@ fn first_items(alloc: Global, replies: &[WalkReply], most: usize) -> Result<Entr
     Ok(items)
 }
 
-/// Items that are lent, but for the first ones. The first key that is left is kept at hand.
+/// Items that are lent, but for the first ones. The first key that is left is kept at hand, with its first bytes as a number.
 #[derive(Drop)]
 struct Rest<'a> {
     items: &'a EntryColumns,
     next: usize,
     key: &'a [u8],
+    lead: u64,
 }
 
 impl<'a> Model for Rest<'a> {
     ghost use Rattle.std.specs.Prelude.{◌≡◌, List, drop};
     ghost use Rattle.bins.specs.Entries.{entry_of};
+    ghost use Rattle.bins.specs.Fronts.{front, AreBytes};
     ghost use Rattle.bins.specs.Table.{Entry};
 
     ghost Value = { List Entry };
 
     ghost view = { λ rest. drop rest.next rest.items.now };
 
-    ghost invariant = { λ rest. rest.key.now ≡ (entry_of rest.items.now rest.next).0 };
+    ghost invariant = { λ rest. (rest.key.now ≡ (entry_of rest.items.now rest.next).0)
+        × (rest.lead ≡ front 8 (entry_of rest.items.now rest.next).0) × AreBytes (entry_of rest.items.now rest.next).0 };
 }
 
 impl<'a> Rest<'a> {
@@ -128,6 +132,7 @@ impl<'a> Rest<'a> {
             items,
             next: 0,
             key: items.key(0),
+            lead: items.front(0),
         }
     }
 
@@ -147,6 +152,15 @@ impl<'a> Rest<'a> {
         self.key
     }
 
+    // The first bytes of the first key, as a number.
+    #[inline(always)]
+    fn lead(&self) -> u64
+        ensures value { result ≡ front 8 (entry_of self.now 0).0 }
+        ensures bytes { AreBytes (entry_of self.now 0).0 }
+    {
+        self.lead
+    }
+
     // Takes the first entry, where there is one: it stands at that position of these columns.
     #[inline(always)]
     fn take_first(&mut self) -> Option<(&'a EntryColumns, usize)>
@@ -159,6 +173,7 @@ impl<'a> Rest<'a> {
         let at = (self.items, self.next);
         self.next += 1;
         self.key = self.items.key(self.next);
+        self.lead = self.items.front(self.next);
         Some(at)
     }
 }
@@ -212,6 +227,12 @@ fn is_first(one: &Rest<'_>, other: &Rest<'_>) -> bool
     }
     if other.is_over() {
         return true;
+    }
+    if one.lead() < other.lead() {
+        return true;
+    }
+    if other.lead() < one.lead() {
+        return false;
     }
     one.key().cmp(other.key()).is_lt()
 }
