@@ -214,6 +214,15 @@ fn put_behind(frame: &mut ArrayVec<u8, FRAME_BYTES>, head: &[u8], value: &[u8])
     put(frame, value);
 }
 
+// Adds the frame of the item with this key and this value.
+fn put_item(frame: &mut ArrayVec<u8, FRAME_BYTES>, key: &Key, value: &[u8])
+    requires none { array_vec_len frame.old ≡ 0 }
+    requires fits { length value.now ≤ VALUE_BYTES }
+    ensures { frame.new.items ≡ response_frame (Item key.now value.now) }
+{
+    put_behind(frame, item_head(key.as_slice(), value).as_slice(), value);
+}
+
 // Adds the frame of a short response.
 fn put_short(frame: &mut ArrayVec<u8, FRAME_BYTES>, short: ShortResponse)
     requires none { array_vec_len frame.old ≡ 0 }
@@ -246,10 +255,7 @@ impl Response {
                 out,
                 ShortResponse::Refused { number, place },
             ),
-            Response::Item { key, value } => {
-                let value = value.as_slice();
-                put_behind(out, item_head(key.as_slice(), value).as_slice(), value);
-            }
+            Response::Item { key, value } => put_item(out, key, value.as_slice()),
             &Response::End {
                 scanned,
                 given,
