@@ -10,9 +10,10 @@ use Rattle.client_protocol.specs.Requests.Request.{Hello, Register, Get, Put, Pu
 use Rattle.client_protocol.specs.declared.response.Response.{Response}
 use Rattle.program_registry.specs.declared.registry.ProgramToken.{ProgramToken}
 use Rattle.program_registry.specs.Tokens.{program_of, token_number}
-use Rattle.sessions.specs.Asking.{asked, named, IsCall}
+use Rattle.atomic_methods.specs.declared.walk_reply.WalkKind.TheVariants as kind
+use Rattle.sessions.specs.Asking.{asked, named, walk, replacement, count, IsCall}
 use Rattle.crews.specs.Stations.{Station}
-use Rattle.crews.specs.Steps.{IsLike, Agree, Finds, number_in, CrewMeets, CrewServes}
+use Rattle.crews.specs.Steps.{IsLike, Agree, Finds, number_in, CrewMeets, AsksWithProgram, CrewServes}
 
 -- what holds of the elements so far, and of the next one
 pub one_further : {X : Type 0} (P : X → Type 0) (xs : List X) (i : ℕ) (x : X) → i < length xs → x ≡ get_or xs i x → All P (take i xs) → P x → All P (take (i + 1) xs)
@@ -71,12 +72,32 @@ number_of_call (ForEach number arg threshold) call = absurd call
 number_of_call (ReplaceAll number arg) call = absurd call
 number_of_call Count call = absurd call
 
-pub names_none : (hello : Option Version) (old : Station) (request : Request) (responses : List Response) (new : Station) → IsCall request → named request ≡ None
-    → CrewMeets hello old (asked (λ _. None) request) responses new → CrewServes hello old request responses new
-names_none hello old request responses new call is meets =
-    record { found = None; finds = rw (number_of_call request call ∙ is) tt; meets = meets }
-
 pub names_one : (hello : Option Version) (old : Station) (request : Request) (number : ℕ) (found : Option Checked) (responses : List Response) (new : Station) → IsCall request → named request ≡ Some number
     → Finds old.tokens number found → CrewMeets hello old (asked (λ _. found) request) responses new → CrewServes hello old request responses new
 names_one hello old request number found responses new call is finds meets =
     record { found = found; finds = rw (number_of_call request call ∙ is) finds; meets = meets }
+
+-- a walk runs the program that its request names
+pub serves_search : (hello : Option Version) (old : Station) (request : Request) (number : ℕ) (given arg : Option (List ℕ)) (threshold : ℕ) (responses : List Response) (new : Station)
+    → Search number given threshold ≡ request → arg ≡ given → AsksWithProgram hello old number (λ program. walk kind.Search program arg) responses new → CrewServes hello old request responses new
+serves_search hello old request number given arg threshold responses new is same asks =
+    let here : CrewServes hello old (Search number arg threshold) responses new = record { found = asks.found; finds = asks.finds; meets = asks.meets } in
+    subst (λ (r : Request). CrewServes hello old r responses new) (ap (λ (a : Option (List ℕ)). Search number a threshold) same ∙ is) here
+
+pub serves_for_each : (hello : Option Version) (old : Station) (request : Request) (number : ℕ) (given arg : Option (List ℕ)) (threshold : ℕ) (responses : List Response) (new : Station)
+    → ForEach number given threshold ≡ request → arg ≡ given → AsksWithProgram hello old number (λ program. walk kind.ForEach program arg) responses new → CrewServes hello old request responses new
+serves_for_each hello old request number given arg threshold responses new is same asks =
+    let here : CrewServes hello old (ForEach number arg threshold) responses new = record { found = asks.found; finds = asks.finds; meets = asks.meets } in
+    subst (λ (r : Request). CrewServes hello old r responses new) (ap (λ (a : Option (List ℕ)). ForEach number a threshold) same ∙ is) here
+
+pub serves_replacement : (hello : Option Version) (old : Station) (request : Request) (number : ℕ) (given arg : Option (List ℕ)) (responses : List Response) (new : Station)
+    → ReplaceAll number given ≡ request → arg ≡ given → AsksWithProgram hello old number (λ program. replacement program arg) responses new → CrewServes hello old request responses new
+serves_replacement hello old request number given arg responses new is same asks =
+    let here : CrewServes hello old (ReplaceAll number arg) responses new = record { found = asks.found; finds = asks.finds; meets = asks.meets } in
+    subst (λ (r : Request). CrewServes hello old r responses new) (ap (λ (a : Option (List ℕ)). ReplaceAll number a) same ∙ is) here
+
+pub serves_count : (hello : Option Version) (old : Station) (request : Request) (responses : List Response) (new : Station)
+    → Count ≡ request → CrewMeets hello old count responses new → CrewServes hello old request responses new
+serves_count hello old request responses new is meets =
+    let here : CrewServes hello old Count responses new = record { found = None; finds = tt; meets = meets } in
+    subst (λ (r : Request). CrewServes hello old r responses new) is here
