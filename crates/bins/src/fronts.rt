@@ -1,5 +1,5 @@
 //! The first bytes of a key as a number, by which most keys are compared.
-ghost use Rattle.std.specs.Prelude.{◌≡◌, ◌<◌, slice_index_or};
+ghost use Rattle.std.specs.Prelude.{◌≡◌, ◌<◌, ◌≤◌, length, slice_index_or};
 ghost use Rattle.bins.specs.Fronts.{front, AreBytes};
 
 // The byte at a position; zero behind the last one.
@@ -29,6 +29,17 @@ fn number_of(bytes: &[u8]) -> u64
     number * 256 + byte_at(bytes, 7)
 }
 
+// The same, where all of them are there: they are read as one word.
+#[inline(always)]
+fn word_of(bytes: &[u8]) -> u64
+    requires { 8 ≤ length bytes.now }
+    ensures value { result ≡ front 8 bytes.now }
+{
+    u64::from_be_bytes([
+        bytes[0], bytes[1], bytes[2], bytes[3], bytes[4], bytes[5], bytes[6], bytes[7],
+    ])
+}
+
 /// The first eight bytes as a number; zeros stand for those that are lacking. Where one string's number is less than
 /// another's it comes first.
 #[inline(always)]
@@ -36,9 +47,8 @@ pub(crate) fn front_of(bytes: &[u8]) -> u64
     ensures value { result ≡ front 8 bytes.now }
     ensures bytes { AreBytes bytes.now }
 {
-    // Where all of them are there they are read as one word.
     if bytes.len() >= 8 {
-        return number_of(bytes);
+        return word_of(bytes);
     }
     number_of(bytes)
 }
