@@ -1,5 +1,5 @@
 //! Byte strings in a list, each in as many bytes as it needs.
-ghost use Rattle.std.specs.Prelude.{◌≡◌, ◌+◌, ◌<◌, ◌≤◌, ◌++◌, [], ◌∷◌, length, set, slice_index_or, OnOk, IsTrue, ◌↔◌};
+ghost use Rattle.std.specs.Prelude.{◌≡◌, ◌+◌, ◌<◌, ◌≤◌, ◌++◌, [], ◌∷◌, length, set, slice_index_or, OnOk};
 ghost use Rattle.std.specs.List.{swap_remove};
 ghost use Rattle.bins.specs.Columns.{IsLimit, string_at};
 
@@ -74,15 +74,6 @@ impl<const MOST: usize> Column<MOST> {
             return self.rooms.get(position);
         }
         &[]
-    }
-
-    /// Whether the string at a position is this one. Takes no memory.
-    #[inline(always)]
-    pub(crate) fn is_at(&self, position: usize, bytes: &[u8]) -> bool
-        requires { position < length self.now.items }
-        ensures exact { IsTrue result ↔ (string_at self.now.items position ≡ bytes.now) }
-    {
-        self.get(position) == bytes
     }
 
     /// Room for so many more strings. `NoMemory` where a request for it was refused; the strings are as before.
