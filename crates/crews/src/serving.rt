@@ -17,7 +17,8 @@ use bulk_walks::{mapping_count, replace_all, walk};
 use client_protocol::{Request, RequestView, ShortResponse, Version};
 use program_registry::{ProgramToken, Registry};
 use sessions::{
-    Answer, admit_or_refuse, answer_to, argument_of, call_of, named_program, no_memory, unknown_program,
+    Answer, admit_or_refuse, answer_to, argument_of, call_of, named_program, no_memory,
+    unknown_program,
 };
 use std::alloc::Global;
 use std::marker::Model;

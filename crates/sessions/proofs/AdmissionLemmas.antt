@@ -21,11 +21,8 @@ use Rattle.flow_shape.specs.declared.fault.FlowFault.TheVariants.{BackwardJump, 
 use Rattle.flow_shape.proofs.FaultLemmas.{starts_inside}
 use Rattle.sessions.specs.declared.admission.AdmissionFault.{AdmissionFault}
 use Rattle.sessions.specs.declared.admission.AdmissionFault.TheVariants.{Decode, Flow, Verify}
-use Rattle.verifier.specs.Faults.{ExceedLimits}
 use Rattle.client_protocol.specs.declared.limits.Version.{Version}
-use Rattle.client_protocol.specs.declared.limits.Version.TheVariants.{One, Two}
-use Rattle.client_protocol.specs.Bodies.{limits_after}
-use Rattle.sessions.specs.Admissions.{admission_fault_unit, HasLargeWindow, IsNotRegistered}
+use Rattle.sessions.specs.Admissions.{admission_fault_unit, IsNotRegistered}
 
 -- ---- faults of decoding
 
@@ -79,20 +76,3 @@ refused_unit hello bytes sizes (Decode fault) (inr (few, inl is)) = let zero : d
 refused_unit hello bytes sizes (Decode fault) (inr (few, inr first)) = decode_unit bytes fault first
 refused_unit hello bytes sizes (Flow fault) (few, (program, spelled, first)) = let inside = flow_unit program fault first.has in omega (arith, inside, spelled.program.bounded)
 refused_unit hello bytes sizes (Verify fault) (few, (program, spelled, shaped, inside, limits)) = omega (arith, inside, spelled.program.bounded)
-
--- sizes above the limits of all programs are above those of each version
-pub exceed_large : (hello : Option Version) (sizes : Sizes) → ExceedLimits sizes → HasLargeWindow hello sizes
-exceed_large hello sizes exceed =
-    let most : (limits_after hello).value ≤ 1024 = at_most hello in
-    by exceed most
-  where
-    at_most : (h : Option Version) → (limits_after h).value ≤ 1024
-    at_most None = omega arith
-    at_most (Some One) = omega arith
-    at_most (Some Two) = omega arith
-
-    by : ExceedLimits sizes → (limits_after hello).value ≤ 1024 → HasLargeWindow hello sizes
-    by (inl key) most = inl key
-    by (inr (inl old)) most = inr (inl (omega (arith, old, most)))
-    by (inr (inr (inl arg))) most = inr (inr (inl (omega (arith, arg, most))))
-    by (inr (inr (inr result))) most = inr (inr (inr (omega (arith, result, most))))

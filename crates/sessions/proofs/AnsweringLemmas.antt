@@ -82,9 +82,14 @@ module _ {S : Type 0} (Answers : Option Version → S → Request → List Respo
       → AnswersInOrder Answers (hello_behind hello rs) mid ss b new → AnswersInOrder Answers hello old (rs ++ ss) (a ++ b) new
   run_then hello old mid new [] ss a b (nothing, same) later =
       subst (λ (t : List Response). AnswersInOrder Answers hello old ss (t ++ b) new) (sym nothing) (subst (λ (m : S). AnswersInOrder Answers hello m ss b new) same later)
-  run_then hello old mid new (r ∷ rs) ss a b (first, rest, next, answers, run, is) later =
-      (first, rest ++ b, next, answers, run_then (hello_after hello r) next mid new rs ss rest b run later,
-        ap (λ (t : List Response). t ++ b) is ∙ append_assoc (sendable hello first) rest b)
+  run_then hello old mid new (r ∷ rs) ss a b (first, rest, next, answers, run, is) later = (
+    first,
+    rest ++ b,
+    next,
+    answers,
+    run_then (hello_after hello r) next mid new rs ss rest b run later,
+    ap (λ (t : List Response). t ++ b) is ∙ append_assoc (sendable hello first) rest b,
+  )
 
   pub answered_then : (hello : Option Version) (old mid new : S) (rs ss : List Request) (v w : List ℕ) → Answered Answers hello old rs v mid
       → Answered Answers (hello_behind hello rs) mid ss w new → Answered Answers hello old (rs ++ ss) (v ++ w) new

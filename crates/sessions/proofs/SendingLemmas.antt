@@ -1,5 +1,5 @@
 -- What is sent of responses, by their values' lengths.
-use Rattle.std.proofs.Common.{◌≡◌, ℕ, zero, suc, ◌+◌, ◌<◌, ◌≤◌, Bool, true, false, map, get_or, List, [], ◌∷◌, ◌++◌, length, take, drop, Option, Some, refl, sym, ap, subst, ◌∙◌, append-nil, arith}
+use Rattle.std.proofs.Common.{◌≡◌, ℕ, zero, suc, ◌+◌, ◌<◌, ◌≤◌, Bool, true, false, map, get_or, List, [], ◌∷◌, ◌++◌, length, take, drop, Option, Some, refl, sym, ap, ◌∙◌, append-nil, arith}
 use Rattle.std.specs.Prelude.{nat_lt, ◌||◌}
 use Rattle.std.proofs.lemmas.Bool.Decides.{nat_tests}
 use Rattle.std.proofs.lemmas.List.{map-append}
@@ -7,7 +7,7 @@ use Rattle.bins.specs.Entries.{entry_of}
 use Rattle.atomic_methods.specs.declared.walk_reply.WalkReply.{WalkReply}
 use Rattle.client_protocol.specs.declared.limits.Version.{Version}
 use Rattle.client_protocol.specs.declared.response.Response.{Response}
-use Rattle.client_protocol.specs.declared.response.Response.TheVariants.{Value, Refused}
+use Rattle.client_protocol.specs.declared.response.Response.TheVariants.{Value}
 use Rattle.client_protocol.specs.Bodies.{limits_after}
 use Rattle.client_protocol.specs.Responses.{response_frame, response_frames}
 use Rattle.sessions.specs.Answering.{item_of, end_of, is_too_long, has_too_long, sendable, walk_responses}

@@ -29,11 +29,7 @@ fn program_call<'a>(request: &'a Request, program: Option<&'a Verified>) -> Opti
 {
     let program = program?;
     let made = match request.view() {
-        RequestView::Compute { key, arg, .. } => Call::Compute {
-            key,
-            program,
-            arg,
-        },
+        RequestView::Compute { key, arg, .. } => Call::Compute { key, program, arg },
         RequestView::ComputeIfAbsent { key, arg, .. } => Call::ComputeIfAbsent {
             key,
             program,

@@ -101,11 +101,7 @@ pub fn end_of(counts: Counts) -> ShortResponse
 
 // Writes the frame of the response with this value, whose bytes are written from where they lie; or one refusal, where it is too
 // long.
-fn send_value<W: Sink>(
-    writer: &mut W,
-    hello: Option<Version>,
-    value: &Value,
-) -> Result<(), Failed>
+fn send_value<W: Sink>(writer: &mut W, hello: Option<Version>, value: &Value) -> Result<(), Failed>
     requires { CanWrite (W.state writer.old) }
     ensures ok { OnOk result (TakesBytes (W.state writer.old) (W.state writer.new)
         (response_frames (sendable hello (Answered (Some value.now) ∷ [])))) }

@@ -1,4 +1,4 @@
-use Rattle.std.proofs.Common.{◌≤◌, ◌<◌, length, ap, sym, ◌∙◌, arith}
+use Rattle.std.proofs.Common.{◌≤◌, ◌<◌, length, ap, sym, arith}
 use Rattle.client_protocol.specs.Bodies.{limits_after}
 use Rattle.sessions.proofs.SendingLemmas.{short_more, long_among}
 use Rattle.sessions.proofs.session.send.have_too_long.Goals as goal
