@@ -34,5 +34,4 @@ pub use entry_columns::EntryColumns;
 pub use hashed_bins::HashedBins;
 pub use hashes::{HashedKey, hash_of};
 pub use list_bins::ListBins;
-pub use replacement::replace_value;
 pub use sorted_columns::SortedColumns;

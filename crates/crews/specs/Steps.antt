@@ -112,8 +112,8 @@ pub record AsksWithProgram (hello : Option Version) (old : Station) (number : â„
   pub finds : Finds old.tokens number found
   pub meets : CrewMeets hello old (with_program found asks) responses new
 
--- a request behind this Hello is answered by these responses, and the crew's passes and tokens are then so; what it asks for is by the program that
--- is found under the number that it names
+-- a request behind this Hello is answered by these responses, and the crew's passes and tokens are then so; what it asks for is
+-- by the program that is found under the number that it names
 pub record CrewServes (hello : Option Version) (old : Station) (request : Request) (responses : List Response) (new : Station) : Type 0 where
   pub found : Option Checked
   pub finds : IfSome (number_in request) (Î» number. Finds old.tokens number found)

@@ -104,7 +104,8 @@ fn answer_of(reply: Result<WalkReply, NoMemory>) -> Answer
 }
 
 impl<'a> Serving<'a> {
-    // Registers the program that the bytes spell, which came behind this Hello, and keeps its token; the room for that comes first.
+    // Registers the program that the bytes spell, which came behind this Hello, and keeps its token; the room for that comes
+    // first.
     fn register<H: Wait>(
         &mut self,
         rt: &H,
@@ -226,8 +227,8 @@ impl<'a> Serving<'a> {
         answer_of(reply)
     }
 
-    /// Answers the request, which came behind this Hello, behind the gate at `Request`. The value of an answer that found one is left in `value`; what that
-    /// held is lost.
+    /// Answers the request, which came behind this Hello, behind the gate at `Request`. The value of an answer that found one is
+    /// left in `value`; what that held is lost.
     pub fn answer<H: Threads + Wait + Sync, G: Gate + Sync>(
         &mut self,
         rt: &H,
