@@ -5,7 +5,7 @@ use crate::opening::STRIPES;
 use crate::programs::{SIZES, Sample, program};
 use anyhow::{Result, bail, ensure};
 use bpf_decode::encode;
-use map_server::{Alone, SessionEnd, session_alone};
+use sessions::{Alone, SessionEnd, session_alone};
 use std::alloc::Global;
 use std::sync::Wait;
 

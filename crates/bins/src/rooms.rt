@@ -62,6 +62,19 @@ impl ShortBytes {
         }
     }
 
+    // Copies the bytes in place; eight bytes, which a number has, as one word.
+    #[inline(always)]
+    fn set_from(&mut self, bytes: &[u8])
+        requires { length bytes.now ≤ SHORT_BYTES }
+        ensures { self.new ≡ bytes.now }
+    {
+        match <[u8; 8]>::try_from(bytes) {
+            Ok(number) => self.bytes[..8].copy_from_slice(&number),
+            Err(_) => self.bytes[..bytes.len()].copy_from_slice(bytes),
+        }
+        self.len = bytes.len() as u8;
+    }
+
     // These bytes.
     #[inline(always)]
     fn copied(bytes: &[u8]) -> ShortBytes
@@ -87,6 +100,20 @@ pub enum Place {
 }
 
 const _: () = prove!(size_of::<Place>() == 24);
+
+impl Place {
+    // Writes these bytes, which lie in the place from now on.
+    #[inline(always)]
+    fn set_short(&mut self, bytes: &[u8])
+        requires { length bytes.now ≤ SHORT_BYTES }
+        ensures { self.new ≡ Short bytes.now }
+    {
+        match self {
+            Place::Short(short) => short.set_from(bytes),
+            Place::Long(_) => *self = Place::Short(ShortBytes::copied(bytes)),
+        }
+    }
+}
 
 /// A long string, and the position whose place names it.
 #[derive(Drop)]
@@ -282,9 +309,9 @@ impl<const MOST: usize> Rooms<MOST> {
         ensures longs { vec_capacity self.new.longs ≡ vec_capacity self.old.longs }
     {
         let at = self.longs.len();
-        let mut long = LongBytes::new(position);
+        self.longs.push_reserved(LongBytes::new(position));
+        let long = &mut self.longs[at];
         long.set_from(bytes);
-        self.longs.push_reserved(long);
         self.places[position] = Place::Long(at);
     }
 
@@ -327,7 +354,8 @@ impl<const MOST: usize> Rooms<MOST> {
     {
         if bytes.len() <= SHORT_BYTES {
             self.shorten(position);
-            self.places[position] = Place::Short(ShortBytes::copied(bytes));
+            let place = &mut self.places[position];
+            place.set_short(bytes);
         } else {
             self.set_long(position, bytes);
         }
