@@ -78,23 +78,23 @@ names_one hello old request number found responses new call is finds meets =
     record { found = found; finds = rw (number_of_call request call ∙ is) finds; meets = meets }
 
 -- a walk runs the program that its request names
-pub serves_search : (hello : Option Version) (old : Station) (request : Request) (number : ℕ) (given arg : Option (List ℕ)) (threshold : ℕ) (responses : List Response) (new : Station)
-    → Search number given threshold ≡ request → arg ≡ given → AsksWithProgram hello old number (λ program. walk kind.Search program arg) responses new → CrewServes hello old request responses new
-serves_search hello old request number given arg threshold responses new is same asks =
+pub serves_search : (hello : Option Version) (old : Station) (request : Request) (number : ℕ) (arg : Option (List ℕ)) (threshold : ℕ) (responses : List Response) (new : Station)
+    → Search number arg threshold ≡ request → AsksWithProgram hello old number (λ program. walk kind.Search program arg) responses new → CrewServes hello old request responses new
+serves_search hello old request number arg threshold responses new is asks =
     let here : CrewServes hello old (Search number arg threshold) responses new = record { found = asks.found; finds = asks.finds; meets = asks.meets } in
-    subst (λ (r : Request). CrewServes hello old r responses new) (ap (λ (a : Option (List ℕ)). Search number a threshold) same ∙ is) here
+    subst (λ (r : Request). CrewServes hello old r responses new) is here
 
-pub serves_for_each : (hello : Option Version) (old : Station) (request : Request) (number : ℕ) (given arg : Option (List ℕ)) (threshold : ℕ) (responses : List Response) (new : Station)
-    → ForEach number given threshold ≡ request → arg ≡ given → AsksWithProgram hello old number (λ program. walk kind.ForEach program arg) responses new → CrewServes hello old request responses new
-serves_for_each hello old request number given arg threshold responses new is same asks =
+pub serves_for_each : (hello : Option Version) (old : Station) (request : Request) (number : ℕ) (arg : Option (List ℕ)) (threshold : ℕ) (responses : List Response) (new : Station)
+    → ForEach number arg threshold ≡ request → AsksWithProgram hello old number (λ program. walk kind.ForEach program arg) responses new → CrewServes hello old request responses new
+serves_for_each hello old request number arg threshold responses new is asks =
     let here : CrewServes hello old (ForEach number arg threshold) responses new = record { found = asks.found; finds = asks.finds; meets = asks.meets } in
-    subst (λ (r : Request). CrewServes hello old r responses new) (ap (λ (a : Option (List ℕ)). ForEach number a threshold) same ∙ is) here
+    subst (λ (r : Request). CrewServes hello old r responses new) is here
 
-pub serves_replacement : (hello : Option Version) (old : Station) (request : Request) (number : ℕ) (given arg : Option (List ℕ)) (responses : List Response) (new : Station)
-    → ReplaceAll number given ≡ request → arg ≡ given → AsksWithProgram hello old number (λ program. replacement program arg) responses new → CrewServes hello old request responses new
-serves_replacement hello old request number given arg responses new is same asks =
+pub serves_replacement : (hello : Option Version) (old : Station) (request : Request) (number : ℕ) (arg : Option (List ℕ)) (responses : List Response) (new : Station)
+    → ReplaceAll number arg ≡ request → AsksWithProgram hello old number (λ program. replacement program arg) responses new → CrewServes hello old request responses new
+serves_replacement hello old request number arg responses new is asks =
     let here : CrewServes hello old (ReplaceAll number arg) responses new = record { found = asks.found; finds = asks.finds; meets = asks.meets } in
-    subst (λ (r : Request). CrewServes hello old r responses new) (ap (λ (a : Option (List ℕ)). ReplaceAll number a) same ∙ is) here
+    subst (λ (r : Request). CrewServes hello old r responses new) is here
 
 pub serves_count : (hello : Option Version) (old : Station) (request : Request) (responses : List Response) (new : Station)
     → Count ≡ request → CrewMeets hello old count responses new → CrewServes hello old request responses new

@@ -165,48 +165,52 @@ impl<'a> Serving<'a> {
         self.call(rt, request, program, value)
     }
 
-    // A walk of the team, by the program of this number.
+    // A walk of the team, by the program of this number. Not inlined, so that a call clears no place for an argument.
+    #[inline(never)]
     fn walk<H: Threads + Wait + Sync, G: Gate + Sync>(
         &mut self,
         rt: &H,
         alloc: Global,
         kind: WalkKind,
         number: u64,
-        arg: &Option<Value>,
+        arg: Option<&Value>,
         threshold: u64,
         gate: &G,
     ) -> Answer
-        ensures { (hello : Option TheVersion) (bytes : List ℕ) → AsksWithProgram hello self.old number (λ program. walk kind program arg.now) (responses_of result bytes) self.new }
+        ensures { (hello : Option TheVersion) (bytes : List ℕ) → AsksWithProgram hello self.old number (λ program. walk kind program (option_copied arg.entry)) (responses_of result bytes) self.new }
     {
         let Some(program) = program_of(self.registry, &self.tokens, number) else {
             return Answer::One(unknown_program());
         };
+        let arg = argument_of(arg);
         let team = mem::replace(&mut self.team, Vec::new(alloc));
         let team = told(self.map, &self.pass, team);
         let (team, reply) = walk(
-            rt, alloc, kind, self.map, team, program, arg, threshold, gate,
+            rt, alloc, kind, self.map, team, program, &arg, threshold, gate,
         );
         self.team = heard(self.map, &mut self.pass, team);
         answer_of(reply)
     }
 
-    // The replacement of all values by the team, by the program of this number.
+    // The replacement of all values by the team, by the program of this number. Not inlined, as `walk` isn't.
+    #[inline(never)]
     fn replace_all<H: Threads + Wait + Sync, G: Gate + Sync>(
         &mut self,
         rt: &H,
         alloc: Global,
         number: u64,
-        arg: &Option<Value>,
+        arg: Option<&Value>,
         gate: &G,
     ) -> Answer
-        ensures { (hello : Option TheVersion) (bytes : List ℕ) → AsksWithProgram hello self.old number (λ program. replacement program arg.now) (responses_of result bytes) self.new }
+        ensures { (hello : Option TheVersion) (bytes : List ℕ) → AsksWithProgram hello self.old number (λ program. replacement program (option_copied arg.entry)) (responses_of result bytes) self.new }
     {
         let Some(program) = program_of(self.registry, &self.tokens, number) else {
             return Answer::One(unknown_program());
         };
+        let arg = argument_of(arg);
         let team = mem::replace(&mut self.team, Vec::new(alloc));
         let team = told(self.map, &self.pass, team);
-        let (team, reply) = replace_all(rt, alloc, self.map, team, program, arg, gate);
+        let (team, reply) = replace_all(rt, alloc, self.map, team, program, &arg, gate);
         self.team = heard(self.map, &mut self.pass, team);
         answer_of(reply)
     }
@@ -251,20 +255,14 @@ impl<'a> Serving<'a> {
                 program,
                 arg,
                 threshold,
-            } => {
-                let arg = argument_of(arg);
-                self.walk(rt, alloc, WalkKind::Search, program, &arg, threshold, gate)
-            }
+            } => self.walk(rt, alloc, WalkKind::Search, program, arg, threshold, gate),
             RequestView::ForEach {
                 program,
                 arg,
                 threshold,
-            } => {
-                let arg = argument_of(arg);
-                self.walk(rt, alloc, WalkKind::ForEach, program, &arg, threshold, gate)
-            }
+            } => self.walk(rt, alloc, WalkKind::ForEach, program, arg, threshold, gate),
             RequestView::ReplaceAll { program, arg } => {
-                self.replace_all(rt, alloc, program, &argument_of(arg), gate)
+                self.replace_all(rt, alloc, program, arg, gate)
             }
             RequestView::Count => self.count(rt, alloc, gate),
             _ => self.named_call(rt, request, value),

@@ -1,5 +1,5 @@
 //! What one client is served: a table of its own, and the programs that it registers.
-ghost use Rattle.std.specs.Prelude.{◌≡◌, ◌≢◌, ◌+◌, ◌↔◌, ℕ, List, [], ◌∷◌, Option, false, slice_get, IfOk, IsErrOf};
+ghost use Rattle.std.specs.Prelude.{◌≡◌, ◌≢◌, ◌+◌, ◌↔◌, ℕ, List, [], ◌∷◌, Option, false, option_copied, slice_get, IfOk, IsErrOf};
 ghost use Rattle.std.specs.Io.KnownBytes.{Appends, Consumes, IsAtEnd};
 ghost use Rattle.atomic_methods.specs.Hashes.{IsStripeCount};
 ghost use Rattle.client_protocol.specs.declared.limits.Version.{Version as TheVersion};
@@ -81,16 +81,18 @@ impl Alone {
         }
     }
 
-    /// Runs the program of this number over all entries.
-    fn walk(&self, alloc: Global, kind: WalkKind, number: u64, arg: &Option<Value>) -> Answer
+    /// Runs the program of this number over all entries. Not inlined, so that a call clears no place for an argument.
+    #[inline(never)]
+    fn walk(&self, alloc: Global, kind: WalkKind, number: u64, arg: Option<&Value>) -> Answer
         ensures { (hello : Option TheVersion) (bytes : List ℕ) → Meets hello self.now
-            (with_program (slice_get self.now.programs number) (λ program. walk kind program arg.now))
+            (with_program (slice_get self.now.programs number) (λ program. walk kind program (option_copied arg.entry)))
             (responses_of result bytes) self.now }
     {
         let Some(program) = self.programs.get(number) else {
             return Answer::One(unknown_program());
         };
-        match self.table.walk(alloc, kind, program, arg) {
+        let arg = argument_of(arg);
+        match self.table.walk(alloc, kind, program, &arg) {
             Ok(reply) => Answer::Walk(reply),
             Err(NoMemory) => Answer::One(no_memory()),
         }
@@ -103,14 +105,16 @@ impl Alone {
         Answer::Walk(count_of(alloc, self.table.count()))
     }
 
-    /// Replaces the value of each key by what the program of this number answers.
-    fn replace_all(&mut self, number: u64, arg: &Option<Value>) -> ShortResponse
+    /// Replaces the value of each key by what the program of this number answers. Not inlined, as `walk` isn't.
+    #[inline(never)]
+    fn replace_all(&mut self, number: u64, arg: Option<&Value>) -> ShortResponse
         ensures { (hello : Option TheVersion) → Meets hello self.old
-            (with_program (slice_get self.old.programs number) (λ program. replacement program arg.now))
+            (with_program (slice_get self.old.programs number) (λ program. replacement program (option_copied arg.entry)))
             (response_of result ∷ []) self.new }
     {
+        let arg = argument_of(arg);
         match self.programs.get(number) {
-            Some(program) => end_of(self.table.replace_each(program, arg)),
+            Some(program) => end_of(self.table.replace_each(program, &arg)),
             None => unknown_program(),
         }
     }
@@ -134,13 +138,13 @@ impl Service for Alone {
                 Answer::One(self.register(alloc, hello, sizes, program))
             }
             RequestView::Search { program, arg, .. } => {
-                self.walk(alloc, WalkKind::Search, program, &argument_of(arg))
+                self.walk(alloc, WalkKind::Search, program, arg)
             }
             RequestView::ForEach { program, arg, .. } => {
-                self.walk(alloc, WalkKind::ForEach, program, &argument_of(arg))
+                self.walk(alloc, WalkKind::ForEach, program, arg)
             }
             RequestView::ReplaceAll { program, arg } => {
-                Answer::One(self.replace_all(program, &argument_of(arg)))
+                Answer::One(self.replace_all(program, arg))
             }
             RequestView::Count => self.count(alloc),
             _ => self.call(request, value),

@@ -5,18 +5,18 @@ use Rattle.crews.proofs.serving.Serving.answer.Goals as goal
 
 pub returns-in-Search : goal.returns-in-Search
 returns-in-Search g c =
-    serves_search c.args.hello c.args.self.now c.args.request.now c.in-Search.program (option_copied c.in-Search.arg) c.argument_of-arg.result c.in-Search.threshold _ c.walk.new.self
-    (sym (ap viewed c.in-Search.is) ∙ c.view.ensures) c.argument_of-arg.ensures (c.walk.ensures c.args.hello c.args.value.now)
+    serves_search c.args.hello c.args.self.now c.args.request.now c.in-Search.program (option_copied c.in-Search.arg) c.in-Search.threshold _ c.walk.new.self
+    (sym (ap viewed c.in-Search.is) ∙ c.view.ensures) (c.walk.ensures c.args.hello c.args.value.now)
 
 pub returns-in-ForEach : goal.returns-in-ForEach
 returns-in-ForEach g c =
-    serves_for_each c.args.hello c.args.self.now c.args.request.now c.in-ForEach.program (option_copied c.in-ForEach.arg) c.argument_of-arg-in-ForEach.result c.in-ForEach.threshold _ c.walk-in-ForEach.new.self
-    (sym (ap viewed c.in-ForEach.is) ∙ c.view.ensures) c.argument_of-arg-in-ForEach.ensures (c.walk-in-ForEach.ensures c.args.hello c.args.value.now)
+    serves_for_each c.args.hello c.args.self.now c.args.request.now c.in-ForEach.program (option_copied c.in-ForEach.arg) c.in-ForEach.threshold _ c.walk-in-ForEach.new.self
+    (sym (ap viewed c.in-ForEach.is) ∙ c.view.ensures) (c.walk-in-ForEach.ensures c.args.hello c.args.value.now)
 
 pub returns-in-ReplaceAll : goal.returns-in-ReplaceAll
 returns-in-ReplaceAll g c =
-    serves_replacement c.args.hello c.args.self.now c.args.request.now c.in-ReplaceAll.program (option_copied c.in-ReplaceAll.arg) c.argument_of.result _ c.replace_all.new.self
-    (sym (ap viewed c.in-ReplaceAll.is) ∙ c.view.ensures) c.argument_of.ensures (c.replace_all.ensures c.args.hello c.args.value.now)
+    serves_replacement c.args.hello c.args.self.now c.args.request.now c.in-ReplaceAll.program (option_copied c.in-ReplaceAll.arg) _ c.replace_all.new.self
+    (sym (ap viewed c.in-ReplaceAll.is) ∙ c.view.ensures) (c.replace_all.ensures c.args.hello c.args.value.now)
 
 pub returns-in-Count : goal.returns-in-Count
 returns-in-Count g c =

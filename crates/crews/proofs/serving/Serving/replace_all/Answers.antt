@@ -1,4 +1,5 @@
-use Rattle.std.proofs.Common.{◌≡◌, ◌∙◌, ap, sym, subst, List, Some}
+use Rattle.std.proofs.Common.{◌≡◌, ◌∙◌, ℕ, ap, sym, subst, List, MatchResult, Option, Some, option_copied}
+use Rattle.bin_stripes.specs.Passes.{stripes_of}
 use Rattle.bulk_walks.specs.Walks.{ReplacesAll}
 use Rattle.program_registry.specs.declared.registry.ProgramToken.{ProgramToken}
 use Rattle.crews.specs.Stations.{Station}
@@ -9,11 +10,13 @@ use Rattle.crews.proofs.serving.Serving.replace_all.Goals as goal
 pub returns : goal.returns
 returns g c hello bytes =
     let s = c.self.inside in
+    let walked = subst (λ (arg : Option (List ℕ)). MatchResult c.replace_all-team.result.1 (λ reply. ReplacesAll (stripes_of s.map.now) c.in-Some.program.now arg c.told-team.result.passes.items c.replace_all-team.result.0.passes.items reply) (λ _. c.replace_all-team.result.0.passes.items ≡ c.told-team.result.passes.items))
+        c.argument_of-arg.ensures c.replace_all-team.ensures.walked in
     record {
       found = Some c.in-Some.program.now;
       finds = subst (λ (ts : List ProgramToken). Finds ts c.args.number (Some c.in-Some.program.now)) (c.deref.ensures.value ∙ ap (λ (t : Station). t.tokens) c.self.view_is) c.in-Some.ensures;
-      meets = walked_by_team (λ n before after reply. ReplacesAll n c.in-Some.program.now c.args.arg.now before after reply) (λ n before after. after ≡ before)
+      meets = walked_by_team (λ n before after reply. ReplacesAll n c.in-Some.program.now (option_copied c.args.arg) before after reply) (λ n before after. after ≡ before)
           c.args.self.now s.pass s.team.items s.tokens.items s.map.now c.replace-team.result.items c.told-team.result.passes.items c.replace_all-team.result.0.passes.items c.heard.result.items
           c.heard.new.pass c.replace_all-team.result.1 _ (sym c.self.view_is) c.self.invariant.0 (ap (λ v. v.items) c.replace-team.ensures.value) (ap (λ v. v.items) c.heard.ensures.passes)
-          c.told-team.ensures.told c.replace_all-team.ensures.walked c.heard.ensures.heard (c.answer_of.ensures bytes);
+          c.told-team.ensures.told walked c.heard.ensures.heard (c.answer_of.ensures bytes);
     }
