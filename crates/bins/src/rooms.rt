@@ -219,8 +219,8 @@ impl<const MOST: usize> Rooms<MOST> {
         }
     }
 
-    // Moves the long strings to where there is room for half as many again as these. They are not grown where they are: that
-    // would copy what was never written, and so touch it.
+    // Moves the long strings to where there is room for twice as many as these. They are not grown where they are: that would
+    // copy what was never written, and so touch it.
     #[inline(never)]
     fn move_longs(&mut self, many: usize) -> Result<(), NoMemory>
         requires bounded { many ≤ 2 ^ 57 }
@@ -229,7 +229,7 @@ impl<const MOST: usize> Rooms<MOST> {
         ensures places { self.new.places ≡ self.old.places }
         ensures longs { self.new.longs.items ≡ self.old.longs.items }
     {
-        let mut longs = Vec::with_capacity(*self.longs.allocator(), many + many / 2 + 4)?;
+        let mut longs = Vec::with_capacity(*self.longs.allocator(), 2 * many + 4)?;
         longs.append(&mut self.longs)?;
         self.longs = longs;
         Ok(())

@@ -1,7 +1,6 @@
-use Rattle.std.proofs.Common.{◌≡◌, ◌++◌, ◌∷◌, [], List, None, Ok, IsOk, refl, sym, ap, ◌∙◌, subst}
+use Rattle.std.proofs.Common.{◌++◌, ◌∷◌, [], None, IsOk, refl, sym, ap, ◌∙◌, subst}
 use Rattle.std.proofs.lemmas.List.{map_push}
 use Rattle.std.proofs.lemmas.List.Elements.{All-push}
-use Rattle.bins.specs.Table.{Entry}
 use Rattle.bulk_walks.specs.declared.running.Part.{Part}
 use Rattle.bulk_walks.specs.Turns.{found_in, found_of}
 use Rattle.bulk_walks.proofs.finding.parts_of.Goals as goal

@@ -1,5 +1,4 @@
-use Rattle.std.proofs.Common.{◌≡◌, ◌++◌, take, drop, length, map, sym, ◌∙◌, ap, subst, List, Option}
-use Rattle.atomic_methods.specs.declared.walk_reply.WalkReply.{WalkReply}
+use Rattle.std.proofs.Common.{◌≡◌, ◌++◌, take, drop, length, map, sym, ◌∙◌, ap, subst, List}
 use Rattle.bulk_walks.specs.declared.running.Part.{Part}
 use Rattle.bulk_walks.specs.Turns.{found_in, AreReplies}
 use Rattle.bulk_walks.proofs.Working.{kept}

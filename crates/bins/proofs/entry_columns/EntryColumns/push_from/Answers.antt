@@ -1,7 +1,7 @@
-use Rattle.std.proofs.Common.{◌≡◌, ◌<◌, ◌++◌, ◌∷◌, [], ℕ, List, length, sym, ap, ◌∙◌, arith}
+use Rattle.std.proofs.Common.{◌≡◌, ◌++◌, ◌∷◌, [], ℕ, List, length, sym, ap, ◌∙◌, arith}
 use Rattle.bins.specs.Columns.{string_at}
 use Rattle.bins.specs.Table.{Entry}
-use Rattle.bins.specs.Entries.{entries_in, entry_of}
+use Rattle.bins.specs.Entries.{entry_of}
 use Rattle.bins.proofs.PairedEntries.{joined, paired-length}
 use Rattle.bins.proofs.OrderedEntries.{paired-entry}
 use Rattle.bins.proofs.entry_columns.EntryColumns.push_from.Goals as goal

@@ -11,7 +11,7 @@ pub returns : goal.returns
 returns g c hello bytes =
     let s = c.self.inside in
     let walked = subst (λ (arg : Option (List ℕ)). MatchResult c.replace_all-team.result.1 (λ reply. ReplacesAll (stripes_of s.map.now) c.in-Some.program.now arg c.told-team.result.passes.items c.replace_all-team.result.0.passes.items reply) (λ _. c.replace_all-team.result.0.passes.items ≡ c.told-team.result.passes.items))
-        c.argument_of-arg.ensures c.replace_all-team.ensures.walked in
+    c.argument_of-arg.ensures c.replace_all-team.ensures.walked in
     record {
       found = Some c.in-Some.program.now;
       finds = subst (λ (ts : List ProgramToken). Finds ts c.args.number (Some c.in-Some.program.now)) (c.deref.ensures.value ∙ ap (λ (t : Station). t.tokens) c.self.view_is) c.in-Some.ensures;
