@@ -62,6 +62,15 @@ impl ShortBytes {
         }
     }
 
+    // Copies another one in place.
+    #[inline(always)]
+    fn copy_from(&mut self, other: &ShortBytes)
+        ensures { self.new ≡ other.now }
+    {
+        self.bytes.copy_from_slice(&other.bytes);
+        self.len = other.len;
+    }
+
     // Copies the bytes in place; eight bytes, which a number has, as one word.
     #[inline(always)]
     fn set_from(&mut self, bytes: &[u8])
@@ -111,6 +120,17 @@ impl Place {
         match self {
             Place::Short(short) => short.set_from(bytes),
             Place::Long(_) => *self = Place::Short(ShortBytes::copied(bytes)),
+        }
+    }
+
+    // Writes a copy of this string, which lies in the place from now on.
+    #[inline(always)]
+    fn copy_short(&mut self, other: &ShortBytes)
+        ensures { self.new ≡ Short other.now }
+    {
+        match self {
+            Place::Short(short) => short.copy_from(other),
+            Place::Long(_) => *self = Place::Short(other.duplicate()),
         }
     }
 }
@@ -219,8 +239,8 @@ impl<const MOST: usize> Rooms<MOST> {
         }
     }
 
-    // Moves the long strings to where there is room for twice as many as these. They are not grown where they are: that would
-    // copy what was never written, and so touch it.
+    // Moves the long strings to where there is room for so many, and for twice as many as before. They are not grown where they
+    // are: that would copy what was never written, and so touch it.
     #[inline(never)]
     fn move_longs(&mut self, many: usize) -> Result<(), NoMemory>
         requires bounded { many ≤ 2 ^ 57 }
@@ -229,7 +249,8 @@ impl<const MOST: usize> Rooms<MOST> {
         ensures places { self.new.places ≡ self.old.places }
         ensures longs { self.new.longs.items ≡ self.old.longs.items }
     {
-        let mut longs = Vec::with_capacity(*self.longs.allocator(), 2 * many + 4)?;
+        let room = many.max(self.longs.capacity().saturating_mul(2)).saturating_add(4);
+        let mut longs = Vec::with_capacity(*self.longs.allocator(), room)?;
         longs.append(&mut self.longs)?;
         self.longs = longs;
         Ok(())
@@ -361,18 +382,22 @@ impl<const MOST: usize> Rooms<MOST> {
         }
     }
 
-    // Writes a string behind the others that lies in its place.
+    // Writes a copy of a string behind the others that lies in its place. It is copied to where it stays: a copy by way of the
+    // stack waits for its own bytes.
     #[inline(always)]
-    fn push_short(&mut self, short: ShortBytes)
+    fn push_short(&mut self, short: &ShortBytes)
         requires matched { AreMatched self.old.places.items self.old.longs.items }
         requires room { length self.old.places.items < vec_capacity self.old.places }
         ensures matched { AreMatched self.new.places.items self.new.longs.items }
         ensures strings { strings_of self.new.places.items self.new.longs.items
-            ≡ strings_of self.old.places.items self.old.longs.items ++ short ∷ [] }
+            ≡ strings_of self.old.places.items self.old.longs.items ++ short.now ∷ [] }
         ensures places { vec_capacity self.new.places ≡ vec_capacity self.old.places }
         ensures longs { vec_capacity self.new.longs ≡ vec_capacity self.old.longs }
     {
-        self.places.push_reserved(Place::Short(short));
+        let position = self.places.len();
+        self.places.push_reserved(Place::Short(ShortBytes::new()));
+        let place = &mut self.places[position];
+        place.copy_short(short);
     }
 
     // Writes a string behind the others.
@@ -410,7 +435,7 @@ impl<const MOST: usize> Rooms<MOST> {
         ensures longs { vec_capacity self.new.longs ≡ vec_capacity self.old.longs }
     {
         match &other.places[position] {
-            Place::Short(short) => self.push_short(short.duplicate()),
+            Place::Short(short) => self.push_short(short),
             Place::Long(at) => {
                 let long = &other.longs[*at];
                 self.push_reserved(long.as_slice());
