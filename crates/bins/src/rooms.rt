@@ -67,7 +67,7 @@ impl ShortBytes {
     fn copy_from(&mut self, other: &ShortBytes)
         ensures { self.new ≡ other.now }
     {
-        self.bytes.copy_from_slice(&other.bytes);
+        self.bytes = other.bytes;
         self.len = other.len;
     }
 
