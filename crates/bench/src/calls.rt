@@ -18,6 +18,10 @@ pub enum Method {
     Get,
     /// Of the value 1.
     Put,
+    /// By the value 1.
+    Replace,
+    /// By the sum, with the argument 1.
+    Compute,
     /// Of the value 1, by the sum.
     Merge,
 }
@@ -28,6 +32,8 @@ impl Method {
         match name {
             "get" => Some(Method::Get),
             "put" => Some(Method::Put),
+            "replace" => Some(Method::Replace),
+            "compute" => Some(Method::Compute),
             "merge" => Some(Method::Merge),
             _ => None,
         }
@@ -38,6 +44,12 @@ impl Method {
         match self {
             Method::Get => Call::Get { key },
             Method::Put => Call::Put { key, value },
+            Method::Replace => Call::Replace { key, value },
+            Method::Compute => Call::Compute {
+                key,
+                program,
+                arg: Some(value),
+            },
             Method::Merge => Call::Merge {
                 key,
                 value,

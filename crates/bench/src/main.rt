@@ -30,7 +30,7 @@ use tables::call_often;
 use walk::{Walk, walk_often};
 
 /// What is printed where there are no words.
-const ROWS: [(&str, &[&str]); 25] = [
+const ROWS: [(&str, &[&str]); 30] = [
     ("answer", &["sum"]),
     ("answer", &["alu"]),
     ("answer", &["eight"]),
@@ -47,14 +47,19 @@ const ROWS: [(&str, &[&str]); 25] = [
     ("calls", &["get", "1000", "4", "500"]),
     ("calls", &["put", "1", "4", "500"]),
     ("calls", &["put", "1000", "4", "500"]),
+    ("calls", &["replace", "1000", "4", "500"]),
+    ("calls", &["compute", "1000", "4", "500"]),
     ("calls", &["merge", "1", "4", "500"]),
     ("calls", &["merge", "1000", "4", "500"]),
     ("calls", &["merge", "near", "4", "500"]),
     ("calls", &["merge", "apart", "4", "500"]),
     ("session", &["get", "2"]),
     ("session", &["put", "2"]),
+    ("session", &["replace", "2"]),
+    ("session", &["compute", "2"]),
     ("session", &["merge", "2"]),
     ("walk", &["for_each", "2", "1000", "1"]),
+    ("walk", &["search", "2", "1000", "1"]),
     ("walk", &["mapping_count", "2", "1000", "1"]),
 ];
 
@@ -77,7 +82,7 @@ fn calls_text<R: Threads + Wait + Sync>(
 ) -> Result<String> {
     let [method, keys, threads, count] = words;
     let Some(method) = Method::named(method) else {
-        bail!("the calls are get, put and merge");
+        bail!("the calls are get, put, replace, compute and merge");
     };
     let keys = Keys::named(keys)?;
     let sum = calls_sum(rt, alloc, method, keys, threads.parse()?, count.parse()?)?;
@@ -86,7 +91,7 @@ fn calls_text<R: Threads + Wait + Sync>(
 
 fn session_text<R: Wait>(rt: &R, alloc: Global, ask: &str, count: &str) -> Result<String> {
     let Some(ask) = Ask::named(ask) else {
-        bail!("the requests are get, put and merge");
+        bail!("the requests are get, put, replace, compute and merge");
     };
     let bytes = serve(rt, alloc, ask, count.parse()?)?;
     Ok(format!(in alloc; "{bytes} bytes are answered")?)
@@ -96,7 +101,7 @@ fn walk_text<R: Threads + Wait + Sync>(rt: &R, alloc: Global, words: &[&str; 4])
     let [walk, workers, entries, count] = words;
     let (workers, entries, count) = (workers.parse()?, entries.parse()?, count.parse()?);
     let Some(walk) = Walk::named(walk) else {
-        bail!("the walks are for_each and mapping_count");
+        bail!("the walks are for_each, search and mapping_count");
     };
     let (scanned, given) = walk_often(rt, alloc, walk, workers, entries, count)?;
     Ok(format!(in alloc; "{scanned} scanned, {given} given")?)

@@ -15,6 +15,10 @@ pub enum Ask {
     Get,
     /// Of the value 1.
     Put,
+    /// By the value 1.
+    Replace,
+    /// By the sum, with the argument 1.
+    Compute,
     /// Of the value 1, by the sum.
     Merge,
 }
@@ -30,6 +34,10 @@ const GET: u8 = 0x10;
 
 const PUT: u8 = 0x11;
 
+const REPLACE: u8 = 0x15;
+
+const COMPUTE: u8 = 0x17;
+
 const MERGE: u8 = 0x1a;
 
 // The length and the value of 1 in eight bytes, little-endian.
@@ -43,6 +51,8 @@ impl Ask {
         match name {
             "get" => Some(Ask::Get),
             "put" => Some(Ask::Put),
+            "replace" => Some(Ask::Replace),
+            "compute" => Some(Ask::Compute),
             "merge" => Some(Ask::Merge),
             _ => None,
         }
@@ -53,6 +63,8 @@ impl Ask {
         match self {
             Ask::Get => (GET, [b"", b""]),
             Ask::Put => (PUT, [ONE, b""]),
+            Ask::Replace => (REPLACE, [ONE, b""]),
+            Ask::Compute => (COMPUTE, [FIRST_PROGRAM, ONE]),
             Ask::Merge => (MERGE, [ONE, FIRST_PROGRAM]),
         }
     }

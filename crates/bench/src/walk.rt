@@ -7,7 +7,7 @@ use anyhow::{Result, bail};
 use atomic_methods::Call;
 use bin_stripes::{OpenGate, Pass, StripedMap};
 use bpf_model::{NoMemory, Value};
-use bulk_walks::{Team, WalkReply, for_each, mapping_count};
+use bulk_walks::{Team, WalkReply, for_each, mapping_count, search};
 use std::alloc::Global;
 use std::sync::Wait;
 use std::thread::Threads;
@@ -18,6 +18,8 @@ use verifier::Verified;
 pub enum Walk {
     /// The sum of each entry and the argument 1.
     ForEach,
+    /// The first of these, in the order of the keys.
+    Search,
     MappingCount,
 }
 
@@ -26,6 +28,7 @@ impl Walk {
     pub fn named(name: &str) -> Option<Walk> {
         match name {
             "for_each" => Some(Walk::ForEach),
+            "search" => Some(Walk::Search),
             "mapping_count" => Some(Walk::MappingCount),
             _ => None,
         }
@@ -73,6 +76,7 @@ fn walked<R: Threads + Wait + Sync>(
 {
     match walk {
         Walk::ForEach => for_each(rt, alloc, map, team, program, arg, 0, &OpenGate),
+        Walk::Search => search(rt, alloc, map, team, program, arg, 0, &OpenGate),
         Walk::MappingCount => mapping_count(rt, alloc, map, team, &OpenGate),
     }
 }
