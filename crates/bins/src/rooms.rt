@@ -239,18 +239,24 @@ impl<const MOST: usize> Rooms<MOST> {
         }
     }
 
-    // Moves the long strings to where there is room for so many, and for twice as many as before. They are not grown where they
-    // are: that would copy what was never written, and so touch it.
+    // Makes room for so many long strings, and for twice as many as before. Where most of the room is in use the list grows where
+    // it is. Else the strings are moved: to grow it would copy what was never written, and so touch it.
     #[inline(never)]
-    fn move_longs(&mut self, many: usize) -> Result<(), NoMemory>
+    fn grow_longs(&mut self, many: usize) -> Result<(), NoMemory>
         requires bounded { many ≤ 2 ^ 57 }
-        ensures ok { OnOk result (many < vec_capacity self.new.longs) }
+        requires more { vec_capacity self.old.longs < many }
+        ensures ok { OnOk result (many ≤ vec_capacity self.new.longs) }
         ensures err { OnErr result (vec_capacity self.new.longs ≡ vec_capacity self.old.longs) }
         ensures places { self.new.places ≡ self.old.places }
         ensures longs { self.new.longs.items ≡ self.old.longs.items }
     {
-        let room = many.max(self.longs.capacity().saturating_mul(2)).saturating_add(4);
-        let mut longs = Vec::with_capacity(*self.longs.allocator(), room)?;
+        let room = self.longs.capacity();
+        if self.longs.len() > room / 2 {
+            self.longs.try_reserve(many - self.longs.len())?;
+            return Ok(());
+        }
+        let wanted = many.max(room.saturating_mul(2)).saturating_add(4);
+        let mut longs = Vec::with_capacity(*self.longs.allocator(), wanted)?;
         longs.append(&mut self.longs)?;
         self.longs = longs;
         Ok(())
@@ -268,7 +274,7 @@ impl<const MOST: usize> Rooms<MOST> {
     {
         let many = self.places.len() + more;
         if self.longs.capacity() < many {
-            self.move_longs(many)?;
+            self.grow_longs(many)?;
         }
         self.places.try_reserve(more)?;
         Ok(())
