@@ -66,12 +66,12 @@ measure_walk() {
 for kind in get put merge; do
     for keys in 1 1000; do
         for threads in 1 2 4; do
-            measure_calls "$kind, $keys keys, $threads threads" $kind $keys $threads 200000
+            measure_calls "$kind, $keys keys, $threads threads" $kind $keys $threads 1000000
         done
     done
 done
-measure_calls "merge, a key for each of 4 threads, in stripes side by side" merge near 4 200000
-measure_calls "merge, a key for each of 4 threads, in stripes 8 apart" merge apart 4 200000
+measure_calls "merge, a key for each of 4 threads, in stripes side by side" merge near 4 1000000
+measure_calls "merge, a key for each of 4 threads, in stripes 8 apart" merge apart 4 1000000
 for kind in get put merge; do measure_session $kind 200; done
-measure_walk for_each 100000 5
-measure_walk mapping_count 100000 5
+measure_walk for_each 100000 20
+measure_walk mapping_count 100000 20

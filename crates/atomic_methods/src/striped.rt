@@ -140,7 +140,7 @@ impl Striped {
     {
         let entries = sorted_columns(alloc, &self.stripes)?;
         let reply = walk(alloc, kind, &entries, program, arg)?;
-        Ok(reply)
+        Ok(reply.into_reply())
     }
 
     /// How many entries there are. Takes no memory. Never waits.

@@ -5,14 +5,14 @@ ghost use Rattle.bins.specs.Table.{Entry};
 ghost use Rattle.atomic_methods.specs.declared.walk_reply.WalkKind.{WalkKind as AnyKind};
 ghost use Rattle.atomic_methods.specs.Replies.{IsReply, IsCount};
 
-use bins::{Counts, EntryColumns};
+use bins::{Counts, EntryList};
 use std::alloc::Global;
 
 /// What a walk answers.
 #[derive(Drop)]
 pub struct WalkReply {
     /// Keys with the answers that the walk gives, in key order.
-    pub items: EntryColumns,
+    pub items: EntryList,
     /// `scanned` and `unfit` count entries, and `given` the items.
     pub counts: Counts,
 }
@@ -43,7 +43,7 @@ pub enum WalkKind {
 pub fn count_of(alloc: Global, scanned: u64) -> WalkReply
     ensures { IsCount scanned result }
 {
-    let items = EntryColumns::new(alloc);
+    let items = EntryList::new(alloc);
     let counts = Counts {
         scanned,
         given: 0,

@@ -6,8 +6,9 @@ ghost use Rattle.bins.specs.Table.{Entry};
 ghost use Rattle.atomic_methods.specs.Plans.{outcome_by};
 ghost use Rattle.atomic_methods.specs.Replies.{chosen, IsReply};
 
+use crate::part_reply::PartReply;
 use crate::program::answer_into;
-use crate::walk_reply::{WalkKind, WalkReply};
+use crate::walk_reply::WalkKind;
 use bins::{Counts, EntryColumns, SortedColumns};
 use bpf_machine::Machine;
 use bpf_model::limits::{KEY_BYTES, VALUE_BYTES};
@@ -42,7 +43,7 @@ pub fn walk(
     entries: &SortedColumns,
     program: &Verified,
     arg: &Option<Value>,
-) -> Result<WalkReply, NoMemory>
+) -> Result<PartReply, NoMemory>
     ensures ok { IfOk result (λ reply. IsReply kind program.now arg.now entries.now reply) }
 {
     let mut items = EntryColumns::new(alloc);
@@ -63,7 +64,7 @@ pub fn walk(
         given: items.len() as u64,
         unfit,
     };
-    Ok(WalkReply { items, counts })
+    Ok(PartReply::new(items, counts))
 }
 
 // How many answers a walk over so many entries gives at most.

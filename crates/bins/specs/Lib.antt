@@ -10,3 +10,4 @@ pub mod Chains
 pub mod Trees
 pub mod Finders
 pub mod Fronts
+pub mod Lists

@@ -1,5 +1,5 @@
 -- The merge of lists in key order, an entry at a time.
-use Rattle.std.proofs.Common.{◌≡◌, ◌≢◌, ℕ, zero, suc, ◌+◌, ◌<◌, ◌≤◌, List, [], ◌∷◌, ◌++◌, cond, true, false, All, get_or, set, append_assoc, length, length-set, inl, inr, take, sum_by, refl, sym, ap, ◌∙◌, subst, arith, T}
+use Rattle.std.proofs.Common.{◌≡◌, ◌≢◌, ℕ, zero, suc, ◌+◌, ◌<◌, ◌≤◌, List, [], ◌∷◌, ◌++◌, map, cond, true, false, All, get_or, set, append_assoc, length, length-set, inl, inr, take, sum_by, refl, sym, ap, ◌∙◌, subst, arith, T}
 use Rattle.std.specs.declared.cmp.Ordering.TheVariants.{Less, Equal, Greater}
 use Rattle.std.specs.Ordering.{is_eq, is_lt, ordering_reverse}
 use Rattle.std.specs.Cmp.{IsStrictWeakOrder}
@@ -7,18 +7,19 @@ use Rattle.std.specs.Cmp.Lexicographic.{nat_list_cmp_total}
 use Rattle.std.specs.FinMap.{is_sorted, slice_cmp-IsAntisymmetric, nat_cmp-IsAntisymmetric}
 use Rattle.std.proofs.lemmas.Cmp.{tied_itself}
 use Rattle.std.proofs.lemmas.Bool.{false≢true, cases_eq}
-use Rattle.std.proofs.lemmas.List.{get_or-set_same, get_or-set_other, get_or_default, get_or-map, length-map, append-nil, take_all}
+use Rattle.std.proofs.lemmas.List.{get_or-set_same, get_or-set_other, get_or_default, get_or-map, set-get_or, map-set, length-map, append-nil, take_all}
 use Rattle.std.proofs.Math.Seq.{take-append_seam}
 use Rattle.std.proofs.lemmas.List.MinMax.{ranks_by}
 use Rattle.std.proofs.lemmas.List.Elements.{All-from_get_or, All-head, All-tail}
 use Rattle.std.proofs.lemmas.List.Sums.{sum_by-cons, sum_by-le, sum_by-set, get_or-le-sum_by}
 use Rattle.bins.specs.Entries.{entry_of}
+use Rattle.bins.specs.Lists.{entry_at}
 use Rattle.bins.specs.Fronts.{front, AreBytes}
 use Rattle.bins.proofs.FrontLemmas.{by_front}
 use Rattle.bins.specs.Table.{Entry, by_bytes}
 use Rattle.atomic_methods.specs.declared.walk_reply.WalkReply.{WalkReply}
 use Rattle.bulk_walks.specs.Turns.{items_in}
-use Rattle.bulk_walks.specs.Merges.{HasAll, comes_first, TakesFirst}
+use Rattle.bulk_walks.specs.Merges.{Remains, HasAll, comes_first, lefts_of, left_of, lists_of, whole_of, TakesFirst}
 use Rattle.bins.proofs.SameEntries.{one_if, at_key, first, second, above, at_entry, at_itself, none_above, at_most_key, tied_by_one, same_entries}
 use Rattle.bulk_walks.proofs.Sums.{sum_of_ones}
 use Rattle.bulk_walks.proofs.TeamLemmas.{head_of}
@@ -222,6 +223,28 @@ module _ (rests : List (List Entry)) (place : ℕ) (inside : place < length rest
       none [] h = refl
       none (e ∷ es) h = absurd (false≢true (sym h))
 
+-- an entry is taken from what is left of the list at the place
+module _ (rests : List Remains) (place : ℕ) (inside : place < length rests) (old new : Remains) (was : get_or rests place old ≡ old) (list : new.list ≡ old.list) where
+  at_place : {X : Type 0} → (f : Remains → X) → (d : X) → get_or (map f rests) place d ≡ f old
+  at_place f d = get_or-map f rests place old d inside ∙ ap f was
+
+  -- the lists are as they were
+  pub lists_kept : lists_of (set rests place new) ≡ lists_of rests
+  lists_kept =
+      let f : Remains → List Entry = λ rest. rest.list in
+      map-set f rests place new ∙ ap (λ (es : List Entry). set (map f rests) place es) (list ∙ sym (at_place f [])) ∙ set-get_or (map f rests) place []
+
+  -- and the entry is the one at that place of them
+  pub takes_first : (position : ℕ) → left_of old ≡ entry_of old.list position ∷ left_of new → IsLeast (lefts_of rests) place
+      → TakesFirst (lefts_of rests) (entry_at (lists_of rests) (record { list = place; position = position })) (lefts_of (set rests place new))
+  takes_first position first least =
+      let few : place < length (lefts_of rests) = omega (arith, inside, length-map rests left_of) in
+      let here : get_or (lefts_of rests) place [] ≡ entry_of old.list position ∷ left_of new = at_place left_of [] ∙ first in
+      let item : entry_of old.list position ≡ entry_at (lists_of rests) (record { list = place; position = position }) = ap (λ (es : List Entry). entry_of es position) (sym (at_place (λ rest. rest.list) [])) in
+      subst (λ (e : Entry). TakesFirst (lefts_of rests) e (lefts_of (set rests place new))) item
+      (subst (λ (ls : List (List Entry)). TakesFirst (lefts_of rests) (entry_of old.list position) ls) (sym (map-set left_of rests place new))
+      (taken (lefts_of rests) place few least (entry_of old.list position) (left_of new) here))
+
 pub empty_of : (es : List Entry) → length es ≡ 0 → es ≡ []
 empty_of [] none = refl
 empty_of (e ∷ es) none = absurd (omega (arith, none))
@@ -277,6 +300,15 @@ take_whole lists all count has is =
         let b = sum_by-cons (λ (xs : List Entry). length xs) es ls in
         let c = sum_of_ones es in
         omega (arith, rest, a, b, c)
+
+-- where nothing was taken, the lists are left
+pub lefts_whole : (lists : List (List Entry)) → lefts_of (map whole_of lists) ≡ lists
+lefts_whole [] = refl
+lefts_whole (es ∷ lists) = ap (λ (ls : List (List Entry)). es ∷ ls) (lefts_whole lists)
+
+pub lists_whole : (lists : List (List Entry)) → lists_of (map whole_of lists) ≡ lists
+lists_whole [] = refl
+lists_whole (es ∷ lists) = ap (λ (ls : List (List Entry)). es ∷ ls) (lists_whole lists)
 
 -- what holds of each reply's items
 pub sorted_items : (replies : List WalkReply) → All (λ r. T (is_sorted by_bytes r.items)) replies → All (λ es. T (is_sorted by_bytes es)) (items_in replies)

@@ -1,15 +1,36 @@
 -- One reply from several.
-use Rattle.std.specs.Prelude.{◌≡◌, ◌<◌, ℕ, Bool, true, false, T, All, List, [], ◌∷◌, Option, MatchOption, length, slice_index_or, slice_set, sum_by}
+use Rattle.std.specs.Prelude.{◌≡◌, ◌<◌, ℕ, Bool, true, false, T, All, List, [], ◌∷◌, Option, MatchOption, length, map, drop, slice_index_or, slice_set, sum_by}
 use Rattle.std.specs.FinMap as finmap
 use Rattle.std.specs.Ordering.{is_lt}
-use denote.Ref.{Bor}
 use Rattle.bins.specs.declared.counts.Counts.{Counts}
-use Rattle.bins.specs.Entries.{entry_of}
+use Rattle.bins.specs.Lists.{entry_at}
+use Rattle.bins.specs.declared.entry_list.EntryPlace.{EntryPlace}
 use Rattle.bins.specs.Table.{Entry, by_bytes}
 use Rattle.atomic_methods.specs.declared.walk_reply.WalkKind.{WalkKind}
 use Rattle.atomic_methods.specs.declared.walk_reply.WalkReply.{WalkReply}
 use Rattle.atomic_methods.specs.Replies.{chosen}
 use Rattle.bulk_walks.specs.Turns.{items_in}
+
+-- a list, of which so many entries were taken from the front
+pub record Remains : Type 0 where
+  pub list : List Entry
+  pub taken : ℕ
+
+-- nothing was taken
+abbrev pub whole_of : List Entry → Remains
+whole_of list = record { list = list; taken = 0 }
+
+-- what is left
+abbrev pub left_of : Remains → List Entry
+left_of remains = drop remains.taken remains.list
+
+-- of each
+abbrev pub lefts_of : List Remains → List (List Entry)
+lefts_of rests = map left_of rests
+
+-- and the lists as they were
+abbrev pub lists_of : List Remains → List (List Entry)
+lists_of rests = map (λ rest. rest.list) rests
 
 -- each entry stands in `all` as often as in the lists
 abbrev pub HasAll : List Entry → List (List Entry) → Type 0
@@ -30,9 +51,9 @@ pub record TakesFirst (old : List (List Entry)) (entry : Entry) (new : List (Lis
   pub least : All (λ list. comes_first list (entry ∷ behind) ≡ false) old
   pub now : new ≡ slice_set old place behind
 
--- or none, since all lists are empty
-abbrev pub TakesLeast : List (List Entry) → Option (Bor (List Entry) × ℕ) → List (List Entry) → Type 0
-TakesLeast old taken new = MatchOption taken (All (λ list. list ≡ []) old) (λ at. TakesFirst old (entry_of at.0.now at.1) new)
+-- the entry at this place of the lists was taken so; or none, since nothing is left of them
+abbrev pub TakesLeast : List (List Entry) → List (List Entry) → Option EntryPlace → List (List Entry) → Type 0
+TakesLeast lists old taken new = MatchOption taken (All (λ list. list ≡ []) old) (λ place. TakesFirst old (entry_at lists place) new)
 
 -- one number of each kind is the sum of what the replies counted
 pub record CountsAdd (replies : List WalkReply) (total : Counts) : Type 0 where

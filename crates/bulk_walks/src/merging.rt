@@ -1,25 +1,26 @@
 //! One reply from those of the workers.
-ghost use Rattle.std.specs.Prelude.{◌≡◌, ℕ, ◌+◌, ◌<◌, ◌≤◌, ◌^◌, ◌∷◌, ◌↔◌, [], All, IfOk, IfSome, IsTrue, List, MatchOption, T, length, slice_index_or, sum_by, take, false};
+ghost use Rattle.std.specs.Prelude.{◌≡◌, ℕ, ◌+◌, ◌<◌, ◌≤◌, ◌^◌, ◌∷◌, ◌↔◌, [], All, IfOk, IfSome, IsTrue, List, MatchOption, T, length, map, slice_index_or, sum_by, take, false};
 ghost use Rattle.std.specs.FinMap as finmap;
 ghost use Rattle.bins.specs.Entries.{entry_of};
 ghost use Rattle.bins.specs.Fronts.{front, AreBytes};
+ghost use Rattle.bins.specs.Lists.{entry_at};
 ghost use Rattle.bins.specs.Table.{Entry, by_bytes};
 ghost use Rattle.bulk_walks.specs.Turns.{items_in};
-ghost use Rattle.bulk_walks.specs.Merges.{comes_first, HasAll, TakesLeast, IsMerge, CountsAdd};
+ghost use Rattle.bulk_walks.specs.Merges.{comes_first, left_of, lefts_of, lists_of, whole_of, HasAll, TakesLeast, IsMerge, CountsAdd};
 
 use crate::replace::{ZERO, add};
-use atomic_methods::{WalkKind, WalkReply};
-use bins::{Counts, EntryColumns};
+use atomic_methods::{PartReply, WalkKind, WalkReply};
+use bins::{Counts, EntryColumns, EntryList, EntryPlace};
 use bpf_model::NoMemory;
 use std::alloc::Global;
 use std::marker::Model;
 
 // The reply of this kind that is made of replies of the kind `ForEach`, each with its items in key order. `NoMemory` where
-// a request for memory was refused. Where one reply has all items none is copied.
+// a request for memory was refused. The items of one reply that has all, or of `ForEach`, are not copied.
 pub(crate) fn merged(
     alloc: Global,
     kind: WalkKind,
-    replies: Vec<WalkReply>,
+    replies: Vec<PartReply>,
 ) -> Result<WalkReply, NoMemory>
     requires order { All (λ reply. T (finmap.is_sorted by_bytes reply.items)) replies.items }
     requires counted { All (λ reply. reply.counts.given ≡ length reply.items) replies.items }
@@ -30,7 +31,7 @@ pub(crate) fn merged(
 {
     let total = total_of(&replies);
     let items = match kind {
-        WalkKind::Search => first_items(alloc, &replies, 1)?,
+        WalkKind::Search => first_item(alloc, replies)?,
         WalkKind::ForEach => all_items(alloc, replies, total.given as usize)?,
     };
     let given = items.len() as u64;
@@ -39,7 +40,7 @@ pub(crate) fn merged(
 }
 
 // What all replies counted.
-fn total_of(replies: &[WalkReply]) -> Counts
+fn total_of(replies: &[PartReply]) -> Counts
     requires scanned { sum_by (λ reply. reply.counts.scanned) replies.now < 2 ^ 64 }
     requires given { sum_by (λ reply. reply.counts.given) replies.now < 2 ^ 64 }
     requires unfit { sum_by (λ reply. reply.counts.unfit) replies.now < 2 ^ 64 }
@@ -47,60 +48,91 @@ fn total_of(replies: &[WalkReply]) -> Counts
 {
     let mut total = ZERO;
     for reply in replies {
-        add(&mut total, reply.counts);
+        add(&mut total, reply.counts());
     }
     total
 }
 
-// All items of all replies, so many, in key order: those of one reply where it has all of them, and else copies.
+// The first item of all replies in key order: a copy, since the others are given up.
+fn first_item(alloc: Global, replies: Vec<PartReply>) -> Result<EntryList, NoMemory>
+    requires order { All (λ reply. T (finmap.is_sorted by_bytes reply.items)) replies.items }
+    ensures { IfOk result (λ items. (all : List Entry) → T (finmap.is_sorted by_bytes all) → HasAll all (items_in replies.items) → items ≡ take 1 all) }
+{
+    let first = first_items(alloc, replies, 1)?;
+    let copy = first.copied(alloc)?;
+    Ok(EntryList::in_order(copy))
+}
+
+// All items of all replies, so many, in key order: those of one reply where it has all of them.
 fn all_items(
     alloc: Global,
-    mut replies: Vec<WalkReply>,
+    mut replies: Vec<PartReply>,
     count: usize,
-) -> Result<EntryColumns, NoMemory>
+) -> Result<EntryList, NoMemory>
     requires order { All (λ reply. T (finmap.is_sorted by_bytes reply.items)) replies.items }
     requires counted { count ≡ sum_by (λ items. length items) (items_in replies.items) }
     ensures { IfOk result (λ items. (all : List Entry) → T (finmap.is_sorted by_bytes all) → HasAll all (items_in replies.items) → items ≡ all) }
 {
     if let Some(place) = place_with(&replies, count) {
-        let WalkReply { items, .. } = replies.swap_remove(place);
-        return Ok(items);
+        let reply = replies.swap_remove(place);
+        return Ok(EntryList::in_order(reply.into_items()));
     }
-    let items = first_items(alloc, &replies, count)?;
+    let items = first_items(alloc, replies, count)?;
     Ok(items)
 }
 
 // The place of a reply that has so many items.
-fn place_with(replies: &[WalkReply], count: usize) -> Option<usize>
+fn place_with(replies: &[PartReply], count: usize) -> Option<usize>
     ensures range { IfSome result (λ place. place < length replies.now) }
     ensures count { IfSome result (λ place. length (slice_index_or (items_in replies.now) place []) ≡ count) }
 {
     for place in 0..replies.len() {
-        if replies[place].items.len() == count {
+        if replies[place].items().len() == count {
             return Some(place);
         }
     }
     None
 }
 
-// Copies of the first `most` items of all replies, in key order.
-fn first_items(alloc: Global, replies: &[WalkReply], most: usize) -> Result<EntryColumns, NoMemory>
-    requires order { All (λ reply. T (finmap.is_sorted by_bytes reply.items)) replies.now }
-    ensures { IfOk result (λ items. (all : List Entry) → T (finmap.is_sorted by_bytes all) → HasAll all (items_in replies.now) → items ≡ take most all) }
+// The first `most` items of all replies, in key order. They stay where they are.
+fn first_items(alloc: Global, replies: Vec<PartReply>, most: usize) -> Result<EntryList, NoMemory>
+    requires order { All (λ reply. T (finmap.is_sorted by_bytes reply.items)) replies.items }
+    ensures { IfOk result (λ items. (all : List Entry) → T (finmap.is_sorted by_bytes all) → HasAll all (items_in replies.items) → items ≡ take most all) }
 {
-    let mut rests = rests_of(alloc, replies)?;
-    let mut items = EntryColumns::new(alloc);
-    items.reserve(most)?;
-    for given in 0..most {
-        let Some((found, position)) = take_least(&mut rests) else {
-            return Ok(items);
-        };
-        items.push_from(found, position)?;
-    }
-    Ok(items)
+    let places = first_places(alloc, &replies, most)?;
+    let lists = lists_in(alloc, replies)?;
+    Ok(EntryList::merged(lists, places))
 }
 
-/// Items that are lent, but for the first ones. The first key that is left is kept at hand, with its first bytes as a number.
+// The items of each reply.
+fn lists_in(alloc: Global, replies: Vec<PartReply>) -> Result<Vec<EntryColumns>, NoMemory>
+    ensures { IfOk result (λ lists. lists.items ≡ items_in replies.items) }
+{
+    let mut lists = Vec::with_capacity(alloc, replies.len())?;
+    for reply in replies {
+        lists.push(reply.into_items())?;
+    }
+    Ok(lists)
+}
+
+// The places of the first `most` items of all replies, in key order.
+fn first_places(alloc: Global, replies: &[PartReply], most: usize) -> Result<Vec<EntryPlace>, NoMemory>
+    requires order { All (λ reply. T (finmap.is_sorted by_bytes reply.items)) replies.now }
+    ensures { IfOk result (λ places. (all : List Entry) → T (finmap.is_sorted by_bytes all) → HasAll all (items_in replies.now) → map (entry_at (items_in replies.now)) places.items ≡ take most all) }
+{
+    let mut rests = rests_of(alloc, replies)?;
+    let mut places = Vec::with_capacity(alloc, most)?;
+    for given in 0..most {
+        let Some(place) = take_least(&mut rests) else {
+            return Ok(places);
+        };
+        places.push(place)?;
+    }
+    Ok(places)
+}
+
+/// Items that are lent, and how many were taken from their front. The first key that is left is kept at hand, with its first
+/// bytes as a number.
 #[derive(Drop)]
 struct Rest<'a> {
     items: &'a EntryColumns,
@@ -110,14 +142,14 @@ struct Rest<'a> {
 }
 
 impl<'a> Model for Rest<'a> {
-    ghost use Rattle.std.specs.Prelude.{◌≡◌, List, drop};
+    ghost use Rattle.std.specs.Prelude.{◌≡◌};
     ghost use Rattle.bins.specs.Entries.{entry_of};
     ghost use Rattle.bins.specs.Fronts.{front, AreBytes};
-    ghost use Rattle.bins.specs.Table.{Entry};
+    ghost use Rattle.bulk_walks.specs.Merges.{Remains};
 
-    ghost Value = { List Entry };
+    ghost Value = { Remains };
 
-    ghost view = { λ rest. drop rest.next rest.items.now };
+    ghost view = { λ rest. record { list = rest.items.now; taken = rest.next } };
 
     ghost invariant = { λ rest. (rest.key.now ≡ (entry_of rest.items.now rest.next).0)
         × (rest.lead ≡ front 8 (entry_of rest.items.now rest.next).0) × AreBytes (entry_of rest.items.now rest.next).0 };
@@ -126,7 +158,7 @@ impl<'a> Model for Rest<'a> {
 impl<'a> Rest<'a> {
     // All of these items.
     fn new(items: &'a EntryColumns) -> Rest<'a>
-        ensures { result ≡ items.now }
+        ensures { result ≡ record { list = items.now; taken = 0 } }
     {
         Rest {
             items,
@@ -139,7 +171,7 @@ impl<'a> Rest<'a> {
     // Whether nothing is left.
     #[inline(always)]
     fn is_over(&self) -> bool
-        ensures exact { IsTrue result ↔ (length self.now ≡ 0) }
+        ensures exact { IsTrue result ↔ (length (left_of self.now) ≡ 0) }
     {
         self.next >= self.items.len()
     }
@@ -147,7 +179,7 @@ impl<'a> Rest<'a> {
     // The first key; no bytes where nothing is left.
     #[inline(always)]
     fn key(&self) -> &'a [u8]
-        ensures value { result.now ≡ (entry_of self.now 0).0 }
+        ensures value { result.now ≡ (entry_of (left_of self.now) 0).0 }
     {
         self.key
     }
@@ -155,58 +187,59 @@ impl<'a> Rest<'a> {
     // The first bytes of the first key, as a number.
     #[inline(always)]
     fn lead(&self) -> u64
-        ensures value { result ≡ front 8 (entry_of self.now 0).0 }
-        ensures bytes { AreBytes (entry_of self.now 0).0 }
+        ensures value { result ≡ front 8 (entry_of (left_of self.now) 0).0 }
+        ensures bytes { AreBytes (entry_of (left_of self.now) 0).0 }
     {
         self.lead
     }
 
-    // Takes the first entry, where there is one: it stands at that position of these columns.
+    // Takes the first item, where there is one: its position.
     #[inline(always)]
-    fn take_first(&mut self) -> Option<(&'a EntryColumns, usize)>
-        ensures first { MatchOption result (self.old ≡ []) (λ at. self.old ≡ entry_of at.0.now at.1 ∷ self.new) }
-        ensures range { IfSome result (λ at. at.1 < length at.0.now) }
+    fn take_first(&mut self) -> Option<usize>
+        ensures first { MatchOption result (left_of self.old ≡ []) (λ position. left_of self.old ≡ entry_of self.old.list position ∷ left_of self.new) }
+        ensures list { self.new.list ≡ self.old.list }
     {
         if self.next >= self.items.len() {
             return None;
         }
-        let at = (self.items, self.next);
+        let position = self.next;
         self.next += 1;
         self.key = self.items.key(self.next);
         self.lead = self.items.front(self.next);
-        Some(at)
+        Some(position)
     }
 }
 
 // The items of each reply.
-fn rests_of<'a>(alloc: Global, replies: &'a [WalkReply]) -> Result<Vec<Rest<'a>>, NoMemory>
-    ensures { IfOk result (λ rests. rests.items ≡ items_in replies.now) }
+fn rests_of<'a>(alloc: Global, replies: &'a [PartReply]) -> Result<Vec<Rest<'a>>, NoMemory>
+    ensures { IfOk result (λ rests. rests.items ≡ map whole_of (items_in replies.now)) }
 {
     let mut rests = Vec::with_capacity(alloc, replies.len())?;
     for reply in replies {
-        rests.push(Rest::new(&reply.items))?;
+        rests.push(Rest::new(reply.items()))?;
     }
     Ok(rests)
 }
 
-// Takes the first entry of a rest, with the least key of all: where it stands. None where all rests are empty.
-fn take_least<'a>(rests: &mut Vec<Rest<'a>>) -> Option<(&'a EntryColumns, usize)>
-    ensures least { TakesLeast rests.old.items result rests.new.items }
-    ensures range { IfSome result (λ at. at.1 < length at.0.now) }
+// Takes the first item of a rest, with the least key of all: where it lies. None where all rests are empty.
+fn take_least(rests: &mut Vec<Rest<'_>>) -> Option<EntryPlace>
+    ensures least { TakesLeast (lists_of rests.old.items) (lefts_of rests.old.items) result (lefts_of rests.new.items) }
+    ensures lists { lists_of rests.new.items ≡ lists_of rests.old.items }
 {
     if rests.is_empty() {
         return None;
     }
-    let place = least(rests);
-    let rest = &mut rests[place];
-    rest.take_first()
+    let list = least(rests);
+    let rest = &mut rests[list];
+    let position = rest.take_first()?;
+    Some(EntryPlace { list, position })
 }
 
 // The place of a rest before which no other comes.
 fn least(rests: &[Rest<'_>]) -> usize
     requires { 0 < length rests.now }
     ensures place { result < length rests.now }
-    ensures least { All (λ rest. comes_first rest (slice_index_or rests.now result rest) ≡ false) rests.now }
+    ensures least { All (λ left. comes_first left (slice_index_or (lefts_of rests.now) result left) ≡ false) (lefts_of rests.now) }
 {
     let mut place = 0;
     for other in 1..rests.len() {
@@ -220,7 +253,7 @@ fn least(rests: &[Rest<'_>]) -> usize
 // Whether the one rest's first key comes before the other's. An empty rest comes last.
 #[inline(always)]
 fn is_first(one: &Rest<'_>, other: &Rest<'_>) -> bool
-    ensures { result ≡ comes_first one.now other.now }
+    ensures { result ≡ comes_first (left_of one.now) (left_of other.now) }
 {
     if one.is_over() {
         return false;

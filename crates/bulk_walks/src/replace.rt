@@ -9,7 +9,7 @@ use crate::team::Team;
 use crate::workers::work;
 use atomic_methods::WalkReply;
 use bin_stripes::{Gate, Pass, Place, StripedMap};
-use bins::{Counts, EntryColumns};
+use bins::{Counts, EntryList};
 use bpf_model::{NoMemory, Value};
 use std::alloc::Global;
 use std::sync::Wait;
@@ -106,6 +106,6 @@ pub fn replace_all<R: Threads + Wait + Sync, G: Gate + Sync>(
         return (team, Err(NoMemory));
     };
     let counts = sum_of(&answers);
-    let items = EntryColumns::new(alloc);
+    let items = EntryList::new(alloc);
     (team, Ok(WalkReply { items, counts }))
 }

@@ -5,7 +5,7 @@ ghost use Rattle.atomic_methods.specs.Replies.{IsReply};
 ghost use Rattle.bulk_walks.specs.Turns.{found_in, AreReplies};
 ghost use Rattle.bulk_walks.specs.declared.running.Part.{Part as WorkersPart};
 
-use atomic_methods::{WalkKind, WalkReply, walk};
+use atomic_methods::{PartReply, WalkKind, walk};
 use bins::SortedColumns;
 use bpf_model::{NoMemory, Value};
 use std::alloc::Global;
@@ -18,7 +18,7 @@ use verifier::Verified;
 #[derive(Drop)]
 pub(crate) struct Part {
     pub(crate) found: SortedColumns,
-    pub(crate) reply: Option<WalkReply>,
+    pub(crate) reply: Option<PartReply>,
 }
 
 // Runs the program on the entries of one part.
@@ -53,7 +53,7 @@ fn run_each<R: Threads + Sync>(
 }
 
 // The replies of all parts. `NoMemory` where one has none.
-fn replies_of(alloc: Global, parts: Vec<Part>) -> Result<Vec<WalkReply>, NoMemory>
+fn replies_of(alloc: Global, parts: Vec<Part>) -> Result<Vec<PartReply>, NoMemory>
     ensures { IfOk result (λ replies. map Some replies.items ≡ map (λ part. part.reply) parts.items) }
 {
     let mut replies = Vec::with_capacity(alloc, parts.len())?;
@@ -75,7 +75,7 @@ pub(crate) fn run_all<R: Threads + Sync>(
     arg: &Option<Value>,
     mut parts: Vec<Part>,
     threads: usize,
-) -> Result<Vec<WalkReply>, NoMemory>
+) -> Result<Vec<PartReply>, NoMemory>
     requires { 0 < threads }
     ensures { IfOk result (λ replies. AreReplies program.now arg.now (found_in parts.items) replies.items) }
 {

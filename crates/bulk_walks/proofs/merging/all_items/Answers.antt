@@ -1,7 +1,6 @@
 use Rattle.std.proofs.Common.{◌≡◌, ◌<◌, List, [], length, get_or, sym, ap, subst, ◌∙◌, arith}
 use Rattle.std.proofs.lemmas.List.{get_or-map, length-map}
 use Rattle.atomic_methods.specs.declared.walk_reply.WalkReply.{WalkReply}
-use Rattle.bulk_walks.specs.Merges.{HasAll}
 use Rattle.bulk_walks.specs.Turns.{items_in}
 use Rattle.bulk_walks.proofs.MergeLemmas.{one_is_all, sorted_items, take_whole}
 use Rattle.bulk_walks.proofs.merging.all_items.Goals as goal
@@ -15,12 +14,12 @@ returns-in-Some c all order has =
     let low : place < length replies = subst (λ (rs : List WalkReply). place < length rs) c.deref.ensures.value c.in-Some.ensures.range in
     let count : length (get_or lists place []) ≡ c.args.count = subst (λ (rs : List WalkReply). length (get_or (items_in rs) place []) ≡ c.args.count) c.deref.ensures.value c.in-Some.ensures.count in
     let inside : place < length lists = omega (arith, low, length-map replies (λ (r : WalkReply). r.items)) in
-    let is : get_or lists place [] ≡ c.swap_remove-items.result.items = get_or-map (λ (r : WalkReply). r.items) replies place c.swap_remove-items.result [] low
-    ∙ ap (λ (r : WalkReply). r.items) (sym c.swap_remove-items.ensures.value) in
-    sym is ∙ one_is_all lists place inside (count ∙ c.requires.counted) (sorted_items replies c.requires.order place [] inside) all order has
+    let is : get_or lists place [] ≡ c.swap_remove-reply.result.items = get_or-map (λ (r : WalkReply). r.items) replies place c.swap_remove-reply.result [] low
+    ∙ ap (λ (r : WalkReply). r.items) (sym c.swap_remove-reply.ensures.value) in
+    c.in_order.ensures ∙ c.into_items.ensures ∙ sym is ∙ one_is_all lists place inside (count ∙ c.requires.counted) (sorted_items replies c.requires.order place [] inside) all order has
 
 -- they are copied
 pub returns : goal.returns
 returns c all order has =
-    c.in_ok-items.ensures all order (subst (λ (rs : List WalkReply). HasAll all (items_in rs)) (sym c.deref-2.ensures.value) has)
+    c.in_ok-items.ensures all order has
     ∙ take_whole (items_in c.args.replies.items) all c.args.count has c.requires.counted

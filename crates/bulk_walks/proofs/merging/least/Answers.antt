@@ -1,8 +1,8 @@
 use Rattle.std.proofs.Common.{◌≡◌, List, inl, inr, false, get_or, sym, ap, ◌∙◌, subst, arith}
 use Rattle.std.proofs.lemmas.Bool.{cases_eq}
-use Rattle.std.proofs.lemmas.List.{get_or_default}
+use Rattle.std.proofs.lemmas.List.{get_or-map, length-map}
 use Rattle.bins.specs.Table.{Entry}
-use Rattle.bulk_walks.specs.Merges.{comes_first}
+use Rattle.bulk_walks.specs.Merges.{comes_first, left_of, lefts_of}
 use Rattle.bulk_walks.proofs.MergeLemmas.{comes_first-itself, comes_first-one_way, comes_first-chain}
 use Rattle.bulk_walks.proofs.merging.least.Goals as goal
 use Rattle.bulk_walks.proofs.merging.least.Goals.{then-is_first, else-is_first}
@@ -10,20 +10,20 @@ use Rattle.bulk_walks.proofs.merging.least.Goals.{then-is_first, else-is_first}
 pub loop-other-init : goal.loop-other-init
 loop-other-init c = record {
   inside = c.requires;
-  least = λ i d low. let zero : i ≡ 0 = omega (arith, low) in subst (λ k. comes_first (get_or c.args.rests.now k d) (get_or c.args.rests.now 0 d) ≡ false) (sym zero) (comes_first-itself (get_or c.args.rests.now 0 d));
+  least = λ i d low. let zero : i ≡ 0 = omega (arith, low) in subst (λ k. comes_first (get_or (lefts_of c.args.rests.now) k d) (get_or (lefts_of c.args.rests.now) 0 d) ≡ false) (sym zero) (comes_first-itself (get_or (lefts_of c.args.rests.now) 0 d));
 }
 
 -- the other list comes before the least so far, or it does not
 pub loop-other-preserved : goal.loop-other-preserved
 loop-other-preserved c =
     let before = c.loop-other.invariant in
-    let rests = c.args.rests.now in
+    let rests = lefts_of c.args.rests.now in
     let other = c.loop-other.other in
     let place = c.loop-other.place in
     let test : (d : List Entry) → c.is_first.result ≡ comes_first (get_or rests other d) (get_or rests place d) = λ d.
     c.is_first.ensures
-    ∙ ap (λ (one : List Entry). comes_first one c.index-rests-place.result) (c.index-rests-other.is ∙ get_or_default rests other _ d (omega (arith, c.loop-other-test.true)))
-    ∙ ap (λ (two : List Entry). comes_first (get_or rests other d) two) (c.index-rests-place.is ∙ get_or_default rests place _ d before.inside) in
+    ∙ ap (λ (one : List Entry). comes_first one (left_of c.index-rests-place.result)) (ap left_of c.index-rests-other.is ∙ sym (get_or-map left_of c.args.rests.now other _ d (omega (arith, c.loop-other-test.true))))
+    ∙ ap (λ (two : List Entry). comes_first (get_or rests other d) two) (ap left_of c.index-rests-place.is ∙ sym (get_or-map left_of c.args.rests.now place _ d before.inside)) in
     elim c.if-is_first.branch [
       | then-is_first w ↦ rw w.place-is (record {
         inside = omega arith;
