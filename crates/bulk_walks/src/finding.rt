@@ -13,19 +13,6 @@ use std::alloc::Global;
 use std::sync::Wait;
 use std::thread::Threads;
 
-// After the first of so many turns, makes room for as many entries in each other one, and for an eighth more: stripes have
-// about as many each. Where memory for it is refused, room is made turn by turn.
-fn expect_more(found: &mut EntryColumns, turn: u64, turns: u64)
-    ensures { found.new ≡ found.old }
-{
-    if turn > 0 {
-        return;
-    }
-    let others = turns.saturating_sub(1) as usize;
-    let more = found.len().saturating_mul(others);
-    let _ = found.reserve(more.saturating_add(more / 8));
-}
-
 // The worker's stripes, one after the other.
 fn scan_turns<R: Wait, G: Gate>(
     rt: &R,
@@ -50,7 +37,6 @@ fn scan_turns<R: Wait, G: Gate>(
     for stripe in 0..stripes {
         if stripe % workers == worker {
             map.copy_stripe(rt, pass, stripe, &mut found)?;
-            expect_more(&mut found, stripe / workers, stripes / workers);
         }
     }
     Ok(found)

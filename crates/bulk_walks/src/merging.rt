@@ -116,7 +116,11 @@ fn lists_in(alloc: Global, replies: Vec<PartReply>) -> Result<Vec<EntryColumns>,
 }
 
 // The places of the first `most` items of all replies, in key order.
-fn first_places(alloc: Global, replies: &[PartReply], most: usize) -> Result<Vec<EntryPlace>, NoMemory>
+fn first_places(
+    alloc: Global,
+    replies: &[PartReply],
+    most: usize,
+) -> Result<Vec<EntryPlace>, NoMemory>
     requires order { All (λ reply. T (finmap.is_sorted by_bytes reply.items)) replies.now }
     ensures { IfOk result (λ places. (all : List Entry) → T (finmap.is_sorted by_bytes all) → HasAll all (items_in replies.now) → map (entry_at (items_in replies.now)) places.items ≡ take most all) }
 {
