@@ -1,4 +1,5 @@
 pub mod Working
+pub mod ApartLemmas
 pub mod TurnLemmas
 pub mod Sums
 pub mod TeamLemmas

@@ -1,5 +1,5 @@
 -- The merge of lists in key order, an entry at a time.
-use Rattle.std.proofs.Common.{◌≡◌, ◌≢◌, ℕ, zero, suc, ◌+◌, ◌<◌, ◌≤◌, List, [], ◌∷◌, ◌++◌, map, cond, true, false, All, get_or, set, append_assoc, length, length-set, inl, inr, take, sum_by, refl, sym, ap, ◌∙◌, subst, arith, T}
+use Rattle.std.proofs.Common.{◌≡◌, ◌≢◌, ℕ, zero, suc, ◌+◌, ◌^◌, ◌<◌, ◌≤◌, List, [], ◌∷◌, ◌++◌, map, cond, true, false, All, get_or, set, append_assoc, length, length-set, inl, inr, take, sum_by, refl, sym, ap, ◌∙◌, subst, arith, T}
 use Rattle.std.specs.declared.cmp.Ordering.TheVariants.{Less, Equal, Greater}
 use Rattle.std.specs.Ordering.{is_eq, is_lt, ordering_reverse}
 use Rattle.std.specs.Cmp.{IsStrictWeakOrder}
@@ -14,12 +14,12 @@ use Rattle.std.proofs.lemmas.List.Elements.{All-from_get_or, All-head, All-tail}
 use Rattle.std.proofs.lemmas.List.Sums.{sum_by-cons, sum_by-le, sum_by-set, get_or-le-sum_by}
 use Rattle.bins.specs.Entries.{entry_of}
 use Rattle.bins.specs.Lists.{entry_at}
-use Rattle.bins.specs.Fronts.{front, AreBytes}
+use Rattle.bins.specs.Fronts.{AreBytes}
 use Rattle.bins.proofs.FrontLemmas.{by_front}
 use Rattle.bins.specs.Table.{Entry, by_bytes}
 use Rattle.atomic_methods.specs.declared.walk_reply.WalkReply.{WalkReply}
 use Rattle.bulk_walks.specs.Turns.{items_in}
-use Rattle.bulk_walks.specs.Merges.{Remains, HasAll, comes_first, lefts_of, left_of, lists_of, whole_of, TakesFirst}
+use Rattle.bulk_walks.specs.Merges.{Remains, HasAll, comes_first, lead_of, lefts_of, left_of, lists_of, whole_of, TakesFirst}
 use Rattle.bins.proofs.SameEntries.{one_if, at_key, first, second, above, at_entry, at_itself, none_above, at_most_key, tied_by_one, same_entries}
 use Rattle.bulk_walks.proofs.Sums.{sum_of_ones}
 use Rattle.bulk_walks.proofs.TeamLemmas.{head_of}
@@ -34,10 +34,6 @@ comes_first-by_key [] ys some more = absurd (some refl)
 comes_first-by_key (x ∷ xs) [] some more = absurd (more refl)
 comes_first-by_key (x ∷ xs) (y ∷ ys) some more = refl
 
--- and by the first bytes of these, where they differ
-pub comes_first-by_front : (xs ys : List Entry) → length xs ≢ 0 → length ys ≢ 0 → AreBytes (entry_of ys 0).0 → front 8 (entry_of xs 0).0 < front 8 (entry_of ys 0).0 → comes_first xs ys ≡ true
-comes_first-by_front xs ys some more bytes lt = comes_first-by_key xs ys some more ∙ ap is_lt (by_front 8 (entry_of xs 0).0 (entry_of ys 0).0 bytes lt)
-
 pub comes_first-over : (xs ys : List Entry) → length xs ≡ 0 → comes_first xs ys ≡ false
 comes_first-over [] ys none = refl
 comes_first-over (x ∷ xs) ys none = absurd (omega (arith, none))
@@ -51,6 +47,17 @@ pub comes_first-one_way : (xs ys : List Entry) → comes_first xs ys ≡ true �
 comes_first-one_way [] ys h = absurd (false≢true h)
 comes_first-one_way (x ∷ xs) [] h = refl
 comes_first-one_way (x ∷ xs) (y ∷ ys) h = ranks.one_way x y h
+
+-- a lead is a number of 64 bits
+pub lead_fits : (xs : List Entry) → AreBytes (entry_of xs 0).0 → lead_of xs < 2 ^ 64
+lead_fits [] bytes = omega arith
+lead_fits (x ∷ xs) bytes = omega (arith, bytes 0, bytes 1, bytes 2, bytes 3, bytes 4, bytes 5, bytes 6, bytes 7)
+
+-- no list comes before one whose lead is less
+pub comes_first-by_lead : (xs ys : List Entry) → AreBytes (entry_of ys 0).0 → lead_of xs < lead_of ys → comes_first ys xs ≡ false
+comes_first-by_lead xs [] bytes less = refl
+comes_first-by_lead [] (y ∷ ys) bytes less = absurd (let fits = lead_fits (y ∷ ys) bytes in omega (arith, less, fits))
+comes_first-by_lead (x ∷ xs) (y ∷ ys) bytes less = ranks.one_way x y (ap is_lt (by_front 8 x.0 y.0 bytes less))
 
 pub comes_first-chain : (xs ys zs : List Entry) → comes_first xs ys ≡ false → comes_first ys zs ≡ false → comes_first xs zs ≡ false
 comes_first-chain [] ys zs h k = refl

@@ -1,8 +1,9 @@
 -- One reply from several.
-use Rattle.std.specs.Prelude.{◌≡◌, ◌<◌, ℕ, Bool, true, false, T, All, List, [], ◌∷◌, Option, MatchOption, length, map, drop, slice_index_or, slice_set, sum_by}
+use Rattle.std.specs.Prelude.{◌≡◌, ◌<◌, ◌-◌, ◌^◌, ℕ, Bool, true, false, T, All, List, [], ◌∷◌, Option, MatchOption, length, map, drop, slice_index_or, slice_set, sum_by}
 use Rattle.std.specs.FinMap as finmap
 use Rattle.std.specs.Ordering.{is_lt}
 use Rattle.bins.specs.declared.counts.Counts.{Counts}
+use Rattle.bins.specs.Fronts.{front}
 use Rattle.bins.specs.Lists.{entry_at}
 use Rattle.bins.specs.declared.entry_list.EntryPlace.{EntryPlace}
 use Rattle.bins.specs.Table.{Entry, by_bytes}
@@ -41,6 +42,11 @@ abbrev pub comes_first : List Entry → List Entry → Bool
 comes_first [] other = false
 comes_first (x ∷ one) [] = true
 comes_first (x ∷ one) (y ∷ other) = is_lt (by_bytes x.0 y.0)
+
+-- the first bytes of a list's first key, as a number; where the list is empty, the greatest one
+abbrev pub lead_of : List Entry → ℕ
+lead_of [] = 2 ^ 64 - 1
+lead_of (entry ∷ list) = front 8 entry.0
 
 -- the first entry of one list went, and no other list begins with a lesser key
 pub record TakesFirst (old : List (List Entry)) (entry : Entry) (new : List (List Entry)) : Type 0 where

@@ -7,6 +7,7 @@
 #![tactic(auto)]
 
 mod alike;
+mod apart;
 mod count;
 mod finding;
 mod merging;

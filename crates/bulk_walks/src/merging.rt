@@ -1,12 +1,12 @@
 //! One reply from those of the workers.
-ghost use Rattle.std.specs.Prelude.{◌≡◌, ℕ, ◌+◌, ◌<◌, ◌≤◌, ◌^◌, ◌∷◌, ◌↔◌, [], All, IfOk, IfSome, IsTrue, List, MatchOption, T, length, map, slice_index_or, sum_by, take, false};
+ghost use Rattle.std.specs.Prelude.{◌≡◌, ℕ, ◌+◌, ◌<◌, ◌≤◌, ◌^◌, ◌∷◌, ◌↔◌, [], All, IfOk, IfSome, IsTrue, List, MatchOption, T, drop, length, map, slice_index_or, sum_by, take, false};
 ghost use Rattle.std.specs.FinMap as finmap;
 ghost use Rattle.bins.specs.Entries.{entry_of};
-ghost use Rattle.bins.specs.Fronts.{front, AreBytes};
+ghost use Rattle.bins.specs.Fronts.{AreBytes};
 ghost use Rattle.bins.specs.Lists.{entry_at};
 ghost use Rattle.bins.specs.Table.{Entry, by_bytes};
 ghost use Rattle.bulk_walks.specs.Turns.{items_in};
-ghost use Rattle.bulk_walks.specs.Merges.{comes_first, left_of, lefts_of, lists_of, whole_of, HasAll, TakesLeast, IsMerge, CountsAdd};
+ghost use Rattle.bulk_walks.specs.Merges.{comes_first, lead_of, left_of, lefts_of, lists_of, whole_of, HasAll, TakesLeast, IsMerge, CountsAdd};
 
 use crate::replace::{ZERO, add};
 use atomic_methods::{PartReply, WalkKind, WalkReply};
@@ -135,28 +135,27 @@ fn first_places(
     Ok(places)
 }
 
-/// Items that are lent, and how many were taken from their front. The first key that is left is kept at hand, with its first
-/// bytes as a number.
+/// Items that are lent, and how many were taken from their front. The first bytes of the first key that is left are kept at hand,
+/// as a number: its lead. Where nothing is left the lead is the greatest number.
 #[derive(Drop)]
 struct Rest<'a> {
     items: &'a EntryColumns,
     next: usize,
-    key: &'a [u8],
     lead: u64,
 }
 
 impl<'a> Model for Rest<'a> {
-    ghost use Rattle.std.specs.Prelude.{◌≡◌};
+    ghost use Rattle.std.specs.Prelude.{◌≡◌, drop};
     ghost use Rattle.bins.specs.Entries.{entry_of};
-    ghost use Rattle.bins.specs.Fronts.{front, AreBytes};
-    ghost use Rattle.bulk_walks.specs.Merges.{Remains};
+    ghost use Rattle.bins.specs.Fronts.{AreBytes};
+    ghost use Rattle.bulk_walks.specs.Merges.{Remains, lead_of};
 
     ghost Value = { Remains };
 
     ghost view = { λ rest. record { list = rest.items.now; taken = rest.next } };
 
-    ghost invariant = { λ rest. (rest.key.now ≡ (entry_of rest.items.now rest.next).0)
-        × (rest.lead ≡ front 8 (entry_of rest.items.now rest.next).0) × AreBytes (entry_of rest.items.now rest.next).0 };
+    ghost invariant = { λ rest. (rest.lead ≡ lead_of (drop rest.next rest.items.now))
+        × AreBytes (entry_of (drop rest.next rest.items.now) 0).0 };
 }
 
 impl<'a> Rest<'a> {
@@ -167,8 +166,7 @@ impl<'a> Rest<'a> {
         Rest {
             items,
             next: 0,
-            key: items.key(0),
-            lead: items.front(0),
+            lead: lead_at(items, 0),
         }
     }
 
@@ -185,13 +183,13 @@ impl<'a> Rest<'a> {
     fn key(&self) -> &'a [u8]
         ensures value { result.now ≡ (entry_of (left_of self.now) 0).0 }
     {
-        self.key
+        self.items.key(self.next)
     }
 
-    // The first bytes of the first key, as a number.
+    // The first bytes of the first key, as a number; the greatest one where nothing is left.
     #[inline(always)]
     fn lead(&self) -> u64
-        ensures value { result ≡ front 8 (entry_of (left_of self.now) 0).0 }
+        ensures value { result ≡ lead_of (left_of self.now) }
         ensures bytes { AreBytes (entry_of (left_of self.now) 0).0 }
     {
         self.lead
@@ -208,8 +206,7 @@ impl<'a> Rest<'a> {
         }
         let position = self.next;
         self.next += 1;
-        self.key = self.items.key(self.next);
-        self.lead = self.items.front(self.next);
+        self.lead = lead_at(self.items, self.next);
         Some(position)
     }
 }
@@ -239,8 +236,55 @@ fn take_least(rests: &mut Vec<Rest<'_>>) -> Option<EntryPlace>
     Some(EntryPlace { list, position })
 }
 
-// The place of a rest before which no other comes.
+// The lead of what is left of the items from a position on.
+#[inline(always)]
+fn lead_at(items: &EntryColumns, position: usize) -> u64
+    ensures value { result ≡ lead_of (drop position items.now) }
+    ensures bytes { AreBytes (entry_of (drop position items.now) 0).0 }
+{
+    if position < items.len() {
+        return items.front(position);
+    }
+    u64::MAX
+}
+
+// The place of a rest before which no other comes. Mostly the leads tell.
+#[inline(always)]
 fn least(rests: &[Rest<'_>]) -> usize
+    requires { 0 < length rests.now }
+    ensures place { result < length rests.now }
+    ensures least { All (λ left. comes_first left (slice_index_or (lefts_of rests.now) result left) ≡ false) (lefts_of rests.now) }
+{
+    let (place, alone) = least_lead(rests);
+    if alone {
+        return place;
+    }
+    least_key(rests)
+}
+
+// The place of a rest with the least lead, and whether the others' leads are greater: then no other comes before it. Nothing
+// branches on a lead, since which one is less is anyone's guess.
+#[inline(always)]
+fn least_lead(rests: &[Rest<'_>]) -> (usize, bool)
+    requires { 0 < length rests.now }
+    ensures place { result.0 < length rests.now }
+    ensures alone { IsTrue result.1 → All (λ left. comes_first left (slice_index_or (lefts_of rests.now) result.0 left) ≡ false) (lefts_of rests.now) }
+{
+    let mut place = 0;
+    let mut least = rests[0].lead();
+    let mut second = u64::MAX;
+    for other in 1..rests.len() {
+        let lead = rests[other].lead();
+        second = second.min(lead.max(least));
+        place = if lead < least { other } else { place };
+        least = least.min(lead);
+    }
+    (place, least < second)
+}
+
+// The place of a rest whose first key none of the others' comes before.
+#[inline(never)]
+fn least_key(rests: &[Rest<'_>]) -> usize
     requires { 0 < length rests.now }
     ensures place { result < length rests.now }
     ensures least { All (λ left. comes_first left (slice_index_or (lefts_of rests.now) result left) ≡ false) (lefts_of rests.now) }
@@ -264,12 +308,6 @@ fn is_first(one: &Rest<'_>, other: &Rest<'_>) -> bool
     }
     if other.is_over() {
         return true;
-    }
-    if one.lead() < other.lead() {
-        return true;
-    }
-    if other.lead() < one.lead() {
-        return false;
     }
     one.key().cmp(other.key()).is_lt()
 }

@@ -5,6 +5,7 @@ ghost use Rattle.atomic_methods.specs.Replies.{IsReply};
 ghost use Rattle.bulk_walks.specs.Turns.{found_in, AreReplies};
 ghost use Rattle.bulk_walks.specs.declared.running.Part.{Part as WorkersPart};
 
+use crate::apart::for_each_apart;
 use atomic_methods::{PartReply, WalkKind, walk};
 use bins::SortedColumns;
 use bpf_model::{NoMemory, Value};
@@ -32,24 +33,23 @@ fn run(alloc: Global, program: &Verified, arg: &Option<Value>, part: &mut Part)
     }
 }
 
-// The same of each part, by so many threads.
+// The same of each part, each in a thread of its own or one after the other.
 fn run_each<R: Threads + Sync>(
     rt: &R,
     alloc: Global,
     program: &Verified,
     arg: &Option<Value>,
     parts: &mut [Part],
-    threads: usize,
+    apart: bool,
 )
-    requires { 0 < threads }
     ensures each { (i : ℕ) (d : WorkersPart) → i < length parts.old → IfSome (slice_index_or parts.new i d).reply (λ reply. IsReply ForEach program.now arg.now (slice_index_or parts.old i d).found reply) }
 {
-    thread::for_each_mut(
-        rt,
-        parts,
-        threads,
-        &|_, part| run(alloc, program, arg, part),
-    );
+    let call = |_, part: &mut Part| run(alloc, program, arg, part);
+    if apart {
+        for_each_apart(rt, parts, &call);
+    } else {
+        thread::for_each_mut(rt, parts, 1, &call);
+    }
 }
 
 // The replies of all parts. `NoMemory` where one has none.
@@ -67,19 +67,18 @@ fn replies_of(alloc: Global, parts: Vec<Part>) -> Result<Vec<PartReply>, NoMemor
     Ok(replies)
 }
 
-// Runs the program on the entries of all parts: the reply of each. `NoMemory` where a request for memory was refused.
+// Runs the program on the entries of all parts, each in a thread of its own or one after the other: the reply of each. `NoMemory` where a request for memory was refused.
 pub(crate) fn run_all<R: Threads + Sync>(
     rt: &R,
     alloc: Global,
     program: &Verified,
     arg: &Option<Value>,
     mut parts: Vec<Part>,
-    threads: usize,
+    apart: bool,
 ) -> Result<Vec<PartReply>, NoMemory>
-    requires { 0 < threads }
     ensures { IfOk result (λ replies. AreReplies program.now arg.now (found_in parts.items) replies.items) }
 {
-    run_each(rt, alloc, program, arg, &mut parts, threads);
+    run_each(rt, alloc, program, arg, &mut parts, apart);
     let replies = replies_of(alloc, parts)?;
     Ok(replies)
 }

@@ -35,7 +35,6 @@ pub fn walk<R: Threads + Wait + Sync, G: Gate + Sync>(
     ensures walked { Walks kind (stripes_of map.now) program.now arg.now team.passes.items result.0.passes.items result.1 }
 {
     let Team { passes } = team;
-    let workers = passes.len();
     let stripes = map.stripes();
     prove!(stripes <= 64);
     let (passes, found) = find(rt, alloc, map, passes, gate);
@@ -43,12 +42,8 @@ pub fn walk<R: Threads + Wait + Sync, G: Gate + Sync>(
     let Ok(parts) = found else {
         return (team, Err(NoMemory));
     };
-    let threads = if held_in(&parts) >= threshold {
-        workers
-    } else {
-        1
-    };
-    let Ok(replies) = run_all(rt, alloc, program, arg, parts, threads) else {
+    let apart = held_in(&parts) >= threshold;
+    let Ok(replies) = run_all(rt, alloc, program, arg, parts, apart) else {
         return (team, Err(NoMemory));
     };
     (team, merged(alloc, kind, replies))
