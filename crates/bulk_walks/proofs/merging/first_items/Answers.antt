@@ -1,8 +1,7 @@
-use Rattle.std.proofs.Common.{◌≡◌, List, T, map, take, ap, ◌∙◌, subst}
-use Rattle.std.specs.FinMap.{is_sorted}
+use Rattle.std.proofs.Common.{◌≡◌, List, map, take, ap, ◌∙◌, subst}
 use Rattle.atomic_methods.specs.declared.walk_reply.WalkReply.{WalkReply}
 use Rattle.bins.specs.Lists.{entry_at}
-use Rattle.bins.specs.Table.{Entry, by_bytes}
+use Rattle.bins.specs.Table.{Entry}
 use Rattle.bulk_walks.specs.Merges.{HasAll}
 use Rattle.bulk_walks.specs.Turns.{items_in}
 use Rattle.bulk_walks.proofs.merging.first_items.Goals as goal

@@ -1,9 +1,9 @@
-use Rattle.std.proofs.Common.{◌≡◌, ◌+◌, List, [], ◌∷◌, All, T, length, length-append, map, sym, ap, ◌∙◌, subst, arith}
+use Rattle.std.proofs.Common.{◌+◌, List, [], ◌∷◌, All, T, length, length-append, map, sym, ap, ◌∙◌, subst, arith}
 use Rattle.std.specs.FinMap.{is_sorted}
 use Rattle.std.proofs.lemmas.List.{length-map, map_push}
 use Rattle.bins.specs.Lists.{entry_at}
 use Rattle.bins.specs.Table.{Entry, by_bytes}
-use Rattle.bulk_walks.specs.Merges.{Remains, HasAll, TakesFirst, lefts_of, lists_of}
+use Rattle.bulk_walks.specs.Merges.{Remains, TakesFirst, lefts_of, lists_of}
 use Rattle.bulk_walks.specs.Turns.{items_in}
 use Rattle.bulk_walks.proofs.MergeLemmas.{Left, left_all, left_less, left_none, still_sorted, sorted_items, lefts_whole, lists_whole, left_enough}
 use Rattle.bulk_walks.proofs.merging.first_places.Goals as goal

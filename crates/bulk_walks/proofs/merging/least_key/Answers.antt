@@ -1,6 +1,6 @@
 use Rattle.std.proofs.Common.{◌≡◌, List, inl, inr, false, get_or, sym, ap, ◌∙◌, subst, arith}
 use Rattle.std.proofs.lemmas.Bool.{cases_eq}
-use Rattle.std.proofs.lemmas.List.{get_or-map, length-map}
+use Rattle.std.proofs.lemmas.List.{get_or-map}
 use Rattle.bins.specs.Table.{Entry}
 use Rattle.bulk_walks.specs.Merges.{comes_first, left_of, lefts_of}
 use Rattle.bulk_walks.proofs.MergeLemmas.{comes_first-itself, comes_first-one_way, comes_first-chain}

@@ -1,4 +1,4 @@
-use Rattle.std.proofs.Common.{◌≡◌, ◌<◌, List, length, get_or, sym, ap, ◌∙◌, subst}
+use Rattle.std.proofs.Common.{◌<◌, List, length, sym, subst}
 use Rattle.bulk_walks.specs.Merges.{Remains, lefts_of}
 use Rattle.bulk_walks.proofs.MergeLemmas.{IsLeast, lists_kept, takes_first}
 use Rattle.bulk_walks.proofs.merging.take_least.Goals as goal
