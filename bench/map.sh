@@ -1,28 +1,33 @@
 #!/usr/bin/env bash
 # Times calls on a map that threads share beside a plain C table of buckets, each guarded by a mutex; then requests of a
-# session over memory, and walks by teams: five times in turn, and prints the medians. By hand, not by the gate. It takes
-# one to three minutes, and stops after four, where a program is built; to build it takes longer, since all below it is
-# proved first.
+# session over memory, and walks by teams: nine times in turn, and prints the medians. Where it compares two it prints the
+# least times too, since what else the machine does only adds to a time. By hand, not by the gate. It takes two to three
+# minutes, and stops after four, where a program is built; to build it takes longer, since all below it is proved first.
 source "$(dirname "$0")/common.sh"
-rounds=5
+rounds=9
 SECONDS=0
 # seconds that all may take, and one run
 all_seconds=240
 run_seconds=30
 
 gcc -O2 -pthread -o "$work/table" bench/table.c
+gcc -O2 -pthread -DVALUE_BYTES=1024 -o "$work/long_table" bench/table.c
+table=$work/table
 
 # a side, and its words
 side() {
     [ $SECONDS -lt $all_seconds ] || { echo "stopped after $SECONDS seconds, at: $*" >&2; exit 1; }
     case $1 in
-        table) timeout $run_seconds "$work/table" "${@:2}" ;;
+        table) timeout $run_seconds "$table" "${@:2}" ;;
         *) timeout $run_seconds "$bench" "$@" ;;
     esac
 }
 
 # the median of the times in a file
 median() { sort -n "$1" | sed -n $((rounds / 2 + 1))p; }
+
+# and the least
+least() { sort -n "$1" | sed -n 1p; }
 
 # what is measured, kind, keys, threads, how many calls each thread makes
 measure_calls() {
@@ -36,10 +41,10 @@ measure_calls() {
         elapsed "$5" calls "$2" "$3" "$4" >> "$work/map.times"
         elapsed "$5" table "$2" "$3" "$4" >> "$work/table.times"
     done
-    echo "$(median "$work/map.times") $(median "$work/table.times")" |
+    echo "$(median "$work/map.times") $(median "$work/table.times") $(least "$work/map.times") $(least "$work/table.times")" |
         awk -v calls=$(($4 * $5)) -v what="$1" '{
-            printf "%s: %.2f million calls a second, C %.2f million (ratio of times %.2f)\n",
-                what, 1000 * calls / $1, 1000 * calls / $2, $1 / $2 }'
+            printf "%s: %.2f million calls a second, C %.2f million (ratio of times %.2f, of the least times %.2f)\n",
+                what, 1000 * calls / $1, 1000 * calls / $2, $1 / $2, $3 / $4 }'
 }
 
 # kind, thousands of requests
@@ -57,10 +62,11 @@ measure_walk() {
     for _ in $(seq $rounds); do
         for workers in 1 2 4; do elapsed "$3" walk "$1" $workers "$2" >> "$work/walk$workers.times"; done
     done
-    echo "$(median "$work/walk1.times") $(median "$work/walk2.times") $(median "$work/walk4.times")" |
+    echo "$(median "$work/walk1.times") $(median "$work/walk2.times") $(median "$work/walk4.times")" \
+        "$(least "$work/walk1.times") $(least "$work/walk4.times")" |
         awk -v walks="$3" -v what="$1 over $2 entries" '{
-            printf "%s: %.2f ms with 1 worker; 2 workers take %.2f of that, 4 workers %.2f\n",
-                what, $1 / walks / 1e6, $2 / $1, $3 / $1 }'
+            printf "%s: %.3f ms with 1 worker, %.3f with 2, %.3f with 4 (4 to 1: ratio %.2f, of the least times %.2f)\n",
+                what, $1 / walks / 1e6, $2 / walks / 1e6, $3 / walks / 1e6, $3 / $1, $5 / $4 }'
 }
 
 for kind in get put merge; do
@@ -72,6 +78,10 @@ for kind in get put merge; do
 done
 measure_calls "merge, a key for each of 4 threads, in stripes side by side" merge near 4 1000000
 measure_calls "merge, a key for each of 4 threads, in stripes 8 apart" merge apart 4 1000000
+table=$work/long_table
+for kind in get put merge; do
+    measure_calls "$kind, 1 keys, 1 threads, beside C with values as long" $kind 1 1 1000000
+done
 for kind in get put merge; do measure_session $kind 200; done
 measure_walk for_each 100000 20
 measure_walk mapping_count 100000 20

@@ -1,5 +1,6 @@
 /* A table of buckets, each guarded by a mutex, to compare the shared map with. Keys, values, hash and number of buckets are
-   those of crates/bench; a bucket is a list sorted by key, and merging adds the numbers, without a program.
+   those of crates/bench; a bucket is a list sorted by key, and merging adds the numbers, without a program. A value has room
+   for a quarter of the bytes that the map's has: with -DVALUE_BYTES=1024 it has as much, and calls copy more.
    table KIND KEYS THREADS COUNT does what `bench calls` does with these words, and prints the same. */
 #include <pthread.h>
 #include <stdint.h>
@@ -7,7 +8,11 @@
 #include <stdlib.h>
 #include <string.h>
 
-enum { BUCKETS = 64, KEY_BYTES = 64, VALUE_BYTES = 256, MOST_THREADS = 63 };
+#ifndef VALUE_BYTES
+#define VALUE_BYTES 256
+#endif
+
+enum { BUCKETS = 64, KEY_BYTES = 64, MOST_THREADS = 63 };
 
 struct key {
     uint8_t size, bytes[KEY_BYTES];
