@@ -6,8 +6,9 @@ ghost use Rattle.bulk_walks.specs.Apart.{AcceptsFrom, ChangesFrom};
 
 use std::thread::{Threads, join_mut};
 
-/// Calls f(i, &mut s[i]) at each place, each in a thread of its own where one can be made, and waits for all. The calling thread makes
-/// no call where there are several: beside a thread that works, one that it made was seen to wait for its core while others were free.
+/// Calls f(i, &mut s[i]) at each place, each in a thread of its own where one can be made, and waits for all. The calling thread
+/// makes no call where there are several: beside a thread that works, one that it made was seen to wait for its core while others
+/// were free.
 pub(crate) fn for_each_apart<R: Threads + Sync, T: Send, F: Fn(usize, &mut T) + Sync>(
     rt: &R,
     s: &mut [T],
@@ -42,8 +43,8 @@ fn each_from<R: Threads + Sync, T: Send, F: Fn(usize, &mut T) + Sync>(
     both(rt, f, base, first, base + 1, rest);
 }
 
-// The calls of two parts, those of the first in a new thread. A function of its own, so that what its closures require is what it is
-// given.
+// The calls of two parts, those of the first in a new thread. A function of its own, so that what its closures require is what
+// it is given.
 #[cycle(from)]
 fn both<R: Threads + Sync, T: Send, F: Fn(usize, &mut T) + Sync>(
     rt: &R,

@@ -67,7 +67,8 @@ fn replies_of(alloc: Global, parts: Vec<Part>) -> Result<Vec<PartReply>, NoMemor
     Ok(replies)
 }
 
-// Runs the program on the entries of all parts, each in a thread of its own or one after the other: the reply of each. `NoMemory` where a request for memory was refused.
+// Runs the program on the entries of all parts, each in a thread of its own or one after the other: the reply of each.
+// `NoMemory` where a request for memory was refused.
 pub(crate) fn run_all<R: Threads + Sync>(
     rt: &R,
     alloc: Global,
