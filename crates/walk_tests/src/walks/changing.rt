@@ -131,7 +131,9 @@ fn are_states(reply: &WalkReply, last: &mut [u64; 8]) -> bool {
 // Whether the keys of the items rise.
 fn keys_rise(items: &EntryList) -> bool {
     for i in 1..items.len() {
-        if items.key(i - 1) >= items.key(i) {
+        let (before, _) = items.get(i - 1);
+        let (key, _) = items.get(i);
+        if before >= key {
             return false;
         }
     }
