@@ -2,7 +2,8 @@
 # Times calls on a map that threads share beside a plain C table of buckets, each guarded by a mutex; then requests of a
 # session over memory, and walks by teams: nine times in turn, and prints the medians. Where it compares two it prints the
 # least times too, since what else the machine does only adds to a time. (Of calls by several threads they say little: threads
-# that happen to run one after the other don't wait for each other.) By hand, not by the gate. It takes two to three minutes, and stops after four, where a program is built; to build it takes longer, since all below it is proved first.
+# that happen to run one after the other don't wait for each other.) By hand, not by the gate. It takes two to three minutes,
+# and stops after four, where a program is built; to build it takes longer, since all below it is proved first.
 source "$(dirname "$0")/common.sh"
 rounds=9
 SECONDS=0
