@@ -82,22 +82,6 @@ impl EntryColumns {
         (self.keys.get_any(position), self.values.get_any(position))
     }
 
-    /// Whether these are the same entries in the same order. Takes no memory.
-    pub fn is_same(&self, other: &EntryColumns) -> bool
-        ensures exact { IsTrue result ↔ (self.now ≡ other.now) }
-    {
-        if self.len() != other.len() {
-            return false;
-        }
-        for position in 0..self.len() {
-            let (key, value) = other.get(position);
-            if !self.is_at(position, key, value) {
-                return false;
-            }
-        }
-        true
-    }
-
     /// The key at a position; none of the bytes behind the last one. Takes no memory.
     #[inline(always)]
     pub fn key(&self, position: usize) -> &[u8]
@@ -115,15 +99,6 @@ impl EntryColumns {
         ensures bytes { AreBytes (entry_of self.now position).0 }
     {
         front_of(self.key(position))
-    }
-
-    // Whether the entry at a position has this key and this value.
-    fn is_at(&self, position: usize, key: &[u8], value: &[u8]) -> bool
-        requires { position < length self.now }
-        ensures exact { IsTrue result ↔ (entry_of self.now position ≡ (key.now, value.now)) }
-    {
-        let entry = self.get(position);
-        entry.0 == key && entry.1 == value
     }
 
     /// Asks for memory for so many more entries. `NoMemory` where that was refused; the entries are as before.
@@ -147,20 +122,6 @@ impl EntryColumns {
         self.values.reserve(1)?;
         self.keys.push_reserved(key);
         self.values.push_reserved(value);
-        Ok(())
-    }
-
-    /// Adds a copy of the entry at a position of other columns behind these. Asks for memory where there is no room for it.
-    #[inline(always)]
-    pub fn push_from(&mut self, other: &EntryColumns, position: usize) -> Result<(), NoMemory>
-        requires { position < length other.now }
-        ensures ok { OnOk result (self.new ≡ self.old ++ entry_of other.now position ∷ []) }
-        ensures err { OnErr result (self.new ≡ self.old) }
-    {
-        self.keys.reserve(1)?;
-        self.values.reserve(1)?;
-        self.keys.push_from(&other.keys, position);
-        self.values.push_from(&other.values, position);
         Ok(())
     }
 
