@@ -1,8 +1,6 @@
 //! What loads and stores move.
 ghost use Rattle.std.specs.Prelude.{◌≡◌, ◌≤◌};
-ghost use Rattle.bpf_model.specs.Accesses.{byte_count, loaded_size, loaded_value};
-
-use crate::operations::SignExtension;
+ghost use Rattle.bpf_model.specs.Accesses.{byte_count, loaded_size};
 
 /// How many bytes a load or a store moves.
 #[derive(Clone, Copy, Debug, PartialEq, Eq)]
@@ -55,18 +53,6 @@ impl LoadKind {
             LoadKind::HalfWord | LoadKind::SignedHalfWord => AccessSize::HalfWord,
             LoadKind::Word | LoadKind::SignedWord => AccessSize::Word,
             LoadKind::DoubleWord => AccessSize::DoubleWord,
-        }
-    }
-
-    /// The word that the bytes give, read as a little-endian number.
-    pub fn extend(self, n: u64) -> u64
-        ensures { result ≡ loaded_value self n }
-    {
-        match self {
-            LoadKind::Byte | LoadKind::HalfWord | LoadKind::Word | LoadKind::DoubleWord => n,
-            LoadKind::SignedByte => SignExtension::From8To64.apply(n),
-            LoadKind::SignedHalfWord => SignExtension::From16To64.apply(n),
-            LoadKind::SignedWord => SignExtension::From32To64.apply(n),
         }
     }
 }

@@ -1,6 +1,6 @@
 //! Operations and their widths.
 ghost use Rattle.std.specs.Prelude.{ℕ, ◌≡◌, ◌%◌, ◌≤◌, ◌^◌};
-ghost use Rattle.bpf_model.specs.Arithmetic.{bits_of, modulus, swap_bits, swap_modulus, extension_width, extension_bits, extended};
+ghost use Rattle.bpf_model.specs.Arithmetic.{swap_bits, swap_modulus, extension_width, extension_bits, extended};
 
 /// The width at which an instruction computes.
 #[derive(Clone, Copy, Debug, PartialEq, Eq)]
@@ -9,19 +9,6 @@ pub enum Width {
     W32,
     /// All 64 bits of a register.
     W64,
-}
-
-impl Width {
-    /// The number of bits.
-    pub fn bits(self) -> u32
-        ensures value { result ≡ bits_of self }
-        ensures power { modulus self ≡ 2 ^ result }
-    {
-        match self {
-            Width::W32 => 32,
-            Width::W64 => 64,
-        }
-    }
 }
 
 /// An operation on two words.

@@ -4,9 +4,9 @@ ghost use Rattle.flow_shape.specs.Jumps.{distance_of, falls_through, target_of};
 
 use bpf_model::Insn;
 
-/// The distance of a jump.
-pub(crate) fn distance(insn: &Insn) -> Option<i32>
-    ensures { result ≡ distance_of insn.now }
+/// The distance of a jump, in units from the next instruction on; none where the instruction is no jump. Takes no memory.
+pub fn distance(insn: &Insn) -> Option<i32>
+    ensures value { result ≡ distance_of insn.now }
 {
     match insn {
         Insn::Jump { distance } | Insn::Branch { distance, .. } => Some(i32::from(*distance)),

@@ -14,4 +14,5 @@ mod layout;
 pub mod shaping;
 
 pub use fault::FlowFault;
+pub use jumps::distance;
 pub use shaping::{Shaped, shape};

@@ -8,7 +8,7 @@ use Rattle.bpf_model.specs.declared.operations.Width.TheVariants.{W64}
 use Rattle.bpf_model.specs.declared.instruction.Operand.TheVariants.{Register, Immediate}
 use Rattle.bpf_model.specs.declared.instruction.Insn.{Insn}
 use Rattle.bpf_model.specs.declared.instruction.Insn.TheVariants.{Alu, Mov, Exit}
-use Rattle.bpf_model.specs.Program.{instruction_at}
+use Rattle.bpf_model.specs.Program.{instruction_at, unit_count}
 use Rattle.bpf_model.specs.Memory.{window_size}
 use Rattle.bpf_model.specs.Fits.{AreWithinLimits}
 use Rattle.stack_slots.specs.Kept.{IsKept}
@@ -86,3 +86,11 @@ pub record IsPlain (program : List Insn) (sizes : Sizes) : Type 0 where
   pub loading : (u : ℕ) (i : Insn) (t : Touch) → instruction_at program u ≡ Some i → load_of i ≡ Some t → LoadsPlainly program sizes u t
   pub storing : (u : ℕ) (i : Insn) (t : Touch) → instruction_at program u ≡ Some i → store_of i ≡ Some t → StoresPlainly program sizes u t
   pub exiting : (u : ℕ) → instruction_at program u ≡ Some Exit → ExitsPlainly program u
+
+-- a program that was plain by the limits of version 1: at most 512 units, and windows of at most 256 bytes
+pub record IsPlainInVersionOne (program : List Insn) (sizes : Sizes) : Type 0 where
+  pub plain : IsPlain program sizes
+  pub units : unit_count program ≤ 512
+  pub old : sizes.old ≤ 256
+  pub arg : sizes.arg ≤ 256
+  pub result : sizes.result ≤ 256

@@ -79,8 +79,9 @@ const TEAM_DEFAULT: u16 = 1;
 
 /// What the options cost.
 const COSTS: &str = "\
-Threads: at most workers * team. Passes of the map: workers * (1 + team), which may be 64.
-Memory: for each client that is served 32 KB, and up to 2 MB while it sends many short requests at once, beside its
+Threads: one for each worker, and one more where there are several; while a worker walks with a team of several, so
+many more. Passes of the map: workers * (1 + team), at most 64.
+Memory: for each client that is served 20 KB, and up to 2 MB while it sends many short requests at once, beside its
 threads' stacks, what its walks answer, and the map.
 A worker serves one client at a time, and further clients wait until one is free.
 Status: 0 all sessions were served, 1 refused, 2 a fault of the words, 3 a failed listen, accept or write.";

@@ -165,8 +165,8 @@ fn locate(sizes: Sizes, base: RegValue, offset: i16, size: AccessSize) -> Result
     let RegValue::Pointer(pointer) = base else {
         return Err(StepFault::NotAWindow);
     };
-    let least = distance(pointer.least, offset).ok_or(StepFault::OutOfWindow)?;
-    let greatest = distance(pointer.greatest, offset).ok_or(StepFault::OutOfWindow)?;
+    let least = distance_inside(pointer.least, offset).ok_or(StepFault::OutOfWindow)?;
+    let greatest = distance_inside(pointer.greatest, offset).ok_or(StepFault::OutOfWindow)?;
     if greatest + size.bytes() > pointer.window.size(sizes) {
         return Err(StepFault::OutOfWindow);
     }
@@ -178,7 +178,7 @@ fn locate(sizes: Sizes, base: RegValue, offset: i16, size: AccessSize) -> Result
 }
 
 /// The distance from the window's first byte; none before it.
-fn distance(from: i64, offset: i16) -> Option<usize>
+fn distance_inside(from: i64, offset: i16) -> Option<usize>
     ensures value { IfSome result (λ n. pos n ≡ from +ℤ offset) }
     ensures some { from ≤ℤ pos (2 ^ 62) → pos 0 ≤ℤ (from +ℤ offset) → IsSome result }
 {
