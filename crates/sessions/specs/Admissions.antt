@@ -13,7 +13,8 @@ use Rattle.flow_shape.specs.FlowShape as flow
 use Rattle.flow_shape.specs.Messages as flow_messages
 use Rattle.verifier.specs.Faults as verify
 use Rattle.verifier.specs.Messages as verify_messages
-use Rattle.verifier.specs.declared.fault.VerifyFault.TheVariants.{SizesTooLarge}
+use Rattle.verifier.specs.Plain.{IsPlain}
+use Rattle.verifier.specs.declared.fault.VerifyFault.TheVariants.{NoMemory as OutOfMemory, SizesTooLarge}
 use Rattle.client_protocol.specs.declared.limits.Version.{Version}
 use Rattle.client_protocol.specs.declared.limits.Version.TheVariants.{One, Two}
 use Rattle.client_protocol.specs.Bodies.{limits_after}
@@ -41,13 +42,15 @@ pub record IsAdmitted (bytes : List ℕ) (sizes : Sizes) (program : List Insn) :
   pub spelled : Spells bytes program
   pub safe : IsSafe program sizes
 
--- why the bytes spell no program that is found safe: the first of the three steps that refuses
+-- why the bytes spell no program that is found safe: the first of the three steps that refuses. The last one refuses no plain
+-- program but for want of memory
 abbrev pub IsNotAdmitted : List ℕ → Sizes → AdmissionFault → Type 0
 IsNotAdmitted bytes sizes (Decode fault) = (fault ≡ NoMemory) ⊎ decode.IsFirstDecodeFault bytes fault
 IsNotAdmitted bytes sizes (Flow fault) = (program : List Insn) × Spells bytes program × flow.IsFirstFlowFault program fault
 IsNotAdmitted bytes sizes (Verify fault) =
     (program : List Insn) × Spells bytes program × flow.IsWellShaped program
     × (verify.verify_fault_unit fault < unit_count program) × ((fault ≡ SizesTooLarge) ↔ verify.ExceedLimits sizes)
+    × (IsPlain program sizes → fault ≡ OutOfMemory)
 
 -- ---- what a client may register
 
@@ -68,7 +71,7 @@ HasLargeWindow hello sizes =
     (KEY_BYTES < sizes.key) ⊎ ((most < sizes.old) ⊎ ((most < sizes.arg) ⊎ (most < sizes.result)))
 
 -- why bytes that were sent behind this Hello are not registered: the first step that refuses. The number of units is looked at
--- before any of them, and the sizes before the verifier walks
+-- before any of them, and the sizes before the verifier walks, which refuses no plain program but for want of memory
 abbrev pub IsNotRegistered : Option Version → List ℕ → Sizes → AdmissionFault → Type 0
 IsNotRegistered hello bytes sizes (Decode fault) =
     (HasManyUnits hello bytes × (fault ≡ TooManyUnits))
@@ -77,4 +80,5 @@ IsNotRegistered hello bytes sizes (Flow fault) =
     (HasManyUnits hello bytes → ⊥) × ((program : List Insn) × Spells bytes program × flow.IsFirstFlowFault program fault)
 IsNotRegistered hello bytes sizes (Verify fault) =
     (HasManyUnits hello bytes → ⊥) × ((program : List Insn) × Spells bytes program × flow.IsWellShaped program
-    × (verify.verify_fault_unit fault < unit_count program) × ((fault ≡ SizesTooLarge) ↔ HasLargeWindow hello sizes))
+    × (verify.verify_fault_unit fault < unit_count program) × ((fault ≡ SizesTooLarge) ↔ HasLargeWindow hello sizes)
+    × (IsPlain program sizes → (fault ≡ OutOfMemory) ⊎ HasLargeWindow hello sizes))

@@ -14,5 +14,6 @@ returns-then-has_large_window-clause-err c =
         c.in_ok-shaped.ensures.ok.0 refl,
         omega (arith, spelled.program.some, length-unit_count c.in_ok-program.program),
         (λ same. large, λ large2. refl),
+        λ plain. inr large,
       ),
     )
