@@ -13,7 +13,8 @@ use std::alloc::Global;
 pub struct WalkReply {
     /// Keys with the answers that the walk gives, in key order.
     pub items: EntryList,
-    /// `scanned` and `unfit` count entries, and `given` the items.
+    /// `scanned` and `unfit` count entries, and `given` the items; a replacement, which gives no items, counts there the
+    /// values that it entered.
     pub counts: Counts,
 }
 

@@ -119,7 +119,7 @@ impl Chains {
         self.hashes.len()
     }
 
-    /// How many positions are in the chain of the last one behind it. Takes no memory.
+    /// How many positions follow the last one in its chain. Takes no memory.
     #[inline(always)]
     pub fn steps_from_last(&self) -> usize
         requires chained { AreChained self.now }

@@ -5,7 +5,7 @@
 pub struct Counts {
     /// All entries.
     pub scanned: u64,
-    /// The entries whose program answered bytes, equal to the old value or not.
+    /// The values that a replacement entered, equal to the old ones or not; of a walk, the items that it gives.
     pub given: u64,
     /// The entries that are too long for a declared size; their program did not run.
     pub unfit: u64,

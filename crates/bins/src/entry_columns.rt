@@ -110,7 +110,8 @@ impl EntryColumns {
         Ok(())
     }
 
-    /// Adds an entry behind the others. Asks for memory where there is no room for it.
+    /// Adds an entry behind the others. Asks for memory where there is no room for it; `NoMemory` where that was refused, and the
+    /// entries are as before.
     #[inline(always)]
     pub fn push(&mut self, key: &[u8], value: &[u8]) -> Result<(), NoMemory>
         requires key { length key.now ≤ KEY_BYTES }

@@ -126,7 +126,7 @@ impl EntryList {
         entry.0 == key && entry.1 == value
     }
 
-    /// The same entries once more, as they lie in one list. Asks for memory for them.
+    /// The same entries once more, as they lie in one list. Asks for memory for them; `NoMemory` where that was refused.
     pub fn copied(&self, alloc: Global) -> Result<EntryColumns, NoMemory>
         ensures { IfOk result (λ copies. copies ≡ self.now) }
     {

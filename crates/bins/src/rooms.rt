@@ -51,17 +51,6 @@ impl ShortBytes {
         &self.bytes[..self.len as usize]
     }
 
-    // The same bytes once more.
-    #[inline(always)]
-    fn duplicate(&self) -> ShortBytes
-        ensures { result ≡ self.now }
-    {
-        ShortBytes {
-            len: self.len,
-            bytes: self.bytes,
-        }
-    }
-
     // Copies another one in place.
     #[inline(always)]
     fn copy_from(&mut self, other: &ShortBytes)
@@ -83,20 +72,6 @@ impl ShortBytes {
         }
         self.len = bytes.len() as u8;
     }
-
-    // These bytes.
-    #[inline(always)]
-    fn copied(bytes: &[u8]) -> ShortBytes
-        requires { length bytes.now ≤ SHORT_BYTES }
-        ensures { result ≡ bytes.now }
-    {
-        let mut copy = [0; SHORT_BYTES];
-        copy[..bytes.len()].copy_from_slice(bytes);
-        ShortBytes {
-            len: bytes.len() as u8,
-            bytes: copy,
-        }
-    }
 }
 
 /// Where a string lies.
@@ -111,26 +86,28 @@ pub enum Place {
 const _: () = prove!(size_of::<Place>() == 24);
 
 impl Place {
-    // Writes these bytes, which lie in the place from now on.
+    // Writes these bytes into a short place.
     #[inline(always)]
     fn set_short(&mut self, bytes: &[u8])
-        requires { length bytes.now ≤ SHORT_BYTES }
+        requires short { IsShort self.old }
+        requires fits { length bytes.now ≤ SHORT_BYTES }
         ensures { self.new ≡ Short bytes.now }
     {
         match self {
             Place::Short(short) => short.set_from(bytes),
-            Place::Long(_) => *self = Place::Short(ShortBytes::copied(bytes)),
+            Place::Long(_) => unreachable!(),
         }
     }
 
-    // Writes a copy of this string, which lies in the place from now on.
+    // Writes a copy of this string into a short place.
     #[inline(always)]
     fn copy_short(&mut self, other: &ShortBytes)
+        requires { IsShort self.old }
         ensures { self.new ≡ Short other.now }
     {
         match self {
             Place::Short(short) => short.copy_from(other),
-            Place::Long(_) => *self = Place::Short(other.duplicate()),
+            Place::Long(_) => unreachable!(),
         }
     }
 }

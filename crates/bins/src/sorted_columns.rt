@@ -29,7 +29,8 @@ impl Model for SortedColumns {
 }
 
 impl SortedColumns {
-    /// The entries of these columns in key order. Asks for memory for the order of their positions.
+    /// The entries of these columns in key order. Asks for memory for the order of their positions; `NoMemory` where that was
+    /// refused, and the entries are given up.
     pub fn new(alloc: Global, columns: EntryColumns) -> Result<SortedColumns, NoMemory>
         ensures moved { IfOk result (λ sorted. IsPermutation columns sorted) }
         ensures order { IfOk result (λ sorted. IsSortedBy comes_before sorted) }

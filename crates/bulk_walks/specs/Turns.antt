@@ -1,5 +1,5 @@
 -- What each worker of a walk answers.
-use Rattle.std.specs.Prelude.{◌≡◌, ◌<◌, ◌≤◌, ◌^◌, ◌+◌, ◌%◌, ◌==◌, if◌then◌else◌, ℕ, ⊤, zero, suc, All, List, [], ◌∷◌, Option, Result, Ok, Err, IfOk, length, map, sum_by, slice_index_or}
+use Rattle.std.specs.Prelude.{◌≡◌, ◌<◌, ◌≤◌, ◌^◌, ◌+◌, ◌%◌, ◌==◌, if◌then◌else◌, ℕ, ⊤, All, List, [], ◌∷◌, Option, Result, Ok, Err, IfOk, length, map, sum_by, slice_index_or}
 use Rattle.std.specs.List.Sorted.{IsSortedBy}
 use Rattle.stripe_rule.specs.declared.view.View.{View}
 use Rattle.verifier.specs.Checked.{Checked}
@@ -18,8 +18,7 @@ use Rattle.bulk_walks.specs.Walks.{IsTurn, Walked, AllWalked, Each, IsScan, MayS
 
 -- f of each stripe below n whose turn is this worker's, added up
 abbrev pub turn_sum : ℕ → ℕ → (ℕ → ℕ) → ℕ → ℕ
-turn_sum workers worker f zero = 0
-turn_sum workers worker f (suc n) = turn_sum workers worker f n + (if n % workers == worker then f n else 0)
+turn_sum workers worker f n = sum_below n (λ k. if k % workers == worker then f k else 0)
 
 -- what a worker did that counted the entries of those of the first n stripes whose turn is its own
 pub record CountsTurns (n workers worker : ℕ) (v w : View GhostAction) (count : ℕ) : Type 0 where

@@ -77,8 +77,9 @@ fn sum_of(answers: &[Counts]) -> Counts
 }
 
 /// Replaces the value of each key once, stripe by stripe, by what the program answers on the key, its value and the
-/// argument. An answer of nothing keeps the entry, and one that does not fit stays. `NoMemory` where a request for memory was
-/// refused; nothing was replaced then. Waits until each stripe is free.
+/// argument. An answer of nothing keeps the entry, and one that does not fit stays. The reply has no items: its count `given` is
+/// of the values that were entered. `NoMemory` where a request for memory was refused; nothing was replaced then. Waits until
+/// each stripe is free.
 pub fn replace_all<R: Threads + Wait + Sync, G: Gate + Sync>(
     rt: &R,
     alloc: Global,

@@ -174,6 +174,7 @@ impl Model for Feeder {
 }
 
 impl Feeder {
+    /// A feeder of no bytes. Takes no memory.
     pub fn new(alloc: Global) -> Feeder
         ensures { result ≡ open_at None [] }
     {
@@ -184,7 +185,8 @@ impl Feeder {
         }
     }
 
-    /// The requests that are whole with this piece, up to a fault, if any. A piece that is refused was not taken.
+    /// The requests that are whole with this piece, up to a fault, if any. `NoMemory` where a request for memory was refused; the
+    /// piece was not taken then. Makes a list of its own, with room as `feed_into` asks for it.
     pub fn feed(&mut self, alloc: Global, piece: &[u8]) -> Result<Fed, NoMemory>
         ensures requests { IfOk result (λ fed. Feeds self.old piece.now fed.requests.items self.new) }
         ensures fault { IfOk result (λ fed. fed.fault ≡ held_fault self.new) }
@@ -200,7 +202,7 @@ impl Feeder {
     }
 
     /// Reads a piece as `feed` does, and leaves the requests in this list, whose places serve again. What the list held is
-    /// lost. Answers the fault, if any. `NoMemory` as `feed`. Asks for room for all requests that so long a piece can
+    /// lost. Answers the fault, if any. `NoMemory` as `feed`; what the list holds then is not said. Asks for room for all requests that so long a piece can
     /// bring, and for 205 at least. A later piece asks for more only where it is longer than all before it and than 1,024
     /// bytes, or for a program, so memory that others fill in between does not refuse it.
     #[tactic(auto, using(crate::proofs::HeldLaws::sound_after))]

@@ -55,20 +55,6 @@ pub fn short_at(hello: Option<Version>, bytes: &[u8]) -> Option<(u16, &[u8])>
     }
 }
 
-impl Field for u16 {
-    ghost kind = { a_short };
-
-    ghost field = { short };
-
-    fn read<'b>(&mut self, hello: Option<Version>, bytes: &'b [u8]) -> Option<&'b [u8]> {
-        let Some((short, rest)) = short_at(hello, bytes) else {
-            return None;
-        };
-        *self = short;
-        Some(rest)
-    }
-}
-
 impl Field for u64 {
     ghost kind = { a_long };
 

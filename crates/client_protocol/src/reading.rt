@@ -279,10 +279,7 @@ fn request_of(hello: Option<Version>, body: &[u8], request: &mut Request) -> Res
     } else {
         walk_request(hello, tag, rest, request)
     };
-    match read {
-        Ok(()) => Ok(()),
-        Err(fault) => Err(ReadFault::Fault(fault)),
-    }
+    Ok(read?)
 }
 
 fn is_hello(request: &Request) -> bool

@@ -50,8 +50,8 @@ pub fn learn<S, V, K, P: TableRule<S, V, K>, M: Lesson<V>>(
 {}
 
 impl<V> Known<V> {
-    /// No seat.
-    pub fn blank() -> Known<V>
+    // No seat.
+    fn blank() -> Known<V>
         ensures { result.views ≡ [] }
     {
         Known {

@@ -2,7 +2,7 @@
 //!
 //! The promise to the layers above: `bpfmap_on` does what its words ask for, prints and tells that and nothing else (by
 //! `specs/CommandLine.antt`, `specs/Commands.antt`, `specs/Endings.antt` and `specs/Executions.antt`). Sessions and devices
-//! are the crate sessions, whose public names are here too. A session waits for its reader, and nothing else waits. A
+//! are the crate sessions, of which what a program needs is here too. A session waits for its reader, and nothing else waits. A
 //! refused request for memory is told as a refusal.
 #![tactic(auto)]
 
@@ -18,6 +18,6 @@ pub use mapd::{
     MapdWords, Quotas, TcpAccept, TcpReader, TcpWriter, Telling, WordsFault, mapd_on, mapd_words,
 };
 pub use sessions::{
-    AdmissionFault, Alone, Answer, Failed, ReadFault, Service, SessionEnd, Sink, Source,
+    AdmissionFault, Alone, Answer, Failed, ReadBehind, ReadFault, Service, SessionEnd, Sink, Source,
     StreamSink, StreamSource, admit, read_all, run_session, session_alone, write_all,
 };

@@ -21,10 +21,6 @@ module _ {D T B : Type 0} (does : ℕ → T → D → T → Type 0) (empty : T) 
   abbrev Rule : State (Option B) (View D) → Type 0
   Rule = Kept does empty content stripes passes
 
-  -- the view that has seen all of the stripe k
-  abbrev Seeing : (k : ℕ) (log : List (Event D)) (v : View D) → FitsLog k log v → Bool → View D
-  Seeing k log v f held = put_part v k (lengthened (part_of v k) f.rest held)
-
   -- the state and the view after a look, at a word that stays
   pub look : (s : State (Option B) (View D)) (id k : ℕ) (me : Me (Option B) (View D)) (q : ℕ) → Rule s → At s.views id me.0 → k < stripes → Carries me.0 q
       → (w : View D) × (Rule record { words = set s.words (word_at k) (get_or s.words (word_at k) 0); homes = s.homes; views = set s.views id w } × Looks does empty k me (w, me.1))

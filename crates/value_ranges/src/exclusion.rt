@@ -22,11 +22,19 @@ pub fn unequal(a: Range, b: Range) -> Option<(Range, Range)>
 fn without(a: Range, word: u64) -> Option<Range>
     ensures { (x : ℕ) → IsIn x a → x ≢ word → IsInSome x result }
 {
-    let umin = raised(a.umin, word)?;
-    let umax = lowered(a.umax, word)?;
+    let Some(umin) = raised(a.umin, word) else {
+        return None;
+    };
+    let Some(umax) = lowered(a.umax, word) else {
+        return None;
+    };
     let reading = word.cast_signed();
-    let smin = signed_raised(a.smin, reading)?;
-    let smax = signed_lowered(a.smax, reading)?;
+    let Some(smin) = signed_raised(a.smin, reading) else {
+        return None;
+    };
+    let Some(smax) = signed_lowered(a.smax, reading) else {
+        return None;
+    };
     let bounds = Bounds {
         umin,
         umax,

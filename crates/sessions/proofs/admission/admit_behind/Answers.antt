@@ -1,4 +1,4 @@
-use Rattle.std.proofs.Common.{arith, refl}
+use Rattle.std.proofs.Common.{arith, inr, refl}
 use Rattle.bpf_model.proofs.ProgramLemmas.{length-unit_count}
 use Rattle.sessions.proofs.admission.admit_behind.Goals as goal
 
