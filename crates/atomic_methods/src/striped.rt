@@ -147,7 +147,7 @@ impl Striped {
     pub fn count(&self) -> u64
         ensures value { result ≡ length (finmap.entries self.now) }
     {
-        count_of(&self.stripes)
+        count_all(&self.stripes)
     }
 
     /// Replaces the value of each key of the table once by what the program answers on the key, its value and the
@@ -194,7 +194,7 @@ fn empty_stripes(alloc: Global, count: u64) -> Result<Vec<HashedBins>, NoMemory>
 }
 
 // How many entries the stripes have together.
-fn count_of(stripes: &[HashedBins]) -> u64
+fn count_all(stripes: &[HashedBins]) -> u64
     requires { length stripes.now ≤ MAX_STRIPES }
     ensures { result ≡ length (all_entries stripes.now) }
 {
@@ -232,7 +232,7 @@ fn columns_of(alloc: Global, stripes: &[HashedBins]) -> Result<EntryColumns, NoM
     ensures ok { IfOk result (λ found. WeighSame found (all_entries stripes.now)) }
 {
     let mut found = EntryColumns::new(alloc);
-    found.reserve(count_of(stripes) as usize)?;
+    found.reserve(count_all(stripes) as usize)?;
     for stripe in stripes {
         stripe.copy_apart(&mut found)?;
     }

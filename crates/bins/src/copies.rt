@@ -15,7 +15,7 @@ use bpf_model::{Key, NoMemory, Value};
 
 /// An entry with copies of this key and this value.
 #[inline(always)]
-pub(crate) fn entry_of(key: &HashedKey<'_>, value: &Value) -> (Key, Value)
+pub(crate) fn new_entry(key: &HashedKey<'_>, value: &Value) -> (Key, Value)
     ensures { result ≡ (key.now, value.now) }
 {
     (key.key().copied(), value.copied())
@@ -47,7 +47,7 @@ pub(crate) fn key_at(keys: &Column<KEY_BYTES>, position: usize) -> Key
 }
 
 // A copy of the entry at a position.
-fn entry_at(keys: &Column<KEY_BYTES>, values: &Column<VALUE_BYTES>, position: usize) -> (Key, Value)
+fn copy_at(keys: &Column<KEY_BYTES>, values: &Column<VALUE_BYTES>, position: usize) -> (Key, Value)
     requires key { position < length keys.now.items }
     requires value { position < length values.now.items }
     ensures { result ≡ (string_at keys.now.items position, string_at values.now.items position) }
@@ -70,7 +70,7 @@ pub(crate) fn add_paired(
     let many = keys.len();
     list.try_reserve(many)?;
     for position in 0..many {
-        list.push_reserved(entry_at(keys, values, position));
+        list.push_reserved(copy_at(keys, values, position));
     }
     Ok(())
 }

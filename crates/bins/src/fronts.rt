@@ -31,7 +31,7 @@ fn number_of(bytes: &[u8]) -> u64
 
 // The same, where all of them are there: they are read as one word.
 #[inline(always)]
-fn word_of(bytes: &[u8]) -> u64
+fn front_word(bytes: &[u8]) -> u64
     requires { 8 ≤ length bytes.now }
     ensures value { result ≡ front 8 bytes.now }
 {
@@ -48,7 +48,7 @@ pub(crate) fn front_of(bytes: &[u8]) -> u64
     ensures bytes { AreBytes bytes.now }
 {
     if bytes.len() >= 8 {
-        return word_of(bytes);
+        return front_word(bytes);
     }
     number_of(bytes)
 }

@@ -6,7 +6,7 @@ ghost use Rattle.bins.specs.Table.{by_bytes};
 ghost use Rattle.bins.specs.Positions.{IsAt, IsGapFor};
 
 use crate::bins::Bins;
-use crate::copies::{add_copies, entry_of};
+use crate::copies::{add_copies, new_entry};
 use crate::counts::Counts;
 use crate::entry_columns::EntryColumns;
 use crate::hashes::HashedKey;
@@ -96,7 +96,7 @@ impl Bins for ListBins {
                 Ok(())
             }
             Err(position) => {
-                add_entry(&mut self.entries, position, entry_of(key, value))?;
+                add_entry(&mut self.entries, position, new_entry(key, value))?;
                 Ok(())
             }
         }

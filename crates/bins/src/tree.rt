@@ -105,7 +105,7 @@ fn add_position(
 }
 
 // The position of each key. `NoMemory` where a request for memory was refused.
-fn positions_of(alloc: Global, keys: &Column<KEY_BYTES>) -> Result<BTreeMap<Key, usize>, NoMemory>
+fn positions_by_key(alloc: Global, keys: &Column<KEY_BYTES>) -> Result<BTreeMap<Key, usize>, NoMemory>
     requires { StandOnce keys.now.items }
     ensures { IfOk result (λ positions. Locates positions keys.now.items) }
 {
@@ -133,7 +133,7 @@ impl Tree {
         ensures stripes { IfOk result (λ tree. tree.size.stripes ≡ index.now.stripes) }
     {
         Ok(Tree {
-            positions: positions_of(index.alloc(), keys)?,
+            positions: positions_by_key(index.alloc(), keys)?,
             size: IndexSize::of(index),
         })
     }

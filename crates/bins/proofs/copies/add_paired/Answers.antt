@@ -11,7 +11,7 @@ loop-position-preserved c =
     let before = c.loop-position.invariant in
     let more = copied_more c.args.keys.now.items c.args.values.now.items c.requires.paired c.loop-position.position (omega (arith, c.len-many.ensures.value)) c.args.list.now.items in
     record {
-      added = c.push_reserved.ensures.items ∙ (λ i. before.added i ++ c.entry_at.ensures i ∷ []) ∙ more;
+      added = c.push_reserved.ensures.items ∙ (λ i. before.added i ++ c.copy_at.ensures i ∷ []) ∙ more;
       room = omega (arith, before.room, c.push_reserved.ensures.capacity);
       counted = omega (arith, before.counted, c.push_reserved.ensures.len);
     }

@@ -7,14 +7,14 @@ use Rattle.atomic_methods.specs.Whole.{all_entries, whole}
 use Rattle.atomic_methods.proofs.WholeLemmas.{Distinct-stripes}
 use Rattle.atomic_methods.proofs.striped.Striped.count.Goals as goal
 
-pub count_of-requires : goal.count_of-requires
-count_of-requires c = let all = ap (λ (ts : List Table). length ts) c.deref.ensures.value in omega (arith, all, c.self.invariant.count.1)
+pub count_all-requires : goal.count_all-requires
+count_all-requires c = let all = ap (λ (ts : List Table). length ts) c.deref.ensures.value in omega (arith, all, c.self.invariant.count.1)
 
 -- no key is in two stripes
 pub returns : goal.returns
 returns c =
     let stripes = c.self.inside.stripes.items in
     record {
-      value = c.count_of.ensures ∙ ap (λ (ts : List Table). length (all_entries ts)) c.deref.ensures.value ∙ sym (len-table (all_entries stripes) (Distinct-stripes _ c.self.invariant))
+      value = c.count_all.ensures ∙ ap (λ (ts : List Table). length (all_entries ts)) c.deref.ensures.value ∙ sym (len-table (all_entries stripes) (Distinct-stripes _ c.self.invariant))
           ∙ len-entries (whole stripes) ∙ ap (λ (t : Table). length (map.entries t)) c.self.view_is;
     }

@@ -20,13 +20,13 @@ pub invariant_of-self-in-Err : goal.invariant_of-self-in-Err
 invariant_of-self-in-Err c =
     let bound = rw c.deref.ensures.value at c.in-Err.ensures.bound in
     let absent = rw c.deref.ensures.value at c.in-Err.ensures.absent in
-    rw (c.in_ok-add_entry-in-Err.ensures.ok, c.entry_of.ensures) (sorted_insert _ c.self.invariant _ _ bound absent _)
+    rw (c.in_ok-add_entry-in-Err.ensures.ok, c.new_entry.ensures) (sorted_insert _ c.self.invariant _ _ bound absent _)
 
 pub returns-in_ok-add_entry-in-Err-clause-ok : goal.returns-in_ok-add_entry-in-Err-clause-ok
 returns-in_ok-add_entry-in-Err-clause-ok c =
     let bound = rw c.deref.ensures.value at c.in-Err.ensures.bound in
     let absent = rw c.deref.ensures.value at c.in-Err.ensures.absent in
-    rw (c.in_ok-add_entry-in-Err.ensures.ok, c.entry_of.ensures, ← c.self.view_is) (insert_gap _ c.self.invariant _ _ bound absent _)
+    rw (c.in_ok-add_entry-in-Err.ensures.ok, c.new_entry.ensures, ← c.self.view_is) (insert_gap _ c.self.invariant _ _ bound absent _)
 
 -- memory fails only for a key that was not there
 pub returns-in_err-add_entry-in-Err-clause-memory : goal.returns-in_err-add_entry-in-Err-clause-memory

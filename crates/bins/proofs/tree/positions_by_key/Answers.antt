@@ -1,7 +1,7 @@
 use Rattle.std.proofs.Common.{List, ℕ, Some, subst, arith}
 use Rattle.bins.specs.Trees.{Sets}
 use Rattle.bins.proofs.FinderLemmas.{locates_next}
-use Rattle.bins.proofs.tree.positions_of.Goals as goal
+use Rattle.bins.proofs.tree.positions_by_key.Goals as goal
 
 -- the next key comes behind the others
 pub loop-position-preserved : goal.loop-position-preserved

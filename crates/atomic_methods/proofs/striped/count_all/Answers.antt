@@ -3,7 +3,7 @@ use Rattle.std.specs.FinMap as map
 use Rattle.bins.specs.Table.{Entry, Table}
 use Rattle.atomic_methods.specs.Whole.{all_entries}
 use Rattle.atomic_methods.proofs.WholeLemmas.{all_entries-more}
-use Rattle.atomic_methods.proofs.striped.count_of.Goals as goal
+use Rattle.atomic_methods.proofs.striped.count_all.Goals as goal
 
 -- how many entries there are with one stripe more
 length_more : (ts : List Table) (n : ℕ) (t : Table) → n < length ts → t ≡ get_or ts n t → length (all_entries (take (n + 1) ts)) ≡ length (all_entries (take n ts)) + length (map.entries t)

@@ -1,6 +1,6 @@
 use Rattle.std.proofs.Common.{◌≡◌, ◌≤◌, ◌*◌, ◌^◌, take, length}
 use Rattle.atomic_methods.specs.Whole.{all_entries}
-use Rattle.atomic_methods.proofs.striped.count_of.Given as goal
+use Rattle.atomic_methods.proofs.striped.count_all.Given as goal
 
 -- the entries of the stripes so far
 abbrev pub invariant-loop-stripe : goal.invariant-loop-stripe
