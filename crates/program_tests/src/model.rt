@@ -1,6 +1,8 @@
 //! Laws that no command prints, on words at the edges of both widths. What instructions give on words stands in `tests/words.txt`.
 use bpf_model::Width::{W32, W64};
-use bpf_model::{Answer, Condition, JumpOp, SignExtension, SwapWidth, Window};
+use bpf_model::{
+    Answer, Condition, JumpOp, NoMemory, SignExtension, SwapWidth, TooLong, Window,
+};
 use std::test::*;
 
 const MAX: u64 = u64::MAX;
@@ -116,4 +118,9 @@ fn quotients_and_orders_are_undone(rt: HostRuntime) {
             && !Window::Stack.is_read_only()
     );
     assert!(rt; Answer::Nothing.is_same(&Answer::Nothing));
+}
+
+#[test]
+fn refusals_have_their_numbers(rt: HostRuntime) {
+    assert_eq!(rt; (TooLong.number(), NoMemory.number()), (1, 9));
 }
