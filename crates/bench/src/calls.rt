@@ -39,8 +39,8 @@ impl Method {
         }
     }
 
-    // The call on this key.
-    fn call<'a>(self, key: &'a Key, value: &'a Value, program: &'a Verified) -> Call<'a> {
+    /// The call on this key.
+    pub fn call<'a>(self, key: &'a Key, value: &'a Value, program: &'a Verified) -> Call<'a> {
         match self {
             Method::Get => Call::Get { key },
             Method::Put => Call::Put { key, value },

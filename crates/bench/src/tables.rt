@@ -1,46 +1,24 @@
 //! Calls on a table of one entry, made as often as is told.
 
+use crate::calls::Method;
 use crate::opening::numbered_value;
 use crate::programs::{Sample, verified};
 use anyhow::{Result, bail};
 use atomic_methods::{Call, Striped};
 use bpf_model::{Key, Value};
 use std::alloc::Global;
-use verifier::Verified;
-
-/// The call of this name, on the entry's key, with this value.
-fn named<'a>(
-    name: &str,
-    key: &'a Key,
-    value: &'a Value,
-    program: &'a Verified,
-) -> Result<Call<'a>> {
-    Ok(match name {
-        "get" => Call::Get { key },
-        "put" => Call::Put { key, value },
-        "replace" => Call::Replace { key, value },
-        "compute" => Call::Compute {
-            key,
-            program,
-            arg: Some(value),
-        },
-        "merge" => Call::Merge {
-            key,
-            value,
-            program,
-        },
-        _ => bail!("no call is named so"),
-    })
-}
 
 /// Makes the call of this name as often as that, on a key of 8 bytes that is present.
 pub fn call_often(alloc: Global, name: &str, count: u64) -> Result<()> {
+    let Some(method) = Method::named(name) else {
+        bail!("no call is named so");
+    };
     let program = verified(alloc, Sample::Sum)?;
     let key = &Key::from_slice(b"an entry")?;
     let value = &numbered_value(1)?;
     let mut striped = Striped::open(alloc, 1)?;
     striped.apply(&Call::Put { key, value })?;
-    let call = named(name, key, value, &program)?;
+    let call = method.call(key, value, &program);
     let mut bytes = Value::new();
     for _ in 0..count {
         striped.apply_into(&call, &mut bytes)?;
