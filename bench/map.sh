@@ -85,4 +85,4 @@ for kind in get put merge; do
 done
 for kind in get put merge; do measure_session $kind 200; done
 measure_walk for_each 100000 20
-measure_walk mapping_count 100000 20
+measure_walk mapping_count 1000 2000
