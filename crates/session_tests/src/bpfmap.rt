@@ -4,3 +4,4 @@ mod faults;
 pub mod memory;
 mod refused_memory;
 mod turns;
+mod versions;

@@ -63,7 +63,7 @@ fn an_output_that_fails_is_told(rt: HostRuntime) {
 }
 
 /// One session over a table that stays, with this room for what is written.
-fn session<R: AllocGlobal + Wait>(
+pub(crate) fn session<R: AllocGlobal + Wait>(
     rt: &R,
     alone: &mut Alone,
     bytes: &[u8],
