@@ -41,9 +41,12 @@ def executed(program: Path, sent: bytes, kib: int) -> bytes:
 def served(program: Path, sent: bytes, kib: int) -> bytes:
     """What `mapd` answers on a connection that ends behind what is sent."""
     server = wire.Server(program, ONE_SESSION, kib=kib)
-    with wire.Client(server.address) as client:
-        answers = client.exchange(sent)
-    status = server.finish()
+    try:
+        with wire.Client(server.address) as client:
+            answers = client.exchange(sent)
+        status = server.finish()
+    finally:
+        server.process.kill()
     if (status, server.printed) != (0, b"ready\nserved 1\n"):
         sys.exit(f"full: FAILED, status {status}, {server.printed} and {server.told[-200:]}")
     return answers

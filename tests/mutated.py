@@ -10,13 +10,13 @@ With --count COUNT each goes on instead until so many programs or streams were s
 
     python3 tests/mutated.py --count 1000000 && python3 tests/mutated.py --server --count 1000000
 
-A process may take 64 MiB; --kib names another bound, for a program that is built with checks.
+A process may take 64 MiB: the server beyond what it took at first, and bpfmap as address space. --kib names another bound, or by 0
+none, for a program that is built with checks.
 """
 import argparse
 import contextlib
 import os
 import random
-import resource
 import subprocess
 import sys
 import time
@@ -33,9 +33,10 @@ VERSIONS = (1, 2)
 KEYS = [bytes([byte]) * length for byte in (0x61, 0x62) for length in (0, 1, 64)]
 ENDED, REFUSED = 0, 1
 RESPONSES = range(0x80, 0x88)
-# The numbers that a Refused may have: of memory, of programs, of frames, of a value that is too long, and of a program that is not there.
+# The numbers that a Refused may have: of programs, of frames, of a value that is too long, and of a program that is not there. None is
+# refused for want of memory (9): there is more than they may take.
 FAULTS = range(60, 65)
-NUMBERS = {9, *range(10, 18), *range(30, 34), *range(40, 48), *FAULTS, 65, 66}
+NUMBERS = {*range(10, 18), *range(30, 34), *range(40, 48), *FAULTS, 65, 66}
 # How long one session may take, in seconds, and how much memory any process may take, in KiB, the server beyond what it took at first.
 PATIENCE = 20
 MOST_MEMORY = 64 * 1024
@@ -80,15 +81,29 @@ def mutated(data, dice):
     return bytes(data)
 
 
+def within(kib, program):
+    """The words that start a program that may take so much memory. A shell bounds it: Python's own way is not safe beside threads."""
+    return ["sh", "-c", 'ulimit -v "$0" && exec "$@"', str(kib), str(program)] if kib else [str(program)]
+
+
 def ran(program, words, sent):
-    """A process that was sent these bytes, and ended well or with a refusal."""
+    """A process that was sent these bytes, and ended well or with a refusal, but not for want of memory."""
     try:
-        run = subprocess.run([program, *words], input=sent, capture_output=True, timeout=PATIENCE, check=False)
+        run = subprocess.run([*program, *words], input=sent, capture_output=True, timeout=PATIENCE, check=False)
     except subprocess.TimeoutExpired as late:
         raise Wrong("it hangs", sent) from late
     if run.returncode not in (ENDED, REFUSED):
         raise Wrong(f"status {run.returncode}: {run.stderr[-200:]}", sent)
+    if run.stdout == b"refused 9 at 0\n":
+        raise Wrong("it has too little memory", sent)
     return run
+
+
+def show(told, good, count):
+    """Tells what was tried; fails where all came to the same."""
+    print(f"mutated: {told}")
+    if not 0 < good < count:
+        raise Wrong("all came to the same, which shows nothing", b"")
 
 
 def bodies_of(answers, sent):
@@ -251,19 +266,15 @@ def sessions(session, target, seeds, is_enough, seed, senders=THREADS):
     return sums
 
 
-def try_bpfmap(program, seconds, count, seed, kib):
+def try_bpfmap(program, seconds, count, seed):
     """Programs to `exec` and to `check`, and frames to `exec`."""
     programs = programs_to_change(random.Random(seed), 60)
     runs, sent, taken = sessions(programs_session, program, programs, goal(seconds / 3, count, THREADS), seed)
-    print(f"mutated: {sent} programs in {runs} sessions, {taken} registered")
+    show(f"{sent} programs in {runs} sessions, {taken} registered", taken, sent)
     runs, _, taken = sessions(check, program, programs, goal(seconds / 3, count, THREADS), seed)
-    print(f"mutated: {runs} programs checked, {taken} accepted")
+    show(f"{runs} programs checked, {taken} accepted", taken, runs)
     runs, _, well = sessions(frames_session, program, requests_to_change(), goal(seconds / 3, count, THREADS), seed)
-    print(f"mutated: {runs} streams of frames, {well} of them taken to their end")
-    most = resource.getrusage(resource.RUSAGE_CHILDREN).ru_maxrss
-    print(f"mutated: no process took more than {most} KiB")
-    if most > kib:
-        raise Wrong(f"that is more than {kib} KiB", b"")
+    show(f"{runs} streams of frames, {well} of them taken to their end", well, runs)
 
 
 def asked(client, body, wanted):
@@ -335,13 +346,11 @@ def try_server(server, seconds, count, seed, kib):
             entries += look(server.address, first, number, dice)
             rounds += 1
         programs = registered(first, EACH_KEY)
-    print(f"mutated: {sums[0]} streams of frames to one server in {rounds} rounds, {sums[2]} of them taken to their end; they left "
-          f"{programs} programs, and {entries} entries that good clients removed")
-    if not 0 < sums[2] < sums[0]:
-        raise Wrong("all streams came to the same, which shows nothing", b"")
+    show(f"{sums[0]} streams of frames to one server in {rounds} rounds, {sums[2]} of them taken to their end; they left {programs} "
+         f"programs, and {entries} entries that good clients removed", sums[2], sums[0])
     most, allowed = memory_of(server), begun + kib + KIB_A_PROGRAM * programs
     print(f"mutated: the server took {most} KiB at most, {begun} of them before")
-    if most > allowed:
+    if kib and most > allowed:
         raise Wrong(f"that is more than {allowed} KiB", b"")
 
 
@@ -367,7 +376,7 @@ def main():
             try_server(server, given.seconds, given.count, given.seed, given.kib)
             end_of(server)
         else:
-            try_bpfmap(given.program or plain.PROGRAM, given.seconds, given.count, given.seed, given.kib)
+            try_bpfmap(within(given.kib, given.program or plain.PROGRAM), given.seconds, given.count, given.seed)
     except Wrong as wrong:
         sys.exit(f"mutated: FAILED, {wrong.args[0]}; sent {wrong.args[1].hex()}")
     except (wire.Ended, OSError, ValueError) as wrong:

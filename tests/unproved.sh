@@ -1,6 +1,7 @@
 #!/usr/bin/env bash
-# Runs the tests without any proof: those of each test crate by `rt try`, two crates at a time; then the scripts that the gate
-# runs, where the program is built. For a first look, not for a verdict.
+# Runs the tests without any proof: those of each test crate by `rt try`, two crates at a time; then the shell scripts here that the
+# gate runs, where their programs are built, but for refused.sh, which takes the tests as `rt test` builds them. For a first look, not
+# for a verdict.
 set -euo pipefail
 cd "$(dirname "$0")/.."
 work=$(mktemp -d)
@@ -17,19 +18,25 @@ try() {
     fi
 }
 
+# Runs a script where all these programs are built.
+run_where_built() {
+    local script=$1 program
+    shift
+    for program in "$@"; do
+        [ -x "$program" ] || { echo "$program is not built, so $script was not run"; return 0; }
+    done
+    bash "tests/$script"
+}
+
 try program_tests & try session_tests
 wait
 try map_tests & try walk_tests
 wait
-if [ -x crates/bpfmap/out/bpfmap ]; then
-    bash tests/commands.sh
-    bash tests/process.sh
-else
-    echo "crates/bpfmap/out/bpfmap is not built, so commands.sh and process.sh were not run"
-fi
-if [ -x crates/mapd/out/mapd ]; then
-    bash tests/server.sh
-else
-    echo "crates/mapd/out/mapd is not built, so server.sh was not run"
-fi
+bpfmap=crates/bpfmap/out/bpfmap
+mapd=crates/mapd/out/mapd
+run_where_built commands.sh $bpfmap
+run_where_built frames.sh $bpfmap
+run_where_built process.sh $bpfmap
+run_where_built server.sh $mapd
+run_where_built install.sh $bpfmap $mapd
 [ ! -e "$work/failed" ]

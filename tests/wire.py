@@ -7,12 +7,13 @@ import resource
 import socket
 import struct
 import subprocess
-from collections.abc import Callable
+import threading
+from collections.abc import Callable, Iterator
 from concurrent.futures import ThreadPoolExecutor
 from pathlib import Path
 
 SERVER = Path(__file__).resolve().parent.parent / "crates/mapd/out/mapd"
-# How long a client waits for an answer, and whoever starts a server for its first line, in seconds.
+# How long a client waits for an answer, and whoever starts a server for its first lines, in seconds.
 PATIENCE = 20.0
 
 # The versions of the protocol, each with the longest value that it carries.
@@ -216,6 +217,17 @@ def bound(kib: int) -> Callable[[], None]:
     return lambda: resource.setrlimit(resource.RLIMIT_AS, (kib * 1024, kib * 1024))
 
 
+@contextlib.contextmanager
+def killed_when_late(process: subprocess.Popen) -> Iterator[None]:
+    """Kills the process where the block, which reads what it prints, is not done in time."""
+    timer = threading.Timer(PATIENCE, process.kill)
+    timer.start()
+    try:
+        yield
+    finally:
+        timer.cancel()
+
+
 class Server:
     """A started server, its address, and what it printed. It may have an environment of its own and a bound on its memory."""
 
@@ -223,8 +235,9 @@ class Server:
         self.process = subprocess.Popen(
             [str(program), "--listen", "127.0.0.1:0", *options], stdin=subprocess.DEVNULL, stdout=subprocess.PIPE,
             stderr=subprocess.PIPE, bufsize=0, env={**os.environ, **(environment or {})}, preexec_fn=bound(kib) if kib else None)
-        self.printed = self.process.stdout.readline()
-        self.told = self.process.stderr.readline() if self.is_ready() else b""
+        with killed_when_late(self.process):
+            self.printed = self.process.stdout.readline()
+            self.told = self.process.stderr.readline() if self.is_ready() else b""
         self.address = self.told.decode().strip().removeprefix("listening on ")
 
     def is_ready(self) -> bool:

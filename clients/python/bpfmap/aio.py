@@ -5,7 +5,7 @@ from collections import deque
 from types import TracebackType
 from typing import Deque, List, Optional, Sequence, Tuple, Type, TypeVar
 
-from .errors import BpfmapError, ConnectionBroken, ProtocolFault, TimedOut
+from .errors import ConnectionBroken, ProtocolFault, TimedOut
 from .pipeline import PipelineCalls
 from .programs import Program
 from .protocol import LATEST, Counts, Entry, FrameReader, Limits, Pending, Request, Walked, limits_of
@@ -50,7 +50,7 @@ class AsyncClient:
             raise ConnectionBroken(f"no connection to {self._host}:{self._port}: {error}") from error
         try:
             await self._call(self._requests.hello())
-        except BpfmapError:
+        except BaseException:
             await self.close()
             raise
 

@@ -14,6 +14,8 @@ MAPD = Path(os.environ.get("MAPD", ROOT / "crates/mapd/out/mapd"))
 HOST = "127.0.0.1"
 HELLO_BYTES = 6
 WORKERS = "16"
+# How long a server may take to get ready, in seconds.
+PATIENCE = 20
 
 
 class Mapd:
@@ -22,19 +24,25 @@ class Mapd:
     def __init__(self) -> None:
         words = [str(MAPD), "--listen", f"{HOST}:0", "--workers", WORKERS]
         self._process = subprocess.Popen(words, stdout=subprocess.PIPE, stderr=subprocess.PIPE, text=True)
-        self.port = self._read_port()
+        try:
+            self.port = self._read_port()
+        except BaseException:
+            self.stop()
+            raise
         # What the server says later is read, so that it never waits for that.
         for stream in (self._process.stdout, self._process.stderr):
             threading.Thread(target=stream.read, daemon=True).start()
 
     def _read_port(self) -> int:
-        line = self._process.stderr.readline()
-        found = re.search(rf"{re.escape(HOST)}:(\d+)", line)
-        if found is None:
-            self.stop()
-            raise RuntimeError(f"{MAPD} did not tell its address, but: {line!r}")
-        if self._process.stdout.readline() != "ready\n":
-            raise RuntimeError(f"{MAPD} did not print ready")
+        timer = threading.Timer(PATIENCE, self._process.kill)
+        timer.start()
+        try:
+            told, printed = self._process.stderr.readline(), self._process.stdout.readline()
+        finally:
+            timer.cancel()
+        found = re.search(rf"{re.escape(HOST)}:(\d+)", told)
+        if found is None or printed != "ready\n":
+            raise RuntimeError(f"{MAPD} did not get ready in {PATIENCE} seconds: it printed {printed!r} and told {told!r}")
         return int(found.group(1))
 
     def kill(self) -> None:

@@ -12,6 +12,7 @@ from bpfmap.connection import send_some
 
 from .server import HOST, MapdTest, PlayedServer, receive_exactly
 
+_HELLO = bytes.fromhex("000000020002")
 _GET = bytes.fromhex("00000003100161")
 _VALUE = bytes.fromhex("00000004820001")
 _FOREVER = 20
@@ -130,12 +131,12 @@ class SilentTest(unittest.TestCase):
             pass
 
     def test_call(self) -> None:
-        with PlayedServer(self._wait) as server, Client(HOST, server.port, timeout=0.2) as client:
+        with PlayedServer(self._wait) as server, Client(HOST, server.port, timeout=1) as client:
             self.assertRaises(TimedOut, client.get, b"a")
             self.assertRaisesRegex(ConnectionBroken, "nothing was sent", client.get, b"a")
 
     def test_pipeline(self) -> None:
-        with PlayedServer(self._wait) as server, Client(HOST, server.port, timeout=0.2) as client:
+        with PlayedServer(self._wait) as server, Client(HOST, server.port, timeout=1) as client:
             pipeline = client.pipeline()
             call = pipeline.get(b"a")
             self.assertRaises(TimedOut, pipeline.execute)
@@ -147,7 +148,7 @@ class SilentTest(unittest.TestCase):
             asyncio.run(self._run_async(server.port))
 
     async def _run_async(self, port: int) -> None:
-        async with AsyncClient(HOST, port, timeout=0.2) as client:
+        async with AsyncClient(HOST, port, timeout=1) as client:
             with self.assertRaises(TimedOut):
                 await client.get(b"a")
             with self.assertRaises(ConnectionBroken):
@@ -180,6 +181,28 @@ class SilentTest(unittest.TestCase):
             port = listener.getsockname()[1]
             with self.assertRaises(TimedOut):
                 Client(HOST, port, timeout=0.2)
+
+    def test_open_that_is_cancelled(self) -> None:
+        """No worker is free for the Hello. The connection is closed, though the client is still there."""
+        with socket.create_server((HOST, 0)) as listener:
+            self.assertEqual(asyncio.run(self._cancel_open(listener)), _HELLO)
+
+    async def _cancel_open(self, listener: socket.socket) -> bytes:
+        client = AsyncClient(HOST, listener.getsockname()[1])
+        opening = asyncio.ensure_future(client.open())
+        loop = asyncio.get_running_loop()
+        listener.settimeout(_FOREVER)
+        connection, _ = await loop.run_in_executor(None, listener.accept)
+        with connection:
+            connection.settimeout(_FOREVER)
+            received = await loop.run_in_executor(None, receive_exactly, connection, len(_HELLO))
+            opening.cancel()
+            with self.assertRaises(asyncio.CancelledError):
+                await opening
+            received += await loop.run_in_executor(None, connection.recv, 1)
+        with self.assertRaises(ConnectionBroken):
+            await client.get(b"a")
+        return received
 
 
 class FaultTest(unittest.TestCase):
@@ -237,12 +260,13 @@ class FaultTest(unittest.TestCase):
 
 
 class KilledTest(MapdTest):
-    """The real server is killed while a pipeline is under way, after 1,000 of its 200,000 answers have come."""
+    """The real server is killed while a pipeline is under way, after 1,000 of its 50,000 answers have come. They have 50 megabytes,
+    more than sockets keep, so that the server is not done before most of them were read."""
 
     def test_what_was_answered_stands(self) -> None:
         with Client(HOST, self.port) as client:
             pipeline = client.pipeline()
-            calls = [pipeline.put(b"a", number.to_bytes(8, "little")) for number in range(200_000)]
+            calls = [pipeline.put(b"a", _number(number)) for number in range(50_000)]
             killer = threading.Thread(target=self._kill_after, args=(calls[1_000],))
             killer.start()
             try:
@@ -251,7 +275,7 @@ class KilledTest(MapdTest):
                 killer.join()
         answered = sum(call.error is None for call in calls)
         self.assertGreater(answered, 1_000)
-        self.assertEqual([call.result() for call in calls[:answered]], [None, *_numbers(answered - 1)])
+        self.assertEqual([call.result() for call in calls[:answered]], [None, *map(_number, range(answered - 1))])
         for call in calls[answered:]:
             self.assertIsInstance(call.error, ConnectionBroken)
 
@@ -261,5 +285,6 @@ class KilledTest(MapdTest):
         self.mapd.kill()
 
 
-def _numbers(count: int) -> List[bytes]:
-    return [number.to_bytes(8, "little") for number in range(count)]
+def _number(number: int) -> bytes:
+    """A number, as long as a value may be."""
+    return number.to_bytes(1024, "little")

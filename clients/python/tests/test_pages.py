@@ -25,6 +25,7 @@ class PagesTest(MapdTest):
         script = rest.replace("7070", str(self.port)).replace("clients/python", str(_PACKAGE)).replace("python3", sys.executable)
         environment = {**os.environ, "BPFMAP_SERVER": f"{HOST}:{self.port}"}
         with tempfile.TemporaryDirectory() as folder:
+            script = script.replace("/tmp/counter", f"{folder}/counter")
             done = subprocess.run(
                 ["bash", "-e", "-c", script], cwd=folder, env=environment, capture_output=True, text=True, timeout=60, check=False
             )

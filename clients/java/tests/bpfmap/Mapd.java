@@ -18,6 +18,9 @@ final class Mapd implements AutoCloseable {
     /** Long enough for a slow server on a busy machine. */
     static final Settings PATIENT = Settings.DEFAULT.withAnswerTimeout(Duration.ofSeconds(60));
 
+    /** How long a server may take to get ready, in milliseconds. */
+    private static final int PATIENCE = 20_000;
+
     private static final Pattern ADDRESS = Pattern.compile("127\\.0\\.0\\.1:(\\d+)");
 
     private final Process process;
@@ -36,6 +39,7 @@ final class Mapd implements AutoCloseable {
     static Mapd start(Path program, int port) throws IOException {
         Process process = new ProcessBuilder(program.toString(), "--listen", HOST + ":" + port, "--workers",
                 Integer.toString(WORKERS)).start();
+        Thread killer = killLater(process);
         try {
             BufferedReader errors = reader(process.getErrorStream());
             BufferedReader output = reader(process.getInputStream());
@@ -50,7 +54,24 @@ final class Mapd implements AutoCloseable {
         } catch (IOException e) {
             process.destroyForcibly();
             throw e;
+        } finally {
+            killer.interrupt();
         }
+    }
+
+    /** A thread that kills a process which does not get ready in time, unless it is interrupted. */
+    private static Thread killLater(Process process) {
+        Thread thread = new Thread(() -> {
+            try {
+                Thread.sleep(PATIENCE);
+                process.destroyForcibly();
+            } catch (InterruptedException e) {
+                return;
+            }
+        });
+        thread.setDaemon(true);
+        thread.start();
+        return thread;
     }
 
     int port() {

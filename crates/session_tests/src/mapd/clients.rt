@@ -34,6 +34,12 @@ fn free_address<R: Net<Listener = TcpListener, Stream = TcpStream> + AllocGlobal
     Ok(format!(in rt.alloc(); "{address}")?)
 }
 
+/// The stream, on which a read fails where nothing comes for 20 seconds.
+fn impatient(stream: TcpStream) -> io::Result<TcpStream> {
+    stream.set_read_timeout(Some(Duration::from_secs(20)))?;
+    Ok(stream)
+}
+
 /// A connection to a server that may not listen yet.
 fn connect<R: Net<Listener = TcpListener, Stream = TcpStream> + Clock>(
     rt: &R,
@@ -41,11 +47,11 @@ fn connect<R: Net<Listener = TcpListener, Stream = TcpStream> + Clock>(
 ) -> io::Result<TcpStream> {
     for _ in 0..1000u32 {
         if let Ok(stream) = TcpStream::connect(rt, address) {
-            return Ok(stream);
+            return impatient(stream);
         }
         thread::sleep(rt, Duration::from_millis(10));
     }
-    TcpStream::connect(rt, address)
+    impatient(TcpStream::connect(rt, address)?)
 }
 
 /// Whether the answer to the request is this one.

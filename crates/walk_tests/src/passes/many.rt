@@ -3,11 +3,8 @@ ghost use Rattle.std.specs.Prelude.{◌≡◌, All, IfOk};
 
 use super::*;
 
-// The most turns that a thread waits.
+// The most turns that a thread waits, and the most tries of a call.
 const TURNS: u64 = 10_000_000;
-
-// The most tries of one call; a thread makes at most 250 so.
-const TRIES: u64 = 40_000;
 
 // A gate that holds a worker at `Held` until it is opened.
 #[derive(Drop)]
@@ -126,7 +123,7 @@ fn tried(map: &StripedMap, pass: &mut Pass, call: &Call) -> bool
     requires { pass.old.map ≡ map.now }
     ensures { pass.new.map ≡ map.now }
 {
-    for _ in 0..TRIES {
+    for _ in 0..TURNS {
         match map.try_call(pass, call) {
             Ok(_) => return true,
             Err(CallFault::Busy) => thread::yield_now(),
@@ -136,8 +133,24 @@ fn tried(map: &StripedMap, pass: &mut Pass, call: &Call) -> bool
     false
 }
 
+// The program that threads merge by, and how many of their calls were made.
+#[derive(Drop)]
+struct Merging {
+    program: Verified,
+    made: AtomicU64,
+}
+
+impl Merging {
+    fn new(program: Verified) -> Merging {
+        Merging {
+            program,
+            made: AtomicU64::new(0),
+        }
+    }
+}
+
 // Merges 1 on the key.
-fn merge_one<R: Wait>(rt: &R, map: &StripedMap, pass: &mut Pass, program: &Verified, by_tries: bool)
+fn merge_one<R: Wait>(rt: &R, map: &StripedMap, pass: &mut Pass, merging: &Merging, by_tries: bool)
     requires { pass.old.map ≡ map.now }
     ensures { pass.new.map ≡ map.now }
 {
@@ -147,22 +160,25 @@ fn merge_one<R: Wait>(rt: &R, map: &StripedMap, pass: &mut Pass, program: &Verif
     let call = Call::Merge {
         key: &key,
         value: &value,
-        program,
+        program: &merging.program,
     };
-    if by_tries {
-        tried(map, pass, &call);
+    let is_made = if by_tries {
+        tried(map, pass, &call)
     } else {
-        let _ = map.call(rt, pass, &call);
+        map.call(rt, pass, &call).is_ok()
+    };
+    if is_made {
+        merging.made.fetch_add(1, Ordering::SeqCst);
     }
 }
 
 // Merges 1 so many times, each second one by tries, and gives the pass back.
-fn merges<R: Wait>(rt: &R, map: &StripedMap, mut pass: Pass, program: &Verified, times: u64) -> Pass
+fn merges<R: Wait>(rt: &R, map: &StripedMap, mut pass: Pass, merging: &Merging, times: u64) -> Pass
     requires { pass.map ≡ map.now }
     ensures { result.map ≡ map.now }
 {
     for turn in 0..times {
-        merge_one(rt, map, &mut pass, program, turn % 2 == 1);
+        merge_one(rt, map, &mut pass, merging, turn % 2 == 1);
     }
     pass
 }
@@ -173,7 +189,7 @@ fn merged_by_two<R: Threads + Wait + Sync>(
     map: &StripedMap,
     one: Pass,
     other: Pass,
-    program: &Verified,
+    merging: &Merging,
     times: u64,
 ) -> Pass
     requires one { one.map ≡ map.now }
@@ -185,22 +201,23 @@ fn merged_by_two<R: Threads + Wait + Sync>(
         move || -> Pass
             requires { one.map ≡ map.now }
             ensures { result.map ≡ map.entry.now }
-        { merges(rt, map, one, program, times) },
+        { merges(rt, map, one, merging, times) },
         move || -> Pass
             requires { other.map ≡ map.now }
             ensures { result.map ≡ map.entry.now }
-        { merges(rt, map, other, program, times) },
+        { merges(rt, map, other, merging, times) },
     );
     map.join(one, other)
 }
 
 #[test]
 fn two_threads_merge_on_one_key(rt: HostRuntime) -> Result<(), Fail> {
-    let program = summing(rt.alloc())?;
+    let merging = Merging::new(summing(rt.alloc())?);
     let (map, mut passes) = opened(rt.alloc(), 16, 2)?;
     let second = next_pass(&map, &mut passes)?;
     let first = next_pass(&map, &mut passes)?;
-    let mut both = merged_by_two(&rt, &map, first, second, &program, 500);
+    let mut both = merged_by_two(&rt, &map, first, second, &merging, 500);
+    assert_eq!(rt; merging.made.load(Ordering::SeqCst), 1000, "a call was given up");
     let found = got(&rt, &map, &mut both, b"a")?;
     assert!(rt; is_value(&found, &[0xe8, 0x03, 0, 0, 0, 0, 0, 0]));
     Ok(())
@@ -212,7 +229,7 @@ fn merged_by_four<R: Threads + Wait + Sync>(
     map: &StripedMap,
     first: (Pass, Pass),
     second: (Pass, Pass),
-    program: &Verified,
+    merging: &Merging,
 ) -> Pass
     requires first { (first.0.map ≡ map.now) × (first.1.map ≡ map.now) }
     requires second { (second.0.map ≡ map.now) × (second.1.map ≡ map.now) }
@@ -223,11 +240,11 @@ fn merged_by_four<R: Threads + Wait + Sync>(
         move || -> Pass
             requires { (first.0.map ≡ map.now) × (first.1.map ≡ map.now) }
             ensures { result.map ≡ map.entry.now }
-        { merged_by_two(rt, map, first.0, first.1, program, 250) },
+        { merged_by_two(rt, map, first.0, first.1, merging, 250) },
         move || -> Pass
             requires { (second.0.map ≡ map.now) × (second.1.map ≡ map.now) }
             ensures { result.map ≡ map.entry.now }
-        { merged_by_two(rt, map, second.0, second.1, program, 250) },
+        { merged_by_two(rt, map, second.0, second.1, merging, 250) },
     );
     map.join(one, other)
 }
@@ -252,7 +269,7 @@ fn merged_by_eight<R: Threads + Wait + Sync>(
     map: &StripedMap,
     first: Fours,
     second: Fours,
-    program: &Verified,
+    merging: &Merging,
 ) -> Pass
     requires first { (first.0.0.map ≡ map.now) × (first.0.1.map ≡ map.now) × (first.1.0.map ≡ map.now) × (first.1.1.map ≡ map.now) }
     requires second { (second.0.0.map ≡ map.now) × (second.0.1.map ≡ map.now) × (second.1.0.map ≡ map.now) × (second.1.1.map ≡ map.now) }
@@ -263,22 +280,23 @@ fn merged_by_eight<R: Threads + Wait + Sync>(
         move || -> Pass
             requires { (first.0.0.map ≡ map.now) × (first.0.1.map ≡ map.now) × (first.1.0.map ≡ map.now) × (first.1.1.map ≡ map.now) }
             ensures { result.map ≡ map.entry.now }
-        { merged_by_four(rt, map, first.0, first.1, program) },
+        { merged_by_four(rt, map, first.0, first.1, merging) },
         move || -> Pass
             requires { (second.0.0.map ≡ map.now) × (second.0.1.map ≡ map.now) × (second.1.0.map ≡ map.now) × (second.1.1.map ≡ map.now) }
             ensures { result.map ≡ map.entry.now }
-        { merged_by_four(rt, map, second.0, second.1, program) },
+        { merged_by_four(rt, map, second.0, second.1, merging) },
     );
     map.join(one, other)
 }
 
 #[test]
 fn eight_threads_merge_on_one_key(rt: HostRuntime) -> Result<(), Fail> {
-    let program = summing(rt.alloc())?;
+    let merging = Merging::new(summing(rt.alloc())?);
     let (map, mut passes) = opened(rt.alloc(), 16, 8)?;
     let first = (next_two(&map, &mut passes)?, next_two(&map, &mut passes)?);
     let second = (next_two(&map, &mut passes)?, next_two(&map, &mut passes)?);
-    let mut all = merged_by_eight(&rt, &map, first, second, &program);
+    let mut all = merged_by_eight(&rt, &map, first, second, &merging);
+    assert_eq!(rt; merging.made.load(Ordering::SeqCst), 2000, "a call was given up");
     let found = got(&rt, &map, &mut all, b"a")?;
     assert!(rt; is_value(&found, &[0xd0, 0x07, 0, 0, 0, 0, 0, 0]));
     Ok(())

@@ -274,7 +274,7 @@ fn meet_beside<R: Threads + Wait + Abort + Sync>(
 }
 
 #[test]
-fn walks_use_workers_by_their_numbers(rt: HostRuntime) -> Result<(), Fail> {
+fn walk_uses_workers(rt: HostRuntime) -> Result<(), Fail> {
     meet_beside(&rt, rt.alloc(), Place::WalkStart, 0)
 }
 
@@ -284,7 +284,7 @@ fn walks_use_workers_beside_a_caller(rt: HostRuntime) -> Result<(), Fail> {
 }
 
 #[test]
-fn stripes_are_held_at_once_by_their_workers(rt: HostRuntime) -> Result<(), Fail> {
+fn stripes_held_at_once(rt: HostRuntime) -> Result<(), Fail> {
     meet_beside(&rt, rt.alloc(), Place::Held, 0)
 }
 
