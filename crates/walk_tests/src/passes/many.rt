@@ -71,7 +71,7 @@ fn beside(map: &StripedMap, mut pass: Pass, gate: &Shut) -> (bool, bool)
     let came = gate.wait();
     let apart = map.try_call(&mut pass, &Call::Get { key: &free }).is_ok();
     let call = Call::Get { key: &held };
-    let busy = matches!(map.try_call(&mut pass, &call), Err(CallFault::Busy));
+    let busy = matches!(map.try_call(&mut pass, &call), Err(fault) if fault.number() == 52);
     gate.open.store(1, Ordering::SeqCst);
     (came && apart, busy)
 }
