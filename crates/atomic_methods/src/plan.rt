@@ -60,9 +60,14 @@ pub fn plan_of<'c>(call: &Call<'c>, old: Option<&[u8]>) -> Plan<'c>
         }
         (Call::Replace { value, .. }, Some(_)) => Apply(Enter(value), Old),
         (Call::Replace { .. } | Call::ComputeIfPresent { .. }, None) => Apply(Keep, Old),
-        (Call::ReplaceIf { expected, value, .. }, Some(old)) if old == expected.as_slice() => {
-            Apply(Enter(value), Done(true))
-        }
+        (
+            Call::ReplaceIf {
+                expected,
+                value,
+                ..
+            },
+            Some(old),
+        ) if old == expected.as_slice() => { Apply(Enter(value), Done(true)) }
         (Call::RemoveIf { .. } | Call::ReplaceIf { .. }, _) => Apply(Keep, Done(false)),
         (Call::Compute { program, arg, .. }, _) => Run(program, arg),
         (Call::ComputeIfAbsent { program, arg, .. }, None) => Run(program, arg),

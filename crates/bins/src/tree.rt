@@ -105,7 +105,10 @@ fn add_position(
 }
 
 // The position of each key. `NoMemory` where a request for memory was refused.
-fn positions_by_key(alloc: Global, keys: &Column<KEY_BYTES>) -> Result<BTreeMap<Key, usize>, NoMemory>
+fn positions_by_key(
+    alloc: Global,
+    keys: &Column<KEY_BYTES>,
+) -> Result<BTreeMap<Key, usize>, NoMemory>
     requires { StandOnce keys.now.items }
     ensures { IfOk result (λ positions. Locates positions keys.now.items) }
 {

@@ -18,6 +18,6 @@ pub use mapd::{
     MapdWords, Quotas, TcpAccept, TcpReader, TcpWriter, Telling, WordsFault, mapd_on, mapd_words,
 };
 pub use sessions::{
-    AdmissionFault, Alone, Answer, Failed, ReadBehind, ReadFault, Service, SessionEnd, Sink, Source,
-    StreamSink, StreamSource, admit, read_all, run_session, session_alone, write_all,
+    AdmissionFault, Alone, Answer, Failed, ReadBehind, ReadFault, Service, SessionEnd, Sink,
+    Source, StreamSink, StreamSource, admit, read_all, run_session, session_alone, write_all,
 };

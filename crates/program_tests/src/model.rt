@@ -1,8 +1,6 @@
 //! Laws that no command prints, on words at the edges of both widths. What instructions give on words stands in `tests/words.txt`.
 use bpf_model::Width::{W32, W64};
-use bpf_model::{
-    Answer, Condition, JumpOp, NoMemory, SignExtension, SwapWidth, TooLong, Window,
-};
+use bpf_model::{Answer, Condition, JumpOp, NoMemory, SignExtension, SwapWidth, TooLong, Window};
 use std::test::*;
 
 const MAX: u64 = u64::MAX;

@@ -9,13 +9,14 @@ const PUT_300: [u8; 15] = [0, 0, 0, 2, 0, 2, 0, 0, 1, 0x31, 0x11, 1, 0x61, 1, 0x
 
 // A Hello of version 1, a Get, a Remove and a Get.
 const GET_REMOVE_GET: [u8; 27] = [
-    0, 0, 0, 2, 0, 1, 0, 0, 0, 3, 0x10, 1, 0x61, 0, 0, 0, 3, 0x13, 1, 0x61, 0, 0, 0, 3, 0x10, 1, 0x61,
+    0, 0, 0, 2, 0, 1, 0, 0, 0, 3, 0x10, 1, 0x61, 0, 0, 0, 3, 0x13, 1, 0x61, 0, 0, 0, 3, 0x10, 1,
+    0x61,
 ];
 
 // The Hello, twice 65 in place of the value, and none.
 const TOO_LONG_TWICE: [u8; 33] = [
-    0, 0, 0, 2, 0x80, 1, 0, 0, 0, 6, 0x85, 0x41, 0, 0, 0, 0, 0, 0, 0, 6, 0x85, 0x41, 0, 0, 0, 0, 0, 0, 0, 3,
-    0x82, 0xff, 0xff,
+    0, 0, 0, 2, 0x80, 1, 0, 0, 0, 6, 0x85, 0x41, 0, 0, 0, 0, 0, 0, 0, 6, 0x85, 0x41, 0, 0, 0, 0, 0,
+    0, 0, 3, 0x82, 0xff, 0xff,
 ];
 
 #[test]
@@ -26,7 +27,9 @@ fn version_one_is_told_that_a_value_is_too_long(rt: HostRuntime) -> Result<(), F
     let mut alone = Alone::open(rt.alloc(), 4)?;
     let (end, written) = session(&rt, &mut alone, &put, ROOM);
     assert!(&rt; end == SessionEnd::Closed);
-    assert!(&rt; written.as_slice() == [0, 0, 0, 2, 0x80, 2, 0, 0, 0, 3, 0x82, 0xff, 0xff].as_slice());
+    assert!(&rt;
+        written.as_slice() == [0, 0, 0, 2, 0x80, 2, 0, 0, 0, 3, 0x82, 0xff, 0xff].as_slice()
+    );
     let (end, written) = session(&rt, &mut alone, &GET_REMOVE_GET, ROOM);
     assert!(&rt; end == SessionEnd::Closed);
     assert!(&rt; written.as_slice() == TOO_LONG_TWICE.as_slice());

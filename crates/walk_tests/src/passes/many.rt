@@ -217,7 +217,11 @@ fn two_threads_merge_on_one_key(rt: HostRuntime) -> Result<(), Fail> {
     let second = next_pass(&map, &mut passes)?;
     let first = next_pass(&map, &mut passes)?;
     let mut both = merged_by_two(&rt, &map, first, second, &merging, 500);
-    assert_eq!(rt; merging.made.load(Ordering::SeqCst), 1000, "a call was given up");
+    assert_eq!(rt;
+        merging.made.load(Ordering::SeqCst),
+        1000,
+        "a call was given up"
+    );
     let found = got(&rt, &map, &mut both, b"a")?;
     assert!(rt; is_value(&found, &[0xe8, 0x03, 0, 0, 0, 0, 0, 0]));
     Ok(())
@@ -296,7 +300,11 @@ fn eight_threads_merge_on_one_key(rt: HostRuntime) -> Result<(), Fail> {
     let first = (next_two(&map, &mut passes)?, next_two(&map, &mut passes)?);
     let second = (next_two(&map, &mut passes)?, next_two(&map, &mut passes)?);
     let mut all = merged_by_eight(&rt, &map, first, second, &merging);
-    assert_eq!(rt; merging.made.load(Ordering::SeqCst), 2000, "a call was given up");
+    assert_eq!(rt;
+        merging.made.load(Ordering::SeqCst),
+        2000,
+        "a call was given up"
+    );
     let found = got(&rt, &map, &mut all, b"a")?;
     assert!(rt; is_value(&found, &[0xd0, 0x07, 0, 0, 0, 0, 0, 0]));
     Ok(())
