@@ -7,8 +7,8 @@ use Rattle.client_protocol.specs.declared.fault.ProtocolFault.{ProtocolFault}
 use Rattle.client_protocol.specs.Bodies.{body_of, body_bytes, hello_after}
 use Rattle.client_protocol.specs.Frames.{length_bytes, frame_of, frames_of, IsLength, IsRequest, IsBeginning, IsFaulty, Held, Frames, IsSoundHeld}
 use Rattle.client_protocol.specs.Frames.Held.{open_at, failed}
-use Rattle.client_protocol.specs.declared.reading.ReadFault.{ReadFault}
-use Rattle.client_protocol.specs.declared.reading.ReadFault.TheVariants.{NoMemory, Fault}
+use Rattle.client_protocol.specs.declared.reading.BodyFault.{BodyFault}
+use Rattle.client_protocol.specs.declared.reading.BodyFault.TheVariants.{NoMemory, Fault}
 use Rattle.client_protocol.specs.Reading.{Lacks, IfFault, Adds}
 use Rattle.client_protocol.proofs.FrameLaws.{faulty_more}
 use Rattle.client_protocol.proofs.Unique.{same_length, allowed_small}
@@ -86,7 +86,7 @@ refused : (hello : Option Version) (all rest piece : List ℕ) (n : ℕ) (fault 
 refused hello all rest piece n fault e bad =
     subst (λ (t : List ℕ). IsFaulty hello t fault) (sym (moved all rest piece n e)) (faulty_more hello (rest ++ take n piece) (drop n piece) fault bad)
 
-pub refused_if : (hello : Option Version) (all rest piece : List ℕ) (n : ℕ) (fault : ReadFault) (old mid new : List Request) → mid ≡ old → all ≡ rest ++ piece → IfFault fault (λ f. (new ≡ mid) × IsFaulty hello (rest ++ take n piece) f) → IfFault fault (λ f. (new ≡ old) × IsFaulty hello all f)
+pub refused_if : (hello : Option Version) (all rest piece : List ℕ) (n : ℕ) (fault : BodyFault) (old mid new : List Request) → mid ≡ old → all ≡ rest ++ piece → IfFault fault (λ f. (new ≡ mid) × IsFaulty hello (rest ++ take n piece) f) → IfFault fault (λ f. (new ≡ old) × IsFaulty hello all f)
 refused_if hello all rest piece n NoMemory old mid new same e bad = tt
 refused_if hello all rest piece n (Fault fault) old mid new same e bad = (bad.0 ∙ same, refused hello all rest piece n fault e bad.1)
 

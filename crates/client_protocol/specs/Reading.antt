@@ -5,8 +5,8 @@ use Rattle.client_protocol.specs.declared.limits.Version.{Version}
 use Rattle.client_protocol.specs.declared.limits.Limits.{Limits}
 use Rattle.client_protocol.specs.Requests.{Request}
 use Rattle.client_protocol.specs.declared.fault.ProtocolFault.{ProtocolFault}
-use Rattle.client_protocol.specs.declared.reading.ReadFault.{ReadFault}
-use Rattle.client_protocol.specs.declared.reading.ReadFault.TheVariants.{NoMemory, Fault}
+use Rattle.client_protocol.specs.declared.reading.BodyFault.{BodyFault}
+use Rattle.client_protocol.specs.declared.reading.BodyFault.TheVariants.{NoMemory, Fault}
 use Rattle.client_protocol.specs.Bodies.{Kind, Field, field_bytes, IsField, TakesAll, Body, IsBody, body_bytes, sizes_fields, hello_after}
 use Rattle.client_protocol.specs.Bodies.Kind.{a_short}
 use Rattle.client_protocol.specs.Frames.{frame_of, IsRequest, IsBeginning}
@@ -33,7 +33,7 @@ NoSizes limits bytes = NoFields limits (a_short ∷ a_short ∷ a_short ∷ a_sh
 abbrev pub SpellsBody : Limits → List ℕ → Body → Type 0
 SpellsBody limits bytes body = IsBody limits body × (bytes ≡ body_bytes body)
 
-abbrev pub IfFault : ReadFault → (ProtocolFault → Type 0) → Type 0
+abbrev pub IfFault : BodyFault → (ProtocolFault → Type 0) → Type 0
 IfFault NoMemory P = Unit {0}
 IfFault (Fault fault) P = P fault
 

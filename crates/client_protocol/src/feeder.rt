@@ -9,7 +9,7 @@ use crate::copies::replace;
 use crate::fault::ProtocolFault;
 use crate::frames::{lacking, take_frames};
 use crate::limits::Version;
-use crate::reading::ReadFault;
+use crate::reading::BodyFault;
 use crate::request::Request;
 use crate::requests::{Behind, Requests};
 use bpf_model::NoMemory;
@@ -69,7 +69,7 @@ fn complete<'a>(
     requests: &mut Requests,
     rest: &mut BytesMut,
     piece: &'a [u8],
-) -> Result<Option<Behind<'a>>, ReadFault>
+) -> Result<Option<Behind<'a>>, BodyFault>
     requires begun { IsBeginning hello rest.old.items }
     ensures grown { take (length rest.old.items) rest.new.items ≡ rest.old.items }
     ensures frame { IfOk result (λ next. IfSome next (λ behind.
@@ -120,11 +120,11 @@ fn read_held(
     match complete(alloc, hello, requests, rest, piece) {
         Ok(Some(behind)) => take_whole(alloc, behind.hello, requests, rest, behind.bytes),
         Ok(None) => Ok(Taken { hello, fault: None }),
-        Err(ReadFault::Fault(fault)) => Ok(Taken {
+        Err(BodyFault::Fault(fault)) => Ok(Taken {
             hello,
             fault: Some(fault),
         }),
-        Err(ReadFault::NoMemory) => Err(NoMemory),
+        Err(BodyFault::NoMemory) => Err(NoMemory),
     }
 }
 

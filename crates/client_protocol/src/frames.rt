@@ -7,7 +7,7 @@ ghost use Rattle.client_protocol.specs.Reading.{IfFault, Lacks};
 
 use crate::fault::ProtocolFault;
 use crate::limits::{Limits, Version};
-use crate::reading::{ReadFault, read_request};
+use crate::reading::{BodyFault, read_request};
 use crate::request::{Request, RequestKind};
 use crate::requests::Requests;
 use bpf_model::NoMemory;
@@ -54,7 +54,7 @@ pub fn next<'b>(
     hello: Option<Version>,
     bytes: &'b [u8],
     request: &mut Request,
-) -> Result<Option<&'b [u8]>, ReadFault>
+) -> Result<Option<&'b [u8]>, BodyFault>
     ensures frame { IfOk result (λ next. IfSome next (λ behind. IsRequest hello request.new
         × (bytes.now ≡ frame_of request.new ++ behind.now))) }
     ensures begun { IfOk result (λ next. IfNone next (IsBeginning hello bytes.now)) }
@@ -64,7 +64,7 @@ pub fn next<'b>(
         return Ok(None);
     };
     if len == 0 || len > Limits::after(hello).body {
-        return Err(ReadFault::Fault(ProtocolFault::BadLength));
+        return Err(BodyFault::Fault(ProtocolFault::BadLength));
     }
     let len = len as usize;
     if rest.len() < len {
@@ -110,14 +110,14 @@ pub fn take_frames<'a>(
                     fault: None,
                 });
             }
-            Err(ReadFault::Fault(fault)) => {
+            Err(BodyFault::Fault(fault)) => {
                 return Ok(Left {
                     hello,
                     rest,
                     fault: Some(fault),
                 });
             }
-            Err(ReadFault::NoMemory) => return Err(NoMemory),
+            Err(BodyFault::NoMemory) => return Err(NoMemory),
         }
     }
 }

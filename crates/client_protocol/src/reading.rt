@@ -14,41 +14,41 @@ use std::alloc::AllocError;
 
 /// Why a body gives no request.
 #[derive(Clone, Copy, Debug, PartialEq, Eq)]
-pub enum ReadFault {
+pub enum BodyFault {
     NoMemory,
     Fault(ProtocolFault),
 }
 
-impl From<ProtocolFault> for ReadFault {
+impl From<ProtocolFault> for BodyFault {
     ghost use Rattle.std.specs.Prelude.{◌≡◌};
-    ghost use Rattle.client_protocol.specs.declared.reading.ReadFault.TheVariants.{Fault};
+    ghost use Rattle.client_protocol.specs.declared.reading.BodyFault.TheVariants.{Fault};
 
     ghost from_gives = { λ fault e. e ≡ Fault fault };
 
-    fn from(fault: ProtocolFault) -> ReadFault {
-        ReadFault::Fault(fault)
+    fn from(fault: ProtocolFault) -> BodyFault {
+        BodyFault::Fault(fault)
     }
 }
 
-impl From<AllocError> for ReadFault {
+impl From<AllocError> for BodyFault {
     ghost use Rattle.std.specs.Prelude.{◌≡◌};
-    ghost use Rattle.client_protocol.specs.declared.reading.ReadFault.TheVariants.{NoMemory};
+    ghost use Rattle.client_protocol.specs.declared.reading.BodyFault.TheVariants.{NoMemory};
 
     ghost from_gives = { λ _ e. e ≡ NoMemory };
 
-    fn from(_: AllocError) -> ReadFault {
-        ReadFault::NoMemory
+    fn from(_: AllocError) -> BodyFault {
+        BodyFault::NoMemory
     }
 }
 
-impl From<NoMemory> for ReadFault {
+impl From<NoMemory> for BodyFault {
     ghost use Rattle.std.specs.Prelude.{◌≡◌};
-    ghost use Rattle.client_protocol.specs.declared.reading.ReadFault.TheVariants.{NoMemory};
+    ghost use Rattle.client_protocol.specs.declared.reading.BodyFault.TheVariants.{NoMemory};
 
     ghost from_gives = { λ _ e. e ≡ NoMemory };
 
-    fn from(_: NoMemory) -> ReadFault {
-        ReadFault::NoMemory
+    fn from(_: NoMemory) -> BodyFault {
+        BodyFault::NoMemory
     }
 }
 
@@ -245,12 +245,12 @@ fn register_request(
     hello: Option<Version>,
     rest: &[u8],
     request: &mut Request,
-) -> Result<(), ReadFault>
+) -> Result<(), BodyFault>
     ensures ok { OnOk result (SpellsBody (limits_after hello) (0x01 ∷ rest.now) (body_of request.new)) }
     ensures err { IfErr result (λ e. IfFault e (BodyHas hello (0x01 ∷ rest.now))) }
 {
     let Some((sizes, program)) = sizes_at(hello, rest) else {
-        return Err(ReadFault::Fault(ProtocolFault::BadField));
+        return Err(BodyFault::Fault(ProtocolFault::BadField));
     };
     replace(&mut request.program, program)?;
     request.kind = RequestKind::Register { sizes };
@@ -258,7 +258,7 @@ fn register_request(
 }
 
 // The request of a body, if it were its turn.
-fn request_of(hello: Option<Version>, body: &[u8], request: &mut Request) -> Result<(), ReadFault>
+fn request_of(hello: Option<Version>, body: &[u8], request: &mut Request) -> Result<(), BodyFault>
     requires { 1 ≤ length body.now }
     ensures ok { OnOk result (SpellsBody (limits_after hello) body.now (body_of request.new)) }
     ensures err { IfErr result (λ e. IfFault e (BodyHas hello body.now)) }
@@ -306,14 +306,14 @@ pub fn read_request(
     hello: Option<Version>,
     body: &[u8],
     request: &mut Request,
-) -> Result<(), ReadFault>
+) -> Result<(), BodyFault>
     requires { 1 ≤ length body.now }
     ensures ok { OnOk result (IsBodyOf hello body.now request.new) }
     ensures err { IfErr result (λ fault. IfFault fault (BodyHas hello body.now)) }
 {
     request_of(hello, body, request)?;
     if !may_come(hello, request) {
-        return Err(ReadFault::Fault(ProtocolFault::WrongVersion));
+        return Err(BodyFault::Fault(ProtocolFault::WrongVersion));
     }
     Ok(())
 }

@@ -6,7 +6,7 @@ ghost use Rattle.client_protocol.specs.Requests.{Request as TheRequest};
 
 use crate::frames::{hello_after, next};
 use crate::limits::Version;
-use crate::reading::ReadFault;
+use crate::reading::BodyFault;
 use crate::request::Request;
 use bpf_model::NoMemory;
 use std::alloc::Global;
@@ -100,7 +100,7 @@ impl Requests {
         alloc: Global,
         hello: Option<Version>,
         bytes: &'b [u8],
-    ) -> Result<Option<Behind<'b>>, ReadFault>
+    ) -> Result<Option<Behind<'b>>, BodyFault>
         ensures frame { IfOk result (λ next. IfSome next (λ behind.
             Adds hello bytes.now self.old self.new behind.hello behind.bytes.now)) }
         ensures begun { IfOk result (λ next. IfNone next ((self.new ≡ self.old) × IsBeginning hello bytes.now)) }
