@@ -75,4 +75,4 @@ refused_unit hello bytes sizes (Decode fault) (inl (many, is)) = let zero : deco
 refused_unit hello bytes sizes (Decode fault) (inr (few, inl is)) = let zero : decode.decode_fault_unit fault ≡ 0 = ap decode.decode_fault_unit is in omega (arith, zero)
 refused_unit hello bytes sizes (Decode fault) (inr (few, inr first)) = decode_unit bytes fault first
 refused_unit hello bytes sizes (Flow fault) (few, (program, spelled, first)) = let inside = flow_unit program fault first.has in omega (arith, inside, spelled.program.bounded)
-refused_unit hello bytes sizes (Verify fault) (few, (program, spelled, shaped, inside, rest)) = omega (arith, inside, spelled.program.bounded)
+refused_unit hello bytes sizes (Verify fault) (few, (program, spelled, shaped, inside, limits, plain)) = omega (arith, inside, spelled.program.bounded)
