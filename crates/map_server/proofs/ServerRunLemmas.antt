@@ -1,8 +1,7 @@
 -- What `mapd` prints, put together of what each step prints; and that its passes suffice.
-use Rattle.std.proofs.Common.{◌≡◌, ◌∙◌, ◌+◌, ◌*◌, ◌-◌, ◌<◌, ◌≤◌, ◌++◌, ℕ, zero, suc, List, length, arith, [], Option, Some, None, refl, sym, ap, inl, inr}
-use Rattle.std.specs.Prelude.{codes}
+use Rattle.std.proofs.Common.{◌≡◌, ◌∙◌, ◌+◌, ◌*◌, ◌-◌, ◌<◌, ◌≤◌, ◌++◌, ℕ, zero, suc, List, length, arith, [], Option, Some, None, refl, sym, subst, ap, inl, inr}
 use Rattle.std.specs.Io.KnownBytes.{Appends}
-use Rattle.std.proofs.lemmas.List.{append_assoc, length-map}
+use Rattle.std.proofs.lemmas.List.{append-nil, append_assoc, length-map}
 use Rattle.std.proofs.lemmas.Nat.{row_fits}
 use Rattle.atomic_table.specs.Seated.{TableId}
 use Rattle.stripe_rule.specs.Rule.{from_on}
@@ -24,16 +23,13 @@ pub serving_behind : (old mid new : SinkState) (before : List ℕ) (status : ℕ
 serving_behind old mid new before status sends ends = elim ends [
   | inl served ↦ inl (served.0, served.1, ((appends_both old.held mid.held new.held before served.0 sends.0.0 served.2.0.0, served.2.0.1 ∙ sends.0.1), served.2.1))
   | inr failed ↦
-      let front = failed.1.3 in
-      inr (failed.0, (failed.1.0, failed.1.1, failed.1.2, (before ++ front.0, (front.1.0, appends_both old.held mid.held new.held before front.0 sends.0.0 front.1.1, ap (λ (l : List ℕ). before ++ l) front.1.2 ∙ sym (append_assoc before front.0 front.1.0)), front.2 ∙ ap (λ (n : ℕ). n + 1) sends.0.1)))
+      let front = failed.1.1 in
+      inr (failed.0, (failed.1.0, (before ++ front.0, (front.1.0, appends_both old.held mid.held new.held before front.0 sends.0.0 front.1.1, ap (λ (l : List ℕ). before ++ l) front.1.2 ∙ sym (append_assoc before front.0 front.1.0)), front.2 ∙ ap (λ (n : ℕ). n + 1) sends.0.1)))
 ]
 
 -- or that broke off
 pub serving_cut : (old new : SinkState) (before : List ℕ) (status : ℕ) → TakesFront old new before → status ≡ 3 → EndsServing old new before status
-serving_cut old new before status front is =
-    let text = codes "refused 9 at 0\n" in
-    let behind = ap (λ (l : List ℕ). l ++ text) front.1.2 ∙ append_assoc front.0 front.1.0 text in
-    inr (is, (text, 1, inr (refl, refl), (front.0, (front.1.0 ++ text, front.1.1, behind), front.2)))
+serving_cut old new before status front is = inr (is, ([], subst (TakesFront old new) (sym (append-nil before)) front))
 
 -- ---- passes
 

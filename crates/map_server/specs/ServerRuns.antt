@@ -60,11 +60,11 @@ IsLastLine text status =
     ((streams : ℕ) × (text ≡ codes "served " ++ decimal streams ++ codes "\n") × ((status ≡ 0) ⊎ (status ≡ 3)))
     ⊎ ((text ≡ codes "refused 9 at 0\n") × (status ≡ 1))
 
--- that is printed; or a write failed, after a front of what would have been
+-- that is printed; or a write failed, after a front of it
 abbrev pub EndsServing : SinkState → SinkState → List ℕ → ℕ → Type 0
 EndsServing old new before status =
     ((text : List ℕ) × IsLastLine text status × PrintsAll old new (before ++ text))
-    ⊎ ((status ≡ 3) × ((text : List ℕ) × (last : ℕ) × IsLastLine text last × TakesFront old new (before ++ text)))
+    ⊎ ((status ≡ 3) × ((text : List ℕ) × TakesFront old new (before ++ text)))
 
 -- the port could not be bound, of which standard error is told, with why
 abbrev pub FailsToListen : Outputs → Outputs → ℕ → Type 0

@@ -2,4 +2,4 @@ use Rattle.std.proofs.Common.{inr, refl}
 use Rattle.map_server.proofs.mapd.program.finish.Goals as goal
 
 pub returns-in-Err : goal.returns-in-Err
-returns-in-Err g c = inr (refl, (_, _, c.last_line.ensures, c.in-Err.ensures.err))
+returns-in-Err g c = inr (refl, (_, c.in-Err.ensures.err))
