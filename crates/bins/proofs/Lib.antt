@@ -4,9 +4,11 @@ pub mod DistinctEntries
 pub mod PairedEntries
 pub mod AddedCopies
 pub mod OrderedEntries
-pub mod PlaceLemmas
-pub mod PlaceWrites
-pub mod PlaceRemovals
+pub mod GapLemmas
+pub mod RowLemmas
+pub mod RowWrites
+pub mod RowRemovals
+pub mod RowSteps
 pub mod EntryCounts
 pub mod SameEntries
 pub mod SortedCopies

@@ -2,12 +2,11 @@
 use Rattle.std.proofs.Common.{◌≡◌, ℕ, zero, suc, ◌+◌, ◌<◌, List, [], ◌∷◌, ◌++◌, length, map, get_or, refl, sym, ap, subst, ◌∙◌, arith}
 use Rattle.std.specs.List.{range_with_len}
 use Rattle.std.specs.List.Sorted.{IsPermutation, IsSortedBy}
-use Rattle.std.proofs.lemmas.List.{ext_get_or, length-map, length_push, get_or-map}
+use Rattle.std.proofs.lemmas.List.{ext_get_or, length-map, get_or-map}
 use Rattle.std.proofs.lemmas.List.FromFn.{length-map-range_with_len, get_or-map-range_with_len}
 use Rattle.std.proofs.lemmas.List.Sorted.{IsPermutation-map}
 use Rattle.bins.specs.Table.{Entry}
-use Rattle.bins.specs.Columns.{Kept, bytes_of, string_at, strings_of}
-use Rattle.bins.specs.declared.rooms.Place.{Place}
+use Rattle.bins.specs.Columns.{string_at}
 use Rattle.bins.specs.Copies.{comes_before, is_before, positions_of}
 use Rattle.bins.specs.Entries.{entries_at, entries_in, entry_of}
 use Rattle.bins.proofs.PairedEntries.{paired-length}
@@ -62,7 +61,3 @@ module _ (ks vs : List (List ℕ)) (same : length ks ≡ length vs) where
 pub entries_apart : (es : List Entry) → entries_in (map (λ (e : Entry). e.0) es) (map (λ (e : Entry). e.1) es) ≡ es
 entries_apart [] = refl
 entries_apart (e ∷ es) = ap (λ (xs : List Entry). e ∷ xs) (entries_apart es)
-
--- a place more, where there is a string more
-pub one_more : (ps : List Place) (ls : List Kept) (qs : List Place) (ms : List Kept) (b : List ℕ) → strings_of qs ms ≡ strings_of ps ls ++ b ∷ [] → length qs ≡ length ps + 1
-one_more ps ls qs ms b is = omega (arith, ap (λ (xs : List (List ℕ)). length xs) is, length_push (strings_of ps ls) b, length-map ps (bytes_of ls), length-map qs (bytes_of ms))

@@ -5,7 +5,7 @@ use Rattle.std.specs.FinMap as map
 use Rattle.std.proofs.lemmas.List.{get_or_default, length-set, length_push, append_assoc, take_more}
 use Rattle.bins.specs.Table.{Entry}
 use Rattle.bins.specs.Entries.{Distinct, entries_in}
-use Rattle.bins.proofs.PlaceLemmas.{one_less}
+use Rattle.bins.proofs.GapLemmas.{one_less}
 use Rattle.bins.proofs.DistinctEntries.{HasKey, Lacks, table_of, get_here, written_distinct, written_table}
 
 pub paired-length : (ks vs : List (List ℕ)) → length ks ≡ length vs → length (entries_in ks vs) ≡ length ks

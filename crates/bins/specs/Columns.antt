@@ -1,58 +1,116 @@
--- Byte strings that lie in places of one size: a short one in its place, a long one in a list that the place names.
-use Rattle.std.specs.Prelude.{◌≡◌, ℕ, ◌<◌, ◌≤◌, Bool, true, false, List, [], length, map, count_by, set, slice_index_or}
-use Rattle.bins.specs.declared.rooms.TheConstants.{SHORT_BYTES}
-use Rattle.bins.specs.declared.rooms.Place.{Place}
-use Rattle.bins.specs.declared.rooms.Place.TheVariants.{Short, Long}
+-- The rows of a table's entries: a key and its value side by side, where the place of their position says.
+use Rattle.std.specs.Prelude.{◌≡◌, ℕ, ◌-◌, ◌<◌, ◌≤◌, Bool, true, false, cond, nat_lt, List, [], length, map, count_by, slice_index_or, ⊤}
+use Rattle.bpf_model.specs.declared.limits.TheConstants.{KEY_BYTES, VALUE_BYTES}
+use Rattle.bins.specs.declared.row.TheConstants.{SHORT_BYTES, MIDDLE_BYTES, MIDDLE_WORD, LONG_WORD, VACANT_WORD, MOST_ROWS}
+use Rattle.bins.specs.declared.row.Width.{Width}
+use Rattle.bins.specs.declared.row.Width.TheVariants.{Short, Middle, Long}
+use Rattle.bins.specs.declared.row.Place.{Place}
+use Rattle.bins.specs.declared.row.Place.TheVariants.{Vacant, In}
 
--- a long string, and the position whose place names it
-pub record Kept : Type 0 where
-  pub bytes : List ℕ
+-- a key and its value, and the position whose place names them
+pub record KeptRow : Type 0 where
+  pub key : List ℕ
+  pub value : List ℕ
   pub owner : ℕ
 
--- strings in a list, and how many there may be before memory is asked for
-pub record Strings : Type 0 where
-  pub items : List (List ℕ)
+-- the keys and their values, at the same positions, and how many there may be before memory is asked for
+pub record Columns : Type 0 where
+  pub keys : List (List ℕ)
+  pub values : List (List ℕ)
   pub room : ℕ
+
+-- the rows of each width
+pub record Lists : Type 0 where
+  pub short : List KeptRow
+  pub middle : List KeptRow
+  pub long : List KeptRow
+
+-- those of one width
+abbrev pub rows_of : Lists → Width → List KeptRow
+rows_of lists Short = lists.short
+rows_of lists Middle = lists.middle
+rows_of lists Long = lists.long
+
+-- the same, but for the rows of one width
+abbrev pub with_rows : Lists → Width → List KeptRow → Lists
+with_rows lists Short rows = record { short = rows; middle = lists.middle; long = lists.long }
+with_rows lists Middle rows = record { short = lists.short; middle = rows; long = lists.long }
+with_rows lists Long rows = record { short = lists.short; middle = lists.middle; long = rows }
+
+-- what stands in no list
+abbrev pub nobody : KeptRow
+nobody = record { key = []; value = []; owner = 0 }
+
+-- the place that a word names
+abbrev pub place_of : ℕ → Place
+place_of word =
+    cond (nat_lt word MIDDLE_WORD) (In Short word)
+    (cond (nat_lt word LONG_WORD) (In Middle (word - MIDDLE_WORD))
+    (cond (nat_lt word VACANT_WORD) (In Long (word - LONG_WORD)) Vacant))
 
 -- the place at a position
 abbrev pub place_at : List Place → ℕ → Place
-place_at places p = slice_index_or places p (Short [])
+place_at places p = slice_index_or places p Vacant
 
--- the long string at a position of theirs
-abbrev pub kept_at : List Kept → ℕ → Kept
-kept_at longs i = slice_index_or longs i (record { bytes = []; owner = 0 })
+-- the row at a position of its list
+abbrev pub row_at : List KeptRow → ℕ → KeptRow
+row_at rows i = slice_index_or rows i nobody
 
--- the string of a place
-abbrev pub bytes_of : List Kept → Place → List ℕ
-bytes_of longs (Short bytes) = bytes
-bytes_of longs (Long i) = (kept_at longs i).bytes
+-- the row of a place
+abbrev pub row_of : Lists → Place → KeptRow
+row_of lists Vacant = nobody
+row_of lists (In width i) = row_at (rows_of lists width) i
 
--- the strings of all places
-abbrev pub strings_of : List Place → List Kept → List (List ℕ)
-strings_of places longs = map (bytes_of longs) places
+-- the keys of all places
+abbrev pub keys_of : List Place → Lists → List (List ℕ)
+keys_of places lists = map (λ place. (row_of lists place).key) places
 
-abbrev pub is_long : Place → Bool
-is_long (Short bytes) = false
-is_long (Long i) = true
+-- the values of all places
+abbrev pub values_of : List Place → Lists → List (List ℕ)
+values_of places lists = map (λ place. (row_of lists place).value) places
 
--- each long place names a string that it owns, each long string is named by its owner, and there are no more
-pub record AreMatched (places : List Place) (longs : List Kept) : Type 0 where
-  pub named : (p i : ℕ) → place_at places p ≡ Long i → (i < length longs) × ((kept_at longs i).owner ≡ p)
-  pub owned : (i : ℕ) → i < length longs → place_at places (kept_at longs i).owner ≡ Long i
-  pub counted : count_by is_long places ≡ length longs
+abbrev pub is_same_width : Width → Width → Bool
+is_same_width Short Short = true
+is_same_width Short Middle = false
+is_same_width Short Long = false
+is_same_width Middle Short = false
+is_same_width Middle Middle = true
+is_same_width Middle Long = false
+is_same_width Long Short = false
+is_same_width Long Middle = false
+is_same_width Long Long = true
+
+-- the place names a row of this width
+abbrev pub is_in : Width → Place → Bool
+is_in width Vacant = false
+is_in width (In other i) = is_same_width width other
+
+-- each place names a row that it owns, each row is named by its owner, and there are no more: of one width
+pub record AreMatched (width : Width) (places : List Place) (rows : List KeptRow) : Type 0 where
+  pub named : (p i : ℕ) → place_at places p ≡ In width i → (i < length rows) × ((row_at rows i).owner ≡ p)
+  pub owned : (i : ℕ) → i < length rows → place_at places (row_at rows i).owner ≡ In width i
+  pub counted : count_by (is_in width) places ≡ length rows
+
+-- so it is of each width
+pub record AreRows (places : List Place) (lists : Lists) : Type 0 where
+  pub matched : (width : Width) → AreMatched width places (rows_of lists width)
+  pub few : length places ≤ MOST_ROWS
 
 -- the string at a position
 abbrev pub string_at : List (List ℕ) → ℕ → List ℕ
 string_at strings p = slice_index_or strings p []
 
--- a string that lies in its place
-abbrev pub IsShort : Place → Type 0
-IsShort place = (bytes : List ℕ) × (place ≡ Short bytes)
+-- a place that four bytes have room for
+abbrev pub IsNear : Place → Type 0
+IsNear Vacant = ⊤
+IsNear (In width i) = i < MOST_ROWS
 
--- strings may have so many bytes
-abbrev pub IsLimit : ℕ → Type 0
-IsLimit most = (SHORT_BYTES ≤ most) × (most ≤ 65536)
+-- a row of this width has room for so many bytes of a key and of a value
+abbrev pub FitIn : Width → ℕ → ℕ → Type 0
+FitIn Short key value = (key ≤ SHORT_BYTES) × (value ≤ SHORT_BYTES)
+FitIn Middle key value = (key ≤ KEY_BYTES) × (value ≤ MIDDLE_BYTES)
+FitIn Long key value = (key ≤ KEY_BYTES) × (value ≤ VALUE_BYTES)
 
--- but for one string, these are those
-abbrev pub EqualBut : ℕ → List (List ℕ) → List (List ℕ) → Type 0
-EqualBut p old new = (b : List ℕ) × (new ≡ set old p b)
+-- the row of this owner
+abbrev pub kept : List ℕ → List ℕ → ℕ → KeptRow
+kept key value owner = record { key = key; value = value; owner = owner }

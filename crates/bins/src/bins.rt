@@ -59,7 +59,8 @@ pub trait Bins {
         // As for `count`.
         ensures bounded { length (map.entries (table self.now)) < 2 ^ 57 };
 
-    /// Adds copies of all entries to the columns, as `copy_into` does to a list. A short key or value takes 24 bytes there.
+    /// Adds copies of all entries to the columns, as `copy_into` does to a list. One whose key and value are short takes
+    /// 48 bytes there.
     fn copy_apart(&self, columns: &mut EntryColumns) -> Result<(), NoMemory>
         ensures ok { OnOk result (AddsCopies (table self.now) columns.old columns.new) }
         ensures err { OnErr result (columns.new ≡ columns.old) }

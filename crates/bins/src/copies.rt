@@ -7,10 +7,9 @@ ghost use Rattle.bins.specs.Entries.{entries_in};
 ghost use Rattle.bins.specs.Table.{Table};
 
 use crate::bins::Bins;
-use crate::column::Column;
 use crate::entry_columns::EntryColumns;
 use crate::hashes::HashedKey;
-use bpf_model::limits::{KEY_BYTES, VALUE_BYTES};
+use crate::rows::Rows;
 use bpf_model::{Key, NoMemory, Value};
 
 /// An entry with copies of this key and this value.
@@ -38,39 +37,34 @@ pub(crate) fn add_copies(
 }
 
 /// A copy of the key at a position.
-pub(crate) fn key_at(keys: &Column<KEY_BYTES>, position: usize) -> Key
-    requires { position < length keys.now.items }
-    ensures { result ≡ string_at keys.now.items position }
+pub(crate) fn key_at(rows: &Rows, position: usize) -> Key
+    requires { position < length rows.now.keys }
+    ensures { result ≡ string_at rows.now.keys position }
 {
-    let key = Key::from_slice(keys.get(position));
+    let key = Key::from_slice(rows.key(position));
     key.unwrap()
 }
 
 // A copy of the entry at a position.
-fn copy_at(keys: &Column<KEY_BYTES>, values: &Column<VALUE_BYTES>, position: usize) -> (Key, Value)
-    requires key { position < length keys.now.items }
-    requires value { position < length values.now.items }
-    ensures { result ≡ (string_at keys.now.items position, string_at values.now.items position) }
+fn copy_at(rows: &Rows, position: usize) -> (Key, Value)
+    requires { position < length rows.now.keys }
+    ensures { result ≡ (string_at rows.now.keys position, string_at rows.now.values position) }
 {
-    let value = Value::from_slice(values.get(position));
-    (key_at(keys, position), value.unwrap())
+    let value = Value::from_slice(rows.value(position));
+    (key_at(rows, position), value.unwrap())
 }
 
-/// Adds the entries of these keys and values to the list. Asks for memory once, where the list has no room for them.
-pub(crate) fn add_paired(
-    list: &mut Vec<(Key, Value)>,
-    keys: &Column<KEY_BYTES>,
-    values: &Column<VALUE_BYTES>,
-) -> Result<(), NoMemory>
-    requires paired { length keys.now.items ≡ length values.now.items }
-    ensures ok { OnOk result (list.new.items ≡ list.old.items ++ entries_in keys.now.items values.now.items) }
+/// Adds the entries of these rows to the list. Asks for memory once, where the list has no room for them.
+pub(crate) fn add_rows(list: &mut Vec<(Key, Value)>, rows: &Rows) -> Result<(), NoMemory>
+    requires paired { length rows.now.keys ≡ length rows.now.values }
+    ensures ok { OnOk result (list.new.items ≡ list.old.items ++ entries_in rows.now.keys rows.now.values) }
     ensures err { OnErr result (list.new.items ≡ list.old.items) }
-    ensures bounded { length keys.now.items < 2 ^ 57 }
+    ensures bounded { length rows.now.keys < 2 ^ 57 }
 {
-    let many = keys.len();
+    let many = rows.len();
     list.try_reserve(many)?;
     for position in 0..many {
-        list.push_reserved(copy_at(keys, values, position));
+        list.push_reserved(copy_at(rows, position));
     }
     Ok(())
 }

@@ -1,4 +1,4 @@
-//! Entries in a list, each in as many bytes as it needs.
+//! Entries in a list, in rows of two widths.
 ghost use Rattle.std.specs.Prelude.{◌≡◌, ◌+◌, ◌<◌, ◌≤◌, ◌^◌, ◌++◌, ◌∷◌, ◌↔◌, [], length, map, IfOk, IsTrue, OnOk, OnErr};
 ghost use Rattle.std.specs.List.Sorted.{IsPermutation, IsSortedBy};
 ghost use Rattle.bins.specs.Columns.{string_at};
@@ -7,20 +7,19 @@ ghost use Rattle.bins.specs.Entries.{entries_at, entries_in, entry_of};
 ghost use Rattle.bins.specs.Fronts.{front, AreBytes};
 ghost use Rattle.bins.specs.Table.{Entry, by_bytes};
 
-use crate::column::Column;
 use crate::fronts::front_of;
+use crate::rows::Rows;
 use bpf_model::limits::{KEY_BYTES, VALUE_BYTES};
 use bpf_model::{Key, NoMemory, Value};
 use std::alloc::Global;
 use std::cmp::Ordering;
 use std::marker::Model;
 
-/// Entries in two columns, the keys and their values. One whose key and value are short takes 48 bytes. Room for the
-/// longest is reserved, and not touched before it is needed.
+/// Entries in rows, each a key and its value. One whose key and value are short takes 48 bytes. Room for the longest is
+/// reserved, and not touched before it is needed.
 #[derive(Drop)]
 pub struct EntryColumns {
-    keys: Column<KEY_BYTES>,
-    values: Column<VALUE_BYTES>,
+    rows: Rows,
 }
 
 impl Model for EntryColumns {
@@ -30,9 +29,9 @@ impl Model for EntryColumns {
 
     ghost Value = { List Entry };
 
-    ghost view = { λ columns. entries_in columns.keys.items columns.values.items };
+    ghost view = { λ columns. entries_in columns.rows.keys columns.rows.values };
 
-    ghost invariant = { λ columns. length columns.keys.items ≡ length columns.values.items };
+    ghost invariant = { λ columns. length columns.rows.keys ≡ length columns.rows.values };
 }
 
 impl EntryColumns {
@@ -41,8 +40,7 @@ impl EntryColumns {
         ensures { result ≡ [] }
     {
         EntryColumns {
-            keys: Column::new(alloc),
-            values: Column::new(alloc),
+            rows: Rows::new(alloc),
         }
     }
 
@@ -51,7 +49,7 @@ impl EntryColumns {
     pub fn len(&self) -> usize
         ensures value { result ≡ length self.now }
     {
-        self.keys.len()
+        self.rows.len()
     }
 
     /// Whether there is no entry. Takes no memory.
@@ -79,7 +77,7 @@ impl EntryColumns {
         ensures key { length result.0.now ≤ KEY_BYTES }
         ensures value { length result.1.now ≤ VALUE_BYTES }
     {
-        (self.keys.get_any(position), self.values.get_any(position))
+        self.rows.get_any(position)
     }
 
     /// The key at a position; none of the bytes behind the last one. Takes no memory.
@@ -105,8 +103,7 @@ impl EntryColumns {
     pub fn reserve(&mut self, more: usize) -> Result<(), NoMemory>
         ensures same { self.new ≡ self.old }
     {
-        self.keys.reserve(more)?;
-        self.values.reserve(more)?;
+        self.rows.reserve(more)?;
         Ok(())
     }
 
@@ -119,29 +116,21 @@ impl EntryColumns {
         ensures ok { OnOk result (self.new ≡ self.old ++ (key.now, value.now) ∷ []) }
         ensures err { OnErr result (self.new ≡ self.old) }
     {
-        self.keys.reserve(1)?;
-        self.values.reserve(1)?;
-        self.keys.push_reserved(key);
-        self.values.push_reserved(value);
+        self.rows.reserve(1)?;
+        self.rows.push_reserved(key, value);
         Ok(())
     }
 
-    /// Adds copies of the entries of these columns. Asks for memory where there is no room for them.
-    pub(crate) fn add_columns(
-        &mut self,
-        keys: &Column<KEY_BYTES>,
-        values: &Column<VALUE_BYTES>,
-    ) -> Result<(), NoMemory>
-        requires paired { length keys.now.items ≡ length values.now.items }
-        ensures ok { OnOk result (self.new ≡ self.old ++ entries_in keys.now.items values.now.items) }
+    /// Adds copies of the entries of these rows. Asks for memory where there is no room for them.
+    pub(crate) fn add_rows(&mut self, rows: &Rows) -> Result<(), NoMemory>
+        requires paired { length rows.now.keys ≡ length rows.now.values }
+        ensures ok { OnOk result (self.new ≡ self.old ++ entries_in rows.now.keys rows.now.values) }
         ensures err { OnErr result (self.new ≡ self.old) }
-        ensures bounded { length keys.now.items < 2 ^ 57 }
+        ensures bounded { length rows.now.keys < 2 ^ 57 }
     {
-        let more = keys.len();
-        self.keys.reserve(more)?;
-        self.values.reserve(more)?;
-        self.keys.push_all(keys);
-        self.values.push_all(values);
+        let more = rows.len();
+        self.rows.reserve(more)?;
+        self.rows.push_all(rows);
         Ok(())
     }
 
@@ -152,9 +141,8 @@ impl EntryColumns {
         ensures bounded { length entries.now < 2 ^ 57 }
     {
         let more = entries.len();
-        self.keys.reserve(more)?;
-        self.values.reserve(more)?;
-        push_entries(&mut self.keys, &mut self.values, entries);
+        self.rows.reserve(more)?;
+        push_entries(&mut self.rows, entries);
         Ok(())
     }
 
@@ -163,45 +151,39 @@ impl EntryColumns {
         ensures moved { IfOk result (λ order. IsPermutation self.now (entries_at self.now order.items)) }
         ensures order { IfOk result (λ order. IsSortedBy comes_before (entries_at self.now order.items)) }
     {
-        let order = order_of(alloc, &self.keys)?;
+        let order = order_of(alloc, &self.rows)?;
         Ok(order)
     }
 }
 
-// Adds copies of these entries to the columns, in the room that is there.
-fn push_entries(
-    keys: &mut Column<KEY_BYTES>,
-    values: &mut Column<VALUE_BYTES>,
-    entries: &[(Key, Value)],
-)
-    requires keys { length keys.old.items + length entries.now ≤ keys.old.room }
-    requires values { length values.old.items + length entries.now ≤ values.old.room }
-    ensures keys { keys.new.items ≡ keys.old.items ++ map (λ entry. entry.0) entries.now }
-    ensures values { values.new.items ≡ values.old.items ++ map (λ entry. entry.1) entries.now }
+// Adds copies of these entries to the rows, in the room that is there.
+fn push_entries(rows: &mut Rows, entries: &[(Key, Value)])
+    requires room { length rows.old.keys + length entries.now ≤ rows.old.room }
+    ensures keys { rows.new.keys ≡ rows.old.keys ++ map (λ entry. entry.0) entries.now }
+    ensures values { rows.new.values ≡ rows.old.values ++ map (λ entry. entry.1) entries.now }
 {
     for entry in entries {
-        keys.push_reserved(entry.0.as_slice());
-        values.push_reserved(entry.1.as_slice());
+        rows.push_reserved(entry.0.as_slice(), entry.1.as_slice());
     }
 }
 
 // How the keys at two positions compare.
 #[inline(always)]
-fn compare_at(keys: &Column<KEY_BYTES>, one: usize, other: usize) -> Ordering
-    ensures { result ≡ by_bytes (string_at keys.now.items one) (string_at keys.now.items other) }
+fn compare_at(rows: &Rows, one: usize, other: usize) -> Ordering
+    ensures { result ≡ by_bytes (string_at rows.now.keys one) (string_at rows.now.keys other) }
 {
-    keys.get_any(one).cmp(keys.get_any(other))
+    rows.get_any(one).0.cmp(rows.get_any(other).0)
 }
 
 // All positions, sorted by the first bytes of the keys that stand there. That is nearly the order of the keys, and quick,
 // since numbers are compared: but for keys that begin alike it leaves nothing to do.
-fn nearly_ordered(alloc: Global, keys: &Column<KEY_BYTES>) -> Result<Vec<usize>, NoMemory>
-    ensures moved { IfOk result (λ order. IsPermutation (positions_of keys.now.items) order.items) }
+fn nearly_ordered(alloc: Global, rows: &Rows) -> Result<Vec<usize>, NoMemory>
+    ensures moved { IfOk result (λ order. IsPermutation (positions_of rows.now.keys) order.items) }
 {
-    let many = keys.len();
+    let many = rows.len();
     let mut fronts = Vec::with_capacity(alloc, many)?;
     for position in 0..many {
-        fronts.push_reserved((front_of(keys.get_any(position)), position));
+        fronts.push_reserved((front_of(rows.get_any(position).0), position));
     }
     fronts.sort_unstable_by_key(|front| front.0);
     let mut order = Vec::with_capacity(alloc, many)?;
@@ -212,11 +194,11 @@ fn nearly_ordered(alloc: Global, keys: &Column<KEY_BYTES>) -> Result<Vec<usize>,
 }
 
 // All positions, in the order of the keys that stand there.
-fn order_of(alloc: Global, keys: &Column<KEY_BYTES>) -> Result<Vec<usize>, NoMemory>
-    ensures moved { IfOk result (λ order. IsPermutation (positions_of keys.now.items) order.items) }
-    ensures order { IfOk result (λ order. IsSortedBy (is_before keys.now.items) order.items) }
+fn order_of(alloc: Global, rows: &Rows) -> Result<Vec<usize>, NoMemory>
+    ensures moved { IfOk result (λ order. IsPermutation (positions_of rows.now.keys) order.items) }
+    ensures order { IfOk result (λ order. IsSortedBy (is_before rows.now.keys) order.items) }
 {
-    let mut order = nearly_ordered(alloc, keys)?;
-    order.sort_unstable_by(|one, other| compare_at(keys, *one, *other));
+    let mut order = nearly_ordered(alloc, rows)?;
+    order.sort_unstable_by(|one, other| compare_at(rows, *one, *other));
     Ok(order)
 }

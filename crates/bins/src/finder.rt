@@ -1,4 +1,4 @@
-//! Where keys stand in a column: found by chains of their hashes, or by a tree once chains have become long.
+//! Where the keys of rows stand: found by chains of their hashes, or by a tree once chains have become long.
 ghost use Rattle.std.specs.Prelude.{◌≡◌, ◌≢◌, ◌<◌, ◌++◌, ◌↔◌, [], ◌∷◌, length, map, HoldsAt, IfOk, IfSome, IfNone, IsTrue, OnOk, OnErr};
 ghost use Rattle.std.specs.List.{AllWithin, swap_remove};
 ghost use Rattle.std.specs.Int.{IsPowerOfTwo, from_le_bytes, to_le_bytes, w64};
@@ -8,15 +8,14 @@ ghost use Rattle.bins.specs.Columns.{string_at};
 ghost use Rattle.bins.specs.Finders.{Finds};
 ghost use Rattle.bins.specs.Trees.{StandOnce};
 
-use crate::column::Column;
 use crate::hashes::HashedKey;
 use crate::index::Index;
+use crate::rows::Rows;
 use crate::tree::Tree;
-use bpf_model::limits::KEY_BYTES;
 use bpf_model::{Key, NoMemory};
 use std::alloc::Global;
 
-/// How the keys of a column are found.
+/// How the keys of rows are found.
 #[derive(Drop)]
 pub(crate) enum Finder {
     /// By chains of hashes: where hashes spread, the quickest.
@@ -50,25 +49,25 @@ fn are_same(one: &[u8], other: &[u8]) -> bool
 
 // Whether the key at a position is these bytes.
 #[inline(always)]
-fn is_at(keys: &Column<KEY_BYTES>, position: usize, bytes: &[u8]) -> bool
-    requires { position < length keys.now.items }
-    ensures exact { IsTrue result ↔ (string_at keys.now.items position ≡ bytes.now) }
+fn is_at(rows: &Rows, position: usize, bytes: &[u8]) -> bool
+    requires { position < length rows.now.keys }
+    ensures exact { IsTrue result ↔ (string_at rows.now.keys position ≡ bytes.now) }
 {
-    are_same(keys.get(position), bytes)
+    are_same(rows.key(position), bytes)
 }
 
 // The position of the key with this hash.
 #[inline(always)]
-fn position_with(index: &Index, keys: &Column<KEY_BYTES>, key: &Key, hash: u32) -> Option<usize>
-    requires index { index.now.hashes ≡ map hash_of keys.now.items }
+fn position_with(index: &Index, rows: &Rows, key: &Key, hash: u32) -> Option<usize>
+    requires index { index.now.hashes ≡ map hash_of rows.now.keys }
     requires hash { hash ≡ hash_of key.now }
-    ensures bound { IfSome result (λ position. position < length keys.now.items) }
-    ensures found { IfSome result (HoldsAt (λ k. k ≡ key.now) keys.now.items) }
-    ensures absent { IfNone result (AllWithin (λ k. k ≢ key.now) keys.now.items 0 (length keys.now.items)) }
+    ensures bound { IfSome result (λ position. position < length rows.now.keys) }
+    ensures found { IfSome result (HoldsAt (λ k. k ≡ key.now) rows.now.keys) }
+    ensures absent { IfNone result (AllWithin (λ k. k ≢ key.now) rows.now.keys 0 (length rows.now.keys)) }
 {
     let mut next = index.last(hash);
     while let Some(position) = next {
-        if is_at(keys, position, key.as_slice()) {
+        if is_at(rows, position, key.as_slice()) {
             return Some(position);
         }
         next = index.before(position, hash);
@@ -106,65 +105,57 @@ impl Finder {
 
     /// The position of a key. Takes no memory.
     #[inline(always)]
-    pub(crate) fn position(&self, keys: &Column<KEY_BYTES>, key: &HashedKey<'_>) -> Option<usize>
-        requires finds { Finds self.now keys.now.items }
-        ensures bound { IfSome result (λ position. position < length keys.now.items) }
-        ensures found { IfSome result (HoldsAt (λ k. k ≡ key.now) keys.now.items) }
-        ensures absent { IfNone result (AllWithin (λ k. k ≢ key.now) keys.now.items 0 (length keys.now.items)) }
+    pub(crate) fn position(&self, rows: &Rows, key: &HashedKey<'_>) -> Option<usize>
+        requires finds { Finds self.now rows.now.keys }
+        ensures bound { IfSome result (λ position. position < length rows.now.keys) }
+        ensures found { IfSome result (HoldsAt (λ k. k ≡ key.now) rows.now.keys) }
+        ensures absent { IfNone result (AllWithin (λ k. k ≢ key.now) rows.now.keys 0 (length rows.now.keys)) }
     {
         match self {
-            Finder::Hashes(index) => position_with(index, keys, key.key(), key.hash()),
+            Finder::Hashes(index) => position_with(index, rows, key.key(), key.hash()),
             Finder::Keys(tree) => tree.position(key.key()),
         }
     }
 
     /// The position of a key that was perhaps found before: where it stands as it did then, no search is made. Takes no memory.
     #[inline(always)]
-    pub(crate) fn position_again(
-        &self,
-        keys: &Column<KEY_BYTES>,
-        key: &HashedKey<'_>,
-    ) -> Option<usize>
-        requires finds { Finds self.now keys.now.items }
-        ensures bound { IfSome result (λ position. position < length keys.now.items) }
-        ensures found { IfSome result (HoldsAt (λ k. k ≡ key.now) keys.now.items) }
-        ensures absent { IfNone result (AllWithin (λ k. k ≢ key.now) keys.now.items 0 (length keys.now.items)) }
+    pub(crate) fn position_again(&self, rows: &Rows, key: &HashedKey<'_>) -> Option<usize>
+        requires finds { Finds self.now rows.now.keys }
+        ensures bound { IfSome result (λ position. position < length rows.now.keys) }
+        ensures found { IfSome result (HoldsAt (λ k. k ≡ key.now) rows.now.keys) }
+        ensures absent { IfNone result (AllWithin (λ k. k ≢ key.now) rows.now.keys 0 (length rows.now.keys)) }
     {
         let guess = key.guess();
-        if guess < keys.len() && is_at(keys, guess, key.key().as_slice()) {
+        if guess < rows.len() && is_at(rows, guess, key.key().as_slice()) {
             return Some(guess);
         }
-        self.position(keys, key)
+        self.position(rows, key)
     }
 
     /// Adds a key, at the position behind these. `NoMemory` where a request for memory was refused.
     #[inline(always)]
-    pub(crate) fn push(
-        &mut self,
-        keys: &Column<KEY_BYTES>,
-        key: &HashedKey<'_>,
-    ) -> Result<(), NoMemory>
-        requires finds { Finds self.old keys.now.items }
-        requires new { AllWithin (λ k. k ≢ key.now) keys.now.items 0 (length keys.now.items) }
-        ensures ok { OnOk result (Finds self.new (keys.now.items ++ key.now ∷ [])) }
-        ensures err { OnErr result (Finds self.new keys.now.items) }
+    pub(crate) fn push(&mut self, rows: &Rows, key: &HashedKey<'_>) -> Result<(), NoMemory>
+        requires finds { Finds self.old rows.now.keys }
+        requires new { AllWithin (λ k. k ≢ key.now) rows.now.keys 0 (length rows.now.keys) }
+        ensures ok { OnOk result (Finds self.new (rows.now.keys ++ key.now ∷ [])) }
+        ensures err { OnErr result (Finds self.new rows.now.keys) }
     {
         match self {
             Finder::Hashes(index) => index.push(key.hash()),
-            Finder::Keys(tree) => tree.push(keys, key.key()),
+            Finder::Keys(tree) => tree.push(rows, key.key()),
         }
     }
 
     /// Removes the key at a position; the last key takes that place. Takes no memory.
     #[inline(always)]
-    pub(crate) fn swap_remove(&mut self, keys: &Column<KEY_BYTES>, position: usize)
-        requires finds { Finds self.old keys.now.items }
-        requires range { position < length keys.now.items }
-        ensures finds { Finds self.new (swap_remove keys.now.items position []) }
+    pub(crate) fn swap_remove(&mut self, rows: &Rows, position: usize)
+        requires finds { Finds self.old rows.now.keys }
+        requires range { position < length rows.now.keys }
+        ensures finds { Finds self.new (swap_remove rows.now.keys position []) }
     {
         match self {
             Finder::Hashes(index) => index.swap_remove(position),
-            Finder::Keys(tree) => tree.swap_remove(keys, position),
+            Finder::Keys(tree) => tree.swap_remove(rows, position),
         }
     }
 
@@ -181,13 +172,13 @@ impl Finder {
 
     // Takes a tree in place of the index, where there is memory for it.
     #[cold]
-    fn plant(&mut self, keys: &Column<KEY_BYTES>)
-        requires finds { Finds self.old keys.now.items }
-        requires once { StandOnce keys.now.items }
-        ensures finds { Finds self.new keys.now.items }
+    fn plant(&mut self, rows: &Rows)
+        requires finds { Finds self.old rows.now.keys }
+        requires once { StandOnce rows.now.keys }
+        ensures finds { Finds self.new rows.now.keys }
     {
         let tree = match self {
-            Finder::Hashes(index) => Tree::of(index, keys),
+            Finder::Hashes(index) => Tree::of(index, rows),
             Finder::Keys(_) => return,
         };
         if let Ok(tree) = tree {
@@ -198,13 +189,13 @@ impl Finder {
     /// Looks at the chain that the last key came into, and takes a tree in place of the index once chains have become long and
     /// memory for it is granted.
     #[inline(always)]
-    pub(crate) fn settle(&mut self, keys: &Column<KEY_BYTES>)
-        requires finds { Finds self.old keys.now.items }
-        requires once { StandOnce keys.now.items }
-        ensures finds { Finds self.new keys.now.items }
+    pub(crate) fn settle(&mut self, rows: &Rows)
+        requires finds { Finds self.old rows.now.keys }
+        requires once { StandOnce rows.now.keys }
+        ensures finds { Finds self.new rows.now.keys }
     {
         if self.is_slow() {
-            self.plant(keys);
+            self.plant(rows);
         }
     }
 }

@@ -1,28 +1,26 @@
-//! Entries found by the hashes of their keys, each in as many bytes as it needs.
+//! Entries found by the hashes of their keys, in rows of two widths.
 ghost use Rattle.std.specs.Int.{IsPowerOfTwo};
 ghost use Rattle.bins.specs.Chains.{IsBinCount};
 
 use crate::bins::Bins;
-use crate::column::Column;
-use crate::copies::{add_paired, sort_entries};
+use crate::copies::{add_rows, sort_entries};
 use crate::counts::Counts;
 use crate::entry_columns::EntryColumns;
 use crate::finder::Finder;
 use crate::hashes::HashedKey;
-use crate::replacement::replace_paired;
-use bpf_model::limits::{KEY_BYTES, VALUE_BYTES};
+use crate::replacement::replace_rows;
+use crate::rows::Rows;
 use bpf_model::{Key, NoMemory, Value};
 use std::alloc::Global;
 use std::marker::Model;
 use verifier::Verified;
 
-/// The keys in one list and their values in another, in no order, and beside them what finds a key's position. A new key
-/// goes to the end of the lists, and a removal moves the last entry into the gap.
+/// The keys and their values in rows, in no order, and beside them what finds a key's position. A new key goes to the end
+/// of the rows, and a removal moves the last entry into the gap.
 #[derive(Drop)]
 pub struct HashedBins {
     finder: Finder,
-    keys: Column<KEY_BYTES>,
-    values: Column<VALUE_BYTES>,
+    rows: Rows,
     // A line of the cache that nothing writes, so that bins side by side share none.
     _gap: [u64; 8],
 }
@@ -38,11 +36,11 @@ impl Model for HashedBins {
 
     ghost coded = { table_code };
 
-    ghost view = { λ b. map.from_entries (entries_in b.keys.items b.values.items) };
+    ghost view = { λ b. map.from_entries (entries_in b.rows.keys b.rows.values) };
 
-    ghost invariant = { λ b. Finds b.finder b.keys.items
-        × Distinct (entries_in b.keys.items b.values.items)
-        × (length b.keys.items ≡ length b.values.items) };
+    ghost invariant = { λ b. Finds b.finder b.rows.keys
+        × Distinct (entries_in b.rows.keys b.rows.values)
+        × (length b.rows.keys ≡ length b.rows.values) };
 }
 
 impl HashedBins {
@@ -68,18 +66,17 @@ impl Bins for HashedBins {
     fn open(alloc: Global, stripes: u64) -> Result<HashedBins, NoMemory> {
         Ok(HashedBins {
             finder: Finder::open(alloc, stripes)?,
-            keys: Column::new(alloc),
-            values: Column::new(alloc),
+            rows: Rows::new(alloc),
             _gap: [0; 8],
         })
     }
 
     #[inline(always)]
     fn find(&self, key: &HashedKey<'_>) -> Option<&[u8]> {
-        match self.finder.position(&self.keys, key) {
+        match self.finder.position(&self.rows, key) {
             Some(position) => {
                 key.remember(position);
-                Some(self.values.get(position))
+                Some(self.rows.value(position))
             }
             None => None,
         }
@@ -87,9 +84,9 @@ impl Bins for HashedBins {
 
     #[inline(always)]
     fn put(&mut self, key: &HashedKey<'_>, value: &Value) -> Result<(), NoMemory> {
-        match self.finder.position_again(&self.keys, key) {
+        match self.finder.position_again(&self.rows, key) {
             Some(position) => {
-                self.values.set(position, value.as_slice());
+                self.rows.set_value(position, value.as_slice());
                 Ok(())
             }
             None => self.add(key, value),
@@ -97,20 +94,18 @@ impl Bins for HashedBins {
     }
 
     fn add(&mut self, key: &HashedKey<'_>, value: &Value) -> Result<(), NoMemory> {
-        self.keys.reserve(1)?;
-        self.values.reserve(1)?;
-        self.finder.push(&self.keys, key)?;
-        self.keys.push_reserved(key.key().as_slice());
-        self.values.push_reserved(value.as_slice());
-        self.finder.settle(&self.keys);
+        self.rows.reserve(1)?;
+        self.finder.push(&self.rows, key)?;
+        self.rows
+            .push_reserved(key.key().as_slice(), value.as_slice());
+        self.finder.settle(&self.rows);
         Ok(())
     }
 
     fn discard(&mut self, key: &HashedKey<'_>) {
-        if let Some(position) = self.finder.position_again(&self.keys, key) {
-            self.finder.swap_remove(&self.keys, position);
-            self.keys.swap_remove(position);
-            self.values.swap_remove(position);
+        if let Some(position) = self.finder.position_again(&self.rows, key) {
+            self.finder.swap_remove(&self.rows, position);
+            self.rows.swap_remove(position);
         }
     }
 
@@ -122,11 +117,11 @@ impl Bins for HashedBins {
     }
 
     fn copy_into(&self, list: &mut Vec<(Key, Value)>) -> Result<(), NoMemory> {
-        add_paired(list, &self.keys, &self.values)
+        add_rows(list, &self.rows)
     }
 
     fn copy_apart(&self, columns: &mut EntryColumns) -> Result<(), NoMemory> {
-        columns.add_columns(&self.keys, &self.values)
+        columns.add_rows(&self.rows)
     }
 
     fn entries(&self, alloc: Global) -> Result<Vec<(Key, Value)>, NoMemory> {
@@ -137,10 +132,10 @@ impl Bins for HashedBins {
     }
 
     fn count(&self) -> u64 {
-        self.keys.len() as u64
+        self.rows.len() as u64
     }
 
     fn replace_each(&mut self, program: &Verified, arg: &Option<Value>) -> Counts {
-        replace_paired(&self.keys, &mut self.values, program, arg)
+        replace_rows(&mut self.rows, program, arg)
     }
 }

@@ -3,8 +3,8 @@
 //! The promise to the layers above is the contract of the trait `Bins`: its content is a finite map from keys to
 //! values, and each call is said by what it does to that map (`specs/Table.antt`). What a program makes of each entry:
 //! `specs/Replacements.antt`. `ListBins` keeps the entries in one list, sorted by key. `HashedBins` keeps keys
-//! and values in two columns (`specs/Columns.antt`), each in as many bytes as it needs, in no order, beside an index by the
-//! hashes of the keys (`hash_of`, `specs/Hashes.antt`), so that a search comes to the entries of one hash alone.
+//! and values in rows of two widths (`specs/Columns.antt`), in no order, beside an index by the hashes of the keys
+//! (`hash_of`, `specs/Hashes.antt`), so that a search comes to the entries of one hash alone.
 //! A new key, `open`, `copy_into`, `copy_apart` and `entries` take memory, and no other call of theirs does; where it is refused,
 //! the entries are as before.
 //! No call waits.
@@ -12,7 +12,6 @@
 
 mod bins;
 mod chains;
-mod column;
 mod copies;
 mod counts;
 mod entry_columns;
@@ -23,8 +22,11 @@ mod hashed_bins;
 mod hashes;
 mod index;
 mod list_bins;
+mod raw_rows;
 mod replacement;
-mod rooms;
+mod row;
+mod row_list;
+mod rows;
 mod sorted_columns;
 mod tree;
 

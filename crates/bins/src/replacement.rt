@@ -4,10 +4,9 @@ ghost use Rattle.bins.specs.Columns.{string_at};
 ghost use Rattle.bins.specs.Entries.{entries_in};
 ghost use Rattle.bins.specs.Passes.{Replaces, ReplacesList};
 
-use crate::column::Column;
 use crate::counts::Counts;
+use crate::rows::Rows;
 use bpf_machine::{Machine, run_into};
-use bpf_model::limits::{KEY_BYTES, VALUE_BYTES};
 use bpf_model::{InputPart, Key, Value, fits_parts, value_bytes};
 use verifier::Verified;
 
@@ -79,41 +78,37 @@ struct Workbench {
 // Replaces the value at a position, as `replace_value` does.
 fn replace_at(
     program: &Verified,
-    keys: &Column<KEY_BYTES>,
-    values: &mut Column<VALUE_BYTES>,
+    rows: &mut Rows,
     position: usize,
     arg: &Option<Value>,
     bench: &mut Workbench,
 ) -> Result<bool, InputPart>
-    requires key { position < length keys.now.items }
-    requires value { position < length values.old.items }
-    ensures by_outcome { Replaces program.now (string_at keys.now.items position) arg.now
-        (string_at values.old.items position) (string_at values.new.items position) result }
-    ensures others { values.new.items ≡ set values.old.items position (string_at values.new.items position) }
+    requires key { position < length rows.old.keys }
+    requires value { position < length rows.old.values }
+    ensures by_outcome { Replaces program.now (string_at rows.old.keys position) arg.now
+        (string_at rows.old.values position) (string_at rows.new.values position) result }
+    ensures keys { rows.new.keys ≡ rows.old.keys }
+    ensures others { rows.new.values ≡ set rows.old.values position (string_at rows.new.values position) }
 {
-    let key = Key::from_slice(keys.get(position));
+    let key = Key::from_slice(rows.key(position));
     let key = key.unwrap();
-    let (old, arg) = (Some(values.get(position)), value_bytes(arg.as_ref()));
+    let (old, arg) = (Some(rows.value(position)), value_bytes(arg.as_ref()));
     let Workbench { machine, answer } = bench;
     fits_parts(&program.sizes(), &key, old, arg)?;
     let given = run_into(program, &key, old, arg, machine, answer);
     if given {
-        values.set(position, answer.as_slice());
+        rows.set_value(position, answer.as_slice());
     }
     Ok(given)
 }
 
 /// Replaces the value of each entry once, in their order, and counts what became of them. Takes no memory.
-pub(crate) fn replace_paired(
-    keys: &Column<KEY_BYTES>,
-    values: &mut Column<VALUE_BYTES>,
-    program: &Verified,
-    arg: &Option<Value>,
-) -> Counts
-    requires paired { length keys.now.items ≡ length values.old.items }
-    ensures each { ReplacesList program.now arg.now (entries_in keys.now.items values.old.items)
-        (entries_in keys.now.items values.new.items) result }
-    ensures paired { length keys.now.items ≡ length values.new.items }
+pub(crate) fn replace_rows(rows: &mut Rows, program: &Verified, arg: &Option<Value>) -> Counts
+    requires paired { length rows.old.keys ≡ length rows.old.values }
+    ensures each { ReplacesList program.now arg.now (entries_in rows.old.keys rows.old.values)
+        (entries_in rows.new.keys rows.new.values) result }
+    ensures keys { rows.new.keys ≡ rows.old.keys }
+    ensures paired { length rows.new.keys ≡ length rows.new.values }
     ensures bounded { result.scanned < 2 ^ 57 }
 {
     let mut bench = Workbench {
@@ -122,9 +117,9 @@ pub(crate) fn replace_paired(
     };
     let mut given = 0;
     let mut unfit = 0;
-    let many = keys.len();
+    let many = rows.len();
     for position in 0..many {
-        match replace_at(program, keys, values, position, arg, &mut bench) {
+        match replace_at(program, rows, position, arg, &mut bench) {
             Ok(true) => given += 1,
             Ok(false) => {}
             Err(_) => unfit += 1,

@@ -1,4 +1,4 @@
-//! The positions of keys in a column, by a tree of the keys.
+//! The positions of the keys of rows, by a tree of the keys.
 ghost use Rattle.std.specs.Prelude.{◌≡◌, ◌≢◌, ◌<◌, ◌++◌, [], ◌∷◌, Some, length, IfOk, IsSome, OnOk, OnErr};
 ghost use Rattle.std.specs.List.{AllWithin, swap_remove};
 ghost use Rattle.std.specs.Int.{IsPowerOfTwo};
@@ -8,10 +8,9 @@ ghost use Rattle.bins.specs.Table.{by_bytes};
 ghost use Rattle.bins.specs.Trees.{Locates, Sets, StandOnce};
 
 use crate::chains::MOST_BINS;
-use crate::column::Column;
 use crate::copies::key_at;
 use crate::index::Index;
-use bpf_model::limits::KEY_BYTES;
+use crate::rows::Rows;
 use bpf_model::{Key, NoMemory};
 use std::alloc::Global;
 use std::collections::BTreeMap;
@@ -105,16 +104,13 @@ fn add_position(
 }
 
 // The position of each key. `NoMemory` where a request for memory was refused.
-fn positions_by_key(
-    alloc: Global,
-    keys: &Column<KEY_BYTES>,
-) -> Result<BTreeMap<Key, usize>, NoMemory>
-    requires { StandOnce keys.now.items }
-    ensures { IfOk result (λ positions. Locates positions keys.now.items) }
+fn positions_by_key(alloc: Global, rows: &Rows) -> Result<BTreeMap<Key, usize>, NoMemory>
+    requires { StandOnce rows.now.keys }
+    ensures { IfOk result (λ positions. Locates positions rows.now.keys) }
 {
     let mut positions = BTreeMap::new(alloc);
-    for position in 0..keys.len() {
-        add_position(&mut positions, key_at(keys, position), position)?;
+    for position in 0..rows.len() {
+        add_position(&mut positions, key_at(rows, position), position)?;
     }
     Ok(positions)
 }
@@ -130,13 +126,13 @@ fn move_position(positions: &mut BTreeMap<Key, usize>, key: &Key, position: usiz
 
 impl Tree {
     /// The tree of these keys, which an index had found. `NoMemory` where a request for memory was refused.
-    pub(crate) fn of(index: &Index, keys: &Column<KEY_BYTES>) -> Result<Tree, NoMemory>
-        requires { StandOnce keys.now.items }
-        ensures locates { IfOk result (λ tree. Locates tree.positions keys.now.items) }
+    pub(crate) fn of(index: &Index, rows: &Rows) -> Result<Tree, NoMemory>
+        requires { StandOnce rows.now.keys }
+        ensures locates { IfOk result (λ tree. Locates tree.positions rows.now.keys) }
         ensures stripes { IfOk result (λ tree. tree.size.stripes ≡ index.now.stripes) }
     {
         Ok(Tree {
-            positions: positions_by_key(index.alloc(), keys)?,
+            positions: positions_by_key(index.alloc(), rows)?,
             size: IndexSize::of(index),
         })
     }
@@ -167,14 +163,14 @@ impl Tree {
 
     /// Adds a key, at the position behind these. `NoMemory` where a request for memory was refused.
     #[cold]
-    pub(crate) fn push(&mut self, keys: &Column<KEY_BYTES>, key: &Key) -> Result<(), NoMemory>
-        requires locates { Locates self.old.positions keys.now.items }
-        requires new { AllWithin (λ k. k ≢ key.now) keys.now.items 0 (length keys.now.items) }
-        ensures ok { OnOk result (Locates self.new.positions (keys.now.items ++ key.now ∷ [])) }
-        ensures err { OnErr result (Locates self.new.positions keys.now.items) }
+    pub(crate) fn push(&mut self, rows: &Rows, key: &Key) -> Result<(), NoMemory>
+        requires locates { Locates self.old.positions rows.now.keys }
+        requires new { AllWithin (λ k. k ≢ key.now) rows.now.keys 0 (length rows.now.keys) }
+        ensures ok { OnOk result (Locates self.new.positions (rows.now.keys ++ key.now ∷ [])) }
+        ensures err { OnErr result (Locates self.new.positions rows.now.keys) }
         ensures stripes { self.new.size.stripes ≡ self.old.size.stripes }
     {
-        let position = keys.len();
+        let position = rows.len();
         add_position(&mut self.positions, key.copied(), position)?;
         self.size.count_entries(position + 1);
         Ok(())
@@ -182,14 +178,14 @@ impl Tree {
 
     /// Removes the key at a position; the last key takes that place. Takes no memory.
     #[cold]
-    pub(crate) fn swap_remove(&mut self, keys: &Column<KEY_BYTES>, position: usize)
-        requires locates { Locates self.old.positions keys.now.items }
-        requires range { position < length keys.now.items }
-        ensures locates { Locates self.new.positions (swap_remove keys.now.items position []) }
+    pub(crate) fn swap_remove(&mut self, rows: &Rows, position: usize)
+        requires locates { Locates self.old.positions rows.now.keys }
+        requires range { position < length rows.now.keys }
+        ensures locates { Locates self.new.positions (swap_remove rows.now.keys position []) }
         ensures stripes { self.new.size.stripes ≡ self.old.size.stripes }
     {
-        let key = key_at(keys, position);
-        let last = key_at(keys, keys.len() - 1);
+        let key = key_at(rows, position);
+        let last = key_at(rows, rows.len() - 1);
         move_position(&mut self.positions, &last, position);
         self.positions.remove(&key);
     }

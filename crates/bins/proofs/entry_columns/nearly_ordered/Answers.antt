@@ -24,9 +24,9 @@ loop-position-preserved c =
 pub returns : goal.returns
 returns c =
     let position = λ (front : ℕ × ℕ). front.1 in
-    let end : c.loop-position.position ≡ length c.args.keys.now.items = omega (arith, c.loop-position-test.false, c.loop-position.auto.position-end, c.len-many.ensures.value) in
+    let end : c.loop-position.position ≡ length c.args.rows.now.keys = omega (arith, c.loop-position-test.false, c.loop-position.auto.position-end, c.len-many.ensures.value) in
     let start = c.loop-position.invariant.pushed ∙ ap (range_with_len 0) end in
     let all = c.loop-front.invariant
     ∙ ap (map position) (take_all c.loop-front.front-index c.deref-front-items.result.now (omega (arith, c.loop-front-test.false)) ∙ c.deref-front-items.ensures.value) in
     let moved = IsPermutation-map position c.loop-position.fronts.items c.sort_unstable_by_key.new.self.items c.sort_unstable_by_key.ensures.permutation in
-    record { moved = subst (IsPermutation (positions_of c.args.keys.now.items)) (sym all) (subst (λ (xs : List ℕ). IsPermutation xs (map position c.sort_unstable_by_key.new.self.items)) start moved) }
+    record { moved = subst (IsPermutation (positions_of c.args.rows.now.keys)) (sym all) (subst (λ (xs : List ℕ). IsPermutation xs (map position c.sort_unstable_by_key.new.self.items)) start moved) }

@@ -11,4 +11,4 @@ returns-clause-moved c = IsPermutation-trans _ _ _ c.in_ok-order.ensures.moved c
 
 pub returns-clause-order : goal.returns-clause-order
 returns-clause-order c =
-    c.sort_unstable_by.ensures.sorted (is_before c.args.keys.now.items) (ranks_by total (string_at c.args.keys.now.items)) (always_returns_same _ _ _ (λ a r f' p. search rules))
+    c.sort_unstable_by.ensures.sorted (is_before c.args.rows.now.keys) (ranks_by total (string_at c.args.rows.now.keys)) (always_returns_same _ _ _ (λ a r f' p. search rules))

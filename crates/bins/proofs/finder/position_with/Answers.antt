@@ -22,10 +22,10 @@ is_at-requires c = let last = rw c.in-Some.is at c.loop-next.invariant.last in o
 pub returns-then-is_at : goal.returns-then-is_at
 returns-then-is_at c =
     let last = rw c.in-Some.is at c.loop-next.invariant.last in
-    let inside : c.in-Some.position < length c.args.keys.now.items = omega (arith, last.0, c.loop-next.invariant.bound) in
+    let inside : c.in-Some.position < length c.args.rows.now.keys = omega (arith, last.0, c.loop-next.invariant.bound) in
     record {
       bound = inside;
-      found = λ d. get_or_default c.args.keys.now.items c.in-Some.position d [] inside ∙ c.if-is_at.ensures.exact.0 refl ∙ c.as_slice.ensures.value;
+      found = λ d. get_or_default c.args.rows.now.keys c.in-Some.position d [] inside ∙ c.if-is_at.ensures.exact.0 refl ∙ c.as_slice.ensures.value;
       absent = tt;
     }
 
@@ -38,9 +38,9 @@ before-next-requires c =
 pub loop-next-preserved : goal.loop-next-preserved
 loop-next-preserved c =
     let last = rw c.in-Some.is at c.loop-next.invariant.last in
-    let inside : c.in-Some.position < length c.args.keys.now.items = omega (arith, last.0, c.loop-next.invariant.bound) in
-    let other : (d : List ℕ) → get_or c.args.keys.now.items c.in-Some.position d ≢ c.args.key.now = λ d same.
-    never (c.if-is_at.ensures.exact.1 (get_or_default c.args.keys.now.items c.in-Some.position [] d inside ∙ same ∙ sym c.as_slice.ensures.value)) in
+    let inside : c.in-Some.position < length c.args.rows.now.keys = omega (arith, last.0, c.loop-next.invariant.bound) in
+    let other : (d : List ℕ) → get_or c.args.rows.now.keys c.in-Some.position d ≢ c.args.key.now = λ d same.
+    never (c.if-is_at.ensures.exact.1 (get_or_default c.args.rows.now.keys c.in-Some.position [] d inside ∙ same ∙ sym c.as_slice.ensures.value)) in
     record {
       end = c.in-Some.position;
       bound = omega (arith, inside);

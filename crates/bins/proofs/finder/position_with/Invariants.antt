@@ -7,9 +7,9 @@ use Rattle.bins.proofs.finder.position_with.Given as goal
 abbrev pub invariant-loop-next : goal.invariant-loop-next
 invariant-loop-next l = record {
   end : ℕ;
-  bound : end ≤ length l.keys.items;
+  bound : end ≤ length l.rows.keys;
   last : IsLastOf l.index.hashes end l.hash l.next;
-  behind : AllWithin (λ k. k ≢ l.key) l.keys.items end (length l.keys.items);
+  behind : AllWithin (λ k. k ≢ l.key) l.rows.keys end (length l.rows.keys);
 }
 
 abbrev places_left : Option ℕ → ℕ

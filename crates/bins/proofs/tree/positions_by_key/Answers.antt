@@ -7,4 +7,4 @@ use Rattle.bins.proofs.tree.positions_by_key.Goals as goal
 pub loop-position-preserved : goal.loop-position-preserved
 loop-position-preserved c =
     let sets = subst (λ (key : List ℕ). Sets c.loop-position.positions c.add_position.new.positions key (Some c.loop-position.position)) c.key_at.ensures c.in_ok-add_position.ensures.ok in
-    locates_next c.args.keys.now.items c.loop-position.position _ _ c.requires (omega arith) c.loop-position.invariant sets
+    locates_next c.args.rows.now.keys c.loop-position.position _ _ c.requires (omega arith) c.loop-position.invariant sets

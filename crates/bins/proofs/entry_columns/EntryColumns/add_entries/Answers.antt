@@ -4,10 +4,10 @@ use Rattle.bins.specs.Entries.{entries_in}
 use Rattle.bins.proofs.OrderedEntries.{paired-append, entries_apart}
 use Rattle.bins.proofs.entry_columns.EntryColumns.add_entries.Goals as goal
 
--- both columns go on with the keys and the values of the entries
+-- the rows go on with the keys and the values of the entries
 pub returns-clause-ok : goal.returns-clause-ok
 returns-clause-ok c =
     let es = c.args.entries.now in
-    let keys = c.push_entries.ensures.keys ∙ ap (λ (xs : List (List ℕ)). xs ++ map (λ (e : Entry). e.0) es) c.reserve.ensures.same in
-    let values = c.push_entries.ensures.values ∙ ap (λ (xs : List (List ℕ)). xs ++ map (λ (e : Entry). e.1) es) c.reserve-2.ensures.same in
+    let keys = c.push_entries.ensures.keys ∙ ap (λ (xs : List (List ℕ)). xs ++ map (λ (e : Entry). e.0) es) c.reserve.ensures.keys in
+    let values = c.push_entries.ensures.values ∙ ap (λ (xs : List (List ℕ)). xs ++ map (λ (e : Entry). e.1) es) c.reserve.ensures.values in
     (λ i. entries_in (keys i) (values i)) ∙ paired-append _ _ c.self.invariant _ _ ∙ (λ i. c.self.view_is i ++ entries_apart es i)

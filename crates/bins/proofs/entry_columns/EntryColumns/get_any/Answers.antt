@@ -7,4 +7,4 @@ use Rattle.bins.proofs.entry_columns.EntryColumns.get_any.Goals as goal
 -- an entry stands where its key and its value stand
 pub returns-clause-entry : goal.returns-clause-entry
 returns-clause-entry c =
-    (λ i. (c.get_any.ensures.value i, c.get_any-2.ensures.value i)) ∙ sym (paired-entry _ _ c.self.invariant c.args.position) ∙ ap (λ (es : List Entry). entry_of es c.args.position) c.self.view_is
+    (λ i. (c.get_any.ensures.key i, c.get_any.ensures.value i)) ∙ sym (paired-entry _ _ c.self.invariant c.args.position) ∙ ap (λ (es : List Entry). entry_of es c.args.position) c.self.view_is

@@ -9,5 +9,5 @@ use Rattle.bins.proofs.finder.Finder.swap_remove.Goals as goal
 -- the hash of the key goes with it
 pub returns-in-Hashes : goal.returns-in-Hashes
 returns-in-Hashes c =
-    let hashes = subst (λ (f : Finder). Finds f c.args.keys.now.items) c.in-Hashes.is c.requires.finds in
-    record { finds = c.swap_remove.ensures.hashes ∙ ap (λ (hs : List ℕ). swap_remove hs c.args.position 0) hashes ∙ map-swap_remove hash c.args.keys.now.items c.args.position [] 0 c.requires.range }
+    let hashes = subst (λ (f : Finder). Finds f c.args.rows.now.keys) c.in-Hashes.is c.requires.finds in
+    record { finds = c.swap_remove.ensures.hashes ∙ ap (λ (hs : List ℕ). swap_remove hs c.args.position 0) hashes ∙ map-swap_remove hash c.args.rows.now.keys c.args.position [] 0 c.requires.range }

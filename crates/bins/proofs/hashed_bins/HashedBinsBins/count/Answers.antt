@@ -11,6 +11,6 @@ use Rattle.bins.proofs.hashed_bins.HashedBinsBins.count.Goals as goal
 -- the table has as many entries as there are keys, since no key stands twice
 pub returns-clause-value : goal.returns-clause-value
 returns-clause-value c =
-    let entries = entries_in c.self.inside.keys.items c.self.inside.values.items in
+    let entries = entries_in c.self.inside.rows.keys c.self.inside.rows.values in
     c.len.ensures.value ∙ sym (paired-length _ _ c.self.invariant.2) ∙ sym (len-table entries c.self.invariant.1) ∙ len-entries (table_of entries)
     ∙ ap (λ (t : Table). length (map.entries t)) c.self.view_is

@@ -9,27 +9,27 @@ use Rattle.bins.proofs.hashed_bins.HashedBinsBins.discard.Goals as goal
 -- the entry at the key's position is taken out
 pub invariant_of-self : goal.invariant_of-self
 invariant_of-self c =
-    let ks = c.self.inside.keys.items in
-    let vs = c.self.inside.values.items in
+    let ks = c.self.inside.rows.keys in
+    let vs = c.self.inside.rows.values in
     let same = c.self.invariant.2 in
     let bound = c.in-Some.ensures.bound in
     let inside : c.in-Some.position < length (entries_in ks vs) = omega (arith, bound, paired-length ks vs same) in
     let found = entry_found ks vs same _ _ bound c.in-Some.ensures.found in
-    let left = parted ks vs same _ bound _ _ c.swap_remove-in-Some.ensures.items c.swap_remove-in-Some-2.ensures.items in (
-      subst (Finds c.swap_remove.new.self) (sym c.swap_remove-in-Some.ensures.items) c.swap_remove.ensures.finds,
+    let left = parted ks vs same _ bound _ _ c.swap_remove-in-Some.ensures.keys c.swap_remove-in-Some.ensures.values in (
+      subst (Finds c.swap_remove.new.self) (sym c.swap_remove-in-Some.ensures.keys) c.swap_remove.ensures.finds,
       subst Distinct (sym left) (removed_distinct _ _ ([], []) _ c.self.invariant.1 inside found),
-      parted_length ks vs same _ bound _ _ c.swap_remove-in-Some.ensures.items c.swap_remove-in-Some-2.ensures.items,
+      parted_length ks vs same _ bound _ _ c.swap_remove-in-Some.ensures.keys c.swap_remove-in-Some.ensures.values,
     )
 
 pub returns-in-Some : goal.returns-in-Some
 returns-in-Some c =
-    let ks = c.self.inside.keys.items in
-    let vs = c.self.inside.values.items in
+    let ks = c.self.inside.rows.keys in
+    let vs = c.self.inside.rows.values in
     let same = c.self.invariant.2 in
     let bound = c.in-Some.ensures.bound in
     let inside : c.in-Some.position < length (entries_in ks vs) = omega (arith, bound, paired-length ks vs same) in
     let found = entry_found ks vs same _ _ bound c.in-Some.ensures.found in
-    let left = parted ks vs same _ bound _ _ c.swap_remove-in-Some.ensures.items c.swap_remove-in-Some-2.ensures.items in
+    let left = parted ks vs same _ bound _ _ c.swap_remove-in-Some.ensures.keys c.swap_remove-in-Some.ensures.values in
     record { others = rw (← c.self.view_is) (ap table_of left ∙ removed_table _ _ ([], []) _ c.self.invariant.1 inside found) }
 
 -- the key had no value

@@ -1,7 +1,8 @@
-use Rattle.std.proofs.Common.{List, ℕ, sym, ap, ◌∙◌}
+use Rattle.std.proofs.Common.{◌≡◌, List, ℕ, length, sym, ap, subst, ◌∙◌}
 use Rattle.std.specs.FinMap as map
 use Rattle.bins.specs.Table.{Table}
-use Rattle.bins.specs.Entries.{entries_in}
+use Rattle.bins.specs.Entries.{Distinct, entries_in}
+use Rattle.bins.specs.Finders.{Finds}
 use Rattle.bins.proofs.MapEdits.{on_err_anyway}
 use Rattle.bins.proofs.DistinctEntries.{table_of, get_none}
 use Rattle.bins.proofs.PairedEntries.{entry_lacks, over_distinct, over_table, over_length}
@@ -12,16 +13,18 @@ pub invariant_of-self : goal.invariant_of-self
 invariant_of-self c =
     let same = c.self.invariant.2 in
     let bound = c.in-Some.ensures.bound in
-    let items = c.set.ensures.items in (
-      c.self.invariant.0,
-      over_distinct _ _ same _ bound _ _ items c.self.invariant.1,
-      over_length _ _ same _ bound _ _ items,
+    let keys = sym c.set_value.ensures.keys in
+    let values = c.set_value.ensures.values in (
+      subst (Finds c.self.inside.finder) keys c.self.invariant.0,
+      subst (λ (ks : List (List ℕ)). Distinct (entries_in ks c.set_value.new.self.values)) keys (over_distinct _ _ same _ bound _ _ values c.self.invariant.1),
+      subst (λ (ks : List (List ℕ)). length ks ≡ length c.set_value.new.self.values) keys (over_length _ _ same _ bound _ _ values),
     )
 
 pub returns-in-Some-clause-ok : goal.returns-in-Some-clause-ok
 returns-in-Some-clause-ok c =
-    let written = over_table _ _ c.self.invariant.2 _ c.in-Some.ensures.bound _ _ c.set.ensures.items _ c.self.invariant.1 c.in-Some.ensures.found in
-    rw (← c.self.view_is) (written ∙ ap (λ (v : List ℕ). map.insert (table_of (entries_in c.self.inside.keys.items c.self.inside.values.items)) c.args.key.now v) c.as_slice.ensures.value)
+    let keys = ap (λ (ks : List (List ℕ)). table_of (entries_in ks c.set_value.new.self.values)) c.set_value.ensures.keys in
+    let written = over_table _ _ c.self.invariant.2 _ c.in-Some.ensures.bound _ _ c.set_value.ensures.values _ c.self.invariant.1 c.in-Some.ensures.found in
+    rw (← c.self.view_is) (keys ∙ written ∙ ap (λ (v : List ℕ). map.insert (table_of (entries_in c.self.inside.rows.keys c.self.inside.rows.values)) c.args.key.now v) c.as_slice.ensures.value)
 
 -- the key is absent
 pub add-requires : goal.add-requires

@@ -8,7 +8,7 @@ use Rattle.bins.proofs.tree.Tree.swap_remove.Goals as goal
 -- the last key was moved, and then the key was taken out
 pub returns-clause-locates : goal.returns-clause-locates
 returns-clause-locates c =
-    let keys : List (List ℕ) = c.args.keys.now.items in
+    let keys : List (List ℕ) = c.args.rows.now.keys in
     let key = c.key_at-key.result in
     let last = c.key_at-last.result in
     let locates = c.requires.locates in

@@ -1,0 +1,16 @@
+use Rattle.std.proofs.Common.{◌≡◌, ◌+◌, ◌++◌, length, take, vec_capacity}
+use Rattle.bins.specs.Rows.{AreIn, keys_in, values_in}
+use Rattle.bins.proofs.raw_rows.RawRows.push_all.Given as goal
+
+-- the strings so far were added, and there is as much room as there was
+abbrev pub invariant-loop-position : goal.invariant-loop-position
+invariant-loop-position l = record {
+  rows : AreIn l.self;
+  keys : keys_in l.self ≡ keys_in l.fn.self ++ take l.position (keys_in l.other);
+  values : values_in l.self ≡ values_in l.fn.self ++ take l.position (values_in l.other);
+  counted : length l.self.places.items ≡ length l.fn.self.places.items + l.position;
+  places : vec_capacity l.self.places ≡ vec_capacity l.fn.self.places;
+  shorts : vec_capacity l.self.shorts ≡ vec_capacity l.fn.self.shorts;
+  middles : vec_capacity l.self.middles ≡ vec_capacity l.fn.self.middles;
+  longs : vec_capacity l.self.longs ≡ vec_capacity l.fn.self.longs;
+}

@@ -1,0 +1,148 @@
+//! The keys and values of entries, in rows of three widths.
+ghost use Rattle.std.specs.Prelude.{◌≡◌, ◌+◌, ◌<◌, ◌≤◌, ◌++◌, [], ◌∷◌, length, set, OnOk};
+ghost use Rattle.std.specs.List.{swap_remove};
+ghost use Rattle.bins.specs.Columns.{string_at};
+
+use crate::raw_rows::RawRows;
+use crate::row::MOST_ROWS;
+use bpf_model::NoMemory;
+use bpf_model::limits::{KEY_BYTES, VALUE_BYTES};
+use std::alloc::Global;
+use std::marker::Model;
+
+/// Keys and their values, at the same positions. A position takes four bytes, and the row that it names 44 where neither the
+/// key nor the value is longer than `SHORT_BYTES`, 136 where the value is no longer than `MIDDLE_BYTES`, and else 1,096. Room
+/// for a row of each width is reserved with each position, and not touched before it is needed.
+#[derive(Drop)]
+pub(crate) struct Rows {
+    raw: RawRows,
+}
+
+impl Model for Rows {
+    ghost use Rattle.std.specs.Prelude.{◌≤◌, length, min, vec_capacity};
+    ghost use Rattle.bins.specs.declared.row.TheConstants.{MOST_ROWS};
+    ghost use Rattle.bins.specs.Columns.{Columns};
+    ghost use Rattle.bins.specs.Rows.{AreIn, keys_in, values_in};
+
+    ghost Value = { Columns };
+
+    ghost view = { λ rows. record {
+      keys = keys_in rows.raw;
+      values = values_in rows.raw;
+      room = min MOST_ROWS (min (vec_capacity rows.raw.places)
+          (min (vec_capacity rows.raw.shorts) (min (vec_capacity rows.raw.middles) (vec_capacity rows.raw.longs))));
+    } };
+
+    ghost invariant = { λ rows. AreIn rows.raw
+        × (length rows.raw.places.items ≤ min (vec_capacity rows.raw.shorts) (min (vec_capacity rows.raw.middles) (vec_capacity rows.raw.longs))) };
+}
+
+impl Rows {
+    /// No entries. Takes no memory.
+    pub(crate) fn new(alloc: Global) -> Rows
+        ensures keys { result.keys ≡ [] }
+        ensures values { result.values ≡ [] }
+    {
+        Rows {
+            raw: RawRows::new(alloc),
+        }
+    }
+
+    /// How many entries there are. Takes no memory.
+    #[inline(always)]
+    pub(crate) fn len(&self) -> usize
+        ensures value { result ≡ length self.now.keys }
+        ensures few { result ≤ MOST_ROWS }
+    {
+        self.raw.len()
+    }
+
+    /// The key at a position. Takes no memory.
+    #[inline(always)]
+    pub(crate) fn key(&self, position: usize) -> &[u8]
+        requires { position < length self.now.keys }
+        ensures value { result.now ≡ string_at self.now.keys position }
+        ensures fits { length result.now ≤ KEY_BYTES }
+    {
+        self.raw.entry(position).0
+    }
+
+    /// The value at a position. Takes no memory.
+    #[inline(always)]
+    pub(crate) fn value(&self, position: usize) -> &[u8]
+        requires { position < length self.now.keys }
+        ensures value { result.now ≡ string_at self.now.values position }
+        ensures fits { length result.now ≤ VALUE_BYTES }
+    {
+        self.raw.entry(position).1
+    }
+
+    /// The key and the value at a position; none of the bytes behind the last one. Takes no memory.
+    #[inline(always)]
+    pub(crate) fn get_any(&self, position: usize) -> (&[u8], &[u8])
+        ensures key { result.0.now ≡ string_at self.now.keys position }
+        ensures value { result.1.now ≡ string_at self.now.values position }
+        ensures key_fits { length result.0.now ≤ KEY_BYTES }
+        ensures value_fits { length result.1.now ≤ VALUE_BYTES }
+    {
+        if position < self.raw.len() {
+            return self.raw.entry(position);
+        }
+        (&[], &[])
+    }
+
+    /// Room for so many more entries. `NoMemory` where a request for it was refused, or where there would be more than
+    /// `MOST_ROWS`; the entries are as before.
+    pub(crate) fn reserve(&mut self, more: usize) -> Result<(), NoMemory>
+        ensures ok { OnOk result (length self.new.keys + more ≤ self.new.room) }
+        ensures keys { self.new.keys ≡ self.old.keys }
+        ensures values { self.new.values ≡ self.old.values }
+    {
+        if more > MOST_ROWS - self.raw.len() {
+            return Err(NoMemory);
+        }
+        self.raw.reserve(more)
+    }
+
+    /// Sets the value at a position. Takes no memory.
+    #[inline(always)]
+    pub(crate) fn set_value(&mut self, position: usize, bytes: &[u8])
+        requires range { position < length self.old.keys }
+        requires fits { length bytes.now ≤ VALUE_BYTES }
+        ensures keys { self.new.keys ≡ self.old.keys }
+        ensures values { self.new.values ≡ set self.old.values position bytes.now }
+    {
+        self.raw.set_value(position, bytes);
+    }
+
+    /// Adds an entry behind the others. Takes no memory.
+    pub(crate) fn push_reserved(&mut self, key: &[u8], value: &[u8])
+        requires room { length self.old.keys < self.old.room }
+        requires key { length key.now ≤ KEY_BYTES }
+        requires value { length value.now ≤ VALUE_BYTES }
+        ensures keys { self.new.keys ≡ self.old.keys ++ key.now ∷ [] }
+        ensures values { self.new.values ≡ self.old.values ++ value.now ∷ [] }
+        ensures room { self.new.room ≡ self.old.room }
+    {
+        self.raw.push_reserved(key, value);
+    }
+
+    /// Adds copies of another list's entries behind the others. Takes no memory.
+    pub(crate) fn push_all(&mut self, other: &Rows)
+        requires room { length self.old.keys + length other.now.keys ≤ self.old.room }
+        ensures keys { self.new.keys ≡ self.old.keys ++ other.now.keys }
+        ensures values { self.new.values ≡ self.old.values ++ other.now.values }
+        ensures room { self.new.room ≡ self.old.room }
+    {
+        self.raw.push_all(&other.raw);
+    }
+
+    /// Takes out the entry at a position; the last one takes the gap. Takes no memory.
+    pub(crate) fn swap_remove(&mut self, position: usize)
+        requires { position < length self.old.keys }
+        ensures keys { self.new.keys ≡ swap_remove self.old.keys position [] }
+        ensures values { self.new.values ≡ swap_remove self.old.values position [] }
+    {
+        self.raw.swap_remove(position);
+    }
+}
