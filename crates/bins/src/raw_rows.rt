@@ -103,8 +103,7 @@ impl RawRows {
         }
     }
 
-    // Adds a row behind the others of its width. A row's bytes are cleared before they are written, so only the short ones are
-    // written in line.
+    // Adds a row behind the others of its width.
     #[inline(always)]
     fn add_in(&mut self, width: Width, owner: usize, key: &[u8], value: &[u8])
         requires room { length (rows_in self.old width) < room_of self.old width }
@@ -260,8 +259,8 @@ impl RawRows {
     }
 
     // Sets the value of a position. A row that stays as wide is written where it lies.
-    #[inline(always)]
-    pub(crate) fn set_value(&mut self, position: usize, bytes: &[u8])
+    #[inline(never)]
+    fn set_any(&mut self, position: usize, bytes: &[u8])
         requires rows { AreIn self.old }
         requires range { position < length self.old.places.items }
         requires room { HasRoom self.old (length self.old.places.items) }
@@ -277,6 +276,27 @@ impl RawRows {
                 self.set_value_in(width, at, bytes);
             }
             _ => self.refill(position, bytes),
+        }
+    }
+
+    // Sets the value of a position: a short one of a short row at once.
+    #[inline(always)]
+    pub(crate) fn set_value(&mut self, position: usize, bytes: &[u8])
+        requires rows { AreIn self.old }
+        requires range { position < length self.old.places.items }
+        requires room { HasRoom self.old (length self.old.places.items) }
+        requires fits { length bytes.now ≤ VALUE_BYTES }
+        ensures rows { AreIn self.new }
+        ensures keys { keys_in self.new ≡ keys_in self.old }
+        ensures values { values_in self.new ≡ set (values_in self.old) position bytes.now }
+        ensures room { SameRoom self.old self.new }
+    {
+        let word = &self.places[position];
+        match word.get() {
+            Place::In(Width::Short, at) if bytes.len() <= SHORT_BYTES => {
+                set_value_at(&mut self.shorts, at, bytes);
+            }
+            _ => self.set_any(position, bytes),
         }
     }
 

@@ -54,8 +54,9 @@ pub(crate) fn move_at<const KEY: usize, const VALUE: usize>(
     row.move_to(owner);
 }
 
-/// Adds a row behind the others, in the room that is there.
-#[inline(always)]
+/// Adds a row behind the others, in the room that is there. A row is cleared before it is written, so this stays out of line: a
+/// short row is not to clear as much as a long one.
+#[inline(never)]
 pub(crate) fn add<const KEY: usize, const VALUE: usize>(
     rows: &mut Vec<Row<KEY, VALUE>>,
     owner: usize,

@@ -12,8 +12,9 @@ returns-clause-rows g c =
     let is : read ≡ c.new.result = c.index_mut-row.ensures.value ∙ ap (λ n. get_or c.push_reserved.new.self.items n read) at
     ∙ ap (λ (rs : List KeptRow). get_or rs (length rows) read) c.push_reserved.ensures.items ∙ get_or-append_seam rows c.new.result [] read in
     let owner : read.owner ≡ c.args.owner = ap (λ (r : KeptRow). r.owner) is ∙ ap (λ (r : KeptRow). r.owner) c.new.ensures in
+    let now : c.copy_from.new.self ≡ kept c.args.other.now.key c.args.other.now.value read.owner = c.copy_from.ensures in
     ap (λ n. set c.push_reserved.new.self.items n c.copy_from.new.self) at
     ∙ ap (λ (rs : List KeptRow). set rs (length rows) c.copy_from.new.self) c.push_reserved.ensures.items
     ∙ set-append_seam rows c.new.result [] c.copy_from.new.self
-    ∙ ap (λ (r : KeptRow). rows ++ r ∷ []) c.copy_from.ensures
+    ∙ ap (λ (r : KeptRow). rows ++ r ∷ []) now
     ∙ ap (λ n. rows ++ kept c.args.other.now.key c.args.other.now.value n ∷ []) owner
