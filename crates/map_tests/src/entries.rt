@@ -6,6 +6,7 @@ use bpf_model::{Key, NoMemory, Value};
 use std::alloc::Global;
 use std::test::Fail;
 
+mod lengths;
 mod made_up;
 mod replaced;
 

@@ -25,10 +25,10 @@ impl MadeUp {
     }
 }
 
-// The value after a change: 5 bytes longer, and short again after 40.
+// The value after a change: 17 bytes longer, and short again after 80.
 fn changed(old: &Value) -> Result<Value, Fail> {
-    let bytes = [7; 40];
-    let long = (old.as_slice().len() + 5) % 41;
+    let bytes = [7; 80];
+    let long = (old.as_slice().len() + 17) % 81;
     Ok(Value::from_slice(&bytes[..long])?)
 }
 
