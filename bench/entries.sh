@@ -1,7 +1,7 @@
 #!/usr/bin/env bash
 # Times what is done to bins of many entries: nanoseconds a call, the median of five, the making of the key and its hash among
 # them ('nothing' is that alone). Then bytes an entry, by how the greatest memory grows between so many entries and twice as
-# many, where GNU time is there. By hand, not by the gate. It takes two minutes.
+# many, of 8 and 8 bytes and of the longest keys and values, where GNU time is there. By hand, not by the gate. It takes two minutes.
 source "$(dirname "$0")/common.sh"
 
 side() { "$bench" entries "$@"; }
@@ -13,8 +13,11 @@ a_call() {
     echo $(($(sed -n 3p <<< "$times") / (rounds * $2)))
 }
 
-# the greatest number of KiB that the program had, with so many entries
-resident() { command time -f %M "$bench" entries nothing "$1" 0 2>&1 > "$work/out"; }
+# the greatest number of KiB that the program had: the work, with so many entries
+resident() { command time -f %M "$bench" entries "$1" "$2" 0 2>&1 > "$work/out"; }
+
+# bytes an entry: the work, and half of the greater number of entries
+bytes_each() { echo "$2 to $((2 * $2)) entries, $1: $((($(resident "$1" $((2 * $2))) - $(resident "$1" "$2")) * 1024 / $2)) bytes an entry"; }
 
 for entries in 1000 100000 1000000; do
     for name in nothing find put remove; do
@@ -22,7 +25,7 @@ for entries in 1000 100000 1000000; do
     done
 done
 if type -P time > /dev/null; then
-    for entries in 100000 1000000; do
-        echo "$entries to $((2 * entries)) entries: $((($(resident $((2 * entries))) - $(resident $entries)) * 1024 / entries)) bytes an entry"
-    done
+    bytes_each nothing 100000
+    bytes_each nothing 1000000
+    bytes_each longest 100000
 fi
