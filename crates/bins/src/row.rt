@@ -104,31 +104,31 @@ impl PlaceWord {
     }
 }
 
-/// A string of at most `MOST` bytes.
+/// At most `MOST` bytes, and how many there are.
 #[derive(Drop)]
-pub struct ShortString<const MOST: usize> {
+pub struct BoundedBytes<const MOST: usize> {
     len: u16,
     bytes: [u8; MOST],
 }
 
-impl<const MOST: usize> Model for ShortString<MOST> {
+impl<const MOST: usize> Model for BoundedBytes<MOST> {
     ghost use Rattle.std.specs.Prelude.{List, ℕ, ◌≤◌, ◌<◌, take};
 
     ghost Value = { List ℕ };
 
-    ghost view = { λ string. take string.len string.bytes };
+    ghost view = { λ held. take held.len held.bytes };
 
-    ghost invariant = { λ string. (string.len ≤ MOST) × (MOST < 65536) };
+    ghost invariant = { λ held. (held.len ≤ MOST) × (MOST < 65536) };
 }
 
-impl<const MOST: usize> ShortString<MOST> {
+impl<const MOST: usize> BoundedBytes<MOST> {
     // No bytes.
     #[inline(always)]
-    fn new() -> ShortString<MOST>
+    fn new() -> BoundedBytes<MOST>
         requires { MOST < 65536 }
         ensures { result ≡ [] }
     {
-        ShortString {
+        BoundedBytes {
             len: 0,
             bytes: [0; MOST],
         }
@@ -145,7 +145,7 @@ impl<const MOST: usize> ShortString<MOST> {
 
     // Copies another one in place.
     #[inline(always)]
-    fn copy_from(&mut self, other: &ShortString<MOST>)
+    fn copy_from(&mut self, other: &BoundedBytes<MOST>)
         ensures { self.new ≡ other.now }
     {
         self.bytes = other.bytes;
@@ -170,11 +170,15 @@ impl<const MOST: usize> ShortString<MOST> {
 #[derive(Drop)]
 pub struct Row<const KEY: usize, const VALUE: usize> {
     owner: u32,
-    key: ShortString<KEY>,
-    value: ShortString<VALUE>,
+    key: BoundedBytes<KEY>,
+    value: BoundedBytes<VALUE>,
 }
 
 const _: () = prove!(size_of::<Row<SHORT_BYTES, SHORT_BYTES>>() == 44);
+
+const _: () = prove!(size_of::<Row<64, MIDDLE_BYTES>>() == 136);
+
+const _: () = prove!(size_of::<Row<64, 1_024>>() == 1_096);
 
 impl<const KEY: usize, const VALUE: usize> Model for Row<KEY, VALUE> {
     ghost use Rattle.bins.specs.Columns.{KeptRow};
@@ -195,8 +199,8 @@ impl<const KEY: usize, const VALUE: usize> Row<KEY, VALUE> {
     {
         Row {
             owner: owner as u32,
-            key: ShortString::new(),
-            value: ShortString::new(),
+            key: BoundedBytes::new(),
+            value: BoundedBytes::new(),
         }
     }
 
