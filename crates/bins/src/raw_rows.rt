@@ -185,7 +185,9 @@ impl RawRows {
         if self.longs.capacity() < many {
             grow(&mut self.longs, many)?;
         }
-        self.places.try_reserve(more)?;
+        if self.places.capacity() < many {
+            grow(&mut self.places, many)?;
+        }
         Ok(())
     }
 
