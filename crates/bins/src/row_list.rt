@@ -117,7 +117,7 @@ pub(crate) fn remove_at<const KEY: usize, const VALUE: usize>(
     owner
 }
 
-/// Makes room for so many elements, and for three times as many as before. Where most of the room is in use the list grows
+/// Makes room for so many elements, and for four times as many as before. Where most of the room is in use the list grows
 /// where it is. Else its elements are moved: to grow it would copy what was never written, and so touch it.
 #[inline(never)]
 pub(crate) fn grow<T: Drop>(list: &mut Vec<T>, many: usize) -> Result<(), NoMemory>
@@ -128,7 +128,7 @@ pub(crate) fn grow<T: Drop>(list: &mut Vec<T>, many: usize) -> Result<(), NoMemo
     ensures same { list.new.items ≡ list.old.items }
 {
     let room = list.capacity();
-    let wanted = many.max(room.saturating_mul(3)).saturating_add(4);
+    let wanted = many.max(room.saturating_mul(4)).saturating_add(4);
     if list.len() > room / 2 {
         list.try_reserve(wanted - list.len())?;
         return Ok(());
