@@ -67,7 +67,7 @@ pub fn apply_into<B: Bins>(
     }
 }
 
-// Enters what a program came to: an answer of bytes, which are in `bytes`, is the key's value then, and is replied.
+/// Enters what a program came to: an answer of bytes, which are in `bytes`, is the key's value then, and is replied.
 fn enter_answer<B: Bins>(
     bins: &mut B,
     call: &HashedCall<'_>,
@@ -93,7 +93,7 @@ fn enter_answer<B: Bins>(
     }
 }
 
-// The reply about a present key, whose value is told apart from it.
+/// The reply about a present key, whose value is told apart from it.
 fn kind_of(told: PlannedReply) -> ReplyKind
     ensures value { (old : List ℕ) → reply_by result old ≡ reply_planned told (Some old) }
 {
@@ -103,7 +103,7 @@ fn kind_of(told: PlannedReply) -> ReplyKind
     }
 }
 
-// Makes a change of a key's value.
+/// Makes a change of a key's value.
 fn make_change<B: Bins>(
     bins: &mut B,
     key: &HashedKey<'_>,
@@ -124,8 +124,8 @@ fn make_change<B: Bins>(
     }
 }
 
-// Makes a call whose key is absent, as `apply_into` does. Apart from it, so that calls on present keys clear no place for
-// a new entry.
+/// Makes a call whose key is absent, as `apply_into` does. Apart from it, so that calls on present keys clear no place for
+/// a new entry.
 #[inline(never)]
 fn apply_to_absent<B: Bins>(
     bins: &mut B,
@@ -163,7 +163,7 @@ pub fn replace_each<B: Bins>(bins: &mut B, program: &Verified, arg: &Option<Valu
     bins.replace_each(program, arg)
 }
 
-// The call on an absent key: whether a value is to be entered, which is then in `bytes`, and the reply.
+/// The call on an absent key: whether a value is to be entered, which is then in `bytes`, and the reply.
 fn new_value(call: &Call, workspace: &mut Workspace, bytes: &mut Value) -> (bool, ReplyKind)
     ensures follows { let invocation = invocation_of call.now in
         Follows (rule_of invocation.method None) invocation.key None

@@ -21,7 +21,7 @@ impl Model for PartReply {
 }
 
 impl PartReply {
-    // These items, and these counts.
+    /// These items, and these counts.
     pub(crate) fn new(items: EntryColumns, counts: Counts) -> PartReply
         ensures { result ≡ record { items = items; counts = counts } }
     {

@@ -160,7 +160,7 @@ impl Striped {
     }
 }
 
-// Replaces the values of each stripe, and counts them together.
+/// Replaces the values of each stripe, and counts them together.
 fn replace_stripes(stripes: &mut Vec<HashedBins>, program: &Verified, arg: &Option<Value>) -> Counts
     requires bounded { length stripes.old.items ≤ MAX_STRIPES }
     ensures each { ReplacesStripes program.now arg.now stripes.old.items stripes.new.items result }
@@ -181,7 +181,7 @@ fn replace_stripes(stripes: &mut Vec<HashedBins>, program: &Verified, arg: &Opti
     }
 }
 
-// So many stripes without entries.
+/// So many stripes without entries.
 fn empty_stripes(alloc: Global, count: u64) -> Result<Vec<HashedBins>, NoMemory>
     ensures count { IfOk result (λ stripes. length stripes.items ≡ count) }
     ensures empty { IfOk result (λ stripes. (i : ℕ) → stripe_at stripes.items i ≡ finmap.empty) }
@@ -193,7 +193,7 @@ fn empty_stripes(alloc: Global, count: u64) -> Result<Vec<HashedBins>, NoMemory>
     Ok(stripes)
 }
 
-// How many entries the stripes have together.
+/// How many entries the stripes have together.
 fn count_all(stripes: &[HashedBins]) -> u64
     requires { length stripes.now ≤ MAX_STRIPES }
     ensures { result ≡ length (all_entries stripes.now) }
@@ -205,7 +205,7 @@ fn count_all(stripes: &[HashedBins]) -> u64
     sum
 }
 
-// Copies of the entries of each stripe.
+/// Copies of the entries of each stripe.
 fn copies_of(alloc: Global, stripes: &[HashedBins]) -> Result<Vec<(Key, Value)>, NoMemory>
     ensures ok { IfOk result (λ found. WeighSame found.items (all_entries stripes.now)) }
 {
@@ -216,7 +216,7 @@ fn copies_of(alloc: Global, stripes: &[HashedBins]) -> Result<Vec<(Key, Value)>,
     Ok(found)
 }
 
-// Copies of the entries of all stripes, in key order.
+/// Copies of the entries of all stripes, in key order.
 fn sorted_entries(alloc: Global, stripes: &[HashedBins]) -> Result<Vec<(Key, Value)>, NoMemory>
     requires { AreStripes stripes.now }
     ensures ok { IfOk result (λ found. found.items ≡ finmap.entries (whole stripes.now)) }
@@ -226,7 +226,7 @@ fn sorted_entries(alloc: Global, stripes: &[HashedBins]) -> Result<Vec<(Key, Val
     Ok(found)
 }
 
-// The entries of each stripe in columns, for which room is asked first.
+/// The entries of each stripe in columns, for which room is asked first.
 fn columns_of(alloc: Global, stripes: &[HashedBins]) -> Result<EntryColumns, NoMemory>
     requires { length stripes.now ≤ MAX_STRIPES }
     ensures ok { IfOk result (λ found. WeighSame found (all_entries stripes.now)) }
@@ -239,7 +239,7 @@ fn columns_of(alloc: Global, stripes: &[HashedBins]) -> Result<EntryColumns, NoM
     Ok(found)
 }
 
-// The entries of all stripes in key order, each in as many bytes as it needs.
+/// The entries of all stripes in key order, each in as many bytes as it needs.
 fn sorted_columns(alloc: Global, stripes: &[HashedBins]) -> Result<SortedColumns, NoMemory>
     requires { AreStripes stripes.now }
     ensures ok { IfOk result (λ found. found ≡ finmap.entries (whole stripes.now)) }

@@ -67,7 +67,7 @@ pub fn walk(
     Ok(PartReply::new(items, counts))
 }
 
-// How many answers a walk over so many entries gives at most.
+/// How many answers a walk over so many entries gives at most.
 fn most_given(kind: WalkKind, count: usize) -> usize {
     match kind {
         WalkKind::Search => 1,
@@ -75,7 +75,7 @@ fn most_given(kind: WalkKind, count: usize) -> usize {
     }
 }
 
-// Runs the program on a key, its value and the argument: whether it answers bytes, which then lie on the bench.
+/// Runs the program on a key, its value and the argument: whether it answers bytes, which then lie on the bench.
 fn answer(
     program: &Verified,
     key: &[u8],
@@ -97,7 +97,7 @@ fn answer(
     answer_into(program, place, Some(value), arg, machine, answer)
 }
 
-// Adds an answer behind the ones before it, where the walk gives it.
+/// Adds an answer behind the ones before it, where the walk gives it.
 fn keep(kind: WalkKind, items: &mut EntryColumns, key: &[u8], answer: &[u8]) -> Result<(), NoMemory>
     requires key { length key.now ≤ KEY_BYTES }
     requires value { length answer.now ≤ VALUE_BYTES }

@@ -71,7 +71,7 @@ pub enum Keys {
 /// How many stripes apart the threads' own keys lie, where they are to lie apart.
 const FAR: u64 = 8;
 
-// The key of one byte in this stripe of 64: its hash is 31 and the byte.
+/// The key of one byte in this stripe of 64: its hash is 31 and the byte.
 fn key_in_stripe(stripe: u64) -> Result<Key> {
     let byte = stripe.wrapping_add(33) % 64;
     Ok(Key::from_slice(&[byte as u8])?)
@@ -88,7 +88,7 @@ impl Keys {
         })
     }
 
-    // How many keys so many threads call.
+    /// How many keys so many threads call.
     fn count(self, threads: u64) -> u64 {
         match self {
             Keys::Shared(count) => count,
@@ -96,7 +96,7 @@ impl Keys {
         }
     }
 
-    // The key of this number.
+    /// The key of this number.
     fn key(self, number: u64) -> Result<Key> {
         match self {
             Keys::Shared(_) => Ok(numbered_key(number)?),
@@ -104,7 +104,7 @@ impl Keys {
         }
     }
 
-    // The number of the key that the worker calls at this turn.
+    /// The number of the key that the worker calls at this turn.
     fn number(self, worker: u64, turn: u64) -> u64 {
         match self {
             Keys::Shared(count) => worker.wrapping_mul(count / 4).wrapping_add(turn) % count.max(1),
@@ -113,7 +113,7 @@ impl Keys {
     }
 }
 
-// What the threads do.
+/// What the threads do.
 #[derive(Drop)]
 struct Plan<'a> {
     method: Method,
@@ -122,7 +122,7 @@ struct Plan<'a> {
     count: u64,
 }
 
-// Puts the value 1 under each of the keys.
+/// Puts the value 1 under each of the keys.
 fn fill<R: Wait>(rt: &R, map: &StripedMap, pass: &mut Pass, keys: Keys, count: u64) -> Result<()>
     requires { pass.old.map ≡ map.now }
     ensures { pass.new.map ≡ map.now }
@@ -135,7 +135,7 @@ fn fill<R: Wait>(rt: &R, map: &StripedMap, pass: &mut Pass, keys: Keys, count: u
     Ok(())
 }
 
-// Makes the calls of one worker.
+/// Makes the calls of one worker.
 fn make_calls<R: Wait>(
     rt: &R,
     map: &StripedMap,
@@ -156,7 +156,7 @@ fn make_calls<R: Wait>(
     Ok(())
 }
 
-// Makes the calls of all workers, each in a thread of its own where one can be made.
+/// Makes the calls of all workers, each in a thread of its own where one can be made.
 fn make_all_calls<R: Threads + Wait + Sync>(
     rt: &R,
     map: &StripedMap,
@@ -175,7 +175,7 @@ fn make_all_calls<R: Threads + Wait + Sync>(
     thread::for_each_mut(rt, passes, threads, &call);
 }
 
-// The value's number; 0 where there is no value of eight bytes.
+/// The value's number; 0 where there is no value of eight bytes.
 fn number_of(reply: &Reply) -> u64 {
     let Reply::Value(Some(value)) = reply else {
         return 0;
@@ -186,7 +186,7 @@ fn number_of(reply: &Reply) -> u64 {
     }
 }
 
-// The sum of the values of the keys.
+/// The sum of the values of the keys.
 fn sum_of<R: Wait>(rt: &R, map: &StripedMap, pass: &mut Pass, keys: Keys, count: u64) -> Result<u64>
     requires { pass.old.map ≡ map.now }
 {

@@ -50,7 +50,7 @@ fn put(bins: &mut HashedBins, work: Work, number: u64) -> Result<()> {
     Ok(bins.put(&HashedKey::new(&key), &value)?)
 }
 
-// How many bytes the value of a key has.
+/// How many bytes the value of a key has.
 fn bytes_found(bins: &HashedBins, key: &HashedKey<'_>) -> u64 {
     match bins.find(key) {
         Some(found) => found.len() as u64,

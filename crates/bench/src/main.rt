@@ -107,7 +107,7 @@ fn walk_text<R: Threads + Wait + Sync>(rt: &R, alloc: Global, words: &[&str; 4])
     Ok(format!(in alloc; "{scanned} scanned, {given} given")?)
 }
 
-// What one thread does without a shared map.
+/// What one thread does without a shared map.
 fn alone_text(alloc: Global, mode: &str, words: &[&str]) -> Result<String> {
     match (mode, words) {
         ("answer", [name]) => answer_of(alloc, sample(name)?),

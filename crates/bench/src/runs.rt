@@ -45,7 +45,7 @@ fn shaped(alloc: Global, instructions: &[Insn]) -> Result<Shaped> {
     Ok(shape(program)?)
 }
 
-// The empty key, an old value and the argument 2, each number of 8 bytes.
+/// The empty key, an old value and the argument 2, each number of 8 bytes.
 fn input(old: u64) -> Result<Input> {
     Ok(Input {
         key: Key::from_slice(b"")?,
@@ -54,7 +54,7 @@ fn input(old: u64) -> Result<Input> {
     })
 }
 
-// `INPUTS` of them.
+/// `INPUTS` of them.
 fn inputs(alloc: Global) -> Result<Vec<Input>> {
     let mut inputs = Vec::new(alloc);
     for number in 0..INPUTS {
@@ -124,7 +124,7 @@ pub fn run_often(alloc: Global, mode: Mode, sample: Sample, count: u64) -> Resul
     }
 }
 
-// The bytes in hex.
+/// The bytes in hex.
 fn hex(alloc: Global, bytes: &[u8]) -> Result<String> {
     let mut text = String::new(alloc);
     for byte in bytes {

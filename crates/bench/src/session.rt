@@ -40,7 +40,7 @@ const COMPUTE: u8 = 0x17;
 
 const MERGE: u8 = 0x1a;
 
-// The length and the value of 1 in eight bytes, little-endian.
+/// The length and the value of 1 in eight bytes, little-endian.
 const ONE: &[u8] = b"\x00\x08\x01\x00\x00\x00\x00\x00\x00\x00";
 
 const FIRST_PROGRAM: &[u8] = b"\x00\x00\x00\x00\x00\x00\x00\x00";
@@ -58,7 +58,7 @@ impl Ask {
         }
     }
 
-    // Its tag, and the fields behind the key.
+    /// Its tag, and the fields behind the key.
     fn parts(self) -> (u8, [&'static [u8]; 2]) {
         match self {
             Ask::Get => (GET, [b"", b""]),
@@ -70,7 +70,7 @@ impl Ask {
     }
 }
 
-// Adds a frame with this body.
+/// Adds a frame with this body.
 fn add_frame(frames: &mut Vec<u8>, body: &[u8]) -> Result<()> {
     let Ok(length) = u32::try_from(body.len()) else {
         bail!("the body is too long");
@@ -80,7 +80,7 @@ fn add_frame(frames: &mut Vec<u8>, body: &[u8]) -> Result<()> {
     Ok(())
 }
 
-// Adds a request on the key of this number.
+/// Adds a request on the key of this number.
 fn add_request(frames: &mut Vec<u8>, body: &mut Vec<u8>, ask: Ask, number: u64) -> Result<()> {
     let (tag, fields) = ask.parts();
     body.clear();
@@ -92,7 +92,7 @@ fn add_request(frames: &mut Vec<u8>, body: &mut Vec<u8>, ask: Ask, number: u64) 
     add_frame(frames, body)
 }
 
-// A request on each of the keys.
+/// A request on each of the keys.
 fn add_block(alloc: Global, frames: &mut Vec<u8>, ask: Ask) -> Result<()> {
     let mut body = Vec::new(alloc);
     for number in 0..BLOCK {
@@ -101,7 +101,7 @@ fn add_block(alloc: Global, frames: &mut Vec<u8>, ask: Ask) -> Result<()> {
     Ok(())
 }
 
-// Says hello, registers the sum, and puts the value 1 under each key.
+/// Says hello, registers the sum, and puts the value 1 under each key.
 fn opening(alloc: Global) -> Result<Vec<u8>> {
     let mut frames = Vec::new(alloc);
     add_frame(&mut frames, HELLO)?;
@@ -116,7 +116,7 @@ fn opening(alloc: Global) -> Result<Vec<u8>> {
     Ok(frames)
 }
 
-// The opening, and so many blocks.
+/// The opening, and so many blocks.
 fn reader(alloc: Global, ask: Ask, times: u64) -> Result<Repeated> {
     let mut bytes = opening(alloc)?;
     if times == 0 {

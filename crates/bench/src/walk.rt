@@ -35,7 +35,7 @@ impl Walk {
     }
 }
 
-// Puts the value 1 under so many keys.
+/// Puts the value 1 under so many keys.
 fn fill<R: Wait>(rt: &R, map: &StripedMap, pass: &mut Pass, entries: u64) -> Result<()>
     requires { pass.old.map ≡ map.now }
     ensures { pass.new.map ≡ map.now }
@@ -48,7 +48,7 @@ fn fill<R: Wait>(rt: &R, map: &StripedMap, pass: &mut Pass, entries: u64) -> Res
     Ok(())
 }
 
-// A team of all passes but one, which has put so many entries.
+/// A team of all passes but one, which has put so many entries.
 fn filled<R: Wait>(rt: &R, map: &StripedMap, mut passes: Vec<Pass>, entries: u64) -> Result<Team>
     requires { All (λ pass. pass.map ≡ map.now) passes.items }
     ensures { IfOk result (λ team. All (λ pass. pass.map ≡ map.now) team.passes.items) }
@@ -61,7 +61,7 @@ fn filled<R: Wait>(rt: &R, map: &StripedMap, mut passes: Vec<Pass>, entries: u64
     Ok(team)
 }
 
-// One walk, and the team again.
+/// One walk, and the team again.
 fn walked<R: Threads + Wait + Sync>(
     rt: &R,
     alloc: Global,
@@ -81,7 +81,7 @@ fn walked<R: Threads + Wait + Sync>(
     }
 }
 
-// So many walks by one team: how many entries all of them scanned and gave, modulo 2^64.
+/// So many walks by one team: how many entries all of them scanned and gave, modulo 2^64.
 fn walked_often<R: Threads + Wait + Sync>(
     rt: &R,
     alloc: Global,

@@ -37,7 +37,7 @@ impl StripedMap {
     }
 }
 
-// Takes each stripe, and copies the entries of each in turn. The stripes stay held.
+/// Takes each stripe, and copies the entries of each in turn. The stripes stay held.
 fn entries_out<B: Bins + Drop, R: Wait>(
     rt: &R,
     alloc: Global,

@@ -22,14 +22,14 @@ use std::alloc::Global;
 use std::snapshot::Snapshot;
 use verifier::Verified;
 
-// Nothing was done.
+/// Nothing was done.
 struct Nothing;
 
 impl Shows<()> for Nothing {
     ghost shows = { λ _ actions. actions ≡ [] };
 }
 
-// A call, the kind of its reply, and the place where the bytes of the replied value were left.
+/// A call, the kind of its reply, and the place where the bytes of the replied value were left.
 #[derive(Drop)]
 struct Answered<'a> {
     call: &'a HashedCall<'a>,
@@ -37,7 +37,7 @@ struct Answered<'a> {
     bytes: &'a Value,
 }
 
-// The call was made.
+/// The call was made.
 struct Calling;
 
 impl<'a> Shows<Answered<'a>> for Calling {
@@ -45,14 +45,14 @@ impl<'a> Shows<Answered<'a>> for Calling {
         actions ≡ called done.call.now (reply_by done.kind done.bytes.now) ∷ [] };
 }
 
-// The entries were found.
+/// The entries were found.
 struct Scanning;
 
 impl<B: Bins> Shows<Snapshot<B>> for Scanning {
     ghost shows = { λ found actions. actions ≡ scanned (map.entries (B.table found.value)) ∷ [] };
 }
 
-// What was replaced, by what, and how many.
+/// What was replaced, by what, and how many.
 #[derive(Drop)]
 struct Replacement<'a, B> {
     program: &'a Verified,
@@ -61,7 +61,7 @@ struct Replacement<'a, B> {
     before: Snapshot<B>,
 }
 
-// The values were replaced.
+/// The values were replaced.
 struct Replacing;
 
 impl<'a, B: Bins> Shows<Replacement<'a, B>> for Replacing {

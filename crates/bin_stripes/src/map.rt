@@ -70,7 +70,7 @@ impl StripedMap {
         atomic_methods::stripe_of(key, self.stripes())
     }
 
-    // The stripe of the call's key.
+    /// The stripe of the call's key.
     fn stripe_for(&self, call: &HashedCall<'_>) -> usize
         ensures stripe { result ≡ stripe_of (stripes_of self.now) call.now.key }
         ensures range { result < stripes_of self.now }

@@ -44,7 +44,7 @@ impl StripedMap {
     }
 }
 
-// The map and its passes.
+/// The map and its passes.
 #[tactic(auto, using(crate::proofs::OpenedLemmas::serve_all))]
 fn opened(alloc: Global, stripes: u64, passes: u64) -> Result<(StripedMap, Vec<Pass>), NoMemory>
     requires stripes { IsStripeCount stripes }
@@ -61,7 +61,7 @@ fn opened(alloc: Global, stripes: u64, passes: u64) -> Result<(StripedMap, Vec<P
     Ok((StripedMap { table }, all))
 }
 
-// The words and the bins of the stripes of a new map.
+/// The words and the bins of the stripes of a new map.
 fn free_stripes<B: Bins + Drop>(
     alloc: Global,
     stripes: u64,
@@ -79,7 +79,7 @@ fn free_stripes<B: Bins + Drop>(
     Ok((words, slots))
 }
 
-// So many words of 0.
+/// So many words of 0.
 fn zero_words(alloc: Global, count: u64) -> Result<Vec<u64>, NoMemory>
     ensures words { IfOk result (λ words. words.items ≡ replicate count 0) }
 {
@@ -90,7 +90,7 @@ fn zero_words(alloc: Global, count: u64) -> Result<Vec<u64>, NoMemory>
     Ok(words)
 }
 
-// A pass for each number that the seat carries.
+/// A pass for each number that the seat carries.
 fn dealt<B: Bins>(
     alloc: Global,
     table: &Stripes<B>,
@@ -115,7 +115,7 @@ fn dealt<B: Bins>(
     Ok(all)
 }
 
-// The pass of a seat that carries one number and knows nothing.
+/// The pass of a seat that carries one number and knows nothing.
 fn dealt_pass<B: Bins>(seat: PassSeat<B>) -> Pass
     requires new { (passes : ℕ) × ((number : ℕ) × (seat.me ≡ (newcomer seat.table_id.slots passes (number ∷ []), []))) }
     ensures pass { result ≡ record { map = seat.table_id; view = seat.me.0 } }

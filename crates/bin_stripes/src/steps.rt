@@ -121,7 +121,7 @@ pub(crate) fn let_go<B: Bins + Drop, T, M: Shows<T>>(
     release::<B, T, Brand>(table, seat, stripe, what);
 }
 
-// The swap of the word to 0. The actions that it adds are those of which `J` says something, and `what` tells it.
+/// The swap of the word to 0. The actions that it adds are those of which `J` says something, and `what` tells it.
 fn release<B: Bins + Drop, T, J: May>(
     table: &Stripes<B>,
     seat: &mut PassSeat<B>,

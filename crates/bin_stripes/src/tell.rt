@@ -60,7 +60,7 @@ impl StripedMap {
     }
 }
 
-// Gives the seat what both carried, and spends the other.
+/// Gives the seat what both carried, and spends the other.
 fn unite<B: Bins + Drop>(table: &Stripes<B>, seat: &mut PassSeat<B>, other: PassSeat<B>)
     requires table { (seat.old.table_id ≡ table.now.table_id) × (other.table_id ≡ table.now.table_id)
         × (0 < table.now.table_id.words) }
@@ -71,7 +71,7 @@ fn unite<B: Bins + Drop>(table: &Stripes<B>, seat: &mut PassSeat<B>, other: Pass
     table.join_seat::<Unite>(seat, other);
 }
 
-// The seat hears of all that the one at rest has seen: it learns of it, and a look at each word shows it.
+/// The seat hears of all that the one at rest has seen: it learns of it, and a look at each word shows it.
 fn hear<B: Bins + Drop>(
     table: &Stripes<B>,
     from: &Known<View<GhostAction>>,

@@ -34,7 +34,7 @@ pub enum Link {
     Next(usize),
 }
 
-// How far the bits that told the stripe reach.
+/// How far the bits that told the stripe reach.
 fn shift_of(stripes: u64) -> u32
     ensures range { result < 32 }
     ensures value { IsPowerOfTwo stripes → stripes < 2 ^ 32 → 2 ^ result ≡ stripes }
@@ -42,7 +42,7 @@ fn shift_of(stripes: u64) -> u32
     stripes.trailing_zeros().min(31)
 }
 
-// The bin of a hash.
+/// The bin of a hash.
 #[inline(always)]
 fn bin_of(shift: u32, bins: usize, hash: u32) -> usize
     requires shift { shift < 32 }
@@ -53,7 +53,7 @@ fn bin_of(shift: u32, bins: usize, hash: u32) -> usize
     (hash >> shift) as usize & (bins - 1)
 }
 
-// Chains all positions, from heads that lead nowhere.
+/// Chains all positions, from heads that lead nowhere.
 fn chain_all(shift: u32, heads: &mut Vec<usize>, hashes: &[u32], nexts: &mut Vec<usize>)
     requires shift { shift < 32 }
     requires bins { IsBinCount (length heads.old.items) }
@@ -134,7 +134,7 @@ impl Chains {
         steps
     }
 
-    // The first position with this hash along a chain.
+    /// The first position with this hash along a chain.
     #[inline(always)]
     fn find_from(&self, first: usize, hash: u32) -> Option<usize>
         requires chained { AreChained self.now }
@@ -175,7 +175,7 @@ impl Chains {
         self.find_from(self.nexts[position], hash)
     }
 
-    // A further position, for this hash.
+    /// A further position, for this hash.
     fn add(&mut self, hash: u32) -> Result<(), NoMemory>
         requires chained { AreChained self.old }
         ensures chained { AreChained self.new }
@@ -192,7 +192,7 @@ impl Chains {
         Ok(())
     }
 
-    // Whether the hashes are more than twice the bins, and there may be more bins.
+    /// Whether the hashes are more than twice the bins, and there may be more bins.
     fn is_crowded(&self) -> bool
         requires chained { AreChained self.now }
         ensures exact { IsTrue result ↔ IsCrowded (length self.now.heads.items) self.now.hashes.items }
@@ -200,7 +200,7 @@ impl Chains {
         self.hashes.len() > 2 * self.heads.len() && self.heads.len() < MOST_BINS
     }
 
-    // Twice the bins, where there is memory.
+    /// Twice the bins, where there is memory.
     fn double(&mut self) -> Result<(), NoMemory>
         requires chained { AreChained self.old }
         requires bounded { length self.old.heads.items < MOST_BINS }
@@ -236,7 +236,7 @@ impl Chains {
         Ok(())
     }
 
-    // Takes the last position out of its chain, of which it is the head, and gives its hash.
+    /// Takes the last position out of its chain, of which it is the head, and gives its hash.
     fn take_last(&mut self) -> u32
         requires chained { AreChained self.old }
         requires some { 0 < length self.old.hashes.items }
@@ -254,7 +254,7 @@ impl Chains {
         hash
     }
 
-    // The link of a bin that leads, or would lead, to a position.
+    /// The link of a bin that leads, or would lead, to a position.
     fn link_to(&self, bin: usize, position: usize) -> Link
         requires linked { AreLinked self.now }
         requires bin { bin < length self.now.heads.items }
@@ -272,7 +272,7 @@ impl Chains {
         link
     }
 
-    // The position that a link leads to, counted from 1.
+    /// The position that a link leads to, counted from 1.
     fn follow(&self, link: Link) -> usize
         requires { IsLink self.now link }
         ensures value { result ≡ follow self.now.heads.items self.now.nexts.items link }
@@ -283,7 +283,7 @@ impl Chains {
         }
     }
 
-    // Makes a link lead elsewhere.
+    /// Makes a link lead elsewhere.
     fn relink(&mut self, link: Link, at: usize)
         requires { IsLink self.old link }
         ensures value { Relinked link at self.old self.new }
@@ -294,7 +294,7 @@ impl Chains {
         }
     }
 
-    // Gives a position another hash: takes it out of the one's chain, and links it in the other's.
+    /// Gives a position another hash: takes it out of the one's chain, and links it in the other's.
     fn rehash(&mut self, position: usize, hash: u32)
         requires chained { AreChained self.old }
         requires range { position < length self.old.hashes.items }

@@ -45,7 +45,7 @@ pub(crate) fn key_at(rows: &Rows, position: usize) -> Key
     key.unwrap()
 }
 
-// A copy of the entry at a position.
+/// A copy of the entry at a position.
 fn copy_at(rows: &Rows, position: usize) -> (Key, Value)
     requires { position < length rows.now.keys }
     ensures { result ≡ (string_at rows.now.keys position, string_at rows.now.values position) }

@@ -156,7 +156,7 @@ impl EntryColumns {
     }
 }
 
-// Adds copies of these entries to the rows, in the room that is there.
+/// Adds copies of these entries to the rows, in the room that is there.
 fn push_entries(rows: &mut Rows, entries: &[(Key, Value)])
     requires room { length rows.old.keys + length entries.now ≤ rows.old.room }
     ensures keys { rows.new.keys ≡ rows.old.keys ++ map (λ entry. entry.0) entries.now }
@@ -167,7 +167,7 @@ fn push_entries(rows: &mut Rows, entries: &[(Key, Value)])
     }
 }
 
-// How the keys at two positions compare.
+/// How the keys at two positions compare.
 #[inline(always)]
 fn compare_at(rows: &Rows, one: usize, other: usize) -> Ordering
     ensures { result ≡ by_bytes (string_at rows.now.keys one) (string_at rows.now.keys other) }
@@ -175,8 +175,8 @@ fn compare_at(rows: &Rows, one: usize, other: usize) -> Ordering
     rows.get_any(one).0.cmp(rows.get_any(other).0)
 }
 
-// All positions, sorted by the first bytes of the keys that stand there. That is nearly the order of the keys, and quick,
-// since numbers are compared: but for keys that begin alike it leaves nothing to do.
+/// All positions, sorted by the first bytes of the keys that stand there. That is nearly the order of the keys, and quick,
+/// since numbers are compared: but for keys that begin alike it leaves nothing to do.
 fn nearly_ordered(alloc: Global, rows: &Rows) -> Result<Vec<usize>, NoMemory>
     ensures moved { IfOk result (λ order. IsPermutation (positions_of rows.now.keys) order.items) }
 {
@@ -193,7 +193,7 @@ fn nearly_ordered(alloc: Global, rows: &Rows) -> Result<Vec<usize>, NoMemory>
     Ok(order)
 }
 
-// All positions, in the order of the keys that stand there.
+/// All positions, in the order of the keys that stand there.
 fn order_of(alloc: Global, rows: &Rows) -> Result<Vec<usize>, NoMemory>
     ensures moved { IfOk result (λ order. IsPermutation (positions_of rows.now.keys) order.items) }
     ensures order { IfOk result (λ order. IsSortedBy (is_before rows.now.keys) order.items) }

@@ -19,7 +19,7 @@ pub struct EntryPlace {
     pub position: usize,
 }
 
-// How the entries of a list lie.
+/// How the entries of a list lie.
 #[derive(Drop)]
 enum Lying {
     // In their order.
@@ -117,7 +117,7 @@ impl EntryList {
         true
     }
 
-    // Whether the entry at a position has this key and this value.
+    /// Whether the entry at a position has this key and this value.
     fn is_at(&self, position: usize, key: &[u8], value: &[u8]) -> bool
         requires { position < length self.now }
         ensures exact { IsTrue result ↔ (entry_of self.now position ≡ (key.now, value.now)) }
@@ -139,7 +139,7 @@ impl EntryList {
     }
 }
 
-// The key and the value at a place; none of the bytes where nothing lies.
+/// The key and the value at a place; none of the bytes where nothing lies.
 #[inline(always)]
 fn get_at(lists: &[EntryColumns], place: EntryPlace) -> (&[u8], &[u8])
     ensures entry { ◌≡◌ {A = Entry} (result.0.now, result.1.now) (entry_at lists.now place) }

@@ -24,7 +24,7 @@ pub(crate) enum Finder {
     Keys(Tree),
 }
 
-// The word of eight bytes; none of another number of them.
+/// The word of eight bytes; none of another number of them.
 #[inline(always)]
 fn word_of(bytes: &[u8]) -> Option<u64>
     ensures word { IfSome result (λ word. word ≡ from_le_bytes w64 bytes.now) }
@@ -36,7 +36,7 @@ fn word_of(bytes: &[u8]) -> Option<u64>
     }
 }
 
-// Whether these are the same bytes. Eight are compared as one word, without a call.
+/// Whether these are the same bytes. Eight are compared as one word, without a call.
 #[inline(always)]
 fn are_same(one: &[u8], other: &[u8]) -> bool
     ensures { IsTrue result ↔ (one.now ≡ other.now) }
@@ -47,7 +47,7 @@ fn are_same(one: &[u8], other: &[u8]) -> bool
     }
 }
 
-// Whether the key at a position is these bytes.
+/// Whether the key at a position is these bytes.
 #[inline(always)]
 fn is_at(rows: &Rows, position: usize, bytes: &[u8]) -> bool
     requires { position < length rows.now.keys }
@@ -56,7 +56,7 @@ fn is_at(rows: &Rows, position: usize, bytes: &[u8]) -> bool
     are_same(rows.key(position), bytes)
 }
 
-// The position of the key with this hash.
+/// The position of the key with this hash.
 #[inline(always)]
 fn position_with(index: &Index, rows: &Rows, key: &Key, hash: u32) -> Option<usize>
     requires index { index.now.hashes ≡ map hash_of rows.now.keys }
@@ -159,7 +159,7 @@ impl Finder {
         }
     }
 
-    // Counts the steps along the chain that the last key came into; whether chains have become long.
+    /// Counts the steps along the chain that the last key came into; whether chains have become long.
     #[inline(always)]
     fn is_slow(&mut self) -> bool
         ensures same { self.new ≡ self.old }
@@ -170,7 +170,7 @@ impl Finder {
         }
     }
 
-    // Takes a tree in place of the index, where there is memory for it.
+    /// Takes a tree in place of the index, where there is memory for it.
     #[cold]
     fn plant(&mut self, rows: &Rows)
         requires finds { Finds self.old rows.now.keys }

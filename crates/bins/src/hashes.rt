@@ -6,7 +6,7 @@ use bpf_model::Key;
 use std::cell::Cell;
 use std::marker::Model;
 
-// A hash with four bytes more: it is multiplied once, by 31 to the fourth.
+/// A hash with four bytes more: it is multiplied once, by 31 to the fourth.
 #[inline(always)]
 fn with_four(hash: u32, a: u8, b: u8, c: u8, d: u8) -> u32
     ensures { result ≡ fold hash_more hash (a ∷ b ∷ c ∷ d ∷ []) }
@@ -15,7 +15,7 @@ fn with_four(hash: u32, a: u8, b: u8, c: u8, d: u8) -> u32
     hash.wrapping_mul(923_521).wrapping_add(added)
 }
 
-// The hash of all bytes but three at most, and these.
+/// The hash of all bytes but three at most, and these.
 #[inline(always)]
 fn hash_fours(bytes: &[u8]) -> (u32, &[u8])
     ensures { fold hash_more result.0 result.1.now ≡ fold hash_more 1 bytes.now }

@@ -117,7 +117,7 @@ impl Index {
         steps > FEW_STEPS && self.count_steps(steps)
     }
 
-    // Adds steps beyond a few to the sum; whether the sum is more than the hashes, and then it begins anew.
+    /// Adds steps beyond a few to the sum; whether the sum is more than the hashes, and then it begins anew.
     #[cold]
     fn count_steps(&mut self, steps: usize) -> bool
         ensures same { self.new ≡ self.old }

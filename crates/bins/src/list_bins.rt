@@ -36,7 +36,7 @@ impl Model for ListBins {
     ghost invariant = { λ b. T (map.is_sorted by_bytes b.entries.items) };
 }
 
-// Where this key stands, or where it would go.
+/// Where this key stands, or where it would go.
 fn position_with(entries: &[(Key, Value)], key: &Key) -> Result<usize, usize>
     requires { T (is_sorted by_bytes entries.now) }
     ensures bound { IsSearchInRange result (length entries.now) }
@@ -46,7 +46,7 @@ fn position_with(entries: &[(Key, Value)], key: &Key) -> Result<usize, usize>
     entries.binary_search_by(|entry| entry.0.cmp(key))
 }
 
-// Where the key stands, or where it would go.
+/// Where the key stands, or where it would go.
 fn position_of(entries: &[(Key, Value)], key: &HashedKey<'_>) -> Result<usize, usize>
     requires { T (is_sorted by_bytes entries.now) }
     ensures bound { IsSearchInRange result (length entries.now) }
@@ -56,7 +56,7 @@ fn position_of(entries: &[(Key, Value)], key: &HashedKey<'_>) -> Result<usize, u
     position_with(entries, key.key())
 }
 
-// Adds an entry at a position; the ones from there on move.
+/// Adds an entry at a position; the ones from there on move.
 #[inline(always)]
 fn add_entry(
     entries: &mut Vec<(Key, Value)>,

@@ -30,7 +30,7 @@ pub(crate) struct RawRows {
 }
 
 impl RawRows {
-    // No rows.
+    /// No rows.
     pub(crate) fn new(alloc: Global) -> RawRows
         ensures rows { AreIn result }
         ensures keys { keys_in result ≡ [] }
@@ -45,7 +45,7 @@ impl RawRows {
         }
     }
 
-    // How many positions there are.
+    /// How many positions there are.
     #[inline(always)]
     pub(crate) fn len(&self) -> usize
         ensures value { result ≡ length self.now.places.items }
@@ -53,7 +53,7 @@ impl RawRows {
         self.places.len()
     }
 
-    // The key and the value of a row.
+    /// The key and the value of a row.
     #[inline(always)]
     fn entry_in(&self, width: Width, at: usize) -> (&[u8], &[u8])
         requires { at < length (rows_in self.now width) }
@@ -69,7 +69,7 @@ impl RawRows {
         }
     }
 
-    // Sets the value of a row.
+    /// Sets the value of a row.
     #[inline(always)]
     fn set_value_in(&mut self, width: Width, at: usize, value: &[u8])
         requires range { at < length (rows_in self.old width) }
@@ -86,7 +86,7 @@ impl RawRows {
         }
     }
 
-    // Tells a row which position's place names it.
+    /// Tells a row which position's place names it.
     #[inline(always)]
     fn move_in(&mut self, width: Width, at: usize, owner: usize)
         requires range { at < length (rows_in self.old width) }
@@ -103,7 +103,7 @@ impl RawRows {
         }
     }
 
-    // Adds a row behind the others of its width.
+    /// Adds a row behind the others of its width.
     #[inline(always)]
     fn add_in(&mut self, width: Width, owner: usize, key: &[u8], value: &[u8])
         requires room { length (rows_in self.old width) < room_of self.old width }
@@ -120,7 +120,7 @@ impl RawRows {
         }
     }
 
-    // Removes a row; the last one of its width takes the gap. Whose the last one is.
+    /// Removes a row; the last one of its width takes the gap. Whose the last one is.
     #[inline(always)]
     fn remove_in(&mut self, width: Width, at: usize) -> usize
         requires { at < length (rows_in self.old width) }
@@ -136,7 +136,7 @@ impl RawRows {
         }
     }
 
-    // How many rows of a width there are.
+    /// How many rows of a width there are.
     #[inline(always)]
     fn len_in(&self, width: Width) -> usize
         ensures value { result ≡ length (rows_in self.now width) }
@@ -148,7 +148,7 @@ impl RawRows {
         }
     }
 
-    // The key and the value at a position.
+    /// The key and the value at a position.
     #[inline(always)]
     pub(crate) fn entry(&self, position: usize) -> (&[u8], &[u8])
         requires rows { AreIn self.now }
@@ -165,7 +165,7 @@ impl RawRows {
         }
     }
 
-    // Room for so many more positions, and for a row of each width for each.
+    /// Room for so many more positions, and for a row of each width for each.
     pub(crate) fn reserve(&mut self, more: usize) -> Result<(), NoMemory>
         requires bounded { length self.old.places.items + more ≤ 2 ^ 57 }
         requires room { HasRoom self.old (length self.old.places.items) }
@@ -191,7 +191,7 @@ impl RawRows {
         Ok(())
     }
 
-    // Gives up the row of a position.
+    /// Gives up the row of a position.
     fn vacate(&mut self, position: usize)
         requires rows { AreIn self.old }
         requires range { position < length self.old.places.items }
@@ -210,7 +210,7 @@ impl RawRows {
         }
     }
 
-    // Writes a key and a value into a new row of a vacant position: the narrowest in which they have room.
+    /// Writes a key and a value into a new row of a vacant position: the narrowest in which they have room.
     #[inline(always)]
     fn fill(&mut self, position: usize, key: &[u8], value: &[u8])
         requires rows { AreIn self.old }
@@ -231,7 +231,7 @@ impl RawRows {
         self.places[position] = PlaceWord::new(Place::In(width, at));
     }
 
-    // Gives a position a new row, with the same key and this value.
+    /// Gives a position a new row, with the same key and this value.
     #[inline(never)]
     fn refill(&mut self, position: usize, bytes: &[u8])
         requires rows { AreIn self.old }
@@ -249,7 +249,7 @@ impl RawRows {
         self.fill(position, key.as_slice(), bytes);
     }
 
-    // Whether a row is of the narrowest width with this value too.
+    /// Whether a row is of the narrowest width with this value too.
     #[inline(always)]
     fn stays(&self, width: Width, at: usize, bytes: &[u8]) -> bool
         requires range { at < length (rows_in self.now width) }
@@ -260,7 +260,7 @@ impl RawRows {
         Width::of(key.len(), bytes.len()) == width
     }
 
-    // Sets the value of a position. A row that stays as wide is written where it lies.
+    /// Sets the value of a position. A row that stays as wide is written where it lies.
     #[inline(never)]
     fn set_any(&mut self, position: usize, bytes: &[u8])
         requires rows { AreIn self.old }
@@ -281,7 +281,7 @@ impl RawRows {
         }
     }
 
-    // Sets the value of a position: a short one of a short row at once.
+    /// Sets the value of a position: a short one of a short row at once.
     #[inline(always)]
     pub(crate) fn set_value(&mut self, position: usize, bytes: &[u8])
         requires rows { AreIn self.old }
@@ -302,7 +302,7 @@ impl RawRows {
         }
     }
 
-    // Adds a vacant position behind the others.
+    /// Adds a vacant position behind the others.
     #[inline(always)]
     fn push_vacant(&mut self)
         requires rows { AreIn self.old }
@@ -319,7 +319,7 @@ impl RawRows {
         self.places.push_reserved(PlaceWord::new(Place::Vacant));
     }
 
-    // Adds a key and a value behind the others.
+    /// Adds a key and a value behind the others.
     pub(crate) fn push_reserved(&mut self, key: &[u8], value: &[u8])
         requires rows { AreIn self.old }
         requires few { length self.old.places.items < MOST_ROWS }
@@ -338,7 +338,7 @@ impl RawRows {
         self.fill(position, key, value);
     }
 
-    // Adds a copy of a short row behind the others.
+    /// Adds a copy of a short row behind the others.
     #[inline(always)]
     fn push_short(&mut self, row: &ShortRow)
         requires rows { AreIn self.old }
@@ -358,7 +358,7 @@ impl RawRows {
         self.places[position] = PlaceWord::new(Place::In(Width::Short, at));
     }
 
-    // Adds a copy of another list's row behind the others.
+    /// Adds a copy of another list's row behind the others.
     #[inline(always)]
     fn push_from(&mut self, other: &RawRows, position: usize)
         requires rows { AreIn self.old }
@@ -382,7 +382,7 @@ impl RawRows {
         }
     }
 
-    // Adds copies of all of another list's rows behind the others.
+    /// Adds copies of all of another list's rows behind the others.
     pub(crate) fn push_all(&mut self, other: &RawRows)
         requires rows { AreIn self.old }
         requires other { AreIn other.now }
@@ -400,7 +400,7 @@ impl RawRows {
         }
     }
 
-    // Takes out a vacant position; the last position takes the gap.
+    /// Takes out a vacant position; the last position takes the gap.
     fn take_vacant(&mut self, position: usize)
         requires rows { AreIn self.old }
         requires range { position < length self.old.places.items }
@@ -418,7 +418,7 @@ impl RawRows {
         self.places.swap_remove(position);
     }
 
-    // Takes out a position with its row; the last position takes the gap.
+    /// Takes out a position with its row; the last position takes the gap.
     pub(crate) fn swap_remove(&mut self, position: usize)
         requires rows { AreIn self.old }
         requires range { position < length self.old.places.items }

@@ -75,7 +75,7 @@ struct Workbench {
     answer: Value,
 }
 
-// Replaces the value at a position, as `replace_value` does.
+/// Replaces the value at a position, as `replace_value` does.
 fn replace_at(
     program: &Verified,
     rows: &mut Rows,

@@ -122,7 +122,7 @@ impl<const MOST: usize> Model for BoundedBytes<MOST> {
 }
 
 impl<const MOST: usize> BoundedBytes<MOST> {
-    // No bytes.
+    /// No bytes.
     #[inline(always)]
     fn new() -> BoundedBytes<MOST>
         requires { MOST < 65536 }
@@ -134,7 +134,7 @@ impl<const MOST: usize> BoundedBytes<MOST> {
         }
     }
 
-    // The bytes.
+    /// The bytes.
     #[inline(always)]
     fn as_slice(&self) -> &[u8]
         ensures value { result.now ≡ self.now }
@@ -143,7 +143,7 @@ impl<const MOST: usize> BoundedBytes<MOST> {
         &self.bytes[..self.len as usize]
     }
 
-    // Copies another one in place.
+    /// Copies another one in place.
     #[inline(always)]
     fn copy_from(&mut self, other: &BoundedBytes<MOST>)
         ensures { self.new ≡ other.now }
@@ -152,7 +152,7 @@ impl<const MOST: usize> BoundedBytes<MOST> {
         self.len = other.len;
     }
 
-    // Copies the bytes in place; eight bytes, which a number has, as one word.
+    /// Copies the bytes in place; eight bytes, which a number has, as one word.
     #[inline(always)]
     fn set_from(&mut self, bytes: &[u8])
         requires { length bytes.now ≤ MOST }

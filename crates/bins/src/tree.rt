@@ -42,7 +42,7 @@ impl Model for IndexSize {
     ghost invariant = { λ size. IsBinCount size.bins × IsPowerOfTwo size.stripes };
 }
 
-// As many bins as before, or twice as many where so many entries are more than twice the bins.
+/// As many bins as before, or twice as many where so many entries are more than twice the bins.
 fn bins_for(bins: u64, entries: usize) -> u64
     requires { IsBinCount bins }
     ensures count { IsBinCount result }
@@ -66,7 +66,7 @@ impl IndexSize {
         }
     }
 
-    // How many bins.
+    /// How many bins.
     fn bins(&self) -> u64
         ensures value { result ≡ self.now.bins }
         ensures count { IsBinCount result }
@@ -74,7 +74,7 @@ impl IndexSize {
         self.bins
     }
 
-    // How many stripes.
+    /// How many stripes.
     fn stripes(&self) -> u64
         ensures value { result ≡ self.now.stripes }
         ensures power { IsPowerOfTwo result }
@@ -82,7 +82,7 @@ impl IndexSize {
         self.stripes
     }
 
-    // The bins double where so many entries are more than twice the bins.
+    /// The bins double where so many entries are more than twice the bins.
     fn count_entries(&mut self, entries: usize)
         ensures stripes { self.new.stripes ≡ self.old.stripes }
     {
@@ -90,7 +90,7 @@ impl IndexSize {
     }
 }
 
-// Enters a key with its position.
+/// Enters a key with its position.
 fn add_position(
     positions: &mut BTreeMap<Key, usize>,
     key: Key,
@@ -103,7 +103,7 @@ fn add_position(
     Ok(())
 }
 
-// The position of each key. `NoMemory` where a request for memory was refused.
+/// The position of each key. `NoMemory` where a request for memory was refused.
 fn positions_by_key(alloc: Global, rows: &Rows) -> Result<BTreeMap<Key, usize>, NoMemory>
     requires { StandOnce rows.now.keys }
     ensures { IfOk result (λ positions. Locates positions rows.now.keys) }
@@ -115,7 +115,7 @@ fn positions_by_key(alloc: Global, rows: &Rows) -> Result<BTreeMap<Key, usize>, 
     Ok(positions)
 }
 
-// Gives a key that has a position another one.
+/// Gives a key that has a position another one.
 fn move_position(positions: &mut BTreeMap<Key, usize>, key: &Key, position: usize)
     ensures { IsSome (get by_bytes positions.old key.now) → Sets positions.old positions.new key.now (Some position) }
 {

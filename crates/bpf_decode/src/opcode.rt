@@ -37,7 +37,7 @@ impl Source {
         }
     }
 
-    // dst and an operand of this source, and the offset or not
+    /// dst and an operand of this source, and the offset or not
     fn used_fields(self, offset: bool) -> UsedFields
         ensures { result ≡ operands (source_number self) offset }
     {

@@ -90,7 +90,7 @@ fn read_alu(op: AluOp, source: Source, width: Width, fields: Fields) -> Option<I
     })
 }
 
-// a move of the whole operand, or of its low part with its sign extended
+/// a move of the whole operand, or of its low part with its sign extended
 fn read_move(source: Source, width: Width, fields: Fields) -> Option<Insn>
     requires opcode { fields.opcode ≡ opcode_byte (Mov source width) }
     requires operands { AreOperands (used_by (Mov source width)) fields }
@@ -139,7 +139,7 @@ fn read_branch(test: JumpOp, source: Source, width: Width, fields: Fields) -> In
     }
 }
 
-// the operation with the sign that the offset says
+/// the operation with the sign that the offset says
 fn with_sign(op: AluOp, offset: i16) -> Option<AluOp>
     requires { IsZeroUnlessUsed (is_division (code_of op)) offset }
     ensures code { IfSome result (λ signed. code_of signed ≡ code_of op) }

@@ -132,7 +132,7 @@ fn offset(insn: &Insn) -> i16
     }
 }
 
-// the offset that says whether a quotient or a remainder is signed
+/// the offset that says whether a quotient or a remainder is signed
 fn sign_offset(op: AluOp) -> i16
     ensures { result ≡ offset_of op }
 {

@@ -175,7 +175,7 @@ fn remainder_signed_double_words(a: u64, b: u64) -> u64
 }
 
 impl AluOp {
-    // on numbers of the width
+    /// on numbers of the width
     fn apply_low(self, width: Width, a: u64, b: u64) -> u64
         requires first { a < modulus width }
         requires second { b < modulus width }
@@ -206,7 +206,7 @@ impl AluOp {
     }
 }
 
-// the low 8, 16 and 32 bits as two's complement numbers
+/// the low 8, 16 and 32 bits as two's complement numbers
 fn signed_byte(n: u64) -> i8
     ensures { result ≡ cast_signed w8 (n % 2 ^ 8) }
 {

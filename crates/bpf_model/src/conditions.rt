@@ -99,7 +99,7 @@ impl Condition {
         }
     }
 
-    // by the numbers and their signed readings
+    /// by the numbers and their signed readings
     fn holds_of(self, a: u64, b: u64, signed_a: i64, signed_b: i64) -> bool
         ensures { result ≡ compare self a b signed_a signed_b }
     {

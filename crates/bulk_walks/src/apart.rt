@@ -24,7 +24,7 @@ pub(crate) fn for_each_apart<R: Threads + Sync, T: Send, F: Fn(usize, &mut T) + 
     each_from(rt, f, 0, s);
 }
 
-// The calls at the places of a part of the whole, which begins at `base`.
+/// The calls at the places of a part of the whole, which begins at `base`.
 #[cycle(from)]
 fn each_from<R: Threads + Sync, T: Send, F: Fn(usize, &mut T) + Sync>(
     rt: &R,
@@ -43,8 +43,8 @@ fn each_from<R: Threads + Sync, T: Send, F: Fn(usize, &mut T) + Sync>(
     both(rt, f, base, first, base + 1, rest);
 }
 
-// The calls of two parts, those of the first in a new thread. A function of its own, so that what its closures require is what
-// it is given.
+/// The calls of two parts, those of the first in a new thread. A function of its own, so that what its closures require is what
+/// it is given.
 #[cycle(from)]
 fn both<R: Threads + Sync, T: Send, F: Fn(usize, &mut T) + Sync>(
     rt: &R,
@@ -71,7 +71,7 @@ fn both<R: Threads + Sync, T: Send, F: Fn(usize, &mut T) + Sync>(
     join_mut(rt, &mut front, &mut back);
 }
 
-// The calls at the places of a part, one after the other.
+/// The calls at the places of a part, one after the other.
 fn in_turn<T, F: Fn(usize, &mut T)>(f: &F, base: usize, s: &mut [T])
     requires room { base + length s.old < 2 ^ 64 }
     requires accepts { AcceptsFrom (AcceptsAt F.Fn f.now) base s.old }

@@ -13,7 +13,7 @@ use std::alloc::Global;
 use std::sync::Wait;
 use std::thread::Threads;
 
-// The worker's stripes, one after the other.
+/// The worker's stripes, one after the other.
 fn count_turns<R: Wait, G: Gate>(
     rt: &R,
     map: &StripedMap,
@@ -40,7 +40,7 @@ fn count_turns<R: Wait, G: Gate>(
     count
 }
 
-// The counts of the workers, added up.
+/// The counts of the workers, added up.
 fn total(counts: &[u64]) -> u64
     requires { sum_by (λ n. n) counts.now < 2 ^ 64 }
     ensures { result ≡ sum_by (λ n. n) counts.now }

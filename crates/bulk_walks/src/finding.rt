@@ -13,7 +13,7 @@ use std::alloc::Global;
 use std::sync::Wait;
 use std::thread::Threads;
 
-// The worker's stripes, one after the other.
+/// The worker's stripes, one after the other.
 fn scan_turns<R: Wait, G: Gate>(
     rt: &R,
     alloc: Global,
@@ -42,7 +42,7 @@ fn scan_turns<R: Wait, G: Gate>(
     Ok(found)
 }
 
-// The entries of the worker's stripes, in key order.
+/// The entries of the worker's stripes, in key order.
 fn sorted_turns<R: Wait, G: Gate>(
     rt: &R,
     alloc: Global,
@@ -63,7 +63,7 @@ fn sorted_turns<R: Wait, G: Gate>(
     Ok(sorted)
 }
 
-// A part for each worker's entries, without a reply.
+/// A part for each worker's entries, without a reply.
 fn parts_of(
     alloc: Global,
     answers: Vec<Result<SortedColumns, NoMemory>>,
@@ -79,8 +79,8 @@ fn parts_of(
     Ok(parts)
 }
 
-// The entries of all stripes, each scanned once by the worker whose turn it is: for each worker its part, with its entries in
-// key order.
+/// The entries of all stripes, each scanned once by the worker whose turn it is: for each worker its part, with its entries in
+/// key order.
 pub(crate) fn find<R: Threads + Wait + Sync, G: Gate + Sync>(
     rt: &R,
     alloc: Global,

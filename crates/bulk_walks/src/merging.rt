@@ -15,8 +15,8 @@ use bpf_model::NoMemory;
 use std::alloc::Global;
 use std::marker::Model;
 
-// The reply of this kind that is made of replies of the kind `ForEach`, each with its items in key order. `NoMemory` where
-// a request for memory was refused. The items of one reply that has all, or of `ForEach`, are not copied.
+/// The reply of this kind that is made of replies of the kind `ForEach`, each with its items in key order. `NoMemory` where
+/// a request for memory was refused. The items of one reply that has all, or of `ForEach`, are not copied.
 pub(crate) fn merged(
     alloc: Global,
     kind: WalkKind,
@@ -39,7 +39,7 @@ pub(crate) fn merged(
     Ok(WalkReply { items, counts })
 }
 
-// What all replies counted.
+/// What all replies counted.
 fn total_of(replies: &[PartReply]) -> Counts
     requires scanned { sum_by (λ reply. reply.counts.scanned) replies.now < 2 ^ 64 }
     requires given { sum_by (λ reply. reply.counts.given) replies.now < 2 ^ 64 }
@@ -53,7 +53,7 @@ fn total_of(replies: &[PartReply]) -> Counts
     total
 }
 
-// The first item of all replies in key order: a copy, since the others are given up.
+/// The first item of all replies in key order: a copy, since the others are given up.
 fn first_item(alloc: Global, replies: Vec<PartReply>) -> Result<EntryList, NoMemory>
     requires order { All (λ reply. T (finmap.is_sorted by_bytes reply.items)) replies.items }
     ensures { IfOk result (λ items. (all : List Entry) → T (finmap.is_sorted by_bytes all) → HasAll all (items_in replies.items) → items ≡ take 1 all) }
@@ -63,7 +63,7 @@ fn first_item(alloc: Global, replies: Vec<PartReply>) -> Result<EntryList, NoMem
     Ok(EntryList::in_order(copy))
 }
 
-// All items of all replies, so many, in key order: those of one reply where it has all of them.
+/// All items of all replies, so many, in key order: those of one reply where it has all of them.
 fn all_items(
     alloc: Global,
     mut replies: Vec<PartReply>,
@@ -81,7 +81,7 @@ fn all_items(
     Ok(items)
 }
 
-// The place of a reply that has so many items.
+/// The place of a reply that has so many items.
 fn place_with(replies: &[PartReply], count: usize) -> Option<usize>
     ensures range { IfSome result (λ place. place < length replies.now) }
     ensures count { IfSome result (λ place. length (slice_index_or (items_in replies.now) place []) ≡ count) }
@@ -94,7 +94,7 @@ fn place_with(replies: &[PartReply], count: usize) -> Option<usize>
     None
 }
 
-// The first `most` items of all replies, in key order. They stay where they are.
+/// The first `most` items of all replies, in key order. They stay where they are.
 fn first_items(alloc: Global, replies: Vec<PartReply>, most: usize) -> Result<EntryList, NoMemory>
     requires order { All (λ reply. T (finmap.is_sorted by_bytes reply.items)) replies.items }
     ensures { IfOk result (λ items. (all : List Entry) → T (finmap.is_sorted by_bytes all) → HasAll all (items_in replies.items) → items ≡ take most all) }
@@ -104,7 +104,7 @@ fn first_items(alloc: Global, replies: Vec<PartReply>, most: usize) -> Result<En
     Ok(EntryList::merged(lists, places))
 }
 
-// The items of each reply.
+/// The items of each reply.
 fn lists_in(alloc: Global, replies: Vec<PartReply>) -> Result<Vec<EntryColumns>, NoMemory>
     ensures { IfOk result (λ lists. lists.items ≡ items_in replies.items) }
 {
@@ -115,7 +115,7 @@ fn lists_in(alloc: Global, replies: Vec<PartReply>) -> Result<Vec<EntryColumns>,
     Ok(lists)
 }
 
-// The places of the first `most` items of all replies, in key order.
+/// The places of the first `most` items of all replies, in key order.
 fn first_places(
     alloc: Global,
     replies: &[PartReply],
@@ -159,7 +159,7 @@ impl<'a> Model for Rest<'a> {
 }
 
 impl<'a> Rest<'a> {
-    // All of these items.
+    /// All of these items.
     fn new(items: &'a EntryColumns) -> Rest<'a>
         ensures { result ≡ record { list = items.now; taken = 0 } }
     {
@@ -170,7 +170,7 @@ impl<'a> Rest<'a> {
         }
     }
 
-    // Whether nothing is left.
+    /// Whether nothing is left.
     #[inline(always)]
     fn is_over(&self) -> bool
         ensures exact { IsTrue result ↔ (length (left_of self.now) ≡ 0) }
@@ -178,7 +178,7 @@ impl<'a> Rest<'a> {
         self.next >= self.items.len()
     }
 
-    // The first key; no bytes where nothing is left.
+    /// The first key; no bytes where nothing is left.
     #[inline(always)]
     fn key(&self) -> &'a [u8]
         ensures value { result.now ≡ (entry_of (left_of self.now) 0).0 }
@@ -186,7 +186,7 @@ impl<'a> Rest<'a> {
         self.items.key(self.next)
     }
 
-    // The first bytes of the first key, as a number; the greatest one where nothing is left.
+    /// The first bytes of the first key, as a number; the greatest one where nothing is left.
     #[inline(always)]
     fn lead(&self) -> u64
         ensures value { result ≡ lead_of (left_of self.now) }
@@ -195,7 +195,7 @@ impl<'a> Rest<'a> {
         self.lead
     }
 
-    // Takes the first item, where there is one: its position.
+    /// Takes the first item, where there is one: its position.
     #[inline(always)]
     fn take_first(&mut self) -> Option<usize>
         ensures first { MatchOption result (left_of self.old ≡ []) (λ position. left_of self.old ≡ entry_of self.old.list position ∷ left_of self.new) }
@@ -211,7 +211,7 @@ impl<'a> Rest<'a> {
     }
 }
 
-// The items of each reply.
+/// The items of each reply.
 fn rests_of<'a>(alloc: Global, replies: &'a [PartReply]) -> Result<Vec<Rest<'a>>, NoMemory>
     ensures { IfOk result (λ rests. rests.items ≡ map whole_of (items_in replies.now)) }
 {
@@ -222,7 +222,7 @@ fn rests_of<'a>(alloc: Global, replies: &'a [PartReply]) -> Result<Vec<Rest<'a>>
     Ok(rests)
 }
 
-// Takes the first item of a rest, with the least key of all: where it lies. None where all rests are empty.
+/// Takes the first item of a rest, with the least key of all: where it lies. None where all rests are empty.
 fn take_least(rests: &mut Vec<Rest<'_>>) -> Option<EntryPlace>
     ensures least { TakesLeast (lists_of rests.old.items) (lefts_of rests.old.items) result (lefts_of rests.new.items) }
     ensures lists { lists_of rests.new.items ≡ lists_of rests.old.items }
@@ -236,7 +236,7 @@ fn take_least(rests: &mut Vec<Rest<'_>>) -> Option<EntryPlace>
     Some(EntryPlace { list, position })
 }
 
-// The lead of what is left of the items from a position on.
+/// The lead of what is left of the items from a position on.
 #[inline(always)]
 fn lead_at(items: &EntryColumns, position: usize) -> u64
     ensures value { result ≡ lead_of (drop position items.now) }
@@ -248,7 +248,7 @@ fn lead_at(items: &EntryColumns, position: usize) -> u64
     u64::MAX
 }
 
-// The place of a rest before which no other comes. Mostly the leads tell.
+/// The place of a rest before which no other comes. Mostly the leads tell.
 #[inline(always)]
 fn least(rests: &[Rest<'_>]) -> usize
     requires { 0 < length rests.now }
@@ -262,8 +262,8 @@ fn least(rests: &[Rest<'_>]) -> usize
     least_key(rests)
 }
 
-// The place of a rest with the least lead, and whether the others' leads are greater: then no other comes before it. Nothing
-// branches on a lead, since which one is less is anyone's guess.
+/// The place of a rest with the least lead, and whether the others' leads are greater: then no other comes before it. Nothing
+/// branches on a lead, since which one is less is anyone's guess.
 #[inline(always)]
 fn least_lead(rests: &[Rest<'_>]) -> (usize, bool)
     requires { 0 < length rests.now }
@@ -282,7 +282,7 @@ fn least_lead(rests: &[Rest<'_>]) -> (usize, bool)
     (place, least < second)
 }
 
-// The place of a rest whose first key none of the others' comes before.
+/// The place of a rest whose first key none of the others' comes before.
 #[inline(never)]
 fn least_key(rests: &[Rest<'_>]) -> usize
     requires { 0 < length rests.now }
@@ -298,7 +298,7 @@ fn least_key(rests: &[Rest<'_>]) -> usize
     place
 }
 
-// Whether the one rest's first key comes before the other's. An empty rest comes last.
+/// Whether the one rest's first key comes before the other's. An empty rest comes last.
 #[inline(always)]
 fn is_first(one: &Rest<'_>, other: &Rest<'_>) -> bool
     ensures { result ≡ comes_first (left_of one.now) (left_of other.now) }

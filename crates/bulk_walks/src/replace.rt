@@ -16,7 +16,7 @@ use std::sync::Wait;
 use std::thread::Threads;
 use verifier::Verified;
 
-// Adds these counts.
+/// Adds these counts.
 pub(crate) fn add(total: &mut Counts, more: Counts)
     requires { HasRoom total.old more }
     ensures { IsSum total.new total.old more }
@@ -32,7 +32,7 @@ pub(crate) const ZERO: Counts = Counts {
     unfit: 0,
 };
 
-// The worker's stripes, one after the other.
+/// The worker's stripes, one after the other.
 fn replace_turns<R: Wait, G: Gate>(
     rt: &R,
     map: &StripedMap,
@@ -62,7 +62,7 @@ fn replace_turns<R: Wait, G: Gate>(
     total
 }
 
-// The counts of the workers, added up.
+/// The counts of the workers, added up.
 fn sum_of(answers: &[Counts]) -> Counts
     requires scanned { sum_by (λ c. c.scanned) answers.now < 2 ^ 64 }
     requires given { sum_by (λ c. c.given) answers.now < 2 ^ 64 }

@@ -22,7 +22,7 @@ pub(crate) struct Part {
     pub(crate) reply: Option<PartReply>,
 }
 
-// Runs the program on the entries of one part.
+/// Runs the program on the entries of one part.
 fn run(alloc: Global, program: &Verified, arg: &Option<Value>, part: &mut Part)
     ensures { IfSome part.new.reply (λ reply. IsReply ForEach program.now arg.now part.old.found reply) }
 {
@@ -33,7 +33,7 @@ fn run(alloc: Global, program: &Verified, arg: &Option<Value>, part: &mut Part)
     }
 }
 
-// The same of each part, each in a thread of its own or one after the other.
+/// The same of each part, each in a thread of its own or one after the other.
 fn run_each<R: Threads + Sync>(
     rt: &R,
     alloc: Global,
@@ -52,7 +52,7 @@ fn run_each<R: Threads + Sync>(
     }
 }
 
-// The replies of all parts. `NoMemory` where one has none.
+/// The replies of all parts. `NoMemory` where one has none.
 fn replies_of(alloc: Global, parts: Vec<Part>) -> Result<Vec<PartReply>, NoMemory>
     ensures { IfOk result (λ replies. map Some replies.items ≡ map (λ part. part.reply) parts.items) }
 {
@@ -67,8 +67,8 @@ fn replies_of(alloc: Global, parts: Vec<Part>) -> Result<Vec<PartReply>, NoMemor
     Ok(replies)
 }
 
-// Runs the program on the entries of all parts, each in a thread of its own or one after the other: the reply of each.
-// `NoMemory` where a request for memory was refused.
+/// Runs the program on the entries of all parts, each in a thread of its own or one after the other: the reply of each.
+/// `NoMemory` where a request for memory was refused.
 pub(crate) fn run_all<R: Threads + Sync>(
     rt: &R,
     alloc: Global,
@@ -84,7 +84,7 @@ pub(crate) fn run_all<R: Threads + Sync>(
     Ok(replies)
 }
 
-// How many entries the parts hold; not more than the greatest number.
+/// How many entries the parts hold; not more than the greatest number.
 pub(crate) fn held_in(parts: &[Part]) -> u64 {
     let mut held: u64 = 0;
     for part in parts {

@@ -17,10 +17,10 @@ use bytes::BytesMut;
 use std::alloc::Global;
 use std::marker::Model;
 
-// The shortest frame has a length and one byte.
+/// The shortest frame has a length and one byte.
 const LEAST_FRAME: usize = 5;
 
-// For so many requests there is room from the first piece on: those that end in 1,024 bytes, and one that began before them.
+/// For so many requests there is room from the first piece on: those that end in 1,024 bytes, and one that began before them.
 const LEAST_ROOM: usize = 205;
 
 /// What a piece gave.
@@ -30,15 +30,15 @@ pub struct Fed {
     pub fault: Option<ProtocolFault>,
 }
 
-// The Hello that was taken behind a piece, and the fault that ended it, if any.
+/// The Hello that was taken behind a piece, and the fault that ended it, if any.
 #[derive(Clone, Copy)]
 struct Taken {
     hello: Option<Version>,
     fault: Option<ProtocolFault>,
 }
 
-// Adds the requests of the bytes, whose frames are read where they lie; keeps in `rest` the beginning of one that isn't
-// whole.
+/// Adds the requests of the bytes, whose frames are read where they lie; keeps in `rest` the beginning of one that isn't
+/// whole.
 fn take_whole(
     alloc: Global,
     hello: Option<Version>,
@@ -60,8 +60,8 @@ fn take_whole(
     })
 }
 
-// Adds the request of the first frame of the bytes held and the piece behind them, and answers what is behind it in the
-// piece. None where it isn't whole; then all of the piece is held. No byte behind the frame is copied.
+/// Adds the request of the first frame of the bytes held and the piece behind them, and answers what is behind it in the
+/// piece. None where it isn't whole; then all of the piece is held. No byte behind the frame is copied.
 #[tactic(auto, using(crate::proofs::HeldLaws::all_front, crate::proofs::HeldLaws::still_front, crate::proofs::HeldLaws::moved, crate::proofs::HeldLaws::completed))]
 fn complete<'a>(
     alloc: Global,
@@ -102,7 +102,7 @@ fn complete<'a>(
     }
 }
 
-// Reads on where the beginning of a frame is held.
+/// Reads on where the beginning of a frame is held.
 #[tactic(auto, using(crate::proofs::HeldLaws::frames_added, crate::proofs::HeldLaws::frames_begun, crate::proofs::HeldLaws::frames_failed))]
 fn read_held(
     alloc: Global,
@@ -128,7 +128,7 @@ fn read_held(
     }
 }
 
-// Reads on, or leaves the bytes held as they were.
+/// Reads on, or leaves the bytes held as they were.
 fn read_on(
     alloc: Global,
     hello: Option<Version>,

@@ -88,7 +88,7 @@ impl Field for Key {
     }
 }
 
-// Copies the first `len` bytes into this value, and answers what is behind them.
+/// Copies the first `len` bytes into this value, and answers what is behind them.
 fn read_value<'b>(
     value: &mut Value,
     hello: Option<Version>,

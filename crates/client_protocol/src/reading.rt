@@ -52,7 +52,7 @@ impl From<NoMemory> for BodyFault {
     }
 }
 
-// A Hello, if it were its turn.
+/// A Hello, if it were its turn.
 fn hello_request(
     hello: Option<Version>,
     tag: u8,
@@ -74,7 +74,7 @@ fn hello_request(
     }
 }
 
-// The request with a tag below 0x14, if it were its turn: a Hello, or a call on whatever the key has.
+/// The request with a tag below 0x14, if it were its turn: a Hello, or a call on whatever the key has.
 fn early_request(
     hello: Option<Version>,
     tag: u8,
@@ -109,7 +109,7 @@ fn early_request(
     Ok(())
 }
 
-// The request with a tag from 0x14 to 0x16: a call on what the key has already.
+/// The request with a tag from 0x14 to 0x16: a call on what the key has already.
 fn present_request(
     hello: Option<Version>,
     tag: u8,
@@ -141,7 +141,7 @@ fn present_request(
     Ok(())
 }
 
-// The request with a tag from 0x17 to 0x1F: a call with a program.
+/// The request with a tag from 0x17 to 0x1F: a call with a program.
 fn program_request(
     hello: Option<Version>,
     tag: u8,
@@ -178,7 +178,7 @@ fn program_request(
     Ok(())
 }
 
-// The request with a tag from 0x20 on: a walk.
+/// The request with a tag from 0x20 on: a walk.
 fn walk_request(
     hello: Option<Version>,
     tag: u8,
@@ -214,7 +214,7 @@ fn walk_request(
     Ok(())
 }
 
-// The sizes that a Register begins with, and the program behind them; none where the bytes are too few.
+/// The sizes that a Register begins with, and the program behind them; none where the bytes are too few.
 fn sizes_at(hello: Option<Version>, bytes: &[u8]) -> Option<(Sizes, &[u8])>
     ensures some { IfSome result (λ r. TakesSizes (limits_after hello) bytes.now r.0 r.1.now) }
     ensures none { IfNone result (NoSizes (limits_after hello) bytes.now) }
@@ -240,7 +240,7 @@ fn sizes_at(hello: Option<Version>, bytes: &[u8]) -> Option<(Sizes, &[u8])>
     Some((sizes, program))
 }
 
-// A Register. Asks for memory for a copy of the program where the place has no room for it.
+/// A Register. Asks for memory for a copy of the program where the place has no room for it.
 fn register_request(
     hello: Option<Version>,
     rest: &[u8],
@@ -257,7 +257,7 @@ fn register_request(
     Ok(())
 }
 
-// The request of a body, if it were its turn.
+/// The request of a body, if it were its turn.
 fn request_of(hello: Option<Version>, body: &[u8], request: &mut Request) -> Result<(), BodyFault>
     requires { 1 ≤ length body.now }
     ensures ok { OnOk result (SpellsBody (limits_after hello) body.now (body_of request.new)) }
@@ -288,7 +288,7 @@ fn is_hello(request: &Request) -> bool
     matches!(request.kind, RequestKind::Hello { .. })
 }
 
-// Whether it is the request's turn.
+/// Whether it is the request's turn.
 fn may_come(hello: Option<Version>, request: &Request) -> bool
     ensures yes { IsTrue result → MayCome hello request.now }
     ensures no { IsFalse result → is_hello request.now ≢ is_none hello }

@@ -138,7 +138,7 @@ pub enum Walk {
 }
 
 impl Run {
-    // The request on this key, with this value or this argument.
+    /// The request on this key, with this value or this argument.
     #[inline(always)]
     fn view<'a>(self, key: &'a Key, value: &'a Value, arg: Option<&'a Value>) -> RequestView<'a>
         ensures { viewed result ≡ run_with self key.now value.now (option_copied arg.entry) }
@@ -161,7 +161,7 @@ impl Run {
 }
 
 impl Walk {
-    // The walk with this argument.
+    /// The walk with this argument.
     #[inline(always)]
     fn view<'a>(self, arg: Option<&'a Value>) -> RequestView<'a>
         ensures { viewed result ≡ walk_with self (option_copied arg.entry) }
@@ -203,7 +203,7 @@ impl OptionalValue {
     }
 }
 
-// A key without a byte: a place for one that is read.
+/// A key without a byte: a place for one that is read.
 fn empty_key() -> Key {
     match Key::from_slice(&[]) {
         Ok(key) => key,

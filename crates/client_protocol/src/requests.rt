@@ -39,7 +39,7 @@ pub struct Behind<'b> {
     pub bytes: &'b [u8],
 }
 
-// Makes room for so many places in all. Asks for no memory where there is so much.
+/// Makes room for so many places in all. Asks for no memory where there is so much.
 fn make_room(places: &mut Vec<Request>, count: usize) -> Result<(), NoMemory>
     ensures items { places.new.items ≡ places.old.items }
     ensures room { OnOk result (count ≤ vec_capacity places.new) }
@@ -49,7 +49,7 @@ fn make_room(places: &mut Vec<Request>, count: usize) -> Result<(), NoMemory>
     Ok(())
 }
 
-// Adds a place behind the others. Asks for no memory where there is room for it.
+/// Adds a place behind the others. Asks for no memory where there is room for it.
 #[inline(never)]
 fn add_place(places: &mut Vec<Request>, alloc: Global) -> Result<(), NoMemory>
     ensures ok { OnOk result ((place : TheRequest) × (places.new.items ≡ places.old.items ++ place ∷ [])) }

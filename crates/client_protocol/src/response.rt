@@ -117,7 +117,7 @@ fn part_number(part: InputPart) -> u8
 }
 
 impl ShortResponse {
-    // How many bytes the body has.
+    /// How many bytes the body has.
     fn body_len(self) -> usize
         ensures value { result ≡ length (response_body (response_of self)) }
         ensures fits { result ≤ SHORT_BODY_BYTES }
@@ -133,7 +133,7 @@ impl ShortResponse {
         }
     }
 
-    // Adds the bytes of the body.
+    /// Adds the bytes of the body.
     fn put_body(self, out: &mut ArrayVec<u8, SHORT_FRAME_BYTES>)
         requires { array_vec_len out.old ≡ 4 }
         ensures { out.new.items ≡ out.old.items ++ response_body (response_of self) }
@@ -204,7 +204,7 @@ pub fn item_head(key: &[u8], value: &[u8]) -> ArrayVec<u8, ITEM_HEAD_BYTES>
     head
 }
 
-// Adds a value behind what stands before it.
+/// Adds a value behind what stands before it.
 fn put_behind(frame: &mut ArrayVec<u8, FRAME_BYTES>, head: &[u8], value: &[u8])
     requires none { array_vec_len frame.old ≡ 0 }
     requires fits { length head.now + length value.now ≤ FRAME_BYTES }
@@ -214,7 +214,7 @@ fn put_behind(frame: &mut ArrayVec<u8, FRAME_BYTES>, head: &[u8], value: &[u8])
     put(frame, value);
 }
 
-// Adds the frame of the item with this key and this value.
+/// Adds the frame of the item with this key and this value.
 fn put_item(frame: &mut ArrayVec<u8, FRAME_BYTES>, key: &Key, value: &[u8])
     requires none { array_vec_len frame.old ≡ 0 }
     requires fits { length value.now ≤ VALUE_BYTES }
@@ -223,7 +223,7 @@ fn put_item(frame: &mut ArrayVec<u8, FRAME_BYTES>, key: &Key, value: &[u8])
     put_behind(frame, item_head(key.as_slice(), value).as_slice(), value);
 }
 
-// Adds the frame of a short response.
+/// Adds the frame of a short response.
 fn put_short(frame: &mut ArrayVec<u8, FRAME_BYTES>, short: ShortResponse)
     requires none { array_vec_len frame.old ≡ 0 }
     ensures { frame.new.items ≡ response_frame (response_of short) }

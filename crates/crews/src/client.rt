@@ -23,8 +23,8 @@ use std::thread::Threads;
 /// At most so many bytes are read at once.
 const PIECE_BYTES: usize = 4096;
 
-// Answers the requests, which came behind this Hello, in turn: each answer is written before the next request is looked at.
-// Values that are found are left in `value`, one after the other.
+/// Answers the requests, which came behind this Hello, in turn: each answer is written before the next request is looked at.
+/// Values that are found are left in `value`, one after the other.
 fn answer_all<H: Threads + Wait + Sync, W: Sink, G: Gate + Sync>(
     rt: &H,
     alloc: Global,
@@ -53,7 +53,7 @@ fn answer_all<H: Threads + Wait + Sync, W: Sink, G: Gate + Sync>(
     Ok(())
 }
 
-// The loop of a session: `run_session` of the crate sessions, where what answers may start threads.
+/// The loop of a session: `run_session` of the crate sessions, where what answers may start threads.
 fn run<H: Threads + Wait + Sync, R: ReadBehind<W>, W: Sink, G: Gate + Sync>(
     rt: &H,
     alloc: Global,

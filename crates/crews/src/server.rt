@@ -14,7 +14,7 @@ use std::alloc::Global;
 use std::sync::Wait;
 use std::thread::Threads;
 
-// Serves the worker's clients, one after the other.
+/// Serves the worker's clients, one after the other.
 #[tactic(auto, using(crate::proofs::ServeLemmas::carries_same, crate::proofs::ServeLemmas::carries_on))]
 fn serve_clients<
     H: Threads + Wait + Sync,
@@ -98,7 +98,7 @@ pub fn serve<
     Ok(left_of(seats, back))
 }
 
-// A seat for each crew, in the room that is there.
+/// A seat for each crew, in the room that is there.
 fn seated(crews: Vec<Crew>, mut seats: Vec<Option<Crew>>) -> Vec<Option<Crew>>
     requires empty { seats.items ≡ [] }
     requires room { vec_len crews ≤ vec_capacity seats }
@@ -110,7 +110,7 @@ fn seated(crews: Vec<Crew>, mut seats: Vec<Option<Crew>>) -> Vec<Option<Crew>>
     seats
 }
 
-// The crews in the seats, in the room that is there.
+/// The crews in the seats, in the room that is there.
 fn left_of(seats: Vec<Option<Crew>>, mut crews: Vec<Crew>) -> Vec<Crew>
     requires empty { crews.items ≡ [] }
     requires room { vec_len seats ≤ vec_capacity crews }

@@ -51,7 +51,7 @@ impl<'a> Model for Serving<'a> {
         × (0 < vec_len s.team) × All (λ t. IsOf s.registry.now t) s.tokens.items × Agree s.tokens.items };
 }
 
-// The program of this number: that of the session's own token, or else of another session's.
+/// The program of this number: that of the session's own token, or else of another session's.
 fn program_of<'a>(
     registry: &'a Registry,
     tokens: &[ProgramToken],
@@ -72,7 +72,7 @@ fn program_of<'a>(
     Some(known_safe(program))
 }
 
-// The same program. For the proof alone: it is safe, as its type says.
+/// The same program. For the proof alone: it is safe, as its type says.
 fn known_safe<'a>(program: &'a Verified) -> &'a Verified
     ensures same { result.now ≡ program.now }
     ensures safe { IsSafe result.now.program result.now.sizes }
@@ -81,7 +81,7 @@ fn known_safe<'a>(program: &'a Verified) -> &'a Verified
     program
 }
 
-// Looks through the tokens for those with the number of one more. For the proof alone: they stand for its program.
+/// Looks through the tokens for those with the number of one more. For the proof alone: they stand for its program.
 fn show_agrees(registry: &Registry, tokens: &[ProgramToken], token: &ProgramToken)
     requires mine { All (λ t. IsOf registry.now t) tokens.now × IsOf registry.now token.now }
     ensures { All (λ t. IsLike t token.now) tokens.now }
@@ -93,7 +93,7 @@ fn show_agrees(registry: &Registry, tokens: &[ProgramToken], token: &ProgramToke
     }
 }
 
-// The answer that a walk's reply is.
+/// The answer that a walk's reply is.
 fn answer_of(reply: Result<WalkReply, NoMemory>) -> Answer
     ensures { (bytes : List ℕ) → MatchResult reply (λ walked. responses_of result bytes ≡ walk_responses walked) (λ _. responses_of result bytes ≡ tell.Refused 9 0 ∷ []) }
 {
@@ -104,8 +104,8 @@ fn answer_of(reply: Result<WalkReply, NoMemory>) -> Answer
 }
 
 impl<'a> Serving<'a> {
-    // Registers the program that the bytes spell, which came behind this Hello, and keeps its token; the room for that comes
-    // first.
+    /// Registers the program that the bytes spell, which came behind this Hello, and keeps its token; the room for that comes
+    /// first.
     fn register<H: Wait>(
         &mut self,
         rt: &H,
@@ -132,8 +132,8 @@ impl<'a> Serving<'a> {
         ShortResponse::Registered { program }
     }
 
-    // Makes the call that is asked for, with this program where it names one. The value of its reply, if it has one, is left
-    // in `value`.
+    /// Makes the call that is asked for, with this program where it names one. The value of its reply, if it has one, is left
+    /// in `value`.
     fn call<H: Wait>(
         &mut self,
         rt: &H,
@@ -153,7 +153,7 @@ impl<'a> Serving<'a> {
         }
     }
 
-    // Makes the call that is asked for, with the program that it names, if it names one.
+    /// Makes the call that is asked for, with the program that it names, if it names one.
     fn named_call<H: Wait>(&mut self, rt: &H, request: &Request, value: &mut Value) -> Answer
         requires { IsCall request.now }
         ensures { (hello : Option TheVersion) → CrewServes hello self.old request.now (responses_of result value.new) self.new }
@@ -165,7 +165,7 @@ impl<'a> Serving<'a> {
         self.call(rt, request, program, value)
     }
 
-    // A walk of the team, by the program of this number. Not inlined, so that a call clears no place for an argument.
+    /// A walk of the team, by the program of this number. Not inlined, so that a call clears no place for an argument.
     #[inline(never)]
     fn walk<H: Threads + Wait + Sync, G: Gate + Sync>(
         &mut self,
@@ -192,7 +192,7 @@ impl<'a> Serving<'a> {
         answer_of(reply)
     }
 
-    // The replacement of all values by the team, by the program of this number. Not inlined, as `walk` isn't.
+    /// The replacement of all values by the team, by the program of this number. Not inlined, as `walk` isn't.
     #[inline(never)]
     fn replace_all<H: Threads + Wait + Sync, G: Gate + Sync>(
         &mut self,
@@ -215,7 +215,7 @@ impl<'a> Serving<'a> {
         answer_of(reply)
     }
 
-    // The team counts all entries.
+    /// The team counts all entries.
     fn count<H: Threads + Wait + Sync, G: Gate + Sync>(
         &mut self,
         rt: &H,

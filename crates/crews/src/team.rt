@@ -5,7 +5,7 @@ ghost use Rattle.crews.specs.Steps.{IsToldBy, Pairwise, HearsEach};
 use bin_stripes::{Pass, StripedMap};
 use bulk_walks::Team;
 
-// Tells each pass of the team what the pass knows.
+/// Tells each pass of the team what the pass knows.
 fn tell_each(map: &StripedMap, pass: &Pass, team: &mut Vec<Pass>)
     requires pass { pass.now.map ≡ map.now }
     requires team { All (λ member. member.map ≡ map.now) team.old.items }
@@ -18,7 +18,7 @@ fn tell_each(map: &StripedMap, pass: &Pass, team: &mut Vec<Pass>)
     }
 }
 
-// Tells the pass what each pass of the team knows, in their order.
+/// Tells the pass what each pass of the team knows, in their order.
 fn hear_each(map: &StripedMap, pass: &mut Pass, team: &[Pass])
     requires pass { pass.old.map ≡ map.now }
     requires team { All (λ member. member.map ≡ map.now) team.now }

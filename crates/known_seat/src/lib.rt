@@ -50,7 +50,7 @@ pub fn learn<S, V, K, P: TableRule<S, V, K>, M: Lesson<V>>(
 {}
 
 impl<V> Known<V> {
-    // No seat.
+    /// No seat.
     fn blank() -> Known<V>
         ensures { result.views ≡ [] }
     {
@@ -59,7 +59,7 @@ impl<V> Known<V> {
         }
     }
 
-    // Each has what the other had.
+    /// Each has what the other had.
     fn trade(&mut self, badge: &mut Badge<V>)
         ensures { (self.new.table_id ≡ badge.old.table_id) × (self.new.id ≡ badge.old.id)
             × (self.new.views ≡ badge.old.views) × (badge.new.table_id ≡ self.old.table_id)

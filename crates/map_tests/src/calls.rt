@@ -7,7 +7,7 @@ use std::alloc::Global;
 use std::test::Fail;
 use verifier::Verified;
 
-// A reply that is wanted.
+/// A reply that is wanted.
 #[derive(Clone, Copy)]
 enum Wanted {
     Nothing,
@@ -16,7 +16,7 @@ enum Wanted {
     Unfit(InputPart),
 }
 
-// One of the programs.
+/// One of the programs.
 #[derive(Clone, Copy)]
 enum Which {
     Sum,
@@ -24,7 +24,7 @@ enum Which {
     NoKey,
 }
 
-// A method with what it is given; `ReplaceIf` has the expected value first.
+/// A method with what it is given; `ReplaceIf` has the expected value first.
 #[derive(Clone, Copy)]
 enum Method {
     Get,
@@ -41,7 +41,7 @@ enum Method {
 }
 
 impl Method {
-    // The bytes that it is given.
+    /// The bytes that it is given.
     fn bytes(self) -> (&'static [u8], &'static [u8]) {
         match self {
             Method::Get | Method::Remove => (b"", b""),
@@ -76,7 +76,7 @@ fn value(bytes: &[u8]) -> Result<Value, TooLong> {
     Value::from_slice(bytes)
 }
 
-// Programs on values of 8 bytes, and one that takes the empty key alone.
+/// Programs on values of 8 bytes, and one that takes the empty key alone.
 #[derive(Drop)]
 struct Programs {
     sum: Verified,
@@ -105,7 +105,7 @@ impl Programs {
     }
 }
 
-// What a call lends: its key, and its value or argument. `ReplaceIf` has the expected value first.
+/// What a call lends: its key, and its value or argument. `ReplaceIf` has the expected value first.
 #[derive(Drop)]
 struct Lender {
     key: Key,

@@ -10,14 +10,14 @@ mod lengths;
 mod made_up;
 mod replaced;
 
-// Puts bytes under a name.
+/// Puts bytes under a name.
 fn put<B: Bins>(bins: &mut B, name: &[u8], bytes: &[u8]) -> Result<(), Fail> {
     let key = Key::from_slice(name)?;
     bins.put(&HashedKey::new(&key), &Value::from_slice(bytes)?)?;
     Ok(())
 }
 
-// Puts each of these bytes under the name before it.
+/// Puts each of these bytes under the name before it.
 fn put_all<B: Bins>(bins: &mut B, rows: &[(&[u8], &[u8])]) -> Result<(), Fail> {
     for (name, bytes) in rows {
         put(bins, name, bytes)?;
@@ -25,7 +25,7 @@ fn put_all<B: Bins>(bins: &mut B, rows: &[(&[u8], &[u8])]) -> Result<(), Fail> {
     Ok(())
 }
 
-// Whether these are all entries, in this order.
+/// Whether these are all entries, in this order.
 fn holds<B: Bins>(bins: &B, alloc: Global, wanted: &[(&[u8], &[u8])]) -> Result<bool, NoMemory> {
     let found = bins.entries(alloc)?;
     let mut same = found.len() == wanted.len();
@@ -35,7 +35,7 @@ fn holds<B: Bins>(bins: &B, alloc: Global, wanted: &[(&[u8], &[u8])]) -> Result<
     Ok(same)
 }
 
-// Keys that begin one another, put in mixed order, one of them twice.
+/// Keys that begin one another, put in mixed order, one of them twice.
 fn stand_in_order<B: Bins + Drop>(alloc: Global) -> Result<bool, Fail> {
     let mut bins = B::open(alloc, 1)?;
     put_all(
@@ -59,7 +59,7 @@ fn keys_that_begin_one_another_stand_in_order(rt: HostRuntime) -> Result<(), Fai
     Ok(())
 }
 
-// So many keys of two bytes in mixed order, each with itself as its value.
+/// So many keys of two bytes in mixed order, each with itself as its value.
 fn fill<B: Bins>(bins: &mut B, count: u16) -> Result<(), Fail>
     requires { count ≤ 300 }
 {
@@ -70,7 +70,7 @@ fn fill<B: Bins>(bins: &mut B, count: u16) -> Result<(), Fail>
     Ok(())
 }
 
-// Empties each value in another order, and removes it; whether each was there, and then was not.
+/// Empties each value in another order, and removes it; whether each was there, and then was not.
 fn remove_all<B: Bins>(bins: &mut B) -> Result<bool, Fail> {
     let mut there = true;
     for i in 0..300u16 {
@@ -85,7 +85,7 @@ fn remove_all<B: Bins>(bins: &mut B) -> Result<bool, Fail> {
     Ok(there)
 }
 
-// Whether the entry at each place has that number.
+/// Whether the entry at each place has that number.
 fn are_in_order(entries: &[(Key, Value)]) -> bool {
     let mut same = entries.len() == 300;
     for (number, entry) in (0..300u16).zip(entries) {
@@ -108,7 +108,7 @@ fn three_hundred_keys_come_and_go(rt: HostRuntime) -> Result<(), Fail> {
     Ok(())
 }
 
-// 40 keys are put, and every other one of them is removed.
+/// 40 keys are put, and every other one of them is removed.
 fn half_removed<B: Bins + Drop>(alloc: Global) -> Result<Vec<(Key, Value)>, Fail> {
     let mut bins = B::open(alloc, 4)?;
     fill(&mut bins, 40)?;
@@ -131,7 +131,7 @@ fn both_bodies_are_scanned_alike(rt: HostRuntime) -> Result<(), Fail> {
     Ok(())
 }
 
-// Whether the one list has each entry of the other twice, in their order.
+/// Whether the one list has each entry of the other twice, in their order.
 fn are_twice(sorted: &SortedColumns, entries: &[(Key, Value)]) -> bool {
     if sorted.len() != 2 * entries.len() {
         return false;
@@ -145,7 +145,7 @@ fn are_twice(sorted: &SortedColumns, entries: &[(Key, Value)]) -> bool {
     true
 }
 
-// Copies in columns of the entries of bins, twice over, and the entries; one key and one value are long.
+/// Copies in columns of the entries of bins, twice over, and the entries; one key and one value are long.
 fn copied_twice<B: Bins + Drop>(alloc: Global) -> Result<bool, Fail> {
     let mut bins = B::open(alloc, 4)?;
     fill(&mut bins, 40)?;
@@ -164,7 +164,7 @@ fn copies_in_columns_are_the_entries(rt: HostRuntime) -> Result<(), Fail> {
     Ok(())
 }
 
-// One of 256 keys of eight pairs, each `41 61` or `42 42`: all have one hash.
+/// One of 256 keys of eight pairs, each `41 61` or `42 42`: all have one hash.
 pub(crate) fn key_of_pairs(number: u8) -> Result<Key, Fail> {
     let mut bytes = [0; 16];
     for pair in 0..8usize {
@@ -175,7 +175,7 @@ pub(crate) fn key_of_pairs(number: u8) -> Result<Key, Fail> {
     Ok(Key::from_slice(&bytes)?)
 }
 
-// One of 256 keys of five bytes: each has a hash of its own, and the lowest 16 bits of them all are 0.
+/// One of 256 keys of five bytes: each has a hash of its own, and the lowest 16 bits of them all are 0.
 fn key_of_bin(number: u8) -> Result<Key, Fail> {
     let begun = hash_of(&Key::from_slice(&[number])?);
     let rest = begun.wrapping_mul(31 * 31 * 31 * 31).wrapping_neg() % 65_536;
@@ -188,7 +188,7 @@ fn key_of_bin(number: u8) -> Result<Key, Fail> {
     ])?)
 }
 
-// How the hashes of keys are alike.
+/// How the hashes of keys are alike.
 #[derive(Clone, Copy)]
 enum Crowd {
     /// Not at all: the keys are of one byte.
@@ -200,7 +200,7 @@ enum Crowd {
 }
 
 impl Crowd {
-    // The key of a number.
+    /// The key of a number.
     fn key(self, number: u8) -> Result<Key, Fail> {
         match self {
             Crowd::Apart => Ok(Key::from_slice(&[number])?),
@@ -209,7 +209,7 @@ impl Crowd {
         }
     }
 
-    // Whether the hashes of two keys are so alike.
+    /// Whether the hashes of two keys are so alike.
     fn is_of(self, one: &Key, other: &Key) -> bool {
         let one = hash_of(one);
         let other = hash_of(other);
@@ -221,7 +221,7 @@ impl Crowd {
     }
 }
 
-// Puts 200 keys of a crowd; whether they are of that crowd.
+/// Puts 200 keys of a crowd; whether they are of that crowd.
 fn put_crowd<B: Bins>(bins: &mut B, crowd: Crowd) -> Result<bool, Fail> {
     let other = crowd.key(255)?;
     let mut all = true;
@@ -233,7 +233,7 @@ fn put_crowd<B: Bins>(bins: &mut B, crowd: Crowd) -> Result<bool, Fail> {
     Ok(all)
 }
 
-// Removes every third key of a crowd; whether each had its value.
+/// Removes every third key of a crowd; whether each had its value.
 fn remove_thirds<B: Bins>(bins: &mut B, crowd: Crowd) -> Result<bool, Fail> {
     let mut there = true;
     for number in 0..200u8 {
@@ -246,12 +246,12 @@ fn remove_thirds<B: Bins>(bins: &mut B, crowd: Crowd) -> Result<bool, Fail> {
     Ok(there)
 }
 
-// Whether a key has this value.
+/// Whether a key has this value.
 fn has<B: Bins>(bins: &B, key: &Key, number: u8) -> bool {
     bins.find(&HashedKey::new(key)) == Some([number].as_slice())
 }
 
-// Puts the keys of a crowd among others, removes every third, and finds just those that are left; whether it went so.
+/// Puts the keys of a crowd among others, removes every third, and finds just those that are left; whether it went so.
 fn stand_apart<B: Bins + Drop>(alloc: Global, crowd: Crowd) -> Result<bool, Fail> {
     let mut bins = B::open(alloc, 1)?;
     let mut apart = put_crowd(&mut bins, Crowd::Apart)? && put_crowd(&mut bins, crowd)?;
@@ -305,7 +305,7 @@ fn hashes_are_as_in_java(rt: HostRuntime) -> Result<(), Fail> {
     Ok(())
 }
 
-// How many bins so many entries have.
+/// How many bins so many entries have.
 fn wanted_bins(entries: u8) -> u64 {
     match entries {
         0..=16 => 8,
@@ -315,7 +315,7 @@ fn wanted_bins(entries: u8) -> u64 {
     }
 }
 
-// Puts the key of this number, counted from 0; whether the bins were as many as wanted before, and after.
+/// Puts the key of this number, counted from 0; whether the bins were as many as wanted before, and after.
 fn double_in_time(bins: &mut HashedBins, key: &Key, number: u8) -> Result<bool, Fail>
     requires { number < 255 }
 {
@@ -347,7 +347,7 @@ fn bins_double_with_the_key_that_crowds_them(rt: HostRuntime) -> Result<(), Fail
     Ok(())
 }
 
-// Opens, and once more where that was refused.
+/// Opens, and once more where that was refused.
 fn opened<B: Bins>(alloc: Global) -> Result<B, NoMemory> {
     match B::open(alloc, 1) {
         Ok(bins) => Ok(bins),
@@ -355,7 +355,7 @@ fn opened<B: Bins>(alloc: Global) -> Result<B, NoMemory> {
     }
 }
 
-// Puts a key, and once more where that was refused; whether it was then not there.
+/// Puts a key, and once more where that was refused; whether it was then not there.
 fn put_twice<B: Bins>(bins: &mut B, key: &Key) -> Result<bool, Fail> {
     let key = HashedKey::new(key);
     if bins.put(&key, &Value::new()).is_ok() {
@@ -366,7 +366,7 @@ fn put_twice<B: Bins>(bins: &mut B, key: &Key) -> Result<bool, Fail> {
     Ok(absent)
 }
 
-// Whether the first keys of a crowd are there, and not the next.
+/// Whether the first keys of a crowd are there, and not the next.
 fn has_first<B: Bins>(bins: &B, crowd: Crowd, count: u8) -> Result<bool, Fail> {
     let mut there = true;
     for number in 0..count {

@@ -5,7 +5,7 @@ use flow_shape::shape;
 use std::alloc::Global;
 use verifier::{Verified, verify};
 
-// Eight bytes, little-endian.
+/// Eight bytes, little-endian.
 pub const ONE: [u8; 8] = [1, 0, 0, 0, 0, 0, 0, 0];
 
 pub const TWO: [u8; 8] = [2, 0, 0, 0, 0, 0, 0, 0];

@@ -9,12 +9,12 @@ use std::thread;
 use std::thread::Threads;
 use verifier::Verified;
 
-// A program that answers nothing, told apart by its declared size of the key.
+/// A program that answers nothing, told apart by its declared size of the key.
 fn program_of(alloc: Global, key: u16) -> Option<Verified> {
     accepted(alloc, NOTHING, sizes(key, 0, 0, 0))
 }
 
-// The declared size of the key, of the program under this number, which `get` and `find` lend.
+/// The declared size of the key, of the program under this number, which `get` and `find` lend.
 fn key_size(registry: &Registry, number: u64) -> Option<u16> {
     let key = registry.get(number)?.sizes().key;
     let (token, program) = registry.find(number)?;
@@ -41,7 +41,7 @@ fn numbers_count_from_0(rt: HostRuntime) -> Result<(), Fail> {
     Ok(())
 }
 
-// Registers ten programs, and reads each by its token and by its number.
+/// Registers ten programs, and reads each by its token and by its number.
 fn reads_its_own<R: Wait>(rt: &R, alloc: Global, registry: &Registry, first: u16) -> Option<bool> {
     let mut right = true;
     for low in 0..10 {
@@ -68,7 +68,7 @@ fn two_threads_read_by_their_tokens(rt: HostRuntime) -> Result<(), Fail> {
     Ok(())
 }
 
-// A registry, made once more where memory was refused.
+/// A registry, made once more where memory was refused.
 fn made(alloc: Global) -> Result<Registry, NoMemory> {
     match Registry::new(alloc) {
         Err(NoMemory) => Registry::new(alloc),

@@ -56,7 +56,7 @@ impl Row {
         }
     }
 
-    // the range; a row whose bounds are out of order has none
+    /// the range; a row whose bounds are out of order has none
     fn range(self, rt: &impl Abort) -> Range {
         let (umin, umax, smin, smax) = self.bounds();
         assert!(rt; umin <= umax && smin <= smax, "{self:?}");
@@ -256,7 +256,7 @@ fn both_bounds((a, b): (Range, Range)) -> (FourBounds, FourBounds) {
     (bounds(a), bounds(b))
 }
 
-// the order that says the same of the operands exchanged
+/// the order that says the same of the operands exchanged
 fn exchanged(condition: Condition) -> Option<Condition> {
     match condition {
         Condition::Gt => Some(Condition::Lt),

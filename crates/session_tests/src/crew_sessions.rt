@@ -16,19 +16,19 @@ use std::sync::Wait;
 use std::test::Fail;
 use std::thread::Threads;
 
-// A Hello, a Put of two bytes, and a Get of them.
+/// A Hello, a Put of two bytes, and a Get of them.
 const PUT_AND_GET: &[u8] = b"\0\0\0\x02\0\x01\0\0\0\x07\x11\x01a\0\x02xy\0\0\0\x03\x10\x01a";
 
 const PUT_AND_GOT: &[u8] = b"\0\0\0\x02\x80\x01\0\0\0\x03\x82\xFF\xFF\0\0\0\x05\x82\0\x02xy";
 
-// A Hello and a program that answers its argument's first byte, as a value of one byte.
+/// A Hello and a program that answers its argument's first byte, as a value of one byte.
 const REGISTER: &[u8] = b"\0\0\0\x02\0\x01\
     \0\0\0\x29\x01\0\x40\0\0\0\x01\0\x01\
     \x71\x30\0\0\0\0\0\0\x73\x04\0\0\0\0\0\0\xB7\0\0\0\x01\0\0\0\x95\0\0\0\0\0\0\0";
 
 const REGISTERED: &[u8] = b"\0\0\0\x02\x80\x01\0\0\0\x09\x81\0\0\0\0\0\0\0\0";
 
-// A Hello, a Compute by that program's number with the argument 7, and a Count.
+/// A Hello, a Compute by that program's number with the argument 7, and a Count.
 const COMPUTE: &[u8] = b"\0\0\0\x02\0\x01\
     \0\0\0\x0E\x17\x01b\0\0\0\0\0\0\0\0\0\x01\x07\
     \0\0\0\x01\x23";
@@ -36,7 +36,7 @@ const COMPUTE: &[u8] = b"\0\0\0\x02\0\x01\
 const COMPUTED: &[u8] = b"\0\0\0\x02\x80\x01\0\0\0\x04\x82\0\x01\x07\
     \0\0\0\x19\x87\0\0\0\0\0\0\0\x01\0\0\0\0\0\0\0\0\0\0\0\0\0\0\0\0";
 
-// The next crew: the last of the passes, and the two before it as its team; none where passes or memory are wanting.
+/// The next crew: the last of the passes, and the two before it as its team; none where passes or memory are wanting.
 fn crew(map: &StripedMap, passes: &mut Vec<Pass>, worker: u32) -> Option<Crew>
     requires { All (λ pass. pass.map ≡ map.now) passes.old.items }
     ensures passes { All (λ pass. pass.map ≡ map.now) passes.new.items }
@@ -59,7 +59,7 @@ fn crew(map: &StripedMap, passes: &mut Vec<Pass>, worker: u32) -> Option<Crew>
     Some(Crew { worker, pass, team })
 }
 
-// The last of the passes.
+/// The last of the passes.
 fn last_pass(map: &StripedMap, mut passes: Vec<Pass>) -> Option<Pass>
     requires { All (λ pass. pass.map ≡ map.now) passes.items }
     ensures { IfSome result (λ pass. pass.map ≡ map.now) }
@@ -72,7 +72,7 @@ fn last_pass(map: &StripedMap, mut passes: Vec<Pass>) -> Option<Pass>
     Some(pass)
 }
 
-// A map, two crews, with the workers 0 and 1, and one more pass; none where memory was refused.
+/// A map, two crews, with the workers 0 and 1, and one more pass; none where memory was refused.
 fn crews_and_pass(alloc: Global) -> Option<(StripedMap, Crew, Crew, Pass)>
     ensures one { IfSome result (λ r. IsCrewOf r.0 r.1) }
     ensures other { IfSome result (λ r. IsCrewOf r.0 r.2) }
@@ -85,7 +85,7 @@ fn crews_and_pass(alloc: Global) -> Option<(StripedMap, Crew, Crew, Pass)>
     Some((map, one, other, pass))
 }
 
-// The same without the pass.
+/// The same without the pass.
 fn two_crews(alloc: Global) -> Option<(StripedMap, Crew, Crew)>
     ensures one { IfSome result (λ r. IsCrewOf r.0 r.1) }
     ensures other { IfSome result (λ r. IsCrewOf r.0 r.2) }
@@ -94,7 +94,7 @@ fn two_crews(alloc: Global) -> Option<(StripedMap, Crew, Crew)>
     Some((map, one, other))
 }
 
-// What a session of the crew comes to that is sent these bytes in pieces of at most this size.
+/// What a session of the crew comes to that is sent these bytes in pieces of at most this size.
 fn served<H: Threads + Wait + Sync>(
     rt: &H,
     alloc: Global,

@@ -114,13 +114,13 @@ pub fn admit(alloc: Global, bytes: &[u8], sizes: Sizes) -> Result<Verified, Admi
     Ok(verify(alloc, shaped, sizes)?)
 }
 
-// The bytes of a unit.
+/// The bytes of a unit.
 const UNIT_BYTES: usize = 8;
 
-// The most units of a program that a client of version 1 may register.
+/// The most units of a program that a client of version 1 may register.
 const UNITS_OF_VERSION_ONE: usize = 512;
 
-// The most units of a program that is sent behind this Hello.
+/// The most units of a program that is sent behind this Hello.
 fn most_units(hello: Option<Version>) -> usize
     ensures { result ≡ most_units hello }
 {
@@ -130,14 +130,14 @@ fn most_units(hello: Option<Version>) -> usize
     }
 }
 
-// Whether the bytes are whole units, and more than may be sent behind this Hello.
+/// Whether the bytes are whole units, and more than may be sent behind this Hello.
 fn has_many_units(hello: Option<Version>, bytes: &[u8]) -> bool
     ensures { IsTrue result ↔ HasManyUnits hello bytes.now }
 {
     bytes.len() % UNIT_BYTES == 0 && bytes.len() / UNIT_BYTES > most_units(hello)
 }
 
-// Whether a declared size is above its limit behind this Hello.
+/// Whether a declared size is above its limit behind this Hello.
 fn has_large_window(hello: Option<Version>, sizes: Sizes) -> bool
     ensures { IsTrue result ↔ HasLargeWindow hello sizes }
 {

@@ -29,7 +29,7 @@ pub struct Frame {
     slots: Slots,
 }
 
-// A frame with a value for each of the eleven registers fits in four pages of 1,024 bytes.
+/// A frame with a value for each of the eleven registers fits in four pages of 1,024 bytes.
 const _: () = prove!(size_of::<Frame>() + 11 * size_of::<RegValue>() <= 4 * 1024);
 
 impl Frame {
@@ -130,7 +130,7 @@ impl Frame {
         }
     }
 
-    // the value of the slot that the access fills
+    /// the value of the slot that the access fills
     fn spilled(&self, access: &Access) -> Option<RegValue>
         ensures found { IfSome result (λ x. (slot : ℕ) × ((fills_slot access.now slot ≡ true)
             × (spilled_in self.now slot ≡ Some x))) }

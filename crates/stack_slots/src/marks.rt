@@ -6,7 +6,7 @@ ghost use Rattle.stack_slots.specs.Marks.{is_marked};
 /// The bits of a word of marks.
 pub(crate) const WORD_BITS: usize = 64;
 
-// a word with its n lowest bits set
+/// a word with its n lowest bits set
 fn lowest(n: usize) -> u64
     ensures bits { (k : ℕ) → k < 64 → nat_eq (bit_at result k) 1 ≡ nat_lt k n }
 {
@@ -17,7 +17,7 @@ fn lowest(n: usize) -> u64
     }
 }
 
-// the bits of this word that mark places from `first` to below `end`
+/// the bits of this word that mark places from `first` to below `end`
 fn between(index: usize, first: usize, end: usize) -> u64
     requires small { index < 2 ^ 32 }
     ensures bits { (k : ℕ) → k < 64

@@ -20,7 +20,7 @@ pub(crate) fn copy(slots: &mut Slots, other: &Slots)
     }
 }
 
-// Writing None writes all the room of the values, so it is done only where there are some.
+/// Writing None writes all the room of the values, so it is done only where there are some.
 fn forget_all(slots: &mut Slots)
     ensures value { slots.new ≡ None }
 {

@@ -26,7 +26,7 @@ pub fn xor(a: Range, b: Range) -> Range
     Range::unsigned(0, ones_over(a.umax.max(b.umax)))
 }
 
-// the least number of ones alone that is at least this
+/// the least number of ones alone that is at least this
 fn ones_over(n: u64) -> u64
     ensures ones { (k : ℕ) × (result + 1 ≡ 2 ^ k) }
     ensures above { n ≤ result }

@@ -34,7 +34,7 @@ impl Bounds {
         self.with_signed().with_unsigned().ordered()
     }
 
-    // the unsigned bounds by the signed ones, where these are of one sign
+    /// the unsigned bounds by the signed ones, where these are of one sign
     fn with_signed(self) -> Bounds
         ensures { (w : ℕ) → IsWithin w self → IsWithin w result }
     {
@@ -56,7 +56,7 @@ impl Bounds {
         }
     }
 
-    // the signed bounds by the unsigned ones, where these are in one half
+    /// the signed bounds by the unsigned ones, where these are in one half
     fn with_unsigned(self) -> Bounds
         ensures { (w : ℕ) → IsWithin w self → IsWithin w result }
     {

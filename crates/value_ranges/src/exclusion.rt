@@ -44,7 +44,7 @@ fn without(a: Range, word: u64) -> Option<Range>
     bounds.tighten()
 }
 
-// a minimum without this word, if there is a greater one
+/// a minimum without this word, if there is a greater one
 fn raised(bound: u64, word: u64) -> Option<u64>
     ensures { (x : ℕ) → IsWord x → bound ≤ x → x ≢ word → IsFrom x result }
 {

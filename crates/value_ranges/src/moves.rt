@@ -42,7 +42,7 @@ fn extend_low(extension: SignExtension, a: Range) -> Range
     }
 }
 
-// the highest of the bits that are read
+/// the highest of the bits that are read
 fn sign_bit(extension: SignExtension) -> u32
     ensures value { result ≡ 2 ^ (extension_bits extension - 1) }
     ensures least { 1 ≤ result }

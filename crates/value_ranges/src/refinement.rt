@@ -31,7 +31,7 @@ pub fn refine(condition: Condition, width: Width, a: Range, b: Range) -> Option<
     }
 }
 
-// By the whole words. Inlined with its caller: else each range, of four words, is copied at each call.
+/// By the whole words. Inlined with its caller: else each range, of four words, is copied at each call.
 #[inline(always)]
 fn refine_words(condition: Condition, a: Range, b: Range) -> Option<(Range, Range)>
     ensures { KeepsPairs (λ x y. compare condition x y (signed x) (signed y)) a b result }
@@ -51,7 +51,7 @@ fn refine_words(condition: Condition, a: Range, b: Range) -> Option<(Range, Rang
     }
 }
 
-// the ranges themselves; none where each has one word and the condition is false
+/// the ranges themselves; none where each has one word and the condition is false
 fn kept(condition: Condition, width: Width, a: Range, b: Range) -> Option<(Range, Range)>
     ensures { KeepsPairs (holds condition width) a b result }
 {

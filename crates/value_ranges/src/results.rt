@@ -25,7 +25,7 @@ pub fn alu(op: AluOp, width: Width, a: Range, b: Range) -> Range
     }
 }
 
-// on numbers of the width, not all of one word
+/// on numbers of the width, not all of one word
 fn alu_low(op: AluOp, width: Width, a: Range, b: Range) -> Range
     requires first { a.umax < modulus width }
     requires second { b.umax < modulus width }

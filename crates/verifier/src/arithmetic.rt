@@ -49,7 +49,7 @@ pub fn moved(width: Width, value: RegValue) -> RegValue
     }
 }
 
-// a pointer out of reach may be any word
+/// a pointer out of reach may be any word
 fn sum(pointer: Pointer, number: Range) -> RegValue
     ensures holds { (x y : ℕ) → PointsTo pointer x → IsIn y number
         → StandsFor result (Some ((x + y) % 2 ^ 64)) }

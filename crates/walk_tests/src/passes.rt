@@ -25,7 +25,7 @@ fn value(bytes: &[u8]) -> Result<Value, TooLong> {
     Value::from_slice(bytes)
 }
 
-// Puts an entry.
+/// Puts an entry.
 fn put<R: Wait>(
     rt: &R,
     map: &StripedMap,
@@ -42,7 +42,7 @@ fn put<R: Wait>(
     Ok(())
 }
 
-// The reply to a get.
+/// The reply to a get.
 fn got<R: Wait>(rt: &R, map: &StripedMap, pass: &mut Pass, name: &[u8]) -> Result<Reply, Fail>
     requires { pass.old.map ≡ map.now }
     ensures { pass.new.map ≡ map.now }
@@ -51,7 +51,7 @@ fn got<R: Wait>(rt: &R, map: &StripedMap, pass: &mut Pass, name: &[u8]) -> Resul
     Ok(map.call(rt, pass, &Call::Get { key })?)
 }
 
-// Whether the reply is this value.
+/// Whether the reply is this value.
 fn is_value(reply: &Reply, bytes: &[u8]) -> bool {
     match reply {
         Reply::Value(Some(value)) => value.as_slice() == bytes,
@@ -59,7 +59,7 @@ fn is_value(reply: &Reply, bytes: &[u8]) -> bool {
     }
 }
 
-// The number under which a map is refused, or 0.
+/// The number under which a map is refused, or 0.
 fn refusal(alloc: Global, stripes: u64, passes: u64) -> u8 {
     match StripedMap::open(alloc, stripes, passes) {
         Ok(_) => 0,
@@ -67,7 +67,7 @@ fn refusal(alloc: Global, stripes: u64, passes: u64) -> u8 {
     }
 }
 
-// A map, whose passes all serve it.
+/// A map, whose passes all serve it.
 pub(crate) fn opened(
     alloc: Global,
     stripes: u64,
@@ -78,7 +78,7 @@ pub(crate) fn opened(
     StripedMap::open(alloc, stripes, passes)
 }
 
-// The entries of a stripe, where the map has it and memory is there.
+/// The entries of a stripe, where the map has it and memory is there.
 fn scanned<R: Wait>(
     rt: &R,
     alloc: Global,
@@ -95,7 +95,7 @@ fn scanned<R: Wait>(
     map.scan_stripe(rt, alloc, pass, stripe).ok()
 }
 
-// The next of the map's passes.
+/// The next of the map's passes.
 pub(crate) fn next_pass(map: &StripedMap, passes: &mut Vec<Pass>) -> Result<Pass, Fail>
     requires all { All (λ pass. pass.map ≡ map.now) passes.old.items }
     ensures pass { IfOk result (λ pass. pass.map ≡ map.now) }

@@ -6,7 +6,7 @@ use known_seat::{Known, Lesson, learn};
 use std::alloc::Global;
 use std::test::Fail;
 
-// A table of which nothing is asked.
+/// A table of which nothing is asked.
 struct Anything;
 
 impl TableRule<u8, (), ()> for Anything {

@@ -20,7 +20,7 @@ mod gates;
 mod refused;
 mod rows;
 
-// Puts an entry; none where memory was refused.
+/// Puts an entry; none where memory was refused.
 fn put<R: Wait>(rt: &R, map: &StripedMap, pass: &mut Pass, name: &[u8], bytes: &[u8]) -> Option<()>
     requires { pass.old.map ≡ map.now }
     ensures { pass.new.map ≡ map.now }
@@ -31,7 +31,7 @@ fn put<R: Wait>(rt: &R, map: &StripedMap, pass: &mut Pass, name: &[u8], bytes: &
     Some(())
 }
 
-// The last of a map's passes, and a team of the others.
+/// The last of a map's passes, and a team of the others.
 fn dealt(map: &StripedMap, mut passes: Vec<Pass>) -> Option<(Pass, Team)>
     requires { All (λ pass. pass.map ≡ map.now) passes.items }
     ensures pass { IfSome result (λ r. r.0.map ≡ map.now) }
@@ -42,7 +42,7 @@ fn dealt(map: &StripedMap, mut passes: Vec<Pass>) -> Option<(Pass, Team)>
     Some((pass, team))
 }
 
-// A map of so many stripes, a pass, and a team of so many more; none where memory was refused.
+/// A map of so many stripes, a pass, and a team of so many more; none where memory was refused.
 fn made(alloc: Global, stripes: u64, workers: u64) -> Option<(StripedMap, Pass, Team)>
     requires { workers ≤ 63 }
     ensures pass { IfSome result (λ r. r.1.map ≡ r.0) }
@@ -64,8 +64,8 @@ fn opened(alloc: Global, stripes: u64, workers: u64) -> Result<(StripedMap, Pass
     }
 }
 
-// Puts the entries `a` of 1 and `b` of 2, and `c` of nine bytes, which is too long for the program; none where memory was
-// refused.
+/// Puts the entries `a` of 1 and `b` of 2, and `c` of nine bytes, which is too long for the program; none where memory was
+/// refused.
 fn put_all<R: Wait>(rt: &R, map: &StripedMap, pass: &mut Pass) -> Option<()>
     requires { pass.old.map ≡ map.now }
     ensures { pass.new.map ≡ map.now }
@@ -82,7 +82,7 @@ fn fill<R: Wait>(rt: &R, map: &StripedMap, pass: &mut Pass) -> Result<(), Fail>
     Ok(put_all(rt, map, pass).ok_or("not filled")?)
 }
 
-// The number that these bytes spell, where there are eight.
+/// The number that these bytes spell, where there are eight.
 fn number_of(bytes: &[u8]) -> Option<u64> {
     match bytes {
         [a, b, c, d, e, f, g, h] => Some(u64::from_le_bytes([*a, *b, *c, *d, *e, *f, *g, *h])),
@@ -90,7 +90,7 @@ fn number_of(bytes: &[u8]) -> Option<u64> {
     }
 }
 
-// Whether these are the items, in their order.
+/// Whether these are the items, in their order.
 fn are_items(found: &EntryList, items: &[(&[u8], &[u8])]) -> bool {
     if found.len() != items.len() {
         return false;
@@ -103,7 +103,7 @@ fn are_items(found: &EntryList, items: &[(&[u8], &[u8])]) -> bool {
     true
 }
 
-// Whether the reply has these items and counts.
+/// Whether the reply has these items and counts.
 fn is_reply(reply: &WalkReply, items: &[(&[u8], &[u8])], counts: (u64, u64, u64)) -> bool {
     let found = &reply.counts;
     are_items(&reply.items, items) && (found.scanned, found.given, found.unfit) == counts

@@ -4,7 +4,7 @@ use super::*;
 use bins::{HashedBins, ListBins};
 use std::process::Abort;
 
-// A request of so many bytes is a mark to `tests/refused.sh`, and no other request is of this size.
+/// A request of so many bytes is a mark to `tests/refused.sh`, and no other request is of this size.
 const MARK: usize = 99_991;
 
 fn mark(alloc: Global) -> Result<(), Fail> {
@@ -12,7 +12,7 @@ fn mark(alloc: Global) -> Result<(), Fail> {
     Ok(())
 }
 
-// Eight entries in one stripe, as many as a list that doubles has room for; `a` has what it is to have before.
+/// Eight entries in one stripe, as many as a list that doubles has room for; `a` has what it is to have before.
 fn full<T: Tried + Drop>(alloc: Global, programs: &Programs, before: Wanted) -> Result<T, Fail> {
     let mut table = T::opened(alloc)?;
     let eighth = match before {
@@ -29,7 +29,7 @@ fn full<T: Tried + Drop>(alloc: Global, programs: &Programs, before: Wanted) -> 
     Ok(table)
 }
 
-// Whether the row's call was made, or was refused and would have added its key.
+/// Whether the row's call was made, or was refused and would have added its key.
 fn is_kept(row: &Row, given: &Result<Reply, NoMemory>, found: &Reply) -> bool {
     let (before, _, reply, after) = row;
     match (given, before, after) {
@@ -39,7 +39,7 @@ fn is_kept(row: &Row, given: &Result<Reply, NoMemory>, found: &Reply) -> bool {
     }
 }
 
-// Each row on a full table of its own, the call between two marks.
+/// Each row on a full table of its own, the call between two marks.
 fn try_rows<T: Tried + Drop>(rt: &impl Abort, alloc: Global, rows: &[Row]) -> Result<(), Fail> {
     let programs = Programs::new(alloc)?;
     for (number, row) in rows.iter().enumerate() {

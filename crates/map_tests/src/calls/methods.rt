@@ -10,7 +10,7 @@ use atomic_methods::apply;
 use bins::{Bins, HashedBins, ListBins};
 use std::process::Abort;
 
-// Values of calls without programs.
+/// Values of calls without programs.
 const OLD: Wanted = Bytes(b"x");
 
 const NEW: Wanted = Bytes(b"y");
@@ -23,7 +23,7 @@ const YES: Wanted = Done(true);
 
 const NO: Wanted = Done(false);
 
-// Values of calls with programs: of 8 bytes, and one of 9.
+/// Values of calls with programs: of 8 bytes, and one of 9.
 const WAS: Wanted = Bytes(&ONE);
 
 const ARG: Wanted = Bytes(&TWO);
@@ -38,7 +38,7 @@ const NO_OLD: Wanted = Unfit(InputPart::Old);
 
 const NO_ARG: Wanted = Unfit(InputPart::Arg);
 
-// What the key has before, the method, the reply, and what the key has after.
+/// What the key has before, the method, the reply, and what the key has after.
 pub(super) type Row = (Wanted, Method, Wanted, Wanted);
 
 pub(super) const PLAIN: [Row; 19] = [
@@ -84,7 +84,7 @@ pub(super) const COMPUTING: [Row; 18] = [
     (WAS, Merge(&NINE, Sum), NO_ARG, WAS),
 ];
 
-// What rows are tried on: a whole table, or bins of either kind alone.
+/// What rows are tried on: a whole table, or bins of either kind alone.
 pub(super) trait Tried: Sized {
     fn opened(alloc: Global) -> Result<Self, Fail>;
 
@@ -121,26 +121,26 @@ impl Tried for HashedBins {
     }
 }
 
-// A key and its neighbour in the table.
+/// A key and its neighbour in the table.
 #[derive(Clone, Copy)]
 pub(super) struct Names {
     pub(super) key: &'static [u8],
     pub(super) neighbour: &'static [u8],
 }
 
-// A key with which the other one begins.
+/// A key with which the other one begins.
 pub(super) const BEGINNING: Names = Names {
     key: b"a",
     neighbour: b"ab",
 };
 
-// Keys of one hash.
+/// Keys of one hash.
 pub(super) const ONE_HASH: Names = Names {
     key: b"Aa",
     neighbour: b"BB",
 };
 
-// Each row on the key of a table of its own, in which the key has a neighbour.
+/// Each row on the key of a table of its own, in which the key has a neighbour.
 fn try_rows<T: Tried + Drop>(
     rt: &impl Abort,
     alloc: Global,
@@ -164,7 +164,7 @@ fn try_rows<T: Tried + Drop>(
     Ok(())
 }
 
-// The rows on a table in stripes, and on bins of both kinds.
+/// The rows on a table in stripes, and on bins of both kinds.
 fn try_everywhere(rt: &impl Abort, alloc: Global, names: Names, rows: &[Row]) -> Result<(), Fail> {
     try_rows::<Striped>(rt, alloc, names, rows)?;
     try_rows::<ListBins>(rt, alloc, names, rows)?;
@@ -183,13 +183,13 @@ fn methods_with_programs(rt: HostRuntime) -> Result<(), Fail> {
     try_everywhere(&rt, rt.alloc(), ONE_HASH, &COMPUTING)
 }
 
-// Enters the value of these bytes.
+/// Enters the value of these bytes.
 fn put(table: &mut Striped, key: &Key, bytes: &[u8]) -> Result<Reply, Fail> {
     let value = &value(bytes)?;
     Ok(table.apply(&Call::Put { key, value })?)
 }
 
-// What a `Compute` lends.
+/// What a `Compute` lends.
 #[derive(Drop)]
 struct Computing {
     key: Key,
@@ -226,15 +226,15 @@ fn a_longest_value_is_unfit_where_one_byte_is_missing(rt: HostRuntime) -> Result
     Ok(())
 }
 
-// Answers two numbers of 8 bytes: the length of the old value and that of the argument, -1 where there is none.
+/// Answers two numbers of 8 bytes: the length of the old value and that of the argument, -1 where there is none.
 const LENGTHS_TOLD: &str = "stxd [r4+0], r7\nstxd [r4+8], r8\nmov64 r0, 16\nexit\n";
 
-// Eight bytes each: the length -1, 0 and 1.
+/// Eight bytes each: the length -1, 0 and 1.
 const ABSENT: [u8; 8] = [255; 8];
 
 const EMPTY_LENGTH: [u8; 8] = [0; 8];
 
-// The old value, the argument, and the two lengths that a program is told.
+/// The old value, the argument, and the two lengths that a program is told.
 const LENGTHS: [(Option<&[u8]>, Option<&[u8]>, [u8; 8], [u8; 8]); 6] = [
     (None, None, ABSENT, ABSENT),
     (None, Some(b""), ABSENT, EMPTY_LENGTH),

@@ -18,7 +18,7 @@ fn put_all<R: Wait>(rt: &R, map: &StripedMap, pass: &mut Pass, keys: &[Key]) -> 
     Some(())
 }
 
-// How many entries the stripe has, where there is such a stripe.
+/// How many entries the stripe has, where there is such a stripe.
 fn count_in<R: Wait>(rt: &R, map: &StripedMap, pass: &mut Pass, stripe: u64) -> Option<u64>
     requires { pass.old.map ≡ map.now }
     ensures { pass.new.map ≡ map.now }
@@ -29,7 +29,7 @@ fn count_in<R: Wait>(rt: &R, map: &StripedMap, pass: &mut Pass, stripe: u64) -> 
     Some(map.count_stripe(rt, pass, stripe))
 }
 
-// Whether each stripe has so many entries.
+/// Whether each stripe has so many entries.
 fn has_each<R: Wait>(rt: &R, map: &StripedMap, pass: &mut Pass, wanted: u64) -> bool
     requires { pass.old.map ≡ map.now }
     ensures { pass.new.map ≡ map.now }

@@ -1,7 +1,7 @@
 //! A list of calls.
 use super::*;
 
-// Nine calls on values of one byte, and what they reply.
+/// Nine calls on values of one byte, and what they reply.
 const CALLS: [(&[u8], Method, Wanted); 9] = [
     (b"a", Method::Put(&[1]), Wanted::Nothing),
     (b"a", Method::PutIfAbsent(&[2]), Wanted::Bytes(&[1])),

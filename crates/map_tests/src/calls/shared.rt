@@ -7,7 +7,7 @@ use bin_stripes::{Pass, StripedMap};
 use std::process::Abort;
 use std::sync::Wait;
 
-// The last of the passes.
+/// The last of the passes.
 fn last_pass(map: &StripedMap, mut passes: Vec<Pass>) -> Option<Pass>
     requires { All (λ pass. pass.map ≡ map.now) passes.items }
     ensures { IfSome result (λ pass. pass.map ≡ map.now) }
@@ -20,7 +20,7 @@ fn last_pass(map: &StripedMap, mut passes: Vec<Pass>) -> Option<Pass>
     Some(pass)
 }
 
-// A map of so many stripes and its one pass; none where memory was refused.
+/// A map of so many stripes and its one pass; none where memory was refused.
 pub(super) fn map_and_pass(alloc: Global, stripes: u64) -> Option<(StripedMap, Pass)>
     ensures { IfSome result (λ r. r.1.map ≡ r.0) }
 {
@@ -29,7 +29,7 @@ pub(super) fn map_and_pass(alloc: Global, stripes: u64) -> Option<(StripedMap, P
     Some((map, pass))
 }
 
-// The reply to the call. What an earlier reply left in the place stays there, where this one leaves no bytes.
+/// The reply to the call. What an earlier reply left in the place stays there, where this one leaves no bytes.
 fn reply_to<R: Wait>(
     rt: &R,
     map: &StripedMap,
@@ -44,7 +44,7 @@ fn reply_to<R: Wait>(
     Ok(kind.with(bytes.copied()))
 }
 
-// A row on the key of a map, in which the key has a neighbour: whether each reply is the wanted one.
+/// A row on the key of a map, in which the key has a neighbour: whether each reply is the wanted one.
 fn is_row_kept<R: Wait>(
     rt: &R,
     programs: &Programs,
@@ -76,7 +76,7 @@ fn is_row_kept<R: Wait>(
     )
 }
 
-// Each row on a map of its own.
+/// Each row on a map of its own.
 fn try_rows<R: Wait + Abort>(
     rt: &R,
     alloc: Global,

@@ -25,7 +25,7 @@ fn numbers_of_stripes(rt: HostRuntime) -> Result<(), Fail> {
     Ok(())
 }
 
-// Entries of 8 bytes, 8 bytes and 9 bytes.
+/// Entries of 8 bytes, 8 bytes and 9 bytes.
 fn three_entries(alloc: Global, stripes: u64) -> Result<Striped, Fail> {
     let mut table = Striped::open(alloc, stripes)?;
     for (name, bytes) in [(b"c", NINE.as_slice()), (b"b", &TWO), (b"a", &ONE)] {
@@ -73,10 +73,10 @@ fn a_pass_replaces_what_fits(rt: HostRuntime) -> Result<(), Fail> {
     Ok(())
 }
 
-// So many keys are put and asked for.
+/// So many keys are put and asked for.
 const KEYS: u8 = 40;
 
-// Whether each key of one byte below this one has its value, and no other key has one.
+/// Whether each key of one byte below this one has its value, and no other key has one.
 fn ends_before(table: &mut Striped, end: u8) -> Result<bool, Fail> {
     for number in 0..=KEYS {
         let key = &key(&[number])?;
@@ -93,14 +93,14 @@ fn ends_before(table: &mut Striped, end: u8) -> Result<bool, Fail> {
     Ok(true)
 }
 
-// Puts the key of one byte.
+/// Puts the key of one byte.
 fn put(table: &mut Striped, number: u8) -> Result<Reply, NoMemory> {
     let key = &Key::from_slice(&[number]).unwrap();
     let value = &Value::from_slice(b"new").unwrap();
     table.apply(&Call::Put { key, value })
 }
 
-// A table of so many stripes, opened once more where memory was refused.
+/// A table of so many stripes, opened once more where memory was refused.
 fn opened(alloc: Global, stripes: u64) -> Result<Striped, OpenFault> {
     match Striped::open(alloc, stripes) {
         Err(OpenFault::NoMemory) => Striped::open(alloc, stripes),

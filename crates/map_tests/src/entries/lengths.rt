@@ -6,14 +6,14 @@ const KEY_LENGTHS: [usize; 4] = [0, 18, 19, 64];
 
 const VALUE_LENGTHS: [usize; 6] = [0, 18, 19, 64, 65, 1_024];
 
-// A value of so many bytes.
+/// A value of so many bytes.
 fn value_of(byte: u8, length: usize) -> Result<Value, Fail> {
     let bytes = [byte; 1_024];
     Ok(Value::from_slice(bytes.get(..length).unwrap_or(&[]))?)
 }
 
-// Puts a value of the one length and then one of the other on a key between two entries of their own, and removes it;
-// whether each entry had what was put last.
+/// Puts a value of the one length and then one of the other on a key between two entries of their own, and removes it;
+/// whether each entry had what was put last.
 fn is_replaced<B: Bins>(bins: &mut B, key: &Key, lengths: (usize, usize)) -> Result<bool, Fail> {
     let key = HashedKey::new(key);
     let (first, last) = (Key::from_slice(b"first")?, Key::from_slice(b"last")?);
@@ -29,7 +29,7 @@ fn is_replaced<B: Bins>(bins: &mut B, key: &Key, lengths: (usize, usize)) -> Res
     Ok(put && removed && one && other)
 }
 
-// Replaces a value of this length by one of each.
+/// Replaces a value of this length by one of each.
 fn are_replaced<B: Bins>(bins: &mut B, key: &Key, length: usize) -> Result<bool, Fail> {
     let mut right = true;
     for other in VALUE_LENGTHS {
@@ -38,7 +38,7 @@ fn are_replaced<B: Bins>(bins: &mut B, key: &Key, length: usize) -> Result<bool,
     Ok(right)
 }
 
-// Replaces values of each length by those of each, on a key of this length.
+/// Replaces values of each length by those of each, on a key of this length.
 fn fit_on_key<B: Bins>(bins: &mut B, length: usize) -> Result<bool, Fail> {
     let bytes = [7; 64];
     let key = Key::from_slice(bytes.get(..length).unwrap_or(&[]))?;

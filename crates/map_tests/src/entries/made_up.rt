@@ -5,14 +5,14 @@ use super::*;
 
 const KEYS: u32 = 2_000;
 
-// A linear congruential generator, with Knuth's multiplier and increment for 64 bits.
+/// A linear congruential generator, with Knuth's multiplier and increment for 64 bits.
 #[derive(Drop)]
 struct MadeUp {
     state: u64,
 }
 
 impl MadeUp {
-    // The next number below a bound.
+    /// The next number below a bound.
     fn below(&mut self, bound: u32) -> u32
         requires { 0 < bound }
         ensures { result < bound }
@@ -25,14 +25,14 @@ impl MadeUp {
     }
 }
 
-// The value after a change: 17 bytes longer, and short again after 80.
+/// The value after a change: 17 bytes longer, and short again after 80.
 fn changed(old: &Value) -> Result<Value, Fail> {
     let bytes = [7; 80];
     let long = (old.as_slice().len() + 17) % 81;
     Ok(Value::from_slice(&bytes[..long])?)
 }
 
-// One call on a made-up key, in the bins and in the list; whether they agree on what it found.
+/// One call on a made-up key, in the bins and in the list; whether they agree on what it found.
 fn step<B: Bins>(
     bins: &mut B,
     list: &mut [Option<Value>],
@@ -65,7 +65,7 @@ fn step<B: Bins>(
     }
 }
 
-// The entries that the list has, in key order.
+/// The entries that the list has, in key order.
 fn listed(alloc: Global, list: &[Option<Value>]) -> Result<Vec<(Key, Value)>, Fail> {
     let mut entries = Vec::new(alloc);
     for (number, value) in (0..KEYS).zip(list) {
@@ -76,7 +76,7 @@ fn listed(alloc: Global, list: &[Option<Value>]) -> Result<Vec<(Key, Value)>, Fa
     Ok(entries)
 }
 
-// So many calls; whether bins and list agreed on each, and have the same entries in the end.
+/// So many calls; whether bins and list agreed on each, and have the same entries in the end.
 fn agree<B: Bins + Drop>(alloc: Global, calls: u32) -> Result<bool, Fail> {
     let mut bins = B::open(alloc, 1)?;
     let mut list = Vec::new(alloc);

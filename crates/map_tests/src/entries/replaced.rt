@@ -2,7 +2,7 @@
 use super::*;
 use crate::programs::{NINE, NOTHING, ONE, THREE, TWO, sizes, summing, verified};
 
-// One pass after another over three entries, the one of `c` too long; whether each counted and left what is wanted.
+/// One pass after another over three entries, the one of `c` too long; whether each counted and left what is wanted.
 fn are_replaced<B: Bins + Drop>(alloc: Global) -> Result<bool, Fail> {
     let sum = summing(alloc)?;
     let nothing = verified(alloc, NOTHING, sizes(64, 8, 8, 8))?;

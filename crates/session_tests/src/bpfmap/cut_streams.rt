@@ -6,7 +6,7 @@ use std::test::Fail;
 
 const HELLO: [u8; 6] = [0, 0, 0, 2, 0, 1];
 
-// A Hello, a Put of two bytes, a Get.
+/// A Hello, a Put of two bytes, a Get.
 const PUT_AND_GET: [u8; 24] = [
     0, 0, 0, 2, 0, 1, 0, 0, 0, 7, 0x11, 1, 0x61, 0, 2, 0x78, 0x79, 0, 0, 0, 3, 0x10, 1, 0x61,
 ];

@@ -56,16 +56,16 @@ const ONE: &[u8] = b"\0\0\0\x0B\x82\0\x08\x01\0\0\0\0\0\0\0";
 
 const TWO: &[u8] = b"\0\0\0\x0B\x82\0\x08\x02\0\0\0\0\0\0\0";
 
-// The end of a walk over no entry.
+/// The end of a walk over no entry.
 const NONE: &[u8] = b"\0\0\0\x19\x87\0\0\0\0\0\0\0\0\0\0\0\0\0\0\0\0\0\0\0\0\0\0\0\0";
 
-// The end of a count of one entry.
+/// The end of a count of one entry.
 const COUNTED: &[u8] = b"\0\0\0\x19\x87\0\0\0\0\0\0\0\x01\0\0\0\0\0\0\0\0\0\0\0\0\0\0\0\0";
 
-// The end of a walk that gave one entry's answer.
+/// The end of a walk that gave one entry's answer.
 const GIVEN: &[u8] = b"\0\0\0\x19\x87\0\0\0\0\0\0\0\x01\0\0\0\0\0\0\0\x01\0\0\0\0\0\0\0\0";
 
-// That answer, and the end.
+/// That answer, and the end.
 const FOUND: &[u8] =
     b"\0\0\0\x0D\x86\x01a\0\x08\x02\0\0\0\0\0\0\0\0\0\0\x19\x87\0\0\0\0\0\0\0\x01\0\0\0\0\0\0\0\x01\0\0\0\0\0\0\0\0";
 
@@ -102,7 +102,7 @@ const ROWS: [Row; 3] = [
     },
 ];
 
-// An empty table, asked for once more where memory was refused.
+/// An empty table, asked for once more where memory was refused.
 fn opened(alloc: Global) -> Result<Alone, OpenFault> {
     match Alone::open(alloc, 4) {
         Err(OpenFault::NoMemory) => Alone::open(alloc, 4),
@@ -113,7 +113,7 @@ fn opened(alloc: Global) -> Result<Alone, OpenFault> {
 /// The end of a session, and what was answered.
 type Ended = (SessionEnd, ArrayVec<u8, KEPT_BYTES>);
 
-// One session, which reads a Hello and these frames in pieces of at most this size.
+/// One session, which reads a Hello and these frames in pieces of at most this size.
 fn session(rt: &impl Wait, alloc: Global, alone: &mut Alone, frames: &[u8], size: usize) -> Ended {
     let mut sent = ArrayVec::<u8, KEPT_BYTES>::new();
     let _ = sent.try_extend_from_slice(HELLO);
@@ -130,7 +130,7 @@ fn session(rt: &impl Wait, alloc: Global, alone: &mut Alone, frames: &[u8], size
     (end, writer.into_inner().bytes)
 }
 
-// The bytes are a welcome, these answers, and then the last.
+/// The bytes are a welcome, these answers, and then the last.
 fn are(bytes: &[u8], answers: &[&[u8]], last: &[u8]) -> bool {
     let mut wanted = ArrayVec::<u8, KEPT_BYTES>::new();
     let _ = wanted.try_extend_from_slice(WELCOME);
@@ -141,7 +141,7 @@ fn are(bytes: &[u8], answers: &[&[u8]], last: &[u8]) -> bool {
     bytes == wanted.as_slice()
 }
 
-// A closed session answered as with ample memory, or refused one request; one that memory ended answered the first of them.
+/// A closed session answered as with ample memory, or refused one request; one that memory ended answered the first of them.
 fn is_answered(row: &Row, ended: &Ended) -> bool {
     let bytes = ended.1.as_slice();
     match ended.0 {

@@ -74,7 +74,7 @@ const HELLO_TURN: Turn = Turn {
     answered: b"\0\0\0\x02\x80\x01",
 };
 
-// Two Puts at once.
+/// Two Puts at once.
 const PUTS: Turn = Turn {
     sent: b"\0\0\0\x07\x11\x01a\0\x02xy\0\0\0\x07\x11\x01a\0\x02xy",
     answered: b"\0\0\0\x03\x82\xFF\xFF\0\0\0\x05\x82\0\x02xy",

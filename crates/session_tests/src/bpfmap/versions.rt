@@ -4,16 +4,16 @@ use super::memory::ROOM;
 use map_server::{Alone, SessionEnd};
 use std::test::Fail;
 
-// A Hello of version 2, and a Put of 300 bytes but for the bytes themselves.
+/// A Hello of version 2, and a Put of 300 bytes but for the bytes themselves.
 const PUT_300: [u8; 15] = [0, 0, 0, 2, 0, 2, 0, 0, 1, 0x31, 0x11, 1, 0x61, 1, 0x2c];
 
-// A Hello of version 1, a Get, a Remove and a Get.
+/// A Hello of version 1, a Get, a Remove and a Get.
 const GET_REMOVE_GET: [u8; 27] = [
     0, 0, 0, 2, 0, 1, 0, 0, 0, 3, 0x10, 1, 0x61, 0, 0, 0, 3, 0x13, 1, 0x61, 0, 0, 0, 3, 0x10, 1,
     0x61,
 ];
 
-// The Hello, twice 65 in place of the value, and none.
+/// The Hello, twice 65 in place of the value, and none.
 const TOO_LONG_TWICE: [u8; 33] = [
     0, 0, 0, 2, 0x80, 1, 0, 0, 0, 6, 0x85, 0x41, 0, 0, 0, 0, 0, 0, 0, 6, 0x85, 0x41, 0, 0, 0, 0, 0,
     0, 0, 3, 0x82, 0xff, 0xff,

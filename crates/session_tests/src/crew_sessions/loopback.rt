@@ -17,21 +17,21 @@ use std::sync::Wait;
 use std::test::Fail;
 use std::thread::{self, Threads};
 
-// A Hello, and the program that adds its argument to the old value.
+/// A Hello, and the program that adds its argument to the old value.
 const REGISTER: &[u8] = b"\0\0\0\x02\0\x01\
     \0\0\0\x39\x01\0\x40\0\x08\0\x08\0\x08\
     \x79\x20\0\0\0\0\0\0\x79\x39\0\0\0\0\0\0\x0F\x90\0\0\0\0\0\0\
     \x7B\x04\0\0\0\0\0\0\xB7\0\0\0\x08\0\0\0\x95\0\0\0\0\0\0\0";
 
-// Merge of 1 under the key `a`, by the program whose number is to stand in the last eight bytes.
+/// Merge of 1 under the key `a`, by the program whose number is to stand in the last eight bytes.
 const MERGE: [u8; 25] = *b"\0\0\0\x15\x1A\x01a\0\x08\x01\0\0\0\0\0\0\0\0\0\0\0\0\0\0\0";
 
-// What the answer to a Merge begins with: a value of eight bytes.
+/// What the answer to a Merge begins with: a value of eight bytes.
 const VALUE: &[u8] = b"\0\0\0\x0B\x82\0\x08";
 
 const MERGES: u32 = 100;
 
-// A client that registers the sum and merges 1 so many times; whether each answer was a value.
+/// A client that registers the sum and merges 1 so many times; whether each answer was a value.
 fn merge_by_ones<H: Net<Listener = TcpListener, Stream = TcpStream>>(
     rt: &H,
     address: &str,
@@ -53,7 +53,7 @@ fn merge_by_ones<H: Net<Listener = TcpListener, Stream = TcpStream>>(
     Ok(true)
 }
 
-// Two clients at once; whether each answer was a value.
+/// Two clients at once; whether each answer was a value.
 fn merge_twice<H: Threads + Net<Listener = TcpListener, Stream = TcpStream> + Sync>(
     rt: &H,
     address: &str,
@@ -66,7 +66,7 @@ fn merge_twice<H: Threads + Net<Listener = TcpListener, Stream = TcpStream> + Sy
     Ok(one? && other?)
 }
 
-// What the clients' answers were, and the crews, once both were served.
+/// What the clients' answers were, and the crews, once both were served.
 fn serve_beside<
     H: Threads + Wait + Net<Listener = TcpListener, Stream = TcpStream> + Sync,
     A: Accept<TcpReader, TcpWriter> + Sync,
@@ -92,7 +92,7 @@ fn serve_beside<
     )
 }
 
-// The passes of the last two crews, joined.
+/// The passes of the last two crews, joined.
 fn joined_pass(map: &StripedMap, mut crews: Vec<Crew>) -> Option<Pass>
     requires { All (λ crew. IsCrewOf map.now crew) crews.items }
     ensures { IfSome result (λ pass. pass.map ≡ map.now) }

@@ -17,20 +17,20 @@ use std::sync::atomic::{AtomicU64, Ordering};
 use std::test::Fail;
 use std::thread::{self, Threads};
 
-// The most turns that a thread waits for others.
+/// The most turns that a thread waits for others.
 const TURNS: u64 = 10_000_000;
 
-// The most calls that are made beside the sessions.
+/// The most calls that are made beside the sessions.
 const CALLS: u64 = 10_000_000;
 
-// A Hello and a Count.
+/// A Hello and a Count.
 const COUNT: &[u8] = b"\0\0\0\x02\0\x01\0\0\0\x01\x23";
 
-// One entry, which is the caller's.
+/// One entry, which is the caller's.
 const COUNTED: &[u8] =
     b"\0\0\0\x02\x80\x01\0\0\0\x19\x87\0\0\0\0\0\0\0\x01\0\0\0\0\0\0\0\0\0\0\0\0\0\0\0\0";
 
-// One client for each of the workers 0 and 1.
+/// One client for each of the workers 0 and 1.
 #[derive(Drop)]
 struct Clients {
     alloc: Global,
@@ -66,10 +66,10 @@ impl Accept<StreamSource<Pieces<'static>>, StreamSink<Room>> for Clients {
     }
 }
 
-// The bits of the workers 0 and 1.
+/// The bits of the workers 0 and 1.
 const BOTH: u64 = 3;
 
-// Holds each worker before it answers until the workers 0 and 1 have come there.
+/// Holds each worker before it answers until the workers 0 and 1 have come there.
 #[derive(Drop)]
 struct Meeting {
     come: AtomicU64,
@@ -92,7 +92,7 @@ impl Gate for Meeting {
     }
 }
 
-// What a caller is to do, and has done: it puts 1, 2 and so on under the key `d`, so often at most, until it is told to stop.
+/// What a caller is to do, and has done: it puts 1, 2 and so on under the key `d`, so often at most, until it is told to stop.
 #[derive(Drop)]
 struct Calls {
     most: u64,
@@ -111,7 +111,7 @@ impl Calls {
         }
     }
 
-    // Waits until the first call was made, where one is to be made.
+    /// Waits until the first call was made, where one is to be made.
     fn wait(&self) {
         for _ in 0..TURNS {
             if self.made.load(Ordering::SeqCst) >= self.most.min(1) {
@@ -123,7 +123,7 @@ impl Calls {
     }
 }
 
-// Puts the number under the key `d`; whether the one before it was there.
+/// Puts the number under the key `d`; whether the one before it was there.
 fn put<R: Wait>(rt: &R, map: &StripedMap, pass: &mut Pass, number: u64) -> bool
     requires { pass.old.map ≡ map.now }
     ensures { pass.new.map ≡ map.now }
@@ -140,7 +140,7 @@ fn put<R: Wait>(rt: &R, map: &StripedMap, pass: &mut Pass, number: u64) -> bool
     }
 }
 
-// Makes the calls; whether each replied the number before its own. The pass comes back.
+/// Makes the calls; whether each replied the number before its own. The pass comes back.
 fn make_calls<R: Wait>(rt: &R, map: &StripedMap, mut pass: Pass, calls: &Calls) -> (Pass, bool)
     requires { pass.map ≡ map.now }
     ensures { result.0.map ≡ map.now }
@@ -156,7 +156,7 @@ fn make_calls<R: Wait>(rt: &R, map: &StripedMap, mut pass: Pass, calls: &Calls) 
     (pass, right)
 }
 
-// What the sessions and the calls come to.
+/// What the sessions and the calls come to.
 #[derive(Drop)]
 struct Told {
     clients: Clients,
@@ -181,7 +181,7 @@ impl Told {
     }
 }
 
-// Serves the clients, once the calls have begun; then the calls are to stop.
+/// Serves the clients, once the calls have begun; then the calls are to stop.
 fn serve_both<R: Threads + Wait + Sync>(
     rt: &R,
     alloc: Global,
@@ -198,7 +198,7 @@ fn serve_both<R: Threads + Wait + Sync>(
     back
 }
 
-// Both at once, each in a thread of its own.
+/// Both at once, each in a thread of its own.
 fn serve_beside<R: Threads + Wait + Sync>(
     rt: &R,
     alloc: Global,
@@ -224,7 +224,7 @@ fn serve_beside<R: Threads + Wait + Sync>(
     )
 }
 
-// The two sessions beside so many calls at most.
+/// The two sessions beside so many calls at most.
 fn meet_beside<R: Threads + Wait + Abort + Sync>(
     rt: &R,
     alloc: Global,

@@ -18,7 +18,7 @@ fn a_failed_feeder_stays_failed(rt: HostRuntime) -> Result<(), Fail> {
     Ok(())
 }
 
-// feeds the piece, and once more where it was refused
+/// feeds the piece, and once more where it was refused
 fn fed_again(alloc: Global, feeder: &mut Feeder, piece: &[u8]) -> Result<usize, Fail> {
     if let Ok(fed) = feeder.feed(alloc, piece) {
         return Ok(fed.requests.len());

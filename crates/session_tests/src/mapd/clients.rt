@@ -92,7 +92,7 @@ fn hear_refusal<R: Net<Listener = TcpListener, Stream = TcpStream> + Clock + All
     Ok(greeted && rest.as_slice() == REFUSED.as_slice())
 }
 
-// A call, and beside it two clients that share its map.
+/// A call, and beside it two clients that share its map.
 fn call_and_share<
     R: AllocGlobal
         + Clock
@@ -123,7 +123,7 @@ fn clients_share_a_map(rt: HostRuntime) -> Result<(), Fail> {
     Ok(())
 }
 
-// A call, and beside it a client that is refused.
+/// A call, and beside it a client that is refused.
 fn call_and_hear<
     R: AllocGlobal
         + Clock

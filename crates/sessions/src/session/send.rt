@@ -15,7 +15,7 @@ use bins::{Counts, EntryList};
 use bpf_model::Value;
 use client_protocol::{Limits, ShortResponse, Version, item_head, value_head};
 
-// The refusal that stands for responses with a value that is too long for the session's version.
+/// The refusal that stands for responses with a value that is too long for the session's version.
 const VALUE_TOO_LONG: u8 = 65;
 
 /// Writes the response's frame.
@@ -99,8 +99,8 @@ pub fn end_of(counts: Counts) -> ShortResponse
     }
 }
 
-// Writes the frame of the response with this value, whose bytes are written from where they lie; or one refusal, where it is too
-// long.
+/// Writes the frame of the response with this value, whose bytes are written from where they lie; or one refusal, where it is too
+/// long.
 fn send_value<W: Sink>(writer: &mut W, hello: Option<Version>, value: &Value) -> Result<(), Failed>
     requires { CanWrite (W.state writer.old) }
     ensures ok { OnOk result (TakesBytes (W.state writer.old) (W.state writer.new)
@@ -115,7 +115,7 @@ fn send_value<W: Sink>(writer: &mut W, hello: Option<Version>, value: &Value) ->
     send_parts(writer, &value_head(bytes), bytes)
 }
 
-// Writes the frames of all items of a walk, and of its end.
+/// Writes the frames of all items of a walk, and of its end.
 fn send_whole<W: Sink>(writer: &mut W, reply: &WalkReply) -> Result<(), Failed>
     requires { CanWrite (W.state writer.old) }
     ensures ok { OnOk result (TakesBytes (W.state writer.old) (W.state writer.new) (response_frames (walk_responses reply.now))) }
@@ -126,7 +126,7 @@ fn send_whole<W: Sink>(writer: &mut W, reply: &WalkReply) -> Result<(), Failed>
     Ok(())
 }
 
-// As `send_whole`; or one refusal, where a value is too long.
+/// As `send_whole`; or one refusal, where a value is too long.
 fn send_walk<W: Sink>(
     writer: &mut W,
     hello: Option<Version>,

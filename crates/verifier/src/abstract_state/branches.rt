@@ -82,7 +82,7 @@ impl AbstractState {
         Ok(true)
     }
 
-    // a pointer stays as it is
+    /// a pointer stays as it is
     fn narrow(&mut self, register: Reg, range: Range)
         ensures narrows { Narrows self.old register range self.new }
         ensures changes { OnlyNarrows self.old self.new }
@@ -106,7 +106,7 @@ impl AbstractState {
     }
 }
 
-// the register of the second operand; that of the first where it is none
+/// the register of the second operand; that of the first where it is none
 fn source(dst: Reg, src: Operand) -> Reg
     ensures value { result ≡ second_register dst src }
 {
@@ -116,7 +116,7 @@ fn source(dst: Reg, src: Operand) -> Reg
     }
 }
 
-// the ranges of the words on a side of a condition; none where no pair of words is on it
+/// the ranges of the words on a side of a condition; none where no pair of words is on it
 fn narrowed(side: Side, width: Width, a: Range, b: Range) -> Option<(Range, Range)>
     ensures { KeepsPairs (lies_on side width) a b result }
 {
@@ -129,7 +129,7 @@ fn narrowed(side: Side, width: Width, a: Range, b: Range) -> Option<(Range, Rang
     }
 }
 
-// the ranges of the words that are in the ones or in the others
+/// the ranges of the words that are in the ones or in the others
 fn either(one: Option<(Range, Range)>, other: Option<(Range, Range)>) -> Option<(Range, Range)>
     ensures first { (x y : ℕ) → AreInSome x y one → AreInSome x y result }
     ensures second { (x y : ℕ) → AreInSome x y other → AreInSome x y result }

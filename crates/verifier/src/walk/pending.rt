@@ -70,7 +70,7 @@ impl Pending {
         Ok(())
     }
 
-    // a copy of the state, in room that was given back if there is some
+    /// a copy of the state, in room that was given back if there is some
     fn boxed(&mut self, state: &AbstractState) -> Result<Box<AbstractState>, AllocError>
         ensures value { IfOk result (λ copy. copy.value ≡ state.now) }
         ensures same { self.new.states ≡ self.old.states }
@@ -84,7 +84,7 @@ impl Pending {
         }
     }
 
-    // makes room for each unit up to this one
+    /// makes room for each unit up to this one
     fn reach(&mut self, unit: usize) -> Result<(), AllocError>
         ensures reached { OnOk result (unit < vec_len self.new.states) }
         ensures same { OnOk result ((other : ℕ) → kept_at self.new other ≡ kept_at self.old other) }

@@ -3,10 +3,10 @@ ghost use Rattle.std.specs.Prelude.{◌≡◌, All, IfOk};
 
 use super::*;
 
-// The most turns that a thread waits, and the most tries of a call.
+/// The most turns that a thread waits, and the most tries of a call.
 const TURNS: u64 = 10_000_000;
 
-// A gate that holds a worker at `Held` until it is opened.
+/// A gate that holds a worker at `Held` until it is opened.
 #[derive(Drop)]
 struct Shut {
     come: AtomicU64,
@@ -23,7 +23,7 @@ impl Shut {
         }
     }
 
-    // Waits until a worker is held; whether one came.
+    /// Waits until a worker is held; whether one came.
     fn wait(&self) -> bool {
         for _ in 0..TURNS {
             if self.come.load(Ordering::SeqCst) > 0 {
@@ -51,7 +51,7 @@ impl Gate for Shut {
     }
 }
 
-// Replaces the values of stripe 0, behind the gate.
+/// Replaces the values of stripe 0, behind the gate.
 fn hold<R: Wait>(rt: &R, map: &StripedMap, mut pass: Pass, program: &Verified, gate: &Shut)
     requires { pass.map ≡ map.now }
 {
@@ -60,8 +60,8 @@ fn hold<R: Wait>(rt: &R, map: &StripedMap, mut pass: Pass, program: &Verified, g
     }
 }
 
-// While stripe 0 is held: whether a call on the key of stripe 1 is made, and one on the key of stripe 0 refused as busy.
-// Then the gate opens.
+/// While stripe 0 is held: whether a call on the key of stripe 1 is made, and one on the key of stripe 0 refused as busy.
+/// Then the gate opens.
 fn beside(map: &StripedMap, mut pass: Pass, gate: &Shut) -> (bool, bool)
     requires { pass.map ≡ map.now }
 {
@@ -76,7 +76,7 @@ fn beside(map: &StripedMap, mut pass: Pass, gate: &Shut) -> (bool, bool)
     (came && apart, busy)
 }
 
-// Both at once, each in a thread of its own.
+/// Both at once, each in a thread of its own.
 fn hold_beside<R: Threads + Wait + Sync>(
     rt: &R,
     map: &StripedMap,
@@ -118,7 +118,7 @@ fn stripes_apart(rt: HostRuntime) -> Result<(), Fail> {
     Ok(())
 }
 
-// Tries the call until it is made; whether it was.
+/// Tries the call until it is made; whether it was.
 fn tried(map: &StripedMap, pass: &mut Pass, call: &Call) -> bool
     requires { pass.old.map ≡ map.now }
     ensures { pass.new.map ≡ map.now }
@@ -133,7 +133,7 @@ fn tried(map: &StripedMap, pass: &mut Pass, call: &Call) -> bool
     false
 }
 
-// The program that threads merge by, and how many of their calls were made.
+/// The program that threads merge by, and how many of their calls were made.
 #[derive(Drop)]
 struct Merging {
     program: Verified,
@@ -149,7 +149,7 @@ impl Merging {
     }
 }
 
-// Merges 1 on the key.
+/// Merges 1 on the key.
 fn merge_one<R: Wait>(rt: &R, map: &StripedMap, pass: &mut Pass, merging: &Merging, by_tries: bool)
     requires { pass.old.map ≡ map.now }
     ensures { pass.new.map ≡ map.now }
@@ -172,7 +172,7 @@ fn merge_one<R: Wait>(rt: &R, map: &StripedMap, pass: &mut Pass, merging: &Mergi
     }
 }
 
-// Merges 1 so many times, each second one by tries, and gives the pass back.
+/// Merges 1 so many times, each second one by tries, and gives the pass back.
 fn merges<R: Wait>(rt: &R, map: &StripedMap, mut pass: Pass, merging: &Merging, times: u64) -> Pass
     requires { pass.map ≡ map.now }
     ensures { result.map ≡ map.now }
@@ -183,7 +183,7 @@ fn merges<R: Wait>(rt: &R, map: &StripedMap, mut pass: Pass, merging: &Merging, 
     pass
 }
 
-// Two threads merge, and their passes are joined.
+/// Two threads merge, and their passes are joined.
 fn merged_by_two<R: Threads + Wait + Sync>(
     rt: &R,
     map: &StripedMap,
@@ -227,7 +227,7 @@ fn two_threads_merge_on_one_key(rt: HostRuntime) -> Result<(), Fail> {
     Ok(())
 }
 
-// Four threads merge, and their passes are joined.
+/// Four threads merge, and their passes are joined.
 fn merged_by_four<R: Threads + Wait + Sync>(
     rt: &R,
     map: &StripedMap,
@@ -253,7 +253,7 @@ fn merged_by_four<R: Threads + Wait + Sync>(
     map.join(one, other)
 }
 
-// The next two of the map's passes.
+/// The next two of the map's passes.
 fn next_two(map: &StripedMap, passes: &mut Vec<Pass>) -> Result<(Pass, Pass), Fail>
     requires { All (λ pass. pass.map ≡ map.now) passes.old.items }
     ensures two { IfOk result (λ two. (two.0.map ≡ map.now) × (two.1.map ≡ map.now)) }
@@ -264,10 +264,10 @@ fn next_two(map: &StripedMap, passes: &mut Vec<Pass>) -> Result<(Pass, Pass), Fa
     Ok((one, other))
 }
 
-// A pass for each of eight threads, in two halves of two pairs.
+/// A pass for each of eight threads, in two halves of two pairs.
 type Fours = ((Pass, Pass), (Pass, Pass));
 
-// Eight threads merge, and their passes are joined.
+/// Eight threads merge, and their passes are joined.
 fn merged_by_eight<R: Threads + Wait + Sync>(
     rt: &R,
     map: &StripedMap,

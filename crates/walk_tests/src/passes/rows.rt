@@ -55,7 +55,7 @@ fn last_entries_are_in_key_order(rt: HostRuntime) -> Result<(), Fail> {
     Ok(())
 }
 
-// Tries a call, a scan and a replacement, on a key of stripe 0; whether each was made on that entry.
+/// Tries a call, a scan and a replacement, on a key of stripe 0; whether each was made on that entry.
 fn are_made(
     alloc: Global,
     map: &StripedMap,
@@ -76,7 +76,7 @@ fn are_made(
     Ok(found.len() == 1 && (counts.scanned, counts.given, counts.unfit) == (1, 1, 0))
 }
 
-// The same so many times; whether it always was.
+/// The same so many times; whether it always was.
 fn are_always_made(
     alloc: Global,
     map: &StripedMap,
@@ -104,7 +104,7 @@ fn a_single_thread_is_never_busy(rt: HostRuntime) -> Result<(), Fail> {
     Ok(())
 }
 
-// The counts of a replacement of the values of stripe 1.
+/// The counts of a replacement of the values of stripe 1.
 fn replaced<R: Wait>(
     rt: &R,
     map: &StripedMap,

@@ -4,16 +4,16 @@ ghost use Rattle.std.specs.Prelude.{◌≡◌, All};
 use super::*;
 use std::process::Abort;
 
-// The most turns that a thread waits for others.
+/// The most turns that a thread waits for others.
 const TURNS: u64 = 10_000_000;
 
-// The most calls that are made beside walks.
+/// The most calls that are made beside walks.
 const CALLS: u64 = 10_000_000;
 
-// The bits of the workers 0 and 1.
+/// The bits of the workers 0 and 1.
 const BOTH: u64 = 3;
 
-// Holds each worker at a place until the workers 0 and 1 have come there.
+/// Holds each worker at a place until the workers 0 and 1 have come there.
 #[derive(Drop)]
 struct Meeting {
     place: Place,
@@ -33,14 +33,14 @@ impl Meeting {
         }
     }
 
-    // Whether the workers 0 and 1 came, nobody else, each as often as the other; and met.
+    /// Whether the workers 0 and 1 came, nobody else, each as often as the other; and met.
     fn was_of_both(&self) -> bool {
         self.come.load(Ordering::SeqCst) == BOTH
             && self.passed.load(Ordering::SeqCst) == 2
             && self.gone_alone.load(Ordering::SeqCst) == 0
     }
 
-    // The same, and whether their walk replied this.
+    /// The same, and whether their walk replied this.
     fn gave(
         &self,
         reply: &Result<WalkReply, NoMemory>,
@@ -69,7 +69,7 @@ impl Gate for Meeting {
     }
 }
 
-// What a caller is to do, and has done: it merges 1 on the key `d`, so often at most, until it is told to stop.
+/// What a caller is to do, and has done: it merges 1 on the key `d`, so often at most, until it is told to stop.
 #[derive(Drop)]
 struct Calls {
     most: u64,
@@ -88,7 +88,7 @@ impl Calls {
         }
     }
 
-    // Waits until the first call was made, where one is to be made.
+    /// Waits until the first call was made, where one is to be made.
     fn wait(&self) {
         for _ in 0..TURNS {
             if self.made.load(Ordering::SeqCst) >= self.most.min(1) {
@@ -100,7 +100,7 @@ impl Calls {
     }
 }
 
-// The walk whose workers did not meet, or whose reply was another.
+/// The walk whose workers did not meet, or whose reply was another.
 #[derive(Clone, Copy, Debug)]
 enum Wrong {
     Search,
@@ -108,7 +108,7 @@ enum Wrong {
     Replacement,
 }
 
-// Merges 1 on the key `d`; the sum.
+/// Merges 1 on the key `d`; the sum.
 fn merge<R: Wait>(rt: &R, map: &StripedMap, pass: &mut Pass, program: &Verified) -> Option<u64>
     requires { pass.old.map ≡ map.now }
     ensures { pass.new.map ≡ map.now }
@@ -126,7 +126,7 @@ fn merge<R: Wait>(rt: &R, map: &StripedMap, pass: &mut Pass, program: &Verified)
     }
 }
 
-// Makes the calls; whether each replied a greater number than the one before it. The pass comes back.
+/// Makes the calls; whether each replied a greater number than the one before it. The pass comes back.
 fn make_calls<R: Wait>(
     rt: &R,
     map: &StripedMap,
@@ -151,7 +151,7 @@ fn make_calls<R: Wait>(
     (pass, rose)
 }
 
-// Whether the workers met at the place, and replaced the values of all entries but one.
+/// Whether the workers met at the place, and replaced the values of all entries but one.
 fn replace_at<R: Threads + Wait + Sync>(
     rt: &R,
     alloc: Global,
@@ -172,7 +172,7 @@ fn replace_at<R: Threads + Wait + Sync>(
     }
 }
 
-// A walk of each kind, whose workers meet as they start; else which was not so.
+/// A walk of each kind, whose workers meet as they start; else which was not so.
 fn start_each<R: Threads + Wait + Sync>(
     rt: &R,
     alloc: Global,
@@ -197,7 +197,7 @@ fn start_each<R: Threads + Wait + Sync>(
     replace_at(rt, alloc, map, team, program, Place::WalkStart)
 }
 
-// The walks whose workers meet at the place, once the calls have begun; then the calls are to stop.
+/// The walks whose workers meet at the place, once the calls have begun; then the calls are to stop.
 fn walk<R: Threads + Wait + Sync>(
     rt: &R,
     alloc: Global,
@@ -218,7 +218,7 @@ fn walk<R: Threads + Wait + Sync>(
     walked
 }
 
-// Both at once, each in a thread of its own.
+/// Both at once, each in a thread of its own.
 fn walk_beside<R: Threads + Wait + Sync>(
     rt: &R,
     alloc: Global,
@@ -245,8 +245,8 @@ fn walk_beside<R: Threads + Wait + Sync>(
     )
 }
 
-// The walks whose workers meet at the place, beside so many calls at most. In the end each call and the one replacement have
-// added 1 to the number at `d`.
+/// The walks whose workers meet at the place, beside so many calls at most. In the end each call and the one replacement have
+/// added 1 to the number at `d`.
 fn meet_beside<R: Threads + Wait + Abort + Sync>(
     rt: &R,
     alloc: Global,

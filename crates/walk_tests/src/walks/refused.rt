@@ -4,7 +4,7 @@ ghost use Rattle.std.specs.Prelude.{◌≡◌, All, IfSome};
 
 use super::*;
 
-// A map of three entries in four stripes, a pass, a team of two, and the sum; none where memory was refused.
+/// A map of three entries in four stripes, a pass, a team of two, and the sum; none where memory was refused.
 fn filled<R: Wait>(rt: &R, alloc: Global) -> Option<(StripedMap, Pass, Team, Verified)>
     ensures pass { IfSome result (λ r. r.1.map ≡ r.0) }
     ensures team { IfSome result (λ r. All (λ pass. pass.map ≡ r.0) r.2.passes.items) }
@@ -15,7 +15,7 @@ fn filled<R: Wait>(rt: &R, alloc: Global) -> Option<(StripedMap, Pass, Team, Ver
     Some((map, pass, team, program))
 }
 
-// Whether the key has this value.
+/// Whether the key has this value.
 fn has<R: Wait>(rt: &R, map: &StripedMap, pass: &mut Pass, name: u8, wanted: &[u8]) -> bool
     requires { pass.old.map ≡ map.now }
     ensures { pass.new.map ≡ map.now }
@@ -27,7 +27,7 @@ fn has<R: Wait>(rt: &R, map: &StripedMap, pass: &mut Pass, name: u8, wanted: &[u
     }
 }
 
-// Whether `a` and `b` have these values, and `c` the one that it was put with.
+/// Whether `a` and `b` have these values, and `c` the one that it was put with.
 fn have<R: Wait>(rt: &R, map: &StripedMap, pass: &mut Pass, a: &[u8], b: &[u8]) -> bool
     requires { pass.old.map ≡ map.now }
     ensures { pass.new.map ≡ map.now }
@@ -38,7 +38,7 @@ fn have<R: Wait>(rt: &R, map: &StripedMap, pass: &mut Pass, a: &[u8], b: &[u8]) 
     first && second && third
 }
 
-// Whether a walk that was made twice replied this, but for one refusal.
+/// Whether a walk that was made twice replied this, but for one refusal.
 fn are_replies(
     first: &Result<WalkReply, NoMemory>,
     second: &Result<WalkReply, NoMemory>,
