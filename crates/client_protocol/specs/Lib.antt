@@ -1,5 +1,5 @@
 pub mod Requests
-pub mod Places
+pub mod Buffers
 pub mod Faults
 pub mod Bodies
 pub mod Frames

@@ -7,7 +7,7 @@ ghost use Rattle.client_protocol.specs.Frames.Held.{open_at};
 
 use crate::copies::replace;
 use crate::fault::ProtocolFault;
-use crate::frames::{lacking, take_frames};
+use crate::frames::{lacking, read_frames};
 use crate::limits::Version;
 use crate::reading::BodyFault;
 use crate::request::Request;
@@ -20,7 +20,7 @@ use std::marker::Model;
 /// The shortest frame has a length and one byte.
 const LEAST_FRAME: usize = 5;
 
-/// For so many requests there is room from the first piece on: those that end in 1,024 bytes, and one that began before them.
+/// From the first piece on there is room for this many requests: those that end in 1,024 bytes, and one that began before them.
 const LEAST_ROOM: usize = 205;
 
 /// What a piece gave.
@@ -30,38 +30,38 @@ pub struct Fed {
     pub fault: Option<ProtocolFault>,
 }
 
-/// The Hello that was taken behind a piece, and the fault that ended it, if any.
+/// How far a piece led: the Hello that is taken now, and the fault that ended the stream, if any.
 #[derive(Clone, Copy)]
-struct Taken {
+struct Progress {
     hello: Option<Version>,
     fault: Option<ProtocolFault>,
 }
 
 /// Adds the requests of the bytes, whose frames are read where they lie; keeps in `rest` the beginning of one that isn't
 /// whole.
-fn take_whole(
+fn read_whole(
     alloc: Global,
     hello: Option<Version>,
     requests: &mut Requests,
     rest: &mut BytesMut,
     bytes: &[u8],
-) -> Result<Taken, NoMemory>
+) -> Result<Progress, NoMemory>
     ensures ok { IfOk result (λ t. (new : List TheRequest) × (requests.new ≡ requests.old ++ new)
         × Frames hello bytes.now new (held_of t.hello rest.new.items t.fault)) }
     ensures err { OnErr result (rest.new.items ≡ rest.old.items) }
 {
-    let left = take_frames(alloc, hello, requests, bytes)?;
+    let left = read_frames(alloc, hello, requests, bytes)?;
     if left.fault.is_none() {
         replace(rest, left.rest)?;
     }
-    Ok(Taken {
+    Ok(Progress {
         hello: left.hello,
         fault: left.fault,
     })
 }
 
-/// Adds the request of the first frame of the bytes held and the piece behind them, and answers what is behind it in the
-/// piece. None where it isn't whole; then all of the piece is held. No byte behind the frame is copied.
+/// Adds the request of the first frame of the bytes held and the piece after them, and answers what follows it in the
+/// piece. None if it isn't whole; then all of the piece is held. No byte after the frame is copied.
 #[tactic(auto, using(crate::proofs::HeldLaws::all_front, crate::proofs::HeldLaws::still_front, crate::proofs::HeldLaws::moved, crate::proofs::HeldLaws::completed))]
 fn complete<'a>(
     alloc: Global,
@@ -102,7 +102,7 @@ fn complete<'a>(
     }
 }
 
-/// Reads on where the beginning of a frame is held.
+/// Reads on after the beginning of a frame that is held.
 #[tactic(auto, using(crate::proofs::HeldLaws::frames_added, crate::proofs::HeldLaws::frames_begun, crate::proofs::HeldLaws::frames_failed))]
 fn read_held(
     alloc: Global,
@@ -110,7 +110,7 @@ fn read_held(
     requests: &mut Requests,
     rest: &mut BytesMut,
     piece: &[u8],
-) -> Result<Taken, NoMemory>
+) -> Result<Progress, NoMemory>
     requires none { requests.old ≡ [] }
     requires begun { IsBeginning hello rest.old.items }
     ensures ok { IfOk result (λ t. Frames hello (rest.old.items ++ piece.now) requests.new
@@ -118,9 +118,9 @@ fn read_held(
     ensures err { OnErr result (take (length rest.old.items) rest.new.items ≡ rest.old.items) }
 {
     match complete(alloc, hello, requests, rest, piece) {
-        Ok(Some(behind)) => take_whole(alloc, behind.hello, requests, rest, behind.bytes),
-        Ok(None) => Ok(Taken { hello, fault: None }),
-        Err(BodyFault::Fault(fault)) => Ok(Taken {
+        Ok(Some(behind)) => read_whole(alloc, behind.hello, requests, rest, behind.bytes),
+        Ok(None) => Ok(Progress { hello, fault: None }),
+        Err(BodyFault::Fault(fault)) => Ok(Progress {
             hello,
             fault: Some(fault),
         }),
@@ -135,7 +135,7 @@ fn read_on(
     requests: &mut Requests,
     rest: &mut BytesMut,
     piece: &[u8],
-) -> Result<Taken, NoMemory>
+) -> Result<Progress, NoMemory>
     requires none { requests.old ≡ [] }
     requires begun { IsBeginning hello rest.old.items }
     ensures ok { IfOk result (λ t. Frames hello (rest.old.items ++ piece.now) requests.new
@@ -143,11 +143,11 @@ fn read_on(
     ensures err { OnErr result (rest.new.items ≡ rest.old.items) }
 {
     if rest.is_empty() {
-        return take_whole(alloc, hello, requests, rest, piece);
+        return read_whole(alloc, hello, requests, rest, piece);
     }
     let kept = rest.len();
     match read_held(alloc, hello, requests, rest, piece) {
-        Ok(taken) => Ok(taken),
+        Ok(progress) => Ok(progress),
         Err(NoMemory) => {
             rest.truncate(kept);
             Err(NoMemory)
@@ -201,10 +201,10 @@ impl Feeder {
         })
     }
 
-    /// Reads a piece as `feed` does, and leaves the requests in this list, whose places serve again. What the list held is
-    /// lost. Answers the fault, if any. `NoMemory` as `feed`; what the list holds then is not said. Asks for room for all requests that so long a piece can
-    /// bring, and for 205 at least. A later piece asks for more only where it is longer than all before it and than 1,024
-    /// bytes, or for a program, so memory that others fill in between does not refuse it.
+    /// Reads a piece as `feed` does, and leaves the requests in this list, whose buffers are used again. What the list held is
+    /// lost. Answers the fault, if any. `NoMemory` as `feed`; what the list holds then is not said. Asks for room for all requests
+    /// that a piece of this length can bring, and for 205 at least. A later piece asks for more only if it is longer than all
+    /// before it and than 1,024 bytes, or for a program, so memory that others fill in between does not refuse it.
     #[tactic(auto, using(crate::proofs::HeldLaws::sound_after))]
     pub fn feed_into(
         &mut self,
@@ -222,13 +222,13 @@ impl Feeder {
             return Ok(Some(fault));
         }
         requests.reserve(LEAST_ROOM.max(piece.len() / LEAST_FRAME + 1))?;
-        let taken = read_on(alloc, self.hello, requests, &mut self.rest, piece)?;
-        self.hello = taken.hello;
-        self.fault = taken.fault;
-        Ok(taken.fault)
+        let progress = read_on(alloc, self.hello, requests, &mut self.rest, piece)?;
+        self.hello = progress.hello;
+        self.fault = progress.fault;
+        Ok(progress.fault)
     }
 
-    /// The Hello that was taken, if any; none behind a fault.
+    /// The Hello that was taken, if any; none after a fault.
     pub fn hello(&self) -> Option<Version>
         ensures { result ≡ held_hello self.now }
     {

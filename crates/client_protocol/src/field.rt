@@ -3,7 +3,7 @@ ghost use Rattle.std.specs.Prelude.{◌≡◌, ◌+◌, ◌≤◌, ◌<◌, [], 
 ghost use Rattle.client_protocol.specs.Bodies.{Kind, Field as TheField, limits_after};
 ghost use Rattle.client_protocol.specs.Bodies.Kind.{a_byte, a_short, a_long, a_key, a_value, an_opt};
 ghost use Rattle.client_protocol.specs.Bodies.Field.{byte, short, long, key as the_key, value as the_value, opt};
-ghost use Rattle.client_protocol.specs.Places.{optional};
+ghost use Rattle.client_protocol.specs.Buffers.{optional};
 ghost use Rattle.client_protocol.specs.Reading.{TakesField, NoField};
 
 use crate::limits::{Limits, Version};
@@ -20,8 +20,8 @@ pub trait Field: Sized {
 
     ghost field: { Self → TheField };
 
-    /// Reads the field that begins the bytes into this place, and answers what is behind it; none where the bytes are too
-    /// few, or the field is above its limit. What the place held is lost.
+    /// Reads the field that begins the bytes into `self`, and answers what follows it; none if the bytes are too few, or the
+    /// field is above its limit. What `self` held is lost.
     fn read<'b>(&mut self, hello: Option<Version>, bytes: &'b [u8]) -> Option<&'b [u8]>
         ensures some { IfSome result (λ rest.
             TakesField (limits_after hello) kind bytes.now (field self.new) rest.now) }

@@ -1,9 +1,9 @@
-//! Lists of fields that are a whole body behind its tag.
+//! Lists of fields that are a whole body after its tag.
 ghost use Rattle.std.specs.Prelude.{◌≡◌, [], ◌∷◌, IfOk, OnOk, IfErr, Some, false};
 ghost use Rattle.client_protocol.specs.Bodies.{limits_after, kinds_of, takes_tail, body_of_fields, BodyHas};
 ghost use Rattle.client_protocol.specs.Bodies.Kind.{a_long, a_key, an_opt};
 ghost use Rattle.client_protocol.specs.Bodies.Field.{long, key as the_key, opt};
-ghost use Rattle.client_protocol.specs.Places.{optional};
+ghost use Rattle.client_protocol.specs.Buffers.{optional};
 ghost use Rattle.client_protocol.specs.Reading.{SpellsBody};
 
 use crate::fault::ProtocolFault;
@@ -25,7 +25,7 @@ pub fn no_field(hello: Option<Version>, tag: u8, bytes: &[u8]) -> Result<(), Pro
     Ok(())
 }
 
-/// Reads one field into its place.
+/// Reads one field into `first`.
 pub fn one_field<A: Field>(
     hello: Option<Version>,
     tag: u8,
@@ -47,7 +47,7 @@ pub fn one_field<A: Field>(
     Ok(())
 }
 
-/// Reads two fields into their places.
+/// Reads two fields into `first` and `second`.
 pub fn two_fields<A: Field, B: Field>(
     hello: Option<Version>,
     tag: u8,
@@ -73,7 +73,7 @@ pub fn two_fields<A: Field, B: Field>(
     Ok(())
 }
 
-/// Reads three fields into their places.
+/// Reads three fields into `first`, `second` and `third`.
 pub fn three_fields<A: Field, B: Field, C: Field>(
     hello: Option<Version>,
     tag: u8,
@@ -103,7 +103,7 @@ pub fn three_fields<A: Field, B: Field, C: Field>(
     Ok(())
 }
 
-/// Reads the fields of a call that runs a program: its key and its argument into their places. Answers the program.
+/// Reads the fields of a call that runs a program: its key into `key` and its argument into `arg`. Answers the program.
 pub fn compute_fields(
     hello: Option<Version>,
     tag: u8,
@@ -122,7 +122,7 @@ pub fn compute_fields(
     Ok(program)
 }
 
-/// Reads the fields of a walk with a threshold: its argument into its place. Answers the program and the threshold.
+/// Reads the fields of a walk with a threshold: its argument into `arg`. Answers the program and the threshold.
 pub fn walk_fields(
     hello: Option<Version>,
     tag: u8,

@@ -38,7 +38,7 @@ pub fn lacking(hello: Option<Version>, bytes: &[u8]) -> usize
     }
 }
 
-/// The Hello that was taken, behind this request.
+/// The Hello that was taken, after this request.
 pub fn hello_after(hello: Option<Version>, request: &Request) -> Option<Version>
     ensures { result ≡ hello_after hello request.now }
 {
@@ -48,8 +48,8 @@ pub fn hello_after(hello: Option<Version>, request: &Request) -> Option<Version>
     }
 }
 
-/// Reads the request of the frame that begins the bytes into this place, and answers what is behind it; none where the
-/// frame has only begun. What the place held is lost.
+/// Reads the request of the frame that begins the bytes into this buffer, and answers what follows it; none if the frame
+/// has only begun. What the buffer held is lost.
 pub fn next<'b>(
     hello: Option<Version>,
     bytes: &'b [u8],
@@ -84,7 +84,7 @@ pub struct Left<'a> {
 }
 
 /// Adds the requests of all whole frames up to a fault, if any.
-pub fn take_frames<'a>(
+pub fn read_frames<'a>(
     alloc: Global,
     hello: Option<Version>,
     requests: &mut Requests,

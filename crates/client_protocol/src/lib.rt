@@ -2,7 +2,7 @@
 //!
 //! A frame is a length of 32 bits and a body; a body is a tag, the fields that the tag's request has, and behind a
 //! `Register` a program. Numbers are big-endian. `Feeder` makes requests of a stream of bytes that comes in pieces.
-//! They are read into places that serve again, `Requests`, and `Request::view` lends one. `Response::frame` spells a
+//! They are read into buffers that are used again, `Requests`, and `Request::view` lends one. `Response::frame` spells a
 //! response; a `ShortResponse` is one of a few words.
 //!
 //! The promise to the layer above: `feed` gives the requests, the rest and the fault that the grammar gives to the

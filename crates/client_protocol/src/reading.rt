@@ -240,7 +240,7 @@ fn sizes_at(hello: Option<Version>, bytes: &[u8]) -> Option<(Sizes, &[u8])>
     Some((sizes, program))
 }
 
-/// A Register. Asks for memory for a copy of the program where the place has no room for it.
+/// A Register. Asks for memory for a copy of the program if the buffer has no room for it.
 fn register_request(
     hello: Option<Version>,
     rest: &[u8],
@@ -299,7 +299,7 @@ fn may_come(hello: Option<Version>, request: &Request) -> bool
     }
 }
 
-/// Reads the request of a body into this place, or names the body's fault; what the place held is lost. A body has at least
+/// Reads the request of a body into this buffer, or names the body's fault; what the buffer held is lost. A body has at least
 /// one byte.
 #[tactic(auto, using(crate::proofs::BodyLaws::misplaced))]
 pub fn read_request(

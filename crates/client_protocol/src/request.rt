@@ -1,8 +1,8 @@
-//! What clients ask, in places that serve again.
+//! What clients ask, in buffers that are used again.
 ghost use Rattle.std.specs.Prelude.{◌≡◌, Option, option_copied};
 ghost use Rattle.client_protocol.specs.Requests.{viewed};
 ghost use Rattle.client_protocol.specs.Requests.Request.{Count};
-ghost use Rattle.client_protocol.specs.Places.{optional, run_with, walk_with};
+ghost use Rattle.client_protocol.specs.Buffers.{optional, run_with, walk_with};
 
 use crate::limits::Version;
 use bpf_model::{Key, Sizes, Value};
@@ -11,7 +11,7 @@ use std::alloc::Global;
 use std::fmt;
 use std::marker::Model;
 
-/// A request of a client, as its place shows it: a few words, which lend the key, the values and the bytes. A program is
+/// A request of a client, as its buffer shows it: a few words, which lend the key, the values and the bytes. A program is
 /// named by the number under which it was registered; an `arg` is an argument, or absent.
 #[derive(Clone, Copy, Debug, PartialEq, Eq)]
 pub enum RequestView<'a> {
@@ -183,7 +183,7 @@ impl Walk {
     }
 }
 
-/// A value that may be absent. Its place stays then.
+/// A value that may be absent. Its bytes' room stays then.
 #[derive(Drop)]
 pub struct OptionalValue {
     pub is_there: bool,
@@ -203,7 +203,7 @@ impl OptionalValue {
     }
 }
 
-/// A key without a byte: a place for one that is read.
+/// A key without a byte, over which one is read.
 fn empty_key() -> Key {
     match Key::from_slice(&[]) {
         Ok(key) => key,
@@ -211,8 +211,8 @@ fn empty_key() -> Key {
     }
 }
 
-/// A place for a request of a client, some 2,200 bytes. A request is read into it where it stays, and `view` lends it, so
-/// reading and answering copy no more than the bytes that came.
+/// A buffer of some 2,200 bytes that holds a request of a client. A request is read into it and stays there, and `view` lends
+/// it, so reading and answering copy no more than the bytes that came.
 #[derive(Drop)]
 pub struct Request {
     pub(crate) kind: RequestKind,
@@ -226,7 +226,7 @@ pub struct Request {
 
 impl Model for Request {
     ghost use Rattle.client_protocol.specs.Requests.{Request};
-    ghost use Rattle.client_protocol.specs.Places.{request_in};
+    ghost use Rattle.client_protocol.specs.Buffers.{request_in};
 
     ghost Value = { Request };
 
@@ -240,7 +240,7 @@ impl fmt::Debug for Request {
 }
 
 impl Request {
-    /// A place, which holds a `Count`. Takes no memory; a `Register` that is read into it asks for some.
+    /// A buffer that holds a `Count`. Takes no memory; a `Register` that is read into it asks for some.
     pub fn new(alloc: Global) -> Request
         ensures { result ≡ Count }
     {

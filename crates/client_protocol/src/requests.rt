@@ -1,4 +1,4 @@
-//! A list of requests whose places serve again.
+//! A list of requests whose buffers are used again.
 ghost use Rattle.std.specs.Prelude.{◌≡◌, ◌≤◌, ◌<◌, [], ◌∷◌, ◌++◌, vec_len, vec_capacity, IsOk, OnOk, IfOk, IfErr, OnErr, IfSome, IfNone};
 ghost use Rattle.client_protocol.specs.Frames.{IsBeginning, IsFaulty};
 ghost use Rattle.client_protocol.specs.Reading.{IfFault, Adds};
@@ -12,11 +12,10 @@ use bpf_model::NoMemory;
 use std::alloc::Global;
 use std::marker::Model;
 
-/// Requests in order. The places of a list stay when it is cleared, and serve again: a request that is read into one copies
-/// its bytes alone.
+/// Requests in order. A list keeps its buffers when it is cleared, and uses them again: reading a request copies only its bytes.
 #[derive(Drop)]
 pub struct Requests {
-    places: Vec<Request>,
+    buffers: Vec<Request>,
     used: usize,
 }
 
@@ -26,12 +25,12 @@ impl Model for Requests {
 
     ghost Value = { List Request };
 
-    ghost view = { λ r. take r.used r.places.items };
+    ghost view = { λ r. take r.used r.buffers.items };
 
-    ghost invariant = { λ r. r.used ≤ length r.places.items };
+    ghost invariant = { λ r. r.used ≤ length r.buffers.items };
 }
 
-/// What is behind a request that was read.
+/// What follows a request that was read.
 #[derive(Clone, Copy)]
 pub struct Behind<'b> {
     /// The Hello taken.
@@ -39,40 +38,40 @@ pub struct Behind<'b> {
     pub bytes: &'b [u8],
 }
 
-/// Makes room for so many places in all. Asks for no memory where there is so much.
-fn make_room(places: &mut Vec<Request>, count: usize) -> Result<(), NoMemory>
-    ensures items { places.new.items ≡ places.old.items }
-    ensures room { OnOk result (count ≤ vec_capacity places.new) }
-    ensures enough { count ≤ vec_capacity places.old → IsOk result }
+/// Makes room for this many buffers in all. Asks for no memory if there is room already.
+fn make_room(buffers: &mut Vec<Request>, count: usize) -> Result<(), NoMemory>
+    ensures items { buffers.new.items ≡ buffers.old.items }
+    ensures room { OnOk result (count ≤ vec_capacity buffers.new) }
+    ensures enough { count ≤ vec_capacity buffers.old → IsOk result }
 {
-    places.reserve(count.saturating_sub(places.len()))?;
+    buffers.reserve(count.saturating_sub(buffers.len()))?;
     Ok(())
 }
 
-/// Adds a place behind the others. Asks for no memory where there is room for it.
+/// Adds a buffer at the end. Asks for no memory if there is room for it.
 #[inline(never)]
-fn add_place(places: &mut Vec<Request>, alloc: Global) -> Result<(), NoMemory>
-    ensures ok { OnOk result ((place : TheRequest) × (places.new.items ≡ places.old.items ++ place ∷ [])) }
-    ensures err { OnErr result (places.new.items ≡ places.old.items) }
-    ensures enough { vec_len places.old < vec_capacity places.old → IsOk result }
+fn add_buffer(buffers: &mut Vec<Request>, alloc: Global) -> Result<(), NoMemory>
+    ensures ok { OnOk result ((buffer : TheRequest) × (buffers.new.items ≡ buffers.old.items ++ buffer ∷ [])) }
+    ensures err { OnErr result (buffers.new.items ≡ buffers.old.items) }
+    ensures enough { vec_len buffers.old < vec_capacity buffers.old → IsOk result }
 {
-    places.reserve(1)?;
-    places.push_reserved(Request::new(alloc));
+    buffers.reserve(1)?;
+    buffers.push_reserved(Request::new(alloc));
     Ok(())
 }
 
 impl Requests {
-    /// No request, and no place. Takes no memory.
+    /// An empty list without buffers. Takes no memory.
     pub fn new(alloc: Global) -> Requests
         ensures { result ≡ [] }
     {
         Requests {
-            places: Vec::new(alloc),
+            buffers: Vec::new(alloc),
             used: 0,
         }
     }
 
-    /// Forgets the requests. Their places stay.
+    /// Forgets the requests, and keeps their buffers.
     pub fn clear(&mut self)
         ensures { self.new ≡ [] }
     {
@@ -83,18 +82,18 @@ impl Requests {
     pub fn as_slice(&self) -> &[Request]
         ensures { result.now ≡ self.now }
     {
-        &self.places[..self.used]
+        &self.buffers[..self.used]
     }
 
-    /// Makes room for so many requests in all. Making a place within it asks for no memory.
+    /// Makes room for this many requests in all. Making a buffer within it asks for no memory.
     pub(crate) fn reserve(&mut self, count: usize) -> Result<(), NoMemory>
         ensures { self.new ≡ self.old }
     {
-        make_room(&mut self.places, count)
+        make_room(&mut self.buffers, count)
     }
 
-    /// Adds the request of the frame that begins the bytes, and answers what is behind it; none where the frame has only
-    /// begun. The request is read into the next place, which is made where there is none.
+    /// Adds the request of the frame that begins the bytes, and answers what follows it; none if the frame has only
+    /// begun. The request is read into the next buffer, which is made if there is none.
     pub(crate) fn read_next<'b>(
         &mut self,
         alloc: Global,
@@ -106,24 +105,24 @@ impl Requests {
         ensures begun { IfOk result (λ next. IfNone next ((self.new ≡ self.old) × IsBeginning hello bytes.now)) }
         ensures fault { IfErr result (λ e. IfFault e (λ fault. (self.new ≡ self.old) × IsFaulty hello bytes.now fault)) }
     {
-        if self.used == self.places.len() {
-            add_place(&mut self.places, alloc)?;
+        if self.used == self.buffers.len() {
+            add_buffer(&mut self.buffers, alloc)?;
         }
-        let place = &mut self.places[self.used];
-        let Some(bytes) = next(hello, bytes, place)? else {
+        let buffer = &mut self.buffers[self.used];
+        let Some(bytes) = next(hello, bytes, buffer)? else {
             return Ok(None);
         };
-        let hello = hello_after(hello, place);
+        let hello = hello_after(hello, buffer);
         self.used += 1;
         Ok(Some(Behind { hello, bytes }))
     }
 
-    /// The places of the requests alone.
+    /// The requests, without the buffers that hold none.
     pub(crate) fn into_vec(self) -> Vec<Request>
         ensures { result.items ≡ self }
     {
-        let mut places = self.places;
-        places.truncate(self.used);
-        places
+        let mut buffers = self.buffers;
+        buffers.truncate(self.used);
+        buffers
     }
 }

@@ -4,7 +4,7 @@ use Rattle.client_protocol.specs.declared.limits.Version.{Version}
 use Rattle.client_protocol.specs.Requests.{Request}
 use Rattle.client_protocol.specs.Frames.{Follow}
 use Rattle.client_protocol.proofs.FrameLaws.{follow_more, spelled_more}
-use Rattle.client_protocol.proofs.frames.take_frames.Goals as goal
+use Rattle.client_protocol.proofs.frames.read_frames.Goals as goal
 
 pub loop-behind-preserved : goal.loop-behind-preserved
 loop-behind-preserved c =

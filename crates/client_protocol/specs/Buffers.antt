@@ -1,4 +1,4 @@
--- The request that a place holds.
+-- The request that a buffer holds.
 use Rattle.std.specs.Prelude.{ℕ, List, Option, Some, None, if◌then◌else◌}
 use Rattle.client_protocol.specs.declared.request.OptionalValue.{OptionalValue}
 use Rattle.client_protocol.specs.declared.request.Run.{Run}
