@@ -6,9 +6,7 @@ By hand, after `rt run` in crates/bpfmap or crates/mapd: python3 tests/full.py [
 from __future__ import annotations
 
 import argparse
-import subprocess
 import sys
-from collections.abc import Iterator
 from pathlib import Path
 
 sys.path.insert(0, str(Path(__file__).resolve().parent))
@@ -16,40 +14,7 @@ sys.dont_write_bytecode = True
 import wire  # noqa: E402
 
 PROGRAM = Path(__file__).resolve().parent.parent / "crates/bpfmap/out/bpfmap"
-ONE_SESSION = ["--workers", "1", "--sessions", "1"]
 NO_MEMORY = wire.refused(9)
-
-
-def bodies_of(answers: bytes) -> Iterator[bytes]:
-    """The bodies of frames."""
-    at = 0
-    while at < len(answers):
-        length = int.from_bytes(answers[at:at + 4], "big")
-        yield answers[at + 4:at + 4 + length]
-        at += 4 + length
-
-
-def executed(program: Path, sent: bytes, kib: int) -> bytes:
-    """What `bpfmap exec` answers."""
-    run = subprocess.run([program, "exec"], input=sent, capture_output=True, timeout=600, check=False,
-                         preexec_fn=wire.bound(kib))
-    if run.returncode != 0:
-        sys.exit(f"full: FAILED, status {run.returncode}: {run.stderr[-200:]}")
-    return run.stdout
-
-
-def served(program: Path, sent: bytes, kib: int) -> bytes:
-    """What `mapd` answers on a connection that ends behind what is sent."""
-    server = wire.Server(program, ONE_SESSION, kib=kib)
-    try:
-        with wire.Client(server.address) as client:
-            answers = client.exchange(sent)
-        status = server.finish()
-    finally:
-        server.process.kill()
-    if (status, server.printed) != (0, b"ready\nserved 1\n"):
-        sys.exit(f"full: FAILED, status {status}, {server.printed} and {server.told[-200:]}")
-    return answers
 
 
 def refusals(values: list[bytes], answers: list[bytes]) -> int:
@@ -77,10 +42,11 @@ def main() -> None:
     puts = b"".join(wire.frame(wire.put(name, value)) for name, value in zip(names, values))
     gets = b"".join(wire.frame(wire.get(name)) for name in names)
     sent = wire.frame(wire.HELLO) + puts + gets
-    if asked.server:
-        answers = list(bodies_of(served(asked.program or wire.SERVER, sent, asked.kib)))
-    else:
-        answers = list(bodies_of(executed(asked.program or PROGRAM, sent, asked.kib)))
+    try:
+        play, program = (wire.served, wire.SERVER) if asked.server else (wire.executed, PROGRAM)
+        answers = list(wire.bodies_of(play(asked.program or program, sent, asked.kib)))
+    except wire.Failed as failure:
+        sys.exit(f"full: FAILED, {failure}")
     if len(answers) != 1 + 2 * asked.keys:
         sys.exit(f"full: FAILED, {1 + 2 * asked.keys} requests have {len(answers)} answers")
     refused = refusals(values, answers[1:])

@@ -10,18 +10,17 @@ from __future__ import annotations
 import argparse
 import itertools
 import random
-import subprocess
 import sys
 from collections.abc import Iterable, Sequence
 from pathlib import Path
 
 sys.path.insert(0, str(Path(__file__).resolve().parent))
 sys.dont_write_bytecode = True
-import full  # noqa: E402
 import sequential as model  # noqa: E402
 import wire  # noqa: E402
 from sequential import Call, Held  # noqa: E402
 
+PROGRAM = Path(__file__).resolve().parent.parent / "crates/bpfmap/out/bpfmap"
 KEYS = [b"".join(pairs) for pairs in itertools.product((b"Aa", b"BB"), repeat=5)]
 STRIPES = (4, 1, 64)
 
@@ -60,7 +59,7 @@ class Map:
         answers = [(call.key, model.step(call, self.values[call.key])[0]) for call in calls]
         items = [bytes([wire.ITEM]) + wire.key_field(key) + wire.value_field(data) for key, data in answers if data is not None]
         unfit = sum(model.PROGRAMS[program].unfit(key, self.values[key], arg) > 0 for key in self.values)
-        return [*items, end(len(self.values), len(items), unfit)]
+        return [*items, wire.end(len(self.values), len(items), unfit)]
 
 
 def kind_of(old: Held, answer: bytes, new: Held) -> object:
@@ -68,11 +67,6 @@ def kind_of(old: Held, answer: bytes, new: Held) -> object:
     if answer[0] != 0x82:
         return answer
     return old == new, old is None, new is None
-
-
-def end(scanned: int, given: int, unfit: int) -> bytes:
-    """The End of a walk."""
-    return bytes([wire.END]) + b"".join(map(wire.number_field, (scanned, given, unfit)))
 
 
 def calls_on(dice: random.Random, keys: Sequence[bytes], count: int, version: int) -> list[Call]:
@@ -102,18 +96,14 @@ def session(dice: random.Random, count: int, version: int) -> tuple[list[bytes],
         sent.append(call.body(numbers))
         wanted.append(table.answer(call))
     sent += [wire.walk(model.FOR_EACH, model.LOOK, None), wire.COUNT]
-    wanted += [*table.items(model.LOOK, None), end(len(table.values), 0, 0)]
+    wanted += [*table.items(model.LOOK, None), wire.end(len(table.values), 0, 0)]
     check_shown([table])
     return sent, wanted
 
 
 def executed(program: Path, sent: list[bytes], stripes: int) -> list[bytes]:
     """What `bpfmap exec` answers."""
-    run = subprocess.run([program, "exec", "--stripes", str(stripes)], input=wire.frames(sent), capture_output=True, timeout=60,
-                         check=False)
-    if run.returncode != 0:
-        raise Wrong(f"status {run.returncode}: {run.stderr[-200:]}")
-    return list(full.bodies_of(run.stdout))
+    return list(wire.bodies_of(wire.executed(program, wire.frames(sent), options=("--stripes", str(stripes)))))
 
 
 def compare(sent: list[bytes], found: list[bytes], wanted: list[bytes]) -> None:
@@ -128,7 +118,7 @@ def main() -> None:
     words = argparse.ArgumentParser()
     words.add_argument("calls", nargs="?", type=int, default=20_000)
     words.add_argument("seed", nargs="?", type=int, default=1)
-    words.add_argument("--program", default=full.PROGRAM)
+    words.add_argument("--program", default=PROGRAM)
     words.add_argument("--protocol", type=int, choices=(1, 2), default=2)
     asked = words.parse_args()
     try:
@@ -137,7 +127,7 @@ def main() -> None:
         for stripes in STRIPES:
             sent, wanted = session(random.Random(f"{asked.seed} {stripes}"), asked.calls, asked.protocol)
             compare(sent, executed(asked.program, sent, stripes), wanted)
-    except (Wrong, subprocess.TimeoutExpired) as wrong:
+    except (Wrong, wire.Failed) as wrong:
         sys.exit(f"one_hash: FAILED, seed {asked.seed}: {wrong}")
     print(f"one_hash: {asked.calls} calls on {len(KEYS)} keys of one hash, over each of {STRIPES} stripes, are answered as without hashes")
 

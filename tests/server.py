@@ -284,7 +284,7 @@ def keys_of_one_hash(address: str) -> None:
             whole.values |= table.values
         walk = wire.walk(model.FOR_EACH, numbers[model.LOOK], None)
         same("a walk", client.walk(walk), whole.items(model.LOOK, None))
-        same("a Count", client.ask(wire.COUNT), one_hash.end(len(whole.values), 0, 0))
+        same("a Count", client.ask(wire.COUNT), wire.end(len(whole.values), 0, 0))
 
 
 def most_units(answer: bytes) -> bytes:

@@ -104,6 +104,16 @@ def value(data: bytes) -> bytes:
     return b"\x82" + value_field(data)
 
 
+def end(scanned: int, given: int, unfit: int) -> bytes:
+    """The answer that ends a walk."""
+    return bytes([END]) + number_field(scanned) + number_field(given) + number_field(unfit)
+
+
+def item(key: bytes, data: bytes) -> bytes:
+    """The answer that gives an item of a walk."""
+    return bytes([ITEM]) + key_field(key) + value_field(data)
+
+
 def refused(number: int, place: int = 0) -> bytes:
     """The answer that refuses."""
     return b"\x85" + bytes([number]) + place.to_bytes(4, "big")
@@ -111,6 +121,15 @@ def refused(number: int, place: int = 0) -> bytes:
 
 # What stands in version 1 for an answer whose value is too long.
 VALUE_TOO_LONG = refused(65)
+
+
+def bodies_of(answers: bytes) -> Iterator[bytes]:
+    """The bodies of frames."""
+    at = 0
+    while at < len(answers):
+        length = int.from_bytes(answers[at:at + 4], "big")
+        yield answers[at + 4:at + 4 + length]
+        at += 4 + length
 
 
 class Ended(Exception):
@@ -255,3 +274,33 @@ class Server:
         """Ends it at once, and gives its status."""
         self.process.terminate()
         return self.finish()
+
+
+class Failed(Exception):
+    """A program ended with another status than it was to."""
+
+
+def executed(program: Path, sent: bytes, kib: int | None = None, options: tuple[str, ...] = ()) -> bytes:
+    """What `bpfmap exec` answers to these bytes, with this much memory."""
+    try:
+        run = subprocess.run([program, "exec", *options], input=sent, capture_output=True, timeout=600, check=False,
+                             preexec_fn=bound(kib) if kib else None)
+    except subprocess.TimeoutExpired as late:
+        raise Failed(str(late)[:200]) from late
+    if run.returncode != 0:
+        raise Failed(f"status {run.returncode}: {run.stderr[-200:]}")
+    return run.stdout
+
+
+def served(program: Path, sent: bytes, kib: int | None = None, options: tuple[str, ...] = ()) -> bytes:
+    """What `mapd` answers on one connection that ends after these bytes, with this much memory."""
+    server = Server(program, ["--workers", "1", "--sessions", "1", *options], kib=kib)
+    try:
+        with Client(server.address) as client:
+            answers = client.exchange(sent)
+        status = server.finish()
+    finally:
+        server.process.kill()
+    if (status, server.printed) != (0, b"ready\nserved 1\n"):
+        raise Failed(f"status {status}, {server.printed} and {server.told[-200:]}")
+    return answers
