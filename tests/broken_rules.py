@@ -98,7 +98,8 @@ broken("empty_sum_stays_empty", sum_of=lambda self, width, unsigned, readings: s
 broken("product_is_any", range_mul=lambda self, width, a, b: self.any_word(width))
 broken("product_starts_at_0", range_mul=lambda self, width, a, b:
        self.by_unsigned(0, a.umax * b.umax) if a.umax * b.umax < WORDS[width] else self.any_word(width))
-broken("product_that_wraps_is_cut", range_mul=lambda self, width, a, b: self.by_unsigned(a.umin * b.umin % WORDS[width], min(a.umax * b.umax, WORDS[width] - 1)))
+broken("product_that_wraps_is_cut", range_mul=lambda self, width, a, b:
+       self.by_unsigned(a.umin * b.umin % WORDS[width], min(a.umax * b.umax, WORDS[width] - 1)))
 broken("quotient_is_at_most_the_dividend", range_div=lambda self, width, a, b: self.by_unsigned(0, a.umax))
 broken("quotient_by_the_greatest_divisor_alone", range_div=lambda self, width, a, b:
        self.by_unsigned(a.umin // b.umax, a.umax // b.umax) if b.umin else self.by_unsigned(0, a.umax))
@@ -123,7 +124,8 @@ broken("left_shift_starts_at_0", range_lsh=lambda self, width, a, b: replace(Ver
 broken("left_shift_by_the_least_amount", range_lsh=lambda self, width, a, b: Verifier.range_lsh(self, width, a, single(b.umin)))
 broken("right_shift_by_the_least_amount", range_rsh=lambda self, width, a, b: Verifier.range_rsh(self, width, a, single(b.umin)))
 broken("right_shift_is_at_most_the_first", range_rsh=lambda self, width, a, b: self.by_unsigned(0, a.umax))
-broken("right_shift_by_any_is_any", range_rsh=lambda self, width, a, b: Verifier.range_rsh(self, width, a, b) if b.is_single() else self.any_word(width))
+broken("right_shift_by_any_is_any", range_rsh=lambda self, width, a, b:
+       Verifier.range_rsh(self, width, a, b) if b.is_single() else self.any_word(width))
 broken("signed_shift_of_32_bits_as_unsigned", range_arsh=lambda self, width, a, b:
        self.range_rsh(width, a, b) if width == 32 else Verifier.range_arsh(self, width, a, b))
 broken("signed_shift_of_small_words_is_any", range_arsh=lambda self, width, a, b:
@@ -133,17 +135,21 @@ broken("signed_shift_by_any_is_any", range_arsh=lambda self, width, a, b:
 broken("signed_shift_by_the_least_amount", range_arsh=lambda self, width, a, b: Verifier.range_arsh(self, width, a, single(b.umin)))
 broken("signed_shift_as_unsigned", range_arsh=lambda self, width, a, b: Verifier.range_rsh(self, width, a, b))
 broken("move_of_32_bits_is_any", range_mov=lambda self, width, a, b: self.any_word(32) if width == 32 else b)
-broken("negation_is_any", of_neg=lambda self, width, a: single(self.neg(self.low(width, a).umin, width)) if self.low(width, a).is_single() else self.any_word(width))
+broken("negation_is_any", of_neg=lambda self, width, a:
+       single(self.neg(self.low(width, a).umin, width)) if self.low(width, a).is_single() else self.any_word(width))
 broken("sign_extension_of_small_words_is_their_width", of_movsx=lambda self, bits, width, b:
        Verifier.of_movsx(self, bits, width, b if self.low(width, b).is_single() else FULL))
 broken("sign_extension_may_not_be_negative", of_movsx=lambda self, bits, width, b:
        self.by_unsigned(0, (1 << bits - 1) - 1) if not self.low(width, b).is_single() else Verifier.of_movsx(self, bits, width, b))
 broken("sign_extension_at_32_bits_as_at_64", of_movsx=lambda self, bits, width, b: Verifier.of_movsx(self, bits, 64, self.low(width, b)))
-broken("sign_extension_is_any", of_movsx=lambda self, bits, width, b: Verifier.of_movsx(self, bits, width, b) if self.low(width, b).umax < 1 << bits - 1 or b.is_single() else self.any_word(width))
+broken("sign_extension_is_any", of_movsx=lambda self, bits, width, b:
+       Verifier.of_movsx(self, bits, width, b) if self.low(width, b).umax < 1 << bits - 1 or b.is_single() else self.any_word(width))
 broken("little_end_of_small_words_is_its_width", of_end=lambda self, order, bits, a:
        Verifier.of_end(self, order, bits, a if a.is_single() else FULL))
-broken("big_end_of_small_words_is_the_word", of_end=lambda self, order, bits, a: Verifier.of_end(self, "le" if not a.is_single() else order, bits, a))
-broken("little_end_of_any_is_any", of_end=lambda self, order, bits, a: FULL if not a.is_single() and a.umax >> bits else Verifier.of_end(self, order, bits, a))
+broken("big_end_of_small_words_is_the_word", of_end=lambda self, order, bits, a:
+       Verifier.of_end(self, "le" if not a.is_single() else order, bits, a))
+broken("little_end_of_any_is_any", of_end=lambda self, order, bits, a:
+       FULL if not a.is_single() and a.umax >> bits else Verifier.of_end(self, order, bits, a))
 
 # ---- conditions
 
@@ -165,8 +171,10 @@ for old, new in (("gt", "ge"), ("ge", "gt"), ("sgt", "sge"), ("sge", "sgt")):
 for old, new in (("sgt", "gt"), ("sge", "ge"), ("slt", "lt"), ("sle", "le")):
     broken(f"{old}_refined_as_{new}", **{"refine_" + old: getattr(Verifier, "refine_" + new)})
 broken("equal_single_words_differ", refine_ne=lambda self, a, b: Verifier.refine_ne(self, a, b) or (a, b))
-broken("ne_moves_no_signed_bound", refine_ne=lambda self, a, b: (lambda refined: refined and (replace(refined[0], smin=a.smin, smax=a.smax), b))(Verifier.refine_ne(self, a, b)))
-broken("ne_moves_no_unsigned_bound", refine_ne=lambda self, a, b: (lambda refined: refined and (replace(refined[0], umin=a.umin, umax=a.umax), b))(Verifier.refine_ne(self, a, b)))
+broken("ne_moves_no_signed_bound", refine_ne=lambda self, a, b:
+       (lambda refined: refined and (replace(refined[0], smin=a.smin, smax=a.smax), b))(Verifier.refine_ne(self, a, b)))
+broken("ne_moves_no_unsigned_bound", refine_ne=lambda self, a, b:
+       (lambda refined: refined and (replace(refined[0], umin=a.umin, umax=a.umax), b))(Verifier.refine_ne(self, a, b)))
 broken("ne_of_a_single_first_narrows_the_second", refine_ne=lambda self, a, b:
        (lambda refined: refined and (refined[1], refined[0]))(Verifier.refine_ne(self, b, a)) if a.is_single() and not b.is_single() else Verifier.refine_ne(self, a, b))
 broken("gt_of_the_greatest_word_may_hold", refine_gt=lambda self, a, b:
@@ -203,8 +211,10 @@ broken("stack_pointer_is_at_its_start", entry=entry_with(10, lambda self, sizes:
 for number in (0, 5, 9):
     broken(f"register_{number}_is_written_at_entry", entry=entry_with(number, lambda self, sizes: single(0)))
 broken("pointer_as_number_is_any", as_number=lambda self, value: value if isinstance(value, Range) else FULL)
-broken("pointer_as_number_is_its_distance", as_number=lambda self, value: value if isinstance(value, Range) else self.by_signed(value.low, value.high))
-broken("pointer_reaches_any_distance", moved=lambda self, pointer, least, most: Pointer(pointer.window, pointer.low + least, pointer.high + most))
+broken("pointer_as_number_is_its_distance", as_number=lambda self, value:
+       value if isinstance(value, Range) else self.by_signed(value.low, value.high))
+broken("pointer_reaches_any_distance", moved=lambda self, pointer, least, most:
+       Pointer(pointer.window, pointer.low + least, pointer.high + most))
 broken("pointer_reaches_less_backward", moved=lambda self, pointer, least, most:
        FULL if pointer.low + least < 0 else Verifier.moved(self, pointer, least, most))
 broken("pointer_reaches_one_less", moved=lambda self, pointer, least, most:
@@ -237,9 +247,12 @@ def unsigned_move(self: Verifier, op: str, width: int, a: object, b: object) -> 
     return self.moved(pointer, number.umin, number.umax)
 
 
-broken("number_plus_pointer_is_a_number", computed=computed_unless(lambda op, width, a, b: op == "add" and width == 64 and not is_pointer(a) and is_pointer(b), plain_result))
-broken("pointer_plus_number_is_a_number", computed=computed_unless(lambda op, width, a, b: op == "add" and width == 64 and is_pointer(a) and not is_pointer(b), plain_result))
-broken("pointer_less_number_is_a_number", computed=computed_unless(lambda op, width, a, b: op == "sub" and width == 64 and is_pointer(a), plain_result))
+broken("number_plus_pointer_is_a_number", computed=computed_unless(
+    lambda op, width, a, b: op == "add" and width == 64 and not is_pointer(a) and is_pointer(b), plain_result))
+broken("pointer_plus_number_is_a_number", computed=computed_unless(
+    lambda op, width, a, b: op == "add" and width == 64 and is_pointer(a) and not is_pointer(b), plain_result))
+broken("pointer_less_number_is_a_number", computed=computed_unless(
+    lambda op, width, a, b: op == "sub" and width == 64 and is_pointer(a), plain_result))
 broken("number_less_pointer_is_a_pointer", computed=computed_unless(
     lambda op, width, a, b: op == "sub" and width == 64 and not is_pointer(a) and is_pointer(b), lambda self, op, width, a, b: self.moved(b, a.smin, a.smax)))
 broken("pointer_plus_pointer_is_the_first", computed=computed_unless(
@@ -250,7 +263,8 @@ broken("pointer_moves_by_the_unsigned_reading", computed=computed_unless(
     lambda op, width, a, b: op == "add" and width == 64 and is_pointer(a) != is_pointer(b), unsigned_move))
 broken("sum_of_32_bits_is_a_pointer", computed=computed_unless(
     lambda op, width, a, b: op == "add" and width == 32 and is_pointer(a) != is_pointer(b), lambda self, op, width, a, b: Verifier.computed(self, op, 64, a, b)))
-broken("moved_pointer_is_a_number", computed=computed_unless(lambda op, width, a, b: op == "mov" and width == 64 and is_pointer(b), plain_result))
+broken("moved_pointer_is_a_number", computed=computed_unless(
+    lambda op, width, a, b: op == "mov" and width == 64 and is_pointer(b), plain_result))
 broken("move_of_32_bits_is_a_pointer", computed=computed_unless(
     lambda op, width, a, b: op == "mov" and width == 32 and is_pointer(b), lambda self, op, width, a, b: b))
 for op in ("or", "and", "xor"):
@@ -269,7 +283,8 @@ def are_both(kind: type) -> Callable:
     return lambda a, b: isinstance(a, kind) and isinstance(b, kind)
 
 
-broken("join_with_unwritten_is_the_other", join_values=joined_values(lambda a, b: a is None or b is None, lambda a, b: b if a is None else a))
+broken("join_with_unwritten_is_the_other", join_values=joined_values(
+    lambda a, b: a is None or b is None, lambda a, b: b if a is None else a))
 broken("join_of_numbers_is_the_first", join_values=joined_values(are_both(Range), lambda a, b: a))
 broken("join_of_numbers_is_the_second", join_values=joined_values(are_both(Range), lambda a, b: b))
 broken("join_of_numbers_is_any", join_values=joined_values(are_both(Range), lambda a, b: a if a == b else FULL))
@@ -280,7 +295,8 @@ broken("join_keeps_the_first_signed_maximum", join_values=joined_values(are_both
 broken("join_of_pointers_is_the_first", join_values=joined_values(are_both(Pointer), lambda a, b: a))
 broken("join_of_pointers_is_a_number", join_values=joined_values(are_both(Pointer), lambda a, b: a if a == b else FULL))
 broken("join_of_equal_pointers_is_a_number", join_values=joined_values(are_both(Pointer), lambda a, b: FULL))
-broken("join_of_two_windows_is_the_first", join_values=joined_values(lambda a, b: is_pointer(a) and is_pointer(b) and a.window != b.window, lambda a, b: a))
+broken("join_of_two_windows_is_the_first", join_values=joined_values(
+    lambda a, b: is_pointer(a) and is_pointer(b) and a.window != b.window, lambda a, b: a))
 broken("join_of_pointer_and_number_is_the_pointer", join_values=joined_values(
     lambda a, b: None not in (a, b) and is_pointer(a) != is_pointer(b), lambda a, b: a if is_pointer(a) else b))
 broken("join_of_pointer_and_number_is_unwritten", join_values=joined_values(
@@ -295,10 +311,14 @@ broken("first_state_stands_for_all", send=lambda self, states, unit, state: stat
 
 # ---- frames
 
-broken("value_kept_after_a_partial_store", touched=lambda self, low, high, size: range(low // 8, (high + size - 1) // 8 + 1) if size == 8 else range(0))
-broken("value_kept_in_the_last_touched_slot", touched=lambda self, low, high, size: range(low // 8, max(low // 8 + 1, (high + size - 1) // 8)))
-broken("value_kept_in_the_first_touched_slot", touched=lambda self, low, high, size: range(min(low // 8 + 1, (high + size - 1) // 8), (high + size - 1) // 8 + 1))
-broken("value_kept_under_a_store_to_several_addresses", touched=lambda self, low, high, size: Verifier.touched(self, low, high, size) if low == high else range(0))
+broken("value_kept_after_a_partial_store", touched=lambda self, low, high, size:
+       range(low // 8, (high + size - 1) // 8 + 1) if size == 8 else range(0))
+broken("value_kept_in_the_last_touched_slot", touched=lambda self, low, high, size:
+       range(low // 8, max(low // 8 + 1, (high + size - 1) // 8)))
+broken("value_kept_in_the_first_touched_slot", touched=lambda self, low, high, size:
+       range(min(low // 8 + 1, (high + size - 1) // 8), (high + size - 1) // 8 + 1))
+broken("value_kept_under_a_store_to_several_addresses", touched=lambda self, low, high, size:
+       Verifier.touched(self, low, high, size) if low == high else range(0))
 broken("value_kept_between_least_and_greatest_address", touched=lambda self, low, high, size: Verifier.touched(self, low, low, size))
 broken("store_forgets_all_values", touched=lambda self, low, high, size: range(64))
 broken("value_spilled_by_an_unaligned_store", keeps_slot=lambda self, low, high, size: low == high and size == 8)
@@ -306,23 +326,30 @@ broken("value_spilled_by_a_short_store", keeps_slot=lambda self, low, high, size
 broken("value_spilled_by_a_store_to_several_addresses", keeps_slot=lambda self, low, high, size: size == 8 and low % 8 == 0)
 broken("no_value_is_spilled", keeps_slot=lambda self, low, high, size: False)
 broken("store_marks_no_byte", marked=lambda self, written, window, low, size: written)
-broken("store_marks_one_byte_less", marked=lambda self, written, window, low, size: written | {(window, byte) for byte in range(low, low + size - 1)})
-broken("store_marks_one_byte_more", marked=lambda self, written, window, low, size: written | {(window, byte) for byte in range(low, low + size + 1)})
-broken("store_marks_eight_bytes", marked=lambda self, written, window, low, size: written | {(window, byte) for byte in range(low, low + 8)})
-broken("store_into_result_marks_nothing", marked=lambda self, written, window, low, size: written if window == "result" else Verifier.marked(self, written, window, low, size))
+broken("store_marks_one_byte_less", marked=lambda self, written, window, low, size:
+       written | {(window, byte) for byte in range(low, low + size - 1)})
+broken("store_marks_one_byte_more", marked=lambda self, written, window, low, size:
+       written | {(window, byte) for byte in range(low, low + size + 1)})
+broken("store_marks_eight_bytes", marked=lambda self, written, window, low, size:
+       written | {(window, byte) for byte in range(low, low + 8)})
+broken("store_into_result_marks_nothing", marked=lambda self, written, window, low, size:
+       written if window == "result" else Verifier.marked(self, written, window, low, size))
 broken("store_to_several_addresses_marks_the_least", store=lambda self, state, window, span, size, value:
        (lambda after: after._replace(written=self.marked(after.written, window, span[0], size)))(Verifier.store(self, state, window, span, size, value)))
 broken("load_reads_the_first_byte_alone", are_written=lambda self, state, window, low, end: (window, low) in state.written)
 broken("load_reads_the_last_byte_alone", are_written=lambda self, state, window, low, end: (window, end - 1) in state.written)
-broken("load_of_result_needs_no_byte", are_written=lambda self, state, window, low, end: window == "result" or Verifier.are_written(self, state, window, low, end))
-broken("load_of_stack_needs_no_byte", are_written=lambda self, state, window, low, end: window == "stack" or Verifier.are_written(self, state, window, low, end))
+broken("load_of_result_needs_no_byte", are_written=lambda self, state, window, low, end:
+       window == "result" or Verifier.are_written(self, state, window, low, end))
+broken("load_of_stack_needs_no_byte", are_written=lambda self, state, window, low, end:
+       window == "stack" or Verifier.are_written(self, state, window, low, end))
 broken("load_from_several_addresses_needs_the_least", may_load=lambda self, state, window, span, insn:
        Verifier.may_load(self, state, window, (span[0], span[0]), insn))
 broken("signed_load_is_unsigned", loaded_range=lambda self, insn: Verifier.loaded_range(self, insn._replace(op="")))
 broken("load_is_any_word", loaded_range=lambda self, insn: FULL)
 broken("signed_load_is_any_word", loaded_range=lambda self, insn: FULL if insn.op == "signed" else Verifier.loaded_range(self, insn))
 broken("unsigned_load_is_signed", loaded_range=lambda self, insn: Verifier.loaded_range(self, insn._replace(op="signed")))
-broken("prefix_is_all_that_was_written", written_prefix=lambda self, state, size: sum(("result", byte) in state.written for byte in range(size)))
+broken("prefix_is_all_that_was_written", written_prefix=lambda self, state, size:
+       sum(("result", byte) in state.written for byte in range(size)))
 broken("prefix_is_the_whole_window", written_prefix=lambda self, state, size: size)
 broken("prefix_is_one_byte_less", written_prefix=lambda self, state, size: max(Verifier.written_prefix(self, state, size) - 1, 0))
 
@@ -344,27 +371,33 @@ for number in (30, 31, 32, 33, 40, 41, 42, 43, 44, 45, 46, 47):
     broken(f"program_of_{number}_is_accepted", verify=without(number))
 broken("access_may_begin_before_the_window", span=lambda self, pointer, insn, sizes: Verifier.span(
     self, Pointer(pointer.window, max(pointer.low, -insn.offset), max(pointer.high, -insn.offset)), insn, sizes))
-broken("access_may_end_one_byte_late", span=lambda self, pointer, insn, sizes: Verifier.span(self, pointer, insn._replace(width=insn.width - 1), sizes))
-broken("access_must_end_one_byte_early", span=lambda self, pointer, insn, sizes: Verifier.span(self, pointer, insn._replace(width=insn.width + 1), sizes))
+broken("access_may_end_one_byte_late", span=lambda self, pointer, insn, sizes:
+       Verifier.span(self, pointer, insn._replace(width=insn.width - 1), sizes))
+broken("access_must_end_one_byte_early", span=lambda self, pointer, insn, sizes:
+       Verifier.span(self, pointer, insn._replace(width=insn.width + 1), sizes))
 broken("access_looks_at_the_least_address", span=lambda self, pointer, insn, sizes:
        (Verifier.span(self, Pointer(pointer.window, pointer.low, pointer.low), insn, sizes)[0], pointer.high + insn.offset))
 broken("access_looks_at_the_greatest_address", span=lambda self, pointer, insn, sizes:
        (pointer.low + insn.offset, Verifier.span(self, Pointer(pointer.window, pointer.high, pointer.high), insn, sizes)[1]))
-broken("window_is_the_greatest", span=lambda self, pointer, insn, sizes: Verifier.span(self, pointer, insn, {"key": 64, "old": 1024, "arg": 1024, "result": 1024}))
+broken("window_is_the_greatest", span=lambda self, pointer, insn, sizes:
+       Verifier.span(self, pointer, insn, {"key": 64, "old": 1024, "arg": 1024, "result": 1024}))
 for window in ("key", "old", "arg"):
     broken(f"{window}_may_be_stored_into", may_store=lambda self, given, unit, window=window: None if given == window else Verifier.may_store(self, given, unit))
 broken("read_only_comes_before_the_window", span=lambda self, pointer, insn, sizes:
        (self.may_store(pointer.window, insn.unit) if insn.kind == "store" else None, Verifier.span(self, pointer, insn, sizes))[1])
 broken("answer_is_looked_at_as_unsigned", may_exit=lambda self, answer, prefix, unit: Verifier.may_exit(
     self, single(0) if answer.umin >= WORDS[64] - 2 or answer.umax <= prefix else FULL, prefix, unit))
-broken("answer_may_be_minus_2", may_exit=lambda self, answer, prefix, unit: Verifier.may_exit(self, replace(answer, smin=max(answer.smin, -1)), prefix, unit) if answer.smin >= -2 else Verifier.may_exit(self, answer, prefix, unit))
-broken("answer_may_not_be_nothing", may_exit=lambda self, answer, prefix, unit: Verifier.may_exit(self, FULL if answer.smin < 0 else answer, prefix, unit))
+broken("answer_may_be_minus_2", may_exit=lambda self, answer, prefix, unit:
+       Verifier.may_exit(self, replace(answer, smin=max(answer.smin, -1)), prefix, unit) if answer.smin >= -2 else Verifier.may_exit(self, answer, prefix, unit))
+broken("answer_may_not_be_nothing", may_exit=lambda self, answer, prefix, unit:
+       Verifier.may_exit(self, FULL if answer.smin < 0 else answer, prefix, unit))
 broken("answer_may_not_be_all", may_exit=lambda self, answer, prefix, unit: Verifier.may_exit(self, answer, prefix - 1, unit))
 broken("answer_may_be_one_more", may_exit=lambda self, answer, prefix, unit: Verifier.may_exit(self, answer, prefix + 1, unit))
 broken("immediate_is_extended_with_zeros", immediate=lambda self, insn: single(insn.imm % WORDS[32]))
 broken("pointers_are_narrowed", narrowed=lambda self, state, insn, refined: state.with_register(insn.dst, refined[0]) if insn.src is None
        else state.with_register(insn.dst, refined[0]).with_register(insn.src, refined[1]))
-broken("second_register_is_not_narrowed", narrowed=lambda self, state, insn, refined: Verifier.narrowed(self, state, insn._replace(src=None), refined))
+broken("second_register_is_not_narrowed", narrowed=lambda self, state, insn, refined:
+       Verifier.narrowed(self, state, insn._replace(src=None), refined))
 broken("first_register_is_not_narrowed", narrowed=lambda self, state, insn, refined:
        state if insn.src is None else Verifier.narrowed(self, state, insn._replace(dst=insn.src), (refined[1], refined[1])))
 broken("jump_sends_one_side", sides=lambda self, state, insn: Verifier.sides(self, state, insn)[:1])

@@ -6,8 +6,10 @@ It runs none of the crates: python3 tests/rules.py [--list] [NAME..]."""
 from __future__ import annotations
 
 import argparse
+import functools
 import sys
 from collections.abc import Iterator
+from concurrent.futures import ProcessPoolExecutor
 from pathlib import Path
 from typing import NamedTuple, Optional
 
@@ -98,16 +100,28 @@ def noticing(rules: Verifier, rows: list[Row]) -> Optional[Row]:
     return next((row for row in rows if row.printed_by(rules) != row.printed), None)
 
 
+@functools.cache
+def all_rows() -> list[Row]:
+    return [*program_rows(), *word_rows()]
+
+
+def noticed(name: str) -> Optional[Row]:
+    """The first row that notices the broken rule of this name."""
+    return noticing(next(rule for rule in BROKEN if rule.__name__ == name)(), all_rows())
+
+
 def main() -> None:
     words = argparse.ArgumentParser(description=__doc__)
     words.add_argument("names", nargs="*", help="only these broken rules")
     words.add_argument("--list", action="store_true", help="tell which row notices each")
     asked = words.parse_args()
-    rows = [*program_rows(), *word_rows()]
+    rows = all_rows()
     wrong = noticing(Verifier(), rows)
     if wrong is not None:
         sys.exit(f"rules: FAILED, {wrong.name}: unbroken, it prints '{wrong.printed_by(Verifier())}', not '{wrong.printed}'")
-    found = {rule.__name__: noticing(rule(), rows) for rule in BROKEN if not asked.names or rule.__name__ in asked.names}
+    names = [rule.__name__ for rule in BROKEN if not asked.names or rule.__name__ in asked.names]
+    with ProcessPoolExecutor() as pool:
+        found = dict(zip(names, pool.map(noticed, names, chunksize=8)))
     for name, row in found.items():
         if row is None or asked.list:
             print(f"{name}: {'NOTICED BY NO ROW' if row is None else row.name}")
