@@ -1,6 +1,7 @@
-/* Bit set: the value is 256 bits, the argument the number of the bit that is set.
+/* sizes: --key 64 --old 32 --arg 1 --result 32
  *
- * sizes: --key 64 --old 32 --arg 1 --result 32
+ * Bit set: the value is 256 bits, the argument the number of the bit that is set.
+ *
  * run: --with-old 01 --with-arg 0a
  * answer: bytes 01 04 00 00 00 00 00 00 00 00 00 00 00 00 00 00 00 00 00 00 00 00 00 00 00 00 00 00 00 00 00 00 */
 #include "bpfmap.h"
