@@ -1,5 +1,5 @@
 -- A refused program's faulty unit is one of few.
-use Rattle.std.proofs.Common.{◌≡◌, ℕ, ◌+◌, ◌*◌, ◌<◌, ◌≤◌, ◌^◌, ◌/◌, ◌%◌, inl, inr, Bool, true, false, List, ◌++◌, length, Option, Some, None, sym, ap, ◌∙◌, arith, ℤ}
+use Rattle.std.proofs.Common.{◌≡◌, ℕ, ◌+◌, ◌*◌, ◌<◌, ◌≤◌, ◌^◌, ◌/◌, ◌%◌, inl, inr, Bool, true, false, List, ◌++◌, length, Some, None, sym, ap, ◌∙◌, arith, ℤ}
 use Rattle.std.specs.Prelude.{nat_eq, nat_lt, not, cond}
 use Rattle.std.proofs.lemmas.Bool.Decides.{nat_tests}
 use Rattle.std.proofs.lemmas.List.{length-append}

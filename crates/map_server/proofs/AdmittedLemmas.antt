@@ -1,5 +1,5 @@
 -- Why no program is admitted by the limits of any program.
-use Rattle.std.proofs.Common.{◌≡◌, ℕ, inl, inr, List, length, true, false, Some, refl, arith}
+use Rattle.std.proofs.Common.{◌≡◌, ◌%◌, ◌/◌, ℕ, inl, inr, List, length, true, false, Some, refl, arith}
 use Rattle.std.specs.Prelude.{nat_eq, nat_lt}
 use Rattle.std.proofs.lemmas.Bool.Decides.{nat_tests}
 use Rattle.bpf_model.specs.declared.limits.TheConstants.{PROGRAM_UNITS}
