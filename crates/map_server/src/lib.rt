@@ -1,9 +1,9 @@
 //! What the programs do, over readers and writers that are handed in.
 //!
 //! The promise to the layers above: `bpfmap_on` does what its words ask for, prints and tells that and nothing else (by
-//! `specs/CommandLine.antt`, `specs/Commands.antt`, `specs/Endings.antt` and `specs/Executions.antt`). Sessions,
-//! devices and admission are crates below, of which what a program needs is here too. A session waits for its reader, and nothing else waits. A
-//! refused request for memory is told as a refusal.
+//! `specs/CommandLine.antt`, `specs/Commands.antt`, `specs/Endings.antt` and `specs/Executions.antt`). Sessions, devices
+//! and admission are crates below, of which what a program needs is here too. A session waits for its reader, and nothing
+//! else waits. A refused request for memory is told as a refusal.
 #![tactic(auto)]
 
 mod bpfmap;
