@@ -1,7 +1,7 @@
 //! A reader and a writer in memory.
 ghost use Rattle.std.specs.Prelude.{◌≤◌, vec_len};
 
-use sessions::{Failed, Sink, Source};
+use devices::{Failed, Sink, Source};
 
 /// Gives its bytes once, and then those behind the opening so many times more.
 #[derive(Drop)]

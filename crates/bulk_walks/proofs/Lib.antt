@@ -1,5 +1,3 @@
-pub mod Working
-pub mod ApartLemmas
 pub mod TurnLemmas
 pub mod Sums
 pub mod TeamLemmas

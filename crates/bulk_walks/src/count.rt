@@ -5,13 +5,13 @@ ghost use Rattle.bulk_walks.specs.Walks.{AllWalked, MayScan, CountsAll};
 ghost use Rattle.bulk_walks.specs.Turns.{CountsTurns};
 
 use crate::team::Team;
-use crate::workers::work;
 use atomic_methods::{WalkReply, count_of};
 use bin_stripes::{Gate, Pass, Place, StripedMap};
 use bpf_model::NoMemory;
 use std::alloc::Global;
 use std::sync::Wait;
 use std::thread::Threads;
+use workers::work;
 
 /// The worker's stripes, one after the other.
 fn count_turns<R: Wait, G: Gate>(

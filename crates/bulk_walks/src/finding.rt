@@ -5,13 +5,13 @@ ghost use Rattle.bulk_walks.specs.Walks.{Walked, AllWalked, MayScan};
 ghost use Rattle.bulk_walks.specs.Turns.{WorkerFinds, FindsInOrder, FindsAll, found_in, found_of};
 
 use crate::running::Part;
-use crate::workers::work;
 use bin_stripes::{Gate, Pass, Place, StripedMap};
 use bins::{EntryColumns, SortedColumns};
 use bpf_model::NoMemory;
 use std::alloc::Global;
 use std::sync::Wait;
 use std::thread::Threads;
+use workers::work;
 
 /// The worker's stripes, one after the other.
 fn scan_turns<R: Wait, G: Gate>(

@@ -7,7 +7,6 @@
 #![tactic(auto)]
 
 mod alike;
-mod apart;
 mod count;
 mod finding;
 mod merging;
@@ -15,7 +14,6 @@ mod replace;
 mod running;
 mod team;
 mod walks;
-mod workers;
 
 pub use alike::is_same_reply;
 pub use atomic_methods::{WalkKind, WalkReply};
@@ -23,4 +21,3 @@ pub use count::mapping_count;
 pub use replace::replace_all;
 pub use team::{EmptyTeam, Team};
 pub use walks::{for_each, search, walk};
-pub use workers::work;

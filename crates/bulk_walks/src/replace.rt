@@ -6,7 +6,6 @@ ghost use Rattle.atomic_methods.specs.Whole.{IsSum};
 ghost use Rattle.bulk_walks.specs.Turns.{ReplacesTurns, HasRoom, AreSums};
 
 use crate::team::Team;
-use crate::workers::work;
 use atomic_methods::WalkReply;
 use bin_stripes::{Gate, Pass, Place, StripedMap};
 use bins::{Counts, EntryList};
@@ -15,6 +14,7 @@ use std::alloc::Global;
 use std::sync::Wait;
 use std::thread::Threads;
 use verifier::Verified;
+use workers::work;
 
 /// Adds these counts.
 pub(crate) fn add(total: &mut Counts, more: Counts)

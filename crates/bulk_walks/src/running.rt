@@ -5,7 +5,6 @@ ghost use Rattle.atomic_methods.specs.Replies.{IsReply};
 ghost use Rattle.bulk_walks.specs.Turns.{found_in, AreReplies};
 ghost use Rattle.bulk_walks.specs.declared.running.Part.{Part as WorkersPart};
 
-use crate::apart::for_each_apart;
 use atomic_methods::{PartReply, WalkKind, walk};
 use bins::SortedColumns;
 use bpf_model::{NoMemory, Value};
@@ -13,6 +12,7 @@ use std::alloc::Global;
 use std::thread;
 use std::thread::Threads;
 use verifier::Verified;
+use workers::for_each_apart;
 
 /// What one worker found, and the reply to a walk over it. There is none before the program has run, and where memory
 /// was refused to it.

@@ -1,7 +1,7 @@
 -- The body of a request's frame, and which fault a body has. This map's profile.
 use Rattle.std.specs.Prelude.{◌≡◌, ◌≢◌, ℕ, ◌≤◌, ◌<◌, ◌^◌, ◌⊎◌, Bool, true, false, List, [], ◌∷◌, ◌++◌, length, flat_map, Option, Some, None, nat_eq, if◌then◌else◌}
 use Rattle.std.specs.Int.{w16, w32, w64, to_be_bytes}
-use Rattle.bpf_model.specs.declared.limits.TheConstants.{KEY_BYTES}
+use Rattle.bpf_model.specs.declared.limits.TheConstants.{KEY_BYTES, PROGRAM_UNITS}
 use Rattle.bpf_model.specs.declared.input.Sizes.{Sizes}
 use Rattle.client_protocol.specs.declared.limits.Version.{Version}
 use Rattle.client_protocol.specs.declared.limits.Version.TheVariants.{One, Two}
@@ -12,11 +12,12 @@ use Rattle.client_protocol.specs.declared.fault.ProtocolFault.{ProtocolFault}
 use Rattle.client_protocol.specs.declared.fault.ProtocolFault.TheVariants.{BadLength, UnknownRequest, BadField, TrailingBytes, WrongVersion}
 
 -- what may be sent after this Hello was taken, or before any: in version 1, and until then, bodies of at most 8,192
--- bytes and values of at most 256; in version 2, bodies of at most 32,777 bytes and values of at most 1,024
+-- bytes, values of at most 256 and programs of at most 512 units; in version 2, bodies of at most 32,777 bytes, values of
+-- at most 1,024 and any program
 abbrev pub limits_after : Option Version → Limits
-limits_after None = record { body = 8192; value = 256 }
-limits_after (Some One) = record { body = 8192; value = 256 }
-limits_after (Some Two) = record { body = 32777; value = 1024 }
+limits_after None = record { body = 8192; value = 256; units = 512 }
+limits_after (Some One) = record { body = 8192; value = 256; units = 512 }
+limits_after (Some Two) = record { body = 32777; value = 1024; units = PROGRAM_UNITS }
 
 abbrev pub version_number : Version → ℕ
 version_number One = 1

@@ -3,6 +3,8 @@ ghost use Rattle.std.specs.Prelude.{◌≡◌, ◌≢◌, IfSome, IfNone};
 ghost use Rattle.client_protocol.specs.declared.limits.Version.{Version as TheVersion};
 ghost use Rattle.client_protocol.specs.Bodies.{version_number, limits_after};
 
+use bpf_model::limits::PROGRAM_UNITS;
+
 /// A version of the protocol, which a client names in its Hello.
 #[derive(Clone, Copy, Debug, PartialEq, Eq)]
 pub enum Version {
@@ -36,11 +38,12 @@ impl Version {
     }
 }
 
-/// What may be sent: the most bytes of a frame's body, and of a value or an argument.
+/// What may be sent: the most bytes of a frame's body, of a value or an argument, and the most units of a program.
 #[derive(Clone, Copy, Debug, PartialEq, Eq)]
 pub struct Limits {
     pub body: u32,
     pub value: usize,
+    pub units: usize,
 }
 
 impl Limits {
@@ -52,10 +55,12 @@ impl Limits {
             None | Some(Version::One) => Limits {
                 body: 8192,
                 value: 256,
+                units: 512,
             },
             Some(Version::Two) => Limits {
                 body: 32777,
                 value: 1024,
+                units: PROGRAM_UNITS,
             },
         }
     }

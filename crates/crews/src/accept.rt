@@ -1,8 +1,9 @@
 //! Where clients come from.
 ghost use Rattle.std.specs.Prelude.{IfSome};
-ghost use Rattle.sessions.specs.Devices.{CanRead, CanWrite};
+ghost use Rattle.devices.specs.Devices.{CanRead, CanWrite};
 
-use sessions::{SessionEnd, Sink, Source};
+use devices::{Sink, Source};
+use sessions::SessionEnd;
 
 /// What hands each worker its clients, one after the other.
 pub trait Accept<R: Source, W: Sink> {

@@ -3,7 +3,7 @@ ghost use Rattle.std.specs.Prelude.{◌≡◌, ◌≢◌, ◌+◌, ℕ, List, []
 ghost use Rattle.std.specs.Io.KnownBytes.{Appends, Consumes, IsAtEnd};
 ghost use Rattle.program_registry.specs.declared.registry.ProgramToken.{ProgramToken};
 ghost use Rattle.sessions.specs.Answering.{Answered, BreaksOff};
-ghost use Rattle.sessions.specs.Devices.{CanRead, CanWrite, TakesBytes, TakesThenFails};
+ghost use Rattle.devices.specs.Devices.{CanRead, CanWrite, TakesBytes, TakesThenFails};
 ghost use Rattle.sessions.specs.Sessions.{Ended, HasToldEnd, ends_after, failed_reads, failed_writes};
 ghost use Rattle.crews.specs.Steps.{CrewServes};
 ghost use Rattle.crews.specs.Crews.{IsCrewOf, CarriesSame, station};
@@ -14,8 +14,9 @@ use bin_stripes::{Gate, StripedMap};
 use bpf_model::{NoMemory, Value};
 use bulk_walks::Team;
 use client_protocol::{Feeder, Request, Requests, Version, hello_after};
+use devices::{Failed, ReadAfterFlush, Sink};
 use program_registry::Registry;
-use sessions::{Failed, ReadBehind, SessionEnd, Sink, refuse, send};
+use sessions::{SessionEnd, refuse, send};
 use std::alloc::Global;
 use std::sync::Wait;
 use std::thread::Threads;
@@ -54,7 +55,7 @@ fn answer_all<H: Threads + Wait + Sync, W: Sink, G: Gate + Sync>(
 }
 
 /// The loop of a session: `run_session` of the crate sessions, where what answers may start threads.
-fn run<H: Threads + Wait + Sync, R: ReadBehind<W>, W: Sink, G: Gate + Sync>(
+fn run<H: Threads + Wait + Sync, R: ReadAfterFlush<W>, W: Sink, G: Gate + Sync>(
     rt: &H,
     alloc: Global,
     reader: &mut R,
@@ -85,7 +86,7 @@ fn run<H: Threads + Wait + Sync, R: ReadBehind<W>, W: Sink, G: Gate + Sync>(
         let Ok(()) = writer.flush() else {
             return SessionEnd::WriteFailed;
         };
-        let Ok(n) = reader.read_behind(writer, &mut piece) else {
+        let Ok(n) = reader.read_after_flush(writer, &mut piece) else {
             return SessionEnd::ReadFailed;
         };
         if n == 0 {
@@ -116,7 +117,7 @@ fn run<H: Threads + Wait + Sync, R: ReadBehind<W>, W: Sink, G: Gate + Sync>(
 /// other sessions share. A walk is the crew's team's, which is told what the crew's pass knows, and of which that pass is told.
 /// The gate is passed at `Request` before each answer. Programs of this session are always found; a program of another may
 /// be unknown. Waits for the reader, and for stripes that others hold.
-pub fn session<'a, H: Threads + Wait + Sync, R: ReadBehind<W>, W: Sink, G: Gate + Sync>(
+pub fn session<'a, H: Threads + Wait + Sync, R: ReadAfterFlush<W>, W: Sink, G: Gate + Sync>(
     rt: &H,
     alloc: Global,
     reader: &mut R,

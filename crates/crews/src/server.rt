@@ -7,12 +7,12 @@ use crate::client::session;
 use crate::crew::Crew;
 use bin_stripes::{Gate, StripedMap};
 use bpf_model::NoMemory;
-use bulk_walks::work;
+use devices::{Sink, Source};
 use program_registry::Registry;
-use sessions::{Sink, Source};
 use std::alloc::Global;
 use std::sync::Wait;
 use std::thread::Threads;
+use workers::work;
 
 /// Serves the worker's clients, one after the other.
 #[tactic(auto, using(crate::proofs::ServeLemmas::carries_same, crate::proofs::ServeLemmas::carries_on))]

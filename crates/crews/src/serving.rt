@@ -17,7 +17,7 @@ use bulk_walks::{mapping_count, replace_all, walk};
 use client_protocol::{Request, RequestView, ShortResponse, Version};
 use program_registry::{ProgramToken, Registry};
 use sessions::{
-    Answer, admit_or_refuse, answer_to, argument_of, call_of, named_program, no_memory,
+    Answer, answer_to, argument_of, call_of, named_program, no_memory, program_sent,
     unknown_program,
 };
 use std::alloc::Global;
@@ -119,7 +119,7 @@ impl<'a> Serving<'a> {
         let Ok(()) = self.tokens.reserve(1) else {
             return no_memory();
         };
-        let verified = match admit_or_refuse(alloc, hello, bytes, sizes) {
+        let verified = match program_sent(alloc, hello, bytes, sizes) {
             Ok(verified) => verified,
             Err(response) => return response,
         };

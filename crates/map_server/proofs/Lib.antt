@@ -7,3 +7,4 @@ pub mod ServerWordLemmas
 pub mod ServerRunLemmas
 pub mod ExecutionLemmas
 pub mod ExplanationLemmas
+pub mod AdmittedLemmas

@@ -7,7 +7,7 @@ use Rattle.atomic_table.specs.Seated.{TableId}
 use Rattle.stripe_rule.specs.Rule.{from_on}
 use Rattle.bin_stripes.specs.Passes.{PassState}
 use Rattle.bin_stripes.specs.Opened.{IsOpened, pass_of}
-use Rattle.sessions.specs.Devices.{SinkState, TakesFront}
+use Rattle.devices.specs.Devices.{SinkState, TakesFront}
 use Rattle.map_server.specs.ServerRuns.{EndsServing, PrintsAll}
 
 -- ---- what is printed

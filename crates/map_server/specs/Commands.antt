@@ -1,5 +1,5 @@
 -- What is true where a command reports so: of the text on standard input, and of the words of the command line.
-use Rattle.std.specs.Prelude.{◌≡◌, ◌⊎◌, ◌<◌, ◌≤◌, ℕ, List, [], ◌++◌, length, Option, Some, None, Err}
+use Rattle.std.specs.Prelude.{◌≡◌, ◌↔◌, ◌⊎◌, ◌<◌, ◌≤◌, ℕ, List, [], ◌++◌, length, Option, Some, None, Err}
 use Rattle.std.specs.Borrow.{Bor}
 use Rattle.std.specs.Str.{IsUtf8}
 use Rattle.bpf_model.specs.declared.input.Sizes.{Sizes}
@@ -8,15 +8,20 @@ use Rattle.bpf_model.specs.declared.instruction.Insn.{Insn}
 use Rattle.bpf_model.specs.declared.limits.TheConstants.{KEY_BYTES, VALUE_BYTES}
 use Rattle.bpf_model.specs.Fits.{Fits, first_unfit}
 use Rattle.bpf_model.specs.Meaning.{Means}
+use Rattle.bpf_model.specs.Program.{unit_count}
 use Rattle.bpf_model.specs.Spelling.{Spells}
 use Rattle.bpf_assembler.specs.Text.{IsTextOf}
 use Rattle.bpf_assembler.specs.Faults as assemble
 use Rattle.bpf_assembler.specs.declared.fault.AsmFault.TheVariants as asm_faults
 use Rattle.bpf_decode.specs.Faults as decode
 use Rattle.bpf_decode.specs.declared.fault.DecodeFault.TheVariants as decode_faults
-use Rattle.sessions.specs.Admissions.{IsAdmitted, IsNotAdmitted}
-use Rattle.sessions.specs.declared.admission.AdmissionFault.{AdmissionFault}
-use Rattle.sessions.specs.declared.admission.AdmissionFault.TheVariants.{Decode, Flow, Verify}
+use Rattle.flow_shape.specs.FlowShape as flow
+use Rattle.verifier.specs.Faults as verify
+use Rattle.verifier.specs.Plain.{IsPlain}
+use Rattle.verifier.specs.declared.fault.VerifyFault.TheVariants.{NoMemory as OutOfMemory, SizesTooLarge}
+use Rattle.admission.specs.Admissions.{IsAdmitted}
+use Rattle.admission.specs.declared.fault.AdmissionFault.{AdmissionFault}
+use Rattle.admission.specs.declared.fault.AdmissionFault.TheVariants.{Decode, Flow, Verify}
 use Rattle.map_server.specs.Hex.{SpellsBytes, IsFault}
 use Rattle.map_server.specs.declared.bpfmap.words.RunTexts.{RunTexts}
 use Rattle.map_server.specs.declared.bpfmap.words.Command.{Command}
@@ -77,9 +82,19 @@ IsHexRefused text IsRefusedSo (Program fault) = (bytes : List ℕ) × SpellsByte
 abbrev pub IsBytesRefused : List ℕ → Refusal → Type 0
 IsBytesRefused text refusal = IsHexRefused text IsUndecoded refusal
 
+-- why bytes spell no program that is found safe with these sizes: the first of the three steps that refuses. The last one refuses
+-- no plain program unless memory runs out. `IsNotAdmitted` with the limits of any program says so
+abbrev pub IsUnverified : List ℕ → Sizes → AdmissionFault → Type 0
+IsUnverified bytes sizes (Decode fault) = (fault ≡ decode_faults.NoMemory) ⊎ decode.IsFirstDecodeFault bytes fault
+IsUnverified bytes sizes (Flow fault) = (program : List Insn) × Spells bytes program × flow.IsFirstFlowFault program fault
+IsUnverified bytes sizes (Verify fault) =
+    (program : List Insn) × Spells bytes program × flow.IsWellShaped program
+    × (verify.verify_fault_unit fault < unit_count program) × ((fault ≡ SizesTooLarge) ↔ verify.ExceedLimits sizes)
+    × (IsPlain program sizes → fault ≡ OutOfMemory)
+
 -- why it spells no program that is found safe with these sizes
 abbrev pub IsProgramRefused : List ℕ → Sizes → Refusal → Type 0
-IsProgramRefused text sizes refusal = IsHexRefused text (λ bytes fault. IsNotAdmitted bytes sizes fault) refusal
+IsProgramRefused text sizes refusal = IsHexRefused text (λ bytes fault. IsUnverified bytes sizes fault) refusal
 
 -- why the text spells no value of at most this many bytes
 abbrev pub IsTextRefused : List ℕ → ℕ → Refusal → Type 0

@@ -13,7 +13,7 @@ use Rattle.map_server.specs.declared.bpfmap.ending.Ending.{Ending}
 use Rattle.map_server.specs.declared.bpfmap.ending.Ending.TheVariants.{Reported, Refused, Explained, NoMemory, BadStripes, Shown, Faulty, Unread, NotUtf8}
 use Rattle.map_server.specs.CommandLine.{Asks, bpfmap}
 use Rattle.map_server.specs.Commands.{IsReport, IsUnreadable}
-use Rattle.sessions.specs.Devices.{SourceState, SinkState, TakesBytes, TakesPart, TakesIfItCan}
+use Rattle.devices.specs.Devices.{SourceState, SinkState, TakesBytes, TakesPart, TakesIfItCan}
 use Rattle.map_server.specs.Meanings.{IsMeaning}
 use Rattle.map_server.specs.Shown.{IsShown}
 use Rattle.map_server.specs.Reports.{IsNoRefusal, report_text, status_of}

@@ -8,7 +8,7 @@ use Rattle.map_server.specs.declared.bpfmap.ending.Ending.TheVariants as ending
 use Rattle.map_server.specs.declared.bpfmap.words.Task.TheVariants.{Exec}
 use Rattle.sessions.specs.declared.session.SessionEnd.{SessionEnd}
 use Rattle.sessions.specs.declared.session.SessionEnd.TheVariants.{Closed, Cut, Refused, ReadFailed, WriteFailed, NoMemory}
-use Rattle.sessions.specs.Devices.{SourceState, SinkState, TakesIfItCan}
+use Rattle.devices.specs.Devices.{SourceState, SinkState, TakesIfItCan}
 use Rattle.map_server.specs.CommandLine.{Asks}
 use Rattle.map_server.specs.Endings.{Outputs, EndsCall, TellsEnding}
 use Rattle.sessions.specs.Requests.{Serves, IsNew}

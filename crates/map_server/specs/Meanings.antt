@@ -8,8 +8,8 @@ use Rattle.bpf_assembler.specs.Faults as assemble
 use Rattle.verifier.specs.Faults.{verify_fault_unit}
 use Rattle.verifier.specs.Messages as verify
 use Rattle.verifier.specs.declared.fault.VerifyFault.{VerifyFault}
-use Rattle.sessions.specs.Admissions.{fault_message}
-use Rattle.sessions.specs.declared.admission.AdmissionFault.TheVariants.{Verify}
+use Rattle.admission.specs.Admissions.{fault_message}
+use Rattle.admission.specs.declared.fault.AdmissionFault.TheVariants.{Verify}
 use Rattle.map_server.specs.declared.bpfmap.refusal.Refusal.{Refusal}
 use Rattle.map_server.specs.declared.bpfmap.refusal.Refusal.TheVariants.{TooLong, NoMemory, NotHex, Assemble, Program}
 use Rattle.map_server.specs.declared.bpfmap.words.Command.{Command}

@@ -1,7 +1,7 @@
 -- The number and the place of each refusal.
 use Rattle.std.specs.Prelude.{ℕ}
 use Rattle.bpf_assembler.specs.Faults as assemble
-use Rattle.sessions.specs.Admissions as admission
+use Rattle.admission.specs.Admissions as admission
 use Rattle.map_server.specs.declared.bpfmap.hex.HexFault.{HexFault}
 use Rattle.map_server.specs.declared.bpfmap.hex.HexFault.TheVariants as hex
 use Rattle.map_server.specs.declared.bpfmap.refusal.Refusal.{Refusal}

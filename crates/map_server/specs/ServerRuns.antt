@@ -5,7 +5,7 @@ use Rattle.clap.specs.declared.error.ErrorKind.{ErrorKind}
 use Rattle.bin_stripes.specs.Opened.{IsPassCount}
 use Rattle.bin_stripes.specs.declared.fault.OpenFault.{OpenFault}
 use Rattle.bin_stripes.specs.declared.fault.OpenFault.TheVariants as opening
-use Rattle.sessions.specs.Devices.{SinkState, TakesBytes, TakesFront, TakesIfItCan}
+use Rattle.devices.specs.Devices.{SinkState, TakesBytes, TakesFront, TakesIfItCan}
 use Rattle.map_server.specs.declared.bpfmap.ending.Ending.{Ending}
 use Rattle.map_server.specs.declared.bpfmap.ending.Ending.TheVariants.{Reported, Refused, Explained, NoMemory, BadStripes, Shown, Faulty, Unread, NotUtf8}
 use Rattle.map_server.specs.declared.mapd.words.MapdWords.{MapdWords}

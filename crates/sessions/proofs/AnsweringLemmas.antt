@@ -8,7 +8,7 @@ use Rattle.client_protocol.specs.Requests.{Request}
 use Rattle.client_protocol.specs.Bodies.{hello_after}
 use Rattle.client_protocol.specs.declared.response.Response.{Response}
 use Rattle.client_protocol.specs.Responses.{response_frame, response_frames}
-use Rattle.sessions.specs.Devices.{SinkState, TakesBytes, TakesPart, TakesThenFails}
+use Rattle.devices.specs.Devices.{SinkState, TakesBytes, TakesPart, TakesThenFails}
 use Rattle.sessions.specs.Answering.{item_of, sendable, hello_behind, AnswersInOrder, Answered, IsPart, BreaksOff}
 
 -- the first bytes were taken, and then more

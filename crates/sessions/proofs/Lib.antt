@@ -1,6 +1,5 @@
-pub mod ListLemmas
 pub mod AnsweringLemmas
 pub mod SessionLemmas
 pub mod SendingLemmas
-pub mod AdmissionLemmas
 pub mod RequestLemmas
+pub mod LimitLemmas

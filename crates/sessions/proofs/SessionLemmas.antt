@@ -13,7 +13,7 @@ use Rattle.client_protocol.specs.Faults.{protocol_fault_number}
 use Rattle.client_protocol.proofs.FrameLaws.{frames_go_on}
 use Rattle.sessions.specs.declared.session.SessionEnd.{SessionEnd}
 use Rattle.sessions.specs.declared.session.SessionEnd.TheVariants.{Closed, Cut, Refused, ReadFailed, WriteFailed, NoMemory}
-use Rattle.sessions.specs.Devices.{SinkState, TakesBytes, TakesFront}
+use Rattle.devices.specs.Devices.{SinkState, TakesBytes, TakesFront}
 use Rattle.sessions.specs.Answering.{hello_behind, Answered, BreaksOff}
 use Rattle.sessions.specs.Sessions.{refusal, AllAnswered, RunsOut, Owes, Ended}
 use Rattle.sessions.proofs.AnsweringLemmas.{answered_then, answered_none, breaks_then}

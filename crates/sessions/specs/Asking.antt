@@ -12,8 +12,10 @@ use Rattle.client_protocol.specs.Requests.{Request}
 use Rattle.client_protocol.specs.Requests.Request.{Hello, Register, Get, Put, PutIfAbsent, Remove, RemoveIf, Replace, ReplaceIf, Compute, ComputeIfAbsent, ComputeIfPresent, Merge, Search, ForEach, ReplaceAll, Count}
 use Rattle.client_protocol.specs.declared.response.Response.{Response}
 use Rattle.client_protocol.specs.declared.response.Response.TheVariants as tell
-use Rattle.sessions.specs.Admissions.{admission_fault_number, admission_fault_unit, IsAdmitted, HasManyUnits, HasLargeWindow, IsNotRegistered}
-use Rattle.sessions.specs.declared.admission.AdmissionFault.{AdmissionFault}
+use Rattle.client_protocol.specs.Bodies.{limits_after}
+use Rattle.admission.specs.Admissions.{admission_fault_number, admission_fault_unit, IsAdmitted, IsNotAdmitted, HasManyUnits, HasLargeWindow}
+use Rattle.admission.specs.declared.fault.AdmissionFault.{AdmissionFault}
+use Rattle.admission.specs.declared.limits.ProgramLimits.{ProgramLimits}
 
 -- what is asked for, with the program in place of its number
 pub data Asked : Type 0 where
@@ -89,17 +91,21 @@ response_to (replied.Value value) = tell.Value value
 response_to (replied.Done done) = tell.Done done
 response_to (replied.Unfit part) = tell.Unfit part
 
+-- the limits of a program that is sent after this Hello: those of the version
+abbrev pub program_limits : Option Version → ProgramLimits
+program_limits hello = let limits = limits_after hello in record { units = limits.units; window = limits.value }
+
 -- the bytes, sent behind this Hello, spell this program, which is safe with these sizes; they are within their limits
 pub record Admits (hello : Option Version) (sizes : Sizes) (bytes : List ℕ) (program : Checked) : Type 0 where
   pub admitted : IsAdmitted bytes sizes program.program
   pub declared : program.sizes ≡ sizes
-  pub units : HasManyUnits hello bytes → ⊥
-  pub windows : HasLargeWindow hello sizes → ⊥
+  pub units : HasManyUnits (program_limits hello) bytes → ⊥
+  pub windows : HasLargeWindow (program_limits hello) sizes → ⊥
 
 -- the response tells the first step that refuses the program, and where
 abbrev pub RefusesProgram : Option Version → Sizes → List ℕ → Response → Type 0
 RefusesProgram hello sizes bytes response =
-    (fault : AdmissionFault) × IsNotRegistered hello bytes sizes fault
+    (fault : AdmissionFault) × IsNotAdmitted (program_limits hello) bytes sizes fault
     × (response ≡ tell.Refused (admission_fault_number fault) (admission_fault_unit fault))
 
 module _ {S : Type 0} where

@@ -1,5 +1,3 @@
-pub mod Devices
-pub mod Admissions
 pub mod Answering
 pub mod Sessions
 pub mod Asking

@@ -11,7 +11,7 @@ use Rattle.client_protocol.specs.Frames.Held.{open_at, failed}
 use Rattle.client_protocol.specs.Responses.{response_frame}
 use Rattle.sessions.specs.declared.session.SessionEnd.{SessionEnd}
 use Rattle.sessions.specs.declared.session.SessionEnd.TheVariants.{Closed, Cut, Refused, ReadFailed, WriteFailed, NoMemory}
-use Rattle.sessions.specs.Devices.{next_end}
+use Rattle.devices.specs.Devices.{next_end}
 use Rattle.sessions.specs.Answering.{Answered, IsFront, BreaksOff}
 
 -- the reader told its end

@@ -7,19 +7,19 @@ ghost use Rattle.client_protocol.specs.Responses.{response_of};
 ghost use Rattle.sessions.specs.Answering.{responses_of};
 ghost use Rattle.sessions.specs.Asking.{walk, replacement, count, asked, with_program, IsCall};
 ghost use Rattle.sessions.specs.Requests.{Meets, AnswersRegister, Serves, IsNew};
-ghost use Rattle.sessions.specs.Devices.{CanRead, CanWrite};
+ghost use Rattle.devices.specs.Devices.{CanRead, CanWrite};
 ghost use Rattle.sessions.specs.Sessions.{Ended, HasToldEnd, ends_after, failed_reads, failed_writes};
 
 mod programs;
 
 use crate::alone::programs::Programs;
 use crate::calls::{argument_of, call_of};
-use crate::devices::{ReadBehind, Sink};
-use crate::responses::{admit_or_refuse, answer_to, no_memory, unknown_program};
+use crate::responses::{answer_to, no_memory, program_sent, unknown_program};
 use crate::session::{Answer, Service, SessionEnd, end_of, run_session};
 use atomic_methods::{OpenFault, Striped, WalkKind, count_of};
 use bpf_model::{NoMemory, Sizes, Value};
 use client_protocol::{Request, RequestView, ShortResponse, Version};
+use devices::{ReadAfterFlush, Sink};
 use std::alloc::Global;
 use std::sync::Wait;
 
@@ -55,7 +55,7 @@ impl Alone {
     ) -> ShortResponse
         ensures { AnswersRegister hello self.old sizes bytes.now (response_of result ∷ []) self.new }
     {
-        let program = match admit_or_refuse(alloc, hello, bytes, sizes) {
+        let program = match program_sent(alloc, hello, bytes, sizes) {
             Ok(program) => program,
             Err(response) => return response,
         };
@@ -157,7 +157,7 @@ impl Service for Alone {
 /// programs are then as the answered requests left them; where a write failed, also as the request left them whose answer
 /// is not wholly written. A refused request for memory is answered with 9, and ends the session only where it was asked for
 /// to take in the piece of the last read. Waits for the reader.
-pub fn session_alone<H: Wait, R: ReadBehind<W>, W: Sink>(
+pub fn session_alone<H: Wait, R: ReadAfterFlush<W>, W: Sink>(
     rt: &H,
     alloc: Global,
     reader: &mut R,
@@ -179,7 +179,7 @@ pub fn session_alone<H: Wait, R: ReadBehind<W>, W: Sink>(
         ≡ (R.source reader.old).failures + failed_reads result }
     ensures writes { (W.state writer.new).failures
         ≡ (W.state writer.old).failures + failed_writes result }
-    // Nothing is kept back at the end. Before a read nothing is, by what `read_behind` requires.
+    // Nothing is kept back at the end. Before a read nothing is, by what `read_after_flush` requires.
     ensures sent { (result ≢ SessionEnd.WriteFailed) → (W.state writer.new).keeps_back ≡ false }
 {
     run_session(rt, alloc, reader, writer, alone)

@@ -1,16 +1,17 @@
 //! Responses that whatever answers requests may give.
-ghost use Rattle.std.specs.Prelude.{◌≡◌, ℕ, List, [], ◌∷◌, IfOk, IfErr};
+ghost use Rattle.std.specs.Prelude.{◌≡◌, ◌<◌, ◌^◌, ℕ, List, [], ◌∷◌, IfOk, IfErr};
+ghost use Rattle.admission.specs.Admissions.{admission_fault_number, admission_fault_unit};
 ghost use Rattle.atomic_methods.specs.Plans.{reply_by};
 ghost use Rattle.client_protocol.specs.Responses.{response_of};
 ghost use Rattle.sessions.specs.Answering.{responses_of};
 ghost use Rattle.client_protocol.specs.declared.response.Response.TheVariants as tell;
-ghost use Rattle.sessions.specs.Asking.{response_to, Admits, RefusesProgram};
+ghost use Rattle.sessions.specs.Asking.{program_limits, response_to, Admits, RefusesProgram};
 
-use crate::admission::admit_behind;
 use crate::session::Answer;
+use admission::{AdmissionFault, ProgramLimits, admit};
 use atomic_methods::ReplyKind;
 use bpf_model::{NoMemory, Sizes};
-use client_protocol::{ShortResponse, Version};
+use client_protocol::{Limits, ShortResponse, Version};
 use std::alloc::Global;
 use verifier::Verified;
 
@@ -48,9 +49,30 @@ pub fn answer_to(kind: ReplyKind) -> Answer
     }
 }
 
-/// The program that the bytes spell, sent behind this Hello and verified with these sizes; or the response that tells the first
-/// step that refuses it, and the unit where it does.
-pub fn admit_or_refuse(
+/// The limits of a program that is sent after this Hello.
+fn program_limits(hello: Option<Version>) -> ProgramLimits
+    ensures { result ≡ program_limits hello }
+{
+    let limits = Limits::after(hello);
+    ProgramLimits {
+        units: limits.units,
+        window: limits.value,
+    }
+}
+
+/// The response that tells this fault, and the unit that has it.
+fn refusal_of(fault: AdmissionFault) -> ShortResponse
+    requires { admission_fault_unit fault < 2 ^ 32 }
+    ensures { response_of result ≡ tell.Refused (admission_fault_number fault) (admission_fault_unit fault) }
+{
+    ShortResponse::Refused {
+        number: fault.number(),
+        place: fault.unit() as u32,
+    }
+}
+
+/// The program of a Register that is sent after this Hello, or the response that refuses it.
+pub fn program_sent(
     alloc: Global,
     hello: Option<Version>,
     bytes: &[u8],
@@ -59,11 +81,8 @@ pub fn admit_or_refuse(
     ensures ok { IfOk result (λ program. Admits hello sizes bytes.now program) }
     ensures err { IfErr result (λ response. RefusesProgram hello sizes bytes.now (response_of response)) }
 {
-    match admit_behind(alloc, hello, bytes, sizes) {
+    match admit(alloc, program_limits(hello), bytes, sizes) {
         Ok(program) => Ok(program),
-        Err(fault) => Err(ShortResponse::Refused {
-            number: fault.number(),
-            place: fault.unit() as u32,
-        }),
+        Err(fault) => Err(refusal_of(fault)),
     }
 }

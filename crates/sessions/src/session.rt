@@ -4,16 +4,16 @@
 ghost use Rattle.std.specs.Prelude.{◌≡◌, ◌≢◌, ◌+◌, ℕ, List, false, OnOk, OnErr};
 ghost use Rattle.std.specs.Io.KnownBytes.{Appends, Consumes, IsAtEnd};
 ghost use Rattle.sessions.specs.Answering.{Answered, BreaksOff};
-ghost use Rattle.sessions.specs.Devices.{CanRead, CanWrite, TakesBytes, TakesThenFails};
+ghost use Rattle.devices.specs.Devices.{CanRead, CanWrite, TakesBytes, TakesThenFails};
 ghost use Rattle.sessions.specs.Sessions.{Ended, HasToldEnd, ends_after, failed_reads, failed_writes};
 
 pub(crate) mod send;
 mod service;
 
-use crate::devices::{Failed, ReadBehind, Sink};
 use crate::session::send::{refuse, send};
 use bpf_model::{NoMemory, Value};
 use client_protocol::{Feeder, ProtocolFault, Request, Requests, Version, hello_after};
+use devices::{Failed, ReadAfterFlush, Sink};
 pub use send::end_of;
 pub use service::{Answer, Service};
 use std::alloc::Global;
@@ -66,7 +66,7 @@ fn answer_all<W: Sink, S: Service>(
 const PIECE_BYTES: usize = 1024;
 
 /// Answers the requests that are read, until the end. What the sink took is passed on before each read.
-pub fn run_session<H: Wait, R: ReadBehind<W>, W: Sink, S: Service>(
+pub fn run_session<H: Wait, R: ReadAfterFlush<W>, W: Sink, S: Service>(
     rt: &H,
     alloc: Global,
     reader: &mut R,
@@ -95,7 +95,7 @@ pub fn run_session<H: Wait, R: ReadBehind<W>, W: Sink, S: Service>(
         let Ok(()) = writer.flush() else {
             return SessionEnd::WriteFailed;
         };
-        let Ok(n) = reader.read_behind(writer, &mut piece) else {
+        let Ok(n) = reader.read_after_flush(writer, &mut piece) else {
             return SessionEnd::ReadFailed;
         };
         if n == 0 {

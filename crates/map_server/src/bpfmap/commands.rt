@@ -8,12 +8,13 @@ use crate::bpfmap::hex::hex_bytes;
 use crate::bpfmap::refusal::Refusal;
 use crate::bpfmap::report::{Line, Report, unit_lines};
 use crate::bpfmap::words::{Command, RunTexts};
+use admission::{ProgramLimits, admit};
 use bpf_assembler::{assemble, disassemble};
 use bpf_decode::{decode, encode};
 use bpf_machine::run;
 use bpf_model::{Input, Key, NoMemory, Program, Sizes, Value, fits};
+use devices::Failed;
 use flow_shape::shape;
-use sessions::{Failed, admit};
 use std::alloc::Global;
 use verifier::{Verified, known_states};
 
@@ -43,13 +44,15 @@ fn disasm_once(alloc: Global, text: &[u8]) -> Result<Report, Refusal>
     Ok(Report::Text(disassemble(alloc, &program)?.into_bytes()))
 }
 
+/// The program that hex text spells, admitted by the limits of any program.
+#[tactic(auto, using(crate::proofs::AdmittedLemmas::unverified))]
 fn verified(alloc: Global, text: &[u8], sizes: Sizes) -> Result<Verified, Refusal>
     ensures ok { IfOk result (λ v. SpellsSafe text.now sizes v.program) }
     ensures sizes { IfOk result (λ v. v.sizes ≡ sizes) }
     ensures err { IfErr result (λ refusal. IsProgramRefused text.now sizes refusal) }
 {
     let bytes = hex_bytes(alloc, text)?;
-    Ok(admit(alloc, &bytes, sizes)?)
+    Ok(admit(alloc, ProgramLimits::GREATEST, &bytes, sizes)?)
 }
 
 fn key_of(alloc: Global, text: &str) -> Result<Key, Refusal>

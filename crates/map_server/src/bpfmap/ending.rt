@@ -1,11 +1,11 @@
 //! What a call of `bpfmap` comes to, and how that is told.
 ghost use Rattle.std.specs.Prelude.{◌≡◌};
-ghost use Rattle.sessions.specs.Devices.{CanWrite, TakesIfItCan};
+ghost use Rattle.devices.specs.Devices.{CanWrite, TakesIfItCan};
 ghost use Rattle.map_server.specs.Endings.{outputs, Prints, PrintsRefusal, TellsEnding};
 
 use crate::bpfmap::refusal::Refusal;
 use crate::bpfmap::report::Report;
-use sessions::{Failed, Sink, write_all};
+use devices::{Failed, Sink, write_all};
 
 /// What a call of `bpfmap` comes to.
 #[derive(Debug, Drop)]

@@ -1,11 +1,12 @@
 //! The command `exec`: a session over the streams, and a table of its own.
 ghost use Rattle.map_server.specs.Endings.{outputs};
 ghost use Rattle.map_server.specs.Executions.{Executes, TellsEnd};
-ghost use Rattle.sessions.specs.Devices.{CanRead, CanWrite};
+ghost use Rattle.devices.specs.Devices.{CanRead, CanWrite};
 
 use crate::bpfmap::ending::{Ending, FAILED_DEVICE, warn};
 use atomic_methods::OpenFault;
-use sessions::{Alone, SessionEnd, Sink, Source, session_alone};
+use devices::{Sink, Source};
+use sessions::{Alone, SessionEnd, session_alone};
 use std::alloc::Global;
 use std::sync::Wait;
 

@@ -7,9 +7,9 @@ use crate::bpfmap::commands::program_of;
 use crate::bpfmap::reason::known_reason;
 use crate::bpfmap::refusal::Refusal;
 use crate::bpfmap::words::Command;
+use admission::AdmissionFault;
 use bpf_assembler::instruction_text;
 use bpf_model::{Insn, NoMemory, Program, Sizes};
-use sessions::AdmissionFault;
 use std::alloc::Global;
 use verifier::VerifyFault;
 

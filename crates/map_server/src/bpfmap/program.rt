@@ -8,7 +8,7 @@ ghost use Rattle.map_server.specs.CommandLine.{bpfmap};
 ghost use Rattle.map_server.specs.Endings.{outputs, EndsReport, EndsCommand, EndsWords, TellsEnding};
 ghost use Rattle.map_server.specs.Executions.{RunsBpfmap};
 ghost use Rattle.map_server.specs.Shown.{IsShown};
-ghost use Rattle.sessions.specs.Devices.{CanRead, CanWrite};
+ghost use Rattle.devices.specs.Devices.{CanRead, CanWrite};
 
 use crate::bpfmap::commands::report_of;
 use crate::bpfmap::ending::Ending;
@@ -19,7 +19,7 @@ use crate::bpfmap::shown::told;
 use crate::bpfmap::words::{Command, Task, parse_words};
 use bpf_model::NoMemory;
 use clap::error::ErrorKind;
-use sessions::{Failed, ReadFault, Sink, Source, read_all};
+use devices::{Failed, ReadFault, Sink, Source, read_all};
 use std::alloc::Global;
 use std::io;
 use std::sync::Wait;

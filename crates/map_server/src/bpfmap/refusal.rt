@@ -3,10 +3,10 @@ ghost use Rattle.std.specs.Prelude.{◌≡◌};
 ghost use Rattle.map_server.specs.Refusals.{refusal_number, place_of};
 
 use crate::bpfmap::hex::HexFault;
+use admission::AdmissionFault;
 use bpf_assembler::AsmFault;
 use bpf_decode::DecodeFault;
 use bpf_model::{NoMemory, TooLong};
-use sessions::AdmissionFault;
 use std::error::Error;
 use std::fmt;
 
@@ -131,7 +131,7 @@ impl From<AdmissionFault> for Refusal {
 
 impl From<DecodeFault> for Refusal {
     ghost use Rattle.std.specs.Prelude.{◌≡◌};
-    ghost use Rattle.sessions.specs.declared.admission.AdmissionFault.TheVariants.{Decode};
+    ghost use Rattle.admission.specs.declared.fault.AdmissionFault.TheVariants.{Decode};
     ghost use Rattle.map_server.specs.declared.bpfmap.refusal.Refusal.TheVariants.{Program};
 
     ghost from_gives = { λ fault e. e ≡ Program (Decode fault) };

@@ -1,11 +1,12 @@
 //! The clients of one port, as workers take them.
 ghost use Rattle.std.specs.Prelude.{IfOk};
-ghost use Rattle.sessions.specs.Devices.{CanRead, CanWrite};
+ghost use Rattle.devices.specs.Devices.{CanRead, CanWrite};
 
 use crate::mapd::telling::Telling;
 use bpf_model::NoMemory;
 use crews::Accept;
-use sessions::{SessionEnd, Sink, Source, StreamSink, StreamSource};
+use devices::{Sink, Source, StreamSink, StreamSource};
+use sessions::SessionEnd;
 use std::alloc::{AllocError, Global};
 use std::io::{self, BufWriter, ErrorKind, Read};
 use std::net::{Shutdown, TcpListener, TcpStream};

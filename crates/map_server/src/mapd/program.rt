@@ -2,7 +2,7 @@
 ghost use Rattle.std.specs.Prelude.{◌≡◌, ◌++◌, [], ℕ, List, codes, decimal, IfOk, OnOk, OnErr};
 ghost use Rattle.clap.specs.Walk.{texts};
 ghost use Rattle.clap.specs.Words.{fault_of, HasKind};
-ghost use Rattle.sessions.specs.Devices.{CanWrite, TakesFront, TakesIfItCan};
+ghost use Rattle.devices.specs.Devices.{CanWrite, TakesFront, TakesIfItCan};
 ghost use Rattle.map_server.specs.Endings.{outputs};
 ghost use Rattle.map_server.specs.ServerRuns.{EndsServerWords, EndsServing, IsLastLine, Listens, RunsMapd, PrintsAll, TellsOpenFault};
 ghost use Rattle.map_server.specs.ServerWords.{mapd};
@@ -18,8 +18,8 @@ use bin_stripes::{OpenFault, OpenGate};
 use bpf_model::NoMemory;
 use clap::error::ErrorKind;
 use crews::{Crew, serve};
+use devices::{Failed, Sink, write_all};
 use itoa::Buffer;
-use sessions::{Failed, Sink, write_all};
 use std::alloc::{AllocError, Global};
 use std::io;
 use std::net::{Net, TcpListener, TcpStream};

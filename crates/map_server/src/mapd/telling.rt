@@ -1,8 +1,8 @@
 //! What several workers tell on standard error.
 ghost use Rattle.std.specs.Prelude.{◌≡◌, true};
-ghost use Rattle.sessions.specs.Devices.{CanWrite};
+ghost use Rattle.devices.specs.Devices.{CanWrite};
 
-use sessions::{Sink, write_all};
+use devices::{Sink, write_all};
 
 /// Standard error, which is not used again after it failed.
 #[derive(Drop)]

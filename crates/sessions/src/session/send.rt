@@ -4,16 +4,16 @@ ghost use Rattle.bpf_model.specs.declared.limits.TheConstants.{KEY_BYTES, VALUE_
 ghost use Rattle.client_protocol.specs.declared.response.Response.TheVariants.{Value as Answered, Item};
 ghost use Rattle.client_protocol.specs.Responses.{response_frame, response_frames, response_of};
 ghost use Rattle.sessions.specs.Answering.{item_of, end_of, has_too_long, responses_of, sendable, walk_responses};
-ghost use Rattle.sessions.specs.Devices.{CanWrite, TakesBytes, TakesFront, TakesPart};
+ghost use Rattle.devices.specs.Devices.{CanWrite, TakesBytes, TakesFront, TakesPart};
 ghost use Rattle.sessions.specs.Sessions.{refusal};
 
-use crate::devices::{Failed, Sink, write_all};
 use crate::session::SessionEnd;
 use crate::session::service::Answer;
 use atomic_methods::WalkReply;
 use bins::{Counts, EntryList};
 use bpf_model::Value;
 use client_protocol::{Limits, ShortResponse, Version, item_head, value_head};
+use devices::{Failed, Sink, write_all};
 
 /// The refusal that stands for responses with a value that is too long for the session's version.
 const VALUE_TOO_LONG: u8 = 65;

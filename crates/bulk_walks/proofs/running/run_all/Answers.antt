@@ -1,7 +1,7 @@
 use Rattle.std.proofs.Common.{◌≡◌, ◌++◌, take, drop, length, map, sym, ◌∙◌, ap, subst, List}
 use Rattle.bulk_walks.specs.declared.running.Part.{Part}
 use Rattle.bulk_walks.specs.Turns.{found_in, AreReplies}
-use Rattle.bulk_walks.proofs.Working.{kept}
+use Rattle.workers.proofs.Working.{kept}
 use Rattle.bulk_walks.proofs.RunLemmas.{are_replies}
 use Rattle.bulk_walks.proofs.running.run_all.Goals as goal
 

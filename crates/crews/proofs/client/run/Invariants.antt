@@ -8,12 +8,12 @@ use Rattle.crews.proofs.client.run.Given as goal
 
 abbrev pub invariant-loop : goal.invariant-loop
 invariant-loop g l = record {
-  ends : (g.R.ReadBehind.source l.reader).ends ≡ (g.R.ReadBehind.source l.fn.reader).ends;
-  reads : (g.R.ReadBehind.source l.reader).failures ≡ (g.R.ReadBehind.source l.fn.reader).failures;
+  ends : (g.R.ReadAfterFlush.source l.reader).ends ≡ (g.R.ReadAfterFlush.source l.fn.reader).ends;
+  reads : (g.R.ReadAfterFlush.source l.reader).failures ≡ (g.R.ReadAfterFlush.source l.fn.reader).failures;
   writes : (g.W.Sink.state l.writer).failures ≡ (g.W.Sink.state l.fn.writer).failures;
   faultless : held_fault l.feeder ≡ None;
   so_far : (read : List ℕ) × (written : List ℕ)
-      × Consumes (g.R.ReadBehind.source l.fn.reader).left (g.R.ReadBehind.source l.reader).left read
+      × Consumes (g.R.ReadAfterFlush.source l.fn.reader).left (g.R.ReadAfterFlush.source l.reader).left read
       × Appends (g.W.Sink.state l.fn.writer).held (g.W.Sink.state l.writer).held written
       × AllAnswered CrewServes l.fn.serving read l.feeder written l.serving;
 }

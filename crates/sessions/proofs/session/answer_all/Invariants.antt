@@ -1,7 +1,7 @@
 -- the requests so far are answered
 use Rattle.std.proofs.Common.{◌≡◌, ℕ, List, take}
 use Rattle.sessions.specs.Answering.{hello_behind, Answered}
-use Rattle.sessions.specs.Devices.{TakesBytes}
+use Rattle.devices.specs.Devices.{TakesBytes}
 use Rattle.sessions.proofs.session.answer_all.Given as goal
 
 abbrev pub invariant-loop-request : goal.invariant-loop-request

@@ -2,7 +2,7 @@
 use Rattle.std.proofs.Common.{take, map}
 use Rattle.client_protocol.specs.Responses.{response_frames}
 use Rattle.sessions.specs.Answering.{item_of}
-use Rattle.sessions.specs.Devices.{TakesBytes}
+use Rattle.devices.specs.Devices.{TakesBytes}
 use Rattle.sessions.proofs.session.send.send_items.Given as goal
 
 abbrev pub invariant-loop-position : goal.invariant-loop-position

@@ -1,0 +1,41 @@
+//! What a program may have at most.
+ghost use Rattle.std.specs.Prelude.{◌≡◌, ◌↔◌, IsTrue};
+ghost use Rattle.admission.specs.Admissions.{HasManyUnits, HasLargeWindow};
+
+use bpf_model::Sizes;
+use bpf_model::limits::{KEY_BYTES, PROGRAM_UNITS, VALUE_BYTES};
+
+/// The most units of a program, and the most bytes of its old value, argument and result.
+#[derive(Clone, Copy, Debug, PartialEq, Eq)]
+pub struct ProgramLimits {
+    pub units: usize,
+    pub window: usize,
+}
+
+/// The bytes of a unit.
+const UNIT_BYTES: usize = 8;
+
+impl ProgramLimits {
+    /// The limits of any program.
+    pub const GREATEST: ProgramLimits = ProgramLimits {
+        units: PROGRAM_UNITS,
+        window: VALUE_BYTES,
+    };
+
+    /// Tests whether the bytes are whole units, and more than the limits allow.
+    pub(crate) fn has_many_units(self, bytes: &[u8]) -> bool
+        ensures { IsTrue result ↔ HasManyUnits self bytes.now }
+    {
+        bytes.len() % UNIT_BYTES == 0 && bytes.len() / UNIT_BYTES > self.units
+    }
+
+    /// Tests whether a declared size is above its limit, which for a key is that of any key.
+    pub(crate) fn has_large_window(self, sizes: Sizes) -> bool
+        ensures { IsTrue result ↔ HasLargeWindow self sizes }
+    {
+        usize::from(sizes.key) > KEY_BYTES
+            || usize::from(sizes.old) > self.window
+            || usize::from(sizes.arg) > self.window
+            || usize::from(sizes.result) > self.window
+    }
+}

@@ -1,0 +1,6 @@
+-- an interrupted flush has changed nothing
+use Rattle.std.specs.Io.KnownBytes.{Keeps}
+use Rattle.devices.proofs.streams.flush_again.Given as goal
+
+abbrev pub invariant-loop : goal.invariant-loop
+invariant-loop g l = Keeps (g.W.Write.contents l.initial.writer) (g.W.Write.contents l.writer)

@@ -1,0 +1,17 @@
+//! Where bytes come from and where they go, as far as a device tells.
+//!
+//! The promise to the layers above: a `Source` and a `Sink` say what each read, write and flush makes of what the device
+//! tells (`SourceState` and `SinkState` of `specs/Devices.antt`); `read_all` and `write_all` read and write all bytes. A
+//! `StreamSource` and a `StreamSink` are the streams of `std::io` as devices, and repeat a call that a signal interrupts.
+//! A read waits as long as its device does. Only `read_all` takes memory.
+#![tactic(auto)]
+
+mod failed;
+mod sink;
+mod source;
+mod streams;
+
+pub use failed::Failed;
+pub use sink::{Sink, write_all};
+pub use source::{ReadAfterFlush, ReadFault, Source, read_all};
+pub use streams::{StreamSink, StreamSource};

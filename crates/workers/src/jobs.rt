@@ -1,0 +1,108 @@
+//! The workers of a team.
+ghost use Rattle.std.specs.Prelude.{◌≡◌, ◌≢◌, ℕ, ◌<◌, ◌≤◌, MatchResult, IfSome, length, vec_len, vec_capacity, map, Some, None, IsSome, slice_index_or};
+ghost use Rattle.std.specs.Prelude.{IsSomeAnd, [], All, ◌+◌};
+ghost use Rattle.workers.specs.Workers.{job_of, MayTake, Worked, TakesEach, AllWorked};
+ghost use Rattle.workers.specs.declared.jobs.Job.{Job};
+
+use crate::apart::for_each_apart;
+use bpf_model::NoMemory;
+use std::alloc::Global;
+use std::thread::Threads;
+
+/// What one worker is given, and its answer.
+#[derive(Drop)]
+struct Job<X, T> {
+    own: X,
+    answer: Option<T>,
+}
+
+/// Calls `f(i, &mut x)` for each element `x` at its place `i`, each in a thread of its own where one can be made, and waits for
+/// all of them. Gives the elements back in their order, with what the calls answered. `NoMemory` where a request for the lists of
+/// jobs was refused; nothing was called then.
+pub fn work<R: Threads + Sync, X: Send + Drop, T: Send + Drop, F: Fn(usize, &mut X) -> T + Sync>(
+    rt: &R,
+    alloc: Global,
+    all: Vec<X>,
+    f: &F,
+) -> (Vec<X>, Result<Vec<T>, NoMemory>)
+    requires { TakesEach F.Fn f.now all.items }
+    ensures { MatchResult result.1 (λ rs. AllWorked F.Fn f.now all.items rs.items result.0.items) (λ _. result.0.items ≡ all.items) }
+{
+    let count = all.len();
+    let Ok(jobs) = Vec::with_capacity(alloc, count) else {
+        return (all, Err(NoMemory));
+    };
+    let Ok(left) = Vec::with_capacity(alloc, count) else {
+        return (all, Err(NoMemory));
+    };
+    let Ok(answers) = Vec::with_capacity(alloc, count) else {
+        return (all, Err(NoMemory));
+    };
+    let mut jobs = given_out(all, jobs);
+    run(rt, &mut jobs, f);
+    let (left, answers) = handed_back(jobs, left, answers);
+    (left, Ok(answers))
+}
+
+/// A job for each element, in the room that is there.
+fn given_out<X: Drop, T: Drop>(all: Vec<X>, mut jobs: Vec<Job<X, T>>) -> Vec<Job<X, T>>
+    requires empty { jobs.items ≡ [] }
+    requires room { vec_len all ≤ vec_capacity jobs }
+    ensures { result.items ≡ map job_of all.items }
+{
+    for own in all {
+        let job = Job { own, answer: None };
+        let Ok(()) = jobs.push(job) else {
+            unreachable!()
+        };
+    }
+    jobs
+}
+
+/// What the jobs hold, in the room that is there.
+fn handed_back<X: Drop, T: Drop>(
+    jobs: Vec<Job<X, T>>,
+    mut left: Vec<X>,
+    mut answers: Vec<T>,
+) -> (Vec<X>, Vec<T>)
+    requires empty { (left.items ≡ []) × (answers.items ≡ []) }
+    requires room { (vec_len jobs ≤ vec_capacity left) × (vec_len jobs ≤ vec_capacity answers) }
+    requires done { All (λ job. IsSome job.answer) jobs.items }
+    ensures { (result.0.items ≡ map (λ job. job.own) jobs.items) × (map Some result.1.items ≡ map (λ job. job.answer) jobs.items) }
+{
+    for job in jobs {
+        let Job { own, answer } = job;
+        let Ok(()) = left.push(own) else {
+            unreachable!()
+        };
+        let Some(answer) = answer else { unreachable!() };
+        let Ok(()) = answers.push(answer) else {
+            unreachable!()
+        };
+    }
+    (left, answers)
+}
+
+/// One worker's call.
+fn one<X, T: Drop, F: Fn(usize, &mut X) -> T>(f: &F, i: usize, job: &mut Job<X, T>)
+    requires { MayTake F.Fn f.now i job.old.own }
+    ensures { IsSomeAnd job.new.answer (λ r. Worked F.Fn f.now i job.old.own r job.new.own) }
+{
+    let answer = f(i, &mut job.own);
+    job.answer = Some(answer);
+}
+
+fn run<R: Threads + Sync, X: Send + Drop, T: Send + Drop, F: Fn(usize, &mut X) -> T + Sync>(
+    rt: &R,
+    jobs: &mut [Job<X, T>],
+    f: &F,
+)
+    requires { (i : ℕ) (d : Job X T) → i < length jobs.old → MayTake F.Fn f.now i (slice_index_or jobs.old i d).own }
+    ensures { (length jobs.new ≡ length jobs.old) × ((i : ℕ) (d : Job X T) → i < length jobs.old → IsSomeAnd (slice_index_or jobs.new i d).answer (λ r. Worked F.Fn f.now i (slice_index_or jobs.old i d).own r (slice_index_or jobs.new i d).own)) }
+{
+    let call = move |i: usize, job: &mut Job<X, T>|
+        requires { MayTake F.Fn f.now i job.old.own }
+        ensures { IsSomeAnd job.new.answer (λ r. Worked F.Fn f.entry.now i job.old.own r job.new.own) }
+    { one(f, i, job) };
+    for_each_apart(rt, jobs, &call);
+}

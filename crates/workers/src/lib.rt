@@ -1,0 +1,13 @@
+//! Calls of one function by several threads, one for each element of a list.
+//!
+//! The promise to the layers above: `work` calls the function once for each element, with its place, and gives back the
+//! elements in their order and what the calls answered (`AllWorked` of `specs/Workers.antt`); `for_each_apart` makes the
+//! calls over a slice (`ChangesEach` of std). The calling thread waits for all of them. `work` takes memory for three lists,
+//! `for_each_apart` takes none.
+#![tactic(auto)]
+
+mod apart;
+mod jobs;
+
+pub use apart::for_each_apart;
+pub use jobs::work;
