@@ -32,9 +32,9 @@ use Rattle.clap.proofs.CallerLemmas.{entry_by_id, required_has_value, same_rules
 use Rattle.clap.proofs.CallerReads.{signed_reads}
 use Rattle.clap.proofs.OnLiterals.{clap_on_literals}
 use Rattle.clap.proofs.WalkLemmas.{one_text-rows}
-use Rattle.map_server.specs.CommandLine.{given_size, spelled_size}
+use Rattle.map_commands.specs.CommandLine.{given_size, spelled_size}
 use Rattle.map_server.specs.ServerWords.{mapd, mapd_options}
-use Rattle.map_server.proofs.WordLemmas.{both, cases_is, digits_are, size_in-parsed}
+use Rattle.map_commands.proofs.WordLemmas.{both, cases_is, digits_are, size_in-parsed}
 
 -- ---- a parse of `mapd`
 

@@ -6,13 +6,13 @@ use Rattle.bin_stripes.specs.Opened.{IsPassCount}
 use Rattle.bin_stripes.specs.declared.fault.OpenFault.{OpenFault}
 use Rattle.bin_stripes.specs.declared.fault.OpenFault.TheVariants as opening
 use Rattle.sessions.specs.Devices.{SinkState, TakesBytes, TakesFront, TakesIfItCan}
-use Rattle.map_server.specs.declared.bpfmap.ending.Ending.{Ending}
-use Rattle.map_server.specs.declared.bpfmap.ending.Ending.TheVariants.{Reported, Refused, Explained, NoMemory, BadStripes, Shown, Faulty, Unread, NotUtf8}
-use Rattle.map_server.specs.declared.mapd.words.MapdWords.{MapdWords}
-use Rattle.map_server.specs.Endings.{Outputs, IsHelpOrVersion, PrintsRefusal, TellsEnding}
-use Rattle.map_server.specs.Executions.{IsBadCount}
+use Rattle.map_commands.specs.declared.ending.Ending.{Ending}
+use Rattle.map_commands.specs.declared.ending.Ending.TheVariants.{Reported, Refused, Explained, NoMemory, BadStripes, Shown, Faulty, Unread, NotUtf8}
+use Rattle.map_server.specs.declared.words.MapdWords.{MapdWords}
+use Rattle.map_commands.specs.Endings.{Outputs, IsHelpOrVersion, PrintsRefusal, TellsEnding}
+use Rattle.map_commands.specs.Executions.{IsBadCount}
 use Rattle.map_server.specs.ServerWords.{AsksServer, mapd}
-use Rattle.map_server.specs.Shown.{IsShown}
+use Rattle.map_commands.specs.Shown.{IsShown}
 
 -- what words come to that ask for no server, by clap's kind of error, in whose text words are shown; memory may be refused to it
 abbrev pub EndsServerWords : List (List ℕ) → Ending → Type 0

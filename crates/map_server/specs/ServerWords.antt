@@ -5,10 +5,10 @@ use Rattle.clap.specs.Simple.{new_shape}
 use Rattle.clap.specs.Values.{kind_of}
 use Rattle.clap.specs.declared.builder.ArgAction.TheVariants.{Set}
 use Rattle.clap.specs.declared.builder.ValueParser.TheVariants.{Signed}
-use Rattle.map_server.specs.CommandLine.{given_size, size_option, spelled_size}
-use Rattle.map_server.specs.declared.mapd.words.MapdWords.{MapdWords}
-use Rattle.map_server.specs.declared.mapd.words.WordsFault.{WordsFault}
-use Rattle.map_server.specs.declared.mapd.words.WordsFault.TheVariants as fault
+use Rattle.map_commands.specs.CommandLine.{given_size, size_option, spelled_size}
+use Rattle.map_server.specs.declared.words.MapdWords.{MapdWords}
+use Rattle.map_server.specs.declared.words.WordsFault.{WordsFault}
+use Rattle.map_server.specs.declared.words.WordsFault.TheVariants as fault
 
 -- the address, which is wanted
 abbrev pub listen_option : Rule
