@@ -1,4 +1,4 @@
--- Where a table is opened, or memory is refused to it, it may have so many stripes.
+-- If a table is opened, or memory is refused to it, it may have this number of stripes.
 use Rattle.std.proofs.Common.{◌≡◌, ℕ, sym, subst, Result, Ok, Err}
 use Rattle.std.specs.Prelude.{◌↔◌, IsErrOf}
 use Rattle.atomic_methods.specs.Hashes.{IsStripeCount}

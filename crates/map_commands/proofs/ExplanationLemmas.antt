@@ -13,7 +13,7 @@ use Rattle.verifier.specs.Walks.{KnowsRuns}
 use Rattle.map_commands.specs.Reasons.{DescribesAt}
 use Rattle.map_commands.specs.Explanations.{line_text, told_line, lines_below, values_after, values_before}
 
--- one more piece behind those that were told
+-- one more piece after those that were told
 pub told_more : (start done told piece new : List ℕ) → told ≡ start ++ done → new ≡ told ++ piece → new ≡ start ++ (done ++ piece)
 told_more start done told piece new before grown = grown ∙ ap (λ (xs : List ℕ). xs ++ piece) before ∙ append_assoc start done piece
 

@@ -40,7 +40,7 @@ blank_or_digit c d is_blank is_digit e =
     let bad : is_some (digit_of d) ≡ true = is_digit in
     absurd (let wrong = rw none at bad in cc)
 
--- where no piece begins what is left, the pieces of the whole text are those that were read
+-- if no piece begins what is left, the pieces of the whole text are those that were read
 same_pieces : (ps qs : List Piece) (rest : List ℕ) → AllByRecursion IsPiece ps → AllByRecursion IsPiece qs → HasNoPiece rest → flat_map piece_text ps ≡ flat_map piece_text qs ++ rest → (ps ≡ qs) × (rest ≡ [])
 same_pieces [] [] rest are be none e = (refl, sym e)
 same_pieces [] (blank d ∷ qs) rest are be none e = absurd cc
@@ -58,7 +58,7 @@ same_pieces (pair h l ∷ ps) (pair h' l' ∷ qs) rest are be none e =
     let others = same_pieces ps qs rest are.1 be.1 none (cc) in
     (cc (high, low, others.0), others.1)
 
--- hex text spells what was read of it before the first place where no piece begins, and that is all of it
+-- hex text spells what was read of it before the first byte at which no piece begins, and that is all of it
 pub read_once : (text front rest a b : List ℕ) → SpellsBytes text a → SpellsBytes front b → text ≡ front ++ rest → HasNoPiece rest → (b ≡ a) × (rest ≡ [])
 read_once text front rest a b whole part parts none =
     let e : flat_map piece_text whole.0 ≡ flat_map piece_text part.0 ++ rest = sym whole.2 ∙ parts ∙ ap (λ l. l ++ rest) part.2 in

@@ -14,7 +14,7 @@ unit_lines_from-next k index [] h = absurd (omega arith)
 unit_lines_from-next k zero (b ∷ bs) h = refl
 unit_lines_from-next k (suc index) (b ∷ bs) h = unit_lines_from-next k index bs (omega arith)
 
--- and none are left where no byte is
+-- and none are left if no byte is
 pub unit_lines_from-done : (k index : ℕ) (bytes : List ℕ) → length bytes ≤ index → unit_lines_from k (drop index bytes) ≡ []
 unfolding unit_lines_from
 unit_lines_from-done k zero [] h = refl

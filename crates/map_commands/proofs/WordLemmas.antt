@@ -82,7 +82,7 @@ module _ {E : Type 0} (gives : List ℕ → Result ℕ E → Type 0) (parses : (
 
 -- ---- names
 
--- where no subcommand is there, none is named
+-- if no subcommand is there, none is named
 pub none_is_named : {X : Type 0} (o : Option X) (f : X → List ℕ × List Row) → false ≡ is_some o → NamesOne (option_map f o) → ⊥
 none_is_named None f e named = named
 none_is_named (Some x) f e named = true≢false (sym e)
@@ -92,7 +92,7 @@ pub name_is_one : {X : Type 0} (o : Option X) (f : X → List ℕ × List Row) (
 name_is_one None f name e named = absurd named
 name_is_one (Some x) f name e named = subst IsName (ap (λ o. unwrap_or o name) (sym e)) named
 
--- a text is given where it is the wanted one
+-- a text is given if it is the wanted one
 pub is_given_by : (text wanted : List ℕ) (o : Option (List ℕ)) (b : Bool) → Some text ≡ o → b ≡ pointwise nat_eq text wanted → IsTrue b ↔ (o ≡ Some wanted)
 is_given_by text wanted o b is e =
     (λ t. sym is ∙ ap Some ((bytes_decides text wanted).0 (sym e ∙ t)), λ g. e ∙ (bytes_decides text wanted).1 (same_Some text wanted (is ∙ g)))
@@ -108,7 +108,7 @@ check_is_named found rows (Check sizes) is asked = (rows, is, asked)
 check_is_named found rows (Explain sizes) is asked = (rows, is, asked)
 check_is_named found rows (Run sizes texts) is asked = absurd asked
 
--- ---- where clap finds no fault
+-- ---- if clap finds no fault
 
 -- of five steps the last has none
 last_of_five : (a b c d e : Kinds) → or_else a (or_else b (or_else c (or_else d e))) ≡ [] → e ≡ []
@@ -177,7 +177,7 @@ module _ (app : App) (is : app ≡ bpfmap) (words : List (List ℕ)) where
   pub parse_fails : (e : Error) → (is_simple_and_free app ≡ true → HasKind (fault_of app words) e) → HasKind (fault_of bpfmap words) e
   parse_fails e kinds = subst (λ (a : App). HasKind (fault_of a words) e) is (kinds (ap is_simple_and_free is ∙ is_free))
 
-  -- where it succeeds there is no fault
+  -- if it succeeds there is no fault
   pub parse_succeeds : (is_simple_and_free app ≡ true → fault_of app words ≡ []) → fault_of bpfmap words ≡ []
   parse_succeeds kinds = ap (λ (a : App). fault_of a words) (sym is) ∙ kinds (ap is_simple_and_free is ∙ is_free)
 

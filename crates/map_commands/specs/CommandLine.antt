@@ -98,7 +98,7 @@ IsNamed found (Check sizes) = (rows : List Row) × (found ≡ Some (codes "check
 IsNamed found (Explain sizes) = (rows : List Row) × (found ≡ Some (codes "check", rows)) × IsCheck rows (Explain sizes)
 IsNamed found (Run sizes texts) = (rows : List Row) × (found ≡ Some (codes "run", rows)) × (sizes ≡ sizes_of rows) × GivesTexts rows texts
 
--- the command reports on all of the input; or a session is asked for, over a table of so many stripes
+-- the command reports on all of the input; or a session is asked for, over a table with this number of stripes
 abbrev pub IsAsked : Option (List ℕ × List Row) → Task → Type 0
 IsAsked found (Report command) = IsNamed found command
 IsAsked found (Exec stripes) = (rows : List Row) × (found ≡ Some (codes "exec", rows)) × (stripes ≡ given_size rows (codes "stripes") 16)

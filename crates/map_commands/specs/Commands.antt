@@ -1,4 +1,4 @@
--- What is true where a command reports so: of the text on standard input, and of the words of the command line.
+-- What is true if a command reports so: of the text on standard input, and of the words of the command line.
 use Rattle.std.specs.Prelude.{◌≡◌, ◌⊎◌, ◌<◌, ◌≤◌, ℕ, List, [], ◌++◌, length, Option, Some, None, Err}
 use Rattle.std.specs.Borrow.{Bor}
 use Rattle.std.specs.Str.{IsUtf8}
@@ -46,7 +46,7 @@ pub record SpellsSafe (text : List ℕ) (sizes : Sizes) (program : List Insn) : 
 abbrev pub SpellsKey : List ℕ → List ℕ → Type 0
 SpellsKey text key = SpellsBytes text key × (length key ≤ KEY_BYTES)
 
--- hex text spells this value; where there is no text there is no value
+-- hex text spells this value; if there is no text there is no value
 abbrev pub SpellsValue : Option (Bor (List ℕ)) → Option (List ℕ) → Type 0
 SpellsValue None None = Unit {0}
 SpellsValue None (Some value) = ⊥
@@ -123,7 +123,7 @@ IsCheckReport sizes text (Unfit part) = ⊥
 IsCheckReport sizes text (Refused refusal) = IsProgramRefused text sizes refusal
 IsCheckReport sizes text (Explained printed refusal) = ⊥
 
--- lines that tell of each instruction what is known where a run comes to it, as far as the walk of the verifier comes
+-- lines that tell of each instruction what is known when a run comes to it, as far as the walk of the verifier comes
 pub record ExplainsProgram (text : List ℕ) (sizes : Sizes) (lines : List ℕ) : Type 0 where
   pub program : List Insn
   pub spelled : SpellsProgram text program
@@ -131,7 +131,7 @@ pub record ExplainsProgram (text : List ℕ) (sizes : Sizes) (lines : List ℕ) 
   pub known : KnowsRuns program states sizes
   pub told : lines ≡ lines_below program states sizes (length program)
 
--- so where there are lines
+-- so if there are lines
 abbrev pub IsExplanation : List ℕ → Sizes → List ℕ → Type 0
 IsExplanation text sizes lines = (lines ≡ []) ⊎ ExplainsProgram text sizes lines
 
@@ -140,7 +140,7 @@ abbrev pub verdict_line : Option Refusal → List ℕ
 verdict_line None = report_text Accepted
 verdict_line (Some refusal) = report_text (Refused refusal)
 
--- the verdict stands behind such lines
+-- the verdict stands after such lines
 abbrev pub EndsExplanation : List ℕ → Sizes → List ℕ → List ℕ → Type 0
 EndsExplanation text sizes verdict printed = (lines : List ℕ) × IsExplanation text sizes lines × (printed ≡ lines ++ verdict)
 

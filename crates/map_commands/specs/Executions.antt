@@ -46,11 +46,11 @@ pub record RunsSession (input input' : SourceState) (old new : Outputs) (status 
   pub session : HasSession input input' old.output new.output end
   pub ending : TellsEnd end old.errors new.errors status
 
--- a table may not have so many stripes
+-- a table may not have this number of stripes
 abbrev pub IsBadCount : ℕ → Type 0
 IsBadCount stripes = IsStripeCount stripes → ⊥
 
--- a session over a table of so many stripes; or a refusal, with nothing read: of that number, or of memory
+-- a session over a table with this number of stripes; or a refusal, with nothing read: of that number, or of memory
 abbrev pub Executes : ℕ → SourceState → SourceState → Outputs → Outputs → ℕ → Type 0
 Executes stripes input input' old new status =
     (IsBadCount stripes × TellsEnding ending.BadStripes old new status × (input' ≡ input))

@@ -30,17 +30,17 @@ abbrev pub state_text : Sizes → List RegValue → AbstractState → List ℕ
 state_text sizes before a =
     registers_below before a.registers 11 ++ bytes_below a.frame Result sizes.result sizes.result ++ bytes_below a.frame Stack STACK_BYTES STACK_BYTES
 
--- nothing is told behind the instruction that is refused
+-- nothing is told after the instruction that is refused
 abbrev pub known_text : Sizes → List RegValue → Option (Option AbstractState) → List ℕ
 known_text sizes before None = []
 known_text sizes before (Some None) = codes "; no run comes here"
 known_text sizes before (Some (Some a)) = state_text sizes before a
 
--- a line: the unit, the instruction's text, and what is known where a run comes to it
+-- a line: the unit, the instruction's text, and what is known when a run comes to it
 abbrev pub line_text : ℕ → List ℕ → Sizes → List RegValue → Option (Option AbstractState) → List ℕ
 line_text unit instruction sizes before known = decimal unit ++ codes ": " ++ instruction ++ known_text sizes before known ++ codes "\n"
 
--- what is known of the registers where something is known
+-- what is known of the registers if something is known
 abbrev pub values_after : List RegValue → Option (Option AbstractState) → List RegValue
 values_after before None = before
 values_after before (Some None) = before
@@ -51,7 +51,7 @@ unfoldable pub values_before : List (Option AbstractState) → ℕ → List RegV
 values_before states zero = replicate 11 Unwritten
 values_before states (suc index) = values_after (values_before states index) (slice_get states index)
 
--- the line of the instruction at an index; there is none where no instruction is
+-- the line of the instruction at an index; there is none if no instruction is there
 abbrev pub told_line : List Insn → List (Option AbstractState) → Sizes → ℕ → List ℕ
 told_line program states sizes index =
     option_map_or (λ insn. line_text (unit_count (take index program)) (instruction_text insn) sizes (values_before states index) (slice_get states index)) (slice_get program index) []

@@ -40,7 +40,7 @@ SpellsBytes text bytes = (pieces : List Piece) × AllByRecursion IsPiece pieces 
 abbrev pub HasNoPiece : List ℕ → Type 0
 HasNoPiece text = (piece : Piece) (rest : List ℕ) → IsPiece piece → text ≢ piece_text piece ++ rest
 
--- the place after the longest front that is hex text: bytes are left there, and no piece begins
+-- the byte after the longest front that is hex text: bytes are left there, and no piece begins
 pub record IsFault (text : List ℕ) (place : ℕ) : Type 0 where
   pub front : List ℕ
   pub bytes : List ℕ

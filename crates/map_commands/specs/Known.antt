@@ -34,7 +34,7 @@ is_any r = is_unsigned_any r && (int_eq r.smin (negsuc (2 ^ 63 - 1)) && int_eq r
 abbrev pub reads_alike : Range → Bool
 reads_alike r = int_le (pos 0) r.smin && (nat_eq r.umin (unsigned_abs r.smin) && nat_eq r.umax (unsigned_abs r.smax))
 
--- the unsigned bounds, where they say more than the signed ones
+-- the unsigned bounds, if they say more than the signed ones
 abbrev pub unsigned_text : Range → List ℕ
 unsigned_text r =
     if is_unsigned_any r || reads_alike r then [] else codes " (unsigned " ++ decimal r.umin ++ codes " to " ++ decimal r.umax ++ codes ")"
@@ -45,7 +45,7 @@ range_text r =
     if int_eq r.smin r.smax then signed_decimal r.smin
     else (if is_any r then codes "any number" else signed_decimal r.smin ++ codes " to " ++ signed_decimal r.smax ++ unsigned_text r)
 
--- an address, as its window and how far behind the window's first byte it is
+-- an address, as its window and how far after the window's first byte it is
 abbrev pub pointer_text : Pointer → List ℕ
 pointer_text p = window_name p.window ++ offset p.least ++ (if int_eq p.least p.greatest then [] else codes " to " ++ offset p.greatest)
 
@@ -63,21 +63,21 @@ is_same a b = false
 
 -- ---- bytes
 
--- at the byte a run of written bytes begins
+-- the byte is the first of some written ones
 abbrev pub begins : Frame → Window → ℕ → Bool
 begins f w k = is_written f w k && (nat_eq k 0 || not (is_written f w (k - 1)))
 
--- at the byte one ends, in a window of this size
+-- the byte is the last of some written ones, in a window of this size
 abbrev pub ends : Frame → Window → ℕ → ℕ → Bool
 ends f w size k = is_written f w k && (nat_eq (k + 1) size || not (is_written f w (k + 1)))
 
--- a run is told by its first byte and its last
+-- written bytes are told by the first and the last of those that follow one another
 abbrev pub byte_text : Frame → Window → ℕ → ℕ → List ℕ
 byte_text f w size k =
     (if begins f w k then codes "; " ++ window_name w ++ codes " bytes " ++ decimal k else [])
     ++ (if ends f w size k then codes " to " ++ decimal k ++ codes " written" else [])
 
--- the runs among a window's first bytes
+-- those among a window's first bytes
 unfoldable pub bytes_below : Frame → Window → ℕ → ℕ → List ℕ
 bytes_below f w size zero = []
 bytes_below f w size (suc k) = bytes_below f w size k ++ byte_text f w size k

@@ -42,7 +42,7 @@ abbrev pub verdict : VerifyFault → Insn → List ℕ → List ℕ
 verdict fault insn known =
     codes "unit " ++ decimal (verify_fault_unit fault) ++ codes ": " ++ instruction_text insn ++ codes ": " ++ verify.verify_fault_reason fault ++ known ++ codes "\n"
 
--- what is known of each run with these sizes that comes to the instruction; nothing where no sizes are asked for
+-- what is known of each run with these sizes that comes to the instruction; nothing if no sizes are asked for
 abbrev pub IsKnownText : List Insn → Option Sizes → VerifyFault → Insn → List ℕ → Type 0
 IsKnownText program None fault insn known = known ≡ []
 IsKnownText program (Some sizes) fault insn known = IsKnownReason program sizes fault insn known

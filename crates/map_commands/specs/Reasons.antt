@@ -60,7 +60,7 @@ is_told (OutOfWindow unit) = true
 is_told (BadExitValue unit) = true
 is_told fault = false
 
--- so many of the result's first bytes were written, and not the next
+-- this many of the result's first bytes were written, and not the next
 pub record IsWrittenPrefix (f : Frame) (n : ℕ) : Type 0 where
   pub written : (i : ℕ) → i < n → is_written f Result i ≡ true
   pub greatest : is_written f Result n ≡ false

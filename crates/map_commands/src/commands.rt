@@ -26,6 +26,7 @@ pub(crate) fn program_of(alloc: Global, text: &[u8]) -> Result<Program, Refusal>
     Ok(decode(alloc, &bytes)?)
 }
 
+/// Assembles the text, and reports its units in hex.
 fn asm_once(alloc: Global, text: &str) -> Result<Report, Refusal>
     ensures ok { IfOk result (λ report. IsAsmReport text.now report) }
     ensures err { IfErr result (λ refusal. IsAsmReport text.now (Report.Refused refusal)) }
@@ -35,6 +36,7 @@ fn asm_once(alloc: Global, text: &str) -> Result<Report, Refusal>
     Ok(Report::Text(unit_lines(alloc, &bytes)?))
 }
 
+/// Reports the text of the program that hex text spells.
 fn disasm_once(alloc: Global, text: &[u8]) -> Result<Report, Refusal>
     ensures ok { IfOk result (λ report. IsDisasmReport text.now report) }
     ensures err { IfErr result (λ refusal. IsDisasmReport text.now (Report.Refused refusal)) }
@@ -43,6 +45,7 @@ fn disasm_once(alloc: Global, text: &[u8]) -> Result<Report, Refusal>
     Ok(Report::Text(disassemble(alloc, &program)?.into_bytes()))
 }
 
+/// Verifies the program that hex text spells, with these sizes.
 fn verified(alloc: Global, text: &[u8], sizes: Sizes) -> Result<Verified, Refusal>
     ensures ok { IfOk result (λ v. SpellsSafe text.now sizes v.program) }
     ensures sizes { IfOk result (λ v. v.sizes ≡ sizes) }
@@ -52,6 +55,7 @@ fn verified(alloc: Global, text: &[u8], sizes: Sizes) -> Result<Verified, Refusa
     Ok(admit(alloc, &bytes, sizes)?)
 }
 
+/// Reads the key that hex text spells.
 fn key_of(alloc: Global, text: &str) -> Result<Key, Refusal>
     ensures ok { IfOk result (λ key. SpellsKey text.now key) }
     ensures err { IfErr result (λ refusal. IsTextRefused text.now KEY_BYTES refusal) }
@@ -60,6 +64,7 @@ fn key_of(alloc: Global, text: &str) -> Result<Key, Refusal>
     Ok(Key::from_slice(&bytes)?)
 }
 
+/// Reads the value that hex text spells. Returns no value if there is no text.
 fn value_of(alloc: Global, text: Option<&str>) -> Result<Option<Value>, Refusal>
     ensures ok { IfOk result (λ value. SpellsValue text.entry value) }
     ensures err { IfErr result (λ refusal. IsValueRefused text.entry refusal) }
@@ -71,6 +76,7 @@ fn value_of(alloc: Global, text: Option<&str>) -> Result<Option<Value>, Refusal>
     Ok(Some(Value::from_slice(&bytes)?))
 }
 
+/// Reads key, old value and argument, in this order.
 fn input_of(alloc: Global, texts: &RunTexts<'_>) -> Result<Input, Refusal>
     ensures ok { IfOk result (λ input. SpellsInput texts.now input) }
     ensures err { IfErr result (λ refusal. IsInputRefused texts.now refusal) }
@@ -81,6 +87,7 @@ fn input_of(alloc: Global, texts: &RunTexts<'_>) -> Result<Input, Refusal>
     Ok(Input { key, old, arg })
 }
 
+/// Verifies the program, reads its input, and runs it once if the input fits.
 fn run_once(
     alloc: Global,
     text: &[u8],
@@ -99,6 +106,7 @@ fn run_once(
     }
 }
 
+/// Reports whether the program is accepted.
 fn check_report(alloc: Global, text: &[u8], sizes: Sizes) -> Report
     ensures { IsCheckReport sizes text.now result }
 {
@@ -108,7 +116,7 @@ fn check_report(alloc: Global, text: &[u8], sizes: Sizes) -> Report
     }
 }
 
-/// What the verifier knows at each instruction of the program that hex text spells, a line each; nothing where no program
+/// What the verifier knows at each instruction of the program that hex text spells, a line each; nothing if no program
 /// is spelled, or it is refused before the verifier comes to its instructions.
 fn explained(alloc: Global, text: &[u8], sizes: Sizes) -> Result<String, NoMemory>
     ensures { IfOk result (λ lines. IsExplanation text.now sizes (string_bytes lines)) }
@@ -129,6 +137,7 @@ fn explained(alloc: Global, text: &[u8], sizes: Sizes) -> Result<String, NoMemor
     Ok(lines)
 }
 
+/// Returns the line of a refusal, or `accepted` if there is none.
 fn verdict_line(refusal: Option<Refusal>) -> Line
     ensures { result.items ≡ verdict_line refusal }
 {
@@ -138,6 +147,7 @@ fn verdict_line(refusal: Option<Refusal>) -> Line
     }
 }
 
+/// Returns the lines of an explanation, with the line of the verdict after them.
 fn with_verdict(
     alloc: Global,
     text: &[u8],
@@ -152,7 +162,7 @@ fn with_verdict(
     Ok(printed)
 }
 
-/// What comes of `check` is the last line, behind those of an explanation.
+/// What comes of `check` is the last line, after those of an explanation.
 fn explain_report(alloc: Global, text: &[u8], sizes: Sizes) -> Report
     ensures { IsExplainReport sizes text.now result }
 {
@@ -169,6 +179,7 @@ fn explain_report(alloc: Global, text: &[u8], sizes: Sizes) -> Report
     }
 }
 
+/// Reports what a run gives, or why there is none.
 fn run_report(alloc: Global, text: &[u8], sizes: Sizes, texts: &RunTexts<'_>) -> Report
     ensures { IsRunReport sizes texts.now text.now result }
 {
@@ -179,7 +190,7 @@ fn run_report(alloc: Global, text: &[u8], sizes: Sizes, texts: &RunTexts<'_>) ->
 }
 
 /// What comes of the command on this text: the first refusal, in the order text, program, key, old value, argument,
-/// else a value that doesn't fit, else the answer. `Failed` where a program's text is to be read and this is no UTF-8.
+/// else a value that doesn't fit, else the answer. `Failed` if a program's text is to be read and this is no UTF-8.
 pub fn report_of(alloc: Global, command: &Command<'_>, text: &[u8]) -> Result<Report, Failed>
     ensures ok { IfOk result (λ report. IsReport command.now text.now report) }
     ensures err { OnErr result (IsUnreadable command.now text.now) }

@@ -18,7 +18,7 @@ pub enum Ending {
     Explained(Vec<u8>, String),
     /// A request for memory was refused, which is told in the same way.
     NoMemory,
-    /// A table may not have so many stripes: number 50, told in the same way.
+    /// A table may not have this number of stripes: number 50, told in the same way.
     BadStripes,
     /// The help or the version, which were asked for: status 0, with clap's text on standard output, as it is told.
     Shown(Vec<u8>),
@@ -33,6 +33,7 @@ pub enum Ending {
 /// The status of a refusal.
 pub const REFUSED: u8 = 1;
 
+/// The status of a fault of the words.
 const FAULT_OF_WORDS: u8 = 2;
 
 /// The status of a failed read or write.
@@ -55,12 +56,7 @@ fn print<W: Sink, E: Sink>(text: &[u8], status: u8, writer: &mut W, errors: &mut
 }
 
 /// Prints a refusal's line, writes its meaning to standard error, and answers the status, or that of a failed write.
-pub fn refuse<W: Sink, E: Sink>(
-    line: &[u8],
-    meaning: &[u8],
-    writer: &mut W,
-    errors: &mut E,
-) -> u8
+pub fn refuse<W: Sink, E: Sink>(line: &[u8], meaning: &[u8], writer: &mut W, errors: &mut E) -> u8
     requires writes { CanWrite (W.state writer.old) }
     requires warns { CanWrite (E.state errors.old) }
     ensures { PrintsRefusal line.now meaning.now (outputs (W.state writer.old) (E.state errors.old))
@@ -72,7 +68,7 @@ pub fn refuse<W: Sink, E: Sink>(
     }
 }
 
-/// Writes the text to standard error, and answers this status. Where standard error fails too, nobody is told.
+/// Writes the text to standard error, and answers this status. If standard error fails too, nobody is told.
 pub fn warn<E: Sink>(text: &[u8], status: u8, errors: &mut E) -> u8
     requires { CanWrite (E.state errors.old) }
     ensures status { result ≡ status }
@@ -83,7 +79,7 @@ pub fn warn<E: Sink>(text: &[u8], status: u8, errors: &mut E) -> u8
 }
 
 impl Ending {
-    /// Tells it, and answers the status: 3 where standard output fails, of which standard error is told in one line.
+    /// Tells it, and returns the status: 3 if standard output fails, of which standard error is told in one line.
     pub fn tell<W: Sink, E: Sink>(&self, writer: &mut W, errors: &mut E) -> u8
         requires writes { CanWrite (W.state writer.old) }
         requires warns { CanWrite (E.state errors.old) }

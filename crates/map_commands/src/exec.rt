@@ -22,8 +22,8 @@ fn tell_end<E: Sink>(end: SessionEnd, errors: &mut E) -> u8
     }
 }
 
-/// Answers the requests that the reader has left, over an empty table in so many stripes, and answers the status: 0
-/// where the input ended between two frames, 1 where it ended inside a frame or was refused, 3 for a failed device, of
+/// Answers the requests that the reader has left, over an empty table with this number of stripes, and returns the
+/// status: 0 if the input ended between two frames, 1 if it ended inside a frame or was refused, 3 for a failed device, of
 /// which standard error is told. Waits for the reader.
 pub fn exec<H: Wait, R: Source, W: Sink, E: Sink>(
     rt: &H,

@@ -16,6 +16,7 @@ use verifier::AbstractState;
 /// What is known of each register, by its number.
 type Values = [RegValue; 11];
 
+/// Writes what is known of a register, unless it is what was known before.
 fn write_register(
     text: &mut String,
     before: &Values,
@@ -34,6 +35,7 @@ fn write_register(
     write_value(text, value)
 }
 
+/// Writes what is known of each register of which something else was known before.
 fn write_registers(text: &mut String, before: &Values, values: &Values) -> Result<(), AllocError>
     ensures { OnOk result (string_bytes text.new
         ≡ string_bytes text.old ++ registers_below before.now values.now 11) }
@@ -44,6 +46,7 @@ fn write_registers(text: &mut String, before: &Values, values: &Values) -> Resul
     Ok(())
 }
 
+/// Writes what is known at an instruction: registers, bytes of the result, bytes of the stack.
 fn write_state(
     text: &mut String,
     sizes: Sizes,
@@ -64,6 +67,8 @@ fn write_state(
     write_bytes(text, state.frame(), Window::Stack, STACK_BYTES)
 }
 
+/// Writes what is known at an instruction, or that no run comes there. Writes nothing if the verifier did not come
+/// there.
 fn write_known(
     text: &mut String,
     sizes: Sizes,
@@ -81,6 +86,7 @@ fn write_known(
     }
 }
 
+/// Writes the instruction's unit, its text and what is known there, as one line.
 fn write_line(
     text: &mut String,
     unit: usize,
@@ -98,6 +104,7 @@ fn write_line(
     text.push_str("\n")
 }
 
+/// Returns what is known of the registers here, or what was known before if nothing is.
 fn values_after(before: Values, known: Option<&Option<AbstractState>>) -> Values
     ensures { result ≡ values_after before (option_map (λ k. k.now) known.entry) }
 {

@@ -8,7 +8,7 @@ use std::alloc::{AllocFailed, Global};
 /// Why there are no bytes of a text.
 #[derive(Clone, Copy, Debug, PartialEq, Eq)]
 pub enum HexFault {
-    /// At this place, counted from 0, neither blank space nor a pair begins.
+    /// At this byte, counted from 0, neither blank space nor a pair begins.
     NotHex { place: usize },
     /// A request for memory was refused.
     NoMemory,
@@ -25,12 +25,14 @@ impl<T: Drop> From<AllocFailed<T>> for HexFault {
     }
 }
 
+/// Tells whether it is a blank, a tab, a carriage return or a newline.
 fn is_blank(c: u8) -> bool
     ensures { IsTrue result ↔ IsBlank c }
 {
     matches!(c, b' ' | b'\t' | b'\r' | b'\n')
 }
 
+/// Returns the value of a hexadecimal digit of either case.
 fn digit_value(c: u8) -> Option<u8>
     ensures value { result ≡ digit_of c }
     ensures small { IfSome result (λ d. d < 16) }
@@ -43,6 +45,7 @@ fn digit_value(c: u8) -> Option<u8>
     }
 }
 
+/// Returns the byte that two digits spell.
 fn pair_value(high: u8, low: u8) -> Option<u8>
     ensures digits { IsSome result ↔ (IsSome (digit_of high) × IsSome (digit_of low)) }
     ensures value { IfSome result (λ b.
@@ -71,7 +74,7 @@ pub fn hex_bytes(alloc: Global, text: &[u8]) -> Result<Vec<u8>, HexFault>
     // What is spelled so is read, unless memory runs out.
     ensures only { (bytes : List ℕ) → SpellsBytes text.now bytes
         → MatchResult result (λ v. v.items ≡ bytes) (λ e. e ≡ HexFault.NoMemory) }
-    // Where the fault is.
+    // At which byte the fault is.
     ensures fault { IfErr result (λ e. TellsFault e text.now) }
 {
     let mut bytes = Vec::new(alloc);

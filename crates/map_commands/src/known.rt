@@ -11,6 +11,7 @@ use std::alloc::AllocError;
 use std::fmt::Write;
 use value_ranges::Range;
 
+/// Returns the name under which a window is told.
 fn window_name(window: Window) -> &'static str
     ensures { result.now ≡ window_name window }
 {
@@ -23,18 +24,21 @@ fn window_name(window: Window) -> &'static str
     }
 }
 
+/// Tells whether the unsigned bounds leave out no word.
 fn is_unsigned_any(range: Range) -> bool
     ensures { result ≡ is_unsigned_any range }
 {
     range.umin == 0 && range.umax == u64::MAX
 }
 
+/// Tells whether no bound leaves out a word.
 fn is_any(range: Range) -> bool
     ensures { result ≡ is_any range }
 {
     is_unsigned_any(range) && range.smin == i64::MIN && range.smax == i64::MAX
 }
 
+/// Tells whether the unsigned bounds are the signed ones.
 fn reads_alike(range: Range) -> bool
     ensures { result ≡ reads_alike range }
 {
@@ -43,6 +47,7 @@ fn reads_alike(range: Range) -> bool
         && range.umax == range.smax.unsigned_abs()
 }
 
+/// Writes the unsigned bounds, if they say more than the signed ones.
 fn write_unsigned(text: &mut String, range: Range) -> Result<(), AllocError>
     ensures { OnOk result (string_bytes text.new ≡ string_bytes text.old ++ unsigned_text range) }
 {
@@ -52,6 +57,7 @@ fn write_unsigned(text: &mut String, range: Range) -> Result<(), AllocError>
     write!(text, " (unsigned {} to {})", range.umin, range.umax)
 }
 
+/// Writes a number's bounds.
 fn write_range(text: &mut String, range: Range) -> Result<(), AllocError>
     ensures { OnOk result (string_bytes text.new ≡ string_bytes text.old ++ range_text range) }
 {
@@ -65,6 +71,7 @@ fn write_range(text: &mut String, range: Range) -> Result<(), AllocError>
     write_unsigned(text, range)
 }
 
+/// Writes an offset with its sign.
 #[tactic(auto, using(bpf_assembler::proofs::SignLemmas::styled_with_sign))]
 fn write_offset(text: &mut String, distance: i64) -> Result<(), AllocError>
     ensures { OnOk result (string_bytes text.new ≡ string_bytes text.old ++ offset distance) }
@@ -72,6 +79,7 @@ fn write_offset(text: &mut String, distance: i64) -> Result<(), AllocError>
     write!(text, "{distance:+}")
 }
 
+/// Writes a pointer: its window, and its least and greatest offset in it.
 fn write_pointer(text: &mut String, pointer: Pointer) -> Result<(), AllocError>
     ensures { OnOk result (string_bytes text.new ≡ string_bytes text.old ++ pointer_text pointer) }
 {
@@ -113,6 +121,7 @@ pub(crate) fn is_same(first: RegValue, second: RegValue) -> bool
     }
 }
 
+/// Tells whether the byte of the window was written.
 fn is_written(frame: &Frame, window: Window, byte: usize) -> bool
     requires inside { byte < kept_bytes window }
     ensures { result ≡ is_written frame.now window byte }
@@ -127,6 +136,7 @@ fn is_written(frame: &Frame, window: Window, byte: usize) -> bool
     frame.load(&access).is_some()
 }
 
+/// Tells whether the byte is the first of some written ones.
 fn begins(frame: &Frame, window: Window, byte: usize) -> bool
     requires inside { byte < kept_bytes window }
     ensures { result ≡ begins frame.now window byte }
@@ -134,6 +144,7 @@ fn begins(frame: &Frame, window: Window, byte: usize) -> bool
     is_written(frame, window, byte) && (byte == 0 || !is_written(frame, window, byte - 1))
 }
 
+/// Tells whether the byte is the last of some written ones, in a window of this size.
 fn ends(frame: &Frame, window: Window, size: usize, byte: usize) -> bool
     requires inside { byte < size }
     requires kept { size ≤ kept_bytes window }
@@ -142,6 +153,7 @@ fn ends(frame: &Frame, window: Window, size: usize, byte: usize) -> bool
     is_written(frame, window, byte) && (byte + 1 == size || !is_written(frame, window, byte + 1))
 }
 
+/// Writes the byte's number if it is the first of some written ones, and if it is the last.
 fn write_byte(
     text: &mut String,
     frame: &Frame,

@@ -13,7 +13,7 @@ use sessions::AdmissionFault;
 use std::alloc::Global;
 use verifier::VerifyFault;
 
-/// The instruction that starts at this unit; none where it is the second of a wide one, or past the program.
+/// The instruction that starts at this unit; none if it is the second of a wide one, or past the program.
 fn instruction_at(program: &[Insn], unit: usize) -> Option<Insn>
     ensures { result ≡ instruction_at program.now unit }
 {
@@ -30,12 +30,14 @@ fn instruction_at(program: &[Insn], unit: usize) -> Option<Insn>
     None
 }
 
+/// Returns the instruction that the verifier refuses; none if memory or the sizes are refused.
 fn refused_instruction(program: &Program, fault: VerifyFault) -> Option<Insn>
     ensures { result ≡ refused_instruction program.now fault }
 {
     instruction_at(program.instructions(), fault.faulty_unit()?)
 }
 
+/// Returns what the verifier knew at the refused instruction; nothing if the command asks for no sizes.
 fn known_there(
     alloc: Global,
     program: Program,
@@ -51,6 +53,7 @@ fn known_there(
     }
 }
 
+/// Returns the line of a refused instruction, with what is known there.
 fn line_of(alloc: Global, fault: VerifyFault, insn: &Insn, known: &str) -> Result<String, NoMemory>
     ensures { IfOk result (λ line. string_bytes line ≡ verdict fault insn.now known.now) }
 {
@@ -75,6 +78,7 @@ fn told_instruction(
     Ok(line)
 }
 
+/// Returns the line of a verifier's refusal.
 fn verdict(
     alloc: Global,
     program: Program,
@@ -91,7 +95,7 @@ fn verdict(
 }
 
 /// The line that tells a command's refusal of this text. A program that the verifier refused is read once more for it, so
-/// that nothing is kept of programs that are taken.
+/// that nothing is kept of programs that are accepted.
 pub(crate) fn meaning_of(
     alloc: Global,
     command: &Command<'_>,

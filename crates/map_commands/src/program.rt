@@ -24,7 +24,7 @@ use std::alloc::Global;
 use std::io;
 use std::sync::Wait;
 
-/// What a report on this text comes to: a refusal has its meaning. Where there is no memory for that, memory is what is
+/// What a report on this text comes to: a refusal has its meaning. If there is no memory for that, memory is what is
 /// refused.
 fn ending_of_report(alloc: Global, command: &Command<'_>, text: &[u8], report: Report) -> Ending
     ensures { EndsReport command.now text.now report result }
@@ -58,18 +58,14 @@ fn ending_of_command<R: Source>(alloc: Global, command: &Command<'_>, reader: &m
 }
 
 /// Clap's text for an error, with the words shown that it echoes.
-pub fn told_error(
-    alloc: Global,
-    error: &clap::Error,
-    words: &[&str],
-) -> Result<Vec<u8>, NoMemory>
+pub fn told_error(alloc: Global, error: &clap::Error, words: &[&str]) -> Result<Vec<u8>, NoMemory>
     ensures { IfOk result (λ shown. IsShown (texts words.now) shown.items) }
 {
     let text = error.to_string(alloc)?;
     told(alloc, &text, words)
 }
 
-/// What comes of words that ask for no command. Where there is no memory for clap's text, that is refused.
+/// What comes of words that ask for no command. If there is no memory for clap's text, that is refused.
 fn ending_of_words(alloc: Global, error: &clap::Error, words: &[&str]) -> Ending
     ensures { HasKind (fault_of bpfmap (texts words.now)) error.now
         → EndsWords (texts words.now) result }
@@ -102,7 +98,7 @@ pub fn tell_unread_words<W: Sink, E: Sink>(error: &io::Error, writer: &mut W, er
     Ending::NotUtf8.tell(writer, errors)
 }
 
-/// Does what the words ask for, of which the first is the program's name, and answers the status: 0 where it was done,
+/// Does what the words ask for, of which the first is the program's name, and returns the status: 0 if it was done,
 /// 1 for a refusal or a value that doesn't fit, 2 for a fault of the words, of which standard error is told in clap's
 /// text, and 3 for a failed read or write, of which it is told in one line. A session waits for the reader, and no other
 /// command does.

@@ -13,6 +13,7 @@ use std::alloc::{AllocError, Global};
 use std::fmt::Write;
 use verifier::{AbstractState, VerifyFault, known_states};
 
+/// Writes a number of bytes.
 fn write_count(text: &mut String, count: usize) -> Result<(), AllocError>
     ensures { OnOk result (string_bytes text.new ≡ string_bytes text.old ++ count_text count) }
 {
@@ -29,6 +30,7 @@ struct Reach {
     greatest: i64,
 }
 
+/// Adds the offset of an instruction to the bounds of its pointer.
 fn reach_of(pointer: Pointer, offset: i16) -> Reach
     ensures least { result.least ≡ pointer.least +ℤ offset }
     ensures greatest { result.greatest ≡ pointer.greatest +ℤ offset }
@@ -39,6 +41,7 @@ fn reach_of(pointer: Pointer, offset: i16) -> Reach
     }
 }
 
+/// Writes the least and the greatest offset, or the one if they are equal.
 #[tactic(auto, unfolding(crate::specs::Reasons::span_text))]
 fn write_span(text: &mut String, reach: Reach) -> Result<(), AllocError>
     ensures { OnOk result
@@ -50,6 +53,7 @@ fn write_span(text: &mut String, reach: Reach) -> Result<(), AllocError>
     write!(text, "{} to {}", reach.least, reach.greatest)
 }
 
+/// Writes at which offsets of its window an access begins.
 #[tactic(auto, unfolding(crate::specs::Reasons::reach_text))]
 fn write_reach(text: &mut String, pointer: Pointer, offset: i16) -> Result<(), AllocError>
     ensures { OnOk result
@@ -60,6 +64,7 @@ fn write_reach(text: &mut String, pointer: Pointer, offset: i16) -> Result<(), A
     write_span(text, reach)
 }
 
+/// Writes an access's length, and the size of its window.
 #[tactic(auto, unfolding(crate::specs::Reasons::extent_text))]
 fn write_extent(text: &mut String, count: usize, size: usize) -> Result<(), AllocError>
     ensures { OnOk result
@@ -70,6 +75,8 @@ fn write_extent(text: &mut String, count: usize, size: usize) -> Result<(), Allo
     write!(text, ", in a window of {size}")
 }
 
+/// Writes at which offsets an access begins, its length and the size of its window. Writes nothing if its register is
+/// no pointer.
 fn write_access(
     text: &mut String,
     sizes: Sizes,
@@ -87,6 +94,7 @@ fn write_access(
     write_extent(text, size.bytes(), pointer.window.size(sizes))
 }
 
+/// Writes what is known of the answer's length, and how many of the result's first bytes were written.
 fn write_exit(text: &mut String, value: RegValue, written: u16) -> Result<(), AllocError>
     ensures { OnOk result
         (string_bytes text.new ≡ string_bytes text.old ++ exit_text value written) }
@@ -98,6 +106,7 @@ fn write_exit(text: &mut String, value: RegValue, written: u16) -> Result<(), Al
     text.push_str(" of the result written")
 }
 
+/// Writes what is known of a refused access, or of a refused answer. Writes nothing for another refusal.
 fn write_reason(
     text: &mut String,
     sizes: Sizes,
@@ -159,6 +168,7 @@ fn index_at(program: &[Insn], unit: usize) -> Option<usize>
     None
 }
 
+/// Tells whether something is told of this refusal.
 fn is_told(fault: VerifyFault) -> bool
     ensures { result ≡ is_told fault }
 {
@@ -168,6 +178,7 @@ fn is_told(fault: VerifyFault) -> bool
     )
 }
 
+/// Returns what these states know of the refused instruction.
 fn reason_in(
     alloc: Global,
     program: &[Insn],
@@ -192,7 +203,7 @@ fn reason_in(
     Ok(text)
 }
 
-/// What the verifier knew where it refused this instruction of the program: of an access that does not lie in its window
+/// What the verifier knew when it refused this instruction of the program: of an access that does not lie in its window
 /// and of an answer's length alone. It walks over the program once more for it.
 pub(crate) fn known_reason(
     alloc: Global,

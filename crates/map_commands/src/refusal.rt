@@ -10,14 +10,14 @@ use sessions::AdmissionFault;
 use std::error::Error;
 use std::fmt;
 
-/// Why there is no answer. Each refusal has a number and a place, which are printed.
+/// Why there is no answer. Each refusal has a number N and a place P, and is printed as `refused N at P`.
 #[derive(Clone, Copy, Debug, PartialEq, Eq)]
 pub enum Refusal {
     /// A key, old value or argument has more bytes than any may have: number 1, at place 0.
     TooLong,
     /// A request for memory was refused: number 9, at place 0.
     NoMemory,
-    /// A text is no hex text: number 70, at the place of its first byte that begins neither blank space nor a pair.
+    /// A text is no hex text: number 70, at its first byte that begins neither blank space nor a pair.
     NotHex { place: usize },
     /// The text is no program's: numbers 9 and 20 to 24, at the faulty line.
     Assemble(AsmFault),
@@ -39,7 +39,7 @@ impl Refusal {
         }
     }
 
-    /// The unit of the program, the line or the place in the text that the refusal is about, else 0.
+    /// The place: the unit of the program, the line, or the byte of the text that the refusal is about, else 0.
     pub fn place(&self) -> usize
         ensures { result ≡ place_of self.now }
     {

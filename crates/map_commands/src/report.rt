@@ -35,8 +35,10 @@ pub const LINE_BYTES: usize = 6 + 3 * VALUE_BYTES;
 /// One printed line.
 pub type Line = ArrayVec<u8, LINE_BYTES>;
 
+/// The hexadecimal digits, in lower case.
 static DIGITS: [u8; 16] = *b"0123456789abcdef";
 
+/// Appends the text to a line that has room for it. Takes no memory.
 pub fn append(line: &mut Line, text: &[u8])
     requires { array_vec_len line.old + length text.now ≤ LINE_BYTES }
     ensures items { line.new.items ≡ line.old.items ++ text.now }
@@ -58,6 +60,7 @@ pub(crate) fn digits(byte: u8) -> (u8, u8)
     (high, low)
 }
 
+/// Returns what stands after the byte of this index: a newline after the last byte of a unit, else a blank.
 fn separator(index: usize) -> u8
     ensures { result ≡ separator index }
 {
@@ -78,6 +81,7 @@ pub fn unit_lines(alloc: Global, bytes: &[u8]) -> Result<Vec<u8>, NoMemory>
     Ok(text)
 }
 
+/// Returns the line of an answer's bytes.
 fn bytes_line(bytes: &[u8]) -> Line
     requires { length bytes.now ≤ VALUE_BYTES }
     ensures { result.items ≡ codes "bytes" ++ flat_map spaced bytes.now ++ codes "\n" }
@@ -93,6 +97,7 @@ fn bytes_line(bytes: &[u8]) -> Line
     line
 }
 
+/// Returns a refusal's line.
 fn refused_line(refusal: &Refusal) -> Line
     ensures { result.items ≡ report_text (Report.Refused refusal.now) }
 {
@@ -105,6 +110,7 @@ fn refused_line(refusal: &Refusal) -> Line
     line
 }
 
+/// Makes a line of this text. Takes no memory.
 pub fn text_line(text: &[u8]) -> Line
     requires { length text.now ≤ LINE_BYTES }
     ensures { result.items ≡ text.now }
@@ -125,7 +131,7 @@ impl Report {
         }
     }
 
-    /// The line that is printed where no text is, with its newline. Takes no memory.
+    /// Returns the line that is printed if no text is, with its newline. Takes no memory.
     pub fn line(&self) -> Line
         requires { IsLine self.now }
         ensures { result.items ≡ report_text self.now }

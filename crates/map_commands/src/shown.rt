@@ -7,9 +7,10 @@ use crate::report::digits;
 use bpf_model::NoMemory;
 use std::alloc::Global;
 
-/// So many bytes of a word are shown.
+/// How many bytes of a word are shown.
 const MOST_SHOWN: usize = 80;
 
+/// Shows a byte: itself if it prints, else its digits, as `\x1b`.
 fn show_byte(shown: &mut Vec<u8>, byte: u8) -> Result<(), NoMemory>
     ensures { OnOk result (shown.new.items ≡ shown.old.items ++ shown_byte byte) }
 {
@@ -22,6 +23,7 @@ fn show_byte(shown: &mut Vec<u8>, byte: u8) -> Result<(), NoMemory>
     Ok(())
 }
 
+/// Shows a byte of clap's own; a newline stays.
 fn show_own(shown: &mut Vec<u8>, byte: u8) -> Result<(), NoMemory>
     ensures { OnOk result (shown.new.items ≡ shown.old.items ++ shown_own byte) }
 {
@@ -32,6 +34,7 @@ fn show_own(shown: &mut Vec<u8>, byte: u8) -> Result<(), NoMemory>
     show_byte(shown, byte)
 }
 
+/// Shows the first bytes of a word, and three dots for the others.
 fn show_word(shown: &mut Vec<u8>, word: &[u8]) -> Result<(), NoMemory>
     ensures { OnOk result (shown.new.items ≡ shown.old.items ++ shown_word word.now) }
 {
@@ -45,7 +48,7 @@ fn show_word(shown: &mut Vec<u8>, word: &[u8]) -> Result<(), NoMemory>
     Ok(())
 }
 
-/// What stands before and behind the first `=` of a word. Where there is none, all of it stands before.
+/// Returns what stands before and after the first `=` of a word. If there is none, all of it stands before.
 fn around_equals(word: &[u8]) -> (&[u8], &[u8])
     ensures before { result.0.now ≡ before_equals word.now }
     ensures behind { result.1.now ≡ behind_equals word.now }
@@ -58,6 +61,7 @@ fn around_equals(word: &[u8]) -> (&[u8], &[u8])
     (word, &[])
 }
 
+/// Returns the length of the echo if the text begins with it, else 0.
 fn echo_length(text: &[u8], echo: &[u8]) -> usize
     ensures value { result ≡ echo_length text.now echo.now }
     ensures inside { result ≤ length text.now }
@@ -69,6 +73,8 @@ fn echo_length(text: &[u8], echo: &[u8]) -> usize
     }
 }
 
+/// Returns the length of the longest echo of the word with which the text begins: all of it, or what stands before or
+/// after its first `=`.
 fn word_echo(text: &[u8], word: &[u8]) -> usize
     ensures value { result ≡ word_echo text.now word.now }
     ensures inside { result ≤ length text.now }
@@ -90,7 +96,7 @@ fn longest_echo(text: &[u8], words: &[&str]) -> usize
     longest
 }
 
-/// The text, as it is told where it may echo these words.
+/// Returns the text as it is told if it may echo these words.
 pub(crate) fn told(alloc: Global, text: &str, words: &[&str]) -> Result<Vec<u8>, NoMemory>
     ensures { IfOk result (λ shown. shown.items ≡ told (texts words.now) text.now) }
 {

@@ -15,7 +15,7 @@ use std::alloc::{AllocError, Global};
 pub enum Task<'a> {
     /// Report on all of standard input.
     Report(Command<'a>),
-    /// Answer the requests on standard input, over a table of so many stripes.
+    /// Answer the requests on standard input, over a table with this number of stripes.
     Exec(u16),
 }
 
@@ -35,7 +35,7 @@ pub enum Command<'a> {
 }
 
 impl Command<'_> {
-    /// The sizes with which it verifies, where it does.
+    /// Returns the sizes with which it verifies, if it does.
     pub(crate) fn sizes(&self) -> Option<Sizes>
         ensures { result ≡ sizes_asked self.now }
     {
@@ -56,10 +56,13 @@ pub struct RunTexts<'a> {
     pub arg: Option<&'a str>,
 }
 
+/// The declared size of the key, if none is given.
 const KEY_DEFAULT: u16 = 64;
 
+/// The declared size of an old value, an argument or a result, if none is given.
 const VALUE_DEFAULT: u16 = 256;
 
+/// The number of stripes, if none is given.
 const STRIPES_DEFAULT: u16 = 16;
 
 /// An option that takes a number from 0 to 65,535 of what is named.
@@ -74,6 +77,7 @@ pub fn size_option<'a>(alloc: Global, name: &'a str, unit: &'a str, help: &'a st
         .value_parser(value_parser!(u16))
 }
 
+/// Makes an option that takes a text.
 fn text_option<'a>(alloc: Global, name: &'a str, help: &'a str) -> Arg<'a>
     ensures rule { rule_of result ≡ text_option name.entry.now }
     ensures local { result.global ≡ false }
@@ -84,6 +88,7 @@ fn text_option<'a>(alloc: Global, name: &'a str, help: &'a str) -> Arg<'a>
         .help(help)
 }
 
+/// Adds the options of declared sizes.
 fn with_size_options(
     command: clap::Command<'_>,
     alloc: Global,
@@ -119,6 +124,7 @@ fn with_size_options(
         ))
 }
 
+/// Adds the options of hex texts.
 fn with_text_options(
     command: clap::Command<'_>,
     alloc: Global,
@@ -152,6 +158,7 @@ fn flag_option<'a>(alloc: Global, name: &'a str, help: &'a str) -> Arg<'a>
         .action(ArgAction::SetTrue)
 }
 
+/// Makes the command `check`.
 fn check_command<'a>(alloc: Global) -> Result<clap::Command<'a>, AllocError>
     ensures app { IfOk result (λ c. app_of c
         ≡ with_options (with_options (new_app (codes "check")) size_options) explain_options) }
@@ -169,6 +176,7 @@ fn check_command<'a>(alloc: Global) -> Result<clap::Command<'a>, AllocError>
     ))
 }
 
+/// Makes the command `run`.
 fn run_command<'a>(alloc: Global) -> Result<clap::Command<'a>, AllocError>
     ensures app { IfOk result (λ c. app_of c
         ≡ with_options (with_options (new_app (codes "run")) size_options) text_options) }
@@ -182,6 +190,7 @@ fn run_command<'a>(alloc: Global) -> Result<clap::Command<'a>, AllocError>
     with_text_options(with_size_options(run, alloc)?, alloc)
 }
 
+/// Makes the command `exec`.
 fn exec_command<'a>(alloc: Global) -> Result<clap::Command<'a>, AllocError>
     ensures app { IfOk result (λ c. app_of c
         ≡ with_options (new_app (codes "exec")) stripe_options) }
@@ -200,6 +209,7 @@ fn exec_command<'a>(alloc: Global) -> Result<clap::Command<'a>, AllocError>
     ))
 }
 
+/// Makes the command line, with the five commands.
 fn bpfmap_command<'a>(alloc: Global) -> Result<clap::Command<'a>, AllocError>
     ensures { IfOk result (λ c. app_of c ≡ bpfmap) }
 {
@@ -226,12 +236,14 @@ fn bpfmap_command<'a>(alloc: Global) -> Result<clap::Command<'a>, AllocError>
         .subcommand(exec_command(alloc)?)
 }
 
+/// Returns the number that the option gives, or its default.
 pub fn given_size(matches: &ArgMatches<'_>, name: &str, default: u16) -> u16
     ensures { result ≡ given_size (rows_of (found_of matches.now)) name.now default }
 {
     matches.get_one(name).unwrap_or(default)
 }
 
+/// Returns the declared sizes that the options give.
 fn sizes_of(matches: &ArgMatches<'_>) -> Sizes
     ensures { result ≡ sizes_of (rows_of (found_of matches.now)) }
 {
@@ -265,6 +277,7 @@ fn check_of<'a>(matches: &ArgMatches<'a>) -> Command<'a>
     }
 }
 
+/// Returns the hex texts that the options give.
 fn texts_of<'a>(matches: &ArgMatches<'a>) -> RunTexts<'a>
     ensures { GivesTexts (rows_of (found_of matches.now)) result }
 {
@@ -275,6 +288,7 @@ fn texts_of<'a>(matches: &ArgMatches<'a>) -> RunTexts<'a>
     }
 }
 
+/// Returns what the named command is asked to do.
 fn task_of<'a>(matches: &ArgMatches<'a>) -> Task<'a>
     requires { NamesOne (subcommand_rows_of matches.now) }
     ensures { IsAsked (subcommand_rows_of matches.now) result }

@@ -28,11 +28,11 @@ EndsServerWords words NotUtf8 = ⊥
 
 -- ---- opening the map
 
--- a map may not have so many passes: one for each worker, and one for each member of its team
+-- a map may not have this number of passes: one for each worker, and one for each member of its team
 abbrev pub HasBadPasses : MapdWords → Type 0
 HasBadPasses asked = IsPassCount (asked.workers * (1 + asked.team)) → ⊥
 
--- a map may have so many stripes and passes
+-- a map may have these numbers of stripes and passes
 abbrev pub CanOpen : MapdWords → Type 0
 CanOpen asked = (IsBadCount asked.stripes → ⊥) × (HasBadPasses asked → ⊥)
 
@@ -54,7 +54,7 @@ TellsOpenFault opening.NoMemory old new status = TellsEnding NoMemory old new st
 abbrev pub PrintsAll : SinkState → SinkState → List ℕ → Type 0
 PrintsAll old new text = TakesBytes old new text × (new.keeps_back ≡ false)
 
--- what is printed where serving has ended, with this status: a number of streams, with 0 or 3; or that memory was refused
+-- what is printed when serving has ended, with this status: a number of streams, with 0 or 3; or that memory was refused
 abbrev pub IsLastLine : List ℕ → ℕ → Type 0
 IsLastLine text status =
     ((streams : ℕ) × (text ≡ codes "served " ++ decimal streams ++ codes "\n") × ((status ≡ 0) ⊎ (status ≡ 3)))

@@ -43,7 +43,7 @@ pub record AsksFor (rows : List Row) (asked : MapdWords) : Type 0 where
 abbrev pub AsksServer : List (List ℕ) → MapdWords → Type 0
 AsksServer words asked = (fault_of mapd words ≡ []) × AsksFor (matches_of mapd words) asked
 
--- so many workers and threads for each of their walks are there
+-- there is a worker, and a thread for each of its walks; and there are not too many
 pub record IsInRange (asked : MapdWords) : Type 0 where
   pub some_worker : 1 ≤ asked.workers
   pub workers : asked.workers ≤ 32

@@ -13,12 +13,13 @@ use std::sync::atomic::{AtomicBool, AtomicU64, Ordering};
 use std::sync::{Mutex, Wait};
 use std::time::Duration;
 
-/// So many bytes of answers are kept back, until the session flushes them.
+/// How many bytes of answers are kept back at most, until the session flushes them.
 const KEPT_BYTES: usize = 16384;
 
-/// After a refusal so many pieces of what the client sends are read, and each is waited for so long.
+/// How many pieces of what the client sends are read after a refusal.
 const LAST_PIECES: u32 = 64;
 
+/// How long each of them is waited for, in milliseconds.
 const LAST_WAIT_MILLIS: u64 = 500;
 
 /// What a worker reads its client's requests from.
@@ -63,7 +64,7 @@ fn accept_again(listener: &TcpListener) -> io::Result<TcpStream> {
     Err(io::Error::from(ErrorKind::Interrupted))
 }
 
-/// A writer to the stream, which keeps answers back. Where there is no memory for that, it keeps back none.
+/// A writer to the stream, which keeps answers back. If there is no memory for that, it keeps back none.
 fn writer_to(alloc: Global, stream: &TcpStream) -> io::Result<BufWriter<TcpStream>> {
     match BufWriter::with_capacity(alloc, KEPT_BYTES, stream.try_clone()?) {
         Ok(writer) => Ok(writer),
@@ -71,7 +72,7 @@ fn writer_to(alloc: Global, stream: &TcpStream) -> io::Result<BufWriter<TcpStrea
     }
 }
 
-/// The next client's reader and writer. What the system answers to the option is no matter: answers only take longer.
+/// The next client's reader and writer. If the system refuses the option, answers only take longer.
 fn next_client(alloc: Global, listener: &TcpListener) -> io::Result<(TcpReader, TcpWriter)>
     ensures reads { IfOk result (λ client. CanRead (⟦<TcpReader as Source>⟧.state client.0)) }
     ensures writes { IfOk result (λ client. CanWrite (⟦<TcpWriter as Sink>⟧.state client.1)) }
@@ -115,8 +116,8 @@ pub struct Quotas {
 }
 
 impl Quotas {
-    /// Each of so many workers may serve at most so many sessions, or any number. `NoMemory` where a request for memory was
-    /// refused.
+    /// Quotas of this number of workers, each of which may serve at most `most` sessions, or any number. `NoMemory` if a
+    /// request for memory was refused.
     pub fn new(alloc: Global, workers: u64, most: Option<u64>) -> Result<Quotas, NoMemory> {
         let mut begun = Vec::new(alloc);
         for _ in 0..workers {

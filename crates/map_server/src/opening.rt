@@ -49,7 +49,7 @@ fn next_crew(
     Ok(Crew { worker, pass, team })
 }
 
-/// The crews of all of the passes: a worker has one of its own, and so many for its team.
+/// The crews of all of the passes: a worker has one pass of its own, and `team` more for its team.
 fn crews_of(
     alloc: Global,
     map: &StripedMap,

@@ -43,7 +43,7 @@ fn tell_fault<W: Sink, E: Sink>(fault: OpenFault, writer: &mut W, errors: &mut E
     }
 }
 
-/// What words come to that ask for no server. Where there is no memory for clap's text, that is refused.
+/// What words come to that ask for no server. If there is no memory for clap's text, that is refused.
 fn ending_of_error(alloc: Global, error: &clap::Error, words: &[&str]) -> Ending
     ensures { HasKind (fault_of mapd (texts words.now)) error.now
         → EndsServerWords (texts words.now) result }
@@ -63,7 +63,7 @@ fn reason_line(alloc: Global, error: &io::Error) -> Result<String, AllocError> {
     format!(in alloc; "{error}\n")
 }
 
-/// The text that tells that the port could not be bound. Where there is no memory for the reason, it is left out.
+/// The text that tells that the port could not be bound. If there is no memory for the reason, it is left out.
 fn listen_failure(alloc: Global, error: &io::Error) -> Result<Vec<u8>, AllocError>
     ensures { IfOk result (λ text. (why : List ℕ) × (text.items ≡ codes "failed listen\n" ++ why)) }
 {
@@ -123,7 +123,7 @@ fn served_line(streams: u64) -> Line
     line
 }
 
-/// What is printed where serving has ended, and the status.
+/// What is printed when serving has ended, and the status.
 fn last_line<H: Wait, E: Sink>(
     served: &Result<Vec<Crew>, NoMemory>,
     accept: &TcpAccept<'_, '_, H, E>,
@@ -204,7 +204,7 @@ fn listen<
     }
 }
 
-/// Does what the words ask for, of which the first is the program's name, and answers the status: 0 where it served as
+/// Does what the words ask for, of which the first is the program's name, and returns the status: 0 if it served as
 /// many sessions as it was asked for, 1 for a refusal, 2 for a fault of the words, of which standard error is told in clap's
 /// text, and 3 for a failed listen, accept or write, of which it is told in a line. Waits for clients.
 pub fn mapd_on<

@@ -23,7 +23,7 @@ impl<'a, E: Sink> Telling<'a, E> {
         }
     }
 
-    /// Writes the text, where standard error did not fail before.
+    /// Writes the text, unless standard error failed before.
     pub fn tell(&mut self, text: &[u8]) {
         if !self.usable {
             return;

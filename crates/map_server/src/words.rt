@@ -19,13 +19,13 @@ use std::fmt;
 pub struct MapdWords {
     /// The address to listen on, as HOST:PORT.
     pub listen: String,
-    /// Into so many parts the map is divided.
+    /// The number of stripes: the map is divided into this many parts.
     pub stripes: u64,
-    /// So many clients are served at once.
+    /// How many clients are served at once.
     pub workers: u64,
-    /// So many threads walk for each of them.
+    /// How many threads walk for each of them.
     pub team: u64,
-    /// So many sessions each worker serves; none: without end.
+    /// How many sessions each worker serves; none: without end.
     pub sessions: Option<u64>,
 }
 
@@ -71,10 +71,13 @@ impl From<NoMemory> for WordsFault {
     }
 }
 
+/// The number of stripes, if none is given.
 const STRIPES_DEFAULT: u16 = 16;
 
+/// The number of workers, if none is given.
 const WORKERS_DEFAULT: u16 = 4;
 
+/// The number of threads of each worker's walks, if none is given.
 const TEAM_DEFAULT: u16 = 1;
 
 /// What the options cost.
@@ -98,6 +101,7 @@ fn range_option<'a>(alloc: Global, name: &'a str, range: ValueParser<'a>, help: 
         .value_parser(range)
 }
 
+/// Makes the option of the address.
 fn listen_option<'a>(alloc: Global) -> Arg<'a>
     ensures rule { rule_of result ≡ listen_option }
     ensures local { result.global ≡ false }
@@ -110,6 +114,7 @@ fn listen_option<'a>(alloc: Global) -> Arg<'a>
         .required(true)
 }
 
+/// Makes the command line of `mapd`.
 fn mapd_command<'a>(alloc: Global) -> Result<clap::Command<'a>, AllocError>
     ensures { IfOk result (λ c. app_of c ≡ mapd) }
 {
@@ -144,6 +149,7 @@ fn mapd_command<'a>(alloc: Global) -> Result<clap::Command<'a>, AllocError>
         ))
 }
 
+/// Returns the number that the option gives; none if it is not given.
 fn given_number(matches: &ArgMatches<'_>, name: &str) -> Option<u16>
     ensures { result ≡ option_and_then spelled_size (one_of name.now (rows_of (found_of matches.now))) }
 {
@@ -157,6 +163,7 @@ fn widened(number: Option<u16>) -> Option<u64>
     number.map(u64::from)
 }
 
+/// Returns what the options ask for.
 fn words_of(alloc: Global, matches: &ArgMatches<'_>) -> Result<MapdWords, NoMemory>
     requires { is_some (first_value (found_of matches.now) (codes "listen")) ≡ true }
     ensures { IfOk result (λ asked. AsksFor (rows_of (found_of matches.now)) asked) }
@@ -173,6 +180,7 @@ fn words_of(alloc: Global, matches: &ArgMatches<'_>) -> Result<MapdWords, NoMemo
     })
 }
 
+/// Returns clap's error as a fault of the words, or as a refusal of memory.
 fn fault_of_error(error: clap::Error, words: &[&str]) -> WordsFault
     requires { HasKind (fault_of mapd (texts words.now)) error }
     ensures { IsWordsFault (texts words.now) result }
