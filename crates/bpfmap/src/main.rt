@@ -1,7 +1,7 @@
 //! The program `bpfmap`: what its words ask for, over the process's three streams.
 #![tactic(auto)]
 
-use map_server::{StreamSink, StreamSource, bpfmap_on, tell_unread_words};
+use map_commands::{StreamSink, StreamSource, bpfmap_on, tell_unread_words};
 use std::process::ExitCode;
 use std::sync::Wait;
 use std::{env, io};

@@ -1,10 +1,2 @@
-pub mod ListLemmas
-pub mod HexLemmas
-pub mod ShownLemmas
-pub mod UnitLineLemmas
-pub mod WordLemmas
 pub mod ServerWordLemmas
 pub mod ServerRunLemmas
-pub mod ExecutionLemmas
-pub mod ExplanationLemmas
-pub mod AdmittedLemmas

@@ -18,7 +18,7 @@ appends_both (Some x) None c s t h k = absurd h
 appends_both (Some x) (Some y) None s t h k = absurd k
 appends_both (Some x) (Some y) (Some z) s t h k = k ∙ (ap (λ (l : List ℕ). l ++ t) h ∙ append_assoc x s t)
 
--- behind what was printed before comes how serving ends
+-- after what was printed before comes how serving ends
 pub serving_behind : (old mid new : SinkState) (before : List ℕ) (status : ℕ) → PrintsAll old mid before → EndsServing mid new [] status → EndsServing old new before status
 serving_behind old mid new before status sends ends = elim ends [
   | inl served ↦ inl (served.0, served.1, ((appends_both old.held mid.held new.held before served.0 sends.0.0 served.2.0.0, served.2.0.1 ∙ sends.0.1), served.2.1))

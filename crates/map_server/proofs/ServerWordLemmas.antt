@@ -1,4 +1,4 @@
--- What the options of `mapd` are read as, where clap finds no fault.
+-- What the options of `mapd` are read as, if clap finds no fault.
 use Rattle.std.proofs.Common.{◌≡◌, ◌∙◌, ◌<◌, ◌≤◌, subst, ℕ, zero, suc, List, [], ◌∷◌, Bool, true, false, Option, Some, None, refl, sym, ap, not, length, is_some, inl, inr, arith, true≢false}
 use Rattle.std.specs.Prelude.{◌^◌, ◌&&◌, ℤ, pos, codes, map, unwrap_or, option_map, option_and_then, slice_get, nat_lt}
 use Rattle.std.specs.Borrow.{Bor}
@@ -32,9 +32,9 @@ use Rattle.clap.proofs.CallerLemmas.{entry_by_id, required_has_value, same_rules
 use Rattle.clap.proofs.CallerReads.{signed_reads}
 use Rattle.clap.proofs.OnLiterals.{clap_on_literals}
 use Rattle.clap.proofs.WalkLemmas.{one_text-rows}
-use Rattle.map_server.specs.CommandLine.{given_size, spelled_size}
+use Rattle.map_commands.specs.CommandLine.{given_size, spelled_size}
 use Rattle.map_server.specs.ServerWords.{mapd, mapd_options}
-use Rattle.map_server.proofs.WordLemmas.{both, cases_is, digits_are, size_in-parsed}
+use Rattle.map_commands.proofs.WordLemmas.{both, cases_is, digits_are, size_in-parsed}
 
 -- ---- a parse of `mapd`
 
@@ -51,7 +51,7 @@ module _ (app : App) (is : app ≡ mapd) (words : List (List ℕ)) where
   pub server_parse_fails : (e : Error) → (is_simple_and_free app ≡ true → HasKind (fault_of app words) e) → HasKind (fault_of mapd words) e
   server_parse_fails e kinds = subst (λ (a : App). HasKind (fault_of a words) e) is (kinds (ap is_simple_and_free is ∙ is_free))
 
-  -- where it succeeds there is no fault
+  -- if it succeeds there is no fault
   pub server_parse_succeeds : (is_simple_and_free app ≡ true → fault_of app words ≡ []) → fault_of mapd words ≡ []
   server_parse_succeeds kinds = ap (λ (a : App). fault_of a words) (sym is) ∙ kinds (ap is_simple_and_free is ∙ is_free)
 

@@ -6,13 +6,13 @@ use Rattle.bin_stripes.specs.Opened.{IsPassCount}
 use Rattle.bin_stripes.specs.declared.fault.OpenFault.{OpenFault}
 use Rattle.bin_stripes.specs.declared.fault.OpenFault.TheVariants as opening
 use Rattle.devices.specs.Devices.{SinkState, TakesBytes, TakesFront, TakesIfItCan}
-use Rattle.map_server.specs.declared.bpfmap.ending.Ending.{Ending}
-use Rattle.map_server.specs.declared.bpfmap.ending.Ending.TheVariants.{Reported, Refused, Explained, NoMemory, BadStripes, Shown, Faulty, Unread, NotUtf8}
-use Rattle.map_server.specs.declared.mapd.words.MapdWords.{MapdWords}
-use Rattle.map_server.specs.Endings.{Outputs, IsHelpOrVersion, PrintsRefusal, TellsEnding}
-use Rattle.map_server.specs.Executions.{IsBadCount}
+use Rattle.map_commands.specs.declared.ending.Ending.{Ending}
+use Rattle.map_commands.specs.declared.ending.Ending.TheVariants.{Reported, Refused, Explained, NoMemory, BadStripes, Shown, Faulty, Unread, NotUtf8}
+use Rattle.map_server.specs.declared.words.MapdWords.{MapdWords}
+use Rattle.map_commands.specs.Endings.{Outputs, IsHelpOrVersion, PrintsRefusal, TellsEnding}
+use Rattle.map_commands.specs.Executions.{IsBadCount}
 use Rattle.map_server.specs.ServerWords.{AsksServer, mapd}
-use Rattle.map_server.specs.Shown.{IsShown}
+use Rattle.map_commands.specs.Shown.{IsShown}
 
 -- what words come to that ask for no server, by clap's kind of error, in whose text words are shown; memory may be refused to it
 abbrev pub EndsServerWords : List (List ℕ) → Ending → Type 0
@@ -28,11 +28,11 @@ EndsServerWords words NotUtf8 = ⊥
 
 -- ---- opening the map
 
--- a map may not have so many passes: one for each worker, and one for each member of its team
+-- a map may not have this number of passes: one for each worker, and one for each member of its team
 abbrev pub HasBadPasses : MapdWords → Type 0
 HasBadPasses asked = IsPassCount (asked.workers * (1 + asked.team)) → ⊥
 
--- a map may have so many stripes and passes
+-- a map may have these numbers of stripes and passes
 abbrev pub CanOpen : MapdWords → Type 0
 CanOpen asked = (IsBadCount asked.stripes → ⊥) × (HasBadPasses asked → ⊥)
 
@@ -54,7 +54,7 @@ TellsOpenFault opening.NoMemory old new status = TellsEnding NoMemory old new st
 abbrev pub PrintsAll : SinkState → SinkState → List ℕ → Type 0
 PrintsAll old new text = TakesBytes old new text × (new.keeps_back ≡ false)
 
--- what is printed where serving has ended, with this status: a number of streams, with 0 or 3; or that memory was refused
+-- what is printed when serving has ended, with this status: a number of streams, with 0 or 3; or that memory was refused
 abbrev pub IsLastLine : List ℕ → ℕ → Type 0
 IsLastLine text status =
     ((streams : ℕ) × (text ≡ codes "served " ++ decimal streams ++ codes "\n") × ((status ≡ 0) ⊎ (status ≡ 3)))

@@ -5,10 +5,10 @@ use Rattle.clap.specs.Simple.{new_shape}
 use Rattle.clap.specs.Values.{kind_of}
 use Rattle.clap.specs.declared.builder.ArgAction.TheVariants.{Set}
 use Rattle.clap.specs.declared.builder.ValueParser.TheVariants.{Signed}
-use Rattle.map_server.specs.CommandLine.{given_size, size_option, spelled_size}
-use Rattle.map_server.specs.declared.mapd.words.MapdWords.{MapdWords}
-use Rattle.map_server.specs.declared.mapd.words.WordsFault.{WordsFault}
-use Rattle.map_server.specs.declared.mapd.words.WordsFault.TheVariants as fault
+use Rattle.map_commands.specs.CommandLine.{given_size, size_option, spelled_size}
+use Rattle.map_server.specs.declared.words.MapdWords.{MapdWords}
+use Rattle.map_server.specs.declared.words.WordsFault.{WordsFault}
+use Rattle.map_server.specs.declared.words.WordsFault.TheVariants as fault
 
 -- the address, which is wanted
 abbrev pub listen_option : Rule
@@ -43,7 +43,7 @@ pub record AsksFor (rows : List Row) (asked : MapdWords) : Type 0 where
 abbrev pub AsksServer : List (List ℕ) → MapdWords → Type 0
 AsksServer words asked = (fault_of mapd words ≡ []) × AsksFor (matches_of mapd words) asked
 
--- so many workers and threads for each of their walks are there
+-- there is a worker, and a thread for each of its walks; and there are not too many
 pub record IsInRange (asked : MapdWords) : Type 0 where
   pub some_worker : 1 ≤ asked.workers
   pub workers : asked.workers ≤ 32

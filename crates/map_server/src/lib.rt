@@ -1,24 +1,28 @@
-//! What the programs do, over readers and writers that are handed in.
+//! What the program `mapd` does, over writers that are handed in and the network.
 //!
-//! The promise to the layers above: `bpfmap_on` does what its words ask for, prints and tells that and nothing else (by
-//! `specs/CommandLine.antt`, `specs/Commands.antt`, `specs/Endings.antt` and `specs/Executions.antt`). Sessions, devices
-//! and admission are crates below, of which what a program needs is here too. A session waits for its reader, and nothing
-//! else waits. A refused request for memory is told as a refusal.
+//! The promise to the layers above: `mapd_on` does what its words ask for, and prints nothing else (by
+//! `specs/ServerWords.antt` and `specs/ServerRuns.antt`). What `bpfmap` does is the crate map_commands, and sessions over a
+//! shared map are the crate crews; sessions, devices and admission are crates below. What a program needs of them is here
+//! too. A server waits for its clients. A refused request for memory is told as a refusal.
 #![tactic(auto)]
 
-mod bpfmap;
-mod mapd;
+mod accept;
+mod opening;
+mod program;
+mod telling;
+mod words;
 
+pub use accept::{Quotas, TcpAccept, TcpReader, TcpWriter};
 pub use admission::{AdmissionFault, ProgramLimits, admit};
-pub use bpfmap::{
-    Command, Ending, HexFault, LINE_BYTES, Line, Refusal, Report, RunTexts, Task, bpfmap_on,
-    hex_bytes, parse_words, report_of, tell_unread_words, unit_lines,
-};
 pub use crews::{Accept, Crew, serve, session};
 pub use devices::{
     Failed, ReadAfterFlush, ReadFault, Sink, Source, StreamSink, StreamSource, read_all, write_all,
 };
-pub use mapd::{
-    MapdWords, Quotas, TcpAccept, TcpReader, TcpWriter, Telling, WordsFault, mapd_on, mapd_words,
+pub use map_commands::{
+    Command, Ending, HexFault, LINE_BYTES, Line, Refusal, Report, RunTexts, Task, bpfmap_on,
+    hex_bytes, parse_words, report_of, tell_unread_words, unit_lines,
 };
+pub use program::mapd_on;
 pub use sessions::{Alone, Answer, Service, SessionEnd, run_session, session_alone};
+pub use telling::Telling;
+pub use words::{MapdWords, WordsFault, mapd_words};

@@ -1,0 +1,8 @@
+pub mod ListLemmas
+pub mod HexLemmas
+pub mod ShownLemmas
+pub mod UnitLineLemmas
+pub mod WordLemmas
+pub mod ExecutionLemmas
+pub mod ExplanationLemmas
+pub mod AdmittedLemmas

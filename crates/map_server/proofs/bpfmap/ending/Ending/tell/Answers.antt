@@ -1,4 +1,0 @@
-use Rattle.map_server.proofs.bpfmap.ending.Ending.tell.Goals as goal
-
-pub returns-in-BadStripes : goal.returns-in-BadStripes
-returns-in-BadStripes g c = rw c.in-BadStripes.is c.refuse-in-BadStripes.ensures

@@ -1,0 +1,5 @@
+use Rattle.map_server.proofs.ServerRunLemmas.{enough_passes}
+use Rattle.map_server.proofs.opening.open_server.Goals as goal
+
+pub server_of-requires-clause-passes : goal.server_of-requires-clause-passes
+server_of-requires-clause-passes c = enough_passes _ _ _ _ _ c.in_ok-map.ensures.ok c.in_ok-map.passes.ok.0

@@ -1,0 +1,21 @@
+use Rattle.std.proofs.Common.{◌∙◌, ap, ap₂, refl}
+use Rattle.std.specs.Prelude.{true, codes, Some}
+use Rattle.std.proofs.lemmas.Result.{IfOk-weaker}
+use Rattle.clap.specs.Words.{with_rule}
+use Rattle.clap.specs.Simple.{app_of_fields, on_top}
+use Rattle.map_commands.specs.CommandLine.{size_option}
+use Rattle.map_server.proofs.ServerWordLemmas.{narrowed}
+use Rattle.map_server.proofs.words.mapd_command.Goals as goal
+
+pub returns : goal.returns
+returns c =
+    let about = ap app_of_fields c.about.ensures ∙ c.new.ensures.app in
+    let named = ap app_of_fields c.version.ensures ∙ ap (on_top (λ s. record s { has_version = true })) about in
+    let bare = ap app_of_fields c.after_help.ensures ∙ named in
+    let listen = c.in_ok-arg.ensures.shape c.listen_option.ensures.local ∙ ap₂ with_rule bare c.listen_option.ensures.rule in
+    let stripes = c.in_ok-arg-2.ensures.shape c.size_option.ensures.local ∙ ap₂ with_rule listen c.size_option.ensures.rule in
+    let workers = c.in_ok-arg-3.ensures.shape c.range_option.ensures.local ∙ ap₂ with_rule stripes (c.range_option.ensures.rule ∙ ap (λ p. record (size_option (codes "workers")) { parser = Some p }) (narrowed _ _ _ _ 32 c.value_parser.ensures c.new-2.ensures.start c.new-2.ensures.end refl c.range.ensures)) in
+    let team = c.in_ok-arg-4.ensures.shape c.range_option-2.ensures.local ∙ ap₂ with_rule workers (c.range_option-2.ensures.rule ∙ ap (λ p. record (size_option (codes "team")) { parser = Some p }) (narrowed _ _ _ _ 8 c.value_parser-2.ensures c.new-3.ensures.start c.new-3.ensures.end refl c.range-2.ensures)) in
+    IfOk-weaker c.arg-5.result _ _
+    (λ r h. h.shape c.size_option-2.ensures.local ∙ ap₂ with_rule team c.size_option-2.ensures.rule)
+    c.arg-5.ensures

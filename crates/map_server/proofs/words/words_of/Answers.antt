@@ -1,0 +1,13 @@
+use Rattle.std.proofs.Common.{◌∙◌, ap, Some}
+use Rattle.clap.specs.Words.{found_of}
+use Rattle.clap.proofs.WalkLemmas.{first_value-rows}
+use Rattle.map_server.proofs.words.words_of.Goals as goal
+
+pub returns : goal.returns
+returns c = record {
+  listen = ap Some c.in_ok-from_str.ensures.ok ∙ c.in-Some.ensures ∙ first_value-rows (found_of c.args.matches.now) _;
+  stripes = c.from.ensures ∙ c.given_size.ensures;
+  workers = c.from-2.ensures ∙ c.given_size-2.ensures;
+  team = c.from-3.ensures ∙ c.given_size-3.ensures;
+  sessions = c.widened.ensures ∙ c.given_number.ensures;
+}

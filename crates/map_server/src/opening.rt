@@ -1,0 +1,110 @@
+//! What `mapd` serves: a map, its programs, and the crews of its workers.
+ghost use Rattle.std.specs.Prelude.{◌≡◌, ◌+◌, ◌*◌, ◌≤◌, All, IfOk, IfErr, vec_len};
+ghost use Rattle.crews.specs.Crews.{IsCrewOf};
+ghost use Rattle.map_server.specs.ServerRuns.{CanOpen, IsNotOpened};
+ghost use Rattle.map_server.specs.ServerWords.{IsInRange};
+
+use crate::accept::Quotas;
+use crate::words::MapdWords;
+use bin_stripes::{OpenFault, Pass, StripedMap};
+use bpf_model::NoMemory;
+use bulk_walks::Team;
+use crews::Crew;
+use program_registry::Registry;
+use std::alloc::Global;
+
+/// What is served, who serves it, and how often.
+#[derive(Drop)]
+pub struct Server {
+    pub map: StripedMap,
+    pub registry: Registry,
+    pub crews: Vec<Crew>,
+    pub quotas: Quotas,
+    ghost serve: { All (λ crew. IsCrewOf map crew) crews.items },
+}
+
+/// The next worker's crew: the last of the passes is its own, and those before it are its team's.
+fn next_crew(
+    map: &StripedMap,
+    passes: &mut Vec<Pass>,
+    worker: u32,
+    team: usize,
+) -> Result<Crew, NoMemory>
+    requires serve { All (λ pass. pass.map ≡ map.now) passes.old.items }
+    requires some { 1 ≤ team }
+    requires passes { 1 + team ≤ vec_len passes.old }
+    ensures crew { IfOk result (λ crew. IsCrewOf map.now crew) }
+    ensures serve { All (λ pass. pass.map ≡ map.now) passes.new.items }
+    ensures left { IfOk result (λ _. vec_len passes.new + (1 + team) ≡ vec_len passes.old) }
+{
+    // For the proof alone: the clauses name the map.
+    let _ = map;
+    let Some(pass) = passes.pop() else {
+        unreachable!()
+    };
+    let members = passes.split_off(passes.len() - team)?;
+    let Ok(team) = Team::new(members) else {
+        unreachable!()
+    };
+    Ok(Crew { worker, pass, team })
+}
+
+/// The crews of all of the passes: a worker has one pass of its own, and `team` more for its team.
+fn crews_of(
+    alloc: Global,
+    map: &StripedMap,
+    passes: Vec<Pass>,
+    workers: u32,
+    team: usize,
+) -> Result<Vec<Crew>, NoMemory>
+    requires serve { All (λ pass. pass.map ≡ map.now) passes.items }
+    requires some { 1 ≤ team }
+    requires passes { workers * (1 + team) ≤ vec_len passes }
+    ensures { IfOk result (λ crews. All (λ crew. IsCrewOf map.now crew) crews.items) }
+{
+    let mut passes = passes;
+    let mut crews = Vec::new(alloc);
+    for worker in 0..workers {
+        crews.push(next_crew(map, &mut passes, worker, team)?)?;
+    }
+    Ok(crews)
+}
+
+/// The server of this map, with no program yet.
+fn server_of(
+    alloc: Global,
+    asked: &MapdWords,
+    map: StripedMap,
+    passes: Vec<Pass>,
+) -> Result<Server, NoMemory>
+    requires range { IsInRange asked.now }
+    requires serve { All (λ pass. pass.map ≡ map) passes.items }
+    requires passes { asked.now.workers * (1 + asked.now.team) ≤ vec_len passes }
+{
+    let registry = Registry::new(alloc)?;
+    let crews = crews_of(
+        alloc,
+        &map,
+        passes,
+        asked.workers as u32,
+        asked.team as usize,
+    )?;
+    let quotas = Quotas::new(alloc, asked.workers, asked.sessions)?;
+    Ok(Server {
+        map,
+        registry,
+        crews,
+        quotas,
+    })
+}
+
+/// An empty map, no program, and the crews that are asked for.
+pub fn open_server(alloc: Global, asked: &MapdWords) -> Result<Server, OpenFault>
+    requires { IsInRange asked.now }
+    ensures ok { IfOk result (λ _. CanOpen asked.now) }
+    ensures err { IfErr result (λ fault. IsNotOpened asked.now fault) }
+{
+    let passes = asked.workers * (1 + asked.team);
+    let (map, passes) = StripedMap::open(alloc, asked.stripes, passes)?;
+    Ok(server_of(alloc, asked, map, passes)?)
+}

@@ -1,0 +1,204 @@
+//! The command line of `mapd`: clap reads the words.
+ghost use Rattle.std.specs.Prelude.{◌≡◌, true, false, Some, IfOk, IfErr, codes, is_some, option_and_then};
+ghost use Rattle.clap.specs.Words.{app_of, fault_of, first_value, found_of, one_of, rows_of, rule_of, HasKind};
+ghost use Rattle.clap.specs.Walk.{texts};
+ghost use Rattle.map_commands.specs.CommandLine.{size_option, spelled_size};
+ghost use Rattle.map_server.specs.ServerWords.{listen_option, mapd, AsksFor, AsksServer, IsInRange, IsWordsFault};
+
+use bpf_model::NoMemory;
+use clap::builder::ValueParser;
+use clap::error::ErrorKind;
+use clap::{Arg, ArgAction, ArgMatches, value_parser};
+use map_commands::{given_size, size_option};
+use std::alloc::{AllocError, Global};
+use std::error::Error;
+use std::fmt;
+
+/// What `mapd` is asked to do.
+#[derive(Debug, PartialEq, Eq, Drop)]
+pub struct MapdWords {
+    /// The address to listen on, as HOST:PORT.
+    pub listen: String,
+    /// The number of stripes: the map is divided into this many parts.
+    pub stripes: u64,
+    /// How many clients are served at once.
+    pub workers: u64,
+    /// How many threads walk for each of them.
+    pub team: u64,
+    /// How many sessions each worker serves; none: without end.
+    pub sessions: Option<u64>,
+}
+
+/// Why words ask for no server.
+#[derive(Debug, Drop)]
+pub enum WordsFault {
+    /// A fault of the words, or the help or the version that they ask for; it has the text for the user.
+    Words(clap::Error),
+    /// A request for memory was refused.
+    NoMemory,
+}
+
+impl fmt::Display for WordsFault {
+    fn fmt<W: fmt::Write>(&self, f: &mut fmt::Formatter<W>) -> fmt::Result {
+        match self {
+            WordsFault::Words(error) => write!(f, "{error}"),
+            WordsFault::NoMemory => write!(f, "no memory"),
+        }
+    }
+}
+
+impl Error for WordsFault {}
+
+impl From<AllocError> for WordsFault {
+    ghost use Rattle.std.specs.Prelude.{◌≡◌};
+    ghost use Rattle.map_server.specs.declared.words.WordsFault.TheVariants.{NoMemory};
+
+    ghost from_gives = { λ _ fault. fault ≡ NoMemory };
+
+    fn from(_: AllocError) -> WordsFault {
+        WordsFault::NoMemory
+    }
+}
+
+impl From<NoMemory> for WordsFault {
+    ghost use Rattle.std.specs.Prelude.{◌≡◌};
+    ghost use Rattle.map_server.specs.declared.words.WordsFault.TheVariants.{NoMemory};
+
+    ghost from_gives = { λ _ fault. fault ≡ NoMemory };
+
+    fn from(_: NoMemory) -> WordsFault {
+        WordsFault::NoMemory
+    }
+}
+
+/// The number of stripes, if none is given.
+const STRIPES_DEFAULT: u16 = 16;
+
+/// The number of workers, if none is given.
+const WORKERS_DEFAULT: u16 = 4;
+
+/// The number of threads of each worker's walks, if none is given.
+const TEAM_DEFAULT: u16 = 1;
+
+/// What the options cost.
+const COSTS: &str = "\
+Threads: one for each worker, and one more where there are several; while a worker walks with a team of several, so
+many more. Passes of the map: workers * (1 + team), at most 64.
+Memory: for each client that is served 20 KB, and up to 2 MB while it sends many short requests at once, beside its
+threads' stacks, what its walks answer, and the map.
+A worker serves one client at a time, and further clients wait until one is free.
+Status: 0 all sessions were served, 1 refused, 2 a fault of the words, 3 a failed listen, accept or write.";
+
+/// An option that takes a number in a range.
+fn range_option<'a>(alloc: Global, name: &'a str, range: ValueParser<'a>, help: &'a str) -> Arg<'a>
+    ensures rule { rule_of result ≡ record (size_option name.entry.now) { parser = Some range.entry } }
+    ensures local { result.global ≡ false }
+{
+    Arg::new(alloc, name)
+        .long(name)
+        .value_name("NUMBER")
+        .help(help)
+        .value_parser(range)
+}
+
+/// Makes the option of the address.
+fn listen_option<'a>(alloc: Global) -> Arg<'a>
+    ensures rule { rule_of result ≡ listen_option }
+    ensures local { result.global ≡ false }
+{
+    Arg::new(alloc, "listen")
+        .long("listen")
+        .value_name("HOST:PORT")
+        .help("Address to listen on; port 0 takes a free one, which standard error is told")
+        .action(ArgAction::Set)
+        .required(true)
+}
+
+/// Makes the command line of `mapd`.
+fn mapd_command<'a>(alloc: Global) -> Result<clap::Command<'a>, AllocError>
+    ensures { IfOk result (λ c. app_of c ≡ mapd) }
+{
+    clap::Command::new(alloc, "mapd")
+        .about("Serves a map to many clients over TCP")
+        .version("0.1.0")
+        .after_help(COSTS)
+        .arg(listen_option(alloc))?
+        .arg(size_option(
+            alloc,
+            "stripes",
+            "NUMBER",
+            "Stripes of the map, a power of two from 1 to 64 [default: 16]",
+        ))?
+        .arg(range_option(
+            alloc,
+            "workers",
+            value_parser!(u16).range(1..=32),
+            "Clients served at once, 1 to 32, each by a thread of its own [default: 4]",
+        ))?
+        .arg(range_option(
+            alloc,
+            "team",
+            value_parser!(u16).range(1..=8),
+            "Threads of each worker's walks, 1 to 8 [default: 1]",
+        ))?
+        .arg(size_option(
+            alloc,
+            "sessions",
+            "NUMBER",
+            "Sessions that each worker serves before it ends, 0 to 65535 [default: without end]",
+        ))
+}
+
+/// Returns the number that the option gives; none if it is not given.
+fn given_number(matches: &ArgMatches<'_>, name: &str) -> Option<u16>
+    ensures { result ≡ option_and_then spelled_size (one_of name.now (rows_of (found_of matches.now))) }
+{
+    matches.get_one(name)
+}
+
+/// The number, as one of 64 bits.
+fn widened(number: Option<u16>) -> Option<u64>
+    ensures { result ≡ number }
+{
+    number.map(u64::from)
+}
+
+/// Returns what the options ask for.
+fn words_of(alloc: Global, matches: &ArgMatches<'_>) -> Result<MapdWords, NoMemory>
+    requires { is_some (first_value (found_of matches.now) (codes "listen")) ≡ true }
+    ensures { IfOk result (λ asked. AsksFor (rows_of (found_of matches.now)) asked) }
+{
+    let Some(listen) = matches.get_str("listen") else {
+        unreachable!()
+    };
+    Ok(MapdWords {
+        listen: String::from_str(alloc, listen)?,
+        stripes: u64::from(given_size(matches, "stripes", STRIPES_DEFAULT)),
+        workers: u64::from(given_size(matches, "workers", WORKERS_DEFAULT)),
+        team: u64::from(given_size(matches, "team", TEAM_DEFAULT)),
+        sessions: widened(given_number(matches, "sessions")),
+    })
+}
+
+/// Returns clap's error as a fault of the words, or as a refusal of memory.
+fn fault_of_error(error: clap::Error, words: &[&str]) -> WordsFault
+    requires { HasKind (fault_of mapd (texts words.now)) error }
+    ensures { IsWordsFault (texts words.now) result }
+{
+    if error.kind() == ErrorKind::OutOfMemory {
+        return WordsFault::NoMemory;
+    }
+    WordsFault::Words(error)
+}
+
+/// What the words ask for, of which the first is the program's name.
+pub fn mapd_words<'a>(alloc: Global, words: &'a [&'a str]) -> Result<MapdWords, WordsFault>
+    ensures ok { IfOk result (λ asked. AsksServer (texts words.entry.now) asked) }
+    ensures range { IfOk result IsInRange }
+    ensures err { IfErr result (λ fault. IsWordsFault (texts words.entry.now) fault) }
+{
+    match mapd_command(alloc)?.try_get_matches_from(words) {
+        Ok(matches) => Ok(words_of(alloc, &matches)?),
+        Err(error) => Err(fault_of_error(error, words)),
+    }
+}
