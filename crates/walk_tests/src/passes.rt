@@ -3,9 +3,8 @@ ghost use Rattle.std.specs.Prelude.{◌≡◌, All, IfOk};
 
 use atomic_methods::{Call, Reply};
 use bin_stripes::{CallFault, Gate, OpenFault, OpenGate, Pass, Place, StripedMap};
-use bins::Counts;
-use bpf_model::{Key, TooLong, Value};
-use map_tests::programs::{ONE, summing};
+use bpf_model::{Key, NoMemory, TooLong, Value};
+use map_tests::programs::{ONE, TWO, summing};
 use std::alloc::Global;
 use std::sync::Wait;
 use std::sync::atomic::{AtomicU64, Ordering};

@@ -107,14 +107,13 @@ fn hold_beside<R: Threads + Wait + Sync>(
 fn stripes_apart(rt: HostRuntime) -> Result<(), Fail> {
     let program = summing(rt.alloc())?;
     let (map, mut passes) = opened(rt.alloc(), 2, 2)?;
-    let holder = next_pass(&map, &mut passes)?;
-    let other = next_pass(&map, &mut passes)?;
+    let (other, holder) = next_two(&map, &mut passes)?;
     // The key 61 lies in stripe 0, and 62 in stripe 1.
     let gate = Shut::new();
     let (answered, busy) = hold_beside(&rt, &map, holder, other, &program, &gate);
     assert!(rt; answered, "the other stripe was not free");
     assert!(rt; busy, "the held stripe was free");
-    assert_eq!(rt; gate.alone.load(Ordering::SeqCst), 0);
+    assert!(rt; gate.alone.load(Ordering::SeqCst) == 0);
     Ok(())
 }
 
@@ -210,20 +209,28 @@ fn merged_by_two<R: Threads + Wait + Sync>(
     map.join(one, other)
 }
 
+/// Tells whether so many calls were made, and their sum stands at the key.
+fn is_sum<R: Wait>(
+    rt: &R,
+    map: &StripedMap,
+    mut pass: Pass,
+    merging: &Merging,
+    wanted: u64,
+) -> Result<bool, Fail>
+    requires { pass.map ≡ map.now }
+{
+    let found = got(rt, map, &mut pass, b"a")?;
+    let made = merging.made.load(Ordering::SeqCst);
+    Ok(made == wanted && is_value(&found, &wanted.to_le_bytes()))
+}
+
 #[test]
 fn two_threads_merge_on_one_key(rt: HostRuntime) -> Result<(), Fail> {
     let merging = Merging::new(summing(rt.alloc())?);
     let (map, mut passes) = opened(rt.alloc(), 16, 2)?;
-    let second = next_pass(&map, &mut passes)?;
-    let first = next_pass(&map, &mut passes)?;
-    let mut both = merged_by_two(&rt, &map, first, second, &merging, 500);
-    assert_eq!(rt;
-        merging.made.load(Ordering::SeqCst),
-        1000,
-        "a call was given up"
-    );
-    let found = got(&rt, &map, &mut both, b"a")?;
-    assert!(rt; is_value(&found, &[0xe8, 0x03, 0, 0, 0, 0, 0, 0]));
+    let (second, first) = next_two(&map, &mut passes)?;
+    let both = merged_by_two(&rt, &map, first, second, &merging, 500);
+    assert!(rt; is_sum(&rt, &map, both, &merging, 1000)?);
     Ok(())
 }
 
@@ -299,13 +306,7 @@ fn eight_threads_merge_on_one_key(rt: HostRuntime) -> Result<(), Fail> {
     let (map, mut passes) = opened(rt.alloc(), 16, 8)?;
     let first = (next_two(&map, &mut passes)?, next_two(&map, &mut passes)?);
     let second = (next_two(&map, &mut passes)?, next_two(&map, &mut passes)?);
-    let mut all = merged_by_eight(&rt, &map, first, second, &merging);
-    assert_eq!(rt;
-        merging.made.load(Ordering::SeqCst),
-        2000,
-        "a call was given up"
-    );
-    let found = got(&rt, &map, &mut all, b"a")?;
-    assert!(rt; is_value(&found, &[0xd0, 0x07, 0, 0, 0, 0, 0, 0]));
+    let all = merged_by_eight(&rt, &map, first, second, &merging);
+    assert!(rt; is_sum(&rt, &map, all, &merging, 2000)?);
     Ok(())
 }

@@ -180,9 +180,8 @@ fn is_replacement(reply: &Result<WalkReply, NoMemory>) -> bool {
 }
 
 /// One walk of each kind; whether each reply is right. The one that replaces adds 0 to each value.
-fn walk_once<R: Threads + Wait + Sync>(
+fn walk_once<R: AllocGlobal + Threads + Wait + Sync>(
     rt: &R,
-    alloc: Global,
     map: &StripedMap,
     team: Team,
     program: &Verified,
@@ -191,19 +190,17 @@ fn walk_once<R: Threads + Wait + Sync>(
     requires { All (λ pass. pass.map ≡ map.now) team.passes.items }
     ensures { All (λ pass. pass.map ≡ map.now) result.0.passes.items }
 {
-    let arg = Value::from_slice(&ONE).ok();
-    let (team, all) = for_each(rt, alloc, map, team, program, &arg, 0, &OpenGate);
-    let (team, first) = search(rt, alloc, map, team, program, &arg, 0, &OpenGate);
-    let (team, count) = mapping_count(rt, alloc, map, team, &OpenGate);
-    let (team, replaced) = replace_all(rt, alloc, map, team, program, &None, &OpenGate);
+    let (team, all) = walk(rt, map, team, program, Task::List(0), &OpenGate);
+    let (team, first) = walk(rt, map, team, program, Task::Search(0), &OpenGate);
+    let (team, count) = walk(rt, map, team, program, Task::Count, &OpenGate);
+    let (team, replaced) = walk(rt, map, team, program, Task::Rewrite, &OpenGate);
     let right = is_all(&all, last) && is_first(&first) && is_count(&count);
     (team, right && is_replacement(&replaced))
 }
 
 /// Walks of each kind; in how many turns all replies were right.
-fn walk_on<R: Threads + Wait + Sync>(
+fn walk_on<R: AllocGlobal + Threads + Wait + Sync>(
     rt: &R,
-    alloc: Global,
     map: &StripedMap,
     mut team: Team,
     program: &Verified,
@@ -213,7 +210,7 @@ fn walk_on<R: Threads + Wait + Sync>(
     let mut last = [0; 8];
     let mut right = 0u64;
     for _ in 0..WALKS {
-        let (again, all_right) = walk_once(rt, alloc, map, team, program, &mut last);
+        let (again, all_right) = walk_once(rt, map, team, program, &mut last);
         team = again;
         right = right.wrapping_add(u64::from(all_right));
     }
@@ -221,9 +218,8 @@ fn walk_on<R: Threads + Wait + Sync>(
 }
 
 /// Both at once: how many threads took all their turns, and in how many turns of the walks all replies were right.
-fn walk_beside<R: Threads + Wait + Sync>(
+fn walk_beside<R: AllocGlobal + Threads + Wait + Sync>(
     rt: &R,
-    alloc: Global,
     map: &StripedMap,
     passes: Vec<Pass>,
     team: Team,
@@ -239,7 +235,7 @@ fn walk_beside<R: Threads + Wait + Sync>(
         { change(rt, map, passes) },
         move || -> u64
             requires { All (λ pass. pass.map ≡ map.now) team.passes.items }
-        { walk_on(rt, alloc, map, team, program) },
+        { walk_on(rt, map, team, program) },
     )
 }
 
@@ -262,10 +258,10 @@ fn parted(alloc: Global, map: &StripedMap, team: Team) -> Result<(Vec<Pass>, Tea
 #[test]
 fn walks_find_what_was_there(rt: HostRuntime) -> Result<(), Fail> {
     let program = summing(rt.alloc())?;
-    let (map, mut pass, team) = opened(rt.alloc(), 8, 10)?;
+    let (map, mut pass, team) = made(rt.alloc(), 8, 10).ok_or("no map")?;
     put(&rt, &map, &mut pass, &[16], &NINE).ok_or("not put")?;
     let (passes, team) = parted(rt.alloc(), &map, team)?;
-    let (done, right) = walk_beside(&rt, rt.alloc(), &map, passes, team, &program);
-    assert_eq!(rt; (done, right), (8, WALKS));
+    let found = walk_beside(&rt, &map, passes, team, &program);
+    assert!(rt; found == (8, WALKS), "{found:?}");
     Ok(())
 }
