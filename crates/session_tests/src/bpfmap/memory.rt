@@ -110,6 +110,15 @@ pub struct Outcome {
     pub errors: Vec<u8>,
 }
 
+impl Outcome {
+    /// Tells whether it has this status, output and errors.
+    pub fn is(&self, status: u8, output: &[u8], errors: &[u8]) -> bool {
+        self.status == status
+            && self.output.as_slice() == output
+            && self.errors.as_slice() == errors
+    }
+}
+
 pub const ROOM: usize = 1 << 20;
 
 /// One call, with this room in standard output and standard error.

@@ -169,19 +169,33 @@ fn a_refused_request_is_told(rt: HostRuntime) -> Result<(), Fail> {
     Ok(())
 }
 
+/// What a session with a Get is answered, and another one if memory ended it.
+fn got(rt: &impl Wait, alloc: Global, alone: &mut Alone, size: usize) -> ArrayVec<u8, KEPT_BYTES> {
+    let (end, answered) = session(rt, alloc, alone, GET, size);
+    if end == SessionEnd::NoMemory {
+        return session(rt, alloc, alone, GET, size).1;
+    }
+    answered
+}
+
+/// Tells whether a Get is answered with the value of a Put that was answered for, and with none else.
+fn is_left(rt: &impl Wait, alloc: Global, alone: &mut Alone, size: usize) -> bool {
+    let (_, answered) = session(rt, alloc, alone, PUT, size);
+    let is_put = answered.len() >= 13 && answered[12] == 0xFF;
+    let value = if is_put { TEXT } else { NOTHING };
+    let answered = got(rt, alloc, alone, size);
+    are(answered.as_slice(), &[value], b"")
+}
+
 /// Also where one request for memory is refused: the table has the values that were answered for, and no other.
 #[test]
 fn a_refused_request_leaves_the_table(rt: HostRuntime) -> Result<(), Fail> {
     for size in [ROOM, 9, 1] {
         let mut alone = opened(rt.alloc())?;
-        let (_, answered) = session(&rt, rt.alloc(), &mut alone, PUT, size);
-        let is_put = answered.len() >= 13 && answered[12] == 0xFF;
-        let (end, mut answered) = session(&rt, rt.alloc(), &mut alone, GET, size);
-        if end == SessionEnd::NoMemory {
-            answered = session(&rt, rt.alloc(), &mut alone, GET, size).1;
-        }
-        let value = if is_put { TEXT } else { NOTHING };
-        assert!(&rt; are(answered.as_slice(), &[value], b""), "{size} at a time");
+        assert!(&rt;
+            is_left(&rt, rt.alloc(), &mut alone, size),
+            "{size} at a time"
+        );
     }
     Ok(())
 }

@@ -92,7 +92,28 @@ fn hear_refusal<R: Net<Listener = TcpListener, Stream = TcpStream> + Clock + All
     Ok(greeted && rest.as_slice() == REFUSED.as_slice())
 }
 
-/// A call, and beside it two clients that share its map.
+/// Serves one session by each of so many workers.
+fn serve_one_each<
+    R: AllocGlobal
+        + Clock
+        + Threads
+        + Wait
+        + Net<Listener = TcpListener, Stream = TcpStream>
+        + Sync,
+>(rt: &R, address: &str, workers: &str) -> Outcome {
+    let words = [
+        "mapd",
+        "--listen",
+        address,
+        "--workers",
+        workers,
+        "--sessions",
+        "1",
+    ];
+    call(rt, &words, 100)
+}
+
+/// Two workers, and beside them two clients that share their map.
 fn call_and_share<
     R: AllocGlobal
         + Clock
@@ -100,30 +121,25 @@ fn call_and_share<
         + Wait
         + Net<Listener = TcpListener, Stream = TcpStream>
         + Sync,
->(rt: &R, words: &[&str], address: &str) -> (Outcome, io::Result<bool>) {
-    thread::join(rt, || call(rt, words, 100), || share(rt, address))
+>(rt: &R, address: &str) -> (Outcome, io::Result<bool>) {
+    thread::join(
+        rt,
+        || serve_one_each(rt, address, "2"),
+        || share(rt, address),
+    )
 }
 
 #[test]
 fn clients_share_a_map(rt: HostRuntime) -> Result<(), Fail> {
     let address = free_address(&rt)?;
-    let words = [
-        "mapd",
-        "--listen",
-        address.as_str(),
-        "--workers",
-        "2",
-        "--sessions",
-        "1",
-    ];
-    let (served, shared) = call_and_share(&rt, &words, address.as_str());
+    let (served, shared) = call_and_share(&rt, address.as_str());
     let shared = shared?;
-    assert!(rt; shared && served.status == 0);
-    assert!(rt; served.output.as_slice() == b"ready\nserved 2\n".as_slice());
+    let told = served.output.as_slice() == b"ready\nserved 2\n".as_slice();
+    assert!(rt; shared && told && served.status == 0);
     Ok(())
 }
 
-/// A call, and beside it a client that is refused.
+/// A worker, and beside it a client that is refused.
 fn call_and_hear<
     R: AllocGlobal
         + Clock
@@ -131,25 +147,20 @@ fn call_and_hear<
         + Wait
         + Net<Listener = TcpListener, Stream = TcpStream>
         + Sync,
->(rt: &R, words: &[&str], address: &str) -> (Outcome, io::Result<bool>) {
-    thread::join(rt, || call(rt, words, 100), || hear_refusal(rt, address))
+>(rt: &R, address: &str) -> (Outcome, io::Result<bool>) {
+    thread::join(
+        rt,
+        || serve_one_each(rt, address, "1"),
+        || hear_refusal(rt, address),
+    )
 }
 
 #[test]
 fn a_refusal_reaches_the_client(rt: HostRuntime) -> Result<(), Fail> {
     let address = free_address(&rt)?;
-    let words = [
-        "mapd",
-        "--listen",
-        address.as_str(),
-        "--workers",
-        "1",
-        "--sessions",
-        "1",
-    ];
-    let (served, heard) = call_and_hear(&rt, &words, address.as_str());
+    let (served, heard) = call_and_hear(&rt, address.as_str());
     let heard = heard?;
-    assert!(rt; heard && served.status == 0);
-    assert!(rt; served.output.as_slice() == b"ready\nserved 1\n".as_slice());
+    let told = served.output.as_slice() == b"ready\nserved 1\n".as_slice();
+    assert!(rt; heard && told && served.status == 0);
     Ok(())
 }
