@@ -254,16 +254,20 @@ fn table_with(alloc: Global, key: &Key, old: Option<&[u8]>) -> Result<Striped, F
     Ok(table)
 }
 
+/// Tells whether the call is refused for the key's value, and leaves it.
+fn is_unfit(alloc: Global, computing: &Computing, old: &'static [u8]) -> Result<bool, Fail> {
+    let key = &computing.key;
+    let mut table = table_with(alloc, key, Some(old))?;
+    let unfit = is_wanted(&table.apply(&computing.call())?, NO_OLD);
+    let found = table.apply(&Call::Get { key })?;
+    Ok(unfit && is_wanted(&found, Bytes(old)))
+}
+
 #[test]
 fn a_longest_value_is_unfit_where_one_byte_is_missing(rt: HostRuntime) -> Result<(), Fail> {
     let program = verified(rt.alloc(), NOTHING, sizes(64, 255, 256, 256))?;
     let computing = Computing::new(program, None)?;
-    let key = &computing.key;
-    let mut table = table_with(rt.alloc(), key, Some(&[7; 256]))?;
-    let reply = table.apply(&computing.call())?;
-    assert!(rt; is_wanted(&reply, NO_OLD));
-    let found = table.apply(&Call::Get { key })?;
-    assert!(rt; is_wanted(&found, Bytes(&[7; 256])));
+    assert!(rt; is_unfit(rt.alloc(), &computing, &[7; 256])?);
     Ok(())
 }
 

@@ -111,9 +111,11 @@ fn stripes_apart(rt: HostRuntime) -> Result<(), Fail> {
     // The key 61 lies in stripe 0, and 62 in stripe 1.
     let gate = Shut::new();
     let (answered, busy) = hold_beside(&rt, &map, holder, other, &program, &gate);
-    assert!(rt; answered, "the other stripe was not free");
-    assert!(rt; busy, "the held stripe was free");
-    assert!(rt; gate.alone.load(Ordering::SeqCst) == 0);
+    let alone = gate.alone.load(Ordering::SeqCst);
+    assert!(rt;
+        answered && busy && alone == 0,
+        "the other is free: {answered}, the held one is not: {busy}, waited in vain: {alone}"
+    );
     Ok(())
 }
 

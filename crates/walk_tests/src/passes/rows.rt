@@ -163,6 +163,12 @@ fn has_entries<R: Wait>(
     }
 }
 
+/// Tells whether the map has four stripes, and the two keys lie in 1 and 2.
+fn are_placed(map: &StripedMap) -> Result<bool, TooLong> {
+    let places = (map.stripe_of(&key(b"")?), map.stripe_of(&key(b"ab")?));
+    Ok(map.stripes() == 4 && places == (1, 2))
+}
+
 /// Puts an entry into stripe 1 and one into stripe 2; whether the four stripes have these alone.
 fn are_dealt<R: Wait>(
     rt: &R,
@@ -203,8 +209,7 @@ fn a_stripe_has_its_own_keys(rt: HostRuntime) -> Result<(), Fail> {
     let program = summing(rt.alloc())?;
     let (map, mut passes) = opened(rt.alloc(), 4, 1)?;
     let mut pass = next_pass(&map, &mut passes)?;
-    let places = (map.stripe_of(&key(b"")?), map.stripe_of(&key(b"ab")?));
-    assert!(rt; map.stripes() == 4 && places == (1, 2));
+    assert!(rt; are_placed(&map)?);
     assert!(rt; are_dealt(&rt, rt.alloc(), &map, &mut pass)?);
     assert!(rt; is_replaced_alone(&rt, &map, &mut pass, &program)?);
     pass.vouch();

@@ -84,7 +84,26 @@ fn are_replaced_again<R: AllocGlobal + Threads + Wait + Sync>(
     left && replied(&reply, REPLACED)
 }
 
-/// The program, once more if memory was refused.
+/// Makes each walk, again if memory was refused; whether the list, the search and the count were right, and whether they left the
+/// entries, and the replacement was right and changed them.
+fn tried_again<R: AllocGlobal + Threads + Wait + Sync>(
+    rt: &R,
+    map: &StripedMap,
+    pass: &mut Pass,
+    team: Team,
+    program: &Verified,
+) -> ([bool; 3], [bool; 3])
+    requires pass { pass.old.map ≡ map.now }
+    requires team { All (λ pass. pass.map ≡ map.now) team.passes.items }
+{
+    let (team, right) = are_made_again(rt, map, team, program);
+    let unchanged = have(rt, map, pass, &ONE, &TWO);
+    let replacement = are_replaced_again(rt, map, pass, team, program);
+    let replaced = have(rt, map, pass, &TWO, &THREE);
+    (right, [unchanged, replacement, replaced])
+}
+
+/// Makes the program, once more if memory was refused.
 fn program_again(alloc: Global) -> Result<Verified, NoMemory> {
     match summed(alloc) {
         Some(program) => Ok(program),
@@ -99,11 +118,10 @@ fn a_refused_walk_changes_nothing(rt: HostRuntime) -> Result<(), Fail> {
         Some(made) => made,
         None => filled(&rt, rt.alloc(), 4, 2).ok_or("no map")?,
     };
-    let (team, right) = are_made_again(&rt, &map, team, &program);
-    assert!(rt; right == [true; 3], "{right:?}: a list, a search, a count");
-    assert!(rt; have(&rt, &map, &mut pass, &ONE, &TWO), "changed entries");
-    let replaced = are_replaced_again(&rt, &map, &mut pass, team, &program);
-    assert!(rt; replaced, "a wrong replacement");
-    assert!(rt; have(&rt, &map, &mut pass, &TWO, &THREE), "no replacement");
+    let right = tried_again(&rt, &map, &mut pass, team, &program);
+    assert!(rt;
+        right == ([true; 3], [true; 3]),
+        "{right:?}: list, search, count; unchanged, replacement, replaced"
+    );
     Ok(())
 }
