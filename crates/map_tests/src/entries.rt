@@ -28,7 +28,7 @@ fn put_all<B: Bins>(bins: &mut B, rows: &[(&[u8], &[u8])]) -> Result<(), Fail> {
     Ok(())
 }
 
-/// Whether these are all entries, in this order.
+/// Tells whether these are all entries, in this order.
 fn holds<B: Bins>(bins: &B, alloc: Global, wanted: &[(&[u8], &[u8])]) -> Result<bool, NoMemory> {
     let found = bins.entries(alloc)?;
     let mut same = found.len() == wanted.len();
@@ -38,7 +38,7 @@ fn holds<B: Bins>(bins: &B, alloc: Global, wanted: &[(&[u8], &[u8])]) -> Result<
     Ok(same)
 }
 
-/// Keys that begin one another, put in mixed order, one of them twice.
+/// Puts keys that begin one another in mixed order, one of them twice; whether they then stand in order.
 fn stand_in_order<B: Bins + Drop>(alloc: Global) -> Result<bool, Fail> {
     let mut bins = B::open(alloc, 1)?;
     put_all(
@@ -55,7 +55,7 @@ fn stand_in_order<B: Bins + Drop>(alloc: Global) -> Result<bool, Fail> {
     Ok(holds(&bins, alloc, &wanted)?)
 }
 
-/// So many keys of two bytes in mixed order, each with itself as its value.
+/// Puts so many keys of two bytes in mixed order, each with itself as its value.
 fn fill<B: Bins>(bins: &mut B, count: u16) -> Result<(), Fail>
     requires { count ≤ 300 }
 {
@@ -81,7 +81,7 @@ fn remove_all<B: Bins>(bins: &mut B) -> Result<bool, Fail> {
     Ok(there)
 }
 
-/// Whether the entry at each place has that number.
+/// Tells whether the entry at each place has that number.
 fn are_in_order(entries: &[(Key, Value)]) -> bool {
     let mut same = entries.len() == 300;
     for (number, entry) in (0..300u16).zip(entries) {
@@ -90,6 +90,7 @@ fn are_in_order(entries: &[(Key, Value)]) -> bool {
     same
 }
 
+/// Puts 300 keys, scans them, and removes them; whether each was there, and then none.
 fn come_and_go<B: Bins + Drop>(alloc: Global) -> Result<bool, Fail> {
     let mut bins = B::open(alloc, 1)?;
     fill(&mut bins, 300)?;
@@ -97,7 +98,7 @@ fn come_and_go<B: Bins + Drop>(alloc: Global) -> Result<bool, Fail> {
     Ok(in_order && remove_all(&mut bins)? && bins.entries(alloc)?.is_empty())
 }
 
-/// 40 keys are put, and every other one of them is removed.
+/// Puts 40 keys, and removes every other one of them; returns the entries that are left.
 fn half_removed<B: Bins + Drop>(alloc: Global) -> Result<Vec<(Key, Value)>, Fail> {
     let mut bins = B::open(alloc, 4)?;
     fill(&mut bins, 40)?;
@@ -116,7 +117,7 @@ fn both_bodies_are_scanned_alike(rt: HostRuntime) -> Result<(), Fail> {
     Ok(())
 }
 
-/// Whether the one list has each entry of the other twice, in their order.
+/// Tells whether the one list has each entry of the other twice, in their order.
 fn are_twice(sorted: &SortedColumns, entries: &[(Key, Value)]) -> bool {
     if sorted.len() != 2 * entries.len() {
         return false;
@@ -130,7 +131,7 @@ fn are_twice(sorted: &SortedColumns, entries: &[(Key, Value)]) -> bool {
     true
 }
 
-/// Copies in columns of the entries of bins, twice over, and the entries; one key and one value are long.
+/// Copies the entries of bins twice; whether each is there twice. One key and one value are long.
 fn copied_twice<B: Bins + Drop>(alloc: Global) -> Result<bool, Fail> {
     let mut bins = B::open(alloc, 4)?;
     fill(&mut bins, 40)?;
@@ -142,7 +143,7 @@ fn copied_twice<B: Bins + Drop>(alloc: Global) -> Result<bool, Fail> {
     Ok(are_twice(&sorted, &bins.entries(alloc)?))
 }
 
-/// One of 256 keys of eight pairs, each `41 61` or `42 42`: all have one hash.
+/// Makes one of 256 keys of eight pairs, each `41 61` or `42 42`: all have one hash.
 pub(crate) fn key_of_pairs(number: u8) -> Result<Key, Fail> {
     let mut bytes = [0; 16];
     for pair in 0..8usize {
@@ -153,7 +154,7 @@ pub(crate) fn key_of_pairs(number: u8) -> Result<Key, Fail> {
     Ok(Key::from_slice(&bytes)?)
 }
 
-/// One of 256 keys of five bytes: each has a hash of its own, and the lowest 16 bits of them all are 0.
+/// Makes one of 256 keys of five bytes: each has a hash of its own, and the lowest 16 bits of them all are 0.
 fn key_of_bin(number: u8) -> Result<Key, Fail> {
     let begun = hash_of(&Key::from_slice(&[number])?);
     let rest = begun.wrapping_mul(31 * 31 * 31 * 31).wrapping_neg() % 65_536;
@@ -178,7 +179,7 @@ enum Crowd {
 }
 
 impl Crowd {
-    /// The key of a number.
+    /// Returns the key of a number.
     fn key(self, number: u8) -> Result<Key, Fail> {
         match self {
             Crowd::Apart => Ok(Key::from_slice(&[number])?),
@@ -187,7 +188,7 @@ impl Crowd {
         }
     }
 
-    /// Whether the hashes of two keys are so alike.
+    /// Tells whether the hashes of two keys are so alike.
     fn is_of(self, one: &Key, other: &Key) -> bool {
         let one = hash_of(one);
         let other = hash_of(other);
@@ -224,7 +225,7 @@ fn remove_thirds<B: Bins>(bins: &mut B, crowd: Crowd) -> Result<bool, Fail> {
     Ok(there)
 }
 
-/// Whether a key has this value.
+/// Tells whether a key has this value.
 fn has<B: Bins>(bins: &B, key: &Key, number: u8) -> bool {
     bins.find(&HashedKey::new(key)) == Some([number].as_slice())
 }
@@ -296,7 +297,7 @@ fn hashes_are_as_in_java(rt: HostRuntime) -> Result<(), Fail> {
     Ok(())
 }
 
-/// How many bins so many entries have.
+/// Tells how many bins so many entries have.
 fn wanted_bins(entries: u8) -> u64 {
     match entries {
         0..=16 => 8,
@@ -354,7 +355,7 @@ fn put_twice<B: Bins>(bins: &mut B, key: &Key) -> Result<bool, Fail> {
     Ok(absent)
 }
 
-/// Whether the first keys of a crowd are there, and not the next.
+/// Tells whether the first keys of a crowd are there, and not the next.
 fn has_first<B: Bins>(bins: &B, crowd: Crowd, count: u8) -> Result<bool, Fail> {
     let mut there = true;
     for number in 0..count {

@@ -59,7 +59,7 @@ fn reads_its_own<R: Wait>(rt: &R, alloc: Global, registry: &Registry, first: u16
     Some(right)
 }
 
-/// Both threads' programs; whether each read its own.
+/// Has two threads register and read their programs; whether each read its own.
 fn read_their_own<R: Threads + Wait + Sync>(rt: &R, alloc: Global, registry: &Registry) -> bool {
     let read = thread::join(
         rt,

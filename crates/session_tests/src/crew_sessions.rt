@@ -36,7 +36,7 @@ const COMPUTE: &[u8] = b"\0\0\0\x02\0\x01\
 const COMPUTED: &[u8] = b"\0\0\0\x02\x80\x01\0\0\0\x04\x82\0\x01\x07\
     \0\0\0\x19\x87\0\0\0\0\0\0\0\x01\0\0\0\0\0\0\0\0\0\0\0\0\0\0\0\0";
 
-/// The next crew: the last of the passes, and the two before it as its team; none where passes or memory are wanting.
+/// Takes the next crew: the last of the passes, and the two before it as its team; none if passes or memory are wanting.
 fn crew(map: &StripedMap, passes: &mut Vec<Pass>, worker: u32) -> Option<Crew>
     requires { All (λ pass. pass.map ≡ map.now) passes.old.items }
     ensures passes { All (λ pass. pass.map ≡ map.now) passes.new.items }
@@ -59,7 +59,7 @@ fn crew(map: &StripedMap, passes: &mut Vec<Pass>, worker: u32) -> Option<Crew>
     Some(Crew { worker, pass, team })
 }
 
-/// The last of the passes.
+/// Takes the last of the passes.
 fn last_pass(map: &StripedMap, mut passes: Vec<Pass>) -> Option<Pass>
     requires { All (λ pass. pass.map ≡ map.now) passes.items }
     ensures { IfSome result (λ pass. pass.map ≡ map.now) }
@@ -72,7 +72,7 @@ fn last_pass(map: &StripedMap, mut passes: Vec<Pass>) -> Option<Pass>
     Some(pass)
 }
 
-/// A map, two crews, with the workers 0 and 1, and one more pass; none where memory was refused.
+/// Opens a map with two crews, of the workers 0 and 1, and one more pass; none if memory was refused.
 fn crews_and_pass(alloc: Global) -> Option<(StripedMap, Crew, Crew, Pass)>
     ensures one { IfSome result (λ r. IsCrewOf r.0 r.1) }
     ensures other { IfSome result (λ r. IsCrewOf r.0 r.2) }
@@ -85,7 +85,7 @@ fn crews_and_pass(alloc: Global) -> Option<(StripedMap, Crew, Crew, Pass)>
     Some((map, one, other, pass))
 }
 
-/// The same without the pass.
+/// Opens the same without the pass.
 fn two_crews(alloc: Global) -> Option<(StripedMap, Crew, Crew)>
     ensures one { IfSome result (λ r. IsCrewOf r.0 r.1) }
     ensures other { IfSome result (λ r. IsCrewOf r.0 r.2) }
@@ -101,7 +101,7 @@ struct Sent {
     size: usize,
 }
 
-/// What a session of the crew comes to.
+/// Runs a session of the crew; how it ended, and what was answered.
 fn served<H: AllocGlobal + Threads + Wait + Sync>(
     rt: &H,
     map: &StripedMap,

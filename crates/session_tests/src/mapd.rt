@@ -17,7 +17,7 @@ struct Outcome {
     errors: Vec<u8>,
 }
 
-/// One call, with this room in standard output.
+/// Makes one call, with this room in standard output.
 fn call<R: AllocGlobal + Threads + Wait + Net<Listener = TcpListener, Stream = TcpStream> + Sync>(
     rt: &R,
     words: &[&str],
@@ -37,7 +37,7 @@ fn call<R: AllocGlobal + Threads + Wait + Net<Listener = TcpListener, Stream = T
 /// The address that rows listen on.
 const ANY_PORT: &str = "127.0.0.1:0";
 
-/// The words on this address, but for the sessions.
+/// Makes the words for this address, these numbers of stripes, workers and passes of a team, and so many sessions.
 fn asked(
     alloc: Global,
     listen: &str,
@@ -127,7 +127,7 @@ fn help_and_version_are_shown(rt: HostRuntime) {
     }
 }
 
-/// A call for a map of these sizes, with a team of 2 and no address to listen on.
+/// Calls for a map of these sizes, with a team of 2 and no address to listen on.
 fn call_of_sizes<
     R: AllocGlobal + Threads + Wait + Net<Listener = TcpListener, Stream = TcpStream> + Sync,
 >(rt: &R, stripes: &str, workers: &str) -> Outcome {

@@ -113,7 +113,7 @@ fn walk<R: AllocGlobal + Threads + Wait + Sync, G: Gate + Sync>(
     }
 }
 
-/// The number that these bytes spell, where there are eight.
+/// Returns the number that these bytes spell, where there are eight.
 fn number_of(bytes: &[u8]) -> Option<u64> {
     match bytes {
         [a, b, c, d, e, f, g, h] => Some(u64::from_le_bytes([*a, *b, *c, *d, *e, *f, *g, *h])),

@@ -86,8 +86,10 @@ pub(super) const COMPUTING: [Row; 18] = [
 
 /// What rows are tried on: a whole table, or bins of either kind alone.
 pub(super) trait Tried: Sized {
+    /// Opens it without an entry.
     fn opened(alloc: Global) -> Result<Self, Fail>;
 
+    /// Makes a call on it.
     fn made(&mut self, call: &Call) -> Result<Reply, NoMemory>;
 }
 
@@ -233,7 +235,7 @@ impl Computing {
         Ok(Computing { key, program, arg })
     }
 
-    /// The call.
+    /// Returns the call.
     fn call(&self) -> Call<'_> {
         let arg = self.arg.as_ref();
         Call::Compute {

@@ -44,7 +44,7 @@ fn reply_in_one_run(alloc: Global, stripes: u64, calls: &[Call<'_>]) -> Result<b
     Ok(are_wanted(&replies))
 }
 
-/// What the calls lend.
+/// Makes what the calls lend.
 fn lenders(alloc: Global) -> Result<Vec<Lender>, Fail> {
     let mut lenders = Vec::new(alloc);
     for (name, method, _) in CALLS {

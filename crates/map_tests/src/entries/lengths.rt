@@ -6,7 +6,7 @@ const KEY_LENGTHS: [usize; 4] = [0, 18, 19, 64];
 
 const VALUE_LENGTHS: [usize; 6] = [0, 18, 19, 64, 65, 1_024];
 
-/// A value of so many bytes.
+/// Makes a value of so many bytes.
 fn value_of(byte: u8, length: usize) -> Result<Value, Fail> {
     let bytes = [byte; 1_024];
     Ok(Value::from_slice(bytes.get(..length).unwrap_or(&[]))?)

@@ -12,7 +12,7 @@ struct MadeUp {
 }
 
 impl MadeUp {
-    /// The next number below a bound.
+    /// Returns the next number below a bound.
     fn below(&mut self, bound: u32) -> u32
         requires { 0 < bound }
         ensures { result < bound }
@@ -25,7 +25,7 @@ impl MadeUp {
     }
 }
 
-/// The value after a change: 17 bytes longer, and short again after 80.
+/// Returns the value after a change: 17 bytes longer, and short again after 80.
 fn changed(old: &Value) -> Result<Value, Fail> {
     let bytes = [7; 80];
     let long = (old.as_slice().len() + 17) % 81;
@@ -82,7 +82,7 @@ fn step<B: Bins>(
     }
 }
 
-/// The entries that the list has, in key order.
+/// Returns the entries that the list has, in key order.
 fn listed(alloc: Global, list: &[Option<Value>]) -> Result<Vec<(Key, Value)>, Fail> {
     let mut entries = Vec::new(alloc);
     for (number, value) in (0..KEYS).zip(list) {

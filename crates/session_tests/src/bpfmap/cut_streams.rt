@@ -18,7 +18,7 @@ const GET: &[u8] = b"\0\0\0\x02\0\x01\0\0\0\x03\x10\x01a";
 
 const GET_ANSWERED: &[u8] = b"\0\0\0\x02\x80\x01\0\0\0\x05\x82\0\x02xy";
 
-/// How many bytes are answered to so many of the session's bytes, and the status.
+/// Tells how many bytes are answered to so many of the session's bytes, and the status.
 fn answered_to(cut: usize) -> (usize, u8) {
     match cut {
         0 => (0, 0),

@@ -7,6 +7,7 @@ use std::sync::Wait;
 
 const NOTHING: &[u8] = b"b7 00 00 00 ff ff ff ff 95 00 00 00 00 00 00 00";
 
+/// Makes an input of these bytes, in pieces of at most this size.
 fn pieces(rest: &[u8], size: usize, fails: bool) -> Pieces<'_> {
     Pieces { rest, size, fails }
 }

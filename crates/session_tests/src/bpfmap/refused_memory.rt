@@ -102,7 +102,7 @@ const ROWS: [Row; 3] = [
     },
 ];
 
-/// An empty table, asked for once more where memory was refused.
+/// Opens an empty table, once more if memory was refused.
 fn opened(alloc: Global) -> Result<Alone, OpenFault> {
     match Alone::open(alloc, 4) {
         Err(OpenFault::NoMemory) => Alone::open(alloc, 4),
@@ -113,7 +113,7 @@ fn opened(alloc: Global) -> Result<Alone, OpenFault> {
 /// The end of a session, and what was answered.
 type Ended = (SessionEnd, ArrayVec<u8, KEPT_BYTES>);
 
-/// One session, which reads a Hello and these frames in pieces of at most this size.
+/// Runs one session, which reads a Hello and these frames in pieces of at most this size.
 fn session(rt: &impl Wait, alloc: Global, alone: &mut Alone, frames: &[u8], size: usize) -> Ended {
     let mut sent = ArrayVec::<u8, KEPT_BYTES>::new();
     let _ = sent.try_extend_from_slice(HELLO);
@@ -130,7 +130,7 @@ fn session(rt: &impl Wait, alloc: Global, alone: &mut Alone, frames: &[u8], size
     (end, writer.into_inner().bytes)
 }
 
-/// The bytes are a welcome, these answers, and then the last.
+/// Tells whether the bytes are a welcome, these answers, and then the last.
 fn are(bytes: &[u8], answers: &[&[u8]], last: &[u8]) -> bool {
     let mut wanted = ArrayVec::<u8, KEPT_BYTES>::new();
     let _ = wanted.try_extend_from_slice(WELCOME);
@@ -141,7 +141,7 @@ fn are(bytes: &[u8], answers: &[&[u8]], last: &[u8]) -> bool {
     bytes == wanted.as_slice()
 }
 
-/// A closed session answered as with ample memory, or refused one request; one that memory ended answered the first of them.
+/// Tells whether a closed session answered as with ample memory, or refused one request, and one that memory ended the first of them.
 fn is_answered(row: &Row, ended: &Ended) -> bool {
     let bytes = ended.1.as_slice();
     match ended.0 {
@@ -169,7 +169,7 @@ fn a_refused_request_is_told(rt: HostRuntime) -> Result<(), Fail> {
     Ok(())
 }
 
-/// What a session with a Get is answered, and another one if memory ended it.
+/// Returns what a session with a Get is answered, or another one if memory ended it.
 fn got(rt: &impl Wait, alloc: Global, alone: &mut Alone, size: usize) -> ArrayVec<u8, KEPT_BYTES> {
     let (end, answered) = session(rt, alloc, alone, GET, size);
     if end == SessionEnd::NoMemory {

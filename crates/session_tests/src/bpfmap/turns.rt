@@ -99,7 +99,7 @@ const CLOSED: [Turn; 4] = [HELLO_TURN, PUTS, GET, GET];
 
 const REFUSED: [Turn; 3] = [HELLO_TURN, GET_OF_NOTHING, UNKNOWN];
 
-/// The end of a session over these turns, in pieces of at most this size, and what its sink was left with.
+/// Runs a session over these turns, in pieces of at most this size; how it ended, and what its sink was left with.
 fn session<'a, R: Wait>(
     rt: &R,
     alloc: Global,

@@ -31,7 +31,7 @@ const VALUE: &[u8] = b"\0\0\0\x0B\x82\0\x08";
 
 const MERGES: u32 = 100;
 
-/// A client that registers the sum and merges 1 so many times; whether each answer was a value.
+/// Registers the sum as a client does, and merges 1 so many times; whether each answer was a value.
 fn merge_by_ones<H: Net<Listener = TcpListener, Stream = TcpStream>>(
     rt: &H,
     address: &str,
@@ -53,7 +53,7 @@ fn merge_by_ones<H: Net<Listener = TcpListener, Stream = TcpStream>>(
     Ok(true)
 }
 
-/// Two clients at once; whether each answer was a value.
+/// Runs two clients at once; whether each answer was a value.
 fn merge_twice<H: Threads + Net<Listener = TcpListener, Stream = TcpStream> + Sync>(
     rt: &H,
     address: &str,
@@ -66,7 +66,7 @@ fn merge_twice<H: Threads + Net<Listener = TcpListener, Stream = TcpStream> + Sy
     Ok(one? && other?)
 }
 
-/// What the clients' answers were, and the crews, once both were served.
+/// Serves both clients; the crews, and whether the clients had the right answers.
 fn serve_beside<
     H: AllocGlobal + Threads + Wait + Net<Listener = TcpListener, Stream = TcpStream> + Sync,
     A: Accept<TcpReader, TcpWriter> + Sync,
@@ -92,7 +92,7 @@ fn serve_beside<
     )
 }
 
-/// The passes of the last two crews, joined.
+/// Joins the passes of the last two crews.
 fn joined_pass(map: &StripedMap, mut crews: Vec<Crew>) -> Option<Pass>
     requires { All (λ crew. IsCrewOf map.now crew) crews.items }
     ensures { IfSome result (λ pass. pass.map ≡ map.now) }
@@ -106,7 +106,7 @@ fn joined_pass(map: &StripedMap, mut crews: Vec<Crew>) -> Option<Pass>
     Some(join_sessions(map, one.pass, other.pass))
 }
 
-/// The crews serve two clients, who merge; whether each answer was a value, and the crews' passes find the sum when they are joined.
+/// Serves two clients, who merge; whether each answer was a value, and the crews' passes find the sum when they are joined.
 fn serve_two<
     H: AllocGlobal + Threads + Wait + Net<Listener = TcpListener, Stream = TcpStream> + Sync,
     A: Accept<TcpReader, TcpWriter> + Sync,
@@ -141,7 +141,7 @@ fn is_sum<H: Wait>(rt: &H, map: &StripedMap, mut pass: Pass) -> bool
     }
 }
 
-/// A listener on a port that is free, and its address.
+/// Listens on a port that is free; the listener and its address.
 fn listening<H: AllocGlobal + Net<Listener = TcpListener, Stream = TcpStream>>(
     rt: &H,
 ) -> io::Result<(TcpListener, String)> {

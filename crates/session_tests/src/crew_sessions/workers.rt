@@ -102,6 +102,7 @@ struct Calls {
 }
 
 impl Calls {
+    /// Makes the calls, none of them made yet.
     fn new(most: u64) -> Calls {
         Calls {
             most,
@@ -165,6 +166,7 @@ struct Told {
 }
 
 impl Told {
+    /// Makes what is told before anything was done.
     fn new(alloc: Global, most: u64) -> Told {
         Told {
             clients: Clients {
@@ -180,7 +182,7 @@ impl Told {
         }
     }
 
-    /// How many clients had the right answers, which workers came to the gate, how many of them did not meet there, and whether
+    /// Tells how many clients had the right answers, which workers came to the gate, how many of them did not meet there, and whether
     /// the calls were late.
     fn found(&self) -> [u64; 4] {
         [
@@ -216,7 +218,7 @@ fn serve_both<R: AllocGlobal + Threads + Wait + Sync>(
     back
 }
 
-/// Both at once, each in a thread of its own.
+/// Runs both at once, each in a thread of its own.
 fn serve_beside<R: AllocGlobal + Threads + Wait + Sync>(
     rt: &R,
     map: &StripedMap,
@@ -262,7 +264,7 @@ fn has_number<R: Wait>(rt: &R, map: &StripedMap, mut pass: Pass, number: u64) ->
     }
 }
 
-/// The two sessions beside so many calls at most.
+/// Runs the two sessions beside so many calls at most.
 fn meet_beside<R: AllocGlobal + Threads + Wait + Abort + Sync>(
     rt: &R,
     most: u64,

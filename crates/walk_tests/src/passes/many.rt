@@ -15,6 +15,7 @@ struct Shut {
 }
 
 impl Shut {
+    /// Makes a gate that is shut.
     fn new() -> Shut {
         Shut {
             come: AtomicU64::new(0),
@@ -60,7 +61,7 @@ fn hold<R: Wait>(rt: &R, map: &StripedMap, mut pass: Pass, program: &Verified, g
     }
 }
 
-/// While stripe 0 is held: whether a call on the key of stripe 1 is made, and one on the key of stripe 0 refused as busy.
+/// Tells, while stripe 0 is held, whether a call on the key of stripe 1 is made, and one on the key of stripe 0 refused as busy.
 /// Then the gate opens.
 fn beside(map: &StripedMap, mut pass: Pass, gate: &Shut) -> (bool, bool)
     requires { pass.map ≡ map.now }
@@ -76,7 +77,7 @@ fn beside(map: &StripedMap, mut pass: Pass, gate: &Shut) -> (bool, bool)
     (came && apart, busy)
 }
 
-/// Both at once, each in a thread of its own.
+/// Runs both at once, each in a thread of its own.
 fn hold_beside<R: Threads + Wait + Sync>(
     rt: &R,
     map: &StripedMap,
@@ -142,6 +143,7 @@ struct Merging {
 }
 
 impl Merging {
+    /// Makes the merging of no call yet.
     fn new(program: Verified) -> Merging {
         Merging {
             program,
@@ -184,7 +186,7 @@ fn merges<R: Wait>(rt: &R, map: &StripedMap, mut pass: Pass, merging: &Merging, 
     pass
 }
 
-/// Two threads merge, and their passes are joined.
+/// Merges by two threads, and joins their passes.
 fn merged_by_two<R: Threads + Wait + Sync>(
     rt: &R,
     map: &StripedMap,
@@ -236,7 +238,7 @@ fn two_threads_merge_on_one_key(rt: HostRuntime) -> Result<(), Fail> {
     Ok(())
 }
 
-/// Four threads merge, and their passes are joined.
+/// Merges by four threads, and joins their passes.
 fn merged_by_four<R: Threads + Wait + Sync>(
     rt: &R,
     map: &StripedMap,
@@ -262,7 +264,7 @@ fn merged_by_four<R: Threads + Wait + Sync>(
     map.join(one, other)
 }
 
-/// The next two of the map's passes.
+/// Takes the next two of the map's passes.
 fn next_two(map: &StripedMap, passes: &mut Vec<Pass>) -> Result<(Pass, Pass), Fail>
     requires { All (λ pass. pass.map ≡ map.now) passes.old.items }
     ensures two { IfOk result (λ two. (two.0.map ≡ map.now) × (two.1.map ≡ map.now)) }
@@ -276,7 +278,7 @@ fn next_two(map: &StripedMap, passes: &mut Vec<Pass>) -> Result<(Pass, Pass), Fa
 /// A pass for each of eight threads, in two halves of two pairs.
 type Fours = ((Pass, Pass), (Pass, Pass));
 
-/// Eight threads merge, and their passes are joined.
+/// Merges by eight threads, and joins their passes.
 fn merged_by_eight<R: Threads + Wait + Sync>(
     rt: &R,
     map: &StripedMap,

@@ -104,7 +104,7 @@ fn are_made(
     Ok(found.len() == 1 && (counts.scanned, counts.given, counts.unfit) == (1, 1, 0))
 }
 
-/// The same so many times; whether it always was.
+/// Tries the same so many times; whether each was always made.
 fn are_always_made(
     alloc: Global,
     map: &StripedMap,

@@ -24,6 +24,7 @@ struct Meeting {
 }
 
 impl Meeting {
+    /// Makes a meeting at this place.
     fn at(place: Place) -> Meeting {
         Meeting {
             place,
@@ -33,14 +34,14 @@ impl Meeting {
         }
     }
 
-    /// Whether the workers 0 and 1 came, nobody else, each as often as the other; and met.
+    /// Tells whether the workers 0 and 1 came, nobody else, each as often as the other; and met.
     fn was_of_both(&self) -> bool {
         self.come.load(Ordering::SeqCst) == BOTH
             && self.passed.load(Ordering::SeqCst) == 2
             && self.gone_alone.load(Ordering::SeqCst) == 0
     }
 
-    /// The same, and whether their walk replied this.
+    /// Tells the same, and whether their walk replied this.
     fn gave(&self, reply: &Result<WalkReply, NoMemory>, wanted: Wanted) -> bool {
         self.was_of_both() && replied(reply, wanted)
     }
@@ -74,6 +75,7 @@ struct Calls {
 }
 
 impl Calls {
+    /// Makes the calls, none of them made yet.
     fn new(program: Verified, most: u64) -> Calls {
         Calls {
             program,
@@ -160,7 +162,7 @@ fn replace_at<R: AllocGlobal + Threads + Wait + Sync>(
     }
 }
 
-/// A walk of each kind, whose workers meet as they start; else which was not so.
+/// Makes a walk of each kind, whose workers meet as they start; else which was not so.
 fn start_each<R: AllocGlobal + Threads + Wait + Sync>(
     rt: &R,
     map: &StripedMap,
@@ -182,7 +184,7 @@ fn start_each<R: AllocGlobal + Threads + Wait + Sync>(
     replace_at(rt, map, team, program, Place::WalkStart)
 }
 
-/// The walks whose workers meet at the place, once the calls have begun; then the calls are to stop.
+/// Makes the walks whose workers meet at the place, once the calls have begun; then the calls are to stop.
 fn meet<R: AllocGlobal + Threads + Wait + Sync>(
     rt: &R,
     map: &StripedMap,
@@ -201,7 +203,7 @@ fn meet<R: AllocGlobal + Threads + Wait + Sync>(
     walked
 }
 
-/// Both at once, each in a thread of its own.
+/// Runs both at once, each in a thread of its own.
 fn walk_beside<R: AllocGlobal + Threads + Wait + Sync>(
     rt: &R,
     map: &StripedMap,
@@ -226,7 +228,7 @@ fn walk_beside<R: AllocGlobal + Threads + Wait + Sync>(
     )
 }
 
-/// The number at the key `d`.
+/// Returns the number at the key `d`.
 fn number_at_d<R: Wait>(rt: &R, map: &StripedMap, mut pass: Pass) -> Option<u64>
     requires { pass.map ≡ map.now }
 {
@@ -237,7 +239,7 @@ fn number_at_d<R: Wait>(rt: &R, map: &StripedMap, mut pass: Pass) -> Option<u64>
     }
 }
 
-/// A map of two stripes with the three entries and 1 at the key `d`, a pass and a team of two.
+/// Opens a map of two stripes with the three entries and 1 at the key `d`, with a pass and a team of two.
 fn filled_with_d<R: Wait>(rt: &R, alloc: Global) -> Option<(StripedMap, Pass, Team)>
     ensures pass { IfSome result (λ r. r.1.map ≡ r.0) }
     ensures team { IfSome result (λ r. All (λ pass. pass.map ≡ r.0) r.2.passes.items) }
@@ -247,7 +249,7 @@ fn filled_with_d<R: Wait>(rt: &R, alloc: Global) -> Option<(StripedMap, Pass, Te
     Some((map, pass, team))
 }
 
-/// The walks whose workers meet at the place, beside so many calls at most. In the end each call and the one replacement have
+/// Makes the walks whose workers meet at the place, beside so many calls at most. In the end each call and the one replacement have
 /// added 1 to the number at `d`.
 fn meet_beside<R: AllocGlobal + Threads + Wait + Abort + Sync>(
     rt: &R,
