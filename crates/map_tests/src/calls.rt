@@ -41,7 +41,7 @@ enum Method {
 }
 
 impl Method {
-    /// The bytes that it is given.
+    /// Returns the bytes that it is given.
     fn bytes(self) -> (&'static [u8], &'static [u8]) {
         match self {
             Method::Get | Method::Remove => (b"", b""),
@@ -58,6 +58,7 @@ impl Method {
     }
 }
 
+/// Tells whether the reply is the wanted one.
 fn is_wanted(reply: &Reply, wanted: Wanted) -> bool {
     match (reply, wanted) {
         (Reply::Value(None), Wanted::Nothing) => true,
@@ -68,10 +69,12 @@ fn is_wanted(reply: &Reply, wanted: Wanted) -> bool {
     }
 }
 
+/// Makes the key of these bytes.
 fn key(bytes: &[u8]) -> Result<Key, TooLong> {
     Key::from_slice(bytes)
 }
 
+/// Makes the value of these bytes.
 fn value(bytes: &[u8]) -> Result<Value, TooLong> {
     Value::from_slice(bytes)
 }
@@ -85,6 +88,7 @@ struct Programs {
 }
 
 impl Programs {
+    /// Verifies the programs.
     fn new(alloc: Global) -> Result<Programs, Fail> {
         let sum = summing(alloc)?;
         let nothing = verified(alloc, NOTHING, sizes(64, 8, 8, 8))?;
@@ -96,6 +100,7 @@ impl Programs {
         })
     }
 
+    /// Returns one of them.
     fn get(&self, which: Which) -> &Verified {
         match which {
             Which::Sum => &self.sum,
@@ -115,6 +120,7 @@ struct Lender {
 }
 
 impl Lender {
+    /// Makes what a call of the method on this key lends.
     fn new(name: &[u8], method: Method) -> Result<Lender, TooLong> {
         let (first, second) = method.bytes();
         Ok(Lender {
@@ -125,6 +131,7 @@ impl Lender {
         })
     }
 
+    /// Makes the call.
     fn call<'a>(&'a self, programs: &'a Programs) -> Call<'a> {
         let key = &self.key;
         let value = &self.first;

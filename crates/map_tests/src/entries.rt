@@ -1,8 +1,11 @@
 //! Puts, changes, removals and replacements in both bodies of the trait, and what is copied out of them.
 ghost use Rattle.std.specs.Prelude.{◌≤◌, ◌<◌};
 
+use crate::expectations::expect;
 use bins::{Bins, CopyList, EntryColumns, HashedBins, HashedKey, ListBins, SortedColumns, hash_of};
 use bpf_model::{Key, NoMemory, Value};
+use lengths::fit_each_length;
+use replaced::are_replaced;
 use std::alloc::Global;
 use std::test::Fail;
 
@@ -25,7 +28,7 @@ fn put_all<B: Bins>(bins: &mut B, rows: &[(&[u8], &[u8])]) -> Result<(), Fail> {
     Ok(())
 }
 
-/// Whether these are all entries, in this order.
+/// Tells whether these are all entries, in this order.
 fn holds<B: Bins>(bins: &B, alloc: Global, wanted: &[(&[u8], &[u8])]) -> Result<bool, NoMemory> {
     let found = bins.entries(alloc)?;
     let mut same = found.len() == wanted.len();
@@ -35,7 +38,7 @@ fn holds<B: Bins>(bins: &B, alloc: Global, wanted: &[(&[u8], &[u8])]) -> Result<
     Ok(same)
 }
 
-/// Keys that begin one another, put in mixed order, one of them twice.
+/// Puts keys that begin one another in mixed order, one of them twice; whether they then stand in order.
 fn stand_in_order<B: Bins + Drop>(alloc: Global) -> Result<bool, Fail> {
     let mut bins = B::open(alloc, 1)?;
     put_all(
@@ -52,14 +55,7 @@ fn stand_in_order<B: Bins + Drop>(alloc: Global) -> Result<bool, Fail> {
     Ok(holds(&bins, alloc, &wanted)?)
 }
 
-#[test]
-fn keys_that_begin_one_another_stand_in_order(rt: HostRuntime) -> Result<(), Fail> {
-    assert!(rt; stand_in_order::<ListBins>(rt.alloc())?);
-    assert!(rt; stand_in_order::<HashedBins>(rt.alloc())?);
-    Ok(())
-}
-
-/// So many keys of two bytes in mixed order, each with itself as its value.
+/// Puts so many keys of two bytes in mixed order, each with itself as its value.
 fn fill<B: Bins>(bins: &mut B, count: u16) -> Result<(), Fail>
     requires { count ≤ 300 }
 {
@@ -85,7 +81,7 @@ fn remove_all<B: Bins>(bins: &mut B) -> Result<bool, Fail> {
     Ok(there)
 }
 
-/// Whether the entry at each place has that number.
+/// Tells whether the entry at each place has that number.
 fn are_in_order(entries: &[(Key, Value)]) -> bool {
     let mut same = entries.len() == 300;
     for (number, entry) in (0..300u16).zip(entries) {
@@ -94,6 +90,7 @@ fn are_in_order(entries: &[(Key, Value)]) -> bool {
     same
 }
 
+/// Puts 300 keys, scans them, and removes them; whether each was there, and then none.
 fn come_and_go<B: Bins + Drop>(alloc: Global) -> Result<bool, Fail> {
     let mut bins = B::open(alloc, 1)?;
     fill(&mut bins, 300)?;
@@ -101,14 +98,7 @@ fn come_and_go<B: Bins + Drop>(alloc: Global) -> Result<bool, Fail> {
     Ok(in_order && remove_all(&mut bins)? && bins.entries(alloc)?.is_empty())
 }
 
-#[test]
-fn three_hundred_keys_come_and_go(rt: HostRuntime) -> Result<(), Fail> {
-    assert!(rt; come_and_go::<ListBins>(rt.alloc())?);
-    assert!(rt; come_and_go::<HashedBins>(rt.alloc())?);
-    Ok(())
-}
-
-/// 40 keys are put, and every other one of them is removed.
+/// Puts 40 keys, and removes every other one of them; returns the entries that are left.
 fn half_removed<B: Bins + Drop>(alloc: Global) -> Result<Vec<(Key, Value)>, Fail> {
     let mut bins = B::open(alloc, 4)?;
     fill(&mut bins, 40)?;
@@ -123,15 +113,11 @@ fn half_removed<B: Bins + Drop>(alloc: Global) -> Result<Vec<(Key, Value)>, Fail
 fn both_bodies_are_scanned_alike(rt: HostRuntime) -> Result<(), Fail> {
     let listed = half_removed::<ListBins>(rt.alloc())?;
     let hashed = half_removed::<HashedBins>(rt.alloc())?;
-    assert_eq!(rt; listed.len(), 20);
-    assert_eq!(rt; hashed.len(), 20);
-    for (one, other) in listed.iter().zip(&hashed) {
-        assert_eq!(rt; one, other);
-    }
+    assert!(rt; listed.len() == 20 && listed.as_slice() == hashed.as_slice());
     Ok(())
 }
 
-/// Whether the one list has each entry of the other twice, in their order.
+/// Tells whether the one list has each entry of the other twice, in their order.
 fn are_twice(sorted: &SortedColumns, entries: &[(Key, Value)]) -> bool {
     if sorted.len() != 2 * entries.len() {
         return false;
@@ -145,7 +131,7 @@ fn are_twice(sorted: &SortedColumns, entries: &[(Key, Value)]) -> bool {
     true
 }
 
-/// Copies in columns of the entries of bins, twice over, and the entries; one key and one value are long.
+/// Copies the entries of bins twice; whether each is there twice. One key and one value are long.
 fn copied_twice<B: Bins + Drop>(alloc: Global) -> Result<bool, Fail> {
     let mut bins = B::open(alloc, 4)?;
     fill(&mut bins, 40)?;
@@ -157,14 +143,7 @@ fn copied_twice<B: Bins + Drop>(alloc: Global) -> Result<bool, Fail> {
     Ok(are_twice(&sorted, &bins.entries(alloc)?))
 }
 
-#[test]
-fn copies_in_columns_are_the_entries(rt: HostRuntime) -> Result<(), Fail> {
-    assert!(rt; copied_twice::<ListBins>(rt.alloc())?);
-    assert!(rt; copied_twice::<HashedBins>(rt.alloc())?);
-    Ok(())
-}
-
-/// One of 256 keys of eight pairs, each `41 61` or `42 42`: all have one hash.
+/// Makes one of 256 keys of eight pairs, each `41 61` or `42 42`: all have one hash.
 pub(crate) fn key_of_pairs(number: u8) -> Result<Key, Fail> {
     let mut bytes = [0; 16];
     for pair in 0..8usize {
@@ -175,7 +154,7 @@ pub(crate) fn key_of_pairs(number: u8) -> Result<Key, Fail> {
     Ok(Key::from_slice(&bytes)?)
 }
 
-/// One of 256 keys of five bytes: each has a hash of its own, and the lowest 16 bits of them all are 0.
+/// Makes one of 256 keys of five bytes: each has a hash of its own, and the lowest 16 bits of them all are 0.
 fn key_of_bin(number: u8) -> Result<Key, Fail> {
     let begun = hash_of(&Key::from_slice(&[number])?);
     let rest = begun.wrapping_mul(31 * 31 * 31 * 31).wrapping_neg() % 65_536;
@@ -200,7 +179,7 @@ enum Crowd {
 }
 
 impl Crowd {
-    /// The key of a number.
+    /// Returns the key of a number.
     fn key(self, number: u8) -> Result<Key, Fail> {
         match self {
             Crowd::Apart => Ok(Key::from_slice(&[number])?),
@@ -209,7 +188,7 @@ impl Crowd {
         }
     }
 
-    /// Whether the hashes of two keys are so alike.
+    /// Tells whether the hashes of two keys are so alike.
     fn is_of(self, one: &Key, other: &Key) -> bool {
         let one = hash_of(one);
         let other = hash_of(other);
@@ -246,7 +225,7 @@ fn remove_thirds<B: Bins>(bins: &mut B, crowd: Crowd) -> Result<bool, Fail> {
     Ok(there)
 }
 
-/// Whether a key has this value.
+/// Tells whether a key has this value.
 fn has<B: Bins>(bins: &B, key: &Key, number: u8) -> bool {
     bins.find(&HashedKey::new(key)) == Some([number].as_slice())
 }
@@ -263,27 +242,40 @@ fn stand_apart<B: Bins + Drop>(alloc: Global, crowd: Crowd) -> Result<bool, Fail
     Ok(apart && bins.count() == 333)
 }
 
-#[test]
-fn keys_of_one_hash_stand_apart(rt: HostRuntime) -> Result<(), Fail> {
-    assert!(rt; stand_apart::<ListBins>(rt.alloc(), Crowd::OneHash)?);
-    assert!(rt; stand_apart::<HashedBins>(rt.alloc(), Crowd::OneHash)?);
+/// Tries each thing that bins of either kind are to do.
+fn try_each<B: Bins + Drop>(alloc: Global) -> Result<(), Fail> {
+    expect(stand_in_order::<B>(alloc)?, "keys that begin one another")?;
+    expect(come_and_go::<B>(alloc)?, "three hundred keys")?;
+    expect(copied_twice::<B>(alloc)?, "copies in columns")?;
+    expect(stand_apart::<B>(alloc, Crowd::OneHash)?, "keys of one hash")?;
+    expect(stand_apart::<B>(alloc, Crowd::OneBin)?, "keys of one bin")?;
+    expect(fit_each_length::<B>(alloc)?, "values of each length")?;
+    expect(are_replaced::<B>(alloc)?, "replacements")?;
     Ok(())
 }
 
 #[test]
-fn keys_of_one_bin_stand_apart(rt: HostRuntime) -> Result<(), Fail> {
-    assert!(rt; stand_apart::<ListBins>(rt.alloc(), Crowd::OneBin)?);
-    assert!(rt; stand_apart::<HashedBins>(rt.alloc(), Crowd::OneBin)?);
-    Ok(())
+fn bins_in_a_list_do_as_wanted(rt: HostRuntime) -> Result<(), Fail> {
+    try_each::<ListBins>(rt.alloc())
+}
+
+#[test]
+fn hashed_bins_do_as_wanted(rt: HostRuntime) -> Result<(), Fail> {
+    try_each::<HashedBins>(rt.alloc())
+}
+
+/// Tells whether bins say for how many stripes they are, empty and with keys of one hash.
+fn say_for_how_many(alloc: Global, stripes: u64) -> Result<bool, Fail> {
+    let mut bins = HashedBins::open(alloc, stripes)?;
+    let before = bins.stripes() == stripes;
+    let put = put_crowd(&mut bins, Crowd::OneHash)?;
+    Ok(before && put && bins.stripes() == stripes)
 }
 
 #[test]
 fn bins_say_for_how_many_stripes_they_are(rt: HostRuntime) -> Result<(), Fail> {
     for stripes in [1, 4, 64] {
-        let mut bins = HashedBins::open(rt.alloc(), stripes)?;
-        assert_eq!(rt; bins.stripes(), stripes);
-        assert!(rt; put_crowd(&mut bins, Crowd::OneHash)?);
-        assert_eq!(rt; bins.stripes(), stripes);
+        assert!(rt; say_for_how_many(rt.alloc(), stripes)?, "{stripes}");
     }
     Ok(())
 }
@@ -300,12 +292,12 @@ fn hashes_are_as_in_java(rt: HostRuntime) -> Result<(), Fail> {
         (b"AaAaAaAaAa".as_slice(), 2_839_690_241),
         (b"BBBBBBBBBB".as_slice(), 2_839_690_241),
     ] {
-        assert_eq!(rt; hash_of(&Key::from_slice(name)?), hash);
+        assert!(rt; hash_of(&Key::from_slice(name)?) == hash, "{hash}");
     }
     Ok(())
 }
 
-/// How many bins so many entries have.
+/// Tells how many bins so many entries have.
 fn wanted_bins(entries: u8) -> u64 {
     match entries {
         0..=16 => 8,
@@ -324,25 +316,22 @@ fn double_in_time(bins: &mut HashedBins, key: &Key, number: u8) -> Result<bool, 
     Ok(before == wanted_bins(number) && bins.bins() == wanted_bins(number + 1))
 }
 
+/// Puts 40 keys of a crowd; whether the bins doubled with the keys that crowded them.
+fn double_with(alloc: Global, stripes: u64, crowd: Crowd) -> Result<bool, Fail> {
+    let mut bins = HashedBins::open(alloc, stripes)?;
+    let mut right = true;
+    for number in 0..40u8 {
+        right &= double_in_time(&mut bins, &crowd.key(number)?, number)?;
+    }
+    Ok(right)
+}
+
 #[test]
 fn bins_double_with_the_key_that_crowds_them(rt: HostRuntime) -> Result<(), Fail> {
     for stripes in [1, 4, 64] {
-        let mut bins = HashedBins::open(rt.alloc(), stripes)?;
-        for number in 0..40u8 {
-            let key = Key::from_slice(&[number])?;
-            assert!(rt;
-                double_in_time(&mut bins, &key, number)?,
-                "of {stripes}, {number}"
-            );
-        }
-        let mut bins = HashedBins::open(rt.alloc(), stripes)?;
-        for number in 0..40u8 {
-            let key = key_of_pairs(number)?;
-            assert!(rt;
-                double_in_time(&mut bins, &key, number)?,
-                "of {stripes}, {number} of one hash"
-            );
-        }
+        let apart = double_with(rt.alloc(), stripes, Crowd::Apart)?;
+        let together = double_with(rt.alloc(), stripes, Crowd::OneHash)?;
+        assert!(rt; apart && together, "{stripes}: {apart}, {together}");
     }
     Ok(())
 }
@@ -366,7 +355,7 @@ fn put_twice<B: Bins>(bins: &mut B, key: &Key) -> Result<bool, Fail> {
     Ok(absent)
 }
 
-/// Whether the first keys of a crowd are there, and not the next.
+/// Tells whether the first keys of a crowd are there, and not the next.
 fn has_first<B: Bins>(bins: &B, crowd: Crowd, count: u8) -> Result<bool, Fail> {
     let mut there = true;
     for number in 0..count {
@@ -377,13 +366,20 @@ fn has_first<B: Bins>(bins: &B, crowd: Crowd, count: u8) -> Result<bool, Fail> {
     Ok(there && bins.find(&HashedKey::new(&next)).is_none())
 }
 
+/// Puts a key of a crowd, and once more where that was refused; whether it was then not there, and the first keys now are.
+fn enters<B: Bins>(bins: &mut B, crowd: Crowd, number: u8) -> Result<bool, Fail>
+    requires { number < 255 }
+{
+    let absent = put_twice(bins, &crowd.key(number)?)?;
+    Ok(absent && has_first(bins, crowd, number + 1)?)
+}
+
 /// Also where one request for memory is refused: that put leaves the entries, and the next one enters.
 #[test]
 fn a_refused_put_leaves_the_list(rt: HostRuntime) -> Result<(), Fail> {
     let mut bins = opened::<ListBins>(rt.alloc())?;
     for number in 0..40u8 {
-        assert!(rt; put_twice(&mut bins, &Crowd::Apart.key(number)?)?);
-        assert!(rt; has_first(&bins, Crowd::Apart, number + 1)?);
+        assert!(rt; enters(&mut bins, Crowd::Apart, number)?);
     }
     Ok(())
 }
@@ -393,16 +389,14 @@ fn a_refused_put_leaves_the_list(rt: HostRuntime) -> Result<(), Fail> {
 #[test]
 fn a_refused_put_leaves_the_bins(rt: HostRuntime) -> Result<(), Fail> {
     let mut bins = opened::<HashedBins>(rt.alloc())?;
-    let mut late = false;
+    let mut late = 0u64;
     for number in 0..70u8 {
-        assert!(rt; put_twice(&mut bins, &Crowd::Apart.key(number)?)?);
-        assert!(rt; has_first(&bins, Crowd::Apart, number + 1)?);
+        assert!(rt; enters(&mut bins, Crowd::Apart, number)?);
         if bins.bins() != wanted_bins(number + 1) {
-            assert!(rt; !late);
-            late = true;
+            late = late.wrapping_add(1);
         }
     }
-    assert_eq!(rt; bins.bins(), 64);
+    assert!(rt; late <= 1 && bins.bins() == 64);
     Ok(())
 }
 
@@ -411,8 +405,7 @@ fn a_refused_put_leaves_the_bins(rt: HostRuntime) -> Result<(), Fail> {
 fn a_refused_put_leaves_the_tree(rt: HostRuntime) -> Result<(), Fail> {
     let mut bins = opened::<HashedBins>(rt.alloc())?;
     for number in 0..70u8 {
-        assert!(rt; put_twice(&mut bins, &key_of_bin(number)?)?);
-        assert!(rt; has_first(&bins, Crowd::OneBin, number + 1)?);
+        assert!(rt; enters(&mut bins, Crowd::OneBin, number)?);
     }
     Ok(())
 }

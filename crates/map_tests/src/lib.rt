@@ -1,10 +1,11 @@
-//! Tests of the map: its entries, its calls and its registry; and the programs that these and walk_tests call.
+//! Tests of the map: its entries, its calls and its registry; and the programs that these and walk_tests call, and how they fail.
 #![tactic(auto)]
 
 #[cfg(test)]
 mod calls;
 #[cfg(test)]
 mod entries;
+pub mod expectations;
 pub mod programs;
 #[cfg(test)]
 mod registry;

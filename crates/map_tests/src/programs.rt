@@ -22,6 +22,7 @@ pub const SUM: &str =
 /// Answers nothing.
 pub const NOTHING: &str = "mov64 r0, -1\nexit\n";
 
+/// Makes the declared sizes.
 pub const fn sizes(key: u16, old: u16, arg: u16, most: u16) -> Sizes {
     Sizes {
         key,
@@ -31,23 +32,23 @@ pub const fn sizes(key: u16, old: u16, arg: u16, most: u16) -> Sizes {
     }
 }
 
-/// The program of a text, for inputs and answers of these sizes; none where memory was refused.
+/// Verifies the program of a text, for inputs and answers of these sizes; none if memory was refused.
 pub fn accepted(alloc: Global, text: &str, sizes: Sizes) -> Option<Verified> {
     let program = assemble(alloc, text).ok()?;
     verify(alloc, shape(program).ok()?, sizes).ok()
 }
 
-/// As `accepted`, with `NoMemory` for none.
+/// Verifies the program as `accepted` does, with `NoMemory` for none.
 pub fn verified(alloc: Global, text: &str, sizes: Sizes) -> Result<Verified, NoMemory> {
     accepted(alloc, text, sizes).ok_or(NoMemory)
 }
 
-/// The sum of values of 8 bytes; none where memory was refused.
+/// Verifies the sum of values of 8 bytes; none if memory was refused.
 pub fn summed(alloc: Global) -> Option<Verified> {
     accepted(alloc, SUM, sizes(64, 8, 8, 8))
 }
 
-/// As `summed`, with `NoMemory` for none.
+/// Verifies the sum as `summed` does, with `NoMemory` for none.
 pub fn summing(alloc: Global) -> Result<Verified, NoMemory> {
     summed(alloc).ok_or(NoMemory)
 }

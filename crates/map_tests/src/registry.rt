@@ -9,12 +9,12 @@ use std::thread;
 use std::thread::Threads;
 use verifier::Verified;
 
-/// A program that answers nothing, told apart by its declared size of the key.
+/// Makes a program that answers nothing, told apart by its declared size of the key.
 fn program_of(alloc: Global, key: u16) -> Option<Verified> {
     accepted(alloc, NOTHING, sizes(key, 0, 0, 0))
 }
 
-/// The declared size of the key, of the program under this number, which `get` and `find` lend.
+/// Returns the declared size of the key, of the program under this number, which `get` and `find` lend.
 fn key_size(registry: &Registry, number: u64) -> Option<u16> {
     let key = registry.get(number)?.sizes().key;
     let (token, program) = registry.find(number)?;
@@ -25,18 +25,24 @@ fn key_size(registry: &Registry, number: u64) -> Option<u16> {
     }
 }
 
+/// Registers a program; whether it gets this number, and its token leads to it.
+fn is_registered<R: Wait>(rt: &R, alloc: Global, registry: &Registry, number: u16) -> Option<bool> {
+    let program = program_of(alloc, number)?;
+    let token = registry.register(rt, program).ok()?;
+    registry.agrees(&token, &token);
+    let key = registry.get_by(&token).sizes().key;
+    Some(token.number() == u64::from(number) && key == number)
+}
+
 #[test]
 fn numbers_count_from_0(rt: HostRuntime) -> Result<(), Fail> {
     let registry = Registry::new(rt.alloc())?;
     for number in 0..2 {
-        let program = program_of(rt.alloc(), number).ok_or("no program")?;
-        let token = registry.register(&rt, program).ok().ok_or("refused")?;
-        assert_eq!(rt; token.number(), u64::from(number));
-        assert_eq!(rt; registry.get_by(&token).sizes().key, number);
-        registry.agrees(&token, &token);
+        let registered = is_registered(&rt, rt.alloc(), &registry, number);
+        assert!(rt; registered == Some(true), "{number}");
     }
     for (number, wanted) in [(0, Some(0)), (1, Some(1)), (2, None), (u64::MAX, None)] {
-        assert_eq!(rt; key_size(&registry, number), wanted, "at {number}");
+        assert!(rt; key_size(&registry, number) == wanted, "at {number}");
     }
     Ok(())
 }
@@ -53,26 +59,47 @@ fn reads_its_own<R: Wait>(rt: &R, alloc: Global, registry: &Registry, first: u16
     Some(right)
 }
 
+/// Has two threads register and read their programs; whether each read its own.
+fn read_their_own<R: Threads + Wait + Sync>(rt: &R, alloc: Global, registry: &Registry) -> bool {
+    let read = thread::join(
+        rt,
+        || reads_its_own(rt, alloc, registry, 0),
+        || reads_its_own(rt, alloc, registry, 32),
+    );
+    read == (Some(true), Some(true))
+}
+
 #[test]
 fn two_threads_read_by_their_tokens(rt: HostRuntime) -> Result<(), Fail> {
     let registry = Registry::new(rt.alloc())?;
-    let alloc = rt.alloc();
-    let read = thread::join(
-        &rt,
-        || reads_its_own(&rt, alloc, &registry, 0),
-        || reads_its_own(&rt, alloc, &registry, 32),
-    );
-    assert_eq!(rt; read, (Some(true), Some(true)));
-    assert!(rt; registry.get(19).is_some());
-    assert!(rt; registry.get(20).is_none());
+    assert!(rt; read_their_own(&rt, rt.alloc(), &registry));
+    assert!(rt; registry.get(19).is_some() && registry.get(20).is_none());
     Ok(())
 }
 
-/// A registry, made once more where memory was refused.
+/// Makes a registry, once more if memory was refused.
 fn made(alloc: Global) -> Result<Registry, NoMemory> {
     match Registry::new(alloc) {
         Err(NoMemory) => Registry::new(alloc),
         result => result,
+    }
+}
+
+/// Makes the program, once more if memory was refused.
+fn program_again(alloc: Global, key: u16) -> Option<Verified> {
+    match program_of(alloc, key) {
+        Some(program) => Some(program),
+        None => program_of(alloc, key),
+    }
+}
+
+/// Registers a program of this size of the key, once more if it came back; whether that was the one.
+fn comes_back<R: Wait>(rt: &R, registry: &Registry, program: Verified, key: u16) -> bool {
+    match registry.register(rt, program) {
+        Ok(_) => true,
+        Err((NoMemory, program)) => {
+            program.sizes().key == key && registry.register(rt, program).is_ok()
+        }
     }
 }
 
@@ -81,15 +108,9 @@ fn made(alloc: Global) -> Result<Registry, NoMemory> {
 fn a_refused_program_comes_back(rt: HostRuntime) -> Result<(), Fail> {
     let registry = made(rt.alloc())?;
     for key in 0..40 {
-        let program = match program_of(rt.alloc(), key) {
-            Some(program) => program,
-            None => program_of(rt.alloc(), key).ok_or("no program")?,
-        };
-        if let Err((NoMemory, program)) = registry.register(&rt, program) {
-            assert_eq!(rt; program.sizes().key, key);
-            assert!(rt; registry.register(&rt, program).is_ok());
-        }
-        assert_eq!(rt; key_size(&registry, u64::from(key)), Some(key));
+        let program = program_again(rt.alloc(), key).ok_or("no program")?;
+        assert!(rt; comes_back(&rt, &registry, program, key));
+        assert!(rt; key_size(&registry, u64::from(key)) == Some(key));
     }
     Ok(())
 }

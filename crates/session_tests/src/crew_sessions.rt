@@ -36,7 +36,7 @@ const COMPUTE: &[u8] = b"\0\0\0\x02\0\x01\
 const COMPUTED: &[u8] = b"\0\0\0\x02\x80\x01\0\0\0\x04\x82\0\x01\x07\
     \0\0\0\x19\x87\0\0\0\0\0\0\0\x01\0\0\0\0\0\0\0\0\0\0\0\0\0\0\0\0";
 
-/// The next crew: the last of the passes, and the two before it as its team; none where passes or memory are wanting.
+/// Takes the next crew: the last of the passes, and the two before it as its team; none if passes or memory are wanting.
 fn crew(map: &StripedMap, passes: &mut Vec<Pass>, worker: u32) -> Option<Crew>
     requires { All (λ pass. pass.map ≡ map.now) passes.old.items }
     ensures passes { All (λ pass. pass.map ≡ map.now) passes.new.items }
@@ -59,7 +59,7 @@ fn crew(map: &StripedMap, passes: &mut Vec<Pass>, worker: u32) -> Option<Crew>
     Some(Crew { worker, pass, team })
 }
 
-/// The last of the passes.
+/// Takes the last of the passes.
 fn last_pass(map: &StripedMap, mut passes: Vec<Pass>) -> Option<Pass>
     requires { All (λ pass. pass.map ≡ map.now) passes.items }
     ensures { IfSome result (λ pass. pass.map ≡ map.now) }
@@ -72,7 +72,7 @@ fn last_pass(map: &StripedMap, mut passes: Vec<Pass>) -> Option<Pass>
     Some(pass)
 }
 
-/// A map, two crews, with the workers 0 and 1, and one more pass; none where memory was refused.
+/// Opens a map with two crews, of the workers 0 and 1, and one more pass; none if memory was refused.
 fn crews_and_pass(alloc: Global) -> Option<(StripedMap, Crew, Crew, Pass)>
     ensures one { IfSome result (λ r. IsCrewOf r.0 r.1) }
     ensures other { IfSome result (λ r. IsCrewOf r.0 r.2) }
@@ -85,7 +85,7 @@ fn crews_and_pass(alloc: Global) -> Option<(StripedMap, Crew, Crew, Pass)>
     Some((map, one, other, pass))
 }
 
-/// The same without the pass.
+/// Opens the same without the pass.
 fn two_crews(alloc: Global) -> Option<(StripedMap, Crew, Crew)>
     ensures one { IfSome result (λ r. IsCrewOf r.0 r.1) }
     ensures other { IfSome result (λ r. IsCrewOf r.0 r.2) }
@@ -94,26 +94,31 @@ fn two_crews(alloc: Global) -> Option<(StripedMap, Crew, Crew)>
     Some((map, one, other))
 }
 
-/// What a session of the crew comes to that is sent these bytes in pieces of at most this size.
-fn served<H: Threads + Wait + Sync>(
+/// A session's bytes, which are sent in pieces of at most this size.
+#[derive(Clone, Copy)]
+struct Sent {
+    bytes: &'static [u8],
+    size: usize,
+}
+
+/// Runs a session of the crew; how it ended, and what was answered.
+fn served<H: AllocGlobal + Threads + Wait + Sync>(
     rt: &H,
-    alloc: Global,
     map: &StripedMap,
     registry: &Registry,
     crew: Crew,
-    sent: &[u8],
-    size: usize,
-) -> (Crew, SessionEnd, Vec<u8>)
+    sent: Sent,
+) -> (SessionEnd, Vec<u8>)
     requires { IsCrewOf map.now crew }
-    ensures { IsCrewOf map.now result.0 }
 {
+    let alloc = rt.alloc();
     let mut reader = StreamSource::new(Pieces {
-        rest: sent,
-        size,
+        rest: sent.bytes,
+        size: sent.size,
         fails: false,
     });
     let mut writer = StreamSink::new(Room::new(alloc, ROOM));
-    let (crew, end) = session(
+    let (_, end) = session(
         rt,
         alloc,
         &mut reader,
@@ -123,7 +128,22 @@ fn served<H: Threads + Wait + Sync>(
         crew,
         &OpenGate,
     );
-    (crew, end, writer.into_inner().bytes)
+    (end, writer.into_inner().bytes)
+}
+
+/// Tells whether a session of the crew is closed, and answered so.
+fn is_answered<H: AllocGlobal + Threads + Wait + Sync>(
+    rt: &H,
+    map: &StripedMap,
+    registry: &Registry,
+    crew: Crew,
+    sent: Sent,
+    answers: &[u8],
+) -> bool
+    requires { IsCrewOf map.now crew }
+{
+    let (end, written) = served(rt, map, registry, crew, sent);
+    end == SessionEnd::Closed && written.as_slice() == answers
 }
 
 #[test]
@@ -131,21 +151,32 @@ fn a_session_answers_however_it_is_cut(rt: HostRuntime) -> Result<(), Fail> {
     for size in [1, 1 << 14] {
         let (map, crew, _) = two_crews(rt.alloc()).ok_or("no map")?;
         let registry = Registry::new(rt.alloc())?;
-        let (_, end, answers) = served(&rt, rt.alloc(), &map, &registry, crew, PUT_AND_GET, size);
-        assert!(&rt; end == SessionEnd::Closed, "{size} at a time");
-        assert!(&rt; answers.as_slice() == PUT_AND_GOT, "{size} at a time");
+        let sent = Sent {
+            bytes: PUT_AND_GET,
+            size,
+        };
+        let answered = is_answered(&rt, &map, &registry, crew, sent, PUT_AND_GOT);
+        assert!(&rt; answered, "{size} at a time");
     }
     Ok(())
 }
+
+const REGISTER_AT_ONCE: Sent = Sent {
+    bytes: REGISTER,
+    size: 1 << 14,
+};
+
+const COMPUTE_AT_ONCE: Sent = Sent {
+    bytes: COMPUTE,
+    size: 1 << 14,
+};
 
 #[test]
 fn a_program_of_an_earlier_session_is_found(rt: HostRuntime) -> Result<(), Fail> {
     let (map, one, other) = two_crews(rt.alloc()).ok_or("no map")?;
     let registry = Registry::new(rt.alloc())?;
-    let (_, end, answers) = served(&rt, rt.alloc(), &map, &registry, one, REGISTER, 1 << 14);
-    assert!(&rt; end == SessionEnd::Closed && answers.as_slice() == REGISTERED);
+    assert!(&rt; is_answered(&rt, &map, &registry, one, REGISTER_AT_ONCE, REGISTERED));
     // The call is seen by the walk of the same session, whose team has two other passes.
-    let (_, end, answers) = served(&rt, rt.alloc(), &map, &registry, other, COMPUTE, 1 << 14);
-    assert!(&rt; end == SessionEnd::Closed && answers.as_slice() == COMPUTED);
+    assert!(&rt; is_answered(&rt, &map, &registry, other, COMPUTE_AT_ONCE, COMPUTED));
     Ok(())
 }

@@ -3,6 +3,7 @@ mod clients;
 
 use crate::bpfmap::memory::{ROOM, Room};
 use map_server::{MapdWords, StreamSink, WordsFault, mapd_on, mapd_words};
+use std::alloc::{AllocError, Global};
 use std::net::{Net, TcpListener, TcpStream};
 use std::sync::Wait;
 use std::test::Fail;
@@ -16,7 +17,7 @@ struct Outcome {
     errors: Vec<u8>,
 }
 
-/// One call, with this room in standard output.
+/// Makes one call, with this room in standard output.
 fn call<R: AllocGlobal + Threads + Wait + Net<Listener = TcpListener, Stream = TcpStream> + Sync>(
     rt: &R,
     words: &[&str],
@@ -33,143 +34,166 @@ fn call<R: AllocGlobal + Threads + Wait + Net<Listener = TcpListener, Stream = T
     }
 }
 
+/// The address that rows listen on.
+const ANY_PORT: &str = "127.0.0.1:0";
+
+/// Makes the words for this address, these numbers of stripes, workers and passes of a team, and so many sessions.
+fn asked(
+    alloc: Global,
+    listen: &str,
+    sizes: (u64, u64, u64),
+    sessions: Option<u64>,
+) -> Result<MapdWords, AllocError> {
+    Ok(MapdWords {
+        listen: String::from_str(alloc, listen)?,
+        stripes: sizes.0,
+        workers: sizes.1,
+        team: sizes.2,
+        sessions,
+    })
+}
+
 #[test]
 fn words_have_defaults(rt: HostRuntime) -> Result<(), Fail> {
-    let words = mapd_words(rt.alloc(), &["mapd", "--listen", "127.0.0.1:0"])?;
-    let wanted = MapdWords {
-        listen: String::from_str(rt.alloc(), "127.0.0.1:0")?,
-        stripes: 16,
-        workers: 4,
-        team: 1,
-        sessions: None,
-    };
+    let words = mapd_words(rt.alloc(), &["mapd", "--listen", ANY_PORT])?;
+    let wanted = asked(rt.alloc(), ANY_PORT, (16, 4, 1), None)?;
     assert!(rt; words == wanted, "{words:?}");
     Ok(())
 }
+
+/// Each word of `mapd` once.
+const ALL_WORDS: [&str; 10] = [
+    "mapd",
+    "--listen",
+    "[::1]:7",
+    "--stripes",
+    "2",
+    "--workers=32",
+    "--team",
+    "8",
+    "--sessions",
+    "65535",
+];
 
 #[test]
 fn words_are_taken(rt: HostRuntime) -> Result<(), Fail> {
-    let words = [
-        "mapd",
-        "--listen",
-        "[::1]:7",
-        "--stripes",
-        "2",
-        "--workers=32",
-        "--team",
-        "8",
-        "--sessions",
-        "65535",
-    ];
-    let words = mapd_words(rt.alloc(), &words)?;
-    let wanted = MapdWords {
-        listen: String::from_str(rt.alloc(), "[::1]:7")?,
-        stripes: 2,
-        workers: 32,
-        team: 8,
-        sessions: Some(65535),
-    };
+    let words = mapd_words(rt.alloc(), &ALL_WORDS)?;
+    let wanted = asked(rt.alloc(), "[::1]:7", (2, 32, 8), Some(65535))?;
     assert!(rt; words == wanted, "{words:?}");
     Ok(())
 }
 
-#[test]
-fn words_are_refused(rt: HostRuntime) -> Result<(), Fail> {
-    for word in [
-        "--workers=0",
-        "--workers=33",
-        "--team=0",
-        "--team=9",
-        "--stripes=65536",
-        "--sessions=65536",
-        "--team",
-        "--size=1",
-        "other",
-    ] {
-        let found = call(&rt, &["mapd", "--listen", "127.0.0.1:0", word], ROOM);
-        assert!(rt; found.status == 2 && found.output.is_empty(), "{word}");
-        assert!(rt; found.errors.starts_with(b"error: "), "{word}");
+impl Outcome {
+    /// Tells whether it has this status, and output and errors that begin so.
+    fn begins(&self, status: u8, output: &[u8], errors: &[u8]) -> bool {
+        self.status == status && self.output.starts_with(output) && self.errors.starts_with(errors)
     }
+}
+
+const BAD_WORDS: [&str; 9] = [
+    "--workers=0",
+    "--workers=33",
+    "--team=0",
+    "--team=9",
+    "--stripes=65536",
+    "--sessions=65536",
+    "--team",
+    "--size=1",
+    "other",
+];
+
+#[test]
+fn words_are_refused(rt: HostRuntime) {
+    for word in BAD_WORDS {
+        let found = call(&rt, &["mapd", "--listen", ANY_PORT, word], ROOM);
+        let refused = found.begins(2, b"", b"error: ") && found.output.is_empty();
+        assert!(rt; refused, "{word}");
+    }
+}
+
+#[test]
+fn an_address_is_asked_for(rt: HostRuntime) {
     let none = call(&rt, &["mapd"], ROOM);
     assert!(rt; none.status == 2 && none.output.is_empty());
     assert!(rt; matches!(mapd_words(rt.alloc(), &["mapd"]), Err(WordsFault::Words(_))));
-    Ok(())
 }
 
 #[test]
-fn help_and_version_are_shown(rt: HostRuntime) -> Result<(), Fail> {
+fn help_and_version_are_shown(rt: HostRuntime) {
     for (word, start) in [("--help", "Serves a map"), ("--version", "mapd 0.1.0\n")] {
         let found = call(&rt, &["mapd", word], ROOM);
-        assert!(rt; found.status == 0 && found.errors.is_empty(), "{word}");
-        assert!(rt; found.output.starts_with(start.as_bytes()), "{word}");
+        let shown = found.begins(0, start.as_bytes(), b"");
+        assert!(rt; shown && found.errors.is_empty(), "{word}");
     }
-    Ok(())
+}
+
+/// Calls for a map of these sizes, with a team of 2 and no address to listen on.
+fn call_of_sizes<
+    R: AllocGlobal + Threads + Wait + Net<Listener = TcpListener, Stream = TcpStream> + Sync,
+>(rt: &R, stripes: &str, workers: &str) -> Outcome {
+    let words = [
+        "mapd",
+        "--listen",
+        "no address",
+        "--team",
+        "2",
+        "--stripes",
+        stripes,
+        "--workers",
+        workers,
+    ];
+    call(rt, &words, ROOM)
 }
 
 #[test]
-fn sizes_of_the_map_are_refused(rt: HostRuntime) -> Result<(), Fail> {
+fn sizes_of_the_map_are_refused(rt: HostRuntime) {
     for (stripes, workers, line) in [
         ("3", "4", "refused 50 at 0\n"),
         ("0", "32", "refused 50 at 0\n"),
         ("16", "32", "refused 51 at 0\n"),
     ] {
-        let words = [
-            "mapd",
-            "--listen",
-            "no address",
-            "--team",
-            "2",
-            "--stripes",
-            stripes,
-            "--workers",
-            workers,
-        ];
-        let found = call(&rt, &words, ROOM);
-        assert!(rt; found.status == 1, "{stripes} {workers}");
-        assert!(rt;
-            found.output.as_slice() == line.as_bytes(),
-            "{stripes} {workers}"
-        );
+        let found = call_of_sizes(&rt, stripes, workers);
+        let told = found.output.as_slice() == line.as_bytes();
+        assert!(rt; found.status == 1 && told, "{stripes} {workers}");
     }
-    Ok(())
 }
 
 #[test]
 fn a_failed_listen_is_told(rt: HostRuntime) -> Result<(), Fail> {
-    let taken = TcpListener::bind(&rt, "127.0.0.1:0")?;
+    let taken = TcpListener::bind(&rt, ANY_PORT)?;
     let address = taken.local_addr()?.to_string(rt.alloc())?;
     for address in [address.as_str(), "no address", "127.0.0.1:65536"] {
         let found = call(&rt, &["mapd", "--listen", address], ROOM);
-        assert!(rt; found.status == 3 && found.output.is_empty(), "{address}");
-        assert!(rt; found.errors.starts_with(b"failed listen\n"), "{address}");
+        let told = found.begins(3, b"", b"failed listen\n");
+        assert!(rt; told && found.output.is_empty(), "{address}");
     }
     Ok(())
 }
 
-#[test]
-fn nobody_is_served(rt: HostRuntime) -> Result<(), Fail> {
-    let words = ["mapd", "--listen", "127.0.0.1:0", "--sessions", "0"];
-    let found = call(&rt, &words, ROOM);
-    assert!(rt; found.status == 0);
-    assert!(rt; found.output.as_slice() == b"ready\nserved 0\n".as_slice());
-    assert!(rt; found.errors.starts_with(b"listening on 127.0.0.1:"));
-    Ok(())
+/// What is printed where nobody is to be served.
+const NOBODY: &[u8] = b"ready\nserved 0\n";
+
+/// Calls for no session, with this room in standard output.
+fn serve_nobody<
+    R: AllocGlobal + Threads + Wait + Net<Listener = TcpListener, Stream = TcpStream> + Sync,
+>(rt: &R, room: usize) -> Outcome {
+    let words = ["mapd", "--listen", ANY_PORT, "--sessions", "0"];
+    call(rt, &words, room)
 }
 
 #[test]
-fn a_failed_write_is_told(rt: HostRuntime) -> Result<(), Fail> {
+fn nobody_is_served(rt: HostRuntime) {
+    let found = serve_nobody(&rt, ROOM);
+    assert!(rt; found.begins(0, NOBODY, b"listening on 127.0.0.1:"));
+    assert!(rt; found.output.len() == NOBODY.len());
+}
+
+#[test]
+fn a_failed_write_is_told(rt: HostRuntime) {
     for room in [0, 5, 6, 14] {
-        let words = ["mapd", "--listen", "127.0.0.1:0", "--sessions", "0"];
-        let found = call(&rt, &words, room);
-        assert!(rt; found.status == 3, "room for {room}");
-        assert!(rt;
-            found.output.as_slice() == &b"ready\nserved 0\n"[..room],
-            "room for {room}"
-        );
-        assert!(rt;
-            found.errors.ends_with(b"failed write\n"),
-            "room for {room}"
-        );
+        let found = serve_nobody(&rt, room);
+        let written = found.output.as_slice() == &NOBODY[..room];
+        let told = found.errors.ends_with(b"failed write\n");
+        assert!(rt; found.status == 3 && written && told, "room for {room}");
     }
-    Ok(())
 }

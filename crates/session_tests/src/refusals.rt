@@ -3,11 +3,24 @@ use bpf_assembler::AsmFault;
 use bpf_decode::DecodeFault;
 use flow_shape::FlowFault;
 use map_server::{AdmissionFault, Refusal};
+use std::alloc::{AllocError, Global};
 use std::test::Fail;
 use verifier::VerifyFault::{
     self, BadExitValue, NotAWindow, OutOfWindow, ReadOnly, SizesTooLarge, UnwrittenBytes,
     UnwrittenRegister, WriteToR10,
 };
+
+/// Tells whether the refusal is shown as this text.
+fn reads(alloc: Global, refusal: &Refusal, text: &str) -> Result<bool, AllocError> {
+    Ok(format!(in alloc; "{refusal}")?.as_str() == text)
+}
+
+/// Tells whether the fault is shown as this text, alone and as a refusal.
+fn reads_twice(alloc: Global, fault: VerifyFault, text: &str) -> Result<bool, AllocError> {
+    let alone = format!(in alloc; "{fault}")?.as_str() == text;
+    let refusal = Refusal::Program(AdmissionFault::Verify(fault));
+    Ok(alone && reads(alloc, &refusal, text)?)
+}
 
 #[test]
 fn refusals_are_told_in_words(rt: HostRuntime) -> Result<(), Fail> {
@@ -28,7 +41,7 @@ fn refusals_are_told_in_words(rt: HostRuntime) -> Result<(), Fail> {
             "a jump leaves the program at unit 5",
         ),
     ] {
-        assert_eq!(rt; format!(in rt.alloc(); "{refusal}")?.as_str(), text);
+        assert!(rt; reads(rt.alloc(), &refusal, text)?, "{text}");
     }
     Ok(())
 }
@@ -61,9 +74,7 @@ fn faults_of_the_verifier_are_told_in_words(rt: HostRuntime) -> Result<(), Fail>
         (SizesTooLarge, "a declared size is above its limit"),
         (VerifyFault::NoMemory, "no memory"),
     ] {
-        assert_eq!(rt; format!(in rt.alloc(); "{fault}")?.as_str(), text);
-        let refusal = Refusal::Program(AdmissionFault::Verify(fault));
-        assert_eq!(rt; format!(in rt.alloc(); "{refusal}")?.as_str(), text);
+        assert!(rt; reads_twice(rt.alloc(), fault, text)?, "{text}");
     }
     Ok(())
 }

@@ -3,9 +3,8 @@ ghost use Rattle.std.specs.Prelude.{◌≡◌, All, IfOk};
 
 use atomic_methods::{Call, Reply};
 use bin_stripes::{CallFault, Gate, OpenFault, OpenGate, Pass, Place, StripedMap};
-use bins::Counts;
-use bpf_model::{Key, TooLong, Value};
-use map_tests::programs::{ONE, summing};
+use bpf_model::{Key, NoMemory, TooLong, Value};
+use map_tests::programs::{ONE, TWO, summing};
 use std::alloc::Global;
 use std::sync::Wait;
 use std::sync::atomic::{AtomicU64, Ordering};
@@ -17,10 +16,12 @@ use verifier::Verified;
 mod many;
 mod rows;
 
+/// Makes the key of these bytes.
 fn key(bytes: &[u8]) -> Result<Key, TooLong> {
     Key::from_slice(bytes)
 }
 
+/// Makes the value of these bytes.
 fn value(bytes: &[u8]) -> Result<Value, TooLong> {
     Value::from_slice(bytes)
 }
@@ -42,7 +43,7 @@ fn put<R: Wait>(
     Ok(())
 }
 
-/// The reply to a get.
+/// Returns the reply to a get.
 fn got<R: Wait>(rt: &R, map: &StripedMap, pass: &mut Pass, name: &[u8]) -> Result<Reply, Fail>
     requires { pass.old.map ≡ map.now }
     ensures { pass.new.map ≡ map.now }
@@ -51,7 +52,7 @@ fn got<R: Wait>(rt: &R, map: &StripedMap, pass: &mut Pass, name: &[u8]) -> Resul
     Ok(map.call(rt, pass, &Call::Get { key })?)
 }
 
-/// Whether the reply is this value.
+/// Tells whether the reply is this value.
 fn is_value(reply: &Reply, bytes: &[u8]) -> bool {
     match reply {
         Reply::Value(Some(value)) => value.as_slice() == bytes,
@@ -59,7 +60,7 @@ fn is_value(reply: &Reply, bytes: &[u8]) -> bool {
     }
 }
 
-/// The number under which a map is refused, or 0.
+/// Returns the number under which a map is refused, or 0.
 fn refusal(alloc: Global, stripes: u64, passes: u64) -> u8 {
     match StripedMap::open(alloc, stripes, passes) {
         Ok(_) => 0,
@@ -67,7 +68,7 @@ fn refusal(alloc: Global, stripes: u64, passes: u64) -> u8 {
     }
 }
 
-/// A map, whose passes all serve it.
+/// Opens a map, whose passes all serve it.
 pub(crate) fn opened(
     alloc: Global,
     stripes: u64,
@@ -78,7 +79,7 @@ pub(crate) fn opened(
     StripedMap::open(alloc, stripes, passes)
 }
 
-/// The entries of a stripe, where the map has it and memory is there.
+/// Returns the entries of a stripe, where the map has it and memory is there.
 fn scanned<R: Wait>(
     rt: &R,
     alloc: Global,
@@ -95,7 +96,7 @@ fn scanned<R: Wait>(
     map.scan_stripe(rt, alloc, pass, stripe).ok()
 }
 
-/// The next of the map's passes.
+/// Takes the next of the map's passes.
 pub(crate) fn next_pass(map: &StripedMap, passes: &mut Vec<Pass>) -> Result<Pass, Fail>
     requires all { All (λ pass. pass.map ≡ map.now) passes.old.items }
     ensures pass { IfOk result (λ pass. pass.map ≡ map.now) }

@@ -1,11 +1,11 @@
 //! Walks over a small map, by teams of several sizes.
-ghost use Rattle.std.specs.Prelude.{◌≡◌, ◌≤◌, All, IfOk, IfSome};
+ghost use Rattle.std.specs.Prelude.{◌≡◌, All, IfSome};
 
 use atomic_methods::{Call, Reply};
 use bin_stripes::{Gate, OpenGate, Pass, Place, StripedMap};
 use bins::EntryList;
 use bpf_model::{Key, NoMemory, Value};
-use bulk_walks::{Team, WalkReply, for_each, is_same_reply, mapping_count, replace_all, search};
+use bulk_walks::{Team, WalkReply, for_each, mapping_count, replace_all, search};
 use map_tests::programs::{NINE, ONE, THREE, TWO, summed, summing};
 use std::alloc::Global;
 use std::sync::Wait;
@@ -31,7 +31,7 @@ fn put<R: Wait>(rt: &R, map: &StripedMap, pass: &mut Pass, name: &[u8], bytes: &
     Some(())
 }
 
-/// The last of a map's passes, and a team of the others.
+/// Takes the last of a map's passes, and makes a team of the others.
 fn dealt(map: &StripedMap, mut passes: Vec<Pass>) -> Option<(Pass, Team)>
     requires { All (λ pass. pass.map ≡ map.now) passes.items }
     ensures pass { IfSome result (λ r. r.0.map ≡ map.now) }
@@ -42,26 +42,14 @@ fn dealt(map: &StripedMap, mut passes: Vec<Pass>) -> Option<(Pass, Team)>
     Some((pass, team))
 }
 
-/// A map of so many stripes, a pass, and a team of so many more; none where memory was refused.
+/// Opens a map of so many stripes, with a pass and a team of so many more; none where memory was refused.
 fn made(alloc: Global, stripes: u64, workers: u64) -> Option<(StripedMap, Pass, Team)>
-    requires { workers ≤ 63 }
     ensures pass { IfSome result (λ r. r.1.map ≡ r.0) }
     ensures team { IfSome result (λ r. All (λ pass. pass.map ≡ r.0) r.2.passes.items) }
 {
-    let (map, passes) = StripedMap::open(alloc, stripes, workers + 1).ok()?;
+    let (map, passes) = StripedMap::open(alloc, stripes, workers.saturating_add(1)).ok()?;
     let (pass, team) = dealt(&map, passes)?;
     Some((map, pass, team))
-}
-
-fn opened(alloc: Global, stripes: u64, workers: u64) -> Result<(StripedMap, Pass, Team), Fail>
-    requires { workers ≤ 63 }
-    ensures pass { IfOk result (λ r. r.1.map ≡ r.0) }
-    ensures team { IfOk result (λ r. All (λ pass. pass.map ≡ r.0) r.2.passes.items) }
-{
-    match made(alloc, stripes, workers) {
-        Some(made) => Ok(made),
-        None => Err("no map".into()),
-    }
 }
 
 /// Puts the entries `a` of 1 and `b` of 2, and `c` of nine bytes, which is too long for the program; none where memory was
@@ -75,14 +63,57 @@ fn put_all<R: Wait>(rt: &R, map: &StripedMap, pass: &mut Pass) -> Option<()>
     put(rt, map, pass, b"c", &NINE)
 }
 
-fn fill<R: Wait>(rt: &R, map: &StripedMap, pass: &mut Pass) -> Result<(), Fail>
-    requires { pass.old.map ≡ map.now }
-    ensures { pass.new.map ≡ map.now }
+/// Opens a map of those three entries, with a pass and a team of so many more; none where memory was refused.
+fn filled<R: Wait>(
+    rt: &R,
+    alloc: Global,
+    stripes: u64,
+    workers: u64,
+) -> Option<(StripedMap, Pass, Team)>
+    ensures pass { IfSome result (λ r. r.1.map ≡ r.0) }
+    ensures team { IfSome result (λ r. All (λ pass. pass.map ≡ r.0) r.2.passes.items) }
 {
-    Ok(put_all(rt, map, pass).ok_or("not filled")?)
+    let (map, mut pass, team) = made(alloc, stripes, workers)?;
+    put_all(rt, &map, &mut pass)?;
+    Some((map, pass, team))
 }
 
-/// The number that these bytes spell, where there are eight.
+/// A walk: a search and a list have their threshold.
+#[derive(Clone, Copy)]
+enum Task {
+    List(u64),
+    Search(u64),
+    Count,
+    /// Adds 1 to each value.
+    Replace,
+    /// Adds nothing to each value: there is no argument.
+    Rewrite,
+}
+
+/// Makes the walk with the argument 1, if it has one.
+fn walk<R: AllocGlobal + Threads + Wait + Sync, G: Gate + Sync>(
+    rt: &R,
+    map: &StripedMap,
+    team: Team,
+    program: &Verified,
+    task: Task,
+    gate: &G,
+) -> (Team, Result<WalkReply, NoMemory>)
+    requires { All (λ pass. pass.map ≡ map.now) team.passes.items }
+    ensures { All (λ pass. pass.map ≡ map.now) result.0.passes.items }
+{
+    let alloc = rt.alloc();
+    let arg = Value::from_slice(&ONE).ok();
+    match task {
+        Task::List(threshold) => for_each(rt, alloc, map, team, program, &arg, threshold, gate),
+        Task::Search(threshold) => search(rt, alloc, map, team, program, &arg, threshold, gate),
+        Task::Count => mapping_count(rt, alloc, map, team, gate),
+        Task::Replace => replace_all(rt, alloc, map, team, program, &arg, gate),
+        Task::Rewrite => replace_all(rt, alloc, map, team, program, &None, gate),
+    }
+}
+
+/// Returns the number that these bytes spell, where there are eight.
 fn number_of(bytes: &[u8]) -> Option<u64> {
     match bytes {
         [a, b, c, d, e, f, g, h] => Some(u64::from_le_bytes([*a, *b, *c, *d, *e, *f, *g, *h])),
@@ -90,7 +121,23 @@ fn number_of(bytes: &[u8]) -> Option<u64> {
     }
 }
 
-/// Whether these are the items, in their order.
+/// Keys and values.
+type Items = &'static [(&'static [u8], &'static [u8])];
+
+/// What a walk replies: its items, and how many entries were scanned, given and unfit.
+#[derive(Clone, Copy)]
+struct Wanted(Items, (u64, u64, u64));
+
+/// What each walk over the three entries replies.
+const LISTED: Wanted = Wanted(&[(b"a", &TWO), (b"b", &THREE)], (3, 2, 1));
+
+const FOUND: Wanted = Wanted(&[(b"a", &TWO)], (3, 1, 1));
+
+const COUNTED: Wanted = Wanted(&[], (3, 0, 0));
+
+const REPLACED: Wanted = Wanted(&[], (3, 2, 1));
+
+/// Tells whether these are the items, in their order.
 fn are_items(found: &EntryList, items: &[(&[u8], &[u8])]) -> bool {
     if found.len() != items.len() {
         return false;
@@ -103,8 +150,14 @@ fn are_items(found: &EntryList, items: &[(&[u8], &[u8])]) -> bool {
     true
 }
 
-/// Whether the reply has these items and counts.
+/// Tells whether the reply has these items and counts.
 fn is_reply(reply: &WalkReply, items: &[(&[u8], &[u8])], counts: (u64, u64, u64)) -> bool {
     let found = &reply.counts;
     are_items(&reply.items, items) && (found.scanned, found.given, found.unfit) == counts
+}
+
+/// Tells whether the walk replied this.
+fn replied(reply: &Result<WalkReply, NoMemory>, wanted: Wanted) -> bool {
+    let Ok(reply) = reply else { return false };
+    is_reply(reply, wanted.0, wanted.1)
 }

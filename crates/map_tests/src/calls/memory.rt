@@ -1,5 +1,5 @@
 //! Calls that add no key ask for no memory, where there is no room for a further key.
-use super::methods::{COMPUTING, PLAIN, Row, Tried};
+use super::methods::{COMPUTING, PLAIN, Row, Tried, play};
 use super::*;
 use bins::{HashedBins, ListBins};
 use std::process::Abort;
@@ -7,29 +7,40 @@ use std::process::Abort;
 /// A request of so many bytes is a mark to `tests/refused.sh`, and no other request is of this size.
 const MARK: usize = 99_991;
 
+/// Asks for memory of the marked size.
 fn mark(alloc: Global) -> Result<(), Fail> {
     let _: Vec<u8> = Vec::with_capacity(alloc, MARK)?;
     Ok(())
 }
 
-/// Eight entries in one stripe, as many as a list that doubles has room for; `a` has what it is to have before.
+/// Opens a table with eight entries in one stripe, as many as a list that doubles has room for; `a` has what it is to have before.
 fn full<T: Tried + Drop>(alloc: Global, programs: &Programs, before: Wanted) -> Result<T, Fail> {
     let mut table = T::opened(alloc)?;
-    let eighth = match before {
-        Wanted::Bytes(bytes) => Lender::new(b"a", Method::Put(bytes))?,
-        _ => Lender::new(b"A", Method::Put(b"other"))?,
+    match before {
+        Wanted::Bytes(bytes) => play(&mut table, programs, b"a", Method::Put(bytes))?,
+        _ => play(&mut table, programs, b"A", Method::Put(b"other"))?,
     };
-    table.made(&eighth.call(programs))?;
     for number in 0..7u8 {
         // In the stripe of `a` and `A`, where there are four.
         let name = [4 * number + 1];
-        let other = Lender::new(&name, Method::Put(b"other"))?;
-        table.made(&other.call(programs))?;
+        play(&mut table, programs, &name, Method::Put(b"other"))?;
     }
     Ok(table)
 }
 
-/// Whether the row's call was made, or was refused and would have added its key.
+/// Makes the call between two marks.
+fn made_between_marks<T: Tried>(
+    alloc: Global,
+    table: &mut T,
+    call: &Call,
+) -> Result<Result<Reply, NoMemory>, Fail> {
+    mark(alloc)?;
+    let given = table.made(call);
+    mark(alloc)?;
+    Ok(given)
+}
+
+/// Tells whether the row's call was made, or was refused and would have added its key.
 fn is_kept(row: &Row, given: &Result<Reply, NoMemory>, found: &Reply) -> bool {
     let (before, _, reply, after) = row;
     match (given, before, after) {
@@ -39,18 +50,24 @@ fn is_kept(row: &Row, given: &Result<Reply, NoMemory>, found: &Reply) -> bool {
     }
 }
 
-/// Each row on a full table of its own, the call between two marks.
+/// Plays the row on a full table, the call between two marks.
+fn is_row_kept<T: Tried + Drop>(
+    alloc: Global,
+    programs: &Programs,
+    row: &Row,
+) -> Result<bool, Fail> {
+    let mut table: T = full(alloc, programs, row.0)?;
+    let lender = Lender::new(b"a", row.1)?;
+    let given = made_between_marks(alloc, &mut table, &lender.call(programs))?;
+    let found = play(&mut table, programs, b"a", Method::Get)?;
+    Ok(is_kept(row, &given, &found))
+}
+
+/// Plays each row on a full table of its own.
 fn try_rows<T: Tried + Drop>(rt: &impl Abort, alloc: Global, rows: &[Row]) -> Result<(), Fail> {
     let programs = Programs::new(alloc)?;
     for (number, row) in rows.iter().enumerate() {
-        let mut table: T = full(alloc, &programs, row.0)?;
-        let lender = Lender::new(b"a", row.1)?;
-        let get = Lender::new(b"a", Method::Get)?;
-        mark(alloc)?;
-        let given = table.made(&lender.call(&programs));
-        mark(alloc)?;
-        let found = table.made(&get.call(&programs))?;
-        assert!(rt; is_kept(row, &given, &found), "row {number}");
+        assert!(rt; is_row_kept::<T>(alloc, &programs, row)?, "row {number}");
     }
     Ok(())
 }

@@ -86,8 +86,10 @@ pub(super) const COMPUTING: [Row; 18] = [
 
 /// What rows are tried on: a whole table, or bins of either kind alone.
 pub(super) trait Tried: Sized {
+    /// Opens it without an entry.
     fn opened(alloc: Global) -> Result<Self, Fail>;
 
+    /// Makes a call on it.
     fn made(&mut self, call: &Call) -> Result<Reply, NoMemory>;
 }
 
@@ -140,7 +142,47 @@ pub(super) const ONE_HASH: Names = Names {
     neighbour: b"BB",
 };
 
-/// Each row on the key of a table of its own, in which the key has a neighbour.
+/// Makes a call of the method on the key of this name.
+pub(super) fn play<T: Tried>(
+    table: &mut T,
+    programs: &Programs,
+    name: &[u8],
+    method: Method,
+) -> Result<Reply, Fail> {
+    let lender = Lender::new(name, method)?;
+    Ok(table.made(&lender.call(programs))?)
+}
+
+/// Opens a table in which the neighbour has an entry, and the key the one that it is to have before.
+fn filled<T: Tried + Drop>(
+    alloc: Global,
+    programs: &Programs,
+    names: Names,
+    before: Wanted,
+) -> Result<T, Fail> {
+    let mut table = T::opened(alloc)?;
+    play(&mut table, programs, names.neighbour, Put(b"other"))?;
+    if let Bytes(bytes) = before {
+        play(&mut table, programs, names.key, Put(bytes))?;
+    }
+    Ok(table)
+}
+
+/// Tells whether the reply to the row's call is the wanted one, and what its key and the neighbour have after it.
+fn is_kept<T: Tried>(
+    table: &mut T,
+    programs: &Programs,
+    names: Names,
+    row: &Row,
+) -> Result<bool, Fail> {
+    let (_, method, reply, after) = *row;
+    let given = is_wanted(&play(table, programs, names.key, method)?, reply);
+    let found = is_wanted(&play(table, programs, names.key, Get)?, after);
+    let beside = play(table, programs, names.neighbour, Get)?;
+    Ok(given && found && is_wanted(&beside, Bytes(b"other")))
+}
+
+/// Plays each row on a table of its own.
 fn try_rows<T: Tried + Drop>(
     rt: &impl Abort,
     alloc: Global,
@@ -148,23 +190,14 @@ fn try_rows<T: Tried + Drop>(
     rows: &[Row],
 ) -> Result<(), Fail> {
     let programs = Programs::new(alloc)?;
-    for (number, (before, method, reply, after)) in rows.iter().enumerate() {
-        let mut table = T::opened(alloc)?;
-        table.made(&Lender::new(names.neighbour, Put(b"other"))?.call(&programs))?;
-        if let Bytes(bytes) = before {
-            table.made(&Lender::new(names.key, Put(bytes))?.call(&programs))?;
-        }
-        let given = table.made(&Lender::new(names.key, *method)?.call(&programs))?;
-        assert!(rt; is_wanted(&given, *reply), "row {number}");
-        let found = table.made(&Lender::new(names.key, Get)?.call(&programs))?;
-        assert!(rt; is_wanted(&found, *after), "row {number}, after");
-        let beside = table.made(&Lender::new(names.neighbour, Get)?.call(&programs))?;
-        assert!(rt; is_wanted(&beside, Bytes(b"other")), "row {number}, beside");
+    for (number, row) in rows.iter().enumerate() {
+        let mut table: T = filled(alloc, &programs, names, row.0)?;
+        assert!(rt; is_kept(&mut table, &programs, names, row)?, "row {number}");
     }
     Ok(())
 }
 
-/// The rows on a table in stripes, and on bins of both kinds.
+/// Plays the rows on a table in stripes, and on bins of both kinds.
 fn try_everywhere(rt: &impl Abort, alloc: Global, names: Names, rows: &[Row]) -> Result<(), Fail> {
     try_rows::<Striped>(rt, alloc, names, rows)?;
     try_rows::<ListBins>(rt, alloc, names, rows)?;
@@ -183,12 +216,6 @@ fn methods_with_programs(rt: HostRuntime) -> Result<(), Fail> {
     try_everywhere(&rt, rt.alloc(), ONE_HASH, &COMPUTING)
 }
 
-/// Enters the value of these bytes.
-fn put(table: &mut Striped, key: &Key, bytes: &[u8]) -> Result<Reply, Fail> {
-    let value = &value(bytes)?;
-    Ok(table.apply(&Call::Put { key, value })?)
-}
-
 /// What a `Compute` lends.
 #[derive(Drop)]
 struct Computing {
@@ -198,6 +225,17 @@ struct Computing {
 }
 
 impl Computing {
+    /// Lends the call of the program on the key `a` with this argument.
+    fn new(program: Verified, arg: Option<&[u8]>) -> Result<Computing, TooLong> {
+        let arg = match arg {
+            Some(bytes) => Some(value(bytes)?),
+            None => None,
+        };
+        let key = key(b"a")?;
+        Ok(Computing { key, program, arg })
+    }
+
+    /// Returns the call.
     fn call(&self) -> Call<'_> {
         let arg = self.arg.as_ref();
         Call::Compute {
@@ -208,21 +246,30 @@ impl Computing {
     }
 }
 
+/// Opens a table in which the key has this value, or none.
+fn table_with(alloc: Global, key: &Key, old: Option<&[u8]>) -> Result<Striped, Fail> {
+    let mut table = Striped::open(alloc, 1)?;
+    if let Some(bytes) = old {
+        let value = &value(bytes)?;
+        table.apply(&Call::Put { key, value })?;
+    }
+    Ok(table)
+}
+
+/// Tells whether the call is refused for the key's value, and leaves it.
+fn is_unfit(alloc: Global, computing: &Computing, old: &'static [u8]) -> Result<bool, Fail> {
+    let key = &computing.key;
+    let mut table = table_with(alloc, key, Some(old))?;
+    let unfit = is_wanted(&table.apply(&computing.call())?, NO_OLD);
+    let found = table.apply(&Call::Get { key })?;
+    Ok(unfit && is_wanted(&found, Bytes(old)))
+}
+
 #[test]
 fn a_longest_value_is_unfit_where_one_byte_is_missing(rt: HostRuntime) -> Result<(), Fail> {
-    let computing = Computing {
-        key: key(b"a")?,
-        program: verified(rt.alloc(), NOTHING, sizes(64, 255, 256, 256))?,
-        arg: None,
-    };
-    let mut table = Striped::open(rt.alloc(), 1)?;
-    put(&mut table, &computing.key, &[7; 256])?;
-    let reply = table.apply(&computing.call())?;
-    assert_eq!(rt; reply, Reply::Unfit(InputPart::Old));
-    let get = Lender::new(b"a", Method::Get)?;
-    let programs = Programs::new(rt.alloc())?;
-    let found = table.apply(&get.call(&programs))?;
-    assert_eq!(rt; found, Reply::Value(Some(value(&[7; 256])?)));
+    let program = verified(rt.alloc(), NOTHING, sizes(64, 255, 256, 256))?;
+    let computing = Computing::new(program, None)?;
+    assert!(rt; is_unfit(rt.alloc(), &computing, &[7; 256])?);
     Ok(())
 }
 
@@ -235,7 +282,14 @@ const ABSENT: [u8; 8] = [255; 8];
 const EMPTY_LENGTH: [u8; 8] = [0; 8];
 
 /// The old value, the argument, and the two lengths that a program is told.
-const LENGTHS: [(Option<&[u8]>, Option<&[u8]>, [u8; 8], [u8; 8]); 6] = [
+type LengthRow = (
+    Option<&'static [u8]>,
+    Option<&'static [u8]>,
+    [u8; 8],
+    [u8; 8],
+);
+
+const LENGTHS: [LengthRow; 6] = [
     (None, None, ABSENT, ABSENT),
     (None, Some(b""), ABSENT, EMPTY_LENGTH),
     (Some(b""), None, EMPTY_LENGTH, ABSENT),
@@ -244,31 +298,29 @@ const LENGTHS: [(Option<&[u8]>, Option<&[u8]>, [u8; 8], [u8; 8]); 6] = [
     (None, Some(b"x"), ABSENT, ONE),
 ];
 
-fn is_pair(value: &Value, first: &[u8; 8], second: &[u8; 8]) -> bool {
+/// Tells whether the reply is a value of these two numbers.
+fn is_pair(reply: &Reply, first: &[u8; 8], second: &[u8; 8]) -> bool {
+    let Reply::Value(Some(value)) = reply else {
+        return false;
+    };
     let bytes = value.as_slice();
     bytes.starts_with(first) && bytes.ends_with(second) && bytes.len() == 16
 }
 
+/// Tells whether the program is told the row's lengths.
+fn are_told(alloc: Global, row: &LengthRow) -> Result<bool, Fail> {
+    let (old, arg, first, second) = row;
+    let program = verified(alloc, LENGTHS_TOLD, sizes(64, 8, 8, 16))?;
+    let computing = Computing::new(program, *arg)?;
+    let mut table = table_with(alloc, &computing.key, *old)?;
+    let told = table.apply(&computing.call())?;
+    Ok(is_pair(&told, first, second))
+}
+
 #[test]
 fn an_absent_argument_is_no_empty_one(rt: HostRuntime) -> Result<(), Fail> {
-    for (number, (old, arg, first, second)) in LENGTHS.iter().enumerate() {
-        let mut table = Striped::open(rt.alloc(), 1)?;
-        let arg = match arg {
-            Some(bytes) => Some(value(bytes)?),
-            None => None,
-        };
-        let computing = Computing {
-            key: key(b"a")?,
-            program: verified(rt.alloc(), LENGTHS_TOLD, sizes(64, 8, 8, 16))?,
-            arg,
-        };
-        if let Some(bytes) = old {
-            put(&mut table, &computing.key, bytes)?;
-        }
-        let Reply::Value(Some(told)) = table.apply(&computing.call())? else {
-            return Err("no answer".into());
-        };
-        assert!(rt; is_pair(&told, first, second), "row {number}");
+    for (number, row) in LENGTHS.iter().enumerate() {
+        assert!(rt; are_told(rt.alloc(), row)?, "row {number}");
     }
     Ok(())
 }

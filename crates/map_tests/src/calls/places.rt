@@ -7,6 +7,7 @@ use crate::entries::key_of_pairs;
 use bin_stripes::{Pass, StripedMap};
 use std::sync::Wait;
 
+/// Puts each key; none where memory was refused.
 fn put_all<R: Wait>(rt: &R, map: &StripedMap, pass: &mut Pass, keys: &[Key]) -> Option<()>
     requires { pass.old.map ≡ map.now }
     ensures { pass.new.map ≡ map.now }
@@ -18,7 +19,7 @@ fn put_all<R: Wait>(rt: &R, map: &StripedMap, pass: &mut Pass, keys: &[Key]) -> 
     Some(())
 }
 
-/// How many entries the stripe has, where there is such a stripe.
+/// Counts the entries of the stripe, if there is such a stripe.
 fn count_in<R: Wait>(rt: &R, map: &StripedMap, pass: &mut Pass, stripe: u64) -> Option<u64>
     requires { pass.old.map ≡ map.now }
     ensures { pass.new.map ≡ map.now }
@@ -29,7 +30,7 @@ fn count_in<R: Wait>(rt: &R, map: &StripedMap, pass: &mut Pass, stripe: u64) -> 
     Some(map.count_stripe(rt, pass, stripe))
 }
 
-/// Whether each stripe has so many entries.
+/// Tells whether each stripe has so many entries.
 fn has_each<R: Wait>(rt: &R, map: &StripedMap, pass: &mut Pass, wanted: u64) -> bool
     requires { pass.old.map ≡ map.now }
     ensures { pass.new.map ≡ map.now }
@@ -42,6 +43,19 @@ fn has_each<R: Wait>(rt: &R, map: &StripedMap, pass: &mut Pass, wanted: u64) -> 
     true
 }
 
+/// Tells whether keys lie in all stripes alike: so many in each.
+fn are_dealt<R: Wait>(
+    rt: &R,
+    alloc: Global,
+    keys: &[Key],
+    stripes: u64,
+    wanted: u64,
+) -> Option<bool> {
+    let (map, mut pass) = map_and_pass(alloc, stripes)?;
+    put_all(rt, &map, &mut pass, keys)?;
+    Some(map.stripes() == stripes && has_each(rt, &map, &mut pass, wanted))
+}
+
 #[test]
 fn keys_lie_in_all_stripes(rt: HostRuntime) -> Result<(), Fail> {
     let mut keys = Vec::new(rt.alloc());
@@ -49,12 +63,33 @@ fn keys_lie_in_all_stripes(rt: HostRuntime) -> Result<(), Fail> {
         keys.push(key(&[number])?)?;
     }
     for (stripes, wanted) in [(1, 64), (4, 16), (64, 1)] {
-        let (map, mut pass) = map_and_pass(rt.alloc(), stripes).ok_or("no map")?;
-        assert_eq!(rt; map.stripes(), stripes);
-        put_all(&rt, &map, &mut pass, &keys).ok_or("not put")?;
-        assert!(rt; has_each(&rt, &map, &mut pass, wanted), "of {stripes}");
+        let dealt = are_dealt(&rt, rt.alloc(), &keys, stripes, wanted);
+        assert!(rt; dealt == Some(true), "of {stripes}");
     }
     Ok(())
+}
+
+/// Tells whether the map has this stripe for each of the keys.
+fn is_stripe_of_all(map: &StripedMap, keys: &[Key], stripe: u64) -> bool {
+    let mut same = true;
+    for key in keys {
+        same &= map.stripe_of(key) == stripe;
+    }
+    same
+}
+
+/// Tells whether the keys, of which there are 32, all lie in this stripe.
+fn are_together<R: Wait>(
+    rt: &R,
+    alloc: Global,
+    keys: &[Key],
+    stripes: u64,
+    stripe: u64,
+) -> Option<bool> {
+    let (map, mut pass) = map_and_pass(alloc, stripes)?;
+    put_all(rt, &map, &mut pass, keys)?;
+    let found = count_in(rt, &map, &mut pass, stripe);
+    Some(found == Some(32) && is_stripe_of_all(&map, keys, stripe))
 }
 
 #[test]
@@ -64,13 +99,8 @@ fn keys_of_one_hash_lie_in_one_stripe(rt: HostRuntime) -> Result<(), Fail> {
         keys.push(key_of_pairs(number)?)?;
     }
     for (stripes, stripe) in [(1, 0), (4, 1), (64, 1)] {
-        let (map, mut pass) = map_and_pass(rt.alloc(), stripes).ok_or("no map")?;
-        put_all(&rt, &map, &mut pass, &keys).ok_or("not put")?;
-        let found = count_in(&rt, &map, &mut pass, stripe);
-        assert_eq!(rt; found, Some(32), "of {stripes}");
-        for key in &keys {
-            assert_eq!(rt; map.stripe_of(key), stripe, "of {stripes}");
-        }
+        let together = are_together(&rt, rt.alloc(), &keys, stripes, stripe);
+        assert!(rt; together == Some(true), "of {stripes}");
     }
     Ok(())
 }

@@ -18,31 +18,56 @@ const CALLS: [(&[u8], Method, Wanted); 9] = [
     (b"a", Method::Get, Wanted::Nothing),
 ];
 
-#[test]
-fn calls_reply_one_by_one_and_in_one_run(rt: HostRuntime) -> Result<(), Fail> {
-    let programs = Programs::new(rt.alloc())?;
-    let mut lenders = Vec::new(rt.alloc());
+/// Tells whether these are the wanted replies.
+fn are_wanted(replies: &[Reply]) -> bool {
+    let mut right = replies.len() == CALLS.len();
+    for (reply, (_, _, wanted)) in replies.iter().zip(&CALLS) {
+        right &= is_wanted(reply, *wanted);
+    }
+    right
+}
+
+/// Tells whether an empty table replies as wanted to one call after the other.
+fn reply_one_by_one(alloc: Global, stripes: u64, calls: &[Call<'_>]) -> Result<bool, Fail> {
+    let mut table = Striped::open(alloc, stripes)?;
+    let mut right = calls.len() == CALLS.len();
+    for (call, (_, _, wanted)) in calls.iter().zip(&CALLS) {
+        right &= is_wanted(&table.apply(call)?, *wanted);
+    }
+    Ok(right)
+}
+
+/// Tells whether an empty table replies as wanted to all calls in one run.
+fn reply_in_one_run(alloc: Global, stripes: u64, calls: &[Call<'_>]) -> Result<bool, Fail> {
+    let mut table = Striped::open(alloc, stripes)?;
+    let replies = table.run(alloc, calls)?;
+    Ok(are_wanted(&replies))
+}
+
+/// Makes what the calls lend.
+fn lenders(alloc: Global) -> Result<Vec<Lender>, Fail> {
+    let mut lenders = Vec::new(alloc);
     for (name, method, _) in CALLS {
         lenders.push(Lender::new(name, method)?)?;
     }
+    Ok(lenders)
+}
+
+#[test]
+fn calls_reply_one_by_one_and_in_one_run(rt: HostRuntime) -> Result<(), Fail> {
+    let programs = Programs::new(rt.alloc())?;
+    let lent = lenders(rt.alloc())?;
     let mut calls = Vec::new(rt.alloc());
-    for lender in &lenders {
+    for lender in &lent {
         calls.push(lender.call(&programs))?;
     }
     for stripes in [1, 4, 64] {
-        let mut table = Striped::open(rt.alloc(), stripes)?;
-        for (call, (_, _, wanted)) in calls.iter().zip(&CALLS) {
-            assert!(rt;
-                is_wanted(&table.apply(call)?, *wanted),
-                "of {stripes} stripes"
-            );
-        }
-        let mut table = Striped::open(rt.alloc(), stripes)?;
-        let replies = table.run(rt.alloc(), &calls)?;
-        assert_eq!(rt; replies.len(), CALLS.len());
-        for (reply, (_, _, wanted)) in replies.iter().zip(&CALLS) {
-            assert!(rt; is_wanted(reply, *wanted), "in a run of {stripes} stripes");
-        }
+        let one_by_one = reply_one_by_one(rt.alloc(), stripes, &calls)?;
+        let in_one_run = reply_in_one_run(rt.alloc(), stripes, &calls)?;
+        assert!(rt;
+            one_by_one && in_one_run,
+            "of {stripes} stripes: {one_by_one}, {in_one_run}"
+        );
     }
     Ok(())
 }

@@ -7,7 +7,7 @@ use bin_stripes::{Pass, StripedMap};
 use std::process::Abort;
 use std::sync::Wait;
 
-/// The last of the passes.
+/// Takes the last of the passes.
 fn last_pass(map: &StripedMap, mut passes: Vec<Pass>) -> Option<Pass>
     requires { All (λ pass. pass.map ≡ map.now) passes.items }
     ensures { IfSome result (λ pass. pass.map ≡ map.now) }
@@ -20,7 +20,7 @@ fn last_pass(map: &StripedMap, mut passes: Vec<Pass>) -> Option<Pass>
     Some(pass)
 }
 
-/// A map of so many stripes and its one pass; none where memory was refused.
+/// Opens a map of so many stripes, with one pass; none where memory was refused.
 pub(super) fn map_and_pass(alloc: Global, stripes: u64) -> Option<(StripedMap, Pass)>
     ensures { IfSome result (λ r. r.1.map ≡ r.0) }
 {
@@ -29,22 +29,43 @@ pub(super) fn map_and_pass(alloc: Global, stripes: u64) -> Option<(StripedMap, P
     Some((map, pass))
 }
 
-/// The reply to the call. What an earlier reply left in the place stays there, where this one leaves no bytes.
-fn reply_to<R: Wait>(
+/// Tells whether the reply to the method on the key of this name is the wanted one. What an earlier reply left in the place
+/// stays there, where this one leaves no bytes.
+fn replies<R: Wait>(
     rt: &R,
     map: &StripedMap,
     pass: &mut Pass,
-    call: &Call,
+    programs: &Programs,
+    asked: (&[u8], Method, Wanted),
     bytes: &mut Value,
-) -> Result<Reply, NoMemory>
+) -> Result<bool, Fail>
     requires { pass.old.map ≡ map.now }
     ensures { pass.new.map ≡ map.now }
 {
-    let kind = map.call_into(rt, pass, call, bytes)?;
-    Ok(kind.with(bytes.copied()))
+    let (name, method, wanted) = asked;
+    let lender = Lender::new(name, method)?;
+    let kind = map.call_into(rt, pass, &lender.call(programs), bytes)?;
+    Ok(is_wanted(&kind.with(bytes.copied()), wanted))
 }
 
-/// A row on the key of a map, in which the key has a neighbour: whether each reply is the wanted one.
+/// Enters a value by a call that does not wait.
+fn enter(
+    map: &StripedMap,
+    pass: &mut Pass,
+    programs: &Programs,
+    name: &[u8],
+    value: &'static [u8],
+    bytes: &mut Value,
+) -> Result<(), Fail>
+    requires { pass.old.map ≡ map.now }
+    ensures { pass.new.map ≡ map.now }
+{
+    let lender = Lender::new(name, Method::Put(value))?;
+    map.try_call_into(pass, &lender.call(programs), bytes)?;
+    Ok(())
+}
+
+/// Plays a row on the key of a map, in which the key has a neighbour: whether each reply is the wanted one.
 fn is_row_kept<R: Wait>(
     rt: &R,
     programs: &Programs,
@@ -55,28 +76,35 @@ fn is_row_kept<R: Wait>(
 ) -> Result<bool, Fail>
     requires { pass.old.map ≡ map.now }
 {
-    let (before, method, reply, after) = row;
+    let (before, method, reply, after) = *row;
+    let Names { key, neighbour } = names;
     let mut bytes = Value::new();
-    let neighbour = Lender::new(names.neighbour, Method::Put(b"other"))?;
-    map.try_call_into(pass, &neighbour.call(programs), &mut bytes)?;
+    enter(map, pass, programs, neighbour, b"other", &mut bytes)?;
     if let Wanted::Bytes(old) = before {
-        let enter = Lender::new(names.key, Method::Put(old))?;
-        map.try_call_into(pass, &enter.call(programs), &mut bytes)?;
+        enter(map, pass, programs, key, old, &mut bytes)?;
     }
-    let row = Lender::new(names.key, *method)?;
-    let given = reply_to(rt, map, pass, &row.call(programs), &mut bytes)?;
-    let get = Lender::new(names.key, Method::Get)?;
-    let found = reply_to(rt, map, pass, &get.call(programs), &mut bytes)?;
-    let get = Lender::new(names.neighbour, Method::Get)?;
-    let beside = reply_to(rt, map, pass, &get.call(programs), &mut bytes)?;
-    Ok(
-        is_wanted(&given, *reply)
-            && is_wanted(&found, *after)
-            && is_wanted(&beside, Wanted::Bytes(b"other")),
-    )
+    let other = Wanted::Bytes(b"other");
+    let given = replies(rt, map, pass, programs, (key, method, reply), &mut bytes)?;
+    let found = replies(
+        rt,
+        map,
+        pass,
+        programs,
+        (key, Method::Get, after),
+        &mut bytes,
+    )?;
+    let beside = replies(
+        rt,
+        map,
+        pass,
+        programs,
+        (neighbour, Method::Get, other),
+        &mut bytes,
+    )?;
+    Ok(given && found && beside)
 }
 
-/// Each row on a map of its own.
+/// Plays each row on a map of its own.
 fn try_rows<R: Wait + Abort>(
     rt: &R,
     alloc: Global,

@@ -1,92 +1,135 @@
 //! Hashes, stripes, passes over a whole table, and refused memory.
 use super::*;
 
+/// Tells whether the key has this hash, and lies in this stripe of four.
+fn is_hashed(bytes: &[u8], hash: u32, stripe: u64) -> Result<bool, TooLong> {
+    let key = key(bytes)?;
+    Ok(hash_of(&key) == hash && is_stripe_count(4) && stripe_of(&key, 4) == stripe)
+}
+
 #[test]
 fn hashes_are_those_of_the_rows(rt: HostRuntime) -> Result<(), Fail> {
-    for (bytes, hash, stripe) in [(b"".as_slice(), 1, 1), (b"ab".as_slice(), 4066, 2)] {
-        let key = key(bytes)?;
-        assert_eq!(rt; hash_of(&key), hash);
-        assert!(rt; is_stripe_count(4));
-        assert_eq!(rt; stripe_of(&key, 4), stripe);
-    }
+    assert!(rt; is_hashed(b"", 1, 1)?);
+    assert!(rt; is_hashed(b"ab", 4066, 2)?);
     Ok(())
+}
+
+/// Tells whether a table of so many stripes is opened without an entry.
+fn is_opened_empty(alloc: Global, stripes: u64) -> Result<bool, Fail> {
+    let table = Striped::open(alloc, stripes)?;
+    Ok(table.scan(alloc)?.is_empty())
+}
+
+/// Returns the number under which a table of so many stripes is refused, or 0 if it is opened.
+fn refusal(alloc: Global, stripes: u64) -> u8 {
+    match Striped::open(alloc, stripes) {
+        Ok(_) => 0,
+        Err(fault) => fault.number(),
+    }
 }
 
 #[test]
 fn numbers_of_stripes(rt: HostRuntime) -> Result<(), Fail> {
     for stripes in [1, 2, 4, 8, 16, 32, 64] {
-        let table = Striped::open(rt.alloc(), stripes)?;
-        assert_eq!(rt; table.scan(rt.alloc())?.len(), 0, "of {stripes}");
+        assert!(rt; is_opened_empty(rt.alloc(), stripes)?, "of {stripes}");
     }
     for stripes in [0, 3, 63, 65, 128, u64::MAX] {
-        let fault = Striped::open(rt.alloc(), stripes).err();
-        assert_eq!(rt; fault.map(OpenFault::number), Some(50), "of {stripes}");
+        assert!(rt; refusal(rt.alloc(), stripes) == 50, "of {stripes}");
     }
     Ok(())
 }
 
-/// Entries of 8 bytes, 8 bytes and 9 bytes.
+/// Enters an entry.
+fn enter(table: &mut Striped, name: &[u8], bytes: &[u8]) -> Result<(), Fail> {
+    let key = &key(name)?;
+    let value = &value(bytes)?;
+    table.apply(&Call::Put { key, value })?;
+    Ok(())
+}
+
+/// Opens a table of entries of 8 bytes, 8 bytes and 9 bytes.
 fn three_entries(alloc: Global, stripes: u64) -> Result<Striped, Fail> {
     let mut table = Striped::open(alloc, stripes)?;
-    for (name, bytes) in [(b"c", NINE.as_slice()), (b"b", &TWO), (b"a", &ONE)] {
-        let key = &key(name)?;
-        let value = &value(bytes)?;
-        table.apply(&Call::Put { key, value })?;
-    }
+    enter(&mut table, b"c", &NINE)?;
+    enter(&mut table, b"b", &TWO)?;
+    enter(&mut table, b"a", &ONE)?;
     Ok(table)
+}
+
+/// Tells whether a scan of the three entries gives them in key order.
+fn are_in_order(alloc: Global, stripes: u64) -> Result<bool, Fail> {
+    let table = three_entries(alloc, stripes)?;
+    let entries = table.scan(alloc)?;
+    let wanted = [(b"a", ONE.as_slice()), (b"b", &TWO), (b"c", &NINE)];
+    let mut right = entries.len() == 3;
+    for ((key, value), (name, bytes)) in entries.iter().zip(&wanted) {
+        right &= key.as_slice() == name.as_slice() && value.as_slice() == *bytes;
+    }
+    Ok(right)
 }
 
 #[test]
 fn a_scan_gives_the_entries_in_key_order(rt: HostRuntime) -> Result<(), Fail> {
     for stripes in [1, 4, 64] {
-        let table = three_entries(rt.alloc(), stripes)?;
-        let entries = table.scan(rt.alloc())?;
-        assert_eq!(rt; entries.len(), 3);
-        for ((key, value), (name, bytes)) in entries
-            .iter()
-            .zip(&[(b"a", ONE.as_slice()), (b"b", &TWO), (b"c", &NINE)])
-        {
-            assert_eq!(rt; key.as_slice(), name.as_slice());
-            assert_eq!(rt; value.as_slice(), *bytes);
-        }
+        assert!(rt; are_in_order(rt.alloc(), stripes)?, "of {stripes}");
     }
     Ok(())
 }
 
-#[test]
-fn a_pass_replaces_what_fits(rt: HostRuntime) -> Result<(), Fail> {
-    let sum = summing(rt.alloc())?;
+/// Tells whether the key has this value.
+fn has(table: &mut Striped, name: &[u8], bytes: &[u8]) -> Result<bool, Fail> {
+    let key = &key(name)?;
+    let reply = table.apply(&Call::Get { key })?;
+    Ok(reply == Reply::Value(Some(value(bytes)?)))
+}
+
+/// Tells whether a pass over the three entries replaces the two that fit.
+fn are_replaced(alloc: Global, sum: &Verified, stripes: u64) -> Result<bool, Fail> {
     let counted = Counts {
         scanned: 3,
         given: 2,
         unfit: 1,
     };
+    let mut table = three_entries(alloc, stripes)?;
+    let mut right = table.replace_each(sum, &Some(value(&ONE)?)) == counted;
+    for (name, bytes) in [(b"a", TWO.as_slice()), (b"b", &THREE), (b"c", &NINE)] {
+        right &= has(&mut table, name, bytes)?;
+    }
+    Ok(right)
+}
+
+#[test]
+fn a_pass_replaces_what_fits(rt: HostRuntime) -> Result<(), Fail> {
+    let sum = summing(rt.alloc())?;
     for stripes in [1, 4, 64] {
-        let mut table = three_entries(rt.alloc(), stripes)?;
-        assert_eq!(rt; table.replace_each(&sum, &Some(value(&ONE)?)), counted);
-        for (name, bytes) in [(b"a", TWO.as_slice()), (b"b", &THREE), (b"c", &NINE)] {
-            let key = &key(name)?;
-            let reply = table.apply(&Call::Get { key })?;
-            assert_eq!(rt; reply, Reply::Value(Some(value(bytes)?)));
-        }
+        assert!(rt; are_replaced(rt.alloc(), &sum, stripes)?, "of {stripes}");
     }
     Ok(())
 }
 
-/// So many keys are put and asked for.
+/// How many keys are put and asked for.
 const KEYS: u8 = 40;
 
-/// Whether each key of one byte below this one has its value, and no other key has one.
-fn ends_before(table: &mut Striped, end: u8) -> Result<bool, Fail> {
+/// Makes the key of one byte.
+fn key_of(number: u8) -> Key {
+    Key::from_slice(&[number]).unwrap()
+}
+
+/// Makes the value that each key has.
+fn new_value() -> Value {
+    Value::from_slice(b"new").unwrap()
+}
+
+/// Tells whether each key of one byte below this one has its value, and no other key has one.
+fn ends_before(table: &mut Striped, end: u8) -> Result<bool, NoMemory> {
     for number in 0..=KEYS {
-        let key = &key(&[number])?;
-        let found = table.apply(&Call::Get { key })?;
-        let value = if number < end {
-            Some(value(b"new")?)
+        let key = &key_of(number);
+        let wanted = if number < end {
+            Some(new_value())
         } else {
             None
         };
-        if found != Reply::Value(value) {
+        if table.apply(&Call::Get { key })? != Reply::Value(wanted) {
             return Ok(false);
         }
     }
@@ -95,12 +138,22 @@ fn ends_before(table: &mut Striped, end: u8) -> Result<bool, Fail> {
 
 /// Puts the key of one byte.
 fn put(table: &mut Striped, number: u8) -> Result<Reply, NoMemory> {
-    let key = &Key::from_slice(&[number]).unwrap();
-    let value = &Value::from_slice(b"new").unwrap();
+    let key = &key_of(number);
+    let value = &new_value();
     table.apply(&Call::Put { key, value })
 }
 
-/// A table of so many stripes, opened once more where memory was refused.
+/// Puts the keys below this one, each once more if it was refused.
+fn fill(table: &mut Striped, end: u8) -> Result<(), NoMemory> {
+    for number in 0..end {
+        if put(table, number).is_err() {
+            put(table, number)?;
+        }
+    }
+    Ok(())
+}
+
+/// Opens a table of so many stripes, once more if memory was refused.
 fn opened(alloc: Global, stripes: u64) -> Result<Striped, OpenFault> {
     match Striped::open(alloc, stripes) {
         Err(OpenFault::NoMemory) => Striped::open(alloc, stripes),
@@ -112,8 +165,18 @@ fn opened(alloc: Global, stripes: u64) -> Result<Striped, OpenFault> {
 #[test]
 fn a_refused_open_can_be_made_again(rt: HostRuntime) -> Result<(), Fail> {
     let table = opened(rt.alloc(), 64)?;
-    assert_eq!(rt; table.count(), 0);
+    assert!(rt; table.count() == 0);
     Ok(())
+}
+
+/// Puts the key, and once more if it was refused; whether the table then had just the keys before it.
+fn is_refused_well(table: &mut Striped, number: u8) -> Result<bool, NoMemory> {
+    if put(table, number).is_ok() {
+        return Ok(true);
+    }
+    let left = ends_before(table, number)?;
+    put(table, number)?;
+    Ok(left)
 }
 
 /// Also where one allocation fails: that call leaves the table, and the same call once more enters.
@@ -121,63 +184,71 @@ fn a_refused_open_can_be_made_again(rt: HostRuntime) -> Result<(), Fail> {
 fn a_refused_call_leaves_the_table(rt: HostRuntime) -> Result<(), Fail> {
     let mut table = opened(rt.alloc(), 4)?;
     for number in 0..KEYS {
-        if put(&mut table, number).is_err() {
-            assert!(rt; ends_before(&mut table, number)?, "at {number}");
-            put(&mut table, number)?;
-        }
+        assert!(rt; is_refused_well(&mut table, number)?, "at {number}");
     }
     assert!(rt; ends_before(&mut table, KEYS)?);
     Ok(())
+}
+
+/// The keys that one run puts.
+const RUN: [u8; 9] = [0, 1, 2, 3, 4, 5, 6, 7, 8];
+
+/// Puts nine keys in one run; the replies to the calls that were made.
+fn replies_of_run(alloc: Global, table: &mut Striped) -> Vec<Reply> {
+    let value = &new_value();
+    let keys = RUN.map(key_of);
+    let calls = keys.each_ref().map(|key| Call::Put { key, value });
+    match table.run(alloc, &calls) {
+        Ok(replies) => replies,
+        Err(stopped) => stopped.replies,
+    }
+}
+
+/// Counts the replies, if there are at most nine and each is that the key had no value.
+fn count_of(replies: &[Reply]) -> Option<u8> {
+    let mut count = 0u8;
+    for reply in replies {
+        if *reply != Reply::Value(None) || count >= 9 {
+            return None;
+        }
+        count = count.wrapping_add(1);
+    }
+    Some(count)
 }
 
 /// Also where one allocation fails: the calls that were replied to were made, and no other.
 #[test]
 fn a_stopped_run_made_the_calls_that_were_replied_to(rt: HostRuntime) -> Result<(), Fail> {
     let mut table = opened(rt.alloc(), 4)?;
-    let value = &value(b"new")?;
-    let keys = [
-        key(&[0])?,
-        key(&[1])?,
-        key(&[2])?,
-        key(&[3])?,
-        key(&[4])?,
-        key(&[5])?,
-        key(&[6])?,
-        key(&[7])?,
-        key(&[8])?,
-    ];
-    let calls = keys.each_ref().map(|key| Call::Put { key, value });
-    let replies = match table.run(rt.alloc(), &calls) {
-        Ok(replies) => replies,
-        Err(stopped) => stopped.replies,
-    };
-    let made = replies.len();
-    assert!(rt; made <= 9);
-    for reply in &replies {
-        assert!(rt; *reply == Reply::Value(None), "of {made}");
-    }
-    assert!(rt; ends_before(&mut table, made as u8)?, "after {made}");
+    let replies = replies_of_run(rt.alloc(), &mut table);
+    let made = count_of(&replies).ok_or("a wrong reply")?;
+    assert!(rt; ends_before(&mut table, made)?, "after {made}");
     Ok(())
+}
+
+/// Scans the table, and once more if memory was refused.
+fn scanned(alloc: Global, table: &Striped) -> Result<Vec<(Key, Value)>, NoMemory> {
+    match table.scan(alloc) {
+        Err(NoMemory) => table.scan(alloc),
+        found => found,
+    }
+}
+
+/// Tells whether these are the nine entries, in key order.
+fn are_nine(found: &[(Key, Value)]) -> bool {
+    let mut right = found.len() == RUN.len();
+    for ((key, value), number) in found.iter().zip(&RUN) {
+        right &= *key == key_of(*number) && *value == new_value();
+    }
+    right
 }
 
 /// Also where one allocation fails: a scan gives all entries, or none and can be made again.
 #[test]
 fn a_refused_scan_leaves_the_table(rt: HostRuntime) -> Result<(), Fail> {
     let mut table = opened(rt.alloc(), 4)?;
-    for number in 0..9 {
-        if put(&mut table, number).is_err() {
-            put(&mut table, number)?;
-        }
-    }
-    let found = match table.scan(rt.alloc()) {
-        Err(NoMemory) => table.scan(rt.alloc())?,
-        Ok(found) => found,
-    };
-    assert_eq!(rt; found.len(), 9);
-    for (number, (key, value)) in found.iter().enumerate() {
-        assert_eq!(rt; key.as_slice(), [number as u8].as_slice());
-        assert_eq!(rt; value.as_slice(), b"new".as_slice());
-    }
-    assert!(rt; ends_before(&mut table, 9)?);
+    fill(&mut table, 9)?;
+    let found = scanned(rt.alloc(), &table)?;
+    assert!(rt; are_nine(&found) && ends_before(&mut table, 9)?);
     Ok(())
 }

@@ -12,7 +12,7 @@ struct MadeUp {
 }
 
 impl MadeUp {
-    /// The next number below a bound.
+    /// Returns the next number below a bound.
     fn below(&mut self, bound: u32) -> u32
         requires { 0 < bound }
         ensures { result < bound }
@@ -25,14 +25,44 @@ impl MadeUp {
     }
 }
 
-/// The value after a change: 17 bytes longer, and short again after 80.
+/// Returns the value after a change: 17 bytes longer, and short again after 80.
 fn changed(old: &Value) -> Result<Value, Fail> {
     let bytes = [7; 80];
     let long = (old.as_slice().len() + 17) % 81;
     Ok(Value::from_slice(&bytes[..long])?)
 }
 
-/// One call on a made-up key, in the bins and in the list; whether they agree on what it found.
+/// Puts a value on the key, in the bins and in the list.
+fn put_both<B: Bins>(
+    bins: &mut B,
+    key: &HashedKey<'_>,
+    entry: &mut Option<Value>,
+    number: u32,
+) -> Result<bool, Fail> {
+    let value = Value::from_slice(&number.to_be_bytes())?;
+    *entry = Some(value.copied());
+    bins.put(key, &value)?;
+    Ok(true)
+}
+
+/// Changes the value of the key, if it has one; whether bins and list agreed on it.
+fn change_both<B: Bins>(
+    bins: &mut B,
+    key: &HashedKey<'_>,
+    entry: &mut Option<Value>,
+) -> Result<bool, Fail> {
+    match entry {
+        Some(value) => {
+            let same = bins.find(key) == Some(value.as_slice());
+            *value = changed(value)?;
+            bins.put(key, value)?;
+            Ok(same)
+        }
+        None => Ok(bins.find(key).is_none()),
+    }
+}
+
+/// Makes one call on a made-up key, in the bins and in the list; whether they agree on what it found.
 fn step<B: Bins>(
     bins: &mut B,
     list: &mut [Option<Value>],
@@ -45,27 +75,14 @@ fn step<B: Bins>(
         return Ok(false);
     };
     match made_up.below(4) {
-        0 => {
-            let value = Value::from_slice(&made_up.below(KEYS).to_be_bytes())?;
-            *entry = Some(value.copied());
-            bins.put(&key, &value)?;
-            Ok(true)
-        }
+        0 => put_both(bins, &key, entry, made_up.below(KEYS)),
         1 => Ok(bins.find(&key) == entry.as_ref().map(Value::as_slice)),
         2 => Ok(bins.remove(&key) == entry.take()),
-        _ => match entry {
-            Some(value) => {
-                let same = bins.find(&key) == Some(value.as_slice());
-                *value = changed(value)?;
-                bins.put(&key, value)?;
-                Ok(same)
-            }
-            None => Ok(bins.find(&key).is_none()),
-        },
+        _ => change_both(bins, &key, entry),
     }
 }
 
-/// The entries that the list has, in key order.
+/// Returns the entries that the list has, in key order.
 fn listed(alloc: Global, list: &[Option<Value>]) -> Result<Vec<(Key, Value)>, Fail> {
     let mut entries = Vec::new(alloc);
     for (number, value) in (0..KEYS).zip(list) {
@@ -76,13 +93,19 @@ fn listed(alloc: Global, list: &[Option<Value>]) -> Result<Vec<(Key, Value)>, Fa
     Ok(entries)
 }
 
-/// So many calls; whether bins and list agreed on each, and have the same entries in the end.
-fn agree<B: Bins + Drop>(alloc: Global, calls: u32) -> Result<bool, Fail> {
-    let mut bins = B::open(alloc, 1)?;
+/// Makes the list of no values.
+fn empty_list(alloc: Global) -> Result<Vec<Option<Value>>, Fail> {
     let mut list = Vec::new(alloc);
     for _ in 0..KEYS {
         list.push(None)?;
     }
+    Ok(list)
+}
+
+/// Makes so many calls; whether bins and list agreed on each, and have the same entries in the end.
+fn agree<B: Bins + Drop>(alloc: Global, calls: u32) -> Result<bool, Fail> {
+    let mut bins = B::open(alloc, 1)?;
+    let mut list = empty_list(alloc)?;
     let mut made_up = MadeUp { state: 1 };
     let mut same = true;
     for _ in 0..calls {

@@ -1,24 +1,25 @@
 //! Faults of devices, and words that are not there.
-use super::memory::{Interrupted, Pieces, ROOM, Room, call};
+use super::memory::{Interrupted, Outcome, Pieces, ROOM, Room, call};
 use map_server::{StreamSink, StreamSource, bpfmap_on, tell_unread_words};
+use std::alloc::Global;
 use std::io::{self, ErrorKind};
-use std::test::Fail;
+use std::sync::Wait;
 
 const NOTHING: &[u8] = b"b7 00 00 00 ff ff ff ff 95 00 00 00 00 00 00 00";
 
+/// Makes an input of these bytes, in pieces of at most this size.
 fn pieces(rest: &[u8], size: usize, fails: bool) -> Pieces<'_> {
     Pieces { rest, size, fails }
 }
 
 #[test]
-fn no_word_is_no_command(rt: HostRuntime) -> Result<(), Fail> {
+fn no_word_is_no_command(rt: HostRuntime) {
     let none = call(&rt, &[], pieces(b"", 1, false), ROOM, ROOM);
     assert!(rt; none.status == 2 && none.output.is_empty() && !none.errors.is_empty());
-    Ok(())
 }
 
 #[test]
-fn failed_reads_end_with_status_3(rt: HostRuntime) -> Result<(), Fail> {
+fn failed_reads_end_with_status_3(rt: HostRuntime) {
     for (good, errors_room) in [
         (0, ROOM),
         (1, ROOM),
@@ -29,37 +30,36 @@ fn failed_reads_end_with_status_3(rt: HostRuntime) -> Result<(), Fail> {
     ] {
         let input = pieces(&NOTHING[..good], 5, true);
         let found = call(&rt, &["bpfmap", "run"], input, ROOM, errors_room);
-        assert!(rt; found.status == 3, "after {good}");
-        assert!(rt; found.output.is_empty(), "after {good}");
         let told = &b"failed read\n"[..errors_room.min(12)];
-        assert!(rt; found.errors.as_slice() == told, "after {good}");
+        assert!(rt; found.is(3, b"", told), "after {good}");
     }
-    Ok(())
+}
+
+/// Tells whether the status is 3, the output is full, and this is all that is told.
+fn is_failed_write(found: &Outcome, room: usize, errors_room: usize) -> bool {
+    let told = &b"failed write\n"[..errors_room.min(13)];
+    found.status == 3 && found.output.len() == room && found.errors.as_slice() == told
 }
 
 #[test]
-fn failed_writes_end_with_status_3(rt: HostRuntime) -> Result<(), Fail> {
+fn failed_writes_end_with_status_3(rt: HostRuntime) {
     for (room, errors_room) in [(0, ROOM), (1, ROOM), (7, ROOM), (0, 0), (3, 5)] {
         for words in [["bpfmap", "run"], ["bpfmap", "--help"]] {
-            let input = pieces(NOTHING, 5, false);
-            let found = call(&rt, &words, input, room, errors_room);
-            assert!(rt; found.status == 3, "{words:?} with room for {room}");
+            let found = call(&rt, &words, pieces(NOTHING, 5, false), room, errors_room);
             assert!(rt;
-                found.output.len() == room,
-                "{words:?} with room for {room}"
-            );
-            let told = &b"failed write\n"[..errors_room.min(13)];
-            assert!(rt;
-                found.errors.as_slice() == told,
+                is_failed_write(&found, room, errors_room),
                 "{words:?} with room for {room}"
             );
         }
     }
+}
+
+#[test]
+fn what_fits_is_written(rt: HostRuntime) {
     let all = call(&rt, &["bpfmap", "run"], pieces(NOTHING, 5, false), 8, 0);
-    assert!(rt; all.status == 0 && all.output.as_slice() == b"nothing\n".as_slice());
+    assert!(rt; all.is(0, b"nothing\n", b""));
     let words = call(&rt, &["bpfmap", "walk"], pieces(NOTHING, 5, false), 8, 0);
-    assert!(rt; words.status == 2 && words.output.is_empty());
-    Ok(())
+    assert!(rt; words.is(2, b"", b""));
 }
 
 #[test]
@@ -72,74 +72,60 @@ fn what_is_told_of_a_failed_write_is_that_alone(rt: HostRuntime) {
         (16, 0, 1, ""),
         (3, 0, 3, ""),
     ] {
-        let input = Pieces {
-            rest: b"",
-            size: 1,
-            fails: false,
-        };
-        let found = call(&rt, &["bpfmap", "check"], input, room, errors_room);
-        assert!(rt; found.status == status, "room for {room} and {errors_room}");
-        assert!(rt;
-            found.output.len() == room,
-            "room for {room} and {errors_room}"
+        let found = call(
+            &rt,
+            &["bpfmap", "check"],
+            pieces(b"", 1, false),
+            room,
+            errors_room,
         );
+        let full = found.status == status && found.output.len() == room;
         assert!(rt;
-            found.errors.as_slice() == told.as_bytes(),
+            full && found.errors.as_slice() == told.as_bytes(),
             "room for {room} and {errors_room}"
         );
     }
 }
 
+/// Tells of words that were not read; what that leaves.
+fn tell(alloc: Global, kind: ErrorKind) -> Outcome {
+    let mut writer = StreamSink::new(Room::new(alloc, ROOM));
+    let mut errors = StreamSink::new(Room::new(alloc, ROOM));
+    let status = tell_unread_words(&io::Error::from(kind), &mut writer, &mut errors);
+    Outcome {
+        status,
+        output: writer.into_inner().bytes,
+        errors: errors.into_inner().bytes,
+    }
+}
+
 #[test]
 fn unread_words_are_told(rt: HostRuntime) {
-    for (kind, expected, output, line) in [
-        (ErrorKind::OutOfMemory, 1, "refused 9 at 0\n", "no memory\n"),
-        (
-            ErrorKind::InvalidData,
-            2,
-            "",
-            "error: the command line is not UTF-8\n",
-        ),
-    ] {
-        let mut writer = StreamSink::new(Room::new(rt.alloc(), ROOM));
-        let mut errors = StreamSink::new(Room::new(rt.alloc(), ROOM));
-        let status = tell_unread_words(&io::Error::from(kind), &mut writer, &mut errors);
-        assert!(rt; status == expected, "status {expected}");
-        let printed = writer.into_inner().bytes;
-        assert!(rt;
-            printed.as_slice() == output.as_bytes(),
-            "status {expected}"
-        );
-        let told = errors.into_inner().bytes;
-        assert!(rt; told.as_slice() == line.as_bytes(), "status {expected}");
+    let memory = tell(rt.alloc(), ErrorKind::OutOfMemory);
+    assert!(rt; memory.is(1, b"refused 9 at 0\n", b"no memory\n"));
+    let text = tell(rt.alloc(), ErrorKind::InvalidData);
+    assert!(rt; text.is(2, b"", b"error: the command line is not UTF-8\n"));
+}
+
+/// Makes a call whose reads and writes are each interrupted so many times.
+fn interrupted<R: AllocGlobal + Wait>(rt: &R, times: u8) -> Outcome {
+    let alloc = rt.alloc();
+    let mut reader = StreamSource::new(Interrupted::new(pieces(NOTHING, 5, false), times));
+    let mut writer = StreamSink::new(Interrupted::new(Room::new(alloc, ROOM), times));
+    let mut errors = StreamSink::new(Room::new(alloc, ROOM));
+    let words = ["bpfmap", "run"];
+    let status = bpfmap_on(rt, alloc, &words, &mut reader, &mut writer, &mut errors);
+    Outcome {
+        status,
+        output: writer.into_inner().inner.bytes,
+        errors: errors.into_inner().bytes,
     }
 }
 
 #[test]
 fn interrupted_reads_and_writes_are_tried_again(rt: HostRuntime) {
     for times in [0, 1, 2, 7] {
-        let mut reader = StreamSource::new(Interrupted::new(pieces(NOTHING, 5, false), times));
-        let output = Interrupted::new(Room::new(rt.alloc(), ROOM), times);
-        let mut writer = StreamSink::new(output);
-        let mut errors = StreamSink::new(Room::new(rt.alloc(), ROOM));
-        let words = ["bpfmap", "run"];
-        let status = bpfmap_on(
-            &rt,
-            rt.alloc(),
-            &words,
-            &mut reader,
-            &mut writer,
-            &mut errors,
-        );
-        let printed = writer.into_inner().inner.bytes;
-        assert!(rt; status == 0, "interrupted {times} times");
-        assert!(rt;
-            printed.as_slice() == b"nothing\n".as_slice(),
-            "interrupted {times} times"
-        );
-        assert!(rt;
-            errors.into_inner().bytes.is_empty(),
-            "interrupted {times} times"
-        );
+        let found = interrupted(&rt, times);
+        assert!(rt; found.is(0, b"nothing\n", b""), "interrupted {times} times");
     }
 }

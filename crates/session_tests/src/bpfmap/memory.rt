@@ -33,6 +33,7 @@ pub struct Room {
 }
 
 impl Room {
+    /// Makes an empty room of this size.
     pub fn new(alloc: Global, room: usize) -> Room {
         Room {
             bytes: Vec::new(alloc),
@@ -66,6 +67,7 @@ pub struct Interrupted<D> {
 }
 
 impl<D> Interrupted<D> {
+    /// Makes the device's calls be interrupted this many times.
     pub fn new(inner: D, times: u8) -> Interrupted<D> {
         Interrupted {
             inner,
@@ -74,6 +76,7 @@ impl<D> Interrupted<D> {
         }
     }
 
+    /// Interrupts the call, or lets it be made if it was interrupted often enough.
     fn interrupt(&mut self) -> io::Result<()> {
         if self.left == 0 {
             self.left = self.times;
@@ -110,9 +113,18 @@ pub struct Outcome {
     pub errors: Vec<u8>,
 }
 
+impl Outcome {
+    /// Tells whether it has this status, output and errors.
+    pub fn is(&self, status: u8, output: &[u8], errors: &[u8]) -> bool {
+        self.status == status
+            && self.output.as_slice() == output
+            && self.errors.as_slice() == errors
+    }
+}
+
 pub const ROOM: usize = 1 << 20;
 
-/// One call, with this room in standard output and standard error.
+/// Makes one call, with this room in standard output and standard error.
 pub fn call<R: AllocGlobal + Wait>(
     rt: &R,
     words: &[&str],

@@ -102,7 +102,7 @@ const ROWS: [Row; 3] = [
     },
 ];
 
-/// An empty table, asked for once more where memory was refused.
+/// Opens an empty table, once more if memory was refused.
 fn opened(alloc: Global) -> Result<Alone, OpenFault> {
     match Alone::open(alloc, 4) {
         Err(OpenFault::NoMemory) => Alone::open(alloc, 4),
@@ -113,7 +113,7 @@ fn opened(alloc: Global) -> Result<Alone, OpenFault> {
 /// The end of a session, and what was answered.
 type Ended = (SessionEnd, ArrayVec<u8, KEPT_BYTES>);
 
-/// One session, which reads a Hello and these frames in pieces of at most this size.
+/// Runs one session, which reads a Hello and these frames in pieces of at most this size.
 fn session(rt: &impl Wait, alloc: Global, alone: &mut Alone, frames: &[u8], size: usize) -> Ended {
     let mut sent = ArrayVec::<u8, KEPT_BYTES>::new();
     let _ = sent.try_extend_from_slice(HELLO);
@@ -130,7 +130,7 @@ fn session(rt: &impl Wait, alloc: Global, alone: &mut Alone, frames: &[u8], size
     (end, writer.into_inner().bytes)
 }
 
-/// The bytes are a welcome, these answers, and then the last.
+/// Tells whether the bytes are a welcome, these answers, and then the last.
 fn are(bytes: &[u8], answers: &[&[u8]], last: &[u8]) -> bool {
     let mut wanted = ArrayVec::<u8, KEPT_BYTES>::new();
     let _ = wanted.try_extend_from_slice(WELCOME);
@@ -141,7 +141,7 @@ fn are(bytes: &[u8], answers: &[&[u8]], last: &[u8]) -> bool {
     bytes == wanted.as_slice()
 }
 
-/// A closed session answered as with ample memory, or refused one request; one that memory ended answered the first of them.
+/// Tells whether a closed session answered as with ample memory, or refused one request, and one that memory ended the first of them.
 fn is_answered(row: &Row, ended: &Ended) -> bool {
     let bytes = ended.1.as_slice();
     match ended.0 {
@@ -169,19 +169,33 @@ fn a_refused_request_is_told(rt: HostRuntime) -> Result<(), Fail> {
     Ok(())
 }
 
+/// Returns what a session with a Get is answered, or another one if memory ended it.
+fn got(rt: &impl Wait, alloc: Global, alone: &mut Alone, size: usize) -> ArrayVec<u8, KEPT_BYTES> {
+    let (end, answered) = session(rt, alloc, alone, GET, size);
+    if end == SessionEnd::NoMemory {
+        return session(rt, alloc, alone, GET, size).1;
+    }
+    answered
+}
+
+/// Tells whether a Get is answered with the value of a Put that was answered for, and with none else.
+fn is_left(rt: &impl Wait, alloc: Global, alone: &mut Alone, size: usize) -> bool {
+    let (_, answered) = session(rt, alloc, alone, PUT, size);
+    let is_put = answered.len() >= 13 && answered[12] == 0xFF;
+    let value = if is_put { TEXT } else { NOTHING };
+    let answered = got(rt, alloc, alone, size);
+    are(answered.as_slice(), &[value], b"")
+}
+
 /// Also where one request for memory is refused: the table has the values that were answered for, and no other.
 #[test]
 fn a_refused_request_leaves_the_table(rt: HostRuntime) -> Result<(), Fail> {
     for size in [ROOM, 9, 1] {
         let mut alone = opened(rt.alloc())?;
-        let (_, answered) = session(&rt, rt.alloc(), &mut alone, PUT, size);
-        let is_put = answered.len() >= 13 && answered[12] == 0xFF;
-        let (end, mut answered) = session(&rt, rt.alloc(), &mut alone, GET, size);
-        if end == SessionEnd::NoMemory {
-            answered = session(&rt, rt.alloc(), &mut alone, GET, size).1;
-        }
-        let value = if is_put { TEXT } else { NOTHING };
-        assert!(&rt; are(answered.as_slice(), &[value], b""), "{size} at a time");
+        assert!(&rt;
+            is_left(&rt, rt.alloc(), &mut alone, size),
+            "{size} at a time"
+        );
     }
     Ok(())
 }

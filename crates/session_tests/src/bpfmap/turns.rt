@@ -2,7 +2,7 @@
 use atomic_methods::OpenFault;
 use client_protocol::ProtocolFault;
 use map_server::{Alone, SessionEnd, StreamSink, StreamSource, session_alone};
-use std::alloc::Global;
+use std::alloc::{AllocError, Global};
 use std::cell::Cell;
 use std::io::{self, ErrorKind, Read, Write};
 use std::sync::Wait;
@@ -99,7 +99,7 @@ const CLOSED: [Turn; 4] = [HELLO_TURN, PUTS, GET, GET];
 
 const REFUSED: [Turn; 3] = [HELLO_TURN, GET_OF_NOTHING, UNKNOWN];
 
-/// The end of a session over these turns, in pieces of at most this size, and what its sink was left with.
+/// Runs a session over these turns, in pieces of at most this size; how it ended, and what its sink was left with.
 fn session<'a, R: Wait>(
     rt: &R,
     alloc: Global,
@@ -125,29 +125,71 @@ fn session<'a, R: Wait>(
     Ok((end, writer.into_inner()))
 }
 
+/// A session over these turns, in pieces of at most this size: how it ends, and how often its answers are passed on.
+struct Row {
+    turns: &'static [Turn],
+    size: usize,
+    ended: SessionEnd,
+    flushes: u64,
+}
+
+const UNKNOWN_REQUEST: SessionEnd = SessionEnd::Refused(ProtocolFault::UnknownRequest);
+
+/// There is a flush before the first read, and one for the answers to each piece.
+const ROWS: [Row; 4] = [
+    Row {
+        turns: &CLOSED,
+        size: 1 << 10,
+        ended: SessionEnd::Closed,
+        flushes: 5,
+    },
+    Row {
+        turns: &CLOSED,
+        size: 1,
+        ended: SessionEnd::Closed,
+        flushes: 6,
+    },
+    Row {
+        turns: &REFUSED,
+        size: 1 << 10,
+        ended: UNKNOWN_REQUEST,
+        flushes: 4,
+    },
+    Row {
+        turns: &REFUSED,
+        size: 1,
+        ended: UNKNOWN_REQUEST,
+        flushes: 4,
+    },
+];
+
+/// Tells whether all answers to the turns were passed on, and nothing else.
+fn are_passed_on(alloc: Global, turns: &[Turn], sink: &Buffered<'_>) -> Result<bool, AllocError> {
+    let mut wanted = Vec::new(alloc);
+    for turn in turns {
+        wanted.extend_from_slice(turn.answered)?;
+    }
+    Ok(sink.bytes.as_slice() == wanted.as_slice() && sink.kept_back.is_empty())
+}
+
+/// Tells whether the session ends as the row says, and its client has all answers.
+fn is_served<R: AllocGlobal + Wait>(rt: &R, row: &Row) -> Result<bool, Fail> {
+    let alloc = rt.alloc();
+    let passed_on = Cell::new(0);
+    let (end, sink) = session(rt, alloc, row.turns, row.size, &passed_on)?;
+    let right = end == row.ended && sink.flushes == row.flushes;
+    Ok(right && are_passed_on(alloc, row.turns, &sink)?)
+}
+
 #[test]
 fn a_client_that_waits_for_its_answers_is_served(rt: HostRuntime) -> Result<(), Fail> {
-    // There is a flush before the first read, and one for the answers to each piece.
-    let refused = SessionEnd::Refused(ProtocolFault::UnknownRequest);
-    for (turns, size, ended, flushes) in [
-        (CLOSED.as_slice(), 1 << 10, SessionEnd::Closed, 5),
-        (CLOSED.as_slice(), 1, SessionEnd::Closed, 6),
-        (REFUSED.as_slice(), 1 << 10, refused, 4),
-        (REFUSED.as_slice(), 1, refused, 4),
-    ] {
-        let passed_on = Cell::new(0);
-        let (end, sink) = session(&rt, rt.alloc(), turns, size, &passed_on)?;
-        let mut wanted = Vec::new(rt.alloc());
-        for turn in turns {
-            wanted.extend_from_slice(turn.answered)?;
-        }
-        assert!(&rt; end == ended, "{size} at a time");
+    for row in &ROWS {
         assert!(&rt;
-            sink.bytes.as_slice() == wanted.as_slice(),
-            "{size} at a time"
+            is_served(&rt, row)?,
+            "{:?}, {} at a time",
+            row.ended,
+            row.size
         );
-        assert!(&rt; sink.flushes == flushes, "{size} at a time");
-        assert!(&rt; sink.kept_back.is_empty(), "{size} at a time");
     }
     Ok(())
 }

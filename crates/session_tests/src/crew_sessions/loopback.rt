@@ -31,7 +31,7 @@ const VALUE: &[u8] = b"\0\0\0\x0B\x82\0\x08";
 
 const MERGES: u32 = 100;
 
-/// A client that registers the sum and merges 1 so many times; whether each answer was a value.
+/// Registers the sum as a client does, and merges 1 so many times; whether each answer was a value.
 fn merge_by_ones<H: Net<Listener = TcpListener, Stream = TcpStream>>(
     rt: &H,
     address: &str,
@@ -53,7 +53,7 @@ fn merge_by_ones<H: Net<Listener = TcpListener, Stream = TcpStream>>(
     Ok(true)
 }
 
-/// Two clients at once; whether each answer was a value.
+/// Runs two clients at once; whether each answer was a value.
 fn merge_twice<H: Threads + Net<Listener = TcpListener, Stream = TcpStream> + Sync>(
     rt: &H,
     address: &str,
@@ -66,13 +66,12 @@ fn merge_twice<H: Threads + Net<Listener = TcpListener, Stream = TcpStream> + Sy
     Ok(one? && other?)
 }
 
-/// What the clients' answers were, and the crews, once both were served.
+/// Serves both clients; the crews, and whether the clients had the right answers.
 fn serve_beside<
-    H: Threads + Wait + Net<Listener = TcpListener, Stream = TcpStream> + Sync,
+    H: AllocGlobal + Threads + Wait + Net<Listener = TcpListener, Stream = TcpStream> + Sync,
     A: Accept<TcpReader, TcpWriter> + Sync,
 >(
     rt: &H,
-    alloc: Global,
     accept: &A,
     map: &StripedMap,
     registry: &Registry,
@@ -82,6 +81,7 @@ fn serve_beside<
     requires { All (λ crew. IsCrewOf map.now crew) crews.items }
     ensures { IfOk result.0 (λ back. All (λ crew. IsCrewOf map.now crew) back.items) }
 {
+    let alloc = rt.alloc();
     thread::join(
         rt,
         move || -> Result<Vec<Crew>, NoMemory>
@@ -92,7 +92,7 @@ fn serve_beside<
     )
 }
 
-/// The passes of the last two crews, joined.
+/// Joins the passes of the last two crews.
 fn joined_pass(map: &StripedMap, mut crews: Vec<Crew>) -> Option<Pass>
     requires { All (λ crew. IsCrewOf map.now crew) crews.items }
     ensures { IfSome result (λ pass. pass.map ≡ map.now) }
@@ -106,34 +106,62 @@ fn joined_pass(map: &StripedMap, mut crews: Vec<Crew>) -> Option<Pass>
     Some(join_sessions(map, one.pass, other.pass))
 }
 
-#[test]
-fn two_clients_merge_into_one_key(rt: HostRuntime) -> Result<(), Fail> {
-    let (map, one, other) = two_crews(rt.alloc()).ok_or("no map")?;
-    let registry = Registry::new(rt.alloc())?;
-    let listener = TcpListener::bind(&rt, "127.0.0.1:0")?;
+/// Serves two clients, who merge; whether each answer was a value, and the crews' passes find the sum when they are joined.
+fn serve_two<
+    H: AllocGlobal + Threads + Wait + Net<Listener = TcpListener, Stream = TcpStream> + Sync,
+    A: Accept<TcpReader, TcpWriter> + Sync,
+>(
+    rt: &H,
+    accept: &A,
+    map: &StripedMap,
+    registry: &Registry,
+    crews: Vec<Crew>,
+    address: &str,
+) -> Result<bool, Fail>
+    requires { All (λ crew. IsCrewOf map.now crew) crews.items }
+{
+    let (back, merged) = serve_beside(rt, accept, map, registry, crews, address);
+    let merged = merged?;
+    let joined = joined_pass(map, back?).ok_or("no crews")?;
+    Ok(merged && is_sum(rt, map, joined))
+}
+
+/// Tells whether the key has the sum of all merges.
+fn is_sum<H: Wait>(rt: &H, map: &StripedMap, mut pass: Pass) -> bool
+    requires { pass.map ≡ map.now }
+{
+    let Ok(key) = Key::from_slice(b"a") else {
+        return false;
+    };
+    match map.call(rt, &mut pass, &Call::Get { key: &key }) {
+        Ok(Reply::Value(Some(value))) => {
+            value.as_slice() == [200, 0, 0, 0, 0, 0, 0, 0].as_slice()
+        }
+        _ => false,
+    }
+}
+
+/// Listens on a port that is free; the listener and its address.
+fn listening<H: AllocGlobal + Net<Listener = TcpListener, Stream = TcpStream>>(
+    rt: &H,
+) -> io::Result<(TcpListener, String)> {
+    let listener = TcpListener::bind(rt, "127.0.0.1:0")?;
     let address = listener.local_addr()?;
     let address = format!(in rt.alloc(); "{address}")?;
-    let mut errors = StreamSink::new(Room::new(rt.alloc(), ROOM));
+    Ok((listener, address))
+}
+
+#[test]
+fn two_clients_merge_into_one_key(rt: HostRuntime) -> Result<(), Fail> {
+    let (listener, address) = listening(&rt)?;
     let quotas = Quotas::new(rt.alloc(), 2, Some(1))?;
+    let mut errors = StreamSink::new(Room::new(rt.alloc(), ROOM));
     let telling = Telling::new(&mut errors);
     let accept = TcpAccept::new(&rt, rt.alloc(), listener, quotas, telling);
+    let registry = Registry::new(rt.alloc())?;
+    let (map, one, other) = two_crews(rt.alloc()).ok_or("no map")?;
     let crews = vec![in rt.alloc(); one, other]?;
-    let (back, merged) = serve_beside(
-        &rt,
-        rt.alloc(),
-        &accept,
-        &map,
-        &registry,
-        crews,
-        address.as_str(),
-    );
-    assert!(&rt; merged?, "answers");
-    let mut joined = joined_pass(&map, back?).ok_or("no crews")?;
-    let key = &Key::from_slice(b"a")?;
-    let found = map.call(&rt, &mut joined, &Call::Get { key })?;
-    let Reply::Value(Some(value)) = found else {
-        return Err("no value".into());
-    };
-    assert!(&rt; value.as_slice() == [200, 0, 0, 0, 0, 0, 0, 0].as_slice());
+    let address = address.as_str();
+    assert!(&rt; serve_two(&rt, &accept, &map, &registry, crews, address)?);
     Ok(())
 }

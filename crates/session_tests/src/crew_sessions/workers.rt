@@ -102,6 +102,7 @@ struct Calls {
 }
 
 impl Calls {
+    /// Makes the calls, none of them made yet.
     fn new(most: u64) -> Calls {
         Calls {
             most,
@@ -165,6 +166,7 @@ struct Told {
 }
 
 impl Told {
+    /// Makes what is told before anything was done.
     fn new(alloc: Global, most: u64) -> Told {
         Told {
             clients: Clients {
@@ -179,12 +181,22 @@ impl Told {
             calls: Calls::new(most),
         }
     }
+
+    /// Tells how many clients had the right answers, which workers came to the gate, how many of them did not meet there, and whether
+    /// the calls were late.
+    fn found(&self) -> [u64; 4] {
+        [
+            self.clients.right.load(Ordering::SeqCst),
+            self.gate.come.load(Ordering::SeqCst),
+            self.gate.gone_alone.load(Ordering::SeqCst),
+            self.calls.late.load(Ordering::SeqCst),
+        ]
+    }
 }
 
 /// Serves the clients, once the calls have begun; then the calls are to stop.
-fn serve_both<R: Threads + Wait + Sync>(
+fn serve_both<R: AllocGlobal + Threads + Wait + Sync>(
     rt: &R,
-    alloc: Global,
     map: &StripedMap,
     registry: &Registry,
     crews: Vec<Crew>,
@@ -193,15 +205,22 @@ fn serve_both<R: Threads + Wait + Sync>(
     requires { All (λ crew. IsCrewOf map.now crew) crews.items }
 {
     told.calls.wait();
-    let back = serve(rt, alloc, &told.clients, map, registry, crews, &told.gate);
+    let back = serve(
+        rt,
+        rt.alloc(),
+        &told.clients,
+        map,
+        registry,
+        crews,
+        &told.gate,
+    );
     told.calls.stop.store(1, Ordering::SeqCst);
     back
 }
 
-/// Both at once, each in a thread of its own.
-fn serve_beside<R: Threads + Wait + Sync>(
+/// Runs both at once, each in a thread of its own.
+fn serve_beside<R: AllocGlobal + Threads + Wait + Sync>(
     rt: &R,
-    alloc: Global,
     map: &StripedMap,
     registry: &Registry,
     crews: Vec<Crew>,
@@ -220,50 +239,59 @@ fn serve_beside<R: Threads + Wait + Sync>(
         { make_calls(rt, map, pass, &told.calls) },
         move || -> Result<Vec<Crew>, NoMemory>
             requires { All (λ crew. IsCrewOf map.now crew) crews.items }
-        { serve_both(rt, alloc, map, registry, crews, told) },
+        { serve_both(rt, map, registry, crews, told) },
     )
 }
 
-/// The two sessions beside so many calls at most.
-fn meet_beside<R: Threads + Wait + Abort + Sync>(
+/// Tells whether the workers 0 and 1 are back.
+fn are_back(crews: &[Crew]) -> bool {
+    match crews {
+        [one, other] => one.worker == 0 && other.worker == 1,
+        _ => false,
+    }
+}
+
+/// Tells whether the key `d` has this number.
+fn has_number<R: Wait>(rt: &R, map: &StripedMap, mut pass: Pass, number: u64) -> bool
+    requires { pass.map ≡ map.now }
+{
+    let Ok(key) = Key::from_slice(b"d") else {
+        return false;
+    };
+    match map.call(rt, &mut pass, &Call::Get { key: &key }) {
+        Ok(Reply::Value(Some(last))) => last.as_slice() == number.to_le_bytes().as_slice(),
+        _ => false,
+    }
+}
+
+/// Runs the two sessions beside so many calls at most.
+fn meet_beside<R: AllocGlobal + Threads + Wait + Abort + Sync>(
     rt: &R,
-    alloc: Global,
     most: u64,
 ) -> Result<(), Fail> {
-    let (map, one, other, mut pass) = crews_and_pass(alloc).ok_or("no map")?;
-    let registry = Registry::new(alloc)?;
-    let told = Told::new(alloc, most);
+    let registry = Registry::new(rt.alloc())?;
+    let told = Told::new(rt.alloc(), most);
+    let (map, one, other, mut pass) = crews_and_pass(rt.alloc()).ok_or("no map")?;
     put(rt, &map, &mut pass, 0);
-    let crews = vec![in alloc; one, other]?;
-    let ((mut pass, right), back) = serve_beside(rt, alloc, &map, &registry, crews, pass, &told);
-    let back = back?;
-    assert!(rt; back.len() == 2 && back[0].worker == 0 && back[1].worker == 1);
-    assert!(rt; told.clients.right.load(Ordering::SeqCst) == 2, "answers");
-    assert!(rt; told.gate.come.load(Ordering::SeqCst) == BOTH, "workers");
-    assert!(rt; told.gate.gone_alone.load(Ordering::SeqCst) == 0, "alone");
+    let crews = vec![in rt.alloc(); one, other]?;
+    let ((pass, right), back) = serve_beside(rt, &map, &registry, crews, pass, &told);
+    assert!(rt; are_back(&back?));
+    let found = told.found();
     assert!(rt;
-        right && told.calls.late.load(Ordering::SeqCst) == 0,
-        "calls"
+        found == [2, BOTH, 0, 0],
+        "{found:?}: right, come, alone, late"
     );
-    let key = &Key::from_slice(b"d")?;
-    let found = map.call(rt, &mut pass, &Call::Get { key })?;
-    let Reply::Value(Some(last)) = found else {
-        return Err("no number".into());
-    };
     let made = told.calls.made.load(Ordering::SeqCst);
-    assert!(rt;
-        last.as_slice() == made.to_le_bytes().as_slice(),
-        "{made} calls"
-    );
+    assert!(rt; right && has_number(rt, &map, pass, made), "{made} calls");
     Ok(())
 }
 
 #[test]
 fn server_uses_workers(rt: HostRuntime) -> Result<(), Fail> {
-    meet_beside(&rt, rt.alloc(), 0)
+    meet_beside(&rt, 0)
 }
 
 #[test]
 fn server_uses_workers_beside_a_caller(rt: HostRuntime) -> Result<(), Fail> {
-    meet_beside(&rt, rt.alloc(), CALLS)
+    meet_beside(&rt, CALLS)
 }

@@ -6,19 +6,25 @@ use std::test::*;
 /// The frame that comes first.
 const HELLO: &[u8] = b"\0\0\0\x02\0\x01";
 
+/// Feeds the piece; whether nothing was asked, and the length is at fault.
+fn is_refused(alloc: Global, feeder: &mut Feeder, piece: &[u8]) -> Result<bool, Fail> {
+    let fed = feeder.feed(alloc, piece)?;
+    Ok(fed.requests.is_empty() && fed.fault == Some(ProtocolFault::BadLength))
+}
+
+/// Pieces of which the first has a length of 0.
+const BAD_PIECES: [&[u8]; 4] = [b"\0\0\0\0", b"", HELLO, b"\0\0\0\x01\x7F"];
+
 #[test]
 fn a_failed_feeder_stays_failed(rt: HostRuntime) -> Result<(), Fail> {
     let mut feeder = Feeder::new(rt.alloc());
-    let first = feeder.feed(rt.alloc(), b"\0\0\0\0")?;
-    assert!(rt; first.fault == Some(ProtocolFault::BadLength));
-    for piece in [b"".as_slice(), HELLO, b"\0\0\0\x01\x7F".as_slice()] {
-        let fed = feeder.feed(rt.alloc(), piece)?;
-        assert!(rt; fed.requests.is_empty() && fed.fault == Some(ProtocolFault::BadLength));
+    for piece in BAD_PIECES {
+        assert!(rt; is_refused(rt.alloc(), &mut feeder, piece)?);
     }
     Ok(())
 }
 
-/// feeds the piece, and once more where it was refused
+/// Feeds the piece, and once more where it was refused.
 fn fed_again(alloc: Global, feeder: &mut Feeder, piece: &[u8]) -> Result<usize, Fail> {
     if let Ok(fed) = feeder.feed(alloc, piece) {
         return Ok(fed.requests.len());
@@ -27,21 +33,23 @@ fn fed_again(alloc: Global, feeder: &mut Feeder, piece: &[u8]) -> Result<usize, 
     Ok(fed.requests.len())
 }
 
+/// Pieces, and how many requests each completes.
+const PIECES: [(&[u8], usize); 7] = [
+    (b"\0\0\0\x02\0\x01\0\0", 1),
+    (b"\0\x03\x10", 0),
+    (b"\x01a\0\0\0\x03\x10\x01a\0\0", 2),
+    (b"\0\x01\x23", 1),
+    (b"\0\0\0\x0B\x01\0\x40\0\0\0\0\0\0\x95\0", 1),
+    (b"\0\0\0\x0B\x01\0\x40\0\0\0\0", 0),
+    (b"\0\0\x95\0\0\0\0\x01", 1),
+];
+
 #[test]
 fn a_refused_piece_can_be_fed_again(rt: HostRuntime) -> Result<(), Fail> {
-    let register = b"\0\0\0\x0B\x01\0\x40\0\0\0\0\0\0\x95\0";
     let mut feeder = Feeder::new(rt.alloc());
-    for (piece, wanted) in [
-        (b"\0\0\0\x02\0\x01\0\0".as_slice(), 1),
-        (b"\0\x03\x10".as_slice(), 0),
-        (b"\x01a\0\0\0\x03\x10\x01a\0\0".as_slice(), 2),
-        (b"\0\x01\x23".as_slice(), 1),
-        (register.as_slice(), 1),
-        (b"\0\0\0\x0B\x01\0\x40\0\0\0\0".as_slice(), 0),
-        (b"\0\0\x95\0\0\0\0\x01".as_slice(), 1),
-    ] {
+    for (piece, wanted) in PIECES {
         let asked = fed_again(rt.alloc(), &mut feeder, piece)?;
-        assert_eq!(rt; asked, wanted);
+        assert!(rt; asked == wanted, "{asked} of {wanted}");
     }
     assert!(rt; feeder.is_inside());
     Ok(())

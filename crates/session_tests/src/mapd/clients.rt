@@ -25,7 +25,7 @@ const BAD: [u8; 5] = [0, 0, 0, 1, 0x7f];
 
 const REFUSED: [u8; 10] = [0, 0, 0, 6, 0x85, 61, 0, 0, 0, 0];
 
-/// The address of a port that is free.
+/// Finds the address of a port that is free.
 fn free_address<R: Net<Listener = TcpListener, Stream = TcpStream> + AllocGlobal>(
     rt: &R,
 ) -> io::Result<String> {
@@ -34,13 +34,13 @@ fn free_address<R: Net<Listener = TcpListener, Stream = TcpStream> + AllocGlobal
     Ok(format!(in rt.alloc(); "{address}")?)
 }
 
-/// The stream, on which a read fails where nothing comes for 20 seconds.
+/// Has reads of the stream fail if nothing comes for 20 seconds.
 fn impatient(stream: TcpStream) -> io::Result<TcpStream> {
     stream.set_read_timeout(Some(Duration::from_secs(20)))?;
     Ok(stream)
 }
 
-/// A connection to a server that may not listen yet.
+/// Connects to a server that may not listen yet.
 fn connect<R: Net<Listener = TcpListener, Stream = TcpStream> + Clock>(
     rt: &R,
     address: &str,
@@ -54,7 +54,7 @@ fn connect<R: Net<Listener = TcpListener, Stream = TcpStream> + Clock>(
     impatient(TcpStream::connect(rt, address)?)
 }
 
-/// Whether the answer to the request is this one.
+/// Tells whether the answer to the request is this one.
 fn is_answered(stream: &mut TcpStream, request: &[u8], answer: &[u8]) -> io::Result<bool> {
     stream.write_all(request)?;
     let mut found = [0; 16];
@@ -65,7 +65,7 @@ fn is_answered(stream: &mut TcpStream, request: &[u8], answer: &[u8]) -> io::Res
     Ok(*found == *answer)
 }
 
-/// Two clients at once: one puts, and the other gets.
+/// Connects two clients at once: one puts, and the other gets.
 fn share<R: Net<Listener = TcpListener, Stream = TcpStream> + Clock>(
     rt: &R,
     address: &str,
@@ -78,7 +78,7 @@ fn share<R: Net<Listener = TcpListener, Stream = TcpStream> + Clock>(
     Ok(greeted && put && is_answered(&mut second, &GET, &FOUND)?)
 }
 
-/// A client that sends much behind a fault of a frame, and then reads all that it is answered.
+/// Sends much after a fault of a frame, and then reads all that is answered.
 fn hear_refusal<R: Net<Listener = TcpListener, Stream = TcpStream> + Clock + AllocGlobal>(
     rt: &R,
     address: &str,
@@ -92,7 +92,28 @@ fn hear_refusal<R: Net<Listener = TcpListener, Stream = TcpStream> + Clock + All
     Ok(greeted && rest.as_slice() == REFUSED.as_slice())
 }
 
-/// A call, and beside it two clients that share its map.
+/// Serves one session by each of so many workers.
+fn serve_one_each<
+    R: AllocGlobal
+        + Clock
+        + Threads
+        + Wait
+        + Net<Listener = TcpListener, Stream = TcpStream>
+        + Sync,
+>(rt: &R, address: &str, workers: &str) -> Outcome {
+    let words = [
+        "mapd",
+        "--listen",
+        address,
+        "--workers",
+        workers,
+        "--sessions",
+        "1",
+    ];
+    call(rt, &words, 100)
+}
+
+/// Runs two workers, and beside them two clients that share their map.
 fn call_and_share<
     R: AllocGlobal
         + Clock
@@ -100,30 +121,25 @@ fn call_and_share<
         + Wait
         + Net<Listener = TcpListener, Stream = TcpStream>
         + Sync,
->(rt: &R, words: &[&str], address: &str) -> (Outcome, io::Result<bool>) {
-    thread::join(rt, || call(rt, words, 100), || share(rt, address))
+>(rt: &R, address: &str) -> (Outcome, io::Result<bool>) {
+    thread::join(
+        rt,
+        || serve_one_each(rt, address, "2"),
+        || share(rt, address),
+    )
 }
 
 #[test]
 fn clients_share_a_map(rt: HostRuntime) -> Result<(), Fail> {
     let address = free_address(&rt)?;
-    let words = [
-        "mapd",
-        "--listen",
-        address.as_str(),
-        "--workers",
-        "2",
-        "--sessions",
-        "1",
-    ];
-    let (served, shared) = call_and_share(&rt, &words, address.as_str());
+    let (served, shared) = call_and_share(&rt, address.as_str());
     let shared = shared?;
-    assert!(rt; shared && served.status == 0);
-    assert!(rt; served.output.as_slice() == b"ready\nserved 2\n".as_slice());
+    let told = served.output.as_slice() == b"ready\nserved 2\n".as_slice();
+    assert!(rt; shared && told && served.status == 0);
     Ok(())
 }
 
-/// A call, and beside it a client that is refused.
+/// Runs a worker, and beside it a client that is refused.
 fn call_and_hear<
     R: AllocGlobal
         + Clock
@@ -131,25 +147,20 @@ fn call_and_hear<
         + Wait
         + Net<Listener = TcpListener, Stream = TcpStream>
         + Sync,
->(rt: &R, words: &[&str], address: &str) -> (Outcome, io::Result<bool>) {
-    thread::join(rt, || call(rt, words, 100), || hear_refusal(rt, address))
+>(rt: &R, address: &str) -> (Outcome, io::Result<bool>) {
+    thread::join(
+        rt,
+        || serve_one_each(rt, address, "1"),
+        || hear_refusal(rt, address),
+    )
 }
 
 #[test]
 fn a_refusal_reaches_the_client(rt: HostRuntime) -> Result<(), Fail> {
     let address = free_address(&rt)?;
-    let words = [
-        "mapd",
-        "--listen",
-        address.as_str(),
-        "--workers",
-        "1",
-        "--sessions",
-        "1",
-    ];
-    let (served, heard) = call_and_hear(&rt, &words, address.as_str());
+    let (served, heard) = call_and_hear(&rt, address.as_str());
     let heard = heard?;
-    assert!(rt; heard && served.status == 0);
-    assert!(rt; served.output.as_slice() == b"ready\nserved 1\n".as_slice());
+    let told = served.output.as_slice() == b"ready\nserved 1\n".as_slice();
+    assert!(rt; heard && told && served.status == 0);
     Ok(())
 }

@@ -15,6 +15,7 @@ struct Shut {
 }
 
 impl Shut {
+    /// Makes a gate that is shut.
     fn new() -> Shut {
         Shut {
             come: AtomicU64::new(0),
@@ -60,7 +61,7 @@ fn hold<R: Wait>(rt: &R, map: &StripedMap, mut pass: Pass, program: &Verified, g
     }
 }
 
-/// While stripe 0 is held: whether a call on the key of stripe 1 is made, and one on the key of stripe 0 refused as busy.
+/// Tells, while stripe 0 is held, whether a call on the key of stripe 1 is made, and one on the key of stripe 0 refused as busy.
 /// Then the gate opens.
 fn beside(map: &StripedMap, mut pass: Pass, gate: &Shut) -> (bool, bool)
     requires { pass.map ≡ map.now }
@@ -76,7 +77,7 @@ fn beside(map: &StripedMap, mut pass: Pass, gate: &Shut) -> (bool, bool)
     (came && apart, busy)
 }
 
-/// Both at once, each in a thread of its own.
+/// Runs both at once, each in a thread of its own.
 fn hold_beside<R: Threads + Wait + Sync>(
     rt: &R,
     map: &StripedMap,
@@ -107,14 +108,15 @@ fn hold_beside<R: Threads + Wait + Sync>(
 fn stripes_apart(rt: HostRuntime) -> Result<(), Fail> {
     let program = summing(rt.alloc())?;
     let (map, mut passes) = opened(rt.alloc(), 2, 2)?;
-    let holder = next_pass(&map, &mut passes)?;
-    let other = next_pass(&map, &mut passes)?;
+    let (other, holder) = next_two(&map, &mut passes)?;
     // The key 61 lies in stripe 0, and 62 in stripe 1.
     let gate = Shut::new();
     let (answered, busy) = hold_beside(&rt, &map, holder, other, &program, &gate);
-    assert!(rt; answered, "the other stripe was not free");
-    assert!(rt; busy, "the held stripe was free");
-    assert_eq!(rt; gate.alone.load(Ordering::SeqCst), 0);
+    let alone = gate.alone.load(Ordering::SeqCst);
+    assert!(rt;
+        answered && busy && alone == 0,
+        "the other is free: {answered}, the held one is not: {busy}, waited in vain: {alone}"
+    );
     Ok(())
 }
 
@@ -141,6 +143,7 @@ struct Merging {
 }
 
 impl Merging {
+    /// Makes the merging of no call yet.
     fn new(program: Verified) -> Merging {
         Merging {
             program,
@@ -183,7 +186,7 @@ fn merges<R: Wait>(rt: &R, map: &StripedMap, mut pass: Pass, merging: &Merging, 
     pass
 }
 
-/// Two threads merge, and their passes are joined.
+/// Merges by two threads, and joins their passes.
 fn merged_by_two<R: Threads + Wait + Sync>(
     rt: &R,
     map: &StripedMap,
@@ -210,24 +213,32 @@ fn merged_by_two<R: Threads + Wait + Sync>(
     map.join(one, other)
 }
 
+/// Tells whether so many calls were made, and their sum stands at the key.
+fn is_sum<R: Wait>(
+    rt: &R,
+    map: &StripedMap,
+    mut pass: Pass,
+    merging: &Merging,
+    wanted: u64,
+) -> Result<bool, Fail>
+    requires { pass.map ≡ map.now }
+{
+    let found = got(rt, map, &mut pass, b"a")?;
+    let made = merging.made.load(Ordering::SeqCst);
+    Ok(made == wanted && is_value(&found, &wanted.to_le_bytes()))
+}
+
 #[test]
 fn two_threads_merge_on_one_key(rt: HostRuntime) -> Result<(), Fail> {
     let merging = Merging::new(summing(rt.alloc())?);
     let (map, mut passes) = opened(rt.alloc(), 16, 2)?;
-    let second = next_pass(&map, &mut passes)?;
-    let first = next_pass(&map, &mut passes)?;
-    let mut both = merged_by_two(&rt, &map, first, second, &merging, 500);
-    assert_eq!(rt;
-        merging.made.load(Ordering::SeqCst),
-        1000,
-        "a call was given up"
-    );
-    let found = got(&rt, &map, &mut both, b"a")?;
-    assert!(rt; is_value(&found, &[0xe8, 0x03, 0, 0, 0, 0, 0, 0]));
+    let (second, first) = next_two(&map, &mut passes)?;
+    let both = merged_by_two(&rt, &map, first, second, &merging, 500);
+    assert!(rt; is_sum(&rt, &map, both, &merging, 1000)?);
     Ok(())
 }
 
-/// Four threads merge, and their passes are joined.
+/// Merges by four threads, and joins their passes.
 fn merged_by_four<R: Threads + Wait + Sync>(
     rt: &R,
     map: &StripedMap,
@@ -253,7 +264,7 @@ fn merged_by_four<R: Threads + Wait + Sync>(
     map.join(one, other)
 }
 
-/// The next two of the map's passes.
+/// Takes the next two of the map's passes.
 fn next_two(map: &StripedMap, passes: &mut Vec<Pass>) -> Result<(Pass, Pass), Fail>
     requires { All (λ pass. pass.map ≡ map.now) passes.old.items }
     ensures two { IfOk result (λ two. (two.0.map ≡ map.now) × (two.1.map ≡ map.now)) }
@@ -267,7 +278,7 @@ fn next_two(map: &StripedMap, passes: &mut Vec<Pass>) -> Result<(Pass, Pass), Fa
 /// A pass for each of eight threads, in two halves of two pairs.
 type Fours = ((Pass, Pass), (Pass, Pass));
 
-/// Eight threads merge, and their passes are joined.
+/// Merges by eight threads, and joins their passes.
 fn merged_by_eight<R: Threads + Wait + Sync>(
     rt: &R,
     map: &StripedMap,
@@ -299,13 +310,7 @@ fn eight_threads_merge_on_one_key(rt: HostRuntime) -> Result<(), Fail> {
     let (map, mut passes) = opened(rt.alloc(), 16, 8)?;
     let first = (next_two(&map, &mut passes)?, next_two(&map, &mut passes)?);
     let second = (next_two(&map, &mut passes)?, next_two(&map, &mut passes)?);
-    let mut all = merged_by_eight(&rt, &map, first, second, &merging);
-    assert_eq!(rt;
-        merging.made.load(Ordering::SeqCst),
-        2000,
-        "a call was given up"
-    );
-    let found = got(&rt, &map, &mut all, b"a")?;
-    assert!(rt; is_value(&found, &[0xd0, 0x07, 0, 0, 0, 0, 0, 0]));
+    let all = merged_by_eight(&rt, &map, first, second, &merging);
+    assert!(rt; is_sum(&rt, &map, all, &merging, 2000)?);
     Ok(())
 }

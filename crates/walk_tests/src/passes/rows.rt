@@ -1,5 +1,5 @@
 //! Rows of one thread.
-ghost use Rattle.std.specs.Prelude.{◌≡◌};
+ghost use Rattle.std.specs.Prelude.{◌≡◌, All, IfOk};
 
 use super::*;
 
@@ -16,13 +16,26 @@ fn open_refuses_by_the_first_test_that_fails(rt: HostRuntime) -> Result<(), Fail
         (64, 64, 0),
     ];
     for (stripes, passes, wanted) in rows {
-        assert_eq!(rt;
-            refusal(rt.alloc(), stripes, passes),
-            wanted,
-            "{stripes}, {passes}"
-        );
+        let found = refusal(rt.alloc(), stripes, passes);
+        assert!(rt; found == wanted, "{stripes}, {passes}: {found}");
     }
     Ok(())
+}
+
+/// Puts by the one pass, which is told to the other; whether that one finds the value.
+fn sees_what_was_put<R: Wait>(
+    rt: &R,
+    map: &StripedMap,
+    first: &mut Pass,
+    second: &mut Pass,
+) -> Result<bool, Fail>
+    requires first { first.old.map ≡ map.now }
+    requires second { second.old.map ≡ map.now }
+{
+    put(rt, map, first, b"a", &ONE)?;
+    map.tell(first, second);
+    let found = got(rt, map, second, b"a")?;
+    Ok(is_value(&found, &ONE))
 }
 
 #[test]
@@ -30,11 +43,33 @@ fn a_told_pass_sees_what_was_put(rt: HostRuntime) -> Result<(), Fail> {
     let (map, mut passes) = opened(rt.alloc(), 4, 2)?;
     let mut second = next_pass(&map, &mut passes)?;
     let mut first = next_pass(&map, &mut passes)?;
-    put(&rt, &map, &mut first, b"a", &ONE)?;
-    map.tell(&first, &mut second);
-    let found = got(&rt, &map, &mut second, b"a")?;
-    assert!(rt; is_value(&found, &ONE));
+    assert!(rt; sees_what_was_put(&rt, &map, &mut first, &mut second)?);
     Ok(())
+}
+
+/// Tells whether the entries are `a` of 1 and `b` of 2, in key order.
+fn are_both(entries: &[(Key, Value)]) -> bool {
+    let mut right = entries.len() == 2;
+    for (entry, (name, bytes)) in entries.iter().zip(&[(b"a", [1]), (b"b", [2])]) {
+        right &= entry.0.as_slice() == name.as_slice() && entry.1.as_slice() == bytes.as_slice();
+    }
+    right
+}
+
+/// Gives the map up by a pass that is both joined; whether these were its entries.
+fn is_closed_with_both<R: Wait>(
+    rt: &R,
+    alloc: Global,
+    map: StripedMap,
+    first: Pass,
+    second: Pass,
+) -> Result<bool, Fail>
+    requires first { first.map ≡ map }
+    requires second { second.map ≡ map }
+{
+    let both = map.join(first, second);
+    let entries = map.close(rt, alloc, both)?;
+    Ok(are_both(&entries))
 }
 
 #[test]
@@ -44,14 +79,7 @@ fn last_entries_are_in_key_order(rt: HostRuntime) -> Result<(), Fail> {
     let mut first = next_pass(&map, &mut passes)?;
     put(&rt, &map, &mut second, b"b", &[2])?;
     put(&rt, &map, &mut first, b"a", &[1])?;
-    let both = map.join(first, second);
-    let entries = map.close(&rt, rt.alloc(), both)?;
-    assert_eq!(rt; entries.len(), 2);
-    for (entry, (name, bytes)) in entries.iter().zip(&[(b"a", [1]), (b"b", [2])]) {
-        assert!(rt;
-            entry.0.as_slice() == name.as_slice() && entry.1.as_slice() == bytes.as_slice()
-        );
-    }
+    assert!(rt; is_closed_with_both(&rt, rt.alloc(), map, first, second)?);
     Ok(())
 }
 
@@ -76,7 +104,7 @@ fn are_made(
     Ok(found.len() == 1 && (counts.scanned, counts.given, counts.unfit) == (1, 1, 0))
 }
 
-/// The same so many times; whether it always was.
+/// Tries the same so many times; whether each was always made.
 fn are_always_made(
     alloc: Global,
     map: &StripedMap,
@@ -104,21 +132,76 @@ fn a_single_thread_is_never_busy(rt: HostRuntime) -> Result<(), Fail> {
     Ok(())
 }
 
-/// The counts of a replacement of the values of stripe 1.
-fn replaced<R: Wait>(
-    rt: &R,
-    map: &StripedMap,
-    pass: &mut Pass,
-    program: &Verified,
-) -> Result<Counts, Fail>
+/// Tells whether a replacement of the values of stripe 1 found one, and changed it.
+fn is_replaced<R: Wait>(rt: &R, map: &StripedMap, pass: &mut Pass, program: &Verified) -> bool
     requires { pass.old.map ≡ map.now }
     ensures { pass.new.map ≡ map.now }
 {
     if map.stripes() < 2 {
-        return Err("no such stripe".into());
+        return false;
     }
-    let arg = Some(value(&ONE)?);
-    Ok(map.replace_stripe(rt, pass, 1, program, &arg, &OpenGate, 0))
+    let arg = Value::from_slice(&ONE).ok();
+    let counts = map.replace_stripe(rt, pass, 1, program, &arg, &OpenGate, 0);
+    (counts.scanned, counts.given, counts.unfit) == (1, 1, 0)
+}
+
+/// Tells whether the stripe has so many entries.
+fn has_entries<R: Wait>(
+    rt: &R,
+    alloc: Global,
+    map: &StripedMap,
+    pass: &mut Pass,
+    stripe: u64,
+    count: usize,
+) -> bool
+    requires { pass.old.map ≡ map.now }
+    ensures { pass.new.map ≡ map.now }
+{
+    match scanned(rt, alloc, map, pass, stripe) {
+        Some(found) => found.len() == count,
+        None => false,
+    }
+}
+
+/// Tells whether the map has four stripes, and the two keys lie in 1 and 2.
+fn are_placed(map: &StripedMap) -> Result<bool, TooLong> {
+    let places = (map.stripe_of(&key(b"")?), map.stripe_of(&key(b"ab")?));
+    Ok(map.stripes() == 4 && places == (1, 2))
+}
+
+/// Puts an entry into stripe 1 and one into stripe 2; whether the four stripes have these alone.
+fn are_dealt<R: Wait>(
+    rt: &R,
+    alloc: Global,
+    map: &StripedMap,
+    pass: &mut Pass,
+) -> Result<bool, Fail>
+    requires { pass.old.map ≡ map.now }
+    ensures { pass.new.map ≡ map.now }
+{
+    put(rt, map, pass, b"", &ONE)?;
+    put(rt, map, pass, b"ab", &ONE)?;
+    let first = has_entries(rt, alloc, map, pass, 0, 0);
+    let second = has_entries(rt, alloc, map, pass, 1, 1);
+    let third = has_entries(rt, alloc, map, pass, 2, 1);
+    let fourth = has_entries(rt, alloc, map, pass, 3, 0);
+    Ok(first && second && third && fourth)
+}
+
+/// Replaces the values of stripe 1; whether its key has another value then, and the key of stripe 2 the one that it had.
+fn is_replaced_alone<R: Wait>(
+    rt: &R,
+    map: &StripedMap,
+    pass: &mut Pass,
+    program: &Verified,
+) -> Result<bool, Fail>
+    requires { pass.old.map ≡ map.now }
+    ensures { pass.new.map ≡ map.now }
+{
+    let replaced = is_replaced(rt, map, pass, program);
+    let sum = got(rt, map, pass, b"")?;
+    let same = got(rt, map, pass, b"ab")?;
+    Ok(replaced && is_value(&sum, &TWO) && is_value(&same, &ONE))
 }
 
 #[test]
@@ -126,63 +209,66 @@ fn a_stripe_has_its_own_keys(rt: HostRuntime) -> Result<(), Fail> {
     let program = summing(rt.alloc())?;
     let (map, mut passes) = opened(rt.alloc(), 4, 1)?;
     let mut pass = next_pass(&map, &mut passes)?;
-    assert_eq!(rt; map.stripes(), 4);
-    assert_eq!(rt;
-        (map.stripe_of(&key(b"")?), map.stripe_of(&key(b"ab")?)),
-        (1, 2)
-    );
-    put(&rt, &map, &mut pass, b"", &ONE)?;
-    put(&rt, &map, &mut pass, b"ab", &ONE)?;
-    assert_eq!(rt;
-        scanned(&rt, rt.alloc(), &map, &mut pass, 0).map(|found| found.len()),
-        Some(0)
-    );
-    assert_eq!(rt;
-        scanned(&rt, rt.alloc(), &map, &mut pass, 1).map(|found| found.len()),
-        Some(1)
-    );
-    assert_eq!(rt;
-        scanned(&rt, rt.alloc(), &map, &mut pass, 2).map(|found| found.len()),
-        Some(1)
-    );
-    assert_eq!(rt;
-        scanned(&rt, rt.alloc(), &map, &mut pass, 3).map(|found| found.len()),
-        Some(0)
-    );
-    let counts = replaced(&rt, &map, &mut pass, &program)?;
-    assert_eq!(rt; (counts.scanned, counts.given, counts.unfit), (1, 1, 0));
-    let sum = got(&rt, &map, &mut pass, b"")?;
-    assert!(rt; is_value(&sum, &[2, 0, 0, 0, 0, 0, 0, 0]));
-    let same = got(&rt, &map, &mut pass, b"ab")?;
-    assert!(rt; is_value(&same, &ONE));
+    assert!(rt; are_placed(&map)?);
+    assert!(rt; are_dealt(&rt, rt.alloc(), &map, &mut pass)?);
+    assert!(rt; is_replaced_alone(&rt, &map, &mut pass, &program)?);
     pass.vouch();
     Ok(())
+}
+
+/// Puts an entry into stripe 0.
+fn put_one<R: Wait>(rt: &R, map: &StripedMap, pass: &mut Pass) -> Result<Reply, NoMemory>
+    requires { pass.old.map ≡ map.now }
+    ensures { pass.new.map ≡ map.now }
+{
+    let key = &Key::from_slice(b"a").unwrap();
+    let value = &Value::from_slice(&ONE).unwrap();
+    map.call(rt, pass, &Call::Put { key, value })
+}
+
+/// Puts an entry, and once more if memory was refused; whether nothing was made of the refused call.
+fn is_put_again<R: Wait>(rt: &R, map: &StripedMap, pass: &mut Pass) -> Result<bool, Fail>
+    requires { pass.old.map ≡ map.now }
+    ensures { pass.new.map ≡ map.now }
+{
+    if put_one(rt, map, pass).is_ok() {
+        return Ok(true);
+    }
+    let none = got(rt, map, pass, b"a")?;
+    put_one(rt, map, pass)?;
+    Ok(matches!(none, Reply::Value(None)))
+}
+
+/// Scans stripe 0, once more if memory was refused; whether it has one entry.
+fn has_one_again<R: Wait>(rt: &R, alloc: Global, map: &StripedMap, pass: &mut Pass) -> bool
+    requires { pass.old.map ≡ map.now }
+    ensures { pass.new.map ≡ map.now }
+{
+    match scanned(rt, alloc, map, pass, 0) {
+        Some(found) => found.len() == 1,
+        None => has_entries(rt, alloc, map, pass, 0, 1),
+    }
+}
+
+/// Opens a map of two stripes with one pass, once more if memory was refused.
+fn opened_again(alloc: Global) -> Result<(StripedMap, Vec<Pass>), OpenFault>
+    ensures all { IfOk result (λ made. All (λ pass. pass.map ≡ made.0) made.1.items) }
+{
+    match opened(alloc, 2, 1) {
+        Ok(made) => Ok(made),
+        Err(_) => opened(alloc, 2, 1),
+    }
 }
 
 /// Also where one request for memory is refused: each call is then as if it was not made, and succeeds the next time.
 #[test]
 fn a_refused_call_changes_nothing(rt: HostRuntime) -> Result<(), Fail> {
-    let (map, mut passes) = match opened(rt.alloc(), 2, 1) {
-        Ok(made) => made,
-        Err(_) => opened(rt.alloc(), 2, 1)?,
-    };
+    let (map, mut passes) = opened_again(rt.alloc())?;
     let mut pass = next_pass(&map, &mut passes)?;
-    let key = &key(b"a")?;
-    let value = &value(&ONE)?;
-    let call = Call::Put { key, value };
-    if map.call(&rt, &mut pass, &call).is_err() {
-        let none = map.call(&rt, &mut pass, &Call::Get { key })?;
-        assert!(rt; matches!(none, Reply::Value(None)));
-        map.call(&rt, &mut pass, &call)?;
+    assert!(rt; is_put_again(&rt, &map, &mut pass)?);
+    assert!(rt; has_one_again(&rt, rt.alloc(), &map, &mut pass));
+    if let Ok(entries) = map.close(&rt, rt.alloc(), pass) {
+        assert!(rt; entries.len() == 1);
     }
-    let found = match scanned(&rt, rt.alloc(), &map, &mut pass, 0) {
-        Some(found) => found,
-        None => scanned(&rt, rt.alloc(), &map, &mut pass, 0).ok_or("no entries")?,
-    };
-    assert_eq!(rt; found.len(), 1);
-    let Ok(entries) = map.close(&rt, rt.alloc(), pass) else {
-        return Ok(());
-    };
-    assert_eq!(rt; entries.len(), 1);
     Ok(())
 }

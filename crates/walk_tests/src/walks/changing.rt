@@ -15,10 +15,12 @@ const TURNS: u64 = 300;
 /// How many walks of each kind are made meanwhile.
 const WALKS: u64 = 40;
 
+/// Makes the key of one byte.
 fn key_of(byte: u8) -> Key {
     Key::from_slice(&[byte]).unwrap()
 }
 
+/// Puts the turn under the key.
 fn put_turn<R: Wait>(
     rt: &R,
     map: &StripedMap,
@@ -35,6 +37,7 @@ fn put_turn<R: Wait>(
     Ok(())
 }
 
+/// Removes the key.
 fn remove<R: Wait>(rt: &R, map: &StripedMap, pass: &mut Pass, key: u8) -> Result<(), NoMemory>
     requires { pass.old.map ≡ map.now }
     ensures { pass.new.map ≡ map.now }
@@ -44,7 +47,7 @@ fn remove<R: Wait>(rt: &R, map: &StripedMap, pass: &mut Pass, key: u8) -> Result
     Ok(())
 }
 
-/// One turn of the thread with this lower key.
+/// Takes one turn of the thread with this lower key.
 fn take_turn<R: Wait>(
     rt: &R,
     map: &StripedMap,
@@ -62,7 +65,7 @@ fn take_turn<R: Wait>(
     remove(rt, map, pass, high)
 }
 
-/// All turns of the thread with this lower key.
+/// Takes all turns of the thread with this lower key.
 fn take_turns<R: Wait>(rt: &R, map: &StripedMap, pass: &mut Pass, low: u8) -> Result<(), NoMemory>
     requires { pass.old.map ≡ map.now }
     ensures { pass.new.map ≡ map.now }
@@ -73,7 +76,7 @@ fn take_turns<R: Wait>(rt: &R, map: &StripedMap, pass: &mut Pass, low: u8) -> Re
     Ok(())
 }
 
-/// The turns of all threads; how many took all of theirs.
+/// Takes the turns of all threads; how many took all of theirs.
 fn change<R: Threads + Wait + Sync>(rt: &R, map: &StripedMap, mut passes: Vec<Pass>) -> u64
     requires { All (λ pass. pass.map ≡ map.now) passes.items }
 {
@@ -91,7 +94,7 @@ fn change<R: Threads + Wait + Sync>(rt: &R, map: &StripedMap, mut passes: Vec<Pa
     done.load(Ordering::SeqCst)
 }
 
-/// The number at the key among the items.
+/// Returns the number at the key among the items.
 fn number_at(reply: &WalkReply, key: u8) -> Option<u64> {
     for position in 0..reply.items.len() {
         let (found, value) = reply.items.get(position);
@@ -102,7 +105,7 @@ fn number_at(reply: &WalkReply, key: u8) -> Option<u64> {
     None
 }
 
-/// Which state of its thread's stripe was found, counted from the first; 0 where neither key was there. None where the thread
+/// Tells which state of its thread's stripe was found, counted from the first; 0 if neither key was there. None if the thread
 /// leaves no such state.
 fn state_of(reply: &WalkReply, low: u8) -> Option<u64> {
     let high = low.wrapping_add(THREADS);
@@ -115,7 +118,7 @@ fn state_of(reply: &WalkReply, low: u8) -> Option<u64> {
     }
 }
 
-/// Whether a state of each stripe was found, none of them before the one that was found last.
+/// Tells whether a state of each stripe was found, none of them before the one that was found last.
 fn are_states(reply: &WalkReply, last: &mut [u64; 8]) -> bool {
     for low in 0..THREADS {
         let place = &mut last[usize::from(low)];
@@ -128,7 +131,7 @@ fn are_states(reply: &WalkReply, last: &mut [u64; 8]) -> bool {
     true
 }
 
-/// Whether the keys of the items rise.
+/// Tells whether the keys of the items rise.
 fn keys_rise(items: &EntryList) -> bool {
     for i in 1..items.len() {
         let (before, _) = items.get(i - 1);
@@ -140,12 +143,12 @@ fn keys_rise(items: &EntryList) -> bool {
     true
 }
 
-/// Whether so many entries may be there: those of the threads, and the one that does not fit.
+/// Tells whether so many entries may be there: those of the threads, and the one that does not fit.
 fn may_be(entries: u64) -> bool {
     entries >= 1 && entries <= 17
 }
 
-/// Whether the reply gives all entries but one, in key order, of states that were there.
+/// Tells whether the reply gives all entries but one, in key order, of states that were there.
 fn is_all(reply: &Result<WalkReply, NoMemory>, last: &mut [u64; 8]) -> bool {
     let Ok(reply) = reply else { return false };
     let given = reply.items.len() as u64;
@@ -155,7 +158,7 @@ fn is_all(reply: &Result<WalkReply, NoMemory>, last: &mut [u64; 8]) -> bool {
         && are_states(reply, last)
 }
 
-/// Whether the reply gives one entry where more were scanned than the one that does not fit.
+/// Tells whether the reply gives one entry where more were scanned than the one that does not fit.
 fn is_first(reply: &Result<WalkReply, NoMemory>) -> bool {
     let Ok(reply) = reply else { return false };
     let given = reply.items.len() as u64;
@@ -165,24 +168,23 @@ fn is_first(reply: &Result<WalkReply, NoMemory>) -> bool {
         && may_be(counts.scanned)
 }
 
-/// Whether the reply counts entries.
+/// Tells whether the reply counts entries.
 fn is_count(reply: &Result<WalkReply, NoMemory>) -> bool {
     let Ok(reply) = reply else { return false };
     let scanned = reply.counts.scanned;
     is_reply(reply, &[], (scanned, 0, 0)) && may_be(scanned)
 }
 
-/// Whether the values of all entries but one were replaced.
+/// Tells whether the values of all entries but one were replaced.
 fn is_replacement(reply: &Result<WalkReply, NoMemory>) -> bool {
     let Ok(reply) = reply else { return false };
     let scanned = reply.counts.scanned;
     is_reply(reply, &[], (scanned, scanned.saturating_sub(1), 1)) && may_be(scanned)
 }
 
-/// One walk of each kind; whether each reply is right. The one that replaces adds 0 to each value.
-fn walk_once<R: Threads + Wait + Sync>(
+/// Makes one walk of each kind; whether each reply is right. The one that replaces adds 0 to each value.
+fn walk_once<R: AllocGlobal + Threads + Wait + Sync>(
     rt: &R,
-    alloc: Global,
     map: &StripedMap,
     team: Team,
     program: &Verified,
@@ -191,19 +193,17 @@ fn walk_once<R: Threads + Wait + Sync>(
     requires { All (λ pass. pass.map ≡ map.now) team.passes.items }
     ensures { All (λ pass. pass.map ≡ map.now) result.0.passes.items }
 {
-    let arg = Value::from_slice(&ONE).ok();
-    let (team, all) = for_each(rt, alloc, map, team, program, &arg, 0, &OpenGate);
-    let (team, first) = search(rt, alloc, map, team, program, &arg, 0, &OpenGate);
-    let (team, count) = mapping_count(rt, alloc, map, team, &OpenGate);
-    let (team, replaced) = replace_all(rt, alloc, map, team, program, &None, &OpenGate);
+    let (team, all) = walk(rt, map, team, program, Task::List(0), &OpenGate);
+    let (team, first) = walk(rt, map, team, program, Task::Search(0), &OpenGate);
+    let (team, count) = walk(rt, map, team, program, Task::Count, &OpenGate);
+    let (team, replaced) = walk(rt, map, team, program, Task::Rewrite, &OpenGate);
     let right = is_all(&all, last) && is_first(&first) && is_count(&count);
     (team, right && is_replacement(&replaced))
 }
 
-/// Walks of each kind; in how many turns all replies were right.
-fn walk_on<R: Threads + Wait + Sync>(
+/// Makes walks of each kind; in how many turns all replies were right.
+fn walk_on<R: AllocGlobal + Threads + Wait + Sync>(
     rt: &R,
-    alloc: Global,
     map: &StripedMap,
     mut team: Team,
     program: &Verified,
@@ -213,17 +213,16 @@ fn walk_on<R: Threads + Wait + Sync>(
     let mut last = [0; 8];
     let mut right = 0u64;
     for _ in 0..WALKS {
-        let (again, all_right) = walk_once(rt, alloc, map, team, program, &mut last);
+        let (again, all_right) = walk_once(rt, map, team, program, &mut last);
         team = again;
         right = right.wrapping_add(u64::from(all_right));
     }
     right
 }
 
-/// Both at once: how many threads took all their turns, and in how many turns of the walks all replies were right.
-fn walk_beside<R: Threads + Wait + Sync>(
+/// Runs both at once: how many threads took all their turns, and in how many turns of the walks all replies were right.
+fn walk_beside<R: AllocGlobal + Threads + Wait + Sync>(
     rt: &R,
-    alloc: Global,
     map: &StripedMap,
     passes: Vec<Pass>,
     team: Team,
@@ -239,11 +238,11 @@ fn walk_beside<R: Threads + Wait + Sync>(
         { change(rt, map, passes) },
         move || -> u64
             requires { All (λ pass. pass.map ≡ map.now) team.passes.items }
-        { walk_on(rt, alloc, map, team, program) },
+        { walk_on(rt, map, team, program) },
     )
 }
 
-/// A team of the last two of a team's passes, and the others.
+/// Makes a team of the last two of a team's passes, and returns the others.
 fn parted(alloc: Global, map: &StripedMap, team: Team) -> Result<(Vec<Pass>, Team), Fail>
     requires { All (λ pass. pass.map ≡ map.now) team.passes.items }
     ensures passes { IfOk result (λ r. All (λ pass. pass.map ≡ map.now) r.0.items) }
@@ -262,10 +261,10 @@ fn parted(alloc: Global, map: &StripedMap, team: Team) -> Result<(Vec<Pass>, Tea
 #[test]
 fn walks_find_what_was_there(rt: HostRuntime) -> Result<(), Fail> {
     let program = summing(rt.alloc())?;
-    let (map, mut pass, team) = opened(rt.alloc(), 8, 10)?;
+    let (map, mut pass, team) = made(rt.alloc(), 8, 10).ok_or("no map")?;
     put(&rt, &map, &mut pass, &[16], &NINE).ok_or("not put")?;
     let (passes, team) = parted(rt.alloc(), &map, team)?;
-    let (done, right) = walk_beside(&rt, rt.alloc(), &map, passes, team, &program);
-    assert_eq!(rt; (done, right), (8, WALKS));
+    let found = walk_beside(&rt, &map, passes, team, &program);
+    assert!(rt; found == (8, WALKS), "{found:?}");
     Ok(())
 }

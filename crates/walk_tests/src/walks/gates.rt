@@ -1,5 +1,5 @@
 //! Two workers are at one place at once, each under its own number: alone, and beside a thread that makes calls.
-ghost use Rattle.std.specs.Prelude.{◌≡◌, All};
+ghost use Rattle.std.specs.Prelude.{◌≡◌, All, IfSome};
 
 use super::*;
 use std::process::Abort;
@@ -24,6 +24,7 @@ struct Meeting {
 }
 
 impl Meeting {
+    /// Makes a meeting at this place.
     fn at(place: Place) -> Meeting {
         Meeting {
             place,
@@ -33,22 +34,16 @@ impl Meeting {
         }
     }
 
-    /// Whether the workers 0 and 1 came, nobody else, each as often as the other; and met.
+    /// Tells whether the workers 0 and 1 came, nobody else, each as often as the other; and met.
     fn was_of_both(&self) -> bool {
         self.come.load(Ordering::SeqCst) == BOTH
             && self.passed.load(Ordering::SeqCst) == 2
             && self.gone_alone.load(Ordering::SeqCst) == 0
     }
 
-    /// The same, and whether their walk replied this.
-    fn gave(
-        &self,
-        reply: &Result<WalkReply, NoMemory>,
-        items: &[(&[u8], &[u8])],
-        counts: (u64, u64, u64),
-    ) -> bool {
-        let Ok(reply) = reply else { return false };
-        self.was_of_both() && is_reply(reply, items, counts)
+    /// Tells the same, and whether their walk replied this.
+    fn gave(&self, reply: &Result<WalkReply, NoMemory>, wanted: Wanted) -> bool {
+        self.was_of_both() && replied(reply, wanted)
     }
 }
 
@@ -72,6 +67,7 @@ impl Gate for Meeting {
 /// What a caller is to do, and has done: it merges 1 on the key `d`, so often at most, until it is told to stop.
 #[derive(Drop)]
 struct Calls {
+    program: Verified,
     most: u64,
     made: AtomicU64,
     stop: AtomicU64,
@@ -79,8 +75,10 @@ struct Calls {
 }
 
 impl Calls {
-    fn new(most: u64) -> Calls {
+    /// Makes the calls, none of them made yet.
+    fn new(program: Verified, most: u64) -> Calls {
         Calls {
+            program,
             most,
             made: AtomicU64::new(0),
             stop: AtomicU64::new(0),
@@ -127,13 +125,7 @@ fn merge<R: Wait>(rt: &R, map: &StripedMap, pass: &mut Pass, program: &Verified)
 }
 
 /// Makes the calls; whether each replied a greater number than the one before it. The pass comes back.
-fn make_calls<R: Wait>(
-    rt: &R,
-    map: &StripedMap,
-    mut pass: Pass,
-    program: &Verified,
-    calls: &Calls,
-) -> (Pass, bool)
+fn make_calls<R: Wait>(rt: &R, map: &StripedMap, mut pass: Pass, calls: &Calls) -> (Pass, bool)
     requires { pass.map ≡ map.now }
     ensures { result.0.map ≡ map.now }
 {
@@ -143,7 +135,7 @@ fn make_calls<R: Wait>(
         if calls.stop.load(Ordering::SeqCst) > 0 {
             return (pass, rose);
         }
-        let sum = merge(rt, map, &mut pass, program).unwrap_or(0);
+        let sum = merge(rt, map, &mut pass, &calls.program).unwrap_or(0);
         rose &= sum > last;
         last = sum;
         calls.made.fetch_add(1, Ordering::SeqCst);
@@ -151,10 +143,9 @@ fn make_calls<R: Wait>(
     (pass, rose)
 }
 
-/// Whether the workers met at the place, and replaced the values of all entries but one.
-fn replace_at<R: Threads + Wait + Sync>(
+/// Tells whether the workers met at the place, and replaced the values of all entries but one.
+fn replace_at<R: AllocGlobal + Threads + Wait + Sync>(
     rt: &R,
-    alloc: Global,
     map: &StripedMap,
     team: Team,
     program: &Verified,
@@ -162,48 +153,42 @@ fn replace_at<R: Threads + Wait + Sync>(
 ) -> Result<(), Wrong>
     requires { All (λ pass. pass.map ≡ map.now) team.passes.items }
 {
-    let arg = Value::from_slice(&ONE).ok();
     let gate = Meeting::at(place);
-    let (_, reply) = replace_all(rt, alloc, map, team, program, &arg, &gate);
-    if gate.gave(&reply, &[], (4, 3, 1)) {
+    let (_, reply) = walk(rt, map, team, program, Task::Replace, &gate);
+    if gate.gave(&reply, Wanted(&[], (4, 3, 1))) {
         Ok(())
     } else {
         Err(Wrong::Replacement)
     }
 }
 
-/// A walk of each kind, whose workers meet as they start; else which was not so.
-fn start_each<R: Threads + Wait + Sync>(
+/// Makes a walk of each kind, whose workers meet as they start; else which was not so.
+fn start_each<R: AllocGlobal + Threads + Wait + Sync>(
     rt: &R,
-    alloc: Global,
     map: &StripedMap,
     team: Team,
     program: &Verified,
 ) -> Result<(), Wrong>
     requires { All (λ pass. pass.map ≡ map.now) team.passes.items }
 {
-    let arg = Value::from_slice(&ONE).ok();
-    let items: [(&[u8], &[u8]); 1] = [(b"a", &TWO)];
     let gate = Meeting::at(Place::WalkStart);
-    let (team, reply) = search(rt, alloc, map, team, program, &arg, 0, &gate);
-    if !gate.gave(&reply, &items, (4, 1, 1)) {
+    let (team, reply) = walk(rt, map, team, program, Task::Search(0), &gate);
+    if !gate.gave(&reply, Wanted(&[(b"a", &TWO)], (4, 1, 1))) {
         return Err(Wrong::Search);
     }
     let gate = Meeting::at(Place::WalkStart);
-    let (team, reply) = mapping_count(rt, alloc, map, team, &gate);
-    if !gate.gave(&reply, &[], (4, 0, 0)) {
+    let (team, reply) = walk(rt, map, team, program, Task::Count, &gate);
+    if !gate.gave(&reply, Wanted(&[], (4, 0, 0))) {
         return Err(Wrong::Count);
     }
-    replace_at(rt, alloc, map, team, program, Place::WalkStart)
+    replace_at(rt, map, team, program, Place::WalkStart)
 }
 
-/// The walks whose workers meet at the place, once the calls have begun; then the calls are to stop.
-fn walk<R: Threads + Wait + Sync>(
+/// Makes the walks whose workers meet at the place, once the calls have begun; then the calls are to stop.
+fn meet<R: AllocGlobal + Threads + Wait + Sync>(
     rt: &R,
-    alloc: Global,
     map: &StripedMap,
     team: Team,
-    program: &Verified,
     place: Place,
     calls: &Calls,
 ) -> Result<(), Wrong>
@@ -211,21 +196,19 @@ fn walk<R: Threads + Wait + Sync>(
 {
     calls.wait();
     let walked = match place {
-        Place::WalkStart => start_each(rt, alloc, map, team, program),
-        _ => replace_at(rt, alloc, map, team, program, place),
+        Place::WalkStart => start_each(rt, map, team, &calls.program),
+        _ => replace_at(rt, map, team, &calls.program, place),
     };
     calls.stop.store(1, Ordering::SeqCst);
     walked
 }
 
-/// Both at once, each in a thread of its own.
-fn walk_beside<R: Threads + Wait + Sync>(
+/// Runs both at once, each in a thread of its own.
+fn walk_beside<R: AllocGlobal + Threads + Wait + Sync>(
     rt: &R,
-    alloc: Global,
     map: &StripedMap,
     pass: Pass,
     team: Team,
-    program: &Verified,
     place: Place,
     calls: &Calls,
 ) -> ((Pass, bool), Result<(), Wrong>)
@@ -238,57 +221,69 @@ fn walk_beside<R: Threads + Wait + Sync>(
         move || -> (Pass, bool)
             requires { pass.map ≡ map.now }
             ensures { result.0.map ≡ map.entry.now }
-        { make_calls(rt, map, pass, program, calls) },
+        { make_calls(rt, map, pass, calls) },
         move || -> Result<(), Wrong>
             requires { All (λ pass. pass.map ≡ map.now) team.passes.items }
-        { walk(rt, alloc, map, team, program, place, calls) },
+        { meet(rt, map, team, place, calls) },
     )
 }
 
-/// The walks whose workers meet at the place, beside so many calls at most. In the end each call and the one replacement have
+/// Returns the number at the key `d`.
+fn number_at_d<R: Wait>(rt: &R, map: &StripedMap, mut pass: Pass) -> Option<u64>
+    requires { pass.map ≡ map.now }
+{
+    let key = &Key::from_slice(b"d").ok()?;
+    match map.call(rt, &mut pass, &Call::Get { key }) {
+        Ok(Reply::Value(Some(sum))) => number_of(sum.as_slice()),
+        _ => None,
+    }
+}
+
+/// Opens a map of two stripes with the three entries and 1 at the key `d`, with a pass and a team of two.
+fn filled_with_d<R: Wait>(rt: &R, alloc: Global) -> Option<(StripedMap, Pass, Team)>
+    ensures pass { IfSome result (λ r. r.1.map ≡ r.0) }
+    ensures team { IfSome result (λ r. All (λ pass. pass.map ≡ r.0) r.2.passes.items) }
+{
+    let (map, mut pass, team) = filled(rt, alloc, 2, 2)?;
+    put(rt, &map, &mut pass, b"d", &ONE)?;
+    Some((map, pass, team))
+}
+
+/// Makes the walks whose workers meet at the place, beside so many calls at most. In the end each call and the one replacement have
 /// added 1 to the number at `d`.
-fn meet_beside<R: Threads + Wait + Abort + Sync>(
+fn meet_beside<R: AllocGlobal + Threads + Wait + Abort + Sync>(
     rt: &R,
-    alloc: Global,
     place: Place,
     most: u64,
 ) -> Result<(), Fail> {
-    let program = summing(alloc)?;
-    let (map, mut pass, team) = opened(alloc, 2, 2)?;
-    fill(rt, &map, &mut pass)?;
-    put(rt, &map, &mut pass, b"d", &ONE).ok_or("no room")?;
-    let calls = Calls::new(most);
-    let ((mut pass, rose), walked) = walk_beside(
-        rt, alloc, &map, pass, team, &program, place, &calls,
-    );
+    let calls = Calls::new(summing(rt.alloc())?, most);
+    let (map, pass, team) = filled_with_d(rt, rt.alloc()).ok_or("no map")?;
+    let ((pass, rose), walked) = walk_beside(rt, &map, pass, team, place, &calls);
     walked?;
-    assert!(rt; rose && calls.late.load(Ordering::SeqCst) == 0, "calls");
-    let key = &Key::from_slice(b"d")?;
-    let found = map.call(rt, &mut pass, &Call::Get { key })?;
-    let Reply::Value(Some(sum)) = found else {
-        return Err("no sum".into());
-    };
+    let late = calls.late.load(Ordering::SeqCst);
+    assert!(rt; rose && late == 0, "calls");
+    let sum = number_at_d(rt, &map, pass);
     let made = calls.made.load(Ordering::SeqCst);
-    assert_eq!(rt; number_of(sum.as_slice()), Some(made.wrapping_add(2)));
+    assert!(rt; sum == Some(made.wrapping_add(2)), "{made} calls");
     Ok(())
 }
 
 #[test]
 fn walk_uses_workers(rt: HostRuntime) -> Result<(), Fail> {
-    meet_beside(&rt, rt.alloc(), Place::WalkStart, 0)
+    meet_beside(&rt, Place::WalkStart, 0)
 }
 
 #[test]
 fn walks_use_workers_beside_a_caller(rt: HostRuntime) -> Result<(), Fail> {
-    meet_beside(&rt, rt.alloc(), Place::WalkStart, CALLS)
+    meet_beside(&rt, Place::WalkStart, CALLS)
 }
 
 #[test]
 fn stripes_held_at_once(rt: HostRuntime) -> Result<(), Fail> {
-    meet_beside(&rt, rt.alloc(), Place::Held, 0)
+    meet_beside(&rt, Place::Held, 0)
 }
 
 #[test]
 fn stripes_are_held_at_once_beside_a_caller(rt: HostRuntime) -> Result<(), Fail> {
-    meet_beside(&rt, rt.alloc(), Place::Held, CALLS)
+    meet_beside(&rt, Place::Held, CALLS)
 }

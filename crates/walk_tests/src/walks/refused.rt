@@ -1,21 +1,10 @@
 //! Walks of which one request for memory is refused: it leaves the entries, and the walk is made the next time. Where no
 //! request is refused, the walks are as any.
-ghost use Rattle.std.specs.Prelude.{◌≡◌, All, IfSome};
+ghost use Rattle.std.specs.Prelude.{◌≡◌, All};
 
 use super::*;
 
-/// A map of three entries in four stripes, a pass, a team of two, and the sum; none where memory was refused.
-fn filled<R: Wait>(rt: &R, alloc: Global) -> Option<(StripedMap, Pass, Team, Verified)>
-    ensures pass { IfSome result (λ r. r.1.map ≡ r.0) }
-    ensures team { IfSome result (λ r. All (λ pass. pass.map ≡ r.0) r.2.passes.items) }
-{
-    let program = summed(alloc)?;
-    let (map, mut pass, team) = made(alloc, 4, 2)?;
-    put_all(rt, &map, &mut pass)?;
-    Some((map, pass, team, program))
-}
-
-/// Whether the key has this value.
+/// Tells whether the key has this value.
 fn has<R: Wait>(rt: &R, map: &StripedMap, pass: &mut Pass, name: u8, wanted: &[u8]) -> bool
     requires { pass.old.map ≡ map.now }
     ensures { pass.new.map ≡ map.now }
@@ -27,7 +16,7 @@ fn has<R: Wait>(rt: &R, map: &StripedMap, pass: &mut Pass, name: u8, wanted: &[u
     }
 }
 
-/// Whether `a` and `b` have these values, and `c` the one that it was put with.
+/// Tells whether `a` and `b` have these values, and `c` the one that it was put with.
 fn have<R: Wait>(rt: &R, map: &StripedMap, pass: &mut Pass, a: &[u8], b: &[u8]) -> bool
     requires { pass.old.map ≡ map.now }
     ensures { pass.new.map ≡ map.now }
@@ -38,60 +27,101 @@ fn have<R: Wait>(rt: &R, map: &StripedMap, pass: &mut Pass, a: &[u8], b: &[u8]) 
     first && second && third
 }
 
-/// Whether a walk that was made twice replied this, but for one refusal.
-fn are_replies(
-    first: &Result<WalkReply, NoMemory>,
-    second: &Result<WalkReply, NoMemory>,
-    items: &[(&[u8], &[u8])],
-    counts: (u64, u64, u64),
-) -> bool {
-    match (first, second) {
-        (Ok(first), Ok(second)) => is_reply(first, items, counts)
-            && is_reply(second, items, counts),
-        (Ok(reply), Err(_)) | (Err(_), Ok(reply)) => is_reply(reply, items, counts),
-        (Err(_), Err(_)) => false,
+/// Makes the walk twice; whether it replied this both times, but for one refusal.
+fn is_made_again<R: AllocGlobal + Threads + Wait + Sync>(
+    rt: &R,
+    map: &StripedMap,
+    team: Team,
+    program: &Verified,
+    task: Task,
+    wanted: Wanted,
+) -> (Team, bool)
+    requires { All (λ pass. pass.map ≡ map.now) team.passes.items }
+    ensures { All (λ pass. pass.map ≡ map.now) result.0.passes.items }
+{
+    let (team, first) = walk(rt, map, team, program, task, &OpenGate);
+    let (team, second) = walk(rt, map, team, program, task, &OpenGate);
+    let one = replied(&first, wanted);
+    let other = replied(&second, wanted);
+    let right = (one || first.is_err()) && (other || second.is_err()) && (one || other);
+    (team, right)
+}
+
+/// Makes each walk twice that changes nothing; whether the list, the search and the count were right.
+fn are_made_again<R: AllocGlobal + Threads + Wait + Sync>(
+    rt: &R,
+    map: &StripedMap,
+    team: Team,
+    program: &Verified,
+) -> (Team, [bool; 3])
+    requires { All (λ pass. pass.map ≡ map.now) team.passes.items }
+    ensures { All (λ pass. pass.map ≡ map.now) result.0.passes.items }
+{
+    let (team, list) = is_made_again(rt, map, team, program, Task::List(0), LISTED);
+    let (team, search) = is_made_again(rt, map, team, program, Task::Search(0), FOUND);
+    let (team, count) = is_made_again(rt, map, team, program, Task::Count, COUNTED);
+    (team, [list, search, count])
+}
+
+/// Replaces the values, once more if that was refused; whether it left the entries if it was, and replied what is wanted.
+fn are_replaced_again<R: AllocGlobal + Threads + Wait + Sync>(
+    rt: &R,
+    map: &StripedMap,
+    pass: &mut Pass,
+    team: Team,
+    program: &Verified,
+) -> bool
+    requires pass { pass.old.map ≡ map.now }
+    requires team { All (λ pass. pass.map ≡ map.now) team.passes.items }
+    ensures { pass.new.map ≡ map.now }
+{
+    let (team, reply) = walk(rt, map, team, program, Task::Replace, &OpenGate);
+    if reply.is_ok() {
+        return replied(&reply, REPLACED);
+    }
+    let left = have(rt, map, pass, &ONE, &TWO);
+    let (_, reply) = walk(rt, map, team, program, Task::Replace, &OpenGate);
+    left && replied(&reply, REPLACED)
+}
+
+/// Makes each walk, again if memory was refused; whether the list, the search and the count were right, and whether they left the
+/// entries, and the replacement was right and changed them.
+fn tried_again<R: AllocGlobal + Threads + Wait + Sync>(
+    rt: &R,
+    map: &StripedMap,
+    pass: &mut Pass,
+    team: Team,
+    program: &Verified,
+) -> ([bool; 3], [bool; 3])
+    requires pass { pass.old.map ≡ map.now }
+    requires team { All (λ pass. pass.map ≡ map.now) team.passes.items }
+{
+    let (team, right) = are_made_again(rt, map, team, program);
+    let unchanged = have(rt, map, pass, &ONE, &TWO);
+    let replacement = are_replaced_again(rt, map, pass, team, program);
+    let replaced = have(rt, map, pass, &TWO, &THREE);
+    (right, [unchanged, replacement, replaced])
+}
+
+/// Makes the program, once more if memory was refused.
+fn program_again(alloc: Global) -> Result<Verified, NoMemory> {
+    match summed(alloc) {
+        Some(program) => Ok(program),
+        None => summing(alloc),
     }
 }
 
 #[test]
 fn a_refused_walk_changes_nothing(rt: HostRuntime) -> Result<(), Fail> {
-    let alloc = rt.alloc();
-    let (map, mut pass, team, program) = match filled(&rt, alloc) {
+    let program = program_again(rt.alloc())?;
+    let (map, mut pass, team) = match filled(&rt, rt.alloc(), 4, 2) {
         Some(made) => made,
-        None => filled(&rt, alloc).ok_or("no map")?,
+        None => filled(&rt, rt.alloc(), 4, 2).ok_or("no map")?,
     };
-    let arg = Some(Value::from_slice(&ONE)?);
-    let items: [(&[u8], &[u8]); 2] = [(b"a", &TWO), (b"b", &THREE)];
-    let (team, first) = for_each(&rt, alloc, &map, team, &program, &arg, 0, &OpenGate);
-    let (team, second) = for_each(&rt, alloc, &map, team, &program, &arg, 0, &OpenGate);
+    let right = tried_again(&rt, &map, &mut pass, team, &program);
     assert!(rt;
-        are_replies(&first, &second, &items, (3, 2, 1)),
-        "a wrong list"
+        right == ([true; 3], [true; 3]),
+        "{right:?}: list, search, count; unchanged, replacement, replaced"
     );
-    let (team, first) = search(&rt, alloc, &map, team, &program, &arg, 0, &OpenGate);
-    let (team, second) = search(&rt, alloc, &map, team, &program, &arg, 0, &OpenGate);
-    assert!(rt;
-        are_replies(&first, &second, &items[..1], (3, 1, 1)),
-        "a wrong search"
-    );
-    let (team, first) = mapping_count(&rt, alloc, &map, team, &OpenGate);
-    let (team, second) = mapping_count(&rt, alloc, &map, team, &OpenGate);
-    assert!(rt;
-        are_replies(&first, &second, &[], (3, 0, 0)),
-        "a wrong count"
-    );
-    assert!(rt; have(&rt, &map, &mut pass, &ONE, &TWO), "changed entries");
-    let (team, reply) = replace_all(&rt, alloc, &map, team, &program, &arg, &OpenGate);
-    let (_, reply) = if reply.is_err() {
-        assert!(rt;
-            have(&rt, &map, &mut pass, &ONE, &TWO),
-            "a half replacement"
-        );
-        replace_all(&rt, alloc, &map, team, &program, &arg, &OpenGate)
-    } else {
-        (team, reply)
-    };
-    assert!(rt; is_reply(&reply?, &[], (3, 2, 1)), "a wrong replacement");
-    assert!(rt; have(&rt, &map, &mut pass, &TWO, &THREE), "no replacement");
     Ok(())
 }

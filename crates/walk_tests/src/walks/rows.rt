@@ -1,103 +1,103 @@
 //! Three entries, walked over by teams of several sizes.
+ghost use Rattle.std.specs.Prelude.{◌≡◌, All};
+
 use super::*;
+use std::process::Abort;
 
 const TEAMS: [(u64, u64); 6] = [(1, 1), (1, 2), (1, 8), (4, 1), (4, 2), (4, 8)];
 
+/// Each walk over the three entries, and what it replies.
+const ROWS: [(&str, Task, Wanted); 8] = [
+    ("for_each at 0", Task::List(0), LISTED),
+    ("for_each at 3", Task::List(3), LISTED),
+    ("for_each at 4", Task::List(4), LISTED),
+    ("search at 0", Task::Search(0), FOUND),
+    ("search at 3", Task::Search(3), FOUND),
+    ("search at 4", Task::Search(4), FOUND),
+    ("mapping_count", Task::Count, COUNTED),
+    ("replace_all", Task::Replace, REPLACED),
+];
+
+/// What a search finds behind a replacement.
+const FOUND_REPLACED: Wanted = Wanted(&[(b"a", &THREE)], (3, 1, 1));
+
 #[test]
-fn no_pass_is_no_team(rt: HostRuntime) -> Result<(), Fail> {
-    match Team::new(Vec::new(rt.alloc())) {
-        Ok(_) => Err("a team of no pass".into()),
-        Err(fault) => {
-            assert_eq!(rt; fault.number(), 53);
-            Ok(())
-        }
-    }
+fn no_pass_is_no_team(rt: HostRuntime) {
+    let fault = match Team::new(Vec::new(rt.alloc())) {
+        Ok(_) => 0,
+        Err(fault) => fault.number(),
+    };
+    assert!(rt; fault == 53);
 }
 
 #[test]
 fn passes_come_back(rt: HostRuntime) -> Result<(), Fail> {
-    let (_, _, team) = opened(rt.alloc(), 4, 3)?;
-    assert_eq!(rt; team.into_passes().len(), 3);
+    let (_, _, team) = made(rt.alloc(), 4, 3).ok_or("no map")?;
+    assert!(rt; team.into_passes().len() == 3);
     Ok(())
 }
 
+/// Makes the walk by a new team over a new map of three entries; whether it replied this.
+fn is_made<R: AllocGlobal + Threads + Wait + Sync>(
+    rt: &R,
+    program: &Verified,
+    sizes: (u64, u64),
+    task: Task,
+    wanted: Wanted,
+) -> Option<bool> {
+    let (map, _, team) = filled(rt, rt.alloc(), sizes.0, sizes.1)?;
+    let (_, reply) = walk(rt, &map, team, program, task, &OpenGate);
+    Some(replied(&reply, wanted))
+}
+
+/// Plays each row by a team of this size, over a map of so many stripes.
+fn play<R: AllocGlobal + Threads + Wait + Abort + Sync>(
+    rt: &R,
+    program: &Verified,
+    sizes: (u64, u64),
+) {
+    for (name, task, wanted) in ROWS {
+        let made = is_made(rt, program, sizes, task, wanted);
+        assert!(rt;
+            made == Some(true),
+            "{name}: {} stripes, {} workers",
+            sizes.0,
+            sizes.1
+        );
+    }
+}
+
 #[test]
-fn all_answers_are_given_in_key_order(rt: HostRuntime) -> Result<(), Fail> {
+fn each_walk_is_as_wanted_by_each_team(rt: HostRuntime) -> Result<(), Fail> {
     let program = summing(rt.alloc())?;
-    let arg = Some(Value::from_slice(&ONE)?);
-    let items: [(&[u8], &[u8]); 2] = [(b"a", &TWO), (b"b", &THREE)];
-    for (stripes, workers) in TEAMS {
-        for threshold in [0, 3, 4] {
-            let (map, mut pass, team) = opened(rt.alloc(), stripes, workers)?;
-            fill(&rt, &map, &mut pass)?;
-            let (_, reply) = for_each(
-                &rt,
-                rt.alloc(),
-                &map,
-                team,
-                &program,
-                &arg,
-                threshold,
-                &OpenGate,
-            );
-            assert!(rt;
-                is_reply(&reply?, &items, (3, 2, 1)),
-                "{stripes} stripes, {workers} workers"
-            );
-        }
+    for sizes in TEAMS {
+        play(&rt, &program, sizes);
     }
     Ok(())
 }
 
-#[test]
-fn search_gives_the_least_key(rt: HostRuntime) -> Result<(), Fail> {
-    let program = summing(rt.alloc())?;
-    let arg = Some(Value::from_slice(&ONE)?);
-    let items: [(&[u8], &[u8]); 1] = [(b"a", &TWO)];
-    for (stripes, workers) in TEAMS {
-        for threshold in [0, 3, 4] {
-            let (map, mut pass, team) = opened(rt.alloc(), stripes, workers)?;
-            fill(&rt, &map, &mut pass)?;
-            let (_, reply) = search(
-                &rt,
-                rt.alloc(),
-                &map,
-                team,
-                &program,
-                &arg,
-                threshold,
-                &OpenGate,
-            );
-            assert!(rt;
-                is_reply(&reply?, &items, (3, 1, 1)),
-                "{stripes} stripes, {workers} workers"
-            );
-        }
-    }
-    Ok(())
+/// Counts the entries, replaces their values, and searches, by one team; whether each walk replied what is wanted.
+fn count_replace_search<R: AllocGlobal + Threads + Wait + Sync>(
+    rt: &R,
+    map: &StripedMap,
+    team: Team,
+    program: &Verified,
+) -> bool
+    requires { All (λ pass. pass.map ≡ map.now) team.passes.items }
+{
+    let (team, count) = walk(rt, map, team, program, Task::Count, &OpenGate);
+    let (team, replacement) = walk(rt, map, team, program, Task::Replace, &OpenGate);
+    let (_, found) = walk(rt, map, team, program, Task::Search(0), &OpenGate);
+    replied(&count, COUNTED) && replied(&replacement, REPLACED) && replied(&found, FOUND_REPLACED)
 }
 
 #[test]
 fn values_are_counted_and_replaced(rt: HostRuntime) -> Result<(), Fail> {
     let program = summing(rt.alloc())?;
-    let arg = Some(Value::from_slice(&ONE)?);
     for (stripes, workers) in TEAMS {
-        let (map, mut pass, team) = opened(rt.alloc(), stripes, workers)?;
-        fill(&rt, &map, &mut pass)?;
-        let (team, reply) = mapping_count(&rt, rt.alloc(), &map, team, &OpenGate);
+        let (map, _, team) = filled(&rt, rt.alloc(), stripes, workers).ok_or("no map")?;
         assert!(rt;
-            is_reply(&reply?, &[], (3, 0, 0)),
-            "{stripes} stripes, {workers} workers"
-        );
-        let (team, reply) = replace_all(&rt, rt.alloc(), &map, team, &program, &arg, &OpenGate);
-        assert!(rt;
-            is_reply(&reply?, &[], (3, 2, 1)),
-            "{stripes} stripes, {workers} workers"
-        );
-        let (_, reply) = search(&rt, rt.alloc(), &map, team, &program, &arg, 0, &OpenGate);
-        let items: [(&[u8], &[u8]); 1] = [(b"a", &THREE)];
-        assert!(rt;
-            is_reply(&reply?, &items, (3, 1, 1)),
+            count_replace_search(&rt, &map, team, &program),
             "{stripes} stripes, {workers} workers"
         );
     }
