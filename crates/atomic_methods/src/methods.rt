@@ -124,7 +124,7 @@ fn make_change<B: Bins>(
     }
 }
 
-/// Makes a call whose key is absent, as `apply_into` does. Apart from it, so that calls on present keys clear no place for
+/// Makes a call whose key is absent, as `apply_into` does. Apart from it, so that calls on present keys clear no room for
 /// a new entry.
 #[inline(never)]
 fn apply_to_absent<B: Bins>(

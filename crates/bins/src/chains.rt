@@ -315,7 +315,7 @@ impl Chains {
         self.hashes[position] = hash;
     }
 
-    /// Removes the hash at a position; the last hash takes that place. Takes no memory.
+    /// Removes the hash at a position; the last hash takes that position. Takes no memory.
     pub fn swap_remove(&mut self, position: usize)
         requires chained { AreChained self.old }
         requires range { position < length self.old.hashes.items }

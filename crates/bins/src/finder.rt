@@ -4,7 +4,7 @@ ghost use Rattle.std.specs.List.{AllWithin, swap_remove};
 ghost use Rattle.std.specs.Int.{IsPowerOfTwo, from_le_bytes, to_le_bytes, w64};
 ghost use Rattle.bins.specs.Hashes.{hash as hash_of};
 ghost use Rattle.bins.specs.Chains.{IsBinCount};
-ghost use Rattle.bins.specs.Columns.{string_at};
+ghost use Rattle.bins.specs.KeptRows.{string_at};
 ghost use Rattle.bins.specs.Finders.{Finds};
 ghost use Rattle.bins.specs.Trees.{StandOnce};
 
@@ -146,7 +146,7 @@ impl Finder {
         }
     }
 
-    /// Removes the key at a position; the last key takes that place. Takes no memory.
+    /// Removes the key at a position; the last key takes that position. Takes no memory.
     #[inline(always)]
     pub(crate) fn swap_remove(&mut self, rows: &Rows, position: usize)
         requires finds { Finds self.old rows.now.keys }

@@ -97,7 +97,7 @@ impl Index {
         self.chains.push(hash)
     }
 
-    /// Removes the hash at a position; the last hash takes that place. Takes no memory.
+    /// Removes the hash at a position; the last hash takes that position. Takes no memory.
     pub fn swap_remove(&mut self, position: usize)
         requires { position < length self.old.hashes }
         ensures hashes { self.new.hashes ≡ swap_remove self.old.hashes position 0 }

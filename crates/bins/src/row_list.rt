@@ -1,7 +1,7 @@
 //! What is done to a list of rows of one width.
 ghost use Rattle.std.specs.Prelude.{◌≡◌, ◌-◌, ◌<◌, ◌≤◌, ◌^◌, ◌++◌, [], ◌∷◌, length, set, OnOk, OnErr, vec_capacity};
 ghost use Rattle.std.specs.List.{swap_remove};
-ghost use Rattle.bins.specs.Columns.{kept, nobody, row_at};
+ghost use Rattle.bins.specs.KeptRows.{kept, nobody, row_at};
 
 use crate::row::{MOST_ROWS, Row};
 use bpf_model::NoMemory;
@@ -38,7 +38,7 @@ pub(crate) fn set_value_at<const KEY: usize, const VALUE: usize>(
     row.set_value(value);
 }
 
-/// Tells the row at a position which position's place names it.
+/// Tells the row at a position which position's location names it.
 #[inline(always)]
 pub(crate) fn move_at<const KEY: usize, const VALUE: usize>(
     rows: &mut Vec<Row<KEY, VALUE>>,

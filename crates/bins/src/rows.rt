@@ -1,7 +1,7 @@
 //! The keys and values of entries, in rows of three widths.
 ghost use Rattle.std.specs.Prelude.{◌≡◌, ◌+◌, ◌<◌, ◌≤◌, ◌++◌, [], ◌∷◌, length, set, OnOk};
 ghost use Rattle.std.specs.List.{swap_remove};
-ghost use Rattle.bins.specs.Columns.{string_at};
+ghost use Rattle.bins.specs.KeptRows.{string_at};
 
 use crate::raw_rows::RawRows;
 use crate::row::MOST_ROWS;
@@ -21,20 +21,20 @@ pub(crate) struct Rows {
 impl Model for Rows {
     ghost use Rattle.std.specs.Prelude.{◌≤◌, length, min, vec_capacity};
     ghost use Rattle.bins.specs.declared.row.TheConstants.{MOST_ROWS};
-    ghost use Rattle.bins.specs.Columns.{Columns};
+    ghost use Rattle.bins.specs.KeptRows.{KeptEntries};
     ghost use Rattle.bins.specs.Rows.{AreIn, keys_in, values_in};
 
-    ghost Value = { Columns };
+    ghost Value = { KeptEntries };
 
     ghost view = { λ rows. record {
       keys = keys_in rows.raw;
       values = values_in rows.raw;
-      room = min MOST_ROWS (min (vec_capacity rows.raw.places)
+      room = min MOST_ROWS (min (vec_capacity rows.raw.locations)
           (min (vec_capacity rows.raw.shorts) (min (vec_capacity rows.raw.middles) (vec_capacity rows.raw.longs))));
     } };
 
     ghost invariant = { λ rows. AreIn rows.raw
-        × (length rows.raw.places.items ≤ min (vec_capacity rows.raw.shorts) (min (vec_capacity rows.raw.middles) (vec_capacity rows.raw.longs))) };
+        × (length rows.raw.locations.items ≤ min (vec_capacity rows.raw.shorts) (min (vec_capacity rows.raw.middles) (vec_capacity rows.raw.longs))) };
 }
 
 impl Rows {

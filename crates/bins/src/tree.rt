@@ -4,11 +4,11 @@ ghost use Rattle.std.specs.List.{AllWithin, swap_remove};
 ghost use Rattle.std.specs.Int.{IsPowerOfTwo};
 ghost use Rattle.std.specs.BTreeMap.{get};
 ghost use Rattle.bins.specs.Chains.{IsBinCount};
+ghost use Rattle.bins.specs.KeptRows.{string_at};
 ghost use Rattle.bins.specs.Table.{by_bytes};
 ghost use Rattle.bins.specs.Trees.{Locates, Sets, StandOnce};
 
 use crate::chains::MOST_BINS;
-use crate::copies::key_at;
 use crate::index::Index;
 use crate::rows::Rows;
 use bpf_model::{Key, NoMemory};
@@ -103,7 +103,16 @@ fn add_position(
     Ok(())
 }
 
-/// The position of each key. `NoMemory` where a request for memory was refused.
+/// A copy of the key at a position.
+fn key_at(rows: &Rows, position: usize) -> Key
+    requires { position < length rows.now.keys }
+    ensures { result ≡ string_at rows.now.keys position }
+{
+    let key = Key::from_slice(rows.key(position));
+    key.unwrap()
+}
+
+/// The position of each key. Returns `NoMemory` if a request for memory is refused.
 fn positions_by_key(alloc: Global, rows: &Rows) -> Result<BTreeMap<Key, usize>, NoMemory>
     requires { StandOnce rows.now.keys }
     ensures { IfOk result (λ positions. Locates positions rows.now.keys) }
@@ -119,8 +128,8 @@ fn positions_by_key(alloc: Global, rows: &Rows) -> Result<BTreeMap<Key, usize>, 
 fn move_position(positions: &mut BTreeMap<Key, usize>, key: &Key, position: usize)
     ensures { IsSome (get by_bytes positions.old key.now) → Sets positions.old positions.new key.now (Some position) }
 {
-    if let Some(place) = positions.get_mut(key) {
-        *place = position;
+    if let Some(old) = positions.get_mut(key) {
+        *old = position;
     }
 }
 
@@ -176,7 +185,7 @@ impl Tree {
         Ok(())
     }
 
-    /// Removes the key at a position; the last key takes that place. Takes no memory.
+    /// Removes the key at a position; the last key takes that position. Takes no memory.
     #[cold]
     pub(crate) fn swap_remove(&mut self, rows: &Rows, position: usize)
         requires locates { Locates self.old.positions rows.now.keys }

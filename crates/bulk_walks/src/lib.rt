@@ -7,13 +7,14 @@
 #![tactic(auto)]
 
 mod alike;
+mod answering;
 mod apart;
 mod count;
 mod finding;
 mod merging;
 mod replace;
-mod running;
 mod team;
+mod turns;
 mod walks;
 mod workers;
 
@@ -22,5 +23,5 @@ pub use atomic_methods::{WalkKind, WalkReply};
 pub use count::mapping_count;
 pub use replace::replace_all;
 pub use team::{EmptyTeam, Team};
-pub use walks::{for_each, search, walk};
+pub use walks::{Walk, for_each, search, walk_map};
 pub use workers::work;

@@ -1,7 +1,7 @@
 //! Puts, changes, removals and replacements in both bodies of the trait, and what is copied out of them.
 ghost use Rattle.std.specs.Prelude.{◌≤◌, ◌<◌};
 
-use bins::{Bins, CopyList, EntryColumns, HashedBins, HashedKey, ListBins, SortedColumns, hash_of};
+use bins::{Bins, EntryList, HashedBins, HashedKey, ListBins, SortedEntries, hash_of};
 use bpf_model::{Key, NoMemory, Value};
 use std::alloc::Global;
 use std::test::Fail;
@@ -132,33 +132,33 @@ fn both_bodies_are_scanned_alike(rt: HostRuntime) -> Result<(), Fail> {
 }
 
 /// Whether the one list has each entry of the other twice, in their order.
-fn are_twice(sorted: &SortedColumns, entries: &[(Key, Value)]) -> bool {
+fn are_twice(sorted: &SortedEntries, entries: &[(Key, Value)]) -> bool {
     if sorted.len() != 2 * entries.len() {
         return false;
     }
-    for place in 0..sorted.len() {
-        let (key, value) = &entries[place / 2];
-        if sorted.get(place) != (key.as_slice(), value.as_slice()) {
+    for position in 0..sorted.len() {
+        let (key, value) = &entries[position / 2];
+        if sorted.get(position) != (key.as_slice(), value.as_slice()) {
             return false;
         }
     }
     true
 }
 
-/// Copies in columns of the entries of bins, twice over, and the entries; one key and one value are long.
+/// Copies in a list of the entries of bins, twice over, and the entries; one key and one value are long.
 fn copied_twice<B: Bins + Drop>(alloc: Global) -> Result<bool, Fail> {
     let mut bins = B::open(alloc, 4)?;
     fill(&mut bins, 40)?;
     put(&mut bins, &[1; 64], &[2; 200])?;
-    let mut columns = EntryColumns::new(alloc);
-    columns.add_from(&bins)?;
-    columns.add_from(&bins)?;
-    let sorted = SortedColumns::new(alloc, columns)?;
+    let mut list = EntryList::new(alloc);
+    bins.copy_into(&mut list)?;
+    bins.copy_into(&mut list)?;
+    let sorted = SortedEntries::new(alloc, list)?;
     Ok(are_twice(&sorted, &bins.entries(alloc)?))
 }
 
 #[test]
-fn copies_in_columns_are_the_entries(rt: HostRuntime) -> Result<(), Fail> {
+fn copies_in_a_list_are_the_entries(rt: HostRuntime) -> Result<(), Fail> {
     assert!(rt; copied_twice::<ListBins>(rt.alloc())?);
     assert!(rt; copied_twice::<HashedBins>(rt.alloc())?);
     Ok(())

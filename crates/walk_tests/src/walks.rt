@@ -3,7 +3,7 @@ ghost use Rattle.std.specs.Prelude.{◌≡◌, ◌≤◌, All, IfOk, IfSome};
 
 use atomic_methods::{Call, Reply};
 use bin_stripes::{Gate, OpenGate, Pass, Place, StripedMap};
-use bins::EntryList;
+use bins::MergedEntries;
 use bpf_model::{Key, NoMemory, Value};
 use bulk_walks::{Team, WalkReply, for_each, is_same_reply, mapping_count, replace_all, search};
 use map_tests::programs::{NINE, ONE, THREE, TWO, summed, summing};
@@ -91,7 +91,7 @@ fn number_of(bytes: &[u8]) -> Option<u64> {
 }
 
 /// Whether these are the items, in their order.
-fn are_items(found: &EntryList, items: &[(&[u8], &[u8])]) -> bool {
+fn are_items(found: &MergedEntries, items: &[(&[u8], &[u8])]) -> bool {
     if found.len() != items.len() {
         return false;
     }

@@ -7,12 +7,12 @@ use Rattle.bulk_walks.proofs.count.count_turns.Goals as goal
 use Rattle.bulk_walks.proofs.count.count_turns.Goals.{then-stripe-workers, else-stripe-workers}
 
 pub loop-stripe-init : goal.loop-stripe-init
-loop-stripe-init g c = record { map = refl; done = counts_none c.args.workers c.args.worker c.args.pass.now.view }
+loop-stripe-init g c = record { map = refl; done = counts_none c.args.worker.now.workers c.args.worker.now.number c.args.pass.now.view }
 
 -- the sum fits
 pub overflow_add-count : goal.overflow_add-count
 overflow_add-count g c =
-    let bounded = turn_sum-le c.args.workers c.args.worker (λ _. 2 ^ 57) (2 ^ 57) c.loop-stripe.stripe (λ _. omega arith) in
+    let bounded = turn_sum-le c.args.worker.now.workers c.args.worker.now.number (λ _. 2 ^ 57) (2 ^ 57) c.loop-stripe.stripe (λ _. omega arith) in
     let had = c.loop-stripe.invariant.done.bounded in
     let low = c.loop-stripe-test.true in
     let most = at_most_64 _ c.stripes-stripes.ensures.count in
@@ -21,8 +21,8 @@ overflow_add-count g c =
 
 pub loop-stripe-preserved : goal.loop-stripe-preserved
 loop-stripe-preserved g c =
-    let W = c.args.workers in
-    let j = c.args.worker in
+    let W = c.args.worker.now.workers in
+    let j = c.args.worker.now.number in
     let v = c.args.pass.now.view in
     let p = c.loop-stripe.pass in
     let n = c.loop-stripe.stripe in

@@ -10,14 +10,14 @@ use Rattle.bulk_walks.proofs.replace.replace_turns.Goals.{then-stripe-workers, e
 pub loop-stripe-init : goal.loop-stripe-init
 loop-stripe-init g c = record {
   map = refl;
-  done = replaces_none (stripes_of c.args.map.now) c.args.program.now c.args.arg.now c.args.workers c.args.worker c.args.pass.now.view _ refl refl refl;
+  done = replaces_none (stripes_of c.args.worker.now.map.now) c.args.program.now c.args.arg.now c.args.worker.now.workers c.args.worker.now.number c.args.pass.now.view _ refl refl refl;
 }
 
 -- the sums fit
 pub add-requires : goal.add-requires
 add-requires g c =
     let inv = c.loop-stripe.invariant.done in
-    let bounded = turn_sum-le c.args.workers c.args.worker (λ _. 2 ^ 57) (2 ^ 57) c.loop-stripe.stripe (λ _. omega arith) in
+    let bounded = turn_sum-le c.args.worker.now.workers c.args.worker.now.number (λ _. 2 ^ 57) (2 ^ 57) c.loop-stripe.stripe (λ _. omega arith) in
     let low = c.loop-stripe-test.true in
     let value = c.stripes-stripes.ensures.value in
     let most = at_most_64 _ c.stripes-stripes.ensures.count in
@@ -31,11 +31,11 @@ add-requires g c =
 
 pub loop-stripe-preserved : goal.loop-stripe-preserved
 loop-stripe-preserved g c =
-    let S = stripes_of c.args.map.now in
+    let S = stripes_of c.args.worker.now.map.now in
     let checked = c.args.program.now in
     let arg = c.args.arg.now in
-    let W = c.args.workers in
-    let j = c.args.worker in
+    let W = c.args.worker.now.workers in
+    let j = c.args.worker.now.number in
     let v = c.args.pass.now.view in
     let p = c.loop-stripe.pass in
     let n = c.loop-stripe.stripe in
