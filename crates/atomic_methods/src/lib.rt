@@ -5,7 +5,7 @@
 //! would, one after the other (`AnswersInTurn`).
 //! `walk_entries` and `count_of` answer what a walk over entries gives (`IsReply`, `IsCount` of `specs/Replies.antt`), and
 //! `Striped::walk` what one over a whole table does.
-//! `NoMemory` comes only where a call would have added its key, and the entries are then as before. A call that adds no
+//! `NoMemory` comes only if a call would have added its key, and the entries are then as before. A call that adds no
 //! key takes no memory, and none waits. What each method does: `specs/Methods.antt`; lists of calls: `specs/Runs.antt`.
 #![tactic(auto)]
 

@@ -40,7 +40,7 @@ pub enum WalkKind {
     ForEach,
 }
 
-/// The reply to a count of so many entries. Takes no memory.
+/// The reply to a count of this many entries. Takes no memory.
 pub fn count_of(alloc: Global, scanned: u64) -> WalkReply
     ensures { IsCount scanned result }
 {

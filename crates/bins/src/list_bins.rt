@@ -35,7 +35,7 @@ impl Model for ListBins {
     ghost invariant = { λ b. T (map.is_sorted by_bytes b.entries.items) };
 }
 
-/// Where this key stands, or where it would go.
+/// The position of this key, or the one that it would get.
 fn position_with(entries: &[(Key, Value)], key: &Key) -> Result<usize, usize>
     requires { T (is_sorted by_bytes entries.now) }
     ensures bound { IsSearchInRange result (length entries.now) }
@@ -45,7 +45,7 @@ fn position_with(entries: &[(Key, Value)], key: &Key) -> Result<usize, usize>
     entries.binary_search_by(|entry| entry.0.cmp(key))
 }
 
-/// Where the key stands, or where it would go.
+/// The position of the key, or the one that it would get.
 fn position_of(entries: &[(Key, Value)], key: &HashedKey<'_>) -> Result<usize, usize>
     requires { T (is_sorted by_bytes entries.now) }
     ensures bound { IsSearchInRange result (length entries.now) }

@@ -80,13 +80,6 @@ impl MergedEntries {
         }
     }
 
-    /// Whether there is no entry. Takes no memory.
-    pub fn is_empty(&self) -> bool
-        ensures exact { IsTrue result ↔ (length self.now ≡ 0) }
-    {
-        self.len() == 0
-    }
-
     /// The key and the value at a position. Takes no memory.
     #[inline(always)]
     pub fn get(&self, position: usize) -> (&[u8], &[u8])

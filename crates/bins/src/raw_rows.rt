@@ -1,4 +1,4 @@
-//! Rows in a list for each width, and for each position the location of its row. A row names the position in turn, so that where
+//! Rows in a list for each width, and for each position the location of its row. A row names the position in turn, so that when
 //! one goes, the last one of its list takes the gap and its position is told.
 ghost use Rattle.std.specs.Prelude.{◌≡◌, ◌+◌, ◌-◌, ◌<◌, ◌≤◌, ◌^◌, ◌++◌, [], ◌∷◌, length, set, IsTrue, OnOk, OnErr, vec_capacity};
 ghost use Rattle.std.specs.List.{swap_remove};
@@ -7,7 +7,7 @@ ghost use Rattle.bins.specs.Rows.{AreIn, HasRoom, SameRoom, keys_in, lists_in, r
 ghost use Rattle.bins.specs.declared.row.Location.TheVariants.{Vacant, In};
 ghost use Rattle.bins.specs.declared.row.Width.TheVariants.{Short};
 
-use crate::row::{MIDDLE_BYTES, MOST_ROWS, Location, LocationWord, Row, SHORT_BYTES, Width};
+use crate::row::{Location, LocationWord, MIDDLE_BYTES, MOST_ROWS, Row, SHORT_BYTES, Width};
 use crate::row_list::{add, add_copy, entry_at, grow, move_at, remove_at, set_value_at};
 use bpf_model::limits::{KEY_BYTES, VALUE_BYTES};
 use bpf_model::{Key, NoMemory};
@@ -103,7 +103,7 @@ impl RawRows {
         }
     }
 
-    /// Adds a row behind the others of its width.
+    /// Adds a row after the others of its width.
     #[inline(always)]
     fn add_in(&mut self, width: Width, owner: usize, key: &[u8], value: &[u8])
         requires room { length (rows_in self.old width) < room_of self.old width }
@@ -165,7 +165,7 @@ impl RawRows {
         }
     }
 
-    /// Room for so many more positions, and for a row of each width for each.
+    /// Room for this many more positions, and for a row of each width for each.
     pub(crate) fn reserve(&mut self, more: usize) -> Result<(), NoMemory>
         requires bounded { length self.old.locations.items + more ≤ 2 ^ 57 }
         requires room { HasRoom self.old (length self.old.locations.items) }
@@ -302,7 +302,7 @@ impl RawRows {
         }
     }
 
-    /// Adds a vacant position behind the others.
+    /// Adds a vacant position after the others.
     #[inline(always)]
     fn push_vacant(&mut self)
         requires rows { AreIn self.old }
@@ -316,10 +316,11 @@ impl RawRows {
         ensures lists { lists_in self.new ≡ lists_in self.old }
         ensures room { SameRoom self.old self.new }
     {
-        self.locations.push_reserved(LocationWord::new(Location::Vacant));
+        self.locations
+            .push_reserved(LocationWord::new(Location::Vacant));
     }
 
-    /// Adds a key and a value behind the others.
+    /// Adds a key and a value after the others.
     pub(crate) fn push_reserved(&mut self, key: &[u8], value: &[u8])
         requires rows { AreIn self.old }
         requires few { length self.old.locations.items < MOST_ROWS }
@@ -338,7 +339,7 @@ impl RawRows {
         self.fill(position, key, value);
     }
 
-    /// Adds a copy of a short row behind the others.
+    /// Adds a copy of a short row after the others.
     #[inline(always)]
     fn push_short(&mut self, row: &ShortRow)
         requires rows { AreIn self.old }
@@ -358,7 +359,7 @@ impl RawRows {
         self.locations[position] = LocationWord::new(Location::In(Width::Short, at));
     }
 
-    /// Adds a copy of another list's row behind the others.
+    /// Adds a copy of another list's row after the others.
     #[inline(always)]
     fn push_from(&mut self, other: &RawRows, position: usize)
         requires rows { AreIn self.old }
@@ -382,7 +383,7 @@ impl RawRows {
         }
     }
 
-    /// Adds copies of all of another list's rows behind the others.
+    /// Adds copies of all of another list's rows after the others.
     pub(crate) fn push_all(&mut self, other: &RawRows)
         requires rows { AreIn self.old }
         requires other { AreIn other.now }

@@ -30,7 +30,7 @@ pub enum Width {
 }
 
 impl Width {
-    /// The narrowest in which a key and a value of so many bytes have room.
+    /// The narrowest in which a key and a value of these lengths have room.
     #[inline(always)]
     pub(crate) fn of(key: usize, value: usize) -> Width
         requires key { key ≤ KEY_BYTES }

@@ -42,7 +42,7 @@ impl Model for IndexSize {
     ghost invariant = { λ size. IsBinCount size.bins × IsPowerOfTwo size.stripes };
 }
 
-/// As many bins as before, or twice as many where so many entries are more than twice the bins.
+/// As many bins as before, or twice as many if these entries are more than twice the bins.
 fn bins_for(bins: u64, entries: usize) -> u64
     requires { IsBinCount bins }
     ensures count { IsBinCount result }
@@ -82,7 +82,7 @@ impl IndexSize {
         self.stripes
     }
 
-    /// The bins double where so many entries are more than twice the bins.
+    /// The bins double if these entries are more than twice the bins.
     fn count_entries(&mut self, entries: usize)
         ensures stripes { self.new.stripes ≡ self.old.stripes }
     {
@@ -134,7 +134,7 @@ fn move_position(positions: &mut BTreeMap<Key, usize>, key: &Key, position: usiz
 }
 
 impl Tree {
-    /// The tree of these keys, which an index had found. `NoMemory` where a request for memory was refused.
+    /// The tree of these keys, which an index had found. Returns `NoMemory` if a request for memory is refused.
     pub(crate) fn of(index: &Index, rows: &Rows) -> Result<Tree, NoMemory>
         requires { StandOnce rows.now.keys }
         ensures locates { IfOk result (λ tree. Locates tree.positions rows.now.keys) }
@@ -170,7 +170,7 @@ impl Tree {
         self.positions.get(key).copied()
     }
 
-    /// Adds a key, at the position behind these. `NoMemory` where a request for memory was refused.
+    /// Adds a key, at the position after these. Returns `NoMemory` if a request for memory is refused.
     #[cold]
     pub(crate) fn push(&mut self, rows: &Rows, key: &Key) -> Result<(), NoMemory>
         requires locates { Locates self.old.positions rows.now.keys }

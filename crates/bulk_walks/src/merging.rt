@@ -95,7 +95,11 @@ fn position_with(replies: &[WorkerReply], count: usize) -> Option<usize>
 }
 
 /// The first `most` items of all replies, in key order. They stay where they are.
-fn first_items(alloc: Global, replies: Vec<WorkerReply>, most: usize) -> Result<MergedEntries, NoMemory>
+fn first_items(
+    alloc: Global,
+    replies: Vec<WorkerReply>,
+    most: usize,
+) -> Result<MergedEntries, NoMemory>
     requires order { All (λ reply. T (finmap.is_sorted by_bytes reply.items)) replies.items }
     ensures { IfOk result (λ items. (all : List Entry) → T (finmap.is_sorted by_bytes all) → HasAll all (items_in replies.items) → items ≡ take most all) }
 {

@@ -36,8 +36,8 @@ let_go-requires-in-Err-clause-made g c = let v = c.args.seat.now.me.0 in let the
 pub returns-in-Ok-clause-ok : goal.returns-in-Ok-clause-ok
 returns-in-Ok-clause-ok g c = let n = c.args.table.now.table_id.slots in let k = c.args.stripe in
     lets_as n k _ _ c.args.seat.now.me c.let_go.new.seat.me
-        (λ actions a. subst (λ (b : g.row.B.Denot). actions ≡ scanned (map.entries (g.B.Bins.table b)) ∷ []) c.of-there.ensures a ∙ ap (λ (es : List Entry). scanned es ∷ []) (sym c.in-Ok.ensures.ok))
-        (lets_from n k _ c.args.seat.now.me _ c.let_go.new.seat.me (rest c.args.seat.now.me.1) (Some c.in-Some.bins) (Some c.in-Some.bins) refl (c.slot_mut.ensures.value ∙ ap (λ s. (c.args.stripe, s) ∷ rest c.args.seat.now.me.1) c.in-Some.is) refl c.let_go.ensures.made)
+    (λ actions a. subst (λ (b : g.row.B.Denot). actions ≡ scanned (map.entries (g.B.Bins.table b)) ∷ []) c.of-there.ensures a ∙ ap (λ (es : List Entry). scanned es ∷ []) (sym c.in-Ok.ensures.ok))
+    (lets_from n k _ c.args.seat.now.me _ c.let_go.new.seat.me (rest c.args.seat.now.me.1) (Some c.in-Some.bins) (Some c.in-Some.bins) refl (c.slot_mut.ensures.value ∙ ap (λ s. (c.args.stripe, s) ∷ rest c.args.seat.now.me.1) c.in-Some.is) refl c.let_go.ensures.made)
 
 pub returns-in-Ok-clause-entries : goal.returns-in-Ok-clause-entries
 returns-in-Ok-clause-entries g c = (
