@@ -21,5 +21,5 @@ returns g c = let known = c.pass.inside.known in let me = c.take-seat.result.me 
     let here : HasTaken (does (stripes_of known.table_id)) empty (view_of known.views) (stripes_of known.table_id) out.0 w =
     subst (λ (z : ℕ × View GhostAction). HasTaken (does z.0) empty z.1 z.0 out.0 w) (λ i. (n i, ap view_of (sym c.take-seat.ensures.2) i)) out.1.1.0 in
     let stripes = are_stripes (stripes_of known.table_id) (view_of known.views) w out.0 (subst (λ (t : TableId). IsStripeCount t.slots) (sym same) c.self.invariant.count) here in
-    let sorted = c.in_ok-found.ensures (whole out.0) (λ weight. out.1.0 weight ∙ sym (weighed_in_table weight (all_entries out.0) (Distinct-stripes out.0 stripes))) in
+    let sorted = c.in_ok-found.ensures.order (whole out.0) (λ weight. out.1.0 weight ∙ sym (weighed_in_table weight (all_entries out.0) (Distinct-stripes out.0 stripes))) in
     record { ok = rw (← c.pass.view_is) (closes_with (state known.table_id known.views) w out.0 _ here (subst (λ n. Sound n w) n out.1.1.1) sorted) }
