@@ -5,7 +5,7 @@ use Rattle.bulk_walks.proofs.Sums.{turn_sum-le}
 use Rattle.bulk_walks.proofs.TeamLemmas.{at_most_64}
 use Rattle.bulk_walks.proofs.ReplaceLemmas.{at_most_scanned, replaces_none, replaces_more, replaces_past, replaces_at}
 use Rattle.bulk_walks.proofs.replace.replace_turns.Goals as goal
-use Rattle.bulk_walks.proofs.replace.replace_turns.Goals.{then-stripe-workers, else-stripe-workers}
+use Rattle.bulk_walks.proofs.replace.replace_turns.Goals.{then-stripe-worker, else-stripe-worker}
 
 pub loop-stripe-init : goal.loop-stripe-init
 loop-stripe-init g c = record {
@@ -40,18 +40,18 @@ loop-stripe-preserved g c =
     let p = c.loop-stripe.pass in
     let n = c.loop-stripe.stripe in
     let inv = c.loop-stripe.invariant in
-    elim c.if-stripe-workers.branch [
-      | then-stripe-workers w ↦
+    elim c.if-stripe-worker.branch [
+      | then-stripe-worker w ↦
           let q = w.replace_stripe-counts.new.pass in
           let stripes = ap (λ (t : TableId). stripes_of t) (inv.map ∙ c.requires.map) in
           record {
             map = ap (λ (p : PassState). p.map) w.pass-is ∙ w.replace_stripe-counts.ensures.same.map ∙ inv.map;
             done = replaces_at S checked arg (n + 1) W j v q _ _ _
-                (replaces_more S checked arg W j v n p q c.loop-stripe.total w.replace_stripe-counts.result w.add.new.total inv.done w.if-stripe-workers.true w.replace_stripe-counts.ensures.same.passes stripes w.replace_stripe-counts.ensures.each w.replace_stripe-counts.ensures.bounded w.add.ensures)
+                (replaces_more S checked arg W j v n p q c.loop-stripe.total w.replace_stripe-counts.result w.add.new.total inv.done w.if-stripe-worker.true w.replace_stripe-counts.ensures.same.passes stripes w.replace_stripe-counts.ensures.each w.replace_stripe-counts.ensures.bounded w.add.ensures)
                 w.pass-is w.total-is;
           }
-      | else-stripe-workers w ↦ record {
+      | else-stripe-worker w ↦ record {
         map = ap (λ (p : PassState). p.map) w.pass-is ∙ inv.map;
-        done = replaces_at S checked arg (n + 1) W j v p _ _ _ (replaces_past S checked arg W j v n p.view c.loop-stripe.total inv.done w.if-stripe-workers.false) w.pass-is w.total-is;
+        done = replaces_at S checked arg (n + 1) W j v p _ _ _ (replaces_past S checked arg W j v n p.view c.loop-stripe.total inv.done w.if-stripe-worker.false) w.pass-is w.total-is;
       }
     ]
