@@ -17,7 +17,7 @@ AnswersInTurn-append table (i ∷ is) middle [] invocation new reply h more = ab
 AnswersInTurn-append table (i ∷ is) middle (r ∷ rs) invocation new reply (next, (first, rest)) more =
     (next, (first, AnswersInTurn-append next is middle rs invocation new reply rest more))
 
--- the call at place n is the last of the first n + 1
+-- the call at position n is the last of the first n + 1
 pub first_of-more : (calls : List Call) (n : ℕ) (call : Call) → n < length calls → call ≡ get_or calls n call → first_of calls (n + 1) ≡ first_of calls n ++ invocation_of call ∷ []
 first_of-more calls n call lt is =
     ap (map invocation_of) (take_more calls n call lt ∙ ap (λ (c : Call). take n calls ++ c ∷ []) (sym is)) ∙ map-append invocation_of (take n calls) (call ∷ [])

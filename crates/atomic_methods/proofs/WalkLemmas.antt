@@ -24,7 +24,7 @@ present-nil : (es : List Entry) → present es [] ≡ []
 present-nil [] = refl
 present-nil (e ∷ es) = refl
 
--- one outcome more, at the entry in its place
+-- one outcome more, at the entry in its turn
 present-push : (es : List Entry) (os : List Outcome) (o : Outcome) (d : Entry) → length os < length es → present es (os ++ o ∷ []) ≡ present es os ++ given_at (get_or es (length os) d).0 o
 present-push [] os o d lt = absurd (omega (arith, lt))
 present-push (e ∷ es) [] (Ok (Bytes answer)) d lt = ap (λ (xs : List Entry). (e.0, answer) ∷ xs) (present-nil es)
@@ -40,9 +40,9 @@ chosen-nil Search = refl
 chosen-nil ForEach = refl
 
 -- what a walk of this kind keeps after the program's runs on the first entries
-pub record Walked (kind : WalkKind) (checked : Checked) (arg : Option (List ℕ)) (entries items : List Entry) (place unfit : ℕ) : Type 0 where
+pub record Walked (kind : WalkKind) (checked : Checked) (arg : Option (List ℕ)) (entries items : List Entry) (position unfit : ℕ) : Type 0 where
   pub outcomes : List Outcome
-  pub one_each : length outcomes ≡ place
+  pub one_each : length outcomes ≡ position
   pub are_outcomes : AreOutcomes checked arg entries outcomes
   pub answers : items ≡ chosen kind (present entries outcomes)
   pub unfit_is : unfit ≡ count_by is_unfit outcomes
@@ -58,7 +58,7 @@ module _ (kind : WalkKind) (checked : Checked) (arg : Option (List ℕ)) (entrie
   }
 
   -- the program's run on the next entry
-  module _ (items : List Entry) (place unfit : ℕ) (before : Walked kind checked arg entries items place unfit) (lt : place < length entries) (entry : Entry) (is : entry ≡ entry_of entries place) where
+  module _ (items : List Entry) (position unfit : ℕ) (before : Walked kind checked arg entries items position unfit) (lt : position < length entries) (entry : Entry) (is : entry ≡ entry_of entries position) where
     abbrev here : Entry
     here = get_or entries (length before.outcomes) ([], [])
 
@@ -68,7 +68,7 @@ module _ (kind : WalkKind) (checked : Checked) (arg : Option (List ℕ)) (entrie
     at : entry ≡ here
     at = is ∙ ap (λ (n : ℕ). entry_of entries n) (sym before.one_each)
 
-    each : (o : Outcome) → length (before.outcomes ++ o ∷ []) ≡ place + 1
+    each : (o : Outcome) → length (before.outcomes ++ o ∷ []) ≡ position + 1
     each o = omega (arith, ap (λ (n : ℕ). n + 1) before.one_each, length-append before.outcomes (o ∷ []))
 
     come : (o : Outcome) → ComesTo checked (input_of entry.0 (Some entry.1) arg) o → AreOutcomes checked arg entries (before.outcomes ++ o ∷ [])
@@ -76,7 +76,7 @@ module _ (kind : WalkKind) (checked : Checked) (arg : Option (List ℕ)) (entrie
 
     -- it answered bytes, and the walk was offered them
     pub walked_given : (answer : List ℕ) (after : List Entry) → ComesTo checked (input_of entry.0 (Some entry.1) arg) (Ok (Bytes answer))
-        → ((found : List Entry) → items ≡ chosen kind found → after ≡ chosen kind (found ++ (entry.0, answer) ∷ [])) → Walked kind checked arg entries after (place + 1) unfit
+        → ((found : List Entry) → items ≡ chosen kind found → after ≡ chosen kind (found ++ (entry.0, answer) ∷ [])) → Walked kind checked arg entries after (position + 1) unfit
     walked_given answer after comes kept = record {
       outcomes = before.outcomes ++ Ok (Bytes answer) ∷ [];
       one_each = each (Ok (Bytes answer));
@@ -89,7 +89,7 @@ module _ (kind : WalkKind) (checked : Checked) (arg : Option (List ℕ)) (entrie
 
     -- it answered none
     pub walked_none_given : (o : Outcome) (b : Bool) (after : ℕ) → ComesTo checked (input_of entry.0 (Some entry.1) arg) o → ((key : List ℕ) → given_at key o ≡ []) → is_unfit o ≡ b
-        → after ≡ unfit + cond b 1 0 → Walked kind checked arg entries items (place + 1) after
+        → after ≡ unfit + cond b 1 0 → Walked kind checked arg entries items (position + 1) after
     walked_none_given o b after comes none is_b counted = record {
       outcomes = before.outcomes ++ o ∷ [];
       one_each = each o;

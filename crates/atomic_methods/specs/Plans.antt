@@ -1,4 +1,4 @@
--- What plans, kinds of replies and answers in a place of the caller's stand for.
+-- What plans, kinds of replies and answers in a value of the caller's stand for.
 use Rattle.std.specs.Prelude.{ℕ, Bool, true, false, List, Option, Some, None, Result, Ok, Err, option_copied}
 use Rattle.bpf_model.specs.declared.input.Answer.{Answer}
 use Rattle.bpf_model.specs.declared.input.Answer.TheVariants.{Nothing, Bytes}

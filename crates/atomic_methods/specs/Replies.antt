@@ -27,7 +27,7 @@ chosen ForEach items = items
 -- the reply to a walk over these entries, which stand in key order
 pub record IsReply (kind : WalkKind) (checked : Checked) (arg : Option (List ℕ)) (entries : List Entry)
     (reply : WalkReply) : Type 0 where
-  -- what the program comes to at each entry, in the entry's place
+  -- what the program comes to at each entry, at the entry's position
   pub outcomes : List Outcome
   pub one_each : length outcomes ≡ length entries
   pub are_outcomes : AreOutcomes checked arg entries outcomes

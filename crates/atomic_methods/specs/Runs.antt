@@ -18,7 +18,7 @@ AnswersInTurn table (invocation ∷ rest) new (reply ∷ replies) =
 abbrev pub first_of : List Call → ℕ → List Invocation
 first_of calls n = map invocation_of (take n calls)
 
--- the call at this place would add its key
+-- the call at this position would add its key
 pub record IsCallRefused (table : Table) (calls : List Call) (n : ℕ) : Type 0 where
   pub call : Call
   pub is : slice_get calls n ≡ Some call

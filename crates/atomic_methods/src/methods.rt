@@ -17,7 +17,7 @@ use bpf_model::{InputPart, Key, NoMemory, Value, value_bytes};
 use std::alloc::Global;
 use verifier::Verified;
 
-/// Makes one call. `NoMemory` only where it would have added a key and the room for it was refused; the entries are
+/// Makes one call. Returns `NoMemory` only if it would have added a key and the room for it is refused; the entries are
 /// then as before. A call that adds no key takes no memory. Never waits.
 pub fn apply<B: Bins>(bins: &mut B, call: &Call) -> Result<Reply, NoMemory>
     ensures ok { IfOk result (Answers (B.table bins.old) (invocation_of call.now) (B.table bins.new)) }
@@ -124,7 +124,7 @@ fn make_change<B: Bins>(
     }
 }
 
-/// Makes a call whose key is absent, as `apply_into` does. Apart from it, so that calls on present keys clear no place for
+/// Makes a call whose key is absent, as `apply_into` does. Apart from it, so that calls on present keys clear no room for
 /// a new entry.
 #[inline(never)]
 fn apply_to_absent<B: Bins>(
@@ -147,7 +147,7 @@ fn apply_to_absent<B: Bins>(
     Ok(kind)
 }
 
-/// Copies of all entries, in key order. `NoMemory` where a request for memory was refused. Never waits.
+/// Copies of all entries, in key order. Returns `NoMemory` if a request for memory is refused. Never waits.
 pub fn scan<B: Bins>(alloc: Global, bins: &B) -> Result<Vec<(Key, Value)>, NoMemory>
     ensures ok { IfOk result (λ found. found.items ≡ map.entries (B.table bins.now)) }
 {

@@ -15,7 +15,7 @@ pub enum Reply {
     Unfit(InputPart),
 }
 
-/// A reply without the bytes of its value, which stand in a place of the caller's.
+/// A reply without the bytes of its value, which the caller has in a `Value` of its own.
 #[derive(Clone, Copy, Debug, PartialEq, Eq)]
 pub enum ReplyKind {
     /// No value.

@@ -18,9 +18,9 @@ use crate::methods;
 use crate::reply::{Reply, ReplyKind};
 use crate::stripes::{MAX_STRIPES, is_stripe_count};
 use crate::walk_reply::{WalkKind, WalkReply};
-use crate::walks::walk;
+use crate::walks::walk_entries;
 use crate::workspace::Workspace;
-use bins::{Bins, Counts, EntryColumns, HashedBins, SortedColumns, sort_entries};
+use bins::{Bins, Counts, EntryList, HashedBins, SortedEntries};
 use bpf_model::{Key, NoMemory, Value};
 use std::alloc::Global;
 use std::marker::Model;
@@ -29,11 +29,11 @@ use verifier::Verified;
 /// Why a list of calls was not made to its end: memory was refused.
 #[derive(Debug, Drop)]
 pub struct Stopped {
-    /// The replies to the calls that were made, which stand. None where the list of replies itself found no room.
+    /// The replies to the calls that were made, which stand. None if the list of replies itself found no room.
     pub replies: Vec<Reply>,
 }
 
-/// A table of one caller, in stripes by the hashes of the keys, with the place where they are made.
+/// A table of one caller, in stripes by the hashes of the keys, with the workspace of its calls.
 #[derive(Drop)]
 pub struct Striped {
     stripes: Vec<HashedBins>,
@@ -54,8 +54,8 @@ impl Model for Striped {
 }
 
 impl Striped {
-    /// A table without entries. `BadStripes` where it may not have so many stripes, else `NoMemory` where a request for
-    /// memory was refused.
+    /// A table without entries. Returns `BadStripes` if it may not have this many stripes, else `NoMemory` if a request for
+    /// memory is refused.
     pub fn open(alloc: Global, stripes: u64) -> Result<Striped, OpenFault>
         ensures bad_stripes { IsErrOf result OpenFault.BadStripes ↔ (IsStripeCount stripes → ⊥) }
         ensures ok { IfOk result (λ striped. striped ≡ finmap.empty) }
@@ -69,7 +69,7 @@ impl Striped {
         })
     }
 
-    /// Makes one call on the whole table. `NoMemory` only where it would have added a key and the room for it was
+    /// Makes one call on the whole table. Returns `NoMemory` only if it would have added a key and the room for it is
     /// refused; the table is then as before. A call that adds no key takes no memory. Never waits.
     pub fn apply(&mut self, call: &Call) -> Result<Reply, NoMemory>
         ensures ok { IfOk result (Answers self.old (invocation_of call.now) self.new) }
@@ -95,8 +95,8 @@ impl Striped {
         methods::apply_into(bins, &call, &mut self.workspace, bytes)
     }
 
-    /// Makes the calls in turn, each on what the ones before it left. Where a call is refused, neither it nor any after
-    /// it is made. Room for the replies is asked for first. Never waits.
+    /// Makes the calls in turn, each on what the ones before it left. If a call is refused, neither it nor any after it is
+    /// made. Room for the replies is asked for first. Never waits.
     pub fn run(&mut self, alloc: Global, calls: &[Call]) -> Result<Vec<Reply>, Stopped>
         ensures ok { IfOk result (λ replies.
             AnswersInTurn self.old (map invocation_of calls.now) self.new replies.items) }
@@ -120,15 +120,17 @@ impl Striped {
         Ok(replies)
     }
 
-    /// Copies of all entries, in key order. `NoMemory` where a request for memory was refused. Never waits.
+    /// Copies of all entries, in key order. Returns `NoMemory` if a request for memory is refused. Never waits.
     pub fn scan(&self, alloc: Global) -> Result<Vec<(Key, Value)>, NoMemory>
         ensures ok { IfOk result (λ found. found.items ≡ finmap.entries self.now) }
     {
-        sorted_entries(alloc, &self.stripes)
+        let entries = sorted_entries(alloc, &self.stripes)?;
+        let found = entries.copied(alloc)?;
+        Ok(found)
     }
 
-    /// Runs the program on each entry in key order, and gives the answers of this kind of walk. `NoMemory` where a request
-    /// for memory was refused. Never waits.
+    /// Runs the program on each entry in key order, and gives the answers of this kind of walk. Returns `NoMemory` if a
+    /// request for memory is refused. Never waits.
     pub fn walk(
         &self,
         alloc: Global,
@@ -138,8 +140,8 @@ impl Striped {
     ) -> Result<WalkReply, NoMemory>
         ensures ok { IfOk result (λ reply. IsReply kind program.now arg.now (finmap.entries self.now) reply) }
     {
-        let entries = sorted_columns(alloc, &self.stripes)?;
-        let reply = walk(alloc, kind, &entries, program, arg)?;
+        let entries = sorted_entries(alloc, &self.stripes)?;
+        let reply = walk_entries(alloc, kind, &entries, program, arg)?;
         Ok(reply.into_reply())
     }
 
@@ -181,7 +183,7 @@ fn replace_stripes(stripes: &mut Vec<HashedBins>, program: &Verified, arg: &Opti
     }
 }
 
-/// So many stripes without entries.
+/// This many stripes without entries.
 fn empty_stripes(alloc: Global, count: u64) -> Result<Vec<HashedBins>, NoMemory>
     ensures count { IfOk result (λ stripes. length stripes.items ≡ count) }
     ensures empty { IfOk result (λ stripes. (i : ℕ) → stripe_at stripes.items i ≡ finmap.empty) }
@@ -205,46 +207,25 @@ fn count_all(stripes: &[HashedBins]) -> u64
     sum
 }
 
-/// Copies of the entries of each stripe.
-fn copies_of(alloc: Global, stripes: &[HashedBins]) -> Result<Vec<(Key, Value)>, NoMemory>
-    ensures ok { IfOk result (λ found. WeighSame found.items (all_entries stripes.now)) }
+/// The entries of each stripe in one list, for which room is asked first.
+fn list_of(alloc: Global, stripes: &[HashedBins]) -> Result<EntryList, NoMemory>
+    requires { length stripes.now ≤ MAX_STRIPES }
+    ensures ok { IfOk result (λ found. WeighSame found (all_entries stripes.now)) }
 {
-    let mut found = Vec::new(alloc);
+    let mut found = EntryList::new(alloc);
+    found.reserve(count_all(stripes) as usize)?;
     for stripe in stripes {
         stripe.copy_into(&mut found)?;
     }
     Ok(found)
 }
 
-/// Copies of the entries of all stripes, in key order.
-fn sorted_entries(alloc: Global, stripes: &[HashedBins]) -> Result<Vec<(Key, Value)>, NoMemory>
-    requires { AreStripes stripes.now }
-    ensures ok { IfOk result (λ found. found.items ≡ finmap.entries (whole stripes.now)) }
-{
-    let mut found = copies_of(alloc, stripes)?;
-    sort_entries(&mut found);
-    Ok(found)
-}
-
-/// The entries of each stripe in columns, for which room is asked first.
-fn columns_of(alloc: Global, stripes: &[HashedBins]) -> Result<EntryColumns, NoMemory>
-    requires { length stripes.now ≤ MAX_STRIPES }
-    ensures ok { IfOk result (λ found. WeighSame found (all_entries stripes.now)) }
-{
-    let mut found = EntryColumns::new(alloc);
-    found.reserve(count_all(stripes) as usize)?;
-    for stripe in stripes {
-        stripe.copy_apart(&mut found)?;
-    }
-    Ok(found)
-}
-
-/// The entries of all stripes in key order, each in as many bytes as it needs.
-fn sorted_columns(alloc: Global, stripes: &[HashedBins]) -> Result<SortedColumns, NoMemory>
+/// The entries of all stripes in key order.
+fn sorted_entries(alloc: Global, stripes: &[HashedBins]) -> Result<SortedEntries, NoMemory>
     requires { AreStripes stripes.now }
     ensures ok { IfOk result (λ found. found ≡ finmap.entries (whole stripes.now)) }
 {
-    let found = columns_of(alloc, stripes)?;
-    let sorted = SortedColumns::new(alloc, found)?;
+    let found = list_of(alloc, stripes)?;
+    let sorted = SortedEntries::new(alloc, found)?;
     Ok(sorted)
 }

@@ -5,14 +5,14 @@ ghost use Rattle.bins.specs.Table.{Entry};
 ghost use Rattle.atomic_methods.specs.declared.walk_reply.WalkKind.{WalkKind as AnyKind};
 ghost use Rattle.atomic_methods.specs.Replies.{IsReply, IsCount};
 
-use bins::{Counts, EntryList};
+use bins::{Counts, MergedEntries};
 use std::alloc::Global;
 
 /// What a walk answers.
 #[derive(Drop)]
 pub struct WalkReply {
     /// Keys with the answers that the walk gives, in key order.
-    pub items: EntryList,
+    pub items: MergedEntries,
     /// `scanned` and `unfit` count entries, and `given` the items; a replacement, which gives no items, counts there the
     /// values that it entered.
     pub counts: Counts,
@@ -40,11 +40,11 @@ pub enum WalkKind {
     ForEach,
 }
 
-/// The reply to a count of so many entries. Takes no memory.
+/// The reply to a count of this many entries. Takes no memory.
 pub fn count_of(alloc: Global, scanned: u64) -> WalkReply
     ensures { IsCount scanned result }
 {
-    let items = EntryList::new(alloc);
+    let items = MergedEntries::new(alloc);
     let counts = Counts {
         scanned,
         given: 0,

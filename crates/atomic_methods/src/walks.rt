@@ -6,17 +6,17 @@ ghost use Rattle.bins.specs.Table.{Entry};
 ghost use Rattle.atomic_methods.specs.Plans.{outcome_by};
 ghost use Rattle.atomic_methods.specs.Replies.{chosen, IsReply};
 
-use crate::part_reply::PartReply;
 use crate::program::answer_into;
 use crate::walk_reply::WalkKind;
-use bins::{Counts, EntryColumns, SortedColumns};
+use crate::worker_reply::WorkerReply;
+use bins::{Counts, EntryList, SortedEntries};
 use bpf_machine::Machine;
 use bpf_model::limits::{KEY_BYTES, VALUE_BYTES};
 use bpf_model::{InputPart, Key, NoMemory, Value, value_bytes};
 use std::alloc::Global;
 use verifier::Verified;
 
-/// Where a program runs on one entry after the other: no value is made for an entry, or moved. What it holds makes no
+/// What a program needs to run on one entry after the other: no value is made for an entry, or moved. What it holds makes no
 /// difference.
 #[derive(Drop)]
 struct Workbench {
@@ -26,6 +26,7 @@ struct Workbench {
 }
 
 impl Workbench {
+    /// A workbench. Takes no memory.
     fn new() -> Workbench {
         Workbench {
             machine: Machine::new(),
@@ -36,23 +37,23 @@ impl Workbench {
 }
 
 /// Runs the program on each entry in turn, and gives the answers of this kind of walk, in the order of the entries. Asks
-/// for room for the answers first; `NoMemory` where a request for memory was refused. Never waits.
-pub fn walk(
+/// for room for the answers first; returns `NoMemory` if a request for memory is refused. Never waits.
+pub fn walk_entries(
     alloc: Global,
     kind: WalkKind,
-    entries: &SortedColumns,
+    entries: &SortedEntries,
     program: &Verified,
     arg: &Option<Value>,
-) -> Result<PartReply, NoMemory>
+) -> Result<WorkerReply, NoMemory>
     ensures ok { IfOk result (λ reply. IsReply kind program.now arg.now entries.now reply) }
 {
-    let mut items = EntryColumns::new(alloc);
+    let mut items = EntryList::new(alloc);
     let count = entries.len();
     items.reserve(most_given(kind, count))?;
     let mut bench = Workbench::new();
     let mut unfit = 0;
-    for place in 0..count {
-        let (key, value) = entries.get(place);
+    for position in 0..count {
+        let (key, value) = entries.get(position);
         match answer(program, key, value, arg, &mut bench) {
             Ok(true) => keep(kind, &mut items, key, bench.answer.as_slice())?,
             Ok(false) => {}
@@ -64,10 +65,10 @@ pub fn walk(
         given: items.len() as u64,
         unfit,
     };
-    Ok(PartReply::new(items, counts))
+    Ok(WorkerReply::new(items, counts))
 }
 
-/// How many answers a walk over so many entries gives at most.
+/// How many answers a walk over this many entries gives at most.
 fn most_given(kind: WalkKind, count: usize) -> usize {
     match kind {
         WalkKind::Search => 1,
@@ -90,15 +91,15 @@ fn answer(
     let arg = value_bytes(arg.as_ref());
     let Workbench {
         machine,
-        key: place,
+        key: own_key,
         answer,
     } = bench;
-    place.set_from(key);
-    answer_into(program, place, Some(value), arg, machine, answer)
+    own_key.set_from(key);
+    answer_into(program, own_key, Some(value), arg, machine, answer)
 }
 
-/// Adds an answer behind the ones before it, where the walk gives it.
-fn keep(kind: WalkKind, items: &mut EntryColumns, key: &[u8], answer: &[u8]) -> Result<(), NoMemory>
+/// Adds an answer after the earlier ones, if the walk gives it.
+fn keep(kind: WalkKind, items: &mut EntryList, key: &[u8], answer: &[u8]) -> Result<(), NoMemory>
     requires key { length key.now ≤ KEY_BYTES }
     requires value { length answer.now ≤ VALUE_BYTES }
     ensures ok { OnOk result ((found : List Entry) → items.old ≡ chosen kind found →

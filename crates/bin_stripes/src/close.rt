@@ -11,14 +11,14 @@ ghost use Rattle.bin_stripes.specs.Closed.{Closes};
 use crate::map::StripedMap;
 use crate::pass::Pass;
 use crate::steps::{PassSeat, Stripes, bins_out, take_stripe};
-use bins::{Bins, sort_entries};
+use bins::{Bins, EntryList, sorted_copies};
 use bpf_model::{Key, NoMemory, Value};
 use std::alloc::Global;
 use std::sync::Wait;
 
 impl StripedMap {
-    /// Gives the map up for its entries, in key order: those of each stripe once it was free. `NoMemory` where a request for
-    /// memory was refused; the map is given up then too. Waits until each stripe is free.
+    /// Gives the map up for its entries, in key order: those of each stripe once it was free. Returns `NoMemory` if a request
+    /// for memory is refused; the map is given up then too. Waits until each stripe is free.
     pub fn close<R: Wait>(
         self,
         rt: &R,
@@ -31,8 +31,8 @@ impl StripedMap {
         let stripes = self.table.slot_count();
         let Pass { mut known, .. } = pass;
         let mut seat = known.take();
-        let mut found = entries_out(rt, alloc, &self.table.shared, &mut seat, stripes)?;
-        sort_entries(&mut found);
+        let copies = entries_out(rt, alloc, &self.table.shared, &mut seat, stripes)?;
+        let found = sorted_copies(alloc, copies)?;
         Ok(found)
     }
 }
@@ -44,14 +44,14 @@ fn entries_out<B: Bins + Drop, R: Wait>(
     table: &Stripes<B>,
     seat: &mut PassSeat<B>,
     stripes: usize,
-) -> Result<Vec<(Key, Value)>, NoMemory>
+) -> Result<EntryList, NoMemory>
     requires table { IsLaid table.now.table_id table.now.key × (seat.old.table_id ≡ table.now.table_id) }
     requires stripes { stripes ≡ table.now.table_id.slots }
     requires rests { Rests seat.old.me × Sound stripes seat.old.me.0 }
-    ensures ok { IfOk result (λ found. (tables : List Table) × (WeighSame found.items (all_entries tables)
+    ensures ok { IfOk result (λ found. (tables : List Table) × (WeighSame found (all_entries tables)
         × (HasTaken (does stripes) empty seat.old.me.0 stripes tables seat.new.me.0 × Sound stripes seat.new.me.0))) }
 {
-    let mut found = Vec::new(alloc);
+    let mut found = EntryList::new(alloc);
     for stripe in 0..stripes {
         take_stripe(rt, table, seat, stripe);
         let bins = bins_out(table, seat, stripe);

@@ -1,4 +1,4 @@
-//! Places at which a test may hold a worker.
+//! Points at which a test may hold a worker.
 
 /// Where a worker is.
 #[derive(Clone, Copy, Debug, PartialEq, Eq)]
@@ -11,9 +11,9 @@ pub enum Place {
     Request,
 }
 
-/// What a worker passes at each place. It may hold the worker there.
+/// What a worker passes at each `Place`. It may hold the worker there.
 pub trait Gate {
-    /// The worker of this number is at the place.
+    /// The worker of this number has come there.
     fn pass(&self, place: Place, worker: u32);
 }
 

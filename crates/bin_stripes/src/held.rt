@@ -16,7 +16,7 @@ ghost use Rattle.bin_stripes.specs.Holding.{IsLaid, SeatHolds, SeatRefuses};
 use crate::gate::{Gate, Place};
 use crate::steps::{PassSeat, Shows, Stripes, let_go};
 use atomic_methods::{HashedCall, ReplyKind, Workspace, apply_into, replace_each};
-use bins::{Bins, CopyList, Counts, sort_entries};
+use bins::{Bins, Counts, EntryList};
 use bpf_model::{Key, NoMemory, Value};
 use std::alloc::Global;
 use std::snapshot::Snapshot;
@@ -29,7 +29,7 @@ impl Shows<()> for Nothing {
     ghost shows = { λ _ actions. actions ≡ [] };
 }
 
-/// A call, the kind of its reply, and the place where the bytes of the replied value were left.
+/// A call, the kind of its reply, and the bytes of the replied value.
 #[derive(Drop)]
 struct Answered<'a> {
     call: &'a HashedCall<'a>,
@@ -70,7 +70,7 @@ impl<'a, B: Bins> Shows<Replacement<'a, B>> for Replacing {
 }
 
 /// Makes the call on the stripe of its key. A program runs in the workspace; the bytes of the replied value are left in
-/// `bytes`. `NoMemory` as `apply_into` has it; then nothing was done.
+/// `bytes`. Returns `NoMemory` as `apply_into` does; then nothing was done.
 pub(crate) fn make_call<B: Bins + Drop>(
     table: &Stripes<B>,
     seat: &mut PassSeat<B>,
@@ -107,13 +107,13 @@ pub(crate) fn make_call<B: Bins + Drop>(
     }
 }
 
-/// Adds copies of the stripe's entries to the list, in an order of their own. `NoMemory` where a request for memory was
+/// Adds copies of the stripe's entries to the list, in an order of their own. Returns `NoMemory` if a request for memory is
 /// refused; then nothing was done, and the list is as before.
-pub(crate) fn make_copies<B: Bins + Drop, C: CopyList>(
+pub(crate) fn make_copies<B: Bins + Drop>(
     table: &Stripes<B>,
     seat: &mut PassSeat<B>,
     stripe: usize,
-    list: &mut C,
+    list: &mut EntryList,
 ) -> Result<(), NoMemory>
     requires table { IsLaid table.now.table_id table.now.key × (seat.old.table_id ≡ table.now.table_id) }
     requires stripe { stripe < table.now.table_id.slots }
@@ -121,15 +121,15 @@ pub(crate) fn make_copies<B: Bins + Drop, C: CopyList>(
     ensures same { (seat.new.table_id ≡ seat.old.table_id) × (seat.new.id ≡ seat.old.id) }
     ensures ok { OnOk result ((there : Table) × (Leaves table.now.table_id.slots stripe (seen_of seat.old.me.0 stripe) there
         × Lets (λ actions. actions ≡ scanned (map.entries there) ∷ []) table.now.table_id.slots stripe seat.old.me seat.new.me
-        × AddsCopies there (C.entries list.old) (C.entries list.new) × (length (map.entries there) < 2 ^ 57))) }
+        × AddsCopies there list.old list.new × (length (map.entries there) < 2 ^ 57))) }
     ensures err { OnErr result
         (Lets (λ actions. actions ≡ []) table.now.table_id.slots stripe seat.old.me seat.new.me
-        × (C.entries list.new ≡ C.entries list.old)) }
+        × (list.new ≡ list.old)) }
 {
     let Some(bins) = seat.slot_mut(table, stripe) else {
         unreachable!()
     };
-    match list.add_from(bins) {
+    match bins.copy_into(list) {
         Ok(()) => {
             let found = Snapshot::of(&*bins);
             let_go::<B, _, Scanning>(table, seat, stripe, &found);
@@ -142,8 +142,8 @@ pub(crate) fn make_copies<B: Bins + Drop, C: CopyList>(
     }
 }
 
-/// Copies of the stripe's entries, in key order: they are sorted when the stripe was let go. `NoMemory` where a request for
-/// memory was refused; then nothing was done.
+/// Copies of the stripe's entries, in key order. They are sorted before the stripe is let go, since that takes memory. Returns
+/// `NoMemory` if a request for memory is refused; then nothing was done.
 pub(crate) fn make_scan<B: Bins + Drop>(
     alloc: Global,
     table: &Stripes<B>,
@@ -162,10 +162,20 @@ pub(crate) fn make_scan<B: Bins + Drop>(
     ensures err { OnErr result
         (Lets (λ actions. actions ≡ []) table.now.table_id.slots stripe seat.old.me seat.new.me) }
 {
-    let mut found = Vec::new(alloc);
-    make_copies(table, seat, stripe, &mut found)?;
-    sort_entries(&mut found);
-    Ok(found)
+    let Some(bins) = seat.slot_mut(table, stripe) else {
+        unreachable!()
+    };
+    match bins.entries(alloc) {
+        Ok(found) => {
+            let there = Snapshot::of(&*bins);
+            let_go::<B, _, Scanning>(table, seat, stripe, &there);
+            Ok(found)
+        }
+        Err(fault) => {
+            let_go::<B, _, Nothing>(table, seat, stripe, &());
+            Err(fault)
+        }
+    }
 }
 
 /// How many entries the stripe has. Takes no memory.

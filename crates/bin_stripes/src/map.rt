@@ -16,7 +16,7 @@ use crate::seats::{try_call, try_replace, try_scan};
 use crate::steps::take_stripe;
 use atomic_methods::{Call, HashedCall, Reply, ReplyKind};
 use atomic_table::Table;
-use bins::{Counts, EntryColumns, HashedBins};
+use bins::{Counts, EntryList, HashedBins};
 use bpf_model::{Key, NoMemory, Value};
 use std::alloc::Global;
 use std::marker::Model;
@@ -78,7 +78,7 @@ impl StripedMap {
         call.stripe(self.stripes()) as usize
     }
 
-    /// Makes the call. `NoMemory` only where it would have added its key and a request for memory was refused; nothing was
+    /// Makes the call. Returns `NoMemory` only if it would have added its key and a request for memory is refused; nothing was
     /// made then. Waits until the stripe of the key is free.
     pub fn call<R: Wait>(&self, rt: &R, pass: &mut Pass, call: &Call) -> Result<Reply, NoMemory>
         requires map { pass.old.map ≡ self.now }
@@ -91,8 +91,8 @@ impl StripedMap {
         Ok(kind.with(bytes))
     }
 
-    /// Makes the call, where the stripe of the key is free; else `Busy`. `NoMemory` as `call`. After either nothing was
-    /// made. Never waits.
+    /// Makes the call if the stripe of the key is free; else returns `Busy`. Returns `NoMemory` as `call` does. After either
+    /// nothing was made. Never waits.
     pub fn try_call(&self, pass: &mut Pass, call: &Call) -> Result<Reply, CallFault>
         requires map { pass.old.map ≡ self.now }
         ensures same { ServesSameMap pass.old pass.new }
@@ -106,7 +106,7 @@ impl StripedMap {
     }
 
     /// Makes the call as `call` does, and leaves the bytes of the replied value in `bytes`, so that no value is moved. What
-    /// `bytes` held is lost. `NoMemory` as `call`. Waits until the stripe of the key is free.
+    /// `bytes` held is lost. Returns `NoMemory` as `call` does. Waits until the stripe of the key is free.
     pub fn call_into<R: Wait>(
         &self,
         rt: &R,
@@ -130,7 +130,7 @@ impl StripedMap {
     }
 
     /// Makes the call as `try_call` does, and leaves the bytes of the replied value in `bytes`, so that no value is moved.
-    /// What `bytes` held is lost. `Busy` and `NoMemory` as `try_call`. Never waits.
+    /// What `bytes` held is lost. Returns `Busy` and `NoMemory` as `try_call` does. Never waits.
     pub fn try_call_into(
         &self,
         pass: &mut Pass,
@@ -152,8 +152,8 @@ impl StripedMap {
         answer
     }
 
-    /// Copies of the entries of one stripe, which is below `stripes()`, in key order. `NoMemory` where a request for memory
-    /// was refused; nothing was made then. Waits until the stripe is free.
+    /// Copies of the entries of one stripe, which is below `stripes()`, in key order. Returns `NoMemory` if a request for memory
+    /// is refused; nothing was made then. Waits until the stripe is free.
     pub fn scan_stripe<R: Wait>(
         &self,
         rt: &R,
@@ -178,32 +178,32 @@ impl StripedMap {
         answer
     }
 
-    /// Adds copies of the entries of one stripe, which is below `stripes()`, to the columns, in an order of their own: a scan
-    /// whose entries are not sorted. `NoMemory` where a request for memory was refused; nothing was made then, and the columns are
+    /// Adds copies of the entries of one stripe, which is below `stripes()`, to the list, in an order of their own: a scan
+    /// whose entries are not sorted. Returns `NoMemory` if a request for memory is refused; nothing was made then, and the list is
     /// as before. Waits until the stripe is free.
     pub fn copy_stripe<R: Wait>(
         &self,
         rt: &R,
         pass: &mut Pass,
         stripe: u64,
-        columns: &mut EntryColumns,
+        list: &mut EntryList,
     ) -> Result<(), NoMemory>
         requires map { pass.old.map ≡ self.now }
         requires stripe { stripe < stripes_of self.now }
         ensures same { ServesSameMap pass.old pass.new }
-        ensures ok { OnOk result (CopiesStripe pass.old stripe columns.old columns.new pass.new) }
-        ensures err { OnErr result (Makes pass.old stripe [] pass.new × (columns.new ≡ columns.old)) }
+        ensures ok { OnOk result (CopiesStripe pass.old stripe list.old list.new pass.new) }
+        ensures err { OnErr result (Makes pass.old stripe [] pass.new × (list.new ≡ list.old)) }
     {
         let slot = stripe as usize;
         let table = &self.table.shared;
         let mut seat = pass.known.take();
         take_stripe(rt, table, &mut seat, slot);
-        let answer = make_copies(table, &mut seat, slot, columns);
+        let answer = make_copies(table, &mut seat, slot, list);
         pass.known.put(seat);
         answer
     }
 
-    /// As `scan_stripe`, where the stripe is free; else `Busy`. Never waits.
+    /// Scans as `scan_stripe` does if the stripe is free; else returns `Busy`. Never waits.
     pub fn try_scan_stripe(
         &self,
         alloc: Global,
@@ -270,7 +270,8 @@ impl StripedMap {
         counts
     }
 
-    /// As `replace_stripe`, where the stripe is free, and without a gate; else `Busy`. Takes no memory. Never waits.
+    /// Replaces as `replace_stripe` does, without a gate, if the stripe is free; else returns `Busy`. Takes no memory. Never
+    /// waits.
     pub fn try_replace_stripe(
         &self,
         pass: &mut Pass,

@@ -10,7 +10,7 @@ use Rattle.std.proofs.lemmas.Bool.{cases_lt}
 use Rattle.std.proofs.lemmas.List.{take_more, take_all, take-set-le, get_or-take, length-take-le}
 use Rattle.bins.specs.Table.{Entry, Table, by_bytes}
 use Rattle.bins.specs.Entries.{Distinct}
-use Rattle.bins.proofs.SortedEntries.{is_equal}
+use Rattle.bins.proofs.SearchLemmas.{is_equal}
 use Rattle.bins.proofs.MapEdits.{total, antisymmetric}
 
 -- whether two keys are one

@@ -7,7 +7,7 @@ use Rattle.std.specs.FinMap.Entries.{below_all}
 use Rattle.std.proofs.lemmas.List.Sums.{sum_by-cons}
 use Rattle.bins.specs.Table.{Entry, by_bytes}
 use Rattle.bins.specs.Entries.{Distinct}
-use Rattle.bins.proofs.SortedEntries.{both_hold, is_less}
+use Rattle.bins.proofs.SearchLemmas.{both_hold, is_less}
 use Rattle.bins.proofs.MapEdits.{total, antisymmetric}
 
 -- a key below all entries is not among them

@@ -1,4 +1,4 @@
-pub mod SortedEntries
+pub mod SearchLemmas
 pub mod MapEdits
 pub mod DistinctEntries
 pub mod PairedEntries

@@ -9,7 +9,7 @@ use Rattle.std.specs.FinMap.{IsAntisymmetric, nat_cmp-IsAntisymmetric, slice_cmp
 use Rattle.std.specs.FinMap.Entries.{below_all, where_key, is_sorted-put, is_sorted-where_key, find-where_key}
 use Rattle.bins.specs.Table.{Entry, Table, by_bytes}
 use Rattle.bins.specs.Positions.{IsAt, IsGapFor}
-use Rattle.bins.proofs.SortedEntries.{both_hold, together, find_found, put_found, without_found, find_gap, put_gap}
+use Rattle.bins.proofs.SearchLemmas.{both_hold, together, find_found, put_found, without_found, find_gap, put_gap}
 
 -- keys are ordered, and only equal keys tie
 pub total : IsTotalOrder by_bytes

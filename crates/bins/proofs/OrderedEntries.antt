@@ -6,7 +6,7 @@ use Rattle.std.proofs.lemmas.List.{ext_get_or, length-map, get_or-map}
 use Rattle.std.proofs.lemmas.List.FromFn.{length-map-range_with_len, get_or-map-range_with_len}
 use Rattle.std.proofs.lemmas.List.Sorted.{IsPermutation-map}
 use Rattle.bins.specs.Table.{Entry}
-use Rattle.bins.specs.Columns.{string_at}
+use Rattle.bins.specs.KeptRows.{string_at}
 use Rattle.bins.specs.Copies.{comes_before, is_before, positions_of}
 use Rattle.bins.specs.Entries.{entries_at, entries_in, entry_of}
 use Rattle.bins.proofs.PairedEntries.{paired-length}

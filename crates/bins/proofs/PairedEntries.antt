@@ -104,13 +104,6 @@ module _ (ks vs : List (List ℕ)) (same : length ks ≡ length vs) where
     pub over_length : length ks ≡ length new
     over_length = omega (arith, same, ap length is, length-set vs i v)
 
-  -- the entries, and one more
-  pub copied_more : (i : ℕ) → i < length ks → (list : List Entry) → (list ++ take i es) ++ (get_or ks i [], get_or vs i []) ∷ [] ≡ list ++ take (i + 1) es
-  copied_more i lt list =
-      append_assoc list (take i es) _
-      ∙ ap (λ (e : Entry). list ++ (take i es ++ e ∷ [])) (sym (paired-at ks vs i nobody same lt))
-      ∙ ap (λ (xs : List Entry). list ++ xs) (sym (take_more es i nobody (omega (arith, lt, paired-length ks vs same))))
-
   -- an entry comes to the end
   pub joined : (k v : List ℕ) (keys values : List (List ℕ)) → keys ≡ ks ++ k ∷ [] → values ≡ vs ++ v ∷ [] → entries_in keys values ≡ es ++ (k, v) ∷ []
   joined k v keys values is are = (λ i. entries_in (is i) (are i)) ∙ paired-push ks vs k v same

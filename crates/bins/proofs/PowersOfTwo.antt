@@ -4,7 +4,7 @@ use Rattle.std.specs.Prelude.{bit_and}
 use Rattle.std.specs.Int.{IsPowerOfTwo}
 use Rattle.std.proofs.lemmas.Bool.{cases_eq}
 use Rattle.std.proofs.lemmas.Nat.{and_mask}
-use Rattle.bins.proofs.SortedEntries.{both_hold}
+use Rattle.bins.proofs.SearchLemmas.{both_hold}
 
 -- the lowest bits of a number are its remainder
 pub masked : (n h : ℕ) → IsPowerOfTwo n → bit_and h (n - 1) ≡ h % n

@@ -14,7 +14,7 @@ use Rattle.bpf_model.specs.Fits.{input_of}
 use Rattle.verifier.specs.Checked.{Checked}
 use Rattle.bins.specs.declared.counts.Counts.{Counts}
 use Rattle.bins.specs.Table.{Entry, Table, by_bytes}
-use Rattle.bins.specs.Columns.{string_at}
+use Rattle.bins.specs.KeptRows.{string_at}
 use Rattle.bins.specs.Entries.{Distinct, entries_in}
 use Rattle.bins.specs.Replacements.{Outcome, ComesTo, value_after, is_given, is_unfit, ReplacesEach}
 use Rattle.bins.specs.Passes.{entered_of, AreOutcomes, entries_after, Replaces, ReplacesList}

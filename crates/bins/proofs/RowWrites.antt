@@ -4,24 +4,24 @@ use Rattle.std.proofs.lemmas.Bool.{cases_eq, cases_lt}
 use Rattle.std.proofs.lemmas.List.{length-set, get_or_append_left, get_or_push, length_push, set_at}
 use Rattle.std.proofs.lemmas.List.Sums.{sum_by-set, sum_by_push}
 use Rattle.bins.specs.declared.row.Width.{Width}
-use Rattle.bins.specs.declared.row.Place.{Place}
-use Rattle.bins.specs.declared.row.Place.TheVariants.{Vacant, In}
-use Rattle.bins.specs.Columns.{KeptRow, Lists, AreMatched, nobody, place_at, row_at, row_of, rows_of, with_rows}
+use Rattle.bins.specs.declared.row.Location.{Location}
+use Rattle.bins.specs.declared.row.Location.TheVariants.{Vacant, In}
+use Rattle.bins.specs.KeptRows.{KeptRow, Lists, AreMatched, nobody, location_at, row_at, row_of, rows_of, with_rows}
 use Rattle.bins.proofs.RowLemmas.{weight, not_vacant, apart, same_in, weight_in, reads_with, read_with, inside, strings, strings_by, others_matched}
 
--- a row behind the others, for a vacant place
-module _ (k : Width) (ps : List Place) (ls : List KeptRow) (p : ℕ) (m : AreMatched k ps ls) (lt : p < length ps) (vacant : place_at ps p ≡ Vacant) (added : KeptRow) (owns : added.owner ≡ p) where
+-- a row behind the others, for a vacant location
+module _ (k : Width) (ps : List Location) (ls : List KeptRow) (p : ℕ) (m : AreMatched k ps ls) (lt : p < length ps) (vacant : location_at ps p ≡ Vacant) (added : KeptRow) (owns : added.owner ≡ p) where
   abbrev ms : List KeptRow
   ms = ls ++ added ∷ []
 
-  abbrev here : Place
+  abbrev here : Location
   here = In k (length ls)
 
-  abbrev qs : List Place
+  abbrev qs : List Location
   qs = set ps p here
 
-  away_from : (q i : ℕ) → place_at ps q ≡ In k i → q ≢ p
-  away_from q i named same = not_vacant k (place_at ps q) i (ap (place_at ps) same ∙ vacant) named
+  away_from : (q i : ℕ) → location_at ps q ≡ In k i → q ≢ p
+  away_from q i named same = not_vacant k (location_at ps q) i (ap (location_at ps) same ∙ vacant) named
 
   kept_old : (i : ℕ) → i < length ls → row_at ms i ≡ row_at ls i
   kept_old i below = get_or_append_left ls (added ∷ []) nobody i below
@@ -29,26 +29,26 @@ module _ (k : Width) (ps : List Place) (ls : List KeptRow) (p : ℕ) (m : AreMat
   kept_new : row_at ms (length ls) ≡ added
   kept_new = get_or_push ls added nobody (length ls) refl
 
-  place_new : place_at qs p ≡ here
-  place_new = get_or-set_same ps p here Vacant lt
+  location_new : location_at qs p ≡ here
+  location_new = get_or-set_same ps p here Vacant lt
 
-  named_link : (q i : ℕ) → place_at qs q ≡ In k i → (i < length ms) × ((row_at ms i).owner ≡ q)
+  named_link : (q i : ℕ) → location_at qs q ≡ In k i → (i < length ms) × ((row_at ms i).owner ≡ q)
   named_link q i e = elim (cases_eq q p) [
     | inl at ↦
-        let last : length ls ≡ i = same_in k _ _ (sym place_new ∙ ap (place_at qs) (sym at) ∙ e) in
+        let last : length ls ≡ i = same_in k _ _ (sym location_new ∙ ap (location_at qs) (sym at) ∙ e) in
         (omega (arith, last, length_push ls added), ap (λ (n : ℕ). (row_at ms n).owner) (sym last) ∙ ap (λ (r : KeptRow). r.owner) kept_new ∙ owns ∙ sym at)
     | inr other ↦
         let before = m.named q i (sym (get_or-set_other ps p q here Vacant other) ∙ e) in
         (omega (arith, before.0, length_push ls added), ap (λ (r : KeptRow). r.owner) (kept_old i before.0) ∙ before.1)
   ]
 
-  owned_link : (i : ℕ) → i < length ms → place_at qs (row_at ms i).owner ≡ In k i
+  owned_link : (i : ℕ) → i < length ms → location_at qs (row_at ms i).owner ≡ In k i
   owned_link i within = elim (cases_lt i (length ls)) [
-    | inl below ↦ ap (λ (r : KeptRow). place_at qs r.owner) (kept_old i below)
+    | inl below ↦ ap (λ (r : KeptRow). location_at qs r.owner) (kept_old i below)
         ∙ get_or-set_other ps p (row_at ls i).owner here Vacant (away_from _ i (m.owned i below)) ∙ m.owned i below
     | inr above ↦
         let last : length ls ≡ i = omega (arith, within, above, length_push ls added) in
-        subst (λ (n : ℕ). place_at qs (row_at ms n).owner ≡ In k n) last (ap (λ (r : KeptRow). place_at qs r.owner) kept_new ∙ ap (place_at qs) owns ∙ place_new)
+        subst (λ (n : ℕ). location_at qs (row_at ms n).owner ≡ In k n) last (ap (λ (r : KeptRow). location_at qs r.owner) kept_new ∙ ap (location_at qs) owns ∙ location_new)
   ]
 
   pub linked : AreMatched k qs ms
@@ -60,17 +60,17 @@ module _ (k : Width) (ps : List Place) (ls : List KeptRow) (p : ℕ) (m : AreMat
 
   -- rows of another width are as before
   pub linked_other : (j : Width) → j ≢ k → (os : List KeptRow) → AreMatched j ps os → AreMatched j qs os
-  linked_other j other os n = others_matched j ps os p here n lt (λ i. not_vacant j (place_at ps p) i vacant) (λ i. apart j k here (length ls) i other refl)
+  linked_other j other os n = others_matched j ps os p here n lt (λ i. not_vacant j (location_at ps p) i vacant) (λ i. apart j k here (length ls) i other refl)
 
   module _ (lists : Lists) (are : rows_of lists k ≡ ls) (f : KeptRow → List ℕ) where
     pub linked_strings : strings f qs (with_rows lists k ms) ≡ set (strings f ps lists) p (f added)
     linked_strings = strings_by f ps qs lists (with_rows lists k ms) p (f added) (length-set ps p here) lt
-        (read_with k f lists ms (place_at qs p) (length ls) place_new ∙ ap f kept_new)
-        (λ q other. ap (λ (x : Place). f (row_of (with_rows lists k ms) x)) (get_or-set_other ps p q here Vacant other)
-        ∙ reads_with k f lists ms (place_at ps q) (λ i e. ap f (kept_old i (m.named q i e).0) ∙ ap (λ (rs : List KeptRow). f (row_at rs i)) (sym are)))
+        (read_with k f lists ms (location_at qs p) (length ls) location_new ∙ ap f kept_new)
+        (λ q other. ap (λ (x : Location). f (row_of (with_rows lists k ms) x)) (get_or-set_other ps p q here Vacant other)
+        ∙ reads_with k f lists ms (location_at ps q) (λ i e. ap f (kept_old i (m.named q i e).0) ∙ ap (λ (rs : List KeptRow). f (row_at rs i)) (sym are)))
 
 -- a row is written over
-module _ (k : Width) (ps : List Place) (ls : List KeptRow) (p at : ℕ) (m : AreMatched k ps ls) (named : place_at ps p ≡ In k at) (new : KeptRow) (owns : new.owner ≡ (row_at ls at).owner) where
+module _ (k : Width) (ps : List Location) (ls : List KeptRow) (p at : ℕ) (m : AreMatched k ps ls) (named : location_at ps p ≡ In k at) (new : KeptRow) (owns : new.owner ≡ (row_at ls at).owner) where
   abbrev over : List KeptRow
   over = set ls at new
 
@@ -86,40 +86,40 @@ module _ (k : Width) (ps : List Place) (ls : List KeptRow) (p at : ℕ) (m : Are
   pub written : AreMatched k ps over
   written = record {
     named = λ q i e. let before = m.named q i e in (omega (arith, before.0, length-set ls at new), same_owner i ∙ before.1);
-    owned = λ i below. ap (place_at ps) (same_owner i) ∙ m.owned i (omega (arith, below, length-set ls at new));
+    owned = λ i below. ap (location_at ps) (same_owner i) ∙ m.owned i (omega (arith, below, length-set ls at new));
     counted = m.counted ∙ sym (length-set ls at new);
   }
 
-  -- another place names another row
-  not_this : (q i : ℕ) → q ≢ p → place_at ps q ≡ In k i → i ≢ at
+  -- another location names another row
+  not_this : (q i : ℕ) → q ≢ p → location_at ps q ≡ In k i → i ≢ at
   not_this q i other e is = other (sym (m.named q i e).1 ∙ ap (λ (n : ℕ). (row_at ls n).owner) is ∙ (m.named p at named).1)
 
   module _ (lists : Lists) (are : rows_of lists k ≡ ls) (f : KeptRow → List ℕ) where
     pub written_strings : strings f ps (with_rows lists k over) ≡ set (strings f ps lists) p (f new)
     written_strings = strings_by f ps ps lists (with_rows lists k over) p (f new) refl (inside k ps p at named)
-        (read_with k f lists over (place_at ps p) at named ∙ ap f (get_or-set_same ls at new nobody within))
-        (λ q other. reads_with k f lists over (place_at ps q) (λ i e. ap f (get_or-set_other ls at i new nobody (not_this q i other e)) ∙ ap (λ (rs : List KeptRow). f (row_at rs i)) (sym are)))
+        (read_with k f lists over (location_at ps p) at named ∙ ap f (get_or-set_same ls at new nobody within))
+        (λ q other. reads_with k f lists over (location_at ps q) (λ i e. ap f (get_or-set_other ls at i new nobody (not_this q i other e)) ∙ ap (λ (rs : List KeptRow). f (row_at rs i)) (sym are)))
 
--- a vacant place behind the others
-module _ (k : Width) (ps : List Place) (ls : List KeptRow) (m : AreMatched k ps ls) where
-  abbrev further : List Place
+-- a vacant location behind the others
+module _ (k : Width) (ps : List Location) (ls : List KeptRow) (m : AreMatched k ps ls) where
+  abbrev further : List Location
   further = ps ++ Vacant ∷ []
 
-  place_before : (q : ℕ) → q < length ps → place_at further q ≡ place_at ps q
-  place_before q below = get_or_append_left ps (Vacant ∷ []) Vacant q below
+  location_before : (q : ℕ) → q < length ps → location_at further q ≡ location_at ps q
+  location_before q below = get_or_append_left ps (Vacant ∷ []) Vacant q below
 
-  named_before : (q i : ℕ) → place_at further q ≡ In k i → q < length ps
+  named_before : (q i : ℕ) → location_at further q ≡ In k i → q < length ps
   named_before q i e = elim (cases_lt q (length ps)) [
     | inl below ↦ below
     | inr above ↦
         let at : q ≡ length ps = omega (arith, above, inside k further q i e, length_push ps Vacant) in
-        absurd (not_vacant k (place_at further q) i (ap (place_at further) at ∙ get_or_push ps Vacant Vacant (length ps) refl) e)
+        absurd (not_vacant k (location_at further q) i (ap (location_at further) at ∙ get_or_push ps Vacant Vacant (length ps) refl) e)
   ]
 
   pub pushed_matched : AreMatched k further ls
   pushed_matched = record {
-    named = λ q i e. m.named q i (sym (place_before q (named_before q i e)) ∙ e);
-    owned = λ i below. let old = m.owned i below in place_before _ (inside k ps _ i old) ∙ old;
+    named = λ q i e. m.named q i (sym (location_before q (named_before q i e)) ∙ e);
+    owned = λ i below. let old = m.owned i below in location_before _ (inside k ps _ i old) ∙ old;
     counted = omega (arith, sum_by_push (weight k) ps Vacant, m.counted);
   }
 

@@ -3,7 +3,7 @@ use Rattle.std.specs.Prelude.{◌≡◌, ℕ, Bool, List, ◌++◌, length, sum_
 use Rattle.std.specs.List.{range_with_len}
 use Rattle.std.specs.Ordering.{is_lt}
 use Rattle.std.specs.FinMap as map
-use Rattle.bins.specs.Columns.{string_at}
+use Rattle.bins.specs.KeptRows.{string_at}
 use Rattle.bins.specs.Table.{Entry, Table, by_bytes}
 
 -- one list has each entry as often as the other: however entries are weighed, the sums agree

@@ -2,7 +2,7 @@ pub mod Table
 pub mod Entries
 pub mod Copies
 pub mod Positions
-pub mod Columns
+pub mod KeptRows
 pub mod Rows
 pub mod Replacements
 pub mod Passes
@@ -11,4 +11,4 @@ pub mod Chains
 pub mod Trees
 pub mod Finders
 pub mod Fronts
-pub mod Lists
+pub mod Merged

@@ -5,8 +5,9 @@ ghost use Rattle.bins.specs.Copies.{AddsCopies};
 ghost use Rattle.bins.specs.Replacements.{ReplacesEach};
 
 use crate::counts::Counts;
-use crate::entry_columns::EntryColumns;
+use crate::entry_list::EntryList;
 use crate::hashes::HashedKey;
+use crate::sorted_entries::sorted_copies;
 use bpf_model::limits::VALUE_BYTES;
 use bpf_model::{Key, NoMemory, Value};
 use std::alloc::Global;
@@ -19,7 +20,7 @@ pub trait Bins {
     /// The entries, as one map.
     ghost table: { Self → Table };
 
-    /// No entries, for one of `stripes` stripes of a table. `NoMemory` where a request for memory was refused.
+    /// No entries, for one of `stripes` stripes of a table. Returns `NoMemory` if a request for memory is refused.
     fn open(alloc: Global, stripes: u64) -> Result<Self, NoMemory>
         ensures ok { IfOk result (λ bins. table bins ≡ map.empty) };
 
@@ -28,53 +29,60 @@ pub trait Bins {
         ensures value { option_copied result ≡ map.get (table self.now) key.now }
         ensures fits { IfSome result (λ bytes. length bytes.now ≤ VALUE_BYTES) };
 
-    /// Sets the value of a key. `NoMemory` where the key is new and the room for it was refused; the entries are as
-    /// before. Takes no memory where the key is present.
+    /// Sets the value of a key. Returns `NoMemory` if the key is new and the room for it is refused; the entries are as
+    /// before. Takes no memory if the key is present.
     fn put(&mut self, key: &HashedKey<'_>, value: &Value) -> Result<(), NoMemory>
         ensures ok { OnOk result (table self.new ≡ map.insert (table self.old) key.now value.now) }
         ensures err { OnErr result (table self.new ≡ table self.old) }
         ensures memory { OnErr result (map.get (table self.old) key.now ≡ None) };
 
-    /// Adds a key that is absent, with this value: as `put`, without a search. `NoMemory` where the room for it was refused; the
-    /// entries are as before.
+    /// Adds a key that is absent, with this value: as `put`, without a search. Returns `NoMemory` if the room for it is refused;
+    /// the entries are as before.
     fn add(&mut self, key: &HashedKey<'_>, value: &Value) -> Result<(), NoMemory>
         requires absent { map.get (table self.old) key.now ≡ None }
         ensures ok { OnOk result (table self.new ≡ map.insert (table self.old) key.now value.now) }
-        ensures err { OnErr result (table self.new ≡ table self.old) };
+        ensures err { OnErr result (table self.new ≡ table self.old) }
+    {
+        self.put(key, value)
+    }
 
     /// Removes a key. Takes no memory.
     fn discard(&mut self, key: &HashedKey<'_>)
         ensures others { table self.new ≡ map.remove (table self.old) key.now };
 
-    /// Removes a key as `discard` does, and gives the value that it had, which is moved. Takes no memory.
+    /// Removes a key as `discard` does, and returns a copy of the value that it had. Takes no memory.
     fn remove(&mut self, key: &HashedKey<'_>) -> Option<Value>
         ensures value { result ≡ map.get (table self.old) key.now }
-        ensures others { table self.new ≡ map.remove (table self.old) key.now };
+        ensures others { table self.new ≡ map.remove (table self.old) key.now }
+    {
+        let mut value = Value::new();
+        value.set_from(self.find(key)?);
+        self.discard(key);
+        Some(value)
+    }
 
-    /// Adds copies of all entries to the list, in an order of its own. Asks for memory once, where the list has no room for
-    /// them; `NoMemory` where that was refused, and the list is as before.
-    fn copy_into(&self, list: &mut Vec<(Key, Value)>) -> Result<(), NoMemory>
-        ensures ok { OnOk result (AddsCopies (table self.now) list.old.items list.new.items) }
-        ensures err { OnErr result (list.new.items ≡ list.old.items) }
+    /// Adds copies of all entries to the list, in an order of its own. Asks for memory if the list has no room for them;
+    /// returns `NoMemory` if that is refused, and the list is as before.
+    fn copy_into(&self, list: &mut EntryList) -> Result<(), NoMemory>
+        ensures ok { OnOk result (AddsCopies (table self.now) list.old list.new) }
+        ensures err { OnErr result (list.new ≡ list.old) }
         // As for `count`.
         ensures bounded { length (map.entries (table self.now)) < 2 ^ 57 };
 
-    /// Adds copies of all entries to the columns, as `copy_into` does to a list. One whose key and value are short takes
-    /// 48 bytes there.
-    fn copy_apart(&self, columns: &mut EntryColumns) -> Result<(), NoMemory>
-        ensures ok { OnOk result (AddsCopies (table self.now) columns.old columns.new) }
-        ensures err { OnErr result (columns.new ≡ columns.old) }
-        // As for `count`.
-        ensures bounded { length (map.entries (table self.now)) < 2 ^ 57 };
-
-    /// Copies of all entries, in key order. `NoMemory` where a request for memory was refused.
+    /// Copies of all entries, in key order. Returns `NoMemory` if a request for memory is refused.
     fn entries(&self, alloc: Global) -> Result<Vec<(Key, Value)>, NoMemory>
-        ensures ok { IfOk result (λ found. found.items ≡ map.entries (table self.now)) };
+        ensures ok { IfOk result (λ found. found.items ≡ map.entries (table self.now)) }
+    {
+        let mut list = EntryList::new(alloc);
+        self.copy_into(&mut list)?;
+        let found = sorted_copies(alloc, list)?;
+        Ok(found)
+    }
 
     /// How many entries there are. Takes no memory.
     fn count(&self) -> u64
         ensures value { result ≡ length (map.entries (table self.now)) }
-        // No memory has room for so many entries; so the counts of many bins add up.
+        // No memory has room for 2 ^ 57 entries; so the counts of many bins add up.
         ensures bounded { result < 2 ^ 57 };
 
     /// Replaces the value of each key once, in an order of its own, by what the program answers on the key, its value

@@ -73,7 +73,7 @@ fn chain_all(shift: u32, heads: &mut Vec<usize>, hashes: &[u32], nexts: &mut Vec
 }
 
 impl Chains {
-    /// No positions, in 8 bins. `NoMemory` where a request for memory was refused.
+    /// No positions, in 8 bins. Returns `NoMemory` if a request for memory is refused.
     pub fn open(alloc: Global, stripes: u64) -> Result<Chains, NoMemory>
         ensures chained { IfOk result AreChained }
         ensures empty { IfOk result (λ chains. chains.hashes.items ≡ []) }
@@ -200,7 +200,7 @@ impl Chains {
         self.hashes.len() > 2 * self.heads.len() && self.heads.len() < MOST_BINS
     }
 
-    /// Twice the bins, where there is memory.
+    /// Twice the bins, if there is memory.
     fn double(&mut self) -> Result<(), NoMemory>
         requires chained { AreChained self.old }
         requires bounded { length self.old.heads.items < MOST_BINS }
@@ -218,8 +218,8 @@ impl Chains {
         Ok(())
     }
 
-    /// Adds a hash, at the position behind the others, and doubles the bins where the hashes are more than twice as many
-    /// then and the memory for it is granted. `NoMemory` where the room for the hash was refused.
+    /// Adds a hash, at the position after the others, and doubles the bins if the hashes are more than twice as many
+    /// then and the memory for it is granted. Returns `NoMemory` if the room for the hash is refused.
     pub fn push(&mut self, hash: u32) -> Result<(), NoMemory>
         requires chained { AreChained self.old }
         ensures chained { AreChained self.new }
@@ -315,7 +315,7 @@ impl Chains {
         self.hashes[position] = hash;
     }
 
-    /// Removes the hash at a position; the last hash takes that place. Takes no memory.
+    /// Removes the hash at a position; the last hash takes that position. Takes no memory.
     pub fn swap_remove(&mut self, position: usize)
         requires chained { AreChained self.old }
         requires range { position < length self.old.hashes.items }

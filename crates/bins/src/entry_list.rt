@@ -1,47 +1,37 @@
-//! Entries in an order, which lie in one list of columns or in several.
-ghost use Rattle.std.specs.Prelude.{◌≡◌, ◌<◌, ◌≤◌, ◌↔◌, [], length, map, IfOk, IsTrue};
-ghost use Rattle.bins.specs.Entries.{entry_of};
-ghost use Rattle.bins.specs.Lists.{entry_at};
-ghost use Rattle.bins.specs.Table.{Entry};
+//! Lists of entries, in rows of three widths.
+ghost use Rattle.std.specs.Prelude.{◌≡◌, ◌+◌, ◌<◌, ◌≤◌, ◌^◌, ◌++◌, ◌∷◌, ◌↔◌, [], length, map, IfOk, IsTrue, OnOk, OnErr};
+ghost use Rattle.std.specs.List.Sorted.{IsPermutation, IsSortedBy};
+ghost use Rattle.bins.specs.KeptRows.{string_at};
+ghost use Rattle.bins.specs.Copies.{comes_before, is_before, positions_of};
+ghost use Rattle.bins.specs.Entries.{entries_at, entries_in, entry_of};
+ghost use Rattle.bins.specs.Fronts.{front, AreBytes};
+ghost use Rattle.bins.specs.Table.{Entry, by_bytes};
 
-use crate::entry_columns::EntryColumns;
-use bpf_model::NoMemory;
+use crate::fronts::front_of;
+use crate::rows::Rows;
 use bpf_model::limits::{KEY_BYTES, VALUE_BYTES};
+use bpf_model::{Key, NoMemory, Value};
 use std::alloc::Global;
+use std::cmp::Ordering;
 use std::marker::Model;
 
-/// Where an entry lies in several lists.
-#[derive(Clone, Copy, Debug, PartialEq, Eq)]
-pub struct EntryPlace {
-    /// In which of them, from 0.
-    pub list: usize,
-    /// At which position of it, from 0.
-    pub position: usize,
-}
-
-/// How the entries of a list lie.
-#[derive(Drop)]
-enum Lying {
-    // In their order.
-    InOrder(EntryColumns),
-    // In these lists, at these places.
-    Merged(Vec<EntryColumns>, Vec<EntryPlace>),
-}
-
-/// Entries in an order. Those of several lists are not moved: their places are kept in that order, 16 bytes for each.
+/// A list of entries in rows, each a key and its value. One whose key and value are short takes 48 bytes. Room for the longest
+/// is reserved, and not touched before it is needed.
 #[derive(Drop)]
 pub struct EntryList {
-    lying: Lying,
+    rows: Rows,
 }
 
 impl Model for EntryList {
-    ghost use Rattle.std.specs.Prelude.{List};
+    ghost use Rattle.std.specs.Prelude.{◌≡◌, List, length};
     ghost use Rattle.bins.specs.Table.{Entry};
-    ghost use Rattle.bins.specs.Lists.{listed};
+    ghost use Rattle.bins.specs.Entries.{entries_in};
 
     ghost Value = { List Entry };
 
-    ghost view = { λ list. listed list.lying };
+    ghost view = { λ list. entries_in list.rows.keys list.rows.values };
+
+    ghost invariant = { λ list. length list.rows.keys ≡ length list.rows.values };
 }
 
 impl EntryList {
@@ -49,35 +39,17 @@ impl EntryList {
     pub fn new(alloc: Global) -> EntryList
         ensures { result ≡ [] }
     {
-        EntryList::in_order(EntryColumns::new(alloc))
-    }
-
-    /// The entries of these columns, as they lie. Takes no memory.
-    pub fn in_order(columns: EntryColumns) -> EntryList
-        ensures { result ≡ columns }
-    {
         EntryList {
-            lying: Lying::InOrder(columns),
-        }
-    }
-
-    /// The entries at these places of the lists. Takes no memory.
-    pub fn merged(lists: Vec<EntryColumns>, places: Vec<EntryPlace>) -> EntryList
-        ensures { result ≡ map (entry_at lists.items) places.items }
-    {
-        EntryList {
-            lying: Lying::Merged(lists, places),
+            rows: Rows::new(alloc),
         }
     }
 
     /// How many entries there are. Takes no memory.
+    #[inline(always)]
     pub fn len(&self) -> usize
         ensures value { result ≡ length self.now }
     {
-        match &self.lying {
-            Lying::InOrder(columns) => columns.len(),
-            Lying::Merged(_, places) => places.len(),
-        }
+        self.rows.len()
     }
 
     /// Whether there is no entry. Takes no memory.
@@ -95,59 +67,138 @@ impl EntryList {
         ensures key { length result.0.now ≤ KEY_BYTES }
         ensures value { length result.1.now ≤ VALUE_BYTES }
     {
-        match &self.lying {
-            Lying::InOrder(columns) => columns.get(position),
-            Lying::Merged(lists, places) => get_at(lists, places[position]),
-        }
+        self.get_any(position)
     }
 
-    /// Whether these are the same entries in the same order. Takes no memory.
-    pub fn is_same(&self, other: &EntryList) -> bool
-        ensures exact { IsTrue result ↔ (self.now ≡ other.now) }
+    /// The key and the value at a position; no bytes after the last one. Takes no memory.
+    #[inline(always)]
+    pub(crate) fn get_any(&self, position: usize) -> (&[u8], &[u8])
+        ensures entry { ◌≡◌ {A = Entry} (result.0.now, result.1.now) (entry_of self.now position) }
+        ensures key { length result.0.now ≤ KEY_BYTES }
+        ensures value { length result.1.now ≤ VALUE_BYTES }
     {
-        if self.len() != other.len() {
-            return false;
-        }
-        for position in 0..self.len() {
-            let (key, value) = other.get(position);
-            if !self.is_at(position, key, value) {
-                return false;
-            }
-        }
-        true
+        self.rows.get_any(position)
     }
 
-    /// Whether the entry at a position has this key and this value.
-    fn is_at(&self, position: usize, key: &[u8], value: &[u8]) -> bool
-        requires { position < length self.now }
-        ensures exact { IsTrue result ↔ (entry_of self.now position ≡ (key.now, value.now)) }
+    /// The key at a position; no bytes after the last one. Takes no memory.
+    #[inline(always)]
+    pub fn key(&self, position: usize) -> &[u8]
+        ensures value { result.now ≡ (entry_of self.now position).0 }
+        ensures fits { length result.now ≤ KEY_BYTES }
     {
-        let entry = self.get(position);
-        entry.0 == key && entry.1 == value
+        self.get_any(position).0
     }
 
-    /// The same entries once more, as they lie in one list. Asks for memory for them; `NoMemory` where that was refused.
-    pub fn copied(&self, alloc: Global) -> Result<EntryColumns, NoMemory>
-        ensures { IfOk result (λ copies. copies ≡ self.now) }
+    /// The first eight bytes of the key at a position, as a number: if it is less than another key's, the key comes before
+    /// that one. Takes no memory.
+    #[inline(always)]
+    pub fn front(&self, position: usize) -> u64
+        ensures value { result ≡ front 8 (entry_of self.now position).0 }
+        ensures bytes { AreBytes (entry_of self.now position).0 }
     {
-        let mut copies = EntryColumns::new(alloc);
-        for position in 0..self.len() {
-            let (key, value) = self.get(position);
-            copies.push(key, value)?;
-        }
-        Ok(copies)
+        front_of(self.key(position))
+    }
+
+    /// Asks for memory for this many more entries. Returns `NoMemory` if that is refused; the entries are as before.
+    pub fn reserve(&mut self, more: usize) -> Result<(), NoMemory>
+        ensures same { self.new ≡ self.old }
+    {
+        self.rows.reserve(more)?;
+        Ok(())
+    }
+
+    /// Adds an entry after the others. Asks for memory if there is no room for it; returns `NoMemory` if that is refused, and
+    /// the entries are as before.
+    #[inline(always)]
+    pub fn push(&mut self, key: &[u8], value: &[u8]) -> Result<(), NoMemory>
+        requires key { length key.now ≤ KEY_BYTES }
+        requires value { length value.now ≤ VALUE_BYTES }
+        ensures ok { OnOk result (self.new ≡ self.old ++ (key.now, value.now) ∷ []) }
+        ensures err { OnErr result (self.new ≡ self.old) }
+    {
+        self.rows.reserve(1)?;
+        self.rows.push_reserved(key, value);
+        Ok(())
+    }
+
+    /// Adds copies of the entries of these rows. Asks for memory if there is no room for them.
+    pub(crate) fn add_rows(&mut self, rows: &Rows) -> Result<(), NoMemory>
+        requires paired { length rows.now.keys ≡ length rows.now.values }
+        ensures ok { OnOk result (self.new ≡ self.old ++ entries_in rows.now.keys rows.now.values) }
+        ensures err { OnErr result (self.new ≡ self.old) }
+        ensures bounded { length rows.now.keys < 2 ^ 57 }
+    {
+        let more = rows.len();
+        self.rows.reserve(more)?;
+        self.rows.push_all(rows);
+        Ok(())
+    }
+
+    /// Adds copies of these entries. Asks for memory if there is no room for them.
+    pub(crate) fn add_entries(&mut self, entries: &[(Key, Value)]) -> Result<(), NoMemory>
+        ensures ok { OnOk result (self.new ≡ self.old ++ entries.now) }
+        ensures err { OnErr result (self.new ≡ self.old) }
+        ensures bounded { length entries.now < 2 ^ 57 }
+    {
+        let more = entries.len();
+        self.rows.reserve(more)?;
+        push_entries(&mut self.rows, entries);
+        Ok(())
+    }
+
+    /// All positions, in the order of the keys at them. Asks for memory for them, and once more for as many.
+    pub(crate) fn order(&self, alloc: Global) -> Result<Vec<usize>, NoMemory>
+        ensures moved { IfOk result (λ order. IsPermutation self.now (entries_at self.now order.items)) }
+        ensures order { IfOk result (λ order. IsSortedBy comes_before (entries_at self.now order.items)) }
+    {
+        let order = order_of(alloc, &self.rows)?;
+        Ok(order)
     }
 }
 
-/// The key and the value at a place; none of the bytes where nothing lies.
-#[inline(always)]
-fn get_at(lists: &[EntryColumns], place: EntryPlace) -> (&[u8], &[u8])
-    ensures entry { ◌≡◌ {A = Entry} (result.0.now, result.1.now) (entry_at lists.now place) }
-    ensures key { length result.0.now ≤ KEY_BYTES }
-    ensures value { length result.1.now ≤ VALUE_BYTES }
+/// Adds copies of these entries to the rows, in the room that is there.
+fn push_entries(rows: &mut Rows, entries: &[(Key, Value)])
+    requires room { length rows.old.keys + length entries.now ≤ rows.old.room }
+    ensures keys { rows.new.keys ≡ rows.old.keys ++ map (λ entry. entry.0) entries.now }
+    ensures values { rows.new.values ≡ rows.old.values ++ map (λ entry. entry.1) entries.now }
 {
-    match lists.get(place.list) {
-        Some(columns) => columns.get_any(place.position),
-        None => (&[], &[]),
+    for entry in entries {
+        rows.push_reserved(entry.0.as_slice(), entry.1.as_slice());
     }
+}
+
+/// How the keys at two positions compare.
+#[inline(always)]
+fn compare_at(rows: &Rows, one: usize, other: usize) -> Ordering
+    ensures { result ≡ by_bytes (string_at rows.now.keys one) (string_at rows.now.keys other) }
+{
+    rows.get_any(one).0.cmp(rows.get_any(other).0)
+}
+
+/// All positions, sorted by the first bytes of the keys at them. That is nearly the order of the keys, and quick, since
+/// numbers are compared: but for keys that begin alike it leaves nothing to do.
+fn nearly_ordered(alloc: Global, rows: &Rows) -> Result<Vec<usize>, NoMemory>
+    ensures moved { IfOk result (λ order. IsPermutation (positions_of rows.now.keys) order.items) }
+{
+    let many = rows.len();
+    let mut fronts = Vec::with_capacity(alloc, many)?;
+    for position in 0..many {
+        fronts.push_reserved((front_of(rows.get_any(position).0), position));
+    }
+    fronts.sort_unstable_by_key(|front| front.0);
+    let mut order = Vec::with_capacity(alloc, many)?;
+    for front in &fronts {
+        order.push(front.1)?;
+    }
+    Ok(order)
+}
+
+/// All positions, in the order of the keys at them.
+fn order_of(alloc: Global, rows: &Rows) -> Result<Vec<usize>, NoMemory>
+    ensures moved { IfOk result (λ order. IsPermutation (positions_of rows.now.keys) order.items) }
+    ensures order { IfOk result (λ order. IsSortedBy (is_before rows.now.keys) order.items) }
+{
+    let mut order = nearly_ordered(alloc, rows)?;
+    order.sort_unstable_by(|one, other| compare_at(rows, *one, *other));
+    Ok(order)
 }

@@ -4,7 +4,7 @@ ghost use Rattle.std.specs.List.{AllWithin, swap_remove};
 ghost use Rattle.std.specs.Int.{IsPowerOfTwo, from_le_bytes, to_le_bytes, w64};
 ghost use Rattle.bins.specs.Hashes.{hash as hash_of};
 ghost use Rattle.bins.specs.Chains.{IsBinCount};
-ghost use Rattle.bins.specs.Columns.{string_at};
+ghost use Rattle.bins.specs.KeptRows.{string_at};
 ghost use Rattle.bins.specs.Finders.{Finds};
 ghost use Rattle.bins.specs.Trees.{StandOnce};
 
@@ -76,7 +76,7 @@ fn position_with(index: &Index, rows: &Rows, key: &Key, hash: u32) -> Option<usi
 }
 
 impl Finder {
-    /// For no keys, of one of `stripes` stripes of a table. `NoMemory` where a request for memory was refused.
+    /// For no keys, of one of `stripes` stripes of a table. Returns `NoMemory` if a request for memory is refused.
     pub(crate) fn open(alloc: Global, stripes: u64) -> Result<Finder, NoMemory>
         ensures ok { IfOk result (λ finder. Finds finder []) }
     {
@@ -132,7 +132,7 @@ impl Finder {
         self.position(rows, key)
     }
 
-    /// Adds a key, at the position behind these. `NoMemory` where a request for memory was refused.
+    /// Adds a key, at the position after these. Returns `NoMemory` if a request for memory is refused.
     #[inline(always)]
     pub(crate) fn push(&mut self, rows: &Rows, key: &HashedKey<'_>) -> Result<(), NoMemory>
         requires finds { Finds self.old rows.now.keys }
@@ -146,7 +146,7 @@ impl Finder {
         }
     }
 
-    /// Removes the key at a position; the last key takes that place. Takes no memory.
+    /// Removes the key at a position; the last key takes that position. Takes no memory.
     #[inline(always)]
     pub(crate) fn swap_remove(&mut self, rows: &Rows, position: usize)
         requires finds { Finds self.old rows.now.keys }
@@ -170,7 +170,7 @@ impl Finder {
         }
     }
 
-    /// Takes a tree in place of the index, where there is memory for it.
+    /// Takes a tree instead of the index, if there is memory for it.
     #[cold]
     fn plant(&mut self, rows: &Rows)
         requires finds { Finds self.old rows.now.keys }
@@ -186,7 +186,7 @@ impl Finder {
         }
     }
 
-    /// Looks at the chain that the last key came into, and takes a tree in place of the index once chains have become long and
+    /// Looks at the chain that the last key came into, and takes a tree instead of the index once chains have become long and
     /// memory for it is granted.
     #[inline(always)]
     pub(crate) fn settle(&mut self, rows: &Rows)

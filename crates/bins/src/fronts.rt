@@ -2,7 +2,7 @@
 ghost use Rattle.std.specs.Prelude.{◌≡◌, ◌<◌, ◌≤◌, length, slice_index_or};
 ghost use Rattle.bins.specs.Fronts.{front, AreBytes};
 
-/// The byte at a position; zero behind the last one.
+/// The byte at a position; zero after the last one.
 #[inline(always)]
 fn byte_at(bytes: &[u8], position: usize) -> u64
     ensures value { result ≡ slice_index_or bytes.now position 0 }
@@ -29,7 +29,7 @@ fn number_of(bytes: &[u8]) -> u64
     number * 256 + byte_at(bytes, 7)
 }
 
-/// The same, where all of them are there: they are read as one word.
+/// The same, if all of them are there: they are read as one word.
 #[inline(always)]
 fn front_word(bytes: &[u8]) -> u64
     requires { 8 ≤ length bytes.now }

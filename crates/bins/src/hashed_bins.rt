@@ -3,14 +3,13 @@ ghost use Rattle.std.specs.Int.{IsPowerOfTwo};
 ghost use Rattle.bins.specs.Chains.{IsBinCount};
 
 use crate::bins::Bins;
-use crate::copies::{add_rows, sort_entries};
 use crate::counts::Counts;
-use crate::entry_columns::EntryColumns;
+use crate::entry_list::EntryList;
 use crate::finder::Finder;
 use crate::hashes::HashedKey;
 use crate::replacement::replace_rows;
 use crate::rows::Rows;
-use bpf_model::{Key, NoMemory, Value};
+use bpf_model::{NoMemory, Value};
 use std::alloc::Global;
 use std::marker::Model;
 use verifier::Verified;
@@ -109,26 +108,8 @@ impl Bins for HashedBins {
         }
     }
 
-    fn remove(&mut self, key: &HashedKey<'_>) -> Option<Value> {
-        let mut value = Value::new();
-        value.set_from(self.find(key)?);
-        self.discard(key);
-        Some(value)
-    }
-
-    fn copy_into(&self, list: &mut Vec<(Key, Value)>) -> Result<(), NoMemory> {
-        add_rows(list, &self.rows)
-    }
-
-    fn copy_apart(&self, columns: &mut EntryColumns) -> Result<(), NoMemory> {
-        columns.add_rows(&self.rows)
-    }
-
-    fn entries(&self, alloc: Global) -> Result<Vec<(Key, Value)>, NoMemory> {
-        let mut found = Vec::new(alloc);
-        self.copy_into(&mut found)?;
-        sort_entries(&mut found);
-        Ok(found)
+    fn copy_into(&self, list: &mut EntryList) -> Result<(), NoMemory> {
+        list.add_rows(&self.rows)
     }
 
     fn count(&self) -> u64 {

@@ -34,7 +34,7 @@ impl Model for Index {
 }
 
 impl Index {
-    /// No hashes, in 8 bins, for one of `stripes` stripes of a table. `NoMemory` where a request for memory was
+    /// No hashes, in 8 bins, for one of `stripes` stripes of a table. Returns `NoMemory` if a request for memory is
     /// refused.
     pub fn open(alloc: Global, stripes: u64) -> Result<Index, NoMemory>
         ensures ok { IfOk result (λ index. (index.hashes ≡ []) × (index.bins ≡ 8)) }
@@ -86,8 +86,8 @@ impl Index {
         self.chains.before(position, hash)
     }
 
-    /// Adds a hash, at the position behind the others; the bins double where the hashes are more than twice as many then,
-    /// and the memory for it is granted. `NoMemory` where the room for the hash was refused: all is as before.
+    /// Adds a hash, at the position after the others; the bins double if the hashes are more than twice as many then,
+    /// and the memory for it is granted. Returns `NoMemory` if the room for the hash is refused: all is as before.
     pub fn push(&mut self, hash: u32) -> Result<(), NoMemory>
         ensures ok { OnOk result (self.new.hashes ≡ self.old.hashes ++ hash ∷ []) }
         ensures err { OnErr result (self.new ≡ self.old) }
@@ -97,7 +97,7 @@ impl Index {
         self.chains.push(hash)
     }
 
-    /// Removes the hash at a position; the last hash takes that place. Takes no memory.
+    /// Removes the hash at a position; the last hash takes that position. Takes no memory.
     pub fn swap_remove(&mut self, position: usize)
         requires { position < length self.old.hashes }
         ensures hashes { self.new.hashes ≡ swap_remove self.old.hashes position 0 }

@@ -3,18 +3,19 @@
 //! The promise to the layers above is the contract of the trait `Bins`: its content is a finite map from keys to
 //! values, and each call is said by what it does to that map (`specs/Table.antt`). What a program makes of each entry:
 //! `specs/Replacements.antt`. `ListBins` keeps the entries in one list, sorted by key. `HashedBins` keeps keys
-//! and values in rows of three widths (`specs/Columns.antt`), in no order, beside an index by the hashes of the keys
+//! and values in rows of three widths (`specs/KeptRows.antt`), in no order, beside an index by the hashes of the keys
 //! (`hash_of`, `specs/Hashes.antt`), so that a search comes to the entries of one hash alone.
-//! A new key, `open`, `copy_into`, `copy_apart` and `entries` take memory, and no other call of theirs does; where it is refused,
-//! the entries are as before.
-//! No call waits.
+//!
+//! A new key, `open`, `copy_into` and `entries` take memory, and no other call of theirs does; if it is refused, the
+//! entries are as before. No call waits.
+//!
+//! Copies go into an `EntryList`. `SortedEntries` is such a list read in key order, and `MergedEntries` one list or several
+//! read as one.
 #![tactic(auto)]
 
 mod bins;
 mod chains;
-mod copies;
 mod counts;
-mod entry_columns;
 mod entry_list;
 mod finder;
 mod fronts;
@@ -22,20 +23,20 @@ mod hashed_bins;
 mod hashes;
 mod index;
 mod list_bins;
+mod merged_entries;
 mod raw_rows;
 mod replacement;
 mod row;
 mod row_list;
 mod rows;
-mod sorted_columns;
+mod sorted_entries;
 mod tree;
 
 pub use bins::Bins;
-pub use copies::{CopyList, sort_entries};
 pub use counts::Counts;
-pub use entry_columns::EntryColumns;
-pub use entry_list::{EntryList, EntryPlace};
+pub use entry_list::EntryList;
 pub use hashed_bins::HashedBins;
 pub use hashes::{HashedKey, hash_of};
 pub use list_bins::ListBins;
-pub use sorted_columns::SortedColumns;
+pub use merged_entries::{EntryPosition, MergedEntries};
+pub use sorted_entries::{SortedEntries, sorted_copies};

@@ -6,9 +6,8 @@ ghost use Rattle.bins.specs.Table.{by_bytes};
 ghost use Rattle.bins.specs.Positions.{IsAt, IsGapFor};
 
 use crate::bins::Bins;
-use crate::copies::{add_copies, new_entry};
 use crate::counts::Counts;
-use crate::entry_columns::EntryColumns;
+use crate::entry_list::EntryList;
 use crate::hashes::HashedKey;
 use crate::replacement::{count_of, replace_values};
 use bpf_model::{Key, NoMemory, Value};
@@ -16,7 +15,7 @@ use std::alloc::Global;
 use std::marker::Model;
 use verifier::Verified;
 
-/// The entries in one list, sorted by key. A search halves the list; a new key moves the entries behind it.
+/// The entries in one list, sorted by key. A search halves the list; a new key moves the entries after it.
 #[derive(Drop)]
 pub struct ListBins {
     entries: Vec<(Key, Value)>,
@@ -36,7 +35,7 @@ impl Model for ListBins {
     ghost invariant = { λ b. T (map.is_sorted by_bytes b.entries.items) };
 }
 
-/// Where this key stands, or where it would go.
+/// The position of this key, or the one that it would get.
 fn position_with(entries: &[(Key, Value)], key: &Key) -> Result<usize, usize>
     requires { T (is_sorted by_bytes entries.now) }
     ensures bound { IsSearchInRange result (length entries.now) }
@@ -46,7 +45,7 @@ fn position_with(entries: &[(Key, Value)], key: &Key) -> Result<usize, usize>
     entries.binary_search_by(|entry| entry.0.cmp(key))
 }
 
-/// Where the key stands, or where it would go.
+/// The position of the key, or the one that it would get.
 fn position_of(entries: &[(Key, Value)], key: &HashedKey<'_>) -> Result<usize, usize>
     requires { T (is_sorted by_bytes entries.now) }
     ensures bound { IsSearchInRange result (length entries.now) }
@@ -54,6 +53,14 @@ fn position_of(entries: &[(Key, Value)], key: &HashedKey<'_>) -> Result<usize, u
     ensures absent { IfErr result (IsGapFor entries.now key.now) }
 {
     position_with(entries, key.key())
+}
+
+/// An entry with copies of this key and this value.
+#[inline(always)]
+fn new_entry(key: &HashedKey<'_>, value: &Value) -> (Key, Value)
+    ensures { result ≡ (key.now, value.now) }
+{
+    (key.key().copied(), value.copied())
 }
 
 /// Adds an entry at a position; the ones from there on move.
@@ -102,35 +109,14 @@ impl Bins for ListBins {
         }
     }
 
-    fn add(&mut self, key: &HashedKey<'_>, value: &Value) -> Result<(), NoMemory> {
-        self.put(key, value)
-    }
-
     fn discard(&mut self, key: &HashedKey<'_>) {
         if let Ok(position) = position_of(&self.entries, key) {
             self.entries.remove(position);
         }
     }
 
-    fn remove(&mut self, key: &HashedKey<'_>) -> Option<Value> {
-        match position_of(&self.entries, key) {
-            Ok(position) => Some(self.entries.remove(position).1),
-            Err(_) => None,
-        }
-    }
-
-    fn copy_into(&self, list: &mut Vec<(Key, Value)>) -> Result<(), NoMemory> {
-        add_copies(list, &self.entries)
-    }
-
-    fn copy_apart(&self, columns: &mut EntryColumns) -> Result<(), NoMemory> {
-        columns.add_entries(&self.entries)
-    }
-
-    fn entries(&self, alloc: Global) -> Result<Vec<(Key, Value)>, NoMemory> {
-        let mut found = Vec::new(alloc);
-        add_copies(&mut found, &self.entries)?;
-        Ok(found)
+    fn copy_into(&self, list: &mut EntryList) -> Result<(), NoMemory> {
+        list.add_entries(&self.entries)
     }
 
     fn count(&self) -> u64 {

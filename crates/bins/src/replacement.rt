@@ -1,6 +1,6 @@
 //! The replacement of values by what a program answers.
 ghost use Rattle.std.specs.Prelude.{◌≡◌, ◌<◌, ◌^◌, length, set};
-ghost use Rattle.bins.specs.Columns.{string_at};
+ghost use Rattle.bins.specs.KeptRows.{string_at};
 ghost use Rattle.bins.specs.Entries.{entries_in};
 ghost use Rattle.bins.specs.Passes.{Replaces, ReplacesList};
 

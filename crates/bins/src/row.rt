@@ -1,6 +1,6 @@
 //! Rows of entries: a key and its value side by side, and the word that names a row.
 ghost use Rattle.std.specs.Prelude.{◌≡◌, ◌<◌, ◌≤◌, [], length};
-ghost use Rattle.bins.specs.Columns.{FitIn, IsNear};
+ghost use Rattle.bins.specs.KeptRows.{FitIn, IsNear};
 
 use bpf_model::limits::{KEY_BYTES, VALUE_BYTES};
 use std::marker::Model;
@@ -30,7 +30,7 @@ pub enum Width {
 }
 
 impl Width {
-    /// The narrowest in which a key and a value of so many bytes have room.
+    /// The narrowest in which a key and a value of these lengths have room.
     #[inline(always)]
     pub(crate) fn of(key: usize, value: usize) -> Width
         requires key { key ≤ KEY_BYTES }
@@ -49,57 +49,57 @@ impl Width {
 
 /// Where the row of a position lies.
 #[derive(Clone, Copy)]
-pub enum Place {
+pub enum Location {
     /// There is none.
     Vacant,
     /// At this position of the rows of this width.
     In(Width, usize),
 }
 
-/// A place in four bytes.
+/// A location in four bytes.
 #[derive(Drop)]
-pub struct PlaceWord {
+pub struct LocationWord {
     word: u32,
 }
 
-impl Model for PlaceWord {
-    ghost use Rattle.bins.specs.declared.row.Place.{Place};
-    ghost use Rattle.bins.specs.Columns.{place_of};
+impl Model for LocationWord {
+    ghost use Rattle.bins.specs.declared.row.Location.{Location};
+    ghost use Rattle.bins.specs.KeptRows.{location_of};
 
-    ghost Value = { Place };
+    ghost Value = { Location };
 
-    ghost view = { λ word. place_of word.word };
+    ghost view = { λ word. location_of word.word };
 }
 
-impl PlaceWord {
-    /// The word of a place.
+impl LocationWord {
+    /// The word of a location.
     #[inline(always)]
-    pub(crate) fn new(place: Place) -> PlaceWord
-        requires { IsNear place }
-        ensures { result ≡ place }
+    pub(crate) fn new(location: Location) -> LocationWord
+        requires { IsNear location }
+        ensures { result ≡ location }
     {
-        let word = match place {
-            Place::Vacant => VACANT_WORD,
-            Place::In(Width::Short, at) => at as u32,
-            Place::In(Width::Middle, at) => MIDDLE_WORD + at as u32,
-            Place::In(Width::Long, at) => LONG_WORD + at as u32,
+        let word = match location {
+            Location::Vacant => VACANT_WORD,
+            Location::In(Width::Short, at) => at as u32,
+            Location::In(Width::Middle, at) => MIDDLE_WORD + at as u32,
+            Location::In(Width::Long, at) => LONG_WORD + at as u32,
         };
-        PlaceWord { word }
+        LocationWord { word }
     }
 
-    /// The place.
+    /// The location.
     #[inline(always)]
-    pub(crate) fn get(&self) -> Place
+    pub(crate) fn get(&self) -> Location
         ensures value { result ≡ self.now }
     {
         if self.word < MIDDLE_WORD {
-            Place::In(Width::Short, self.word as usize)
+            Location::In(Width::Short, self.word as usize)
         } else if self.word < LONG_WORD {
-            Place::In(Width::Middle, (self.word - MIDDLE_WORD) as usize)
+            Location::In(Width::Middle, (self.word - MIDDLE_WORD) as usize)
         } else if self.word < VACANT_WORD {
-            Place::In(Width::Long, (self.word - LONG_WORD) as usize)
+            Location::In(Width::Long, (self.word - LONG_WORD) as usize)
         } else {
-            Place::Vacant
+            Location::Vacant
         }
     }
 }
@@ -143,7 +143,7 @@ impl<const MOST: usize> BoundedBytes<MOST> {
         &self.bytes[..self.len as usize]
     }
 
-    /// Copies another one in place.
+    /// Copies another one over its own bytes.
     #[inline(always)]
     fn copy_from(&mut self, other: &BoundedBytes<MOST>)
         ensures { self.new ≡ other.now }
@@ -152,7 +152,7 @@ impl<const MOST: usize> BoundedBytes<MOST> {
         self.len = other.len;
     }
 
-    /// Copies the bytes in place; eight bytes, which a number has, as one word.
+    /// Copies the bytes over its own; eight bytes, which a number has, as one word.
     #[inline(always)]
     fn set_from(&mut self, bytes: &[u8])
         requires { length bytes.now ≤ MOST }
@@ -166,7 +166,7 @@ impl<const MOST: usize> BoundedBytes<MOST> {
     }
 }
 
-/// A key of at most `KEY` bytes, its value of at most `VALUE` bytes, and the position whose place names the row.
+/// A key of at most `KEY` bytes, its value of at most `VALUE` bytes, and the position whose location names the row.
 #[derive(Drop)]
 pub struct Row<const KEY: usize, const VALUE: usize> {
     owner: u32,
@@ -181,7 +181,7 @@ const _: () = prove!(size_of::<Row<64, MIDDLE_BYTES>>() == 136);
 const _: () = prove!(size_of::<Row<64, 1_024>>() == 1_096);
 
 impl<const KEY: usize, const VALUE: usize> Model for Row<KEY, VALUE> {
-    ghost use Rattle.bins.specs.Columns.{KeptRow};
+    ghost use Rattle.bins.specs.KeptRows.{KeptRow};
 
     ghost Value = { KeptRow };
 
@@ -215,7 +215,7 @@ impl<const KEY: usize, const VALUE: usize> Row<KEY, VALUE> {
         (self.key.as_slice(), self.value.as_slice())
     }
 
-    /// The position whose place names it.
+    /// The position whose location names it.
     #[inline(always)]
     pub(crate) fn owner(&self) -> usize
         ensures value { result ≡ self.now.owner }
@@ -223,7 +223,7 @@ impl<const KEY: usize, const VALUE: usize> Row<KEY, VALUE> {
         self.owner as usize
     }
 
-    /// Copies the bytes of a key and a value in place.
+    /// Copies the bytes of a key and a value over the old ones.
     #[inline(always)]
     pub(crate) fn set(&mut self, key: &[u8], value: &[u8])
         requires key { length key.now ≤ KEY }
@@ -234,7 +234,7 @@ impl<const KEY: usize, const VALUE: usize> Row<KEY, VALUE> {
         self.value.set_from(value);
     }
 
-    /// Copies the bytes of a value in place.
+    /// Copies the bytes of a value over the old ones.
     #[inline(always)]
     pub(crate) fn set_value(&mut self, value: &[u8])
         requires { length value.now ≤ VALUE }
@@ -243,7 +243,7 @@ impl<const KEY: usize, const VALUE: usize> Row<KEY, VALUE> {
         self.value.set_from(value);
     }
 
-    /// Copies another row's key and value in place.
+    /// Copies another row's key and value over the old ones.
     #[inline(always)]
     pub(crate) fn copy_from(&mut self, other: &Row<KEY, VALUE>)
         ensures { self.new ≡ record { key = other.now.key; value = other.now.value; owner = self.old.owner } }

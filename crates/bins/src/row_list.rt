@@ -1,7 +1,7 @@
 //! What is done to a list of rows of one width.
 ghost use Rattle.std.specs.Prelude.{◌≡◌, ◌-◌, ◌<◌, ◌≤◌, ◌^◌, ◌++◌, [], ◌∷◌, length, set, OnOk, OnErr, vec_capacity};
 ghost use Rattle.std.specs.List.{swap_remove};
-ghost use Rattle.bins.specs.Columns.{kept, nobody, row_at};
+ghost use Rattle.bins.specs.KeptRows.{kept, nobody, row_at};
 
 use crate::row::{MOST_ROWS, Row};
 use bpf_model::NoMemory;
@@ -38,7 +38,7 @@ pub(crate) fn set_value_at<const KEY: usize, const VALUE: usize>(
     row.set_value(value);
 }
 
-/// Tells the row at a position which position's place names it.
+/// Tells the row at a position which position's location names it.
 #[inline(always)]
 pub(crate) fn move_at<const KEY: usize, const VALUE: usize>(
     rows: &mut Vec<Row<KEY, VALUE>>,
@@ -54,7 +54,7 @@ pub(crate) fn move_at<const KEY: usize, const VALUE: usize>(
     row.move_to(owner);
 }
 
-/// Adds a row behind the others, in the room that is there. A row is cleared before it is written, so this stays out of line: a
+/// Adds a row after the others, in the room that is there. A row is cleared before it is written, so this stays out of line: a
 /// short row is not to clear as much as a long one.
 #[inline(never)]
 pub(crate) fn add<const KEY: usize, const VALUE: usize>(
@@ -78,7 +78,7 @@ pub(crate) fn add<const KEY: usize, const VALUE: usize>(
     row.set(key, value);
 }
 
-/// Adds a copy of a row behind the others, in the room that is there. It is copied to where it stays: a copy by way of the
+/// Adds a copy of a row after the others, in the room that is there. It is copied to where it stays: a copy by way of the
 /// stack waits for its own bytes.
 #[inline(always)]
 pub(crate) fn add_copy<const KEY: usize, const VALUE: usize>(
@@ -117,7 +117,7 @@ pub(crate) fn remove_at<const KEY: usize, const VALUE: usize>(
     owner
 }
 
-/// Makes room for so many elements, and for four times as many as before. Where most of the room is in use the list grows
+/// Makes room for this many elements, and for four times as many as before. If most of the room is in use the list grows
 /// where it is. Else its elements are moved: to grow it would copy what was never written, and so touch it.
 #[inline(never)]
 pub(crate) fn grow<T: Drop>(list: &mut Vec<T>, many: usize) -> Result<(), NoMemory>

@@ -1,7 +1,7 @@
 //! The keys and values of entries, in rows of three widths.
 ghost use Rattle.std.specs.Prelude.{◌≡◌, ◌+◌, ◌<◌, ◌≤◌, ◌++◌, [], ◌∷◌, length, set, OnOk};
 ghost use Rattle.std.specs.List.{swap_remove};
-ghost use Rattle.bins.specs.Columns.{string_at};
+ghost use Rattle.bins.specs.KeptRows.{string_at};
 
 use crate::raw_rows::RawRows;
 use crate::row::MOST_ROWS;
@@ -10,8 +10,8 @@ use bpf_model::limits::{KEY_BYTES, VALUE_BYTES};
 use std::alloc::Global;
 use std::marker::Model;
 
-/// Keys and their values, at the same positions. A position takes four bytes, and the row that it names 44 where neither the
-/// key nor the value is longer than `SHORT_BYTES`, 136 where the value is no longer than `MIDDLE_BYTES`, and else 1,096. Room
+/// Keys and their values, at the same positions. A position takes four bytes, and the row that it names 44 if neither the
+/// key nor the value is longer than `SHORT_BYTES`, 136 if the value is no longer than `MIDDLE_BYTES`, and else 1,096. Room
 /// for a row of each width is reserved with each position, and not touched before it is needed.
 #[derive(Drop)]
 pub(crate) struct Rows {
@@ -21,20 +21,20 @@ pub(crate) struct Rows {
 impl Model for Rows {
     ghost use Rattle.std.specs.Prelude.{◌≤◌, length, min, vec_capacity};
     ghost use Rattle.bins.specs.declared.row.TheConstants.{MOST_ROWS};
-    ghost use Rattle.bins.specs.Columns.{Columns};
+    ghost use Rattle.bins.specs.KeptRows.{KeptEntries};
     ghost use Rattle.bins.specs.Rows.{AreIn, keys_in, values_in};
 
-    ghost Value = { Columns };
+    ghost Value = { KeptEntries };
 
     ghost view = { λ rows. record {
       keys = keys_in rows.raw;
       values = values_in rows.raw;
-      room = min MOST_ROWS (min (vec_capacity rows.raw.places)
+      room = min MOST_ROWS (min (vec_capacity rows.raw.locations)
           (min (vec_capacity rows.raw.shorts) (min (vec_capacity rows.raw.middles) (vec_capacity rows.raw.longs))));
     } };
 
     ghost invariant = { λ rows. AreIn rows.raw
-        × (length rows.raw.places.items ≤ min (vec_capacity rows.raw.shorts) (min (vec_capacity rows.raw.middles) (vec_capacity rows.raw.longs))) };
+        × (length rows.raw.locations.items ≤ min (vec_capacity rows.raw.shorts) (min (vec_capacity rows.raw.middles) (vec_capacity rows.raw.longs))) };
 }
 
 impl Rows {
@@ -77,7 +77,7 @@ impl Rows {
         self.raw.entry(position).1
     }
 
-    /// The key and the value at a position; none of the bytes behind the last one. Takes no memory.
+    /// The key and the value at a position; no bytes after the last one. Takes no memory.
     #[inline(always)]
     pub(crate) fn get_any(&self, position: usize) -> (&[u8], &[u8])
         ensures key { result.0.now ≡ string_at self.now.keys position }
@@ -91,7 +91,7 @@ impl Rows {
         (&[], &[])
     }
 
-    /// Room for so many more entries. `NoMemory` where a request for it was refused, or where there would be more than
+    /// Room for this many more entries. Returns `NoMemory` if a request for it is refused, or if there would be more than
     /// `MOST_ROWS`; the entries are as before.
     pub(crate) fn reserve(&mut self, more: usize) -> Result<(), NoMemory>
         ensures ok { OnOk result (length self.new.keys + more ≤ self.new.room) }
@@ -115,7 +115,7 @@ impl Rows {
         self.raw.set_value(position, bytes);
     }
 
-    /// Adds an entry behind the others. Takes no memory.
+    /// Adds an entry after the others. Takes no memory.
     pub(crate) fn push_reserved(&mut self, key: &[u8], value: &[u8])
         requires room { length self.old.keys < self.old.room }
         requires key { length key.now ≤ KEY_BYTES }
@@ -127,7 +127,7 @@ impl Rows {
         self.raw.push_reserved(key, value);
     }
 
-    /// Adds copies of another list's entries behind the others. Takes no memory.
+    /// Adds copies of another list's entries after the others. Takes no memory.
     pub(crate) fn push_all(&mut self, other: &Rows)
         requires room { length self.old.keys + length other.now.keys ≤ self.old.room }
         ensures keys { self.new.keys ≡ self.old.keys ++ other.now.keys }

@@ -4,11 +4,11 @@ ghost use Rattle.std.specs.List.{AllWithin, swap_remove};
 ghost use Rattle.std.specs.Int.{IsPowerOfTwo};
 ghost use Rattle.std.specs.BTreeMap.{get};
 ghost use Rattle.bins.specs.Chains.{IsBinCount};
+ghost use Rattle.bins.specs.KeptRows.{string_at};
 ghost use Rattle.bins.specs.Table.{by_bytes};
 ghost use Rattle.bins.specs.Trees.{Locates, Sets, StandOnce};
 
 use crate::chains::MOST_BINS;
-use crate::copies::key_at;
 use crate::index::Index;
 use crate::rows::Rows;
 use bpf_model::{Key, NoMemory};
@@ -42,7 +42,7 @@ impl Model for IndexSize {
     ghost invariant = { λ size. IsBinCount size.bins × IsPowerOfTwo size.stripes };
 }
 
-/// As many bins as before, or twice as many where so many entries are more than twice the bins.
+/// As many bins as before, or twice as many if these entries are more than twice the bins.
 fn bins_for(bins: u64, entries: usize) -> u64
     requires { IsBinCount bins }
     ensures count { IsBinCount result }
@@ -82,7 +82,7 @@ impl IndexSize {
         self.stripes
     }
 
-    /// The bins double where so many entries are more than twice the bins.
+    /// The bins double if these entries are more than twice the bins.
     fn count_entries(&mut self, entries: usize)
         ensures stripes { self.new.stripes ≡ self.old.stripes }
     {
@@ -103,7 +103,16 @@ fn add_position(
     Ok(())
 }
 
-/// The position of each key. `NoMemory` where a request for memory was refused.
+/// A copy of the key at a position.
+fn key_at(rows: &Rows, position: usize) -> Key
+    requires { position < length rows.now.keys }
+    ensures { result ≡ string_at rows.now.keys position }
+{
+    let key = Key::from_slice(rows.key(position));
+    key.unwrap()
+}
+
+/// The position of each key. Returns `NoMemory` if a request for memory is refused.
 fn positions_by_key(alloc: Global, rows: &Rows) -> Result<BTreeMap<Key, usize>, NoMemory>
     requires { StandOnce rows.now.keys }
     ensures { IfOk result (λ positions. Locates positions rows.now.keys) }
@@ -119,13 +128,13 @@ fn positions_by_key(alloc: Global, rows: &Rows) -> Result<BTreeMap<Key, usize>, 
 fn move_position(positions: &mut BTreeMap<Key, usize>, key: &Key, position: usize)
     ensures { IsSome (get by_bytes positions.old key.now) → Sets positions.old positions.new key.now (Some position) }
 {
-    if let Some(place) = positions.get_mut(key) {
-        *place = position;
+    if let Some(old) = positions.get_mut(key) {
+        *old = position;
     }
 }
 
 impl Tree {
-    /// The tree of these keys, which an index had found. `NoMemory` where a request for memory was refused.
+    /// The tree of these keys, which an index had found. Returns `NoMemory` if a request for memory is refused.
     pub(crate) fn of(index: &Index, rows: &Rows) -> Result<Tree, NoMemory>
         requires { StandOnce rows.now.keys }
         ensures locates { IfOk result (λ tree. Locates tree.positions rows.now.keys) }
@@ -161,7 +170,7 @@ impl Tree {
         self.positions.get(key).copied()
     }
 
-    /// Adds a key, at the position behind these. `NoMemory` where a request for memory was refused.
+    /// Adds a key, at the position after these. Returns `NoMemory` if a request for memory is refused.
     #[cold]
     pub(crate) fn push(&mut self, rows: &Rows, key: &Key) -> Result<(), NoMemory>
         requires locates { Locates self.old.positions rows.now.keys }
@@ -176,7 +185,7 @@ impl Tree {
         Ok(())
     }
 
-    /// Removes the key at a position; the last key takes that place. Takes no memory.
+    /// Removes the key at a position; the last key takes that position. Takes no memory.
     #[cold]
     pub(crate) fn swap_remove(&mut self, rows: &Rows, position: usize)
         requires locates { Locates self.old.positions rows.now.keys }

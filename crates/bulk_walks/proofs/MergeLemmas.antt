@@ -13,7 +13,7 @@ use Rattle.std.proofs.lemmas.List.MinMax.{ranks_by}
 use Rattle.std.proofs.lemmas.List.Elements.{All-from_get_or, All-head, All-tail}
 use Rattle.std.proofs.lemmas.List.Sums.{sum_by-cons, sum_by-le, sum_by-set, get_or-le-sum_by}
 use Rattle.bins.specs.Entries.{entry_of}
-use Rattle.bins.specs.Lists.{entry_at}
+use Rattle.bins.specs.Merged.{entry_at}
 use Rattle.bins.specs.Fronts.{AreBytes}
 use Rattle.bins.proofs.FrontLemmas.{by_front}
 use Rattle.bins.specs.Table.{Entry, by_bytes}
@@ -143,22 +143,22 @@ module _ (old new : List (List Entry)) (e : Entry) (takes : TakesFirst old e new
   pub weighs : (weight : Entry → ℕ) → weigh weight old ≡ weight e + weigh weight new
   weighs weight =
       let f : List Entry → ℕ = λ es. sum_by weight es in
-      let m = sum_by-set f old takes.place takes.behind [] takes.inside in
+      let m = sum_by-set f old takes.position takes.behind [] takes.inside in
       let n = ap (λ (lists : List (List Entry)). sum_by f lists) takes.now in
       let w = ap f takes.was in
       let c = sum_by-cons weight e takes.behind in
       omega (arith, m, n, w, c)
 
   order_left : T (is_sorted by_bytes (e ∷ takes.behind))
-  order_left = subst (λ (es : List Entry). T (is_sorted by_bytes es)) takes.was (sorted takes.place [] takes.inside)
+  order_left = subst (λ (es : List Entry). T (is_sorted by_bytes es)) takes.was (sorted takes.position [] takes.inside)
 
   pub still_sorted : All (λ es. T (is_sorted by_bytes es)) new
   still_sorted = subst (λ (lists : List (List Entry)). All (λ es. T (is_sorted by_bytes es)) lists) (sym takes.now)
-      (All-from_get_or (λ (es : List Entry). T (is_sorted by_bytes es)) (set old takes.place takes.behind) [] (λ i low. elim (cases_eq i takes.place) [
-        | inl e ↦ subst (λ m. T (is_sorted by_bytes (get_or (set old takes.place takes.behind) m []))) (sym e)
-            (subst (λ (es : List Entry). T (is_sorted by_bytes es)) (sym (get_or-set_same old takes.place takes.behind [] takes.inside)) (second _ _ order_left))
-        | inr ne ↦ subst (λ (es : List Entry). T (is_sorted by_bytes es)) (sym (get_or-set_other old takes.place i takes.behind [] ne))
-            (sorted i [] (let l = length-set old takes.place takes.behind in omega (arith, low, l)))
+      (All-from_get_or (λ (es : List Entry). T (is_sorted by_bytes es)) (set old takes.position takes.behind) [] (λ i low. elim (cases_eq i takes.position) [
+        | inl e ↦ subst (λ m. T (is_sorted by_bytes (get_or (set old takes.position takes.behind) m []))) (sym e)
+            (subst (λ (es : List Entry). T (is_sorted by_bytes es)) (sym (get_or-set_same old takes.position takes.behind [] takes.inside)) (second _ _ order_left))
+        | inr ne ↦ subst (λ (es : List Entry). T (is_sorted by_bytes es)) (sym (get_or-set_other old takes.position i takes.behind [] ne))
+            (sorted i [] (let l = length-set old takes.position takes.behind in omega (arith, low, l)))
       ]))
 
   pub nothing_less : (key : List ℕ) → by_bytes key e.0 ≡ Less → weigh (at_key key) new ≡ 0
@@ -208,49 +208,49 @@ left_none items rests all most left empty many =
 pub left_enough : (items : List Entry) (rests : List (List Entry)) (all : List Entry) (most : ℕ) → Left items rests all → length items ≡ most → items ≡ take most all
 left_enough items rests all most left many = sym (ap (take most) left.begins ∙ ap (λ n. take n (items ++ left.tail)) (sym many) ∙ take-append_seam items left.tail)
 
--- no list comes before the one at the place
+-- no list comes before the one at the position
 abbrev pub IsLeast : List (List Entry) → ℕ → Type 0
-IsLeast rests place = All (λ rest. comes_first rest (get_or rests place rest) ≡ false) rests
+IsLeast rests position = All (λ rest. comes_first rest (get_or rests position rest) ≡ false) rests
 
-module _ (rests : List (List Entry)) (place : ℕ) (inside : place < length rests) (least : IsLeast rests place) where
-  least_at : (list : List Entry) → get_or rests place [] ≡ list → All (λ es. comes_first es list ≡ false) rests
+module _ (rests : List (List Entry)) (position : ℕ) (inside : position < length rests) (least : IsLeast rests position) where
+  least_at : (list : List Entry) → get_or rests position [] ≡ list → All (λ es. comes_first es list ≡ false) rests
   least_at list is = λ k x low.
-      let there : get_or rests place (get_or rests k x) ≡ list = get_or_default rests place (get_or rests k x) [] inside ∙ is in
+      let there : get_or rests position (get_or rests k x) ≡ list = get_or_default rests position (get_or rests k x) [] inside ∙ is in
       subst (λ (es : List Entry). comes_first (get_or rests k x) es ≡ false) there (least k x low)
 
   -- the first entry of that list is taken
-  pub taken : (e : Entry) (behind : List Entry) → get_or rests place [] ≡ e ∷ behind → TakesFirst rests e (set rests place behind)
-  taken e behind is = record { place = place; behind = behind; inside = inside; was = is; least = least_at (e ∷ behind) is; now = refl }
+  pub taken : (e : Entry) (behind : List Entry) → get_or rests position [] ≡ e ∷ behind → TakesFirst rests e (set rests position behind)
+  taken e behind is = record { position = position; behind = behind; inside = inside; was = is; least = least_at (e ∷ behind) is; now = refl }
 
   -- it has none: then no list has
-  pub all_empty : get_or rests place [] ≡ [] → All (λ es. es ≡ []) rests
+  pub all_empty : get_or rests position [] ≡ [] → All (λ es. es ≡ []) rests
   all_empty is = λ k x low. none (get_or rests k x) (least_at [] is k x low)
     where
       none : (es : List Entry) → comes_first es [] ≡ false → es ≡ []
       none [] h = refl
       none (e ∷ es) h = absurd (false≢true (sym h))
 
--- an entry is taken from what is left of the list at the place
-module _ (rests : List Remains) (place : ℕ) (inside : place < length rests) (old new : Remains) (was : get_or rests place old ≡ old) (list : new.list ≡ old.list) where
-  at_place : {X : Type 0} → (f : Remains → X) → (d : X) → get_or (map f rests) place d ≡ f old
-  at_place f d = get_or-map f rests place old d inside ∙ ap f was
+-- an entry is taken from what is left of the list at the position
+module _ (rests : List Remains) (which : ℕ) (inside : which < length rests) (old new : Remains) (was : get_or rests which old ≡ old) (list : new.list ≡ old.list) where
+  at_which : {X : Type 0} → (f : Remains → X) → (d : X) → get_or (map f rests) which d ≡ f old
+  at_which f d = get_or-map f rests which old d inside ∙ ap f was
 
   -- the lists are as they were
-  pub lists_kept : lists_of (set rests place new) ≡ lists_of rests
+  pub lists_kept : lists_of (set rests which new) ≡ lists_of rests
   lists_kept =
       let f : Remains → List Entry = λ rest. rest.list in
-      map-set f rests place new ∙ ap (λ (es : List Entry). set (map f rests) place es) (list ∙ sym (at_place f [])) ∙ set-get_or (map f rests) place []
+      map-set f rests which new ∙ ap (λ (es : List Entry). set (map f rests) which es) (list ∙ sym (at_which f [])) ∙ set-get_or (map f rests) which []
 
-  -- and the entry is the one at that place of them
-  pub takes_first : (position : ℕ) → left_of old ≡ entry_of old.list position ∷ left_of new → IsLeast (lefts_of rests) place
-      → TakesFirst (lefts_of rests) (entry_at (lists_of rests) (record { list = place; position = position })) (lefts_of (set rests place new))
+  -- and the entry is the one at that position of the list
+  pub takes_first : (position : ℕ) → left_of old ≡ entry_of old.list position ∷ left_of new → IsLeast (lefts_of rests) which
+      → TakesFirst (lefts_of rests) (entry_at (lists_of rests) (record { list = which; position = position })) (lefts_of (set rests which new))
   takes_first position first least =
-      let few : place < length (lefts_of rests) = omega (arith, inside, length-map rests left_of) in
-      let here : get_or (lefts_of rests) place [] ≡ entry_of old.list position ∷ left_of new = at_place left_of [] ∙ first in
-      let item : entry_of old.list position ≡ entry_at (lists_of rests) (record { list = place; position = position }) = ap (λ (es : List Entry). entry_of es position) (sym (at_place (λ rest. rest.list) [])) in
-      subst (λ (e : Entry). TakesFirst (lefts_of rests) e (lefts_of (set rests place new))) item
-      (subst (λ (ls : List (List Entry)). TakesFirst (lefts_of rests) (entry_of old.list position) ls) (sym (map-set left_of rests place new))
-      (taken (lefts_of rests) place few least (entry_of old.list position) (left_of new) here))
+      let few : which < length (lefts_of rests) = omega (arith, inside, length-map rests left_of) in
+      let here : get_or (lefts_of rests) which [] ≡ entry_of old.list position ∷ left_of new = at_which left_of [] ∙ first in
+      let item : entry_of old.list position ≡ entry_at (lists_of rests) (record { list = which; position = position }) = ap (λ (es : List Entry). entry_of es position) (sym (at_which (λ rest. rest.list) [])) in
+      subst (λ (e : Entry). TakesFirst (lefts_of rests) e (lefts_of (set rests which new))) item
+      (subst (λ (ls : List (List Entry)). TakesFirst (lefts_of rests) (entry_of old.list position) ls) (sym (map-set left_of rests which new))
+      (taken (lefts_of rests) which few least (entry_of old.list position) (left_of new) here))
 
 pub empty_of : (es : List Entry) → length es ≡ 0 → es ≡ []
 empty_of [] none = refl
@@ -263,26 +263,26 @@ weightless h ([] ∷ lists) none = weightless h lists (omega (arith, none, sum_b
 weightless h ((e ∷ es) ∷ lists) none = absurd (let c = sum_by-cons (λ (xs : List Entry). length xs) (e ∷ es) lists in omega (arith, none, c))
 
 -- one list has as many entries as all lists: then it weighs as much
-pub one_has_all : (h : Entry → ℕ) (lists : List (List Entry)) (place : ℕ) → place < length lists → length (get_or lists place []) ≡ sum_by (λ es. length es) lists
-    → weigh h lists ≡ sum_by h (get_or lists place [])
-one_has_all h [] place low all = absurd (omega (arith, low))
+pub one_has_all : (h : Entry → ℕ) (lists : List (List Entry)) (position : ℕ) → position < length lists → length (get_or lists position []) ≡ sum_by (λ es. length es) lists
+    → weigh h lists ≡ sum_by h (get_or lists position [])
+one_has_all h [] position low all = absurd (omega (arith, low))
 one_has_all h (es ∷ lists) zero low all =
     let c = sum_by-cons (λ (xs : List Entry). length xs) es lists in
     let rest = weightless h lists (omega (arith, all, c)) in
     let w = sum_by-cons (λ (xs : List Entry). sum_by h xs) es lists in
     omega (arith, rest, w)
-one_has_all h (es ∷ lists) (suc place) low all =
+one_has_all h (es ∷ lists) (suc position) low all =
     let c = sum_by-cons (λ (xs : List Entry). length xs) es lists in
-    let most = get_or-le-sum_by (λ (xs : List Entry). length xs) lists place [] (omega (arith, low)) in
-    let rest = one_has_all h lists place (omega (arith, low)) (omega (arith, all, c, most)) in
+    let most = get_or-le-sum_by (λ (xs : List Entry). length xs) lists position [] (omega (arith, low)) in
+    let rest = one_has_all h lists position (omega (arith, low)) (omega (arith, all, c, most)) in
     let empty : sum_by h es ≡ 0 = ap (λ (xs : List Entry). sum_by h xs) (empty_of es (omega (arith, all, c, most))) in
     let w = sum_by-cons (λ (xs : List Entry). sum_by h xs) es lists in
     omega (arith, rest, empty, w)
 
 -- so it is the list in key order that has the entries of all
-pub one_is_all : (lists : List (List Entry)) (place : ℕ) → place < length lists → length (get_or lists place []) ≡ sum_by (λ es. length es) lists
-    → T (is_sorted by_bytes (get_or lists place [])) → (all : List Entry) → T (is_sorted by_bytes all) → HasAll all lists → get_or lists place [] ≡ all
-one_is_all lists place low count order all sorted has = sym (same_entries all (get_or lists place []) sorted order (λ h. has h ∙ one_has_all h lists place low count))
+pub one_is_all : (lists : List (List Entry)) (position : ℕ) → position < length lists → length (get_or lists position []) ≡ sum_by (λ es. length es) lists
+    → T (is_sorted by_bytes (get_or lists position [])) → (all : List Entry) → T (is_sorted by_bytes all) → HasAll all lists → get_or lists position [] ≡ all
+one_is_all lists position low count order all sorted has = sym (same_entries all (get_or lists position []) sorted order (λ h. has h ∙ one_has_all h lists position low count))
 
 -- what replies gave is how many items they have
 pub given_all : (replies : List WalkReply) → All (λ r. r.counts.given ≡ length r.items) replies → sum_by (λ (r : WalkReply). r.counts.given) replies ≡ sum_by (λ es. length es) (items_in replies)

@@ -31,7 +31,7 @@ entries_in ps = map (λ p. p.0) ps
 abbrev pub outcomes_in : List Pair → List Outcome
 outcomes_in ps = map (λ p. p.1) ps
 
--- its place among pairs in key order
+-- its position among pairs in key order
 abbrev insert : Pair → List Pair → List Pair
 insert p [] = p ∷ []
 insert p (q ∷ qs) = cond (is_lt (by_bytes q.0.0 p.0.0)) (q ∷ insert p qs) (p ∷ q ∷ qs)

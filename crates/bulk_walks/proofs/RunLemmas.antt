@@ -1,4 +1,4 @@
--- Replies that were made in their places.
+-- Replies that stand where their entries do.
 use Rattle.std.proofs.Common.{◌≡◌, ℕ, suc, ◌<◌, List, [], ◌∷◌, Option, Some, None, IfSome, length, map, drop, get_or, slice_index_or, sym, ap, subst, arith}
 use Rattle.verifier.specs.Checked.{Checked}
 use Rattle.atomic_methods.specs.declared.walk_reply.WalkKind.TheVariants.{ForEach}
@@ -7,7 +7,7 @@ use Rattle.atomic_methods.specs.Replies.{IsReply}
 use Rattle.bin_stripes.specs.Passes.{PassState}
 use Rattle.bins.specs.Table.{Entry}
 use Rattle.bulk_walks.specs.Walks.{AllWalked, Each, IsScan, MayScan}
-use Rattle.bulk_walks.specs.declared.running.Part.{Part}
+use Rattle.bulk_walks.specs.declared.answering.Part.{Part}
 use Rattle.bulk_walks.specs.Turns.{found_in, AreReplies}
 use Rattle.bulk_walks.proofs.FindingLemmas.{may_scan}
 

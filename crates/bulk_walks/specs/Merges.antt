@@ -4,8 +4,8 @@ use Rattle.std.specs.FinMap as finmap
 use Rattle.std.specs.Ordering.{is_lt}
 use Rattle.bins.specs.declared.counts.Counts.{Counts}
 use Rattle.bins.specs.Fronts.{front}
-use Rattle.bins.specs.Lists.{entry_at}
-use Rattle.bins.specs.declared.entry_list.EntryPlace.{EntryPlace}
+use Rattle.bins.specs.Merged.{entry_at}
+use Rattle.bins.specs.declared.merged_entries.EntryPosition.{EntryPosition}
 use Rattle.bins.specs.Table.{Entry, by_bytes}
 use Rattle.atomic_methods.specs.declared.walk_reply.WalkKind.{WalkKind}
 use Rattle.atomic_methods.specs.declared.walk_reply.WalkReply.{WalkReply}
@@ -50,16 +50,16 @@ lead_of (entry ∷ list) = front 8 entry.0
 
 -- the first entry of one list went, and no other list begins with a lesser key
 pub record TakesFirst (old : List (List Entry)) (entry : Entry) (new : List (List Entry)) : Type 0 where
-  pub place : ℕ
+  pub position : ℕ
   pub behind : List Entry
-  pub inside : place < length old
-  pub was : slice_index_or old place [] ≡ entry ∷ behind
+  pub inside : position < length old
+  pub was : slice_index_or old position [] ≡ entry ∷ behind
   pub least : All (λ list. comes_first list (entry ∷ behind) ≡ false) old
-  pub now : new ≡ slice_set old place behind
+  pub now : new ≡ slice_set old position behind
 
--- the entry at this place of the lists was taken so; or none, since nothing is left of them
-abbrev pub TakesLeast : List (List Entry) → List (List Entry) → Option EntryPlace → List (List Entry) → Type 0
-TakesLeast lists old taken new = MatchOption taken (All (λ list. list ≡ []) old) (λ place. TakesFirst old (entry_at lists place) new)
+-- the entry at this position of the lists was taken so; or none, since nothing is left of them
+abbrev pub TakesLeast : List (List Entry) → List (List Entry) → Option EntryPosition → List (List Entry) → Type 0
+TakesLeast lists old taken new = MatchOption taken (All (λ list. list ≡ []) old) (λ position. TakesFirst old (entry_at lists position) new)
 
 -- one number of each kind is the sum of what the replies counted
 pub record CountsAdd (replies : List WalkReply) (total : Counts) : Type 0 where

@@ -13,7 +13,7 @@ use Rattle.bin_stripes.specs.Passes.{PassState}
 use Rattle.atomic_methods.specs.declared.walk_reply.WalkKind.TheVariants.{ForEach}
 use Rattle.atomic_methods.specs.declared.walk_reply.WalkReply.{WalkReply}
 use Rattle.atomic_methods.specs.Replies.{IsReply}
-use Rattle.bulk_walks.specs.declared.running.Part.{Part}
+use Rattle.bulk_walks.specs.declared.answering.Part.{Part}
 use Rattle.bulk_walks.specs.Walks.{IsTurn, Walked, AllWalked, Each, IsScan, MayScan, IsReplaced, sum_below}
 
 -- f of each stripe below n whose turn is this worker's, added up
@@ -75,7 +75,7 @@ items_in replies = map (λ reply. reply.items) replies
 abbrev pub found_in : List Part → List (List Entry)
 found_in parts = map (λ part. part.found) parts
 
--- each reply is that to a walk for each of the entries in its place
+-- each reply is that to a walk over the entries at its position
 abbrev pub AreReplies : Checked → Option (List ℕ) → List (List Entry) → List WalkReply → Type 0
 AreReplies checked arg [] [] = ⊤
 AreReplies checked arg [] (reply ∷ replies) = ⊥

@@ -5,8 +5,9 @@ ghost use Rattle.bulk_walks.specs.Walks.{AllWalked, MayScan, CountsAll};
 ghost use Rattle.bulk_walks.specs.Turns.{CountsTurns};
 
 use crate::team::Team;
+use crate::turns::Worker;
 use atomic_methods::{WalkReply, count_of};
-use bin_stripes::{Gate, Pass, Place, StripedMap};
+use bin_stripes::{Gate, Pass, StripedMap};
 use bpf_model::NoMemory;
 use std::alloc::Global;
 use std::sync::Wait;
@@ -14,27 +15,18 @@ use std::thread::Threads;
 use workers::work;
 
 /// The worker's stripes, one after the other.
-fn count_turns<R: Wait, G: Gate>(
-    rt: &R,
-    map: &StripedMap,
-    gate: &G,
-    worker: u64,
-    workers: u64,
-    pass: &mut Pass,
-) -> u64
-    requires map { pass.old.map ≡ map.now }
-    requires worker { worker < workers }
+fn count_turns<R: Wait, G: Gate>(rt: &R, worker: &Worker<'_>, gate: &G, pass: &mut Pass) -> u64
+    requires map { pass.old.map ≡ worker.now.map.now }
+    requires worker { worker.now.number < worker.now.workers }
     ensures map { pass.new.map ≡ pass.old.map }
-    ensures done { CountsTurns (stripes_of map.now) workers worker pass.old.view pass.new.view result }
+    ensures done { CountsTurns (stripes_of worker.now.map.now) worker.now.workers worker.now.number pass.old.view pass.new.view result }
 {
-    let stripes = map.stripes();
-    if worker < stripes {
-        gate.pass(Place::WalkStart, worker as u32);
-    }
+    worker.start(gate);
+    let stripes = worker.map.stripes();
     let mut count = 0;
     for stripe in 0..stripes {
-        if stripe % workers == worker {
-            count += map.count_stripe(rt, pass, stripe);
+        if stripe % worker.workers == worker.number {
+            count += worker.map.count_stripe(rt, pass, stripe);
         }
     }
     count
@@ -52,8 +44,8 @@ fn total(counts: &[u64]) -> u64
     sum
 }
 
-/// How many entries there are, each stripe counted by one scan. `NoMemory` where a request for the lists of the team's
-/// workers was refused: no entry is copied. Waits until each stripe is free.
+/// How many entries there are, each stripe counted by one scan. Returns `NoMemory` if a request for the lists of the team's
+/// workers is refused: no entry is copied. Waits until each stripe is free.
 pub fn mapping_count<R: Threads + Wait + Sync, G: Gate + Sync>(
     rt: &R,
     alloc: Global,
@@ -72,7 +64,14 @@ pub fn mapping_count<R: Threads + Wait + Sync, G: Gate + Sync>(
     let call = move |worker: usize, pass: &mut Pass| -> u64
         requires { (pass.old.map ≡ map.now) × (worker < workers) }
         ensures { (pass.new.map ≡ map.entry.now) × CountsTurns (stripes_of map.entry.now) workers worker pass.old.view pass.new.view result }
-    { count_turns(rt, map, gate, worker as u64, workers, pass) };
+    {
+        let worker = Worker {
+            map,
+            number: worker as u64,
+            workers,
+        };
+        count_turns(rt, &worker, gate, pass)
+    };
     let (passes, answers) = work(rt, alloc, passes, &call);
     let team = Team { passes };
     let Ok(counts) = answers else {

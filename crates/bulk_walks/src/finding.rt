@@ -4,9 +4,10 @@ ghost use Rattle.bin_stripes.specs.Passes.{stripes_of};
 ghost use Rattle.bulk_walks.specs.Walks.{Walked, AllWalked, MayScan};
 ghost use Rattle.bulk_walks.specs.Turns.{WorkerFinds, FindsInOrder, FindsAll, found_in, found_of};
 
-use crate::running::Part;
-use bin_stripes::{Gate, Pass, Place, StripedMap};
-use bins::{EntryColumns, SortedColumns};
+use crate::answering::Part;
+use crate::turns::Worker;
+use bin_stripes::{Gate, Pass, StripedMap};
+use bins::{EntryList, SortedEntries};
 use bpf_model::NoMemory;
 use std::alloc::Global;
 use std::sync::Wait;
@@ -17,26 +18,22 @@ use workers::work;
 fn scan_turns<R: Wait, G: Gate>(
     rt: &R,
     alloc: Global,
-    map: &StripedMap,
+    worker: &Worker<'_>,
     gate: &G,
-    worker: u64,
-    workers: u64,
     pass: &mut Pass,
-) -> Result<EntryColumns, NoMemory>
-    requires map { pass.old.map ≡ map.now }
-    requires worker { worker < workers }
+) -> Result<EntryList, NoMemory>
+    requires map { pass.old.map ≡ worker.now.map.now }
+    requires worker { worker.now.number < worker.now.workers }
     ensures map { pass.new.map ≡ pass.old.map }
-    ensures done { IfOk result (λ found. WorkerFinds (stripes_of map.now) (stripes_of map.now) workers worker pass.old.view pass.new.view found) }
-    ensures part { Walked (stripes_of map.now) workers worker MayScan pass.old.view pass.new.view }
+    ensures done { IfOk result (λ found. WorkerFinds (stripes_of worker.now.map.now) (stripes_of worker.now.map.now) worker.now.workers worker.now.number pass.old.view pass.new.view found) }
+    ensures part { Walked (stripes_of worker.now.map.now) worker.now.workers worker.now.number MayScan pass.old.view pass.new.view }
 {
-    let stripes = map.stripes();
-    if worker < stripes {
-        gate.pass(Place::WalkStart, worker as u32);
-    }
-    let mut found = EntryColumns::new(alloc);
+    worker.start(gate);
+    let stripes = worker.map.stripes();
+    let mut found = EntryList::new(alloc);
     for stripe in 0..stripes {
-        if stripe % workers == worker {
-            map.copy_stripe(rt, pass, stripe, &mut found)?;
+        if stripe % worker.workers == worker.number {
+            worker.map.copy_stripe(rt, pass, stripe, &mut found)?;
         }
     }
     Ok(found)
@@ -46,27 +43,25 @@ fn scan_turns<R: Wait, G: Gate>(
 fn sorted_turns<R: Wait, G: Gate>(
     rt: &R,
     alloc: Global,
-    map: &StripedMap,
+    worker: &Worker<'_>,
     gate: &G,
-    worker: u64,
-    workers: u64,
     pass: &mut Pass,
-) -> Result<SortedColumns, NoMemory>
-    requires map { pass.old.map ≡ map.now }
-    requires worker { worker < workers }
+) -> Result<SortedEntries, NoMemory>
+    requires map { pass.old.map ≡ worker.now.map.now }
+    requires worker { worker.now.number < worker.now.workers }
     ensures map { pass.new.map ≡ pass.old.map }
-    ensures done { IfOk result (λ found. FindsInOrder (stripes_of map.now) workers worker pass.old.view pass.new.view found) }
-    ensures part { Walked (stripes_of map.now) workers worker MayScan pass.old.view pass.new.view }
+    ensures done { IfOk result (λ found. FindsInOrder (stripes_of worker.now.map.now) worker.now.workers worker.now.number pass.old.view pass.new.view found) }
+    ensures part { Walked (stripes_of worker.now.map.now) worker.now.workers worker.now.number MayScan pass.old.view pass.new.view }
 {
-    let found = scan_turns(rt, alloc, map, gate, worker, workers, pass)?;
-    let sorted = SortedColumns::new(alloc, found)?;
+    let found = scan_turns(rt, alloc, worker, gate, pass)?;
+    let sorted = SortedEntries::new(alloc, found)?;
     Ok(sorted)
 }
 
 /// A part for each worker's entries, without a reply.
 fn parts_of(
     alloc: Global,
-    answers: Vec<Result<SortedColumns, NoMemory>>,
+    answers: Vec<Result<SortedEntries, NoMemory>>,
 ) -> Result<Vec<Part>, NoMemory>
     ensures items { IfOk result (λ parts. found_in parts.items ≡ map found_of answers.items) }
     ensures ok { OnOk result (All (λ r. IsOk r) answers.items) }
@@ -95,10 +90,17 @@ pub(crate) fn find<R: Threads + Wait + Sync, G: Gate + Sync>(
     ensures found { MatchResult result.1 (λ parts. FindsAll (stripes_of map.now) passes.items result.0.items (found_in parts.items)) (λ _. AllWalked (stripes_of map.now) MayScan passes.items result.0.items) }
 {
     let workers = passes.len() as u64;
-    let call = move |worker: usize, pass: &mut Pass| -> Result<SortedColumns, NoMemory>
+    let call = move |worker: usize, pass: &mut Pass| -> Result<SortedEntries, NoMemory>
         requires { (pass.old.map ≡ map.now) × (worker < workers) }
         ensures { (pass.new.map ≡ map.entry.now) × IfOk result (λ found. FindsInOrder (stripes_of map.entry.now) workers worker pass.old.view pass.new.view found) × Walked (stripes_of map.entry.now) workers worker MayScan pass.old.view pass.new.view }
-    { sorted_turns(rt, alloc, map, gate, worker as u64, workers, pass) };
+    {
+        let worker = Worker {
+            map,
+            number: worker as u64,
+            workers,
+        };
+        sorted_turns(rt, alloc, &worker, gate, pass)
+    };
     let (passes, answers) = work(rt, alloc, passes, &call);
     let Ok(answers) = answers else {
         return (passes, Err(NoMemory));

@@ -7,12 +7,13 @@
 #![tactic(auto)]
 
 mod alike;
+mod answering;
 mod count;
 mod finding;
 mod merging;
 mod replace;
-mod running;
 mod team;
+mod turns;
 mod walks;
 
 pub use alike::is_same_reply;
@@ -20,4 +21,4 @@ pub use atomic_methods::{WalkKind, WalkReply};
 pub use count::mapping_count;
 pub use replace::replace_all;
 pub use team::{EmptyTeam, Team};
-pub use walks::{for_each, search, walk};
+pub use walks::{Walk, for_each, search, walk_map};

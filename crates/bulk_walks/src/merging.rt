@@ -3,24 +3,24 @@ ghost use Rattle.std.specs.Prelude.{◌≡◌, ℕ, ◌+◌, ◌<◌, ◌≤◌,
 ghost use Rattle.std.specs.FinMap as finmap;
 ghost use Rattle.bins.specs.Entries.{entry_of};
 ghost use Rattle.bins.specs.Fronts.{AreBytes};
-ghost use Rattle.bins.specs.Lists.{entry_at};
+ghost use Rattle.bins.specs.Merged.{entry_at};
 ghost use Rattle.bins.specs.Table.{Entry, by_bytes};
 ghost use Rattle.bulk_walks.specs.Turns.{items_in};
 ghost use Rattle.bulk_walks.specs.Merges.{comes_first, lead_of, left_of, lefts_of, lists_of, whole_of, HasAll, TakesLeast, IsMerge, CountsAdd};
 
 use crate::replace::{ZERO, add};
-use atomic_methods::{PartReply, WalkKind, WalkReply};
-use bins::{Counts, EntryColumns, EntryList, EntryPlace};
+use atomic_methods::{WalkKind, WalkReply, WorkerReply};
+use bins::{Counts, EntryList, EntryPosition, MergedEntries};
 use bpf_model::NoMemory;
 use std::alloc::Global;
 use std::marker::Model;
 
-/// The reply of this kind that is made of replies of the kind `ForEach`, each with its items in key order. `NoMemory` where
-/// a request for memory was refused. The items of one reply that has all, or of `ForEach`, are not copied.
+/// The reply of this kind that is made of replies of the kind `ForEach`, each with its items in key order. Returns `NoMemory`
+/// if a request for memory is refused. The items of one reply that has all, or of `ForEach`, are not copied.
 pub(crate) fn merged(
     alloc: Global,
     kind: WalkKind,
-    replies: Vec<PartReply>,
+    replies: Vec<WorkerReply>,
 ) -> Result<WalkReply, NoMemory>
     requires order { All (λ reply. T (finmap.is_sorted by_bytes reply.items)) replies.items }
     requires counted { All (λ reply. reply.counts.given ≡ length reply.items) replies.items }
@@ -40,7 +40,7 @@ pub(crate) fn merged(
 }
 
 /// What all replies counted.
-fn total_of(replies: &[PartReply]) -> Counts
+fn total_of(replies: &[WorkerReply]) -> Counts
     requires scanned { sum_by (λ reply. reply.counts.scanned) replies.now < 2 ^ 64 }
     requires given { sum_by (λ reply. reply.counts.given) replies.now < 2 ^ 64 }
     requires unfit { sum_by (λ reply. reply.counts.unfit) replies.now < 2 ^ 64 }
@@ -54,58 +54,62 @@ fn total_of(replies: &[PartReply]) -> Counts
 }
 
 /// The first item of all replies in key order: a copy, since the others are given up.
-fn first_item(alloc: Global, replies: Vec<PartReply>) -> Result<EntryList, NoMemory>
+fn first_item(alloc: Global, replies: Vec<WorkerReply>) -> Result<MergedEntries, NoMemory>
     requires order { All (λ reply. T (finmap.is_sorted by_bytes reply.items)) replies.items }
     ensures { IfOk result (λ items. (all : List Entry) → T (finmap.is_sorted by_bytes all) → HasAll all (items_in replies.items) → items ≡ take 1 all) }
 {
     let first = first_items(alloc, replies, 1)?;
     let copy = first.copied(alloc)?;
-    Ok(EntryList::in_order(copy))
+    Ok(MergedEntries::of_one(copy))
 }
 
-/// All items of all replies, so many, in key order: those of one reply where it has all of them.
+/// All items of all replies, `count` of them, in key order: those of one reply if it has all of them.
 fn all_items(
     alloc: Global,
-    mut replies: Vec<PartReply>,
+    mut replies: Vec<WorkerReply>,
     count: usize,
-) -> Result<EntryList, NoMemory>
+) -> Result<MergedEntries, NoMemory>
     requires order { All (λ reply. T (finmap.is_sorted by_bytes reply.items)) replies.items }
     requires counted { count ≡ sum_by (λ items. length items) (items_in replies.items) }
     ensures { IfOk result (λ items. (all : List Entry) → T (finmap.is_sorted by_bytes all) → HasAll all (items_in replies.items) → items ≡ all) }
 {
-    if let Some(place) = place_with(&replies, count) {
-        let reply = replies.swap_remove(place);
-        return Ok(EntryList::in_order(reply.into_items()));
+    if let Some(position) = position_with(&replies, count) {
+        let reply = replies.swap_remove(position);
+        return Ok(MergedEntries::of_one(reply.into_items()));
     }
     let items = first_items(alloc, replies, count)?;
     Ok(items)
 }
 
-/// The place of a reply that has so many items.
-fn place_with(replies: &[PartReply], count: usize) -> Option<usize>
-    ensures range { IfSome result (λ place. place < length replies.now) }
-    ensures count { IfSome result (λ place. length (slice_index_or (items_in replies.now) place []) ≡ count) }
+/// The position of a reply that has this many items.
+fn position_with(replies: &[WorkerReply], count: usize) -> Option<usize>
+    ensures range { IfSome result (λ position. position < length replies.now) }
+    ensures count { IfSome result (λ position. length (slice_index_or (items_in replies.now) position []) ≡ count) }
 {
-    for place in 0..replies.len() {
-        if replies[place].items().len() == count {
-            return Some(place);
+    for position in 0..replies.len() {
+        if replies[position].items().len() == count {
+            return Some(position);
         }
     }
     None
 }
 
 /// The first `most` items of all replies, in key order. They stay where they are.
-fn first_items(alloc: Global, replies: Vec<PartReply>, most: usize) -> Result<EntryList, NoMemory>
+fn first_items(
+    alloc: Global,
+    replies: Vec<WorkerReply>,
+    most: usize,
+) -> Result<MergedEntries, NoMemory>
     requires order { All (λ reply. T (finmap.is_sorted by_bytes reply.items)) replies.items }
     ensures { IfOk result (λ items. (all : List Entry) → T (finmap.is_sorted by_bytes all) → HasAll all (items_in replies.items) → items ≡ take most all) }
 {
-    let places = first_places(alloc, &replies, most)?;
+    let positions = first_positions(alloc, &replies, most)?;
     let lists = lists_in(alloc, replies)?;
-    Ok(EntryList::merged(lists, places))
+    Ok(MergedEntries::of_several(lists, positions))
 }
 
 /// The items of each reply.
-fn lists_in(alloc: Global, replies: Vec<PartReply>) -> Result<Vec<EntryColumns>, NoMemory>
+fn lists_in(alloc: Global, replies: Vec<WorkerReply>) -> Result<Vec<EntryList>, NoMemory>
     ensures { IfOk result (λ lists. lists.items ≡ items_in replies.items) }
 {
     let mut lists = Vec::with_capacity(alloc, replies.len())?;
@@ -115,31 +119,31 @@ fn lists_in(alloc: Global, replies: Vec<PartReply>) -> Result<Vec<EntryColumns>,
     Ok(lists)
 }
 
-/// The places of the first `most` items of all replies, in key order.
-fn first_places(
+/// The positions of the first `most` items of all replies, in key order.
+fn first_positions(
     alloc: Global,
-    replies: &[PartReply],
+    replies: &[WorkerReply],
     most: usize,
-) -> Result<Vec<EntryPlace>, NoMemory>
+) -> Result<Vec<EntryPosition>, NoMemory>
     requires order { All (λ reply. T (finmap.is_sorted by_bytes reply.items)) replies.now }
-    ensures { IfOk result (λ places. (all : List Entry) → T (finmap.is_sorted by_bytes all) → HasAll all (items_in replies.now) → map (entry_at (items_in replies.now)) places.items ≡ take most all) }
+    ensures { IfOk result (λ positions. (all : List Entry) → T (finmap.is_sorted by_bytes all) → HasAll all (items_in replies.now) → map (entry_at (items_in replies.now)) positions.items ≡ take most all) }
 {
     let mut rests = rests_of(alloc, replies)?;
-    let mut places = Vec::with_capacity(alloc, most)?;
+    let mut positions = Vec::with_capacity(alloc, most)?;
     for given in 0..most {
-        let Some(place) = take_least(&mut rests) else {
-            return Ok(places);
+        let Some(position) = take_least(&mut rests) else {
+            return Ok(positions);
         };
-        places.push(place)?;
+        positions.push(position)?;
     }
-    Ok(places)
+    Ok(positions)
 }
 
 /// Items that are lent, and how many were taken from their front. The first bytes of the first key that is left are kept at hand,
-/// as a number: its lead. Where nothing is left the lead is the greatest number.
+/// as a number: its lead. If nothing is left the lead is the greatest number.
 #[derive(Drop)]
 struct Rest<'a> {
-    items: &'a EntryColumns,
+    items: &'a EntryList,
     next: usize,
     lead: u64,
 }
@@ -160,7 +164,7 @@ impl<'a> Model for Rest<'a> {
 
 impl<'a> Rest<'a> {
     /// All of these items.
-    fn new(items: &'a EntryColumns) -> Rest<'a>
+    fn new(items: &'a EntryList) -> Rest<'a>
         ensures { result ≡ record { list = items.now; taken = 0 } }
     {
         Rest {
@@ -178,7 +182,7 @@ impl<'a> Rest<'a> {
         self.next >= self.items.len()
     }
 
-    /// The first key; no bytes where nothing is left.
+    /// The first key; no bytes if nothing is left.
     #[inline(always)]
     fn key(&self) -> &'a [u8]
         ensures value { result.now ≡ (entry_of (left_of self.now) 0).0 }
@@ -186,7 +190,7 @@ impl<'a> Rest<'a> {
         self.items.key(self.next)
     }
 
-    /// The first bytes of the first key, as a number; the greatest one where nothing is left.
+    /// The first bytes of the first key, as a number; the greatest one if nothing is left.
     #[inline(always)]
     fn lead(&self) -> u64
         ensures value { result ≡ lead_of (left_of self.now) }
@@ -195,7 +199,7 @@ impl<'a> Rest<'a> {
         self.lead
     }
 
-    /// Takes the first item, where there is one: its position.
+    /// Takes the first item, if there is one: its position.
     #[inline(always)]
     fn take_first(&mut self) -> Option<usize>
         ensures first { MatchOption result (left_of self.old ≡ []) (λ position. left_of self.old ≡ entry_of self.old.list position ∷ left_of self.new) }
@@ -212,7 +216,7 @@ impl<'a> Rest<'a> {
 }
 
 /// The items of each reply.
-fn rests_of<'a>(alloc: Global, replies: &'a [PartReply]) -> Result<Vec<Rest<'a>>, NoMemory>
+fn rests_of<'a>(alloc: Global, replies: &'a [WorkerReply]) -> Result<Vec<Rest<'a>>, NoMemory>
     ensures { IfOk result (λ rests. rests.items ≡ map whole_of (items_in replies.now)) }
 {
     let mut rests = Vec::with_capacity(alloc, replies.len())?;
@@ -222,8 +226,8 @@ fn rests_of<'a>(alloc: Global, replies: &'a [PartReply]) -> Result<Vec<Rest<'a>>
     Ok(rests)
 }
 
-/// Takes the first item of a rest, with the least key of all: where it lies. None where all rests are empty.
-fn take_least(rests: &mut Vec<Rest<'_>>) -> Option<EntryPlace>
+/// Takes the first item of a rest, with the least key of all: its position. None if all rests are empty.
+fn take_least(rests: &mut Vec<Rest<'_>>) -> Option<EntryPosition>
     ensures least { TakesLeast (lists_of rests.old.items) (lefts_of rests.old.items) result (lefts_of rests.new.items) }
     ensures lists { lists_of rests.new.items ≡ lists_of rests.old.items }
 {
@@ -233,12 +237,12 @@ fn take_least(rests: &mut Vec<Rest<'_>>) -> Option<EntryPlace>
     let list = least(rests);
     let rest = &mut rests[list];
     let position = rest.take_first()?;
-    Some(EntryPlace { list, position })
+    Some(EntryPosition { list, position })
 }
 
 /// The lead of what is left of the items from a position on.
 #[inline(always)]
-fn lead_at(items: &EntryColumns, position: usize) -> u64
+fn lead_at(items: &EntryList, position: usize) -> u64
     ensures value { result ≡ lead_of (drop position items.now) }
     ensures bytes { AreBytes (entry_of (drop position items.now) 0).0 }
 {
@@ -248,54 +252,54 @@ fn lead_at(items: &EntryColumns, position: usize) -> u64
     u64::MAX
 }
 
-/// The place of a rest before which no other comes. Mostly the leads tell.
+/// The position of a rest before which no other comes. Mostly the leads tell.
 #[inline(always)]
 fn least(rests: &[Rest<'_>]) -> usize
     requires { 0 < length rests.now }
-    ensures place { result < length rests.now }
+    ensures position { result < length rests.now }
     ensures least { All (λ left. comes_first left (slice_index_or (lefts_of rests.now) result left) ≡ false) (lefts_of rests.now) }
 {
-    let (place, alone) = least_lead(rests);
+    let (position, alone) = least_lead(rests);
     if alone {
-        return place;
+        return position;
     }
     least_key(rests)
 }
 
-/// The place of a rest with the least lead, and whether the others' leads are greater: then no other comes before it. Nothing
-/// branches on a lead, since which one is less is anyone's guess.
+/// The position of a rest with the least lead, and whether the others' leads are greater: then no other comes before it.
+/// Nothing branches on a lead, since which one is less is anyone's guess.
 #[inline(always)]
 fn least_lead(rests: &[Rest<'_>]) -> (usize, bool)
     requires { 0 < length rests.now }
-    ensures place { result.0 < length rests.now }
+    ensures position { result.0 < length rests.now }
     ensures alone { IsTrue result.1 → All (λ left. comes_first left (slice_index_or (lefts_of rests.now) result.0 left) ≡ false) (lefts_of rests.now) }
 {
-    let mut place = 0;
+    let mut position = 0;
     let mut least = rests[0].lead();
     let mut second = u64::MAX;
     for other in 1..rests.len() {
         let lead = rests[other].lead();
         second = second.min(lead.max(least));
-        place = if lead < least { other } else { place };
+        position = if lead < least { other } else { position };
         least = least.min(lead);
     }
-    (place, least < second)
+    (position, least < second)
 }
 
-/// The place of a rest whose first key none of the others' comes before.
+/// The position of a rest whose first key none of the others' comes before.
 #[inline(never)]
 fn least_key(rests: &[Rest<'_>]) -> usize
     requires { 0 < length rests.now }
-    ensures place { result < length rests.now }
+    ensures position { result < length rests.now }
     ensures least { All (λ left. comes_first left (slice_index_or (lefts_of rests.now) result left) ≡ false) (lefts_of rests.now) }
 {
-    let mut place = 0;
+    let mut position = 0;
     for other in 1..rests.len() {
-        if is_first(&rests[other], &rests[place]) {
-            place = other;
+        if is_first(&rests[other], &rests[position]) {
+            position = other;
         }
     }
-    place
+    position
 }
 
 /// Whether the one rest's first key comes before the other's. An empty rest comes last.

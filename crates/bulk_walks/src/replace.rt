@@ -6,9 +6,10 @@ ghost use Rattle.atomic_methods.specs.Whole.{IsSum};
 ghost use Rattle.bulk_walks.specs.Turns.{ReplacesTurns, HasRoom, AreSums};
 
 use crate::team::Team;
+use crate::turns::Worker;
 use atomic_methods::WalkReply;
-use bin_stripes::{Gate, Pass, Place, StripedMap};
-use bins::{Counts, EntryList};
+use bin_stripes::{Gate, Pass, StripedMap};
+use bins::{Counts, MergedEntries};
 use bpf_model::{NoMemory, Value};
 use std::alloc::Global;
 use std::sync::Wait;
@@ -26,6 +27,7 @@ pub(crate) fn add(total: &mut Counts, more: Counts)
     total.unfit += more.unfit;
 }
 
+/// Nothing was counted.
 pub(crate) const ZERO: Counts = Counts {
     scanned: 0,
     given: 0,
@@ -35,27 +37,26 @@ pub(crate) const ZERO: Counts = Counts {
 /// The worker's stripes, one after the other.
 fn replace_turns<R: Wait, G: Gate>(
     rt: &R,
-    map: &StripedMap,
+    worker: &Worker<'_>,
     program: &Verified,
     arg: &Option<Value>,
     gate: &G,
-    worker: u64,
-    workers: u64,
     pass: &mut Pass,
 ) -> Counts
-    requires map { pass.old.map ≡ map.now }
-    requires worker { worker < workers }
+    requires map { pass.old.map ≡ worker.now.map.now }
+    requires worker { worker.now.number < worker.now.workers }
     ensures map { pass.new.map ≡ pass.old.map }
-    ensures done { ReplacesTurns (stripes_of map.now) program.now arg.now (stripes_of map.now) workers worker pass.old.view pass.new.view result }
+    ensures done { ReplacesTurns (stripes_of worker.now.map.now) program.now arg.now (stripes_of worker.now.map.now) worker.now.workers worker.now.number pass.old.view pass.new.view result }
 {
-    let stripes = map.stripes();
-    if worker < stripes {
-        gate.pass(Place::WalkStart, worker as u32);
-    }
+    worker.start(gate);
+    let stripes = worker.map.stripes();
     let mut total = ZERO;
     for stripe in 0..stripes {
-        if stripe % workers == worker {
-            let counts = map.replace_stripe(rt, pass, stripe, program, arg, gate, worker as u32);
+        if stripe % worker.workers == worker.number {
+            let number = worker.number as u32;
+            let counts = worker
+                .map
+                .replace_stripe(rt, pass, stripe, program, arg, gate, number);
             add(&mut total, counts);
         }
     }
@@ -78,8 +79,8 @@ fn sum_of(answers: &[Counts]) -> Counts
 
 /// Replaces the value of each key once, stripe by stripe, by what the program answers on the key, its value and the
 /// argument. An answer of nothing keeps the entry, and one that does not fit stays. The reply has no items: its count `given` is
-/// of the values that were entered. `NoMemory` where a request for memory was refused; nothing was replaced then. Waits until
-/// each stripe is free.
+/// of the values that were entered. Returns `NoMemory` if a request for memory is refused; nothing was replaced then. Waits
+/// until each stripe is free.
 pub fn replace_all<R: Threads + Wait + Sync, G: Gate + Sync>(
     rt: &R,
     alloc: Global,
@@ -100,13 +101,20 @@ pub fn replace_all<R: Threads + Wait + Sync, G: Gate + Sync>(
     let call = move |worker: usize, pass: &mut Pass| -> Counts
         requires { (pass.old.map ≡ map.now) × (worker < workers) }
         ensures { (pass.new.map ≡ map.entry.now) × ReplacesTurns (stripes_of map.entry.now) program.entry.now arg.entry.now (stripes_of map.entry.now) workers worker pass.old.view pass.new.view result }
-    { replace_turns(rt, map, program, arg, gate, worker as u64, workers, pass) };
+    {
+        let worker = Worker {
+            map,
+            number: worker as u64,
+            workers,
+        };
+        replace_turns(rt, &worker, program, arg, gate, pass)
+    };
     let (passes, answers) = work(rt, alloc, passes, &call);
     let team = Team { passes };
     let Ok(answers) = answers else {
         return (team, Err(NoMemory));
     };
     let counts = sum_of(&answers);
-    let items = EntryList::new(alloc);
+    let items = MergedEntries::new(alloc);
     (team, Ok(WalkReply { items, counts }))
 }

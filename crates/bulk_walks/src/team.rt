@@ -41,7 +41,7 @@ pub struct Team {
 }
 
 impl Team {
-    /// The team of these passes; `EmptyTeam` where there is none. Takes no memory.
+    /// The team of these passes; `EmptyTeam` if there is none. Takes no memory.
     pub fn new(passes: Vec<Pass>) -> Result<Team, EmptyTeam>
         ensures some { IsOk result ↔ (0 < vec_len passes) }
         ensures team { IfOk result (λ team. team.passes ≡ passes) }

@@ -4,9 +4,9 @@ ghost use Rattle.bin_stripes.specs.Passes.{stripes_of};
 ghost use Rattle.atomic_methods.specs.declared.walk_reply.WalkKind.TheVariants.{Search, ForEach};
 ghost use Rattle.bulk_walks.specs.Walks.{Walks};
 
+use crate::answering::{answer_all, held_in};
 use crate::finding::find;
 use crate::merging::merged;
-use crate::running::{held_in, run_all};
 use crate::team::Team;
 use atomic_methods::{WalkKind, WalkReply};
 use bin_stripes::{Gate, StripedMap};
@@ -16,23 +16,29 @@ use std::sync::Wait;
 use std::thread::Threads;
 use verifier::Verified;
 
-/// Scans each stripe once, runs the program on each entry, and gives the answers of this kind of walk. The program runs in
-/// the workers where there are at least `threshold` entries, else in the calling thread. `NoMemory` where a request for
-/// memory was refused. Waits until each stripe is free.
-pub fn walk<R: Threads + Wait + Sync, G: Gate + Sync>(
+/// What a walk runs on each entry, and which answers it gives. The program runs in the workers if there are at least
+/// `threshold` entries, else in the calling thread.
+#[derive(Clone, Copy)]
+pub struct Walk<'a> {
+    pub kind: WalkKind,
+    pub program: &'a Verified,
+    pub arg: &'a Option<Value>,
+    pub threshold: u64,
+}
+
+/// Scans each stripe once, runs the program on each entry, and gives the answers of this kind of walk. Returns `NoMemory` if a
+/// request for memory is refused. Waits until each stripe is free.
+pub fn walk_map<R: Threads + Wait + Sync, G: Gate + Sync>(
     rt: &R,
     alloc: Global,
-    kind: WalkKind,
     map: &StripedMap,
     team: Team,
-    program: &Verified,
-    arg: &Option<Value>,
-    threshold: u64,
+    walk: &Walk<'_>,
     gate: &G,
 ) -> (Team, Result<WalkReply, NoMemory>)
     requires { All (λ pass. pass.map ≡ map.now) team.passes.items }
     ensures map { All (λ pass. pass.map ≡ map.now) result.0.passes.items }
-    ensures walked { Walks kind (stripes_of map.now) program.now arg.now team.passes.items result.0.passes.items result.1 }
+    ensures walked { Walks walk.now.kind (stripes_of map.now) walk.now.program.now walk.now.arg.now team.passes.items result.0.passes.items result.1 }
 {
     let Team { passes } = team;
     let stripes = map.stripes();
@@ -42,11 +48,11 @@ pub fn walk<R: Threads + Wait + Sync, G: Gate + Sync>(
     let Ok(parts) = found else {
         return (team, Err(NoMemory));
     };
-    let apart = held_in(&parts) >= threshold;
-    let Ok(replies) = run_all(rt, alloc, program, arg, parts, apart) else {
+    let apart = held_in(&parts) >= walk.threshold;
+    let Ok(replies) = answer_all(rt, alloc, walk.program, walk.arg, parts, apart) else {
         return (team, Err(NoMemory));
     };
-    (team, merged(alloc, kind, replies))
+    (team, merged(alloc, walk.kind, replies))
 }
 
 /// The walk of kind `Search`: the least key with a present answer, and that answer; or no item.
@@ -64,17 +70,14 @@ pub fn search<R: Threads + Wait + Sync, G: Gate + Sync>(
     ensures map { All (λ pass. pass.map ≡ map.now) result.0.passes.items }
     ensures walked { Walks Search (stripes_of map.now) program.now arg.now team.passes.items result.0.passes.items result.1 }
 {
-    walk(
-        rt,
-        alloc,
-        WalkKind::Search,
-        map,
-        team,
+    let kind = WalkKind::Search;
+    let walk = Walk {
+        kind,
         program,
         arg,
         threshold,
-        gate,
-    )
+    };
+    walk_map(rt, alloc, map, team, &walk, gate)
 }
 
 /// The walk of kind `ForEach`: all present answers with their keys, in key order.
@@ -92,15 +95,12 @@ pub fn for_each<R: Threads + Wait + Sync, G: Gate + Sync>(
     ensures map { All (λ pass. pass.map ≡ map.now) result.0.passes.items }
     ensures walked { Walks ForEach (stripes_of map.now) program.now arg.now team.passes.items result.0.passes.items result.1 }
 {
-    walk(
-        rt,
-        alloc,
-        WalkKind::ForEach,
-        map,
-        team,
+    let kind = WalkKind::ForEach;
+    let walk = Walk {
+        kind,
         program,
         arg,
         threshold,
-        gate,
-    )
+    };
+    walk_map(rt, alloc, map, team, &walk, gate)
 }

@@ -13,7 +13,7 @@ use crate::team::{heard, told};
 use atomic_methods::{WalkKind, WalkReply};
 use bin_stripes::{Gate, Pass, Place, StripedMap};
 use bpf_model::{NoMemory, Sizes, Value};
-use bulk_walks::{mapping_count, replace_all, walk};
+use bulk_walks::{Walk, mapping_count, replace_all, walk_map};
 use client_protocol::{Request, RequestView, ShortResponse, Version};
 use program_registry::{ProgramToken, Registry};
 use sessions::{
@@ -185,9 +185,13 @@ impl<'a> Serving<'a> {
         let arg = argument_of(arg);
         let team = mem::replace(&mut self.team, Vec::new(alloc));
         let team = told(self.map, &self.pass, team);
-        let (team, reply) = walk(
-            rt, alloc, kind, self.map, team, program, &arg, threshold, gate,
-        );
+        let asked = Walk {
+            kind,
+            program,
+            arg: &arg,
+            threshold,
+        };
+        let (team, reply) = walk_map(rt, alloc, self.map, team, &asked, gate);
         self.team = heard(self.map, &mut self.pass, team);
         answer_of(reply)
     }

@@ -2,7 +2,7 @@
 ghost use Rattle.std.specs.Prelude.{◌≤◌, ◌<◌};
 
 use crate::expectations::expect;
-use bins::{Bins, CopyList, EntryColumns, HashedBins, HashedKey, ListBins, SortedColumns, hash_of};
+use bins::{Bins, EntryList, HashedBins, HashedKey, ListBins, SortedEntries, hash_of};
 use bpf_model::{Key, NoMemory, Value};
 use lengths::fit_each_length;
 use replaced::are_replaced;
@@ -118,13 +118,13 @@ fn both_bodies_are_scanned_alike(rt: HostRuntime) -> Result<(), Fail> {
 }
 
 /// Tells whether the one list has each entry of the other twice, in their order.
-fn are_twice(sorted: &SortedColumns, entries: &[(Key, Value)]) -> bool {
+fn are_twice(sorted: &SortedEntries, entries: &[(Key, Value)]) -> bool {
     if sorted.len() != 2 * entries.len() {
         return false;
     }
-    for place in 0..sorted.len() {
-        let (key, value) = &entries[place / 2];
-        if sorted.get(place) != (key.as_slice(), value.as_slice()) {
+    for position in 0..sorted.len() {
+        let (key, value) = &entries[position / 2];
+        if sorted.get(position) != (key.as_slice(), value.as_slice()) {
             return false;
         }
     }
@@ -136,10 +136,10 @@ fn copied_twice<B: Bins + Drop>(alloc: Global) -> Result<bool, Fail> {
     let mut bins = B::open(alloc, 4)?;
     fill(&mut bins, 40)?;
     put(&mut bins, &[1; 64], &[2; 200])?;
-    let mut columns = EntryColumns::new(alloc);
-    columns.add_from(&bins)?;
-    columns.add_from(&bins)?;
-    let sorted = SortedColumns::new(alloc, columns)?;
+    let mut list = EntryList::new(alloc);
+    bins.copy_into(&mut list)?;
+    bins.copy_into(&mut list)?;
+    let sorted = SortedEntries::new(alloc, list)?;
     Ok(are_twice(&sorted, &bins.entries(alloc)?))
 }
 
@@ -246,7 +246,7 @@ fn stand_apart<B: Bins + Drop>(alloc: Global, crowd: Crowd) -> Result<bool, Fail
 fn try_each<B: Bins + Drop>(alloc: Global) -> Result<(), Fail> {
     expect(stand_in_order::<B>(alloc)?, "keys that begin one another")?;
     expect(come_and_go::<B>(alloc)?, "three hundred keys")?;
-    expect(copied_twice::<B>(alloc)?, "copies in columns")?;
+    expect(copied_twice::<B>(alloc)?, "copies in a list")?;
     expect(stand_apart::<B>(alloc, Crowd::OneHash)?, "keys of one hash")?;
     expect(stand_apart::<B>(alloc, Crowd::OneBin)?, "keys of one bin")?;
     expect(fit_each_length::<B>(alloc)?, "values of each length")?;

@@ -3,7 +3,7 @@ ghost use Rattle.std.specs.Prelude.{◌≡◌, All, IfSome};
 
 use atomic_methods::{Call, Reply};
 use bin_stripes::{Gate, OpenGate, Pass, Place, StripedMap};
-use bins::EntryList;
+use bins::MergedEntries;
 use bpf_model::{Key, NoMemory, Value};
 use bulk_walks::{Team, WalkReply, for_each, mapping_count, replace_all, search};
 use map_tests::programs::{NINE, ONE, THREE, TWO, summed, summing};
@@ -138,7 +138,7 @@ const COUNTED: Wanted = Wanted(&[], (3, 0, 0));
 const REPLACED: Wanted = Wanted(&[], (3, 2, 1));
 
 /// Tells whether these are the items, in their order.
-fn are_items(found: &EntryList, items: &[(&[u8], &[u8])]) -> bool {
+fn are_items(found: &MergedEntries, items: &[(&[u8], &[u8])]) -> bool {
     if found.len() != items.len() {
         return false;
     }

@@ -10,7 +10,7 @@ ghost use Rattle.sessions.specs.Sessions.{refusal};
 use crate::session::SessionEnd;
 use crate::session::service::Answer;
 use atomic_methods::WalkReply;
-use bins::{Counts, EntryList};
+use bins::{Counts, MergedEntries};
 use bpf_model::Value;
 use client_protocol::{Limits, ShortResponse, Version, item_head, value_head};
 use devices::{Failed, Sink, write_all};
@@ -62,7 +62,7 @@ fn send_item<W: Sink>(writer: &mut W, key: &[u8], value: &[u8]) -> Result<(), Fa
 }
 
 /// Writes a frame for each item.
-fn send_items<W: Sink>(writer: &mut W, items: &EntryList) -> Result<(), Failed>
+fn send_items<W: Sink>(writer: &mut W, items: &MergedEntries) -> Result<(), Failed>
     requires { CanWrite (W.state writer.old) }
     ensures ok { OnOk result (TakesBytes (W.state writer.old) (W.state writer.new) (response_frames (map item_of items.now))) }
     ensures err { OnErr result (TakesPart (W.state writer.old) (W.state writer.new) (response_frames (map item_of items.now))) }
@@ -75,7 +75,7 @@ fn send_items<W: Sink>(writer: &mut W, items: &EntryList) -> Result<(), Failed>
 }
 
 /// Whether the value of an item is longer than may be sent behind this Hello.
-fn have_too_long(hello: Option<Version>, items: &EntryList) -> bool
+fn have_too_long(hello: Option<Version>, items: &MergedEntries) -> bool
     ensures { result ≡ has_too_long hello (map item_of items.now) }
 {
     let most = Limits::after(hello).value;

@@ -132,7 +132,7 @@ fn are_states(reply: &WalkReply, last: &mut [u64; 8]) -> bool {
 }
 
 /// Tells whether the keys of the items rise.
-fn keys_rise(items: &EntryList) -> bool {
+fn keys_rise(items: &MergedEntries) -> bool {
     for i in 1..items.len() {
         let (before, _) = items.get(i - 1);
         let (key, _) = items.get(i);

@@ -14,7 +14,7 @@ use Rattle.bin_stripes.proofs.close.entries_out.Goals as goal
 
 pub loop-stripe-init : goal.loop-stripe-init
 loop-stripe-init g c = let v = c.args.seat.now.me.0 in
-    (refl, c.requires.rests.0.some, subst (λ n. Sound n v) c.requires.stripes c.requires.rests.1, ([], (λ weight. ap (λ (es : List Entry). sum_by weight es) c.new-found.ensures.items, taken_none (does c.args.table.now.table_id.slots) empty v)))
+    (refl, c.requires.rests.0.some, subst (λ n. Sound n v) c.requires.stripes c.requires.rests.1, ([], (λ weight. ap (λ (es : List Entry). sum_by weight es) c.new-found.ensures, taken_none (does c.args.table.now.table_id.slots) empty v)))
 
 pub take_stripe-requires-clause-table : goal.take_stripe-requires-clause-table
 take_stripe-requires-clause-table g c = (c.requires.table.0, c.loop-stripe.invariant.0 ∙ c.requires.table.1)
@@ -41,7 +41,7 @@ loop-stripe-preserved g c = let inv = c.loop-stripe.invariant in let out = c.bin
       (
         inv.3.0 ++ g.B.Bins.table bins ∷ [],
         (
-          λ weight. (let adds = c.in_ok-copy_into.ensures.ok in ap (λ (es : List Entry). sum_by weight es) adds.added ∙ weigh_more c.loop-stripe.found.items (all_entries inv.3.0) adds.copies (map.entries (g.B.Bins.table bins)) inv.3.1.0 adds.are weight ∙ ap (λ (es : List Entry). sum_by weight es) (sym (all_entries-push inv.3.0 (g.B.Bins.table bins)))),
+          λ weight. (let adds = c.in_ok-copy_into.ensures.ok in ap (λ (es : List Entry). sum_by weight es) adds.added ∙ weigh_more c.loop-stripe.found (all_entries inv.3.0) adds.copies (map.entries (g.B.Bins.table bins)) inv.3.1.0 adds.are weight ∙ ap (λ (es : List Entry). sum_by weight es) (sym (all_entries-push inv.3.0 (g.B.Bins.table bins)))),
           taken_next g.B.Bins.table n k c.args.seat.now.me.0 w u x inv.3.0 bins inv.3.1.1 took out.same.2 found,
         ),
       ),

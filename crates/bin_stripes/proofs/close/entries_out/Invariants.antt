@@ -9,4 +9,4 @@ use Rattle.bin_stripes.proofs.close.entries_out.Given as goal
 
 abbrev pub invariant-loop-stripe : goal.invariant-loop-stripe
 invariant-loop-stripe g l = (l.seat.table_id ≡ l.initial.seat.table_id) × Carries l.seat.me.0 (least l.seat.me.0.numbers) × Sound l.table.table_id.slots l.seat.me.0
-    × ((tables : List Table) × (WeighSame l.found.items (all_entries tables) × HasTaken (does l.table.table_id.slots) empty l.initial.seat.me.0 l.stripe tables l.seat.me.0))
+    × ((tables : List Table) × (WeighSame l.found (all_entries tables) × HasTaken (does l.table.table_id.slots) empty l.initial.seat.me.0 l.stripe tables l.seat.me.0))

@@ -39,6 +39,6 @@ returns-in-Ok-clause-ok g c = let n = c.args.table.now.table_id.slots in let k =
     lets_as n k _ _ c.args.seat.now.me c.let_go.new.seat.me (λ actions a. subst (λ (b : g.row.B.Denot). actions ≡ scanned (map.entries (g.B.Bins.table b)) ∷ []) c.of-found.ensures a)
         (lets_from n k _ c.args.seat.now.me _ c.let_go.new.seat.me (rest c.args.seat.now.me.1) (Some c.in-Some.bins) (Some c.in-Some.bins) refl (c.slot_mut.ensures.value ∙ ap (λ s. (c.args.stripe, s) ∷ rest c.args.seat.now.me.1) c.in-Some.is) refl c.let_go.ensures.made),
     c.in-Ok.ensures.ok,
-    c.add_from.ensures.bounded,
+    c.copy_into.ensures.bounded,
   ),
 )

@@ -1,7 +1,49 @@
-use Rattle.std.proofs.Common.{List, ◌++◌, sum_by, ap, ◌∙◌}
+use Rattle.std.proofs.Common.{◌≡◌, ◌++◌, ◌∷◌, [], List, Some, refl, sym, ap, ◌∙◌, subst}
+use Rattle.std.specs.FinMap as map
+use Rattle.atomic_table.specs.Table.{rest}
 use Rattle.bins.specs.Table.{Entry}
+use Rattle.stripe_rule.specs.Gains.{seen_of}
+use Rattle.bin_stripes.specs.Actions.{Action, scanned}
+use Rattle.bin_stripes.specs.Histories.{own_events, Leaves}
+use Rattle.bin_stripes.proofs.StepLemmas.{found_is, lets_from, lets_as}
+use Rattle.bin_stripes.proofs.Making.{scan_made, nothing_made}
 use Rattle.bin_stripes.proofs.held.make_scan.Goals as goal
 
-pub returns-clause-entries : goal.returns-clause-entries
-returns-clause-entries g c = let made = c.in_ok-make_copies.ensures.ok in
-    (made.0, (made.1.0, c.sort_entries.ensures.order made.0 (λ weight. ap (λ (es : List Entry). sum_by weight es) (made.1.2.added ∙ ap (λ (es : List Entry). es ++ made.1.2.copies) c.new-found.ensures.items) ∙ made.1.2.are weight)))
+pub slot_mut-requires : goal.slot_mut-requires
+slot_mut-requires g c = let held = c.requires.held in
+    (c.requires.table.1, (Some held.bins, held.out ∙ ap (λ l. (c.args.stripe, Some held.bins) ∷ l) (sym (ap rest held.out))))
+
+pub let_go-requires-clause-made : goal.let_go-requires-clause-made
+let_go-requires-clause-made g c = let v = c.args.seat.now.me.0 in let n = c.args.table.now.table_id.slots in let k = c.args.stripe in let there = g.B.Bins.table c.in-Some.bins in
+    let found = found_is g.B.Bins.table c.args.table.now.table_id.slots c.args.stripe c.args.seat.now.me c.in-Some.bins (rest c.args.seat.now.me.1) c.requires.held (c.slot_mut.ensures.value ∙ ap (λ s. (c.args.stripe, s) ∷ rest c.args.seat.now.me.1) c.in-Some.is) in (
+      c.in-Some.bins,
+      (
+        rest c.args.seat.now.me.1,
+        (
+          refl,
+          subst (λ (b : g.row.B.Denot). (actions : List Action) × ((actions ≡ scanned (map.entries (g.B.Bins.table b)) ∷ []) × Leaves n k (seen_of v k ++ own_events v actions) there)) (sym c.of-there.ensures)
+              (scan_made n k v v there (map.entries there) refl found refl),
+        ),
+      ),
+    )
+
+pub let_go-requires-in-Err-clause-made : goal.let_go-requires-in-Err-clause-made
+let_go-requires-in-Err-clause-made g c = let v = c.args.seat.now.me.0 in let there = g.B.Bins.table c.in-Some.bins in
+    let found = found_is g.B.Bins.table c.args.table.now.table_id.slots c.args.stripe c.args.seat.now.me c.in-Some.bins (rest c.args.seat.now.me.1) c.requires.held (c.slot_mut.ensures.value ∙ ap (λ s. (c.args.stripe, s) ∷ rest c.args.seat.now.me.1) c.in-Some.is) in
+    (c.in-Some.bins, (rest c.args.seat.now.me.1, (refl, nothing_made c.args.table.now.table_id.slots c.args.stripe v v there there refl refl found)))
+
+-- the scan found just the entries that are handed out
+pub returns-in-Ok-clause-ok : goal.returns-in-Ok-clause-ok
+returns-in-Ok-clause-ok g c = let n = c.args.table.now.table_id.slots in let k = c.args.stripe in
+    lets_as n k _ _ c.args.seat.now.me c.let_go.new.seat.me
+    (λ actions a. subst (λ (b : g.row.B.Denot). actions ≡ scanned (map.entries (g.B.Bins.table b)) ∷ []) c.of-there.ensures a ∙ ap (λ (es : List Entry). scanned es ∷ []) (sym c.in-Ok.ensures.ok))
+    (lets_from n k _ c.args.seat.now.me _ c.let_go.new.seat.me (rest c.args.seat.now.me.1) (Some c.in-Some.bins) (Some c.in-Some.bins) refl (c.slot_mut.ensures.value ∙ ap (λ s. (c.args.stripe, s) ∷ rest c.args.seat.now.me.1) c.in-Some.is) refl c.let_go.ensures.made)
+
+pub returns-in-Ok-clause-entries : goal.returns-in-Ok-clause-entries
+returns-in-Ok-clause-entries g c = (
+  g.B.Bins.table c.in-Some.bins,
+  (
+    found_is g.B.Bins.table c.args.table.now.table_id.slots c.args.stripe c.args.seat.now.me c.in-Some.bins (rest c.args.seat.now.me.1) c.requires.held (c.slot_mut.ensures.value ∙ ap (λ s. (c.args.stripe, s) ∷ rest c.args.seat.now.me.1) c.in-Some.is),
+    c.in-Ok.ensures.ok,
+  ),
+)

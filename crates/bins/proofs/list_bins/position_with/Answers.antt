@@ -2,7 +2,7 @@ use Rattle.std.proofs.Common.{rules, of_calls}
 use Rattle.std.proofs.lemmas.Fn.{always_returns_same}
 use Rattle.bins.specs.Table.{by_bytes}
 use Rattle.bins.proofs.MapEdits.{total}
-use Rattle.bins.proofs.SortedEntries.{searched}
+use Rattle.bins.proofs.SearchLemmas.{searched}
 use Rattle.bins.proofs.list_bins.position_with.Goals as goal
 
 -- the closure compares an entry's key with the one that is searched

@@ -1,7 +1,7 @@
 use Rattle.std.proofs.Common.{◌≡◌, ℕ, List, [], rules, refl, ap, ◌∙◌, Ok, Err, get_or-set_same}
 use Rattle.std.specs.Option.{option_copied}
 use Rattle.bpf_model.specs.declared.input.Answer.TheVariants.{Nothing, Bytes}
-use Rattle.bins.specs.Columns.{string_at}
+use Rattle.bins.specs.KeptRows.{string_at}
 use Rattle.bins.proofs.replacement.replace_at.Goals as goal
 
 -- a window is too small: the value stays

@@ -1,6 +1,6 @@
 use Rattle.std.proofs.Common.{◌≡◌, ◌<◌, ℕ, ◌+◌, List, [], ◌∷◌, ◌++◌, length, arith, sym, ap, subst, ◌∙◌, Bool, true, false, Ok, length-append}
 use Rattle.std.proofs.lemmas.List.{length-set}
-use Rattle.bins.specs.Columns.{string_at}
+use Rattle.bins.specs.KeptRows.{string_at}
 use Rattle.bins.specs.Entries.{entries_in}
 use Rattle.bins.specs.Replacements.{is_given, is_unfit}
 use Rattle.bins.specs.Passes.{Replaces}

@@ -1,6 +1,6 @@
 use Rattle.std.proofs.Common.{◌≡◌, ◌++◌, ◌∷◌, [], List, length, get_or, set, ap, ◌∙◌}
 use Rattle.std.proofs.Math.Seq.{get_or-append_seam, set-append_seam}
-use Rattle.bins.specs.Columns.{KeptRow, kept}
+use Rattle.bins.specs.KeptRows.{KeptRow, kept}
 use Rattle.bins.proofs.row_list.add_copy.Goals as goal
 
 -- the row that was added is written over

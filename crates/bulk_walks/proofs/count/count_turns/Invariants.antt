@@ -6,5 +6,5 @@ use Rattle.bulk_walks.proofs.count.count_turns.Given as goal
 abbrev pub invariant-loop-stripe : goal.invariant-loop-stripe
 invariant-loop-stripe g l = record {
   map : l.pass.map ≡ l.fn.pass.map;
-  done : CountsTurns l.stripe l.workers l.worker l.fn.pass.view l.pass.view l.count;
+  done : CountsTurns l.stripe l.worker.workers l.worker.number l.fn.pass.view l.pass.view l.count;
 }

@@ -1,7 +1,7 @@
 use Rattle.std.proofs.Common.{◌++◌, ◌∷◌, [], None, IsOk, refl, sym, ap, ◌∙◌, subst}
 use Rattle.std.proofs.lemmas.List.{map_push}
 use Rattle.std.proofs.lemmas.List.Elements.{All-push}
-use Rattle.bulk_walks.specs.declared.running.Part.{Part}
+use Rattle.bulk_walks.specs.declared.answering.Part.{Part}
 use Rattle.bulk_walks.specs.Turns.{found_in, found_of}
 use Rattle.bulk_walks.proofs.finding.parts_of.Goals as goal
 

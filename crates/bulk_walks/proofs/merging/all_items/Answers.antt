@@ -10,13 +10,13 @@ pub returns-in-Some : goal.returns-in-Some
 returns-in-Some c all order has =
     let replies = c.args.replies.items in
     let lists = items_in replies in
-    let place = c.in-Some.place in
-    let low : place < length replies = subst (λ (rs : List WalkReply). place < length rs) c.deref.ensures.value c.in-Some.ensures.range in
-    let count : length (get_or lists place []) ≡ c.args.count = subst (λ (rs : List WalkReply). length (get_or (items_in rs) place []) ≡ c.args.count) c.deref.ensures.value c.in-Some.ensures.count in
-    let inside : place < length lists = omega (arith, low, length-map replies (λ (r : WalkReply). r.items)) in
-    let is : get_or lists place [] ≡ c.swap_remove-reply.result.items = get_or-map (λ (r : WalkReply). r.items) replies place c.swap_remove-reply.result [] low
+    let position = c.in-Some.position in
+    let low : position < length replies = subst (λ (rs : List WalkReply). position < length rs) c.deref.ensures.value c.in-Some.ensures.range in
+    let count : length (get_or lists position []) ≡ c.args.count = subst (λ (rs : List WalkReply). length (get_or (items_in rs) position []) ≡ c.args.count) c.deref.ensures.value c.in-Some.ensures.count in
+    let inside : position < length lists = omega (arith, low, length-map replies (λ (r : WalkReply). r.items)) in
+    let is : get_or lists position [] ≡ c.swap_remove-reply.result.items = get_or-map (λ (r : WalkReply). r.items) replies position c.swap_remove-reply.result [] low
     ∙ ap (λ (r : WalkReply). r.items) (sym c.swap_remove-reply.ensures.value) in
-    c.in_order.ensures ∙ c.into_items.ensures ∙ sym is ∙ one_is_all lists place inside (count ∙ c.requires.counted) (sorted_items replies c.requires.order place [] inside) all order has
+    c.of_one.ensures ∙ c.into_items.ensures ∙ sym is ∙ one_is_all lists position inside (count ∙ c.requires.counted) (sorted_items replies c.requires.order position [] inside) all order has
 
 -- they are copied
 pub returns : goal.returns

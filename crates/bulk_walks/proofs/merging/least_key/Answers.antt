@@ -19,24 +19,24 @@ loop-other-preserved c =
     let before = c.loop-other.invariant in
     let rests = lefts_of c.args.rests.now in
     let other = c.loop-other.other in
-    let place = c.loop-other.place in
-    let test : (d : List Entry) → c.is_first.result ≡ comes_first (get_or rests other d) (get_or rests place d) = λ d.
+    let position = c.loop-other.position in
+    let test : (d : List Entry) → c.is_first.result ≡ comes_first (get_or rests other d) (get_or rests position d) = λ d.
     c.is_first.ensures
-    ∙ ap (λ (one : List Entry). comes_first one (left_of c.index-rests-place.result)) (ap left_of c.index-rests-other.is ∙ sym (get_or-map left_of c.args.rests.now other _ d (omega (arith, c.loop-other-test.true))))
-    ∙ ap (λ (two : List Entry). comes_first (get_or rests other d) two) (ap left_of c.index-rests-place.is ∙ sym (get_or-map left_of c.args.rests.now place _ d before.inside)) in
+    ∙ ap (λ (one : List Entry). comes_first one (left_of c.index-rests-position.result)) (ap left_of c.index-rests-other.is ∙ sym (get_or-map left_of c.args.rests.now other _ d (omega (arith, c.loop-other-test.true))))
+    ∙ ap (λ (two : List Entry). comes_first (get_or rests other d) two) (ap left_of c.index-rests-position.is ∙ sym (get_or-map left_of c.args.rests.now position _ d before.inside)) in
     elim c.if-is_first.branch [
-      | then-is_first w ↦ rw w.place-is (record {
+      | then-is_first w ↦ rw w.position-is (record {
         inside = omega arith;
         least = λ i d low. elim (cases_eq i other) [
           | inl e ↦ subst (λ k. comes_first (get_or rests k d) (get_or rests other d) ≡ false) (sym e) (comes_first-itself (get_or rests other d))
-          | inr ne ↦ comes_first-chain (get_or rests i d) (get_or rests place d) (get_or rests other d) (before.least i d (omega (arith, low, ne)))
-              (comes_first-one_way (get_or rests other d) (get_or rests place d) (sym (test d) ∙ w.if-is_first.true))
+          | inr ne ↦ comes_first-chain (get_or rests i d) (get_or rests position d) (get_or rests other d) (before.least i d (omega (arith, low, ne)))
+              (comes_first-one_way (get_or rests other d) (get_or rests position d) (sym (test d) ∙ w.if-is_first.true))
         ];
       })
-      | else-is_first w ↦ rw w.place-is (record {
+      | else-is_first w ↦ rw w.position-is (record {
         inside = before.inside;
         least = λ i d low. elim (cases_eq i other) [
-          | inl e ↦ subst (λ k. comes_first (get_or rests k d) (get_or rests place d) ≡ false) (sym e) (sym (test d) ∙ w.if-is_first.false)
+          | inl e ↦ subst (λ k. comes_first (get_or rests k d) (get_or rests position d) ≡ false) (sym e) (sym (test d) ∙ w.if-is_first.false)
           | inr ne ↦ before.least i d (omega (arith, low, ne))
         ];
       })

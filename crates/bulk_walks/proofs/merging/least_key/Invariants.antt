@@ -6,6 +6,6 @@ use Rattle.bulk_walks.proofs.merging.least_key.Given as goal
 -- no list so far comes before this one
 abbrev pub invariant-loop-other : goal.invariant-loop-other
 invariant-loop-other l = record {
-  inside : l.place < length l.rests;
-  least : (i : ℕ) (d : List Entry) → i < l.other → comes_first (get_or (lefts_of l.rests) i d) (get_or (lefts_of l.rests) l.place d) ≡ false;
+  inside : l.position < length l.rests;
+  least : (i : ℕ) (d : List Entry) → i < l.other → comes_first (get_or (lefts_of l.rests) i d) (get_or (lefts_of l.rests) l.position d) ≡ false;
 }

@@ -16,7 +16,7 @@ loop-other-preserved c =
     let before = c.loop-other.invariant in
     let rests = lefts_of c.args.rests.now in
     let other = c.loop-other.other in
-    let place = c.loop-other.place in
+    let position = c.loop-other.position in
     let list : (d : List Entry) → left_of c.index-rests-other.result ≡ get_or rests other d = λ d.
     ap left_of c.index-rests-other.is ∙ sym (get_or-map left_of c.args.rests.now other _ d (omega (arith, c.loop-other-test.true))) in
     let lead : (d : List Entry) → c.lead-lead.result ≡ lead_of (get_or rests other d) = λ d. c.lead-lead.ensures.value ∙ ap lead_of (list d) in
@@ -28,19 +28,19 @@ loop-other-preserved c =
     let second = c.min-second.ensures in
     let least = c.min-least.ensures in
     elim c.if-lead-least.branch [
-      | then-lead-least w ↦ rw w.place-is (record {
+      | then-lead-least w ↦ rw w.position-is (record {
         inside = c.loop-other-test.true;
         least = λ d. let l = lead d in omega (arith, least, l, w.if-lead-least.true);
         bytes = bytes;
         order = omega (arith, least, second, most, before.order);
         second = λ k d low ne.
             let here : k < other = omega (arith, low, ne) in
-            elim (cases_eq k place) [
+            elim (cases_eq k position) [
               | inl e ↦ let l = before.least d ∙ ap (λ n. lead_of (get_or rests n d)) (sym e) in omega (arith, second, most, before.order, l, w.if-lead-least.true)
               | inr not ↦ let s = before.second k d here not in omega (arith, second, s)
             ];
       })
-      | else-lead-least w ↦ rw w.place-is (record {
+      | else-lead-least w ↦ rw w.position-is (record {
         inside = before.inside;
         least = λ d. let l = before.least d in omega (arith, least, l, w.if-lead-least.false);
         bytes = bytes;
@@ -58,14 +58,14 @@ pub returns-clause-alone : goal.returns-clause-alone
 returns-clause-alone c less k d low =
     let inv = c.loop-other.invariant in
     let rests = lefts_of c.args.rests.now in
-    let place = c.loop-other.place in
+    let position = c.loop-other.position in
     let many = length-map c.args.rests.now left_of in
-    let inside : place < length rests = omega (arith, many, inv.inside) in
-    elim (cases_eq k place) [
-      | inl e ↦ subst (λ n. comes_first (get_or rests n d) (get_or rests place (get_or rests n d)) ≡ false) (sym e)
-          (subst (λ (es : List Entry). comes_first (get_or rests place d) es ≡ false) (get_or_default rests place d _ inside) (comes_first-itself (get_or rests place d)))
+    let inside : position < length rests = omega (arith, many, inv.inside) in
+    elim (cases_eq k position) [
+      | inl e ↦ subst (λ n. comes_first (get_or rests n d) (get_or rests position (get_or rests n d)) ≡ false) (sym e)
+          (subst (λ (es : List Entry). comes_first (get_or rests position d) es ≡ false) (get_or_default rests position d _ inside) (comes_first-itself (get_or rests position d)))
       | inr ne ↦
           let end : k < c.loop-other.other = omega (arith, low, many, c.loop-other-test.false, c.loop-other.auto.other-end) in
-          comes_first-by_lead (get_or rests place (get_or rests k d)) (get_or rests k d) (inv.bytes k d end)
+          comes_first-by_lead (get_or rests position (get_or rests k d)) (get_or rests k d) (inv.bytes k d end)
           (let lt : c.loop-other.least < c.loop-other.second = grind (arith, nat_tests, less) in let l = inv.least (get_or rests k d) in let s = inv.second k d end ne in omega (arith, lt, l, s))
     ]

@@ -8,9 +8,9 @@ use Rattle.bulk_walks.proofs.merging.least_lead.Given as goal
 -- of the leads so far, the least one and one that is not greater than the others
 abbrev pub invariant-loop-other : goal.invariant-loop-other
 invariant-loop-other l = record {
-  inside : l.place < length l.rests;
-  least : (d : List Entry) → l.least ≡ lead_of (get_or (lefts_of l.rests) l.place d);
+  inside : l.position < length l.rests;
+  least : (d : List Entry) → l.least ≡ lead_of (get_or (lefts_of l.rests) l.position d);
   bytes : (k : ℕ) (d : List Entry) → k < l.other → AreBytes (entry_of (get_or (lefts_of l.rests) k d) 0).0;
   order : l.least ≤ l.second;
-  second : (k : ℕ) (d : List Entry) → k < l.other → k ≢ l.place → l.second ≤ lead_of (get_or (lefts_of l.rests) k d);
+  second : (k : ℕ) (d : List Entry) → k < l.other → k ≢ l.position → l.second ≤ lead_of (get_or (lefts_of l.rests) k d);
 }

@@ -7,5 +7,5 @@ use Rattle.bulk_walks.proofs.replace.replace_turns.Given as goal
 abbrev pub invariant-loop-stripe : goal.invariant-loop-stripe
 invariant-loop-stripe g l = record {
   map : l.pass.map ≡ l.fn.pass.map;
-  done : ReplacesTurns (stripes_of l.map) l.program l.arg l.stripe l.workers l.worker l.fn.pass.view l.pass.view l.total;
+  done : ReplacesTurns (stripes_of l.worker.map.now) l.program l.arg l.stripe l.worker.workers l.worker.number l.fn.pass.view l.pass.view l.total;
 }

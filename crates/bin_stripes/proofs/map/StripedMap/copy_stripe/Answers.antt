@@ -22,7 +22,7 @@ returns-clause-ok g c = let id = c.pass.inside.known.table_id in let sid = c.sel
     let known = c.pass.inside.known in let me = c.take-seat.result.me in let held = c.take_stripe.new.seat.me in let me' = c.make_copies-answer.new.seat.me in
     let k = c.args.stripe in let new = state c.put.new.self.table_id c.put.new.self.views in
     let rests = rests_of id known.views me c.pass.invariant c.take-seat.ensures.2 c.take-seat.ensures.3 in
-    on_ok_with {Q = CopiesStripe c.args.pass.now k c.args.columns.now c.make_copies-answer.new.list new} _ c.make_copies-answer.ensures.ok (λ m. let actions = scanned (map.entries m.0) ∷ [] in record {
+    on_ok_with {Q = CopiesStripe c.args.pass.now k c.args.list.now c.make_copies-answer.new.list new} _ c.make_copies-answer.ensures.ok (λ m. let actions = scanned (map.entries m.0) ∷ [] in record {
       entries = map.entries m.0;
       scans = makes_after id known.views me c.pass.invariant c.take-seat.ensures.2 k actions me'
           (subst (λ z. Settles (stripes_of z) k me actions me') (sym e) (settles_as content sid.slots k me held me' actions rests c.take_stripe.ensures.took m.1.1))

@@ -7,7 +7,7 @@ use Rattle.bins.proofs.hashed_bins.HashedBinsBins.copy_into.Goals as goal
 
 -- the entries, which the table has
 pub returns-clause-ok : goal.returns-clause-ok
-returns-clause-ok c = on_ok_with {Q = AddsCopies c.args.self.now c.args.list.now.items c.add_rows.new.list.items} _ c.add_rows.ensures.ok (distinct_added _ c.self.invariant.1 _ c.self.view_is _ _)
+returns-clause-ok c = on_ok_with {Q = AddsCopies c.args.self.now c.args.list.now c.add_rows.new.self} _ c.add_rows.ensures.ok (distinct_added _ c.self.invariant.1 _ c.self.view_is _ _)
 
 -- the table has as many entries as there are keys
 pub returns-clause-bounded : goal.returns-clause-bounded

@@ -8,8 +8,8 @@ invariant-loop-position l = record {
   rows : AreIn l.self;
   keys : keys_in l.self ≡ keys_in l.fn.self ++ take l.position (keys_in l.other);
   values : values_in l.self ≡ values_in l.fn.self ++ take l.position (values_in l.other);
-  counted : length l.self.places.items ≡ length l.fn.self.places.items + l.position;
-  places : vec_capacity l.self.places ≡ vec_capacity l.fn.self.places;
+  counted : length l.self.locations.items ≡ length l.fn.self.locations.items + l.position;
+  locations : vec_capacity l.self.locations ≡ vec_capacity l.fn.self.locations;
   shorts : vec_capacity l.self.shorts ≡ vec_capacity l.fn.self.shorts;
   middles : vec_capacity l.self.middles ≡ vec_capacity l.fn.self.middles;
   longs : vec_capacity l.self.longs ≡ vec_capacity l.fn.self.longs;

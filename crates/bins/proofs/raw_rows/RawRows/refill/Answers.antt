@@ -1,6 +1,6 @@
 use Rattle.std.proofs.Common.{◌≡◌, [], List, ℕ, set, sym, ap, ◌∙◌}
 use Rattle.std.proofs.lemmas.List.{set-set}
-use Rattle.bins.specs.Columns.{string_at}
+use Rattle.bins.specs.KeptRows.{string_at}
 use Rattle.bins.specs.Rows.{keys_in, values_in}
 use Rattle.bins.proofs.RowSteps.{written_same}
 use Rattle.bins.proofs.raw_rows.RawRows.refill.Goals as goal

@@ -1,32 +1,32 @@
 use Rattle.std.proofs.Common.{rules, ◌≡◌, set, refl, sym, ap, ◌∙◌, arith}
 use Rattle.bins.specs.declared.row.Width.{Width}
 use Rattle.bins.specs.declared.row.Width.TheVariants.{Short}
-use Rattle.bins.specs.declared.row.Place.TheVariants.{In}
-use Rattle.bins.specs.Columns.{KeptRow, Lists, kept, place_at, row_at, with_rows}
+use Rattle.bins.specs.declared.row.Location.TheVariants.{In}
+use Rattle.bins.specs.KeptRows.{KeptRow, Lists, kept, location_at, row_at, with_rows}
 use Rattle.bins.specs.Rows.{keys_in, lists_in}
-use Rattle.bins.proofs.RowLemmas.{read_place, string_read}
+use Rattle.bins.proofs.RowLemmas.{read_location, string_read}
 use Rattle.bins.proofs.RowSteps.{Changed, changed_as, overwritten, written_same}
 use Rattle.bins.proofs.raw_rows.RawRows.set_value.Goals as goal
 
--- the place names a short row that there is
+-- the location names a short row that there is
 pub set_value_at-requires : goal.set_value_at-requires
 set_value_at-requires c =
     let raw = c.args.self.now in
     let short = c.in-In-Short-default in
-    let named = read_place raw.places.items c.args.position c.index-word.result.now _ c.requires.range c.index-word.ensures (sym c.get.ensures.value ∙ short.is ∙ ap (λ (k : Width). In k short.at) short.field-0-is) in
+    let named = read_location raw.locations.items c.args.position c.index-word.result.now _ c.requires.range c.index-word.ensures (sym c.get.ensures.value ∙ short.is ∙ ap (λ (k : Width). In k short.at) short.field-0-is) in
     (omega arith, (((c.requires.rows.matched Short).named _ _ named).0, c.if-bytes-le-SHORT_BYTES.true))
 
 -- the row's value is written over
 pub returns-in-In-Short-default : goal.returns-in-In-Short-default
 returns-in-In-Short-default c =
     let raw = c.args.self.now in
-    let ps = raw.places.items in
+    let ps = raw.locations.items in
     let p = c.args.position in
     let short = c.in-In-Short-default in
     let at = short.at in
     let row = row_at raw.shorts.items at in
     let value = c.args.bytes.now in
-    let named : place_at ps p ≡ In Short at = read_place ps p c.index-word.result.now _ c.requires.range c.index-word.ensures (sym c.get.ensures.value ∙ short.is ∙ ap (λ (k : Width). In k at) short.field-0-is) in
+    let named : location_at ps p ≡ In Short at = read_location ps p c.index-word.result.now _ c.requires.range c.index-word.ensures (sym c.get.ensures.value ∙ short.is ∙ ap (λ (k : Width). In k at) short.field-0-is) in
     let lists : Lists = record { short = c.set_value_at.new.rows.items; middle = raw.middles.items; long = raw.longs.items } in
     let over : lists ≡ with_rows (lists_in raw) Short (set raw.shorts.items at (kept row.key value row.owner)) =
     λ i. record { short = c.set_value_at.ensures.rows i; middle = raw.middles.items; long = raw.longs.items } in

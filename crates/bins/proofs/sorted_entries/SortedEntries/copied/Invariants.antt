@@ -1,0 +1,6 @@
+use Rattle.std.proofs.Common.{◌≡◌, take}
+use Rattle.bins.proofs.sorted_entries.SortedEntries.copied.Given as goal
+
+-- the first entries were copied
+abbrev pub invariant-loop-position : goal.invariant-loop-position
+invariant-loop-position l = l.copies.items ≡ take l.position l.self
