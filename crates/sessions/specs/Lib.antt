@@ -2,5 +2,6 @@ pub mod Devices
 pub mod Admissions
 pub mod Answering
 pub mod Sessions
+pub mod Conversations
 pub mod Asking
 pub mod Requests

@@ -21,4 +21,7 @@ pub use devices::{
 };
 pub use responses::{admit_or_refuse, answer_to, no_memory, unknown_program};
 pub use session::send::{refuse, send};
-pub use session::{Answer, Service, SessionEnd, run_session};
+pub use session::{
+    Answer, Conversation, ConversationEnd, Service, SessionEnd, exchanges_join, pieces_join,
+    run_session,
+};

@@ -2,7 +2,7 @@ use Rattle.std.proofs.Common.{◌∙◌, arith}
 use Rattle.std.proofs.lemmas.Result.{err_from_is_err_and}
 use Rattle.sessions.specs.Answering.{responses_of}
 use Rattle.sessions.proofs.AnsweringLemmas.{answered_more, cut_at}
-use Rattle.sessions.proofs.session.answer_all.Goals as goal
+use Rattle.sessions.proofs.session.conversation.answer_all.Goals as goal
 
 pub returns-in_err-send-clause-err : goal.returns-in_err-send-clause-err
 returns-in_err-send-clause-err g c =
