@@ -2,7 +2,6 @@
 ghost use Rattle.std.specs.Prelude.{◌≡◌, ◌≢◌, ◌+◌, ℕ, List, [], false};
 ghost use Rattle.std.specs.Io.KnownBytes.{Appends, Consumes, IsAtEnd};
 ghost use Rattle.program_registry.specs.declared.registry.ProgramToken.{ProgramToken};
-ghost use Rattle.sessions.specs.Answering.{responses_of};
 ghost use Rattle.sessions.specs.Devices.{CanRead, CanWrite};
 ghost use Rattle.sessions.specs.Sessions.{Ended, HasToldEnd, ends_after, failed_reads, failed_writes};
 ghost use Rattle.crews.specs.Steps.{CrewServes};
@@ -14,9 +13,9 @@ use crate::worker::Worker;
 use bin_stripes::{Gate, StripedMap};
 use bpf_model::Value;
 use bulk_walks::Team;
-use client_protocol::{Request, Version};
+use client_protocol::Request;
 use program_registry::Registry;
-use sessions::{Answer, ReadBehind, SessionEnd, Sink, run_session};
+use sessions::{ReadBehind, SessionEnd, Sink, run_session};
 use std::alloc::Global;
 use std::sync::Wait;
 use std::thread::Threads;
@@ -65,13 +64,10 @@ pub fn session<'a, H: Threads + Wait + Sync, R: ReadBehind<W>, W: Sink, G: Gate 
         map,
         registry,
     };
-    let answer = |serving: &mut Serving<'_>, hello: Option<
-        Version,
-    >, request: &Request, value: &mut Value| -> Answer
-        ensures { CrewServes hello serving.old request.now (responses_of result value.new) serving.new }
-    { serving.answer(&worker, hello, request, value) };
+    let answer = |serving: &mut Serving<'_>, hello, request: &Request, value: &mut Value| {
+        serving.answer(&worker, number, hello, request, value)
+    };
     let mut serving = Serving {
-        number,
         map,
         registry,
         pass,

@@ -27,11 +27,9 @@ use std::sync::Wait;
 use std::thread::Threads;
 use verifier::Verified;
 
-/// What a session of a crew keeps: the number of its worker, the crew's passes, and the tokens of the programs that the session
-/// registered.
+/// What a session of a crew keeps: the crew's passes, and the tokens of the programs that the session registered.
 #[derive(Drop)]
 pub struct Serving<'a> {
-    pub number: u32,
     pub map: &'a StripedMap,
     pub registry: &'a Registry,
     pub pass: Pass,
@@ -248,18 +246,19 @@ impl<'a> Serving<'a> {
         answer_of(reply)
     }
 
-    /// Answers the request, which came after this Hello, once the gate is passed at `Request`. The value of an answer that found one
+    /// Answers the request, which came after this Hello, once the worker of this number has passed the gate at `Request`. The value of an answer that found one
     /// is left in `value`; what that held is lost.
     pub fn answer<H: Threads + Wait + Sync, G: Gate + Sync>(
         &mut self,
         worker: &Worker<'_, H, G>,
+        number: u32,
         hello: Option<Version>,
         request: &Request,
         value: &mut Value,
     ) -> Answer
         ensures { CrewServes hello self.old request.now (responses_of result value.new) self.new }
     {
-        worker.gate.pass(Place::Request, self.number);
+        worker.gate.pass(Place::Request, number);
         match request.view() {
             RequestView::Hello { version } => Answer::One(ShortResponse::Hello { version }),
             RequestView::Register { sizes, program } => {

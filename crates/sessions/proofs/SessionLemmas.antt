@@ -75,14 +75,17 @@ module _ {S : Type 0} (Answers : Option Version → S → Request → List Respo
       let (part, (rest, more, parts), count) = front is in
       (before ++ part, (Appends-trans a.held b.held c.held before part taken more, subst (λ (e : SessionEnd). Ended Answers old e read last (before ++ part) new) (sym is) (inr (inl (number, before, part, owes, (rest, parts), refl)))))
 
-  pub memory_ends : (old new : S) (result : SessionEnd) (a b c : SinkState) (held : Held) (read piece : List ℕ) (last : ℕ) (before : List ℕ) → length piece ≡ last → 1 ≤ last
+  -- memory was refused to the piece, and nothing changed by that
+  pub memory_ends : (old mid new : S) (result : SessionEnd) (a m b c : SinkState) (held : Held) (read piece : List ℕ) (last : ℕ) (before : List ℕ) → length piece ≡ last → 1 ≤ last
       → (result ≡ NoMemory) ⊎ (result ≡ WriteFailed) → (result ≡ NoMemory → TakesBytes b c (refusal 9)) → (result ≡ WriteFailed → TakesFront b c (refusal 9))
-      → Appends a.held b.held before → held_fault held ≡ None → AllAnswered Answers old read held before new
+      → new ≡ mid → b ≡ m → Appends a.held m.held before → held_fault held ≡ None → AllAnswered Answers old read held before mid
       → (w : List ℕ) × (Appends a.held c.held w × Ended Answers old result (read ++ piece) last w new)
-  memory_ends old new result a b c (open_at hello rest) read piece last before long some either whole front taken e all =
-      let out : RunsOut Answers old (read ++ piece) last before new = (read, (piece, refl, long, some), hello, rest, all) in
-      refusal_ends old new NoMemory result 9 a b c (read ++ piece) last before either whole front taken (inr (refl, out)) (before, out, refl)
-  memory_ends old new result a b c (failed fault) read piece last before long some either whole front taken e all = absurd cc
+  memory_ends old mid new result a m b c (open_at hello rest) read piece last before long some either whole front still unwritten taken e all =
+      let out : RunsOut Answers old (read ++ piece) last before new =
+      (read, (piece, refl, long, some), hello, rest, subst (λ (s : S). AllAnswered Answers old read (open_at hello rest) before s) (sym still) all) in
+      refusal_ends old new NoMemory result 9 a b c (read ++ piece) last before either whole front
+      (subst (λ (s : SinkState). Appends a.held s.held before) (sym unwritten) taken) (inr (refl, out)) (before, out, refl)
+  memory_ends old mid new result a m b c (failed fault) read piece last before long some either whole front still unwritten taken e all = absurd cc
 
   pub fault_ends : (old new : S) (result : SessionEnd) (fault : ProtocolFault) (number : ℕ) (a b c : SinkState) (held : Held) (read : List ℕ) (last : ℕ) (before : List ℕ) → number ≡ protocol_fault_number fault
       → (result ≡ Refused fault) ⊎ (result ≡ WriteFailed) → (result ≡ Refused fault → TakesBytes b c (refusal number)) → (result ≡ WriteFailed → TakesFront b c (refusal number))

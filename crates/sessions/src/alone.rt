@@ -186,10 +186,8 @@ pub fn session_alone<H: Wait, R: ReadBehind<W>, W: Sink>(
     // Nothing is kept back at the end. Before a read nothing is, by what `read_behind` requires.
     ensures sent { (result ≢ SessionEnd.WriteFailed) → (W.state writer.new).keeps_back ≡ false }
 {
-    let answer = |alone: &mut Alone, hello: Option<
-        Version,
-    >, request: &Request, value: &mut Value| -> Answer
-        ensures { Serves hello alone.old request.now (responses_of result value.new) alone.new }
-    { alone.answer(alloc, hello, request, value) };
+    let answer = |alone: &mut Alone, hello, request: &Request, value: &mut Value| {
+        alone.answer(alloc, hello, request, value)
+    };
     run_session(rt, alloc, reader, writer, alone, &answer)
 }
