@@ -172,7 +172,7 @@ impl<'a> Serving<'a> {
 
     /// A walk of the team, by the program of this number. Not inlined, so that a call clears no room for an argument.
     #[inline(never)]
-    fn walk<H: Threads + Wait + Sync, G: Gate + Sync>(
+    fn walk_by_team<H: Threads + Wait + Sync, G: Gate + Sync>(
         &mut self,
         worker: &Worker<'_, H, G>,
         kind: WalkKind,
@@ -203,7 +203,7 @@ impl<'a> Serving<'a> {
         answer_of(reply)
     }
 
-    /// The replacement of all values by the team, by the program of this number. Not inlined, as `walk` isn't.
+    /// The replacement of all values by the team, by the program of this number. Not inlined, as `walk_by_team` isn't.
     #[inline(never)]
     fn replace_all<H: Threads + Wait + Sync, G: Gate + Sync>(
         &mut self,
@@ -268,12 +268,12 @@ impl<'a> Serving<'a> {
                 program,
                 arg,
                 threshold,
-            } => self.walk(worker, WalkKind::Search, program, arg, threshold),
+            } => self.walk_by_team(worker, WalkKind::Search, program, arg, threshold),
             RequestView::ForEach {
                 program,
                 arg,
                 threshold,
-            } => self.walk(worker, WalkKind::ForEach, program, arg, threshold),
+            } => self.walk_by_team(worker, WalkKind::ForEach, program, arg, threshold),
             RequestView::ReplaceAll { program, arg } => self.replace_all(worker, program, arg),
             RequestView::Count => self.count(worker),
             _ => self.named_call(worker.rt, request, value),

@@ -6,6 +6,7 @@ use std::alloc::Global;
 
 /// What each worker is lent: the runtime, the allocator, the gate that it passes, and the map and the registry of programs that
 /// all share.
+#[derive(Drop)]
 pub struct Worker<'a, H, G> {
     pub rt: &'a H,
     pub alloc: Global,

@@ -8,7 +8,7 @@ use client_protocol::ShortResponse;
 pub enum Answer {
     /// One response, without a value.
     One(ShortResponse),
-    /// One response, with the value that was left in a place of the caller's.
+    /// One response, with the value that was left in the caller's room for it.
     Found,
     /// A response for each item, in order, and one for the end with the counts.
     Walk(WalkReply),
