@@ -27,7 +27,7 @@ pub record AnsweredCall : Type 0 where
   pub invocation : Invocation
   pub reply : Reply
 
--- the call that was made, where memory was not refused to it
+-- the call that was made, if memory was not refused to it
 abbrev pub made_call : (old new : PassState) (responses : List Response) (invocation : Invocation)
     → (((reply : Reply) × Calls old invocation reply new × (responses ≡ response_to reply ∷ []))
     ⊎ (RefusesCall old invocation new × (responses ≡ tell.Refused 9 0 ∷ []))) → List AnsweredCall

@@ -30,7 +30,7 @@ IsLike token other = token_number token ≡ token_number other → program_of to
 abbrev pub Agree : List ProgramToken → Type 0
 Agree tokens = All (λ token. All (λ other. IsLike other token) tokens) tokens
 
--- what is found under the number: the program of each token that has it; or, where none has it, a safe program or nothing
+-- what is found under the number: the program of each token that has it; or, if none has it, a safe program or nothing
 pub record Finds (tokens : List ProgramToken) (number : ℕ) (found : Option Checked) : Type 0 where
   pub own : All (λ token. token_number token ≡ number → found ≡ Some (program_of token)) tokens
   pub safe : IfSome found (λ program. IsSafe program.program program.sizes)
@@ -112,7 +112,7 @@ pub record AsksWithProgram (hello : Option Version) (old : Station) (number : �
   pub finds : Finds old.tokens number found
   pub meets : CrewMeets hello old (with_program found asks) responses new
 
--- a request behind this Hello is answered by these responses, and the crew's passes and tokens are then so; what it asks for is
+-- a request after this Hello is answered by these responses, and the crew's passes and tokens are then so; what it asks for is
 -- by the program that is found under the number that it names
 pub record CrewServes (hello : Option Version) (old : Station) (request : Request) (responses : List Response) (new : Station) : Type 0 where
   pub found : Option Checked

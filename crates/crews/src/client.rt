@@ -1,117 +1,25 @@
 //! A session of one client, served by a crew.
-ghost use Rattle.std.specs.Prelude.{◌≡◌, ◌≢◌, ◌+◌, ℕ, List, [], false, OnOk, OnErr};
+ghost use Rattle.std.specs.Prelude.{◌≡◌, ◌≢◌, ◌+◌, ℕ, List, [], false};
 ghost use Rattle.std.specs.Io.KnownBytes.{Appends, Consumes, IsAtEnd};
 ghost use Rattle.program_registry.specs.declared.registry.ProgramToken.{ProgramToken};
-ghost use Rattle.sessions.specs.Answering.{Answered, BreaksOff};
-ghost use Rattle.devices.specs.Devices.{CanRead, CanWrite, TakesBytes, TakesThenFails};
+ghost use Rattle.devices.specs.Devices.{CanRead, CanWrite};
 ghost use Rattle.sessions.specs.Sessions.{Ended, HasToldEnd, ends_after, failed_reads, failed_writes};
 ghost use Rattle.crews.specs.Steps.{CrewServes};
 ghost use Rattle.crews.specs.Crews.{IsCrewOf, CarriesSame, station};
 
 use crate::crew::Crew;
 use crate::serving::Serving;
+use crate::worker::Worker;
 use bin_stripes::{Gate, StripedMap};
-use bpf_model::{NoMemory, Value};
+use bpf_model::Value;
 use bulk_walks::Team;
-use client_protocol::{Feeder, Request, Requests, Version, hello_after};
-use devices::{Failed, ReadAfterFlush, Sink};
+use client_protocol::Request;
+use devices::{ReadAfterFlush, Sink};
 use program_registry::Registry;
-use sessions::{SessionEnd, refuse, send};
+use sessions::{SessionEnd, run_session};
 use std::alloc::Global;
 use std::sync::Wait;
 use std::thread::Threads;
-
-/// At most so many bytes are read at once.
-const PIECE_BYTES: usize = 4096;
-
-/// Answers the requests, which came behind this Hello, in turn: each answer is written before the next request is looked at.
-/// Values that are found are left in `value`, one after the other.
-fn answer_all<H: Threads + Wait + Sync, W: Sink, G: Gate + Sync>(
-    rt: &H,
-    alloc: Global,
-    writer: &mut W,
-    serving: &mut Serving<'_>,
-    hello: Option<Version>,
-    requests: &[Request],
-    value: &mut Value,
-    gate: &G,
-    worker: u32,
-) -> Result<(), Failed>
-    requires { CanWrite (W.state writer.old) }
-    ensures ok { OnOk result ((written : List ℕ)
-        × TakesBytes (W.state writer.old) (W.state writer.new) written
-        × Answered CrewServes hello serving.old requests.now written serving.new) }
-    ensures err { OnErr result ((written : List ℕ)
-        × TakesThenFails (W.state writer.old) (W.state writer.new) written
-        × BreaksOff CrewServes hello serving.old requests.now written serving.new) }
-{
-    let mut taken = hello;
-    for request in requests {
-        let answer = serving.answer(rt, alloc, taken, request, value, gate, worker);
-        send(writer, taken, &answer, value)?;
-        taken = hello_after(taken, request);
-    }
-    Ok(())
-}
-
-/// The loop of a session: `run_session` of the crate sessions, where what answers may start threads.
-fn run<H: Threads + Wait + Sync, R: ReadAfterFlush<W>, W: Sink, G: Gate + Sync>(
-    rt: &H,
-    alloc: Global,
-    reader: &mut R,
-    writer: &mut W,
-    serving: &mut Serving<'_>,
-    gate: &G,
-    worker: u32,
-) -> SessionEnd
-    requires reads { CanRead (R.source reader.old) }
-    requires writes { CanWrite (W.state writer.old) }
-    ensures ended { (read : List ℕ) × ((written : List ℕ)
-        × (Consumes (R.source reader.old).left (R.source reader.new).left read
-        × (Appends (W.state writer.old).held (W.state writer.new).held written
-        × Ended CrewServes serving.old result read (R.source reader.new).last written serving.new))) }
-    ensures told { (R.source reader.new).ends ≡ ends_after result (R.source reader.old).ends }
-    ensures whole { HasToldEnd result → IsAtEnd (R.source reader.new).left }
-    ensures reads { (R.source reader.new).failures
-        ≡ (R.source reader.old).failures + failed_reads result }
-    ensures writes { (W.state writer.new).failures
-        ≡ (W.state writer.old).failures + failed_writes result }
-    ensures sent { (result ≢ SessionEnd.WriteFailed) → (W.state writer.new).keeps_back ≡ false }
-{
-    let mut feeder = Feeder::new(alloc);
-    let mut piece = [0; PIECE_BYTES];
-    let mut requests = Requests::new(alloc);
-    let mut value = Value::new();
-    for _ in rt.forever() {
-        let Ok(()) = writer.flush() else {
-            return SessionEnd::WriteFailed;
-        };
-        let Ok(n) = reader.read_after_flush(writer, &mut piece) else {
-            return SessionEnd::ReadFailed;
-        };
-        if n == 0 {
-            if feeder.is_inside() {
-                return SessionEnd::Cut;
-            }
-            return SessionEnd::Closed;
-        }
-        let hello = feeder.hello();
-        let Ok(fault) = feeder.feed_into(alloc, &piece[..n], &mut requests) else {
-            return refuse(writer, NoMemory::NUMBER, SessionEnd::NoMemory);
-        };
-        let came = requests.as_slice();
-        let answered = answer_all(
-            rt, alloc, writer, serving, hello, came, &mut value, gate, worker,
-        );
-        let Ok(()) = answered else {
-            return SessionEnd::WriteFailed;
-        };
-        if let Some(fault) = fault {
-            return refuse(writer, fault.number(), SessionEnd::Refused(fault));
-        }
-    }
-    unreachable!()
-}
 
 /// Answers the requests that are read, each before the next one is looked at, as `session_alone` does, over a map and programs that
 /// other sessions share. A walk is the crew's team's, which is told what the crew's pass knows, and of which that pass is told.
@@ -145,7 +53,21 @@ pub fn session<'a, H: Threads + Wait + Sync, R: ReadAfterFlush<W>, W: Sink, G: G
         ≡ (W.state writer.old).failures + failed_writes result.1 }
     ensures sent { (result.1 ≢ SessionEnd.WriteFailed) → (W.state writer.new).keeps_back ≡ false }
 {
-    let Crew { worker, pass, team } = crew;
+    let Crew {
+        worker: number,
+        pass,
+        team,
+    } = crew;
+    let worker = Worker {
+        rt,
+        alloc,
+        gate,
+        map,
+        registry,
+    };
+    let answer = |serving: &mut Serving<'_>, hello, request: &Request, value: &mut Value| {
+        serving.answer(&worker, number, hello, request, value)
+    };
     let mut serving = Serving {
         map,
         registry,
@@ -153,10 +75,15 @@ pub fn session<'a, H: Threads + Wait + Sync, R: ReadAfterFlush<W>, W: Sink, G: G
         team: team.into_passes(),
         tokens: Vec::new(alloc),
     };
-    let end = run(rt, alloc, reader, writer, &mut serving, gate, worker);
+    let end = run_session(rt, alloc, reader, writer, &mut serving, &answer);
     let Serving { pass, team, .. } = serving;
     let Ok(team) = Team::new(team) else {
         unreachable!()
     };
-    (Crew { worker, pass, team }, end)
+    let crew = Crew {
+        worker: number,
+        pass,
+        team,
+    };
+    (crew, end)
 }

@@ -12,6 +12,7 @@ mod server;
 mod serving;
 mod shared;
 mod team;
+mod worker;
 
 pub use accept::Accept;
 pub use client::session;

@@ -5,6 +5,7 @@ ghost use Rattle.crews.specs.Crews.{IsCrewOf, IsServed, CarriesSame, AllCarrySam
 use crate::accept::Accept;
 use crate::client::session;
 use crate::crew::Crew;
+use crate::worker::Worker;
 use bin_stripes::{Gate, StripedMap};
 use bpf_model::NoMemory;
 use devices::{Sink, Source};
@@ -22,44 +23,36 @@ fn serve_clients<
     W: Sink + Drop + Sync,
     A: Accept<R, W>,
     G: Gate + Sync,
->(
-    rt: &H,
-    alloc: Global,
-    accept: &A,
-    map: &StripedMap,
-    registry: &Registry,
-    crew: Crew,
-    gate: &G,
-) -> Crew
-    requires { IsCrewOf map.now crew }
-    ensures of { IsCrewOf map.now result }
+>(worker: &Worker<'_, H, G>, accept: &A, crew: Crew) -> Crew
+    requires { IsCrewOf worker.now.map.now crew }
+    ensures of { IsCrewOf worker.now.map.now result }
     ensures same { CarriesSame crew result }
 {
     let mut crew = crew;
-    for _ in rt.forever() {
-        let worker = crew.worker;
-        let Some((mut reader, mut writer)) = accept.next(worker) else {
+    for _ in worker.rt.forever() {
+        let number = crew.worker;
+        let Some((mut reader, mut writer)) = accept.next(number) else {
             return crew;
         };
         let (back, end) = session(
-            rt,
-            alloc,
+            worker.rt,
+            worker.alloc,
             &mut reader,
             &mut writer,
-            map,
-            registry,
+            worker.map,
+            worker.registry,
             crew,
-            gate,
+            worker.gate,
         );
-        accept.ended(worker, reader, writer, end);
+        accept.ended(number, reader, writer, end);
         crew = back;
     }
     unreachable!()
 }
 
-/// Runs one worker a crew, each in a thread of its own where one can be made, and each serving its clients one after the other
+/// Runs one worker a crew, each in a thread of its own if one can be made, and each serving its clients one after the other
 /// until `accept` has none for it. Gives the crews back in their order, each of this map with the numbers that it carried. `NoMemory`
-/// where a request for the lists of workers was refused: nobody is served then, and the crews are given up. Waits for clients.
+/// if a request for the lists of workers was refused: nobody is served then, and the crews are given up. Waits for clients.
 pub fn serve<
     H: Threads + Wait + Sync,
     R: Source + Drop + Sync,
@@ -88,7 +81,14 @@ pub fn serve<
         ensures { IsServed map.entry.now seat.old seat.new }
     {
         if let Some(crew) = seat.take() {
-            *seat = Some(serve_clients(rt, alloc, accept, map, registry, crew, gate));
+            let worker = Worker {
+                rt,
+                alloc,
+                gate,
+                map,
+                registry,
+            };
+            *seat = Some(serve_clients(&worker, accept, crew));
         }
     };
     let (seats, answers) = work(rt, alloc, seats, &call);

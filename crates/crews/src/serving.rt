@@ -10,6 +10,7 @@ ghost use Rattle.client_protocol.specs.declared.response.Response.TheVariants as
 ghost use Rattle.crews.specs.Steps.{IsLike, Agree, CrewMeets, Finds, CrewServes, AsksWithProgram, CrewAnswersRegister};
 
 use crate::team::{heard, told};
+use crate::worker::Worker;
 use atomic_methods::{WalkKind, WalkReply};
 use bin_stripes::{Gate, Pass, Place, StripedMap};
 use bpf_model::{NoMemory, Sizes, Value};
@@ -17,10 +18,9 @@ use bulk_walks::{Walk, mapping_count, replace_all, walk_map};
 use client_protocol::{Request, RequestView, ShortResponse, Version};
 use program_registry::{ProgramToken, Registry};
 use sessions::{
-    Answer, answer_to, argument_of, call_of, named_program, no_memory, program_sent,
+    Answer, Service, answer_to, argument_of, call_of, named_program, no_memory, program_sent,
     unknown_program,
 };
-use std::alloc::Global;
 use std::marker::Model;
 use std::mem;
 use std::sync::Wait;
@@ -49,6 +49,12 @@ impl<'a> Model for Serving<'a> {
 
     ghost invariant = { λ s. (s.pass.map ≡ s.map.now) × All (λ p. p.map ≡ s.map.now) s.team.items
         × (0 < vec_len s.team) × All (λ t. IsOf s.registry.now t) s.tokens.items × Agree s.tokens.items };
+}
+
+impl<'a> Service for Serving<'a> {
+    ghost use Rattle.crews.specs.Steps.{CrewServes};
+
+    ghost answers = { CrewServes };
 }
 
 /// The program of this number: that of the session's own token, or else of another session's.
@@ -104,12 +110,11 @@ fn answer_of(reply: Result<WalkReply, NoMemory>) -> Answer
 }
 
 impl<'a> Serving<'a> {
-    /// Registers the program that the bytes spell, which came behind this Hello, and keeps its token; the room for that comes
+    /// Registers the program that the bytes spell, which came after this Hello, and keeps its token; the room for that comes
     /// first.
-    fn register<H: Wait>(
+    fn register<H: Wait, G>(
         &mut self,
-        rt: &H,
-        alloc: Global,
+        worker: &Worker<'_, H, G>,
         hello: Option<Version>,
         sizes: Sizes,
         bytes: &[u8],
@@ -119,11 +124,11 @@ impl<'a> Serving<'a> {
         let Ok(()) = self.tokens.reserve(1) else {
             return no_memory();
         };
-        let verified = match program_sent(alloc, hello, bytes, sizes) {
+        let verified = match program_sent(worker.alloc, hello, bytes, sizes) {
             Ok(verified) => verified,
             Err(response) => return response,
         };
-        let Ok(token) = self.registry.register(rt, verified) else {
+        let Ok(token) = self.registry.register(worker.rt, verified) else {
             return no_memory();
         };
         let program = token.number();
@@ -132,7 +137,7 @@ impl<'a> Serving<'a> {
         ShortResponse::Registered { program }
     }
 
-    /// Makes the call that is asked for, with this program where it names one. The value of its reply, if it has one, is left
+    /// Makes the call that is asked for, with this program if it names one. The value of its reply, if it has one, is left
     /// in `value`.
     fn call<H: Wait>(
         &mut self,
@@ -165,17 +170,15 @@ impl<'a> Serving<'a> {
         self.call(rt, request, program, value)
     }
 
-    /// A walk of the team, by the program of this number. Not inlined, so that a call clears no place for an argument.
+    /// A walk of the team, by the program of this number. Not inlined, so that a call clears no room for an argument.
     #[inline(never)]
-    fn walk<H: Threads + Wait + Sync, G: Gate + Sync>(
+    fn walk_by_team<H: Threads + Wait + Sync, G: Gate + Sync>(
         &mut self,
-        rt: &H,
-        alloc: Global,
+        worker: &Worker<'_, H, G>,
         kind: WalkKind,
         number: u64,
         arg: Option<&Value>,
         threshold: u64,
-        gate: &G,
     ) -> Answer
         ensures { (hello : Option TheVersion) (bytes : List ℕ) → AsksWithProgram hello self.old number (λ program. walk kind program (option_copied arg.entry)) (responses_of result bytes) self.new }
     {
@@ -183,7 +186,7 @@ impl<'a> Serving<'a> {
             return Answer::One(unknown_program());
         };
         let arg = argument_of(arg);
-        let team = mem::replace(&mut self.team, Vec::new(alloc));
+        let team = mem::replace(&mut self.team, Vec::new(worker.alloc));
         let team = told(self.map, &self.pass, team);
         let asked = Walk {
             kind,
@@ -191,20 +194,18 @@ impl<'a> Serving<'a> {
             arg: &arg,
             threshold,
         };
-        let (team, reply) = walk_map(rt, alloc, self.map, team, &asked, gate);
+        let (team, reply) = walk_map(worker.rt, worker.alloc, self.map, team, &asked, worker.gate);
         self.team = heard(self.map, &mut self.pass, team);
         answer_of(reply)
     }
 
-    /// The replacement of all values by the team, by the program of this number. Not inlined, as `walk` isn't.
+    /// The replacement of all values by the team, by the program of this number. Not inlined, as `walk_by_team` isn't.
     #[inline(never)]
     fn replace_all<H: Threads + Wait + Sync, G: Gate + Sync>(
         &mut self,
-        rt: &H,
-        alloc: Global,
+        worker: &Worker<'_, H, G>,
         number: u64,
         arg: Option<&Value>,
-        gate: &G,
     ) -> Answer
         ensures { (hello : Option TheVersion) (bytes : List ℕ) → AsksWithProgram hello self.old number (λ program. replacement program (option_copied arg.entry)) (responses_of result bytes) self.new }
     {
@@ -212,9 +213,17 @@ impl<'a> Serving<'a> {
             return Answer::One(unknown_program());
         };
         let arg = argument_of(arg);
-        let team = mem::replace(&mut self.team, Vec::new(alloc));
+        let team = mem::replace(&mut self.team, Vec::new(worker.alloc));
         let team = told(self.map, &self.pass, team);
-        let (team, reply) = replace_all(rt, alloc, self.map, team, program, &arg, gate);
+        let (team, reply) = replace_all(
+            worker.rt,
+            worker.alloc,
+            self.map,
+            team,
+            program,
+            &arg,
+            worker.gate,
+        );
         self.team = heard(self.map, &mut self.pass, team);
         answer_of(reply)
     }
@@ -222,54 +231,48 @@ impl<'a> Serving<'a> {
     /// The team counts all entries.
     fn count<H: Threads + Wait + Sync, G: Gate + Sync>(
         &mut self,
-        rt: &H,
-        alloc: Global,
-        gate: &G,
+        worker: &Worker<'_, H, G>,
     ) -> Answer
         ensures { (hello : Option TheVersion) (bytes : List ℕ) → CrewMeets hello self.old count (responses_of result bytes) self.new }
     {
-        let team = mem::replace(&mut self.team, Vec::new(alloc));
+        let team = mem::replace(&mut self.team, Vec::new(worker.alloc));
         let team = told(self.map, &self.pass, team);
-        let (team, reply) = mapping_count(rt, alloc, self.map, team, gate);
+        let (team, reply) = mapping_count(worker.rt, worker.alloc, self.map, team, worker.gate);
         self.team = heard(self.map, &mut self.pass, team);
         answer_of(reply)
     }
 
-    /// Answers the request, which came behind this Hello, behind the gate at `Request`. The value of an answer that found one is
-    /// left in `value`; what that held is lost.
+    /// Answers the request, which came after this Hello, once the worker of this number has passed the gate at `Request`. The value of an answer that found one
+    /// is left in `value`; what that held is lost.
     pub fn answer<H: Threads + Wait + Sync, G: Gate + Sync>(
         &mut self,
-        rt: &H,
-        alloc: Global,
+        worker: &Worker<'_, H, G>,
+        number: u32,
         hello: Option<Version>,
         request: &Request,
         value: &mut Value,
-        gate: &G,
-        worker: u32,
     ) -> Answer
         ensures { CrewServes hello self.old request.now (responses_of result value.new) self.new }
     {
-        gate.pass(Place::Request, worker);
+        worker.gate.pass(Place::Request, number);
         match request.view() {
             RequestView::Hello { version } => Answer::One(ShortResponse::Hello { version }),
             RequestView::Register { sizes, program } => {
-                Answer::One(self.register(rt, alloc, hello, sizes, program))
+                Answer::One(self.register(worker, hello, sizes, program))
             }
             RequestView::Search {
                 program,
                 arg,
                 threshold,
-            } => self.walk(rt, alloc, WalkKind::Search, program, arg, threshold, gate),
+            } => self.walk_by_team(worker, WalkKind::Search, program, arg, threshold),
             RequestView::ForEach {
                 program,
                 arg,
                 threshold,
-            } => self.walk(rt, alloc, WalkKind::ForEach, program, arg, threshold, gate),
-            RequestView::ReplaceAll { program, arg } => {
-                self.replace_all(rt, alloc, program, arg, gate)
-            }
-            RequestView::Count => self.count(rt, alloc, gate),
-            _ => self.named_call(rt, request, value),
+            } => self.walk_by_team(worker, WalkKind::ForEach, program, arg, threshold),
+            RequestView::ReplaceAll { program, arg } => self.replace_all(worker, program, arg),
+            RequestView::Count => self.count(worker),
+            _ => self.named_call(worker.rt, request, value),
         }
     }
 }

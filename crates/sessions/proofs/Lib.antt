@@ -1,4 +1,5 @@
 pub mod AnsweringLemmas
+pub mod ConversationLemmas
 pub mod SessionLemmas
 pub mod SendingLemmas
 pub mod RequestLemmas

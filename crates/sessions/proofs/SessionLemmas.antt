@@ -6,40 +6,20 @@ use Rattle.client_protocol.specs.declared.limits.Version.{Version}
 use Rattle.client_protocol.specs.Requests.{Request}
 use Rattle.client_protocol.specs.declared.fault.ProtocolFault.{ProtocolFault}
 use Rattle.client_protocol.specs.declared.response.Response.{Response}
-use Rattle.client_protocol.specs.Bodies.{hello_after}
-use Rattle.client_protocol.specs.Frames.{Held, Follow, Frames, Feeds, held_hello, held_fault, is_inside}
+use Rattle.client_protocol.specs.Frames.{Held, held_fault, is_inside}
 use Rattle.client_protocol.specs.Frames.Held.{open_at, failed}
 use Rattle.client_protocol.specs.Faults.{protocol_fault_number}
-use Rattle.client_protocol.proofs.FrameLaws.{frames_go_on}
 use Rattle.sessions.specs.declared.session.SessionEnd.{SessionEnd}
 use Rattle.sessions.specs.declared.session.SessionEnd.TheVariants.{Closed, Cut, Refused, ReadFailed, WriteFailed, NoMemory}
 use Rattle.devices.specs.Devices.{SinkState, TakesBytes, TakesFront}
-use Rattle.sessions.specs.Answering.{hello_behind, Answered, BreaksOff}
+use Rattle.sessions.specs.Conversations.{BreaksPiece}
 use Rattle.sessions.specs.Sessions.{refusal, AllAnswered, RunsOut, Owes, Ended}
-use Rattle.sessions.proofs.AnsweringLemmas.{answered_then, answered_none, breaks_then}
-
--- the Hello that was taken, and the one behind the requests
-follow_behind : (hello after : Option Version) (rs : List Request) → Follow hello rs after → hello_behind hello rs ≡ after
-follow_behind hello after [] is = sym is
-follow_behind hello after (r ∷ rs) (request, more) = follow_behind (hello_after hello r) after rs more
-
-held_behind : (bytes : List ℕ) (rs : List Request) (held : Held) → Frames None bytes rs held → held_fault held ≡ None → hello_behind None rs ≡ held_hello held
-held_behind bytes rs (open_at hello rest) frames e = follow_behind None frames.after rs frames.follow ∙ sym frames.ends.0
-held_behind bytes rs (failed fault) frames e = absurd cc
+use Rattle.sessions.proofs.AnsweringLemmas.{answered_none}
+use Rattle.sessions.proofs.ConversationLemmas.{frames_begin, pieces_broken}
 
 module _ {S : Type 0} (Answers : Option Version → S → Request → List Response → S → Type 0) where
   pub begins : (old : S) → AllAnswered Answers old [] (open_at None []) [] old
-  begins old = ([], record { after = None; rest = []; follow = refl; spelled = refl; ends = (refl, refl, inl (omega arith)) }, answered_none Answers None old)
-
-  -- a piece is taken and its requests are answered
-  pub goes_on : (old mid new : S) (read piece before written : List ℕ) (held next : Held) (ss : List Request) → held_fault held ≡ None
-      → AllAnswered Answers old read held before mid → Feeds held piece ss next → Answered Answers (held_hello held) mid ss written new → AllAnswered Answers old (read ++ piece) next (before ++ written) new
-  goes_on old mid new read piece before written held next ss e (rs, frames, answered) feeds more = (
-    rs ++ ss,
-    frames_go_on None read piece rs ss held next frames feeds,
-    answered_then Answers None old mid new rs ss before written answered
-        (subst (λ (h : Option Version). Answered Answers h mid ss written new) (sym (held_behind read rs held frames e)) more),
-  )
+  begins old = ([], frames_begin, answered_none Answers None old)
 
   pub open_held : (held : Held) → held_fault held ≡ None → (hello : Option Version) × (rest : List ℕ) × (held ≡ open_at hello rest)
   open_held (open_at hello rest) e = (hello, rest, refl)
@@ -78,15 +58,11 @@ module _ {S : Type 0} (Answers : Option Version → S → Request → List Respo
       subst (λ (t : List ℕ). Consumes a c t) (append-nil read) (Consumes-trans a b c read [] first (subst (λ (t : List ℕ). Consumes b c t) empty later))
 
   -- the answers to a piece break off
-  pub write_failed_end : (old mid new : S) (held next : Held) (read piece : List ℕ) (last : ℕ) (before part : List ℕ) (ss : List Request) → held_fault held ≡ None
-      → AllAnswered Answers old read held before mid → Feeds held piece ss next → BreaksOff Answers (held_hello held) mid ss part new → Ended Answers old WriteFailed (read ++ piece) last (before ++ part) new
-  write_failed_end old mid new held next read piece last before part ss e (rs, frames, answered) feeds breaks = inl (
-    rs ++ ss,
-    next,
-    frames_go_on None read piece rs ss held next frames feeds,
-    breaks_then Answers None old mid new rs ss before part answered
-        (subst (λ (h : Option Version). BreaksOff Answers h mid ss part new) (sym (held_behind read rs held frames e)) breaks),
-  )
+  pub write_failed_end : (old mid new : S) (held next : Held) (read piece : List ℕ) (last : ℕ) (before part : List ℕ) → AllAnswered Answers old read held before mid
+      → BreaksPiece Answers held mid piece part next new → Ended Answers old WriteFailed (read ++ piece) last (before ++ part) new
+  write_failed_end old mid new held next read piece last before part all breaks =
+      let (requests, frames, broken) = pieces_broken Answers (open_at None []) held next old mid new read piece before part all breaks in
+      inl (requests, next, frames, broken)
 
   -- a refusal is sent, or a front of it
   pub refusal_ends : (old new : S) (end result : SessionEnd) (number : ℕ) (a b c : SinkState) (read : List ℕ) (last : ℕ) (before : List ℕ)
@@ -99,14 +75,17 @@ module _ {S : Type 0} (Answers : Option Version → S → Request → List Respo
       let (part, (rest, more, parts), count) = front is in
       (before ++ part, (Appends-trans a.held b.held c.held before part taken more, subst (λ (e : SessionEnd). Ended Answers old e read last (before ++ part) new) (sym is) (inr (inl (number, before, part, owes, (rest, parts), refl)))))
 
-  pub memory_ends : (old new : S) (result : SessionEnd) (a b c : SinkState) (held : Held) (read piece : List ℕ) (last : ℕ) (before : List ℕ) → length piece ≡ last → 1 ≤ last
+  -- memory was refused to the piece, and nothing changed by that
+  pub memory_ends : (old mid new : S) (result : SessionEnd) (a m b c : SinkState) (held : Held) (read piece : List ℕ) (last : ℕ) (before : List ℕ) → length piece ≡ last → 1 ≤ last
       → (result ≡ NoMemory) ⊎ (result ≡ WriteFailed) → (result ≡ NoMemory → TakesBytes b c (refusal 9)) → (result ≡ WriteFailed → TakesFront b c (refusal 9))
-      → Appends a.held b.held before → held_fault held ≡ None → AllAnswered Answers old read held before new
+      → new ≡ mid → b ≡ m → Appends a.held m.held before → held_fault held ≡ None → AllAnswered Answers old read held before mid
       → (w : List ℕ) × (Appends a.held c.held w × Ended Answers old result (read ++ piece) last w new)
-  memory_ends old new result a b c (open_at hello rest) read piece last before long some either whole front taken e all =
-      let out : RunsOut Answers old (read ++ piece) last before new = (read, (piece, refl, long, some), hello, rest, all) in
-      refusal_ends old new NoMemory result 9 a b c (read ++ piece) last before either whole front taken (inr (refl, out)) (before, out, refl)
-  memory_ends old new result a b c (failed fault) read piece last before long some either whole front taken e all = absurd cc
+  memory_ends old mid new result a m b c (open_at hello rest) read piece last before long some either whole front still unwritten taken e all =
+      let out : RunsOut Answers old (read ++ piece) last before new =
+      (read, (piece, refl, long, some), hello, rest, subst (λ (s : S). AllAnswered Answers old read (open_at hello rest) before s) (sym still) all) in
+      refusal_ends old new NoMemory result 9 a b c (read ++ piece) last before either whole front
+      (subst (λ (s : SinkState). Appends a.held s.held before) (sym unwritten) taken) (inr (refl, out)) (before, out, refl)
+  memory_ends old mid new result a m b c (failed fault) read piece last before long some either whole front still unwritten taken e all = absurd cc
 
   pub fault_ends : (old new : S) (result : SessionEnd) (fault : ProtocolFault) (number : ℕ) (a b c : SinkState) (held : Held) (read : List ℕ) (last : ℕ) (before : List ℕ) → number ≡ protocol_fault_number fault
       → (result ≡ Refused fault) ⊎ (result ≡ WriteFailed) → (result ≡ Refused fault → TakesBytes b c (refusal number)) → (result ≡ WriteFailed → TakesFront b c (refusal number))

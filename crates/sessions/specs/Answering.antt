@@ -15,7 +15,7 @@ use Rattle.sessions.specs.declared.session.service.Answer.TheVariants.{One, Foun
 abbrev pub item_of : List ℕ × List ℕ → Response
 item_of entry = Item entry.0 entry.1
 
--- the response behind the items
+-- the response after the items
 abbrev pub end_of : Counts → Response
 end_of counts = End counts.scanned counts.given counts.unfit
 
@@ -23,7 +23,7 @@ end_of counts = End counts.scanned counts.given counts.unfit
 abbrev pub walk_responses : WalkReply → List Response
 walk_responses reply = map item_of reply.items ++ end_of reply.counts ∷ []
 
--- the responses of an answer, in order, where the bytes of a value that was found were left here
+-- the responses of an answer, in order; the bytes of a value that was found were left here
 abbrev pub responses_of : Answer → List ℕ → List Response
 responses_of (One response) bytes = response_of response ∷ []
 responses_of Found bytes = Value (Some bytes) ∷ []
@@ -37,7 +37,7 @@ IsFront part whole = (missing : List ℕ) × (whole ≡ part ++ missing)
 abbrev pub IsPart : List ℕ → List ℕ → Type 0
 IsPart part whole = (missing : List ℕ) × (whole ≡ part ++ missing) × (1 ≤ length missing)
 
--- a value that is longer than may be sent behind this Hello
+-- a value that is longer than may be sent after this Hello
 abbrev pub is_too_long : Option Version → Response → Bool
 is_too_long hello (Value (Some bytes)) = nat_lt (limits_after hello).value (length bytes)
 is_too_long hello (Item key bytes) = nat_lt (limits_after hello).value (length bytes)
@@ -47,16 +47,16 @@ abbrev pub has_too_long : Option Version → List Response → Bool
 has_too_long hello [] = false
 has_too_long hello (response ∷ responses) = is_too_long hello response || has_too_long hello responses
 
--- what is sent in place of these responses: one refusal where a value is too long, else themselves
+-- what is sent in place of these responses: one refusal if a value is too long, else themselves
 abbrev pub sendable : Option Version → List Response → List Response
 sendable hello responses = if has_too_long hello responses then Refused 65 0 ∷ [] else responses
 
--- the Hello taken, behind these requests
+-- the Hello taken, after these requests
 abbrev pub hello_behind : Option Version → List Request → Option Version
 hello_behind hello [] = hello
 hello_behind hello (request ∷ requests) = hello_behind (hello_after hello request) requests
 
--- over what answers a request behind this Hello: what the first serves, the request, its responses, and what is served then
+-- over what answers a request after this Hello: what the first serves, the request, its responses, and what is served then
 module _ {S : Type 0} (Answers : Option Version → S → Request → List Response → S → Type 0) where
   -- the requests, answered one after the other, have these responses in all
   abbrev pub AnswersInOrder : Option Version → S → List Request → List Response → S → Type 0

@@ -1,4 +1,5 @@
 pub mod Answering
 pub mod Sessions
+pub mod Conversations
 pub mod Asking
 pub mod Requests

@@ -23,7 +23,7 @@ HasToldEnd ReadFailed = ⊥
 HasToldEnd WriteFailed = ⊥
 HasToldEnd NoMemory = ⊥
 
--- how often the source has told its end behind a session that ended so, where it had so often before
+-- how often the source has told its end after a session that ended so, if it had told it this often before
 abbrev pub ends_after : SessionEnd → ℕ → ℕ
 ends_after Closed ends = next_end ends
 ends_after Cut ends = next_end ends
@@ -54,12 +54,12 @@ failed_writes NoMemory = 0
 abbrev pub refusal : ℕ → List ℕ
 refusal number = response_frame (reply.Refused number 0)
 
--- what was read is what was taken and the piece of the last read, which gave so many bytes, one at least
+-- what was read is what was taken and the piece of the last read, which gave this number of bytes, one at least
 abbrev pub LacksLast : List ℕ → ℕ → List ℕ → Type 0
 LacksLast read last taken = (piece : List ℕ) × (read ≡ taken ++ piece) × (length piece ≡ last) × (1 ≤ last)
 
 module _ {S : Type 0} (Answers : Option Version → S → Request → List Response → S → Type 0) where
-  -- what was read is requests, which were all answered by these bytes, and behind them what is held
+  -- what was read is requests, which were all answered by these bytes, and after them what is held
   abbrev pub AllAnswered : S → List ℕ → Held → List ℕ → S → Type 0
   AllAnswered old read held written new =
       (requests : List Request) × Frames None read requests held × Answered Answers None old requests written new
@@ -70,13 +70,13 @@ module _ {S : Type 0} (Answers : Option Version → S → Request → List Respo
       (taken : List ℕ) × LacksLast read last taken
       × (hello : Option Version) × (rest : List ℕ) × AllAnswered old taken (open_at hello rest) written new
 
-  -- behind the answers a refusal of this number is owed: what was read has the fault, or memory was refused to its last piece
+  -- after the answers a refusal of this number is owed: what was read has the fault, or memory was refused to its last piece
   abbrev pub Owes : S → List ℕ → ℕ → ℕ → List ℕ → S → Type 0
   Owes old read last number written new =
       ((fault : ProtocolFault) × (number ≡ protocol_fault_number fault) × AllAnswered old read (failed fault) written new)
       ⊎ ((number ≡ 9) × RunsOut old read last written new)
 
-  -- a session that ended so had read and written these bytes, so many of them by the last read, and what the last is is
+  -- a session that ended so had read and written these bytes, this number of them by the last read, and the last is
   -- served then. A request that was refused memory has an answer as the others have, and ends nothing
   abbrev pub Ended : S → SessionEnd → List ℕ → ℕ → List ℕ → S → Type 0
   Ended old Closed read last written new = (hello : Option Version) × AllAnswered old read (open_at hello []) written new

@@ -31,8 +31,8 @@ pub struct Alone {
 }
 
 impl Alone {
-    /// An empty table in so many stripes, and no program. `BadStripes` where a table may not have so many, else
-    /// `NoMemory` where a request for memory was refused.
+    /// An empty table in this number of stripes, and no program. `BadStripes` if a table may not have that number, else
+    /// `NoMemory` if a request for memory was refused.
     pub fn open(alloc: Global, stripes: u64) -> Result<Alone, OpenFault>
         ensures bad_stripes { IsErrOf result OpenFault.BadStripes ↔ (IsStripeCount stripes → ⊥) }
         ensures ok { IfOk result (λ alone. IsNew alone) }
@@ -45,7 +45,7 @@ impl Alone {
 }
 
 impl Alone {
-    /// Keeps the program that the bytes spell, which came behind this Hello, under the next number.
+    /// Keeps the program that the bytes spell, which came after this Hello, under the next number.
     fn register(
         &mut self,
         alloc: Global,
@@ -118,20 +118,18 @@ impl Alone {
             None => unknown_program(),
         }
     }
-}
 
-impl Service for Alone {
-    ghost use Rattle.sessions.specs.Requests.{Serves};
-
-    ghost answers = { Serves };
-
+    /// Answers the request, which came after this Hello. The value of an answer that found one is left in `value`; what that held
+    /// is lost. A refused request for memory is an answer too.
     fn answer(
         &mut self,
         alloc: Global,
         hello: Option<Version>,
         request: &Request,
         value: &mut Value,
-    ) -> Answer {
+    ) -> Answer
+        ensures { Serves hello self.old request.now (responses_of result value.new) self.new }
+    {
         match request.view() {
             RequestView::Hello { version } => Answer::One(ShortResponse::Hello { version }),
             RequestView::Register { sizes, program } => {
@@ -152,10 +150,16 @@ impl Service for Alone {
     }
 }
 
+impl Service for Alone {
+    ghost use Rattle.sessions.specs.Requests.{Serves};
+
+    ghost answers = { Serves };
+}
+
 /// Answers the requests that are read, each before the next one is looked at, until the reader tells its end, a device
 /// fails, or what was read is refused. What the sink took is passed on before each read, and at the end. The table and the
-/// programs are then as the answered requests left them; where a write failed, also as the request left them whose answer
-/// is not wholly written. A refused request for memory is answered with 9, and ends the session only where it was asked for
+/// programs are then as the answered requests left them; if a write failed, also as the request left them whose answer
+/// is not wholly written. A refused request for memory is answered with 9, and ends the session only if it was asked for
 /// to take in the piece of the last read. Waits for the reader.
 pub fn session_alone<H: Wait, R: ReadAfterFlush<W>, W: Sink>(
     rt: &H,
@@ -172,7 +176,7 @@ pub fn session_alone<H: Wait, R: ReadAfterFlush<W>, W: Sink>(
         × (Consumes (R.source reader.old).left (R.source reader.new).left read
         × (Appends (W.state writer.old).held (W.state writer.new).held written
         × Ended Serves alone.old result read (R.source reader.new).last written alone.new))) }
-    // The end was told in this call, where the session ended so, and else not.
+    // The end was told in this call if the session ended so, and else not.
     ensures told { (R.source reader.new).ends ≡ ends_after result (R.source reader.old).ends }
     ensures whole { HasToldEnd result → IsAtEnd (R.source reader.new).left }
     ensures reads { (R.source reader.new).failures
@@ -182,5 +186,8 @@ pub fn session_alone<H: Wait, R: ReadAfterFlush<W>, W: Sink>(
     // Nothing is kept back at the end. Before a read nothing is, by what `read_after_flush` requires.
     ensures sent { (result ≢ SessionEnd.WriteFailed) → (W.state writer.new).keeps_back ≡ false }
 {
-    run_session(rt, alloc, reader, writer, alone)
+    let answer = |alone: &mut Alone, hello, request: &Request, value: &mut Value| {
+        alone.answer(alloc, hello, request, value)
+    };
+    run_session(rt, alloc, reader, writer, alone, &answer)
 }

@@ -15,4 +15,7 @@ pub use alone::{Alone, session_alone};
 pub use calls::{argument_of, call_of, named_program};
 pub use responses::{answer_to, no_memory, program_sent, unknown_program};
 pub use session::send::{refuse, send};
-pub use session::{Answer, Service, SessionEnd, run_session};
+pub use session::{
+    Answer, Conversation, ConversationEnd, Service, SessionEnd, exchanges_join, pieces_join,
+    run_session,
+};

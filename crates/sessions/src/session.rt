@@ -1,19 +1,21 @@
-//! A session of one client: requests are read, and each is answered before the next one is looked at.
+//! A session of one client: pieces are read, and the requests in each are answered before the next one is read.
 //!
-//! The loop knows no table: a `Service` answers the requests.
-ghost use Rattle.std.specs.Prelude.{◌≡◌, ◌≢◌, ◌+◌, ℕ, List, false, OnOk, OnErr};
+//! The loop knows no table: a call that is handed in answers the requests.
+ghost use Rattle.std.specs.Prelude.{◌≡◌, ◌≢◌, ◌+◌, ℕ, List, false};
 ghost use Rattle.std.specs.Io.KnownBytes.{Appends, Consumes, IsAtEnd};
-ghost use Rattle.sessions.specs.Answering.{Answered, BreaksOff};
-ghost use Rattle.devices.specs.Devices.{CanRead, CanWrite, TakesBytes, TakesThenFails};
+ghost use Rattle.sessions.specs.Conversations.{AnswersBy};
+ghost use Rattle.devices.specs.Devices.{CanRead, CanWrite};
 ghost use Rattle.sessions.specs.Sessions.{Ended, HasToldEnd, ends_after, failed_reads, failed_writes};
 
+mod conversation;
 pub(crate) mod send;
 mod service;
 
-use crate::session::send::{refuse, send};
+use crate::session::send::refuse;
 use bpf_model::{NoMemory, Value};
-use client_protocol::{Feeder, ProtocolFault, Request, Requests, Version, hello_after};
-use devices::{Failed, ReadAfterFlush, Sink};
+use client_protocol::{ProtocolFault, Request, Version};
+pub use conversation::{Conversation, ConversationEnd, exchanges_join, pieces_join};
+use devices::{ReadAfterFlush, Sink};
 pub use send::end_of;
 pub use service::{Answer, Service};
 use std::alloc::Global;
@@ -36,49 +38,25 @@ pub enum SessionEnd {
     NoMemory,
 }
 
-/// Answers the requests, which came behind this Hello, in turn: each answer is written before the next request is looked at.
-/// Values that are found are left in `value`, one after the other.
-fn answer_all<W: Sink, S: Service>(
-    alloc: Global,
-    writer: &mut W,
-    service: &mut S,
-    hello: Option<Version>,
-    requests: &[Request],
-    value: &mut Value,
-) -> Result<(), Failed>
-    requires { CanWrite (W.state writer.old) }
-    ensures ok { OnOk result ((written : List ℕ)
-        × TakesBytes (W.state writer.old) (W.state writer.new) written
-        × Answered S.answers hello service.old requests.now written service.new) }
-    ensures err { OnErr result ((written : List ℕ)
-        × TakesThenFails (W.state writer.old) (W.state writer.new) written
-        × BreaksOff S.answers hello service.old requests.now written service.new) }
-{
-    let mut taken = hello;
-    for request in requests {
-        let answer = service.answer(alloc, taken, request, value);
-        send(writer, taken, &answer, value)?;
-        taken = hello_after(taken, request);
-    }
-    Ok(())
-}
+/// The most bytes that are read at once.
+const PIECE_BYTES: usize = 4096;
 
-const PIECE_BYTES: usize = 1024;
-
-/// Answers the requests that are read, until the end. What the sink took is passed on before each read.
-pub fn run_session<H: Wait, R: ReadAfterFlush<W>, W: Sink, S: Service>(
-    rt: &H,
-    alloc: Global,
-    reader: &mut R,
-    writer: &mut W,
-    service: &mut S,
-) -> SessionEnd
+/// Answers the requests that are read, until the end. What `answer` is lent is the state, the Hello that came before the
+/// request, the request, and room for a value. What the sink took is passed on before each read.
+pub fn run_session<
+    H: Wait,
+    R: ReadAfterFlush<W>,
+    W: Sink,
+    S: Service,
+    F: Fn(&mut S, Option<Version>, &Request, &mut Value) -> Answer,
+>(rt: &H, alloc: Global, reader: &mut R, writer: &mut W, state: &mut S, answer: &F) -> SessionEnd
     requires reads { CanRead (R.source reader.old) }
     requires writes { CanWrite (W.state writer.old) }
+    requires answer { AnswersBy F.Fn answer.now S.answers }
     ensures ended { (read : List ℕ) × ((written : List ℕ)
         × (Consumes (R.source reader.old).left (R.source reader.new).left read
         × (Appends (W.state writer.old).held (W.state writer.new).held written
-        × Ended S.answers service.old result read (R.source reader.new).last written service.new))) }
+        × Ended S.answers state.old result read (R.source reader.new).last written state.new))) }
     ensures told { (R.source reader.new).ends ≡ ends_after result (R.source reader.old).ends }
     ensures whole { HasToldEnd result → IsAtEnd (R.source reader.new).left }
     ensures reads { (R.source reader.new).failures
@@ -87,10 +65,8 @@ pub fn run_session<H: Wait, R: ReadAfterFlush<W>, W: Sink, S: Service>(
         ≡ (W.state writer.old).failures + failed_writes result }
     ensures sent { (result ≢ SessionEnd.WriteFailed) → (W.state writer.new).keeps_back ≡ false }
 {
-    let mut feeder = Feeder::new(alloc);
+    let mut conversation = Conversation::new(alloc);
     let mut piece = [0; PIECE_BYTES];
-    let mut requests = Requests::new(alloc);
-    let mut value = Value::new();
     for _ in rt.forever() {
         let Ok(()) = writer.flush() else {
             return SessionEnd::WriteFailed;
@@ -99,21 +75,20 @@ pub fn run_session<H: Wait, R: ReadAfterFlush<W>, W: Sink, S: Service>(
             return SessionEnd::ReadFailed;
         };
         if n == 0 {
-            if feeder.is_inside() {
+            if conversation.is_inside() {
                 return SessionEnd::Cut;
             }
             return SessionEnd::Closed;
         }
-        let hello = feeder.hello();
-        let Ok(fault) = feeder.feed_into(alloc, &piece[..n], &mut requests) else {
-            return refuse(writer, NoMemory::NUMBER, SessionEnd::NoMemory);
-        };
-        let came = requests.as_slice();
-        let Ok(()) = answer_all(alloc, writer, service, hello, came, &mut value) else {
-            return SessionEnd::WriteFailed;
-        };
-        if let Some(fault) = fault {
-            return refuse(writer, fault.number(), SessionEnd::Refused(fault));
+        match conversation.take(alloc, state, answer, &piece[..n], writer) {
+            Ok(()) => {}
+            Err(ConversationEnd::Refused(fault)) => {
+                return refuse(writer, fault.number(), SessionEnd::Refused(fault));
+            }
+            Err(ConversationEnd::NoMemory) => {
+                return refuse(writer, NoMemory::NUMBER, SessionEnd::NoMemory);
+            }
+            Err(ConversationEnd::WriteFailed) => return SessionEnd::WriteFailed,
         }
     }
     unreachable!()

@@ -34,7 +34,7 @@ impl Programs {
         }
     }
 
-    /// Keeps the program under the next number, which is answered. `NoMemory` where the room for it was refused.
+    /// Keeps the program under the next number, which is answered. `NoMemory` if the room for it was refused.
     pub fn add(&mut self, program: Verified) -> Result<u64, NoMemory>
         ensures number { IfOk result (λ number. number ≡ length self.old) }
         ensures ok { OnOk result (self.new ≡ self.old ++ program ∷ []) }

@@ -74,8 +74,8 @@ fn send_items<W: Sink>(writer: &mut W, items: &MergedEntries) -> Result<(), Fail
     Ok(())
 }
 
-/// Whether the value of an item is longer than may be sent behind this Hello.
-fn have_too_long(hello: Option<Version>, items: &MergedEntries) -> bool
+/// Whether the value of an item is longer than may be sent after this Hello.
+fn have_too_long(hello: Option<Version>, items: &EntryList) -> bool
     ensures { result ≡ has_too_long hello (map item_of items.now) }
 {
     let most = Limits::after(hello).value;
@@ -88,7 +88,7 @@ fn have_too_long(hello: Option<Version>, items: &MergedEntries) -> bool
     false
 }
 
-/// The response behind the items of a walk.
+/// The response after the items of a walk.
 pub fn end_of(counts: Counts) -> ShortResponse
     ensures { response_of result ≡ end_of counts }
 {
@@ -99,7 +99,7 @@ pub fn end_of(counts: Counts) -> ShortResponse
     }
 }
 
-/// Writes the frame of the response with this value, whose bytes are written from where they lie; or one refusal, where it is too
+/// Writes the frame of the response with this value, whose bytes are written from where they lie; or one refusal if it is too
 /// long.
 fn send_value<W: Sink>(writer: &mut W, hello: Option<Version>, value: &Value) -> Result<(), Failed>
     requires { CanWrite (W.state writer.old) }
@@ -126,7 +126,7 @@ fn send_whole<W: Sink>(writer: &mut W, reply: &WalkReply) -> Result<(), Failed>
     Ok(())
 }
 
-/// As `send_whole`; or one refusal, where a value is too long.
+/// As `send_whole`; or one refusal if a value is too long.
 fn send_walk<W: Sink>(
     writer: &mut W,
     hello: Option<Version>,
@@ -144,7 +144,7 @@ fn send_walk<W: Sink>(
     send_whole(writer, reply)
 }
 
-/// Writes the frames of all responses of an answer to a request behind this Hello; that of a value that was found has this one.
+/// Writes the frames of all responses of an answer to a request after this Hello; that of a value that was found has this one.
 /// A value that is longer than the version allows is not sent: one refusal stands for all responses then.
 pub fn send<W: Sink>(
     writer: &mut W,

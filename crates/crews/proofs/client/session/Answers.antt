@@ -8,7 +8,7 @@ use Rattle.crews.proofs.client.session.Goals as goal
 
 pub returns-clause-crew : goal.returns-clause-crew
 returns-clause-crew g c =
-    let (read, (written, (consumed, (appended, ended)))) = c.run-end.ensures.ended in
+    let (read, (written, (consumed, (appended, ended)))) = c.run_session-end.ensures.ended in
     let s = ended_same _ _ read _ written _ ended in
     let pass = ap (λ (t : Station). t.pass.map) c.serving.view_is ∙ s.map ∙ c.requires.crew.pass in
     let here : c.serving.inside.map.now ≡ c.args.map.now = sym c.serving.invariant.0 ∙ pass in
@@ -20,7 +20,7 @@ returns-clause-crew g c =
 
 pub returns-clause-same : goal.returns-clause-same
 returns-clause-same g c =
-    let (read, (written, (consumed, (appended, ended)))) = c.run-end.ensures.ended in
+    let (read, (written, (consumed, (appended, ended)))) = c.run_session-end.ensures.ended in
     let s = ended_same _ _ read _ written _ ended in
     record {
       worker = refl;

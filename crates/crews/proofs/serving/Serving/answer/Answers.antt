@@ -5,13 +5,13 @@ use Rattle.crews.proofs.serving.Serving.answer.Goals as goal
 
 pub returns-in-Search : goal.returns-in-Search
 returns-in-Search g c =
-    serves_search c.args.hello c.args.self.now c.args.request.now c.in-Search.program (option_copied c.in-Search.arg) c.in-Search.threshold _ c.walk.new.self
-    (sym (ap viewed c.in-Search.is) ∙ c.view.ensures) (c.walk.ensures c.args.hello c.args.value.now)
+    serves_search c.args.hello c.args.self.now c.args.request.now c.in-Search.program (option_copied c.in-Search.arg) c.in-Search.threshold _ c.walk_by_team.new.self
+    (sym (ap viewed c.in-Search.is) ∙ c.view.ensures) (c.walk_by_team.ensures c.args.hello c.args.value.now)
 
 pub returns-in-ForEach : goal.returns-in-ForEach
 returns-in-ForEach g c =
-    serves_for_each c.args.hello c.args.self.now c.args.request.now c.in-ForEach.program (option_copied c.in-ForEach.arg) c.in-ForEach.threshold _ c.walk-in-ForEach.new.self
-    (sym (ap viewed c.in-ForEach.is) ∙ c.view.ensures) (c.walk-in-ForEach.ensures c.args.hello c.args.value.now)
+    serves_for_each c.args.hello c.args.self.now c.args.request.now c.in-ForEach.program (option_copied c.in-ForEach.arg) c.in-ForEach.threshold _ c.walk_by_team-in-ForEach.new.self
+    (sym (ap viewed c.in-ForEach.is) ∙ c.view.ensures) (c.walk_by_team-in-ForEach.ensures c.args.hello c.args.value.now)
 
 pub returns-in-ReplaceAll : goal.returns-in-ReplaceAll
 returns-in-ReplaceAll g c =

@@ -5,7 +5,7 @@ use Rattle.program_registry.specs.declared.registry.ProgramToken.{ProgramToken}
 use Rattle.crews.specs.Stations.{Station}
 use Rattle.crews.specs.Steps.{Finds}
 use Rattle.crews.proofs.StepLemmas.{walked_by_team}
-use Rattle.crews.proofs.serving.Serving.walk.Goals as goal
+use Rattle.crews.proofs.serving.Serving.walk_by_team.Goals as goal
 
 pub returns : goal.returns
 returns g c hello bytes =

@@ -2,7 +2,7 @@ use Rattle.std.proofs.Common.{sym, ap, subst, ◌∙◌}
 use Rattle.client_protocol.specs.Requests.{Request, viewed}
 use Rattle.sessions.specs.Answering.{responses_of}
 use Rattle.sessions.specs.Requests.{Serves}
-use Rattle.sessions.proofs.alone.AloneService.answer.Goals as goal
+use Rattle.sessions.proofs.alone.Alone.answer.Goals as goal
 
 pub returns-in-Count : goal.returns-in-Count
 returns-in-Count c =

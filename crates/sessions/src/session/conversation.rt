@@ -1,0 +1,159 @@
+//! A session between two of its reads, and how the next piece that is read is answered.
+ghost use Rattle.std.specs.Prelude.{◌≡◌, ℕ, ◌++◌, List, [], None, Some, OnOk, OnErr, flat_map};
+ghost use Rattle.client_protocol.specs.declared.fault.ProtocolFault.{ProtocolFault as TheFault};
+ghost use Rattle.client_protocol.specs.Requests.{Request as TheRequest};
+ghost use Rattle.client_protocol.specs.Frames.{Held, Frames, held_fault, is_inside};
+ghost use Rattle.client_protocol.specs.Frames.Held.{open_at};
+ghost use Rattle.sessions.specs.Answering.{Answered, BreaksOff};
+ghost use Rattle.sessions.specs.Conversations.{AnswersBy, AnswersPiece, BreaksPiece, Exchange, Converses, AnsweredInEach};
+ghost use Rattle.devices.specs.Devices.{CanWrite, TakesBytes, TakesThenFails};
+
+use crate::session::send::send;
+use crate::session::service::{Answer, Service};
+use bpf_model::Value;
+use client_protocol::{Feeder, ProtocolFault, Request, Requests, Version, hello_after};
+use devices::{Failed, Sink};
+use std::alloc::Global;
+use std::marker::Model;
+
+/// Why a conversation ended at a piece.
+#[derive(Clone, Copy, Debug, PartialEq, Eq)]
+pub enum ConversationEnd {
+    /// What was read has this fault. The requests before it are answered.
+    Refused(ProtocolFault),
+    /// Memory was refused to the piece, which was not taken.
+    NoMemory,
+    /// A write failed. The sink has a beginning of what it was owed.
+    WriteFailed,
+}
+
+/// What a session is between two reads: the Hello that was taken and the beginning of a frame, or the fault of what was read.
+/// The room for a piece's requests and for a value serves the next piece again.
+#[derive(Drop)]
+pub struct Conversation {
+    feeder: Feeder,
+    requests: Requests,
+    value: Value,
+}
+
+impl Model for Conversation {
+    ghost use Rattle.client_protocol.specs.Frames.{Held};
+
+    ghost Value = { Held };
+
+    ghost view = { λ c. c.feeder };
+}
+
+impl Conversation {
+    /// A conversation of which nothing was read. Takes no memory.
+    pub fn new(alloc: Global) -> Conversation
+        ensures { result ≡ open_at None [] }
+    {
+        Conversation {
+            feeder: Feeder::new(alloc),
+            requests: Requests::new(alloc),
+            value: Value::new(),
+        }
+    }
+
+    /// Whether what was read ends inside a frame.
+    pub fn is_inside(&self) -> bool
+        ensures { result ≡ is_inside self.now }
+    {
+        self.feeder.is_inside()
+    }
+
+    /// Answers the requests that are whole with this piece, in order and each into the sink before the next one is looked at. What
+    /// `answer` is lent is the state, the Hello that came before the request, the request, and room for a value. An `Err`
+    /// tells why the conversation ended.
+    pub fn take<
+        S: Service,
+        F: Fn(&mut S, Option<Version>, &Request, &mut Value) -> Answer,
+        W: Sink,
+    >(
+        &mut self,
+        alloc: Global,
+        state: &mut S,
+        answer: &F,
+        piece: &[u8],
+        sink: &mut W,
+    ) -> Result<(), ConversationEnd>
+        requires answer { AnswersBy F.Fn answer.now S.answers }
+        requires sink { CanWrite (W.state sink.old) }
+        // The piece was taken, and all its requests are answered.
+        ensures ok { OnOk result ((held_fault self.new ≡ None) × ((written : List ℕ)
+            × TakesBytes (W.state sink.old) (W.state sink.new) written
+            × AnswersPiece S.answers self.old state.old piece.now written self.new state.new)) }
+        ensures refused { (fault : TheFault) → result ≡ Err (ConversationEnd.Refused fault)
+            → (held_fault self.new ≡ Some fault) × ((written : List ℕ)
+            × TakesBytes (W.state sink.old) (W.state sink.new) written
+            × AnswersPiece S.answers self.old state.old piece.now written self.new state.new) }
+        ensures memory { result ≡ Err ConversationEnd.NoMemory
+            → (self.new ≡ self.old) × (state.new ≡ state.old) × (W.state sink.new ≡ W.state sink.old) }
+        // One request was made whose answer is not wholly written, and none after it.
+        ensures write { result ≡ Err ConversationEnd.WriteFailed → ((written : List ℕ)
+            × TakesThenFails (W.state sink.old) (W.state sink.new) written
+            × BreaksPiece S.answers self.old state.old piece.now written self.new state.new) }
+    {
+        let hello = self.feeder.hello();
+        let Ok(fault) = self.feeder.feed_into(alloc, piece, &mut self.requests) else {
+            return Err(ConversationEnd::NoMemory);
+        };
+        let came = self.requests.as_slice();
+        let Ok(()) = answer_all(state, answer, hello, came, &mut self.value, sink) else {
+            return Err(ConversationEnd::WriteFailed);
+        };
+        match fault {
+            Some(fault) => Err(ConversationEnd::Refused(fault)),
+            None => Ok(()),
+        }
+    }
+}
+
+/// Answers the requests, which came after this Hello, in order: each answer is written before the next request is looked at.
+/// Values that are found are left in `value`, one after the other.
+fn answer_all<S: Service, F: Fn(&mut S, Option<Version>, &Request, &mut Value) -> Answer, W: Sink>(
+    state: &mut S,
+    answer: &F,
+    hello: Option<Version>,
+    requests: &[Request],
+    value: &mut Value,
+    sink: &mut W,
+) -> Result<(), Failed>
+    requires answer { AnswersBy F.Fn answer.now S.answers }
+    requires sink { CanWrite (W.state sink.old) }
+    ensures ok { OnOk result ((written : List ℕ)
+        × TakesBytes (W.state sink.old) (W.state sink.new) written
+        × Answered S.answers hello state.old requests.now written state.new) }
+    ensures err { OnErr result ((written : List ℕ)
+        × TakesThenFails (W.state sink.old) (W.state sink.new) written
+        × BreaksOff S.answers hello state.old requests.now written state.new) }
+{
+    let mut hello = hello;
+    for request in requests {
+        let answered = answer(state, hello, request, value);
+        send(sink, hello, &answered, value)?;
+        hello = hello_after(hello, request);
+    }
+    Ok(())
+}
+
+/// Two pieces that are taken one after the other are taken as one, whether the answers to the later are all written or break off.
+pub fn pieces_join<S: Service>()
+    ensures whole { (held mid next : Held) (old between new : S) (first later written more : List ℕ)
+        → AnswersPiece S.answers held old first written mid between
+        → AnswersPiece S.answers mid between later more next new
+        → AnswersPiece S.answers held old (first ++ later) (written ++ more) next new }
+    ensures broken { (held mid next : Held) (old between new : S) (first later written more : List ℕ)
+        → AnswersPiece S.answers held old first written mid between
+        → BreaksPiece S.answers mid between later more next new
+        → BreaksPiece S.answers held old (first ++ later) (written ++ more) next new }
+{}
+
+/// The pieces of a conversation's exchanges are requests by the grammar, in order, and each of them was answered in its exchange.
+/// Others may have changed the state between two exchanges.
+pub fn exchanges_join<S: Service>()
+    ensures { (exchanges : List (Exchange S)) (next : Held) → Converses S.answers (open_at None []) exchanges next
+        → (requests : List TheRequest) × Frames None (flat_map (λ exchange. exchange.piece) exchanges) requests next
+        × AnsweredInEach S.answers None exchanges requests }
+{}
