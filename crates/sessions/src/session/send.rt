@@ -75,7 +75,7 @@ fn send_items<W: Sink>(writer: &mut W, items: &MergedEntries) -> Result<(), Fail
 }
 
 /// Whether the value of an item is longer than may be sent after this Hello.
-fn have_too_long(hello: Option<Version>, items: &EntryList) -> bool
+fn have_too_long(hello: Option<Version>, items: &MergedEntries) -> bool
     ensures { result ≡ has_too_long hello (map item_of items.now) }
 {
     let most = Limits::after(hello).value;
