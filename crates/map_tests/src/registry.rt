@@ -98,7 +98,8 @@ fn comes_back<R: Wait>(rt: &R, registry: &Registry, program: Verified, key: u16)
     match registry.register(rt, program) {
         Ok(_) => true,
         Err((NoMemory, program)) => {
-            program.sizes().key == key && registry.register(rt, program).is_ok()
+            let same = program.sizes().key == key;
+            registry.register(rt, program).is_ok() && same
         }
     }
 }

@@ -25,7 +25,8 @@ fn is_taken<B: Bins>(bins: &mut B, name: &[u8], byte: u8, length: usize) -> Resu
     let key = HashedKey::new(&key);
     let value = value_of(byte, length)?;
     let found = bins.find(&key) == Some(value.as_slice());
-    Ok(found && bins.remove(&key) == Some(value) && bins.find(&key).is_none())
+    let removed = bins.remove(&key) == Some(value);
+    Ok(found && removed && bins.find(&key).is_none())
 }
 
 /// Puts a value of the one length and then one of the other on a key between two entries of their own, and removes all

@@ -123,7 +123,8 @@ fn serve_two<
     let (back, merged) = serve_beside(rt, accept, map, registry, crews, address);
     let merged = merged?;
     let joined = joined_pass(map, back?).ok_or("no crews")?;
-    Ok(merged && is_sum(rt, map, joined))
+    let sum = is_sum(rt, map, joined);
+    Ok(merged && sum)
 }
 
 /// Tells whether the key has the sum of all merges.

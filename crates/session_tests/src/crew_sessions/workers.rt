@@ -275,14 +275,16 @@ fn meet_beside<R: AllocGlobal + Threads + Wait + Abort + Sync>(
     put(rt, &map, &mut pass, 0);
     let crews = vec![in rt.alloc(); one, other]?;
     let ((pass, right), back) = serve_beside(rt, &map, &registry, crews, pass, &told);
-    assert!(rt; are_back(&back?));
+    let back = back?;
+    assert!(rt; are_back(&back));
     let found = told.found();
     assert!(rt;
         found == [2, BOTH, 0, 0],
         "{found:?}: right, come, alone, late"
     );
     let made = told.calls.made.load(Ordering::SeqCst);
-    assert!(rt; right && has_number(rt, &map, pass, made), "{made} calls");
+    let last = has_number(rt, &map, pass, made);
+    assert!(rt; right && last, "{made} calls");
     Ok(())
 }
 
