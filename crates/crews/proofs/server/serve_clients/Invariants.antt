@@ -4,6 +4,6 @@ use Rattle.crews.proofs.server.serve_clients.Given as goal
 
 abbrev pub invariant-loop : goal.invariant-loop
 invariant-loop g l = record {
-  of : IsCrewOf l.map l.crew;
+  of : IsCrewOf l.worker.map.now l.crew;
   same : CarriesSame l.fn.crew l.crew;
 }
