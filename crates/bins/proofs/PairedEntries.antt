@@ -1,8 +1,8 @@
 -- Entries whose keys stand in one list and whose values stand in another, position by position.
-use Rattle.std.proofs.Common.{◌≡◌, ◌≢◌, ℕ, zero, suc, ◌+◌, ◌-◌, ◌<◌, List, [], ◌∷◌, ◌++◌, length, get_or, set, take, refl, sym, ap, subst, ◌∙◌, arith, HoldsAt, Some, None}
+use Rattle.std.proofs.Common.{◌≡◌, ◌≢◌, ℕ, zero, suc, ◌-◌, ◌<◌, List, [], ◌∷◌, ◌++◌, length, get_or, set, take, refl, sym, ap, subst, ◌∙◌, arith, HoldsAt, Some, None}
 use Rattle.std.specs.List.{AllWithin, swap_remove}
 use Rattle.std.specs.FinMap as map
-use Rattle.std.proofs.lemmas.List.{get_or_default, length-set, length_push, append_assoc, take_more}
+use Rattle.std.proofs.lemmas.List.{get_or_default, length-set, length_push}
 use Rattle.bins.specs.Table.{Entry}
 use Rattle.bins.specs.Entries.{Distinct, entries_in}
 use Rattle.bins.proofs.GapLemmas.{one_less}
