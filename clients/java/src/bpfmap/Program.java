@@ -16,6 +16,7 @@ public final class Program {
 
     private final byte[] units;
     private final Sizes sizes;
+    private final int hash;
 
     /**
      * The declared sizes of a program's windows.
@@ -44,6 +45,7 @@ public final class Program {
     private Program(byte[] units, Sizes sizes) {
         this.units = units;
         this.sizes = sizes;
+        hash = 31 * Arrays.hashCode(units) + sizes.hashCode();
     }
 
     /**
@@ -92,7 +94,7 @@ public final class Program {
 
     @Override
     public int hashCode() {
-        return 31 * Arrays.hashCode(units) + sizes.hashCode();
+        return hash;
     }
 
     @Override

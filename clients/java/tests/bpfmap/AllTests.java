@@ -24,6 +24,7 @@ public final class AllTests {
         tests.runMap(server);
         tests.runVersions(server);
         tests.runBroken(server);
+        tests.runFaults();
         tests.judge("sentences of refusals", () -> RefusalTest.sentences(Path.of("docs")));
         tests.judge("examples", () -> ExamplesTest.printed(server, Path.of("examples", "clients", "README.md")));
         System.out.println("clients/java: " + tests.passed + " tests passed, " + tests.failed + " failed");
@@ -71,6 +72,12 @@ public final class AllTests {
         judge("faulty answers", BrokenTest::faultyAnswers);
         judge("refusals that end a session", BrokenTest::refusalsThatEnd);
         judge("a closed map", () -> BrokenTest.closedMap(server));
+    }
+
+    private void runFaults() {
+        judge("a fault at each moment of calls", FaultsTest::calls);
+        judge("a fault at each moment of pipelines", FaultsTest::pipelines);
+        judge("a fault at each moment of walks", FaultsTest::walks);
     }
 
     private void judge(String name, Test test) {

@@ -63,7 +63,8 @@ final class BrokenTest {
         try (Mapd mapd = Mapd.start(server);
                 PlayedServer proxy = new PlayedServer(peer -> passOn(peer, mapd.port(), cut));
                 Connection direct = mapd.connect(); Connection connection = proxy.connect()) {
-            long program = direct.numberOf(Programs.SUM);
+            long program = direct.call(Request.register(Programs.SUM));
+            connection.adopt(program);
             Pipeline pipeline = connection.pipeline();
             List<Reply<byte[]>> replies = merges(pipeline, program, calls);
             pipeline.run();
@@ -149,6 +150,7 @@ final class BrokenTest {
     /** A refused call of a pipeline is an error of its own; the calls behind it are answered. */
     static String refusedInPipeline(Path server) throws Exception {
         try (Mapd mapd = Mapd.start(server); Connection connection = mapd.connect()) {
+            connection.adopt(5);
             Pipeline pipeline = connection.pipeline();
             Reply<byte[]> unknown = pipeline.add(Request.compute(KEY, 5, null));
             Reply<byte[]> put = pipeline.add(Request.put(KEY, ONE));

@@ -187,9 +187,11 @@ final class MapTest {
                         () -> map.putAll(Map.of(fits, fits, longKey, fits))));
                 refuseNull(List.of(() -> map.get(null), () -> map.put(null, fits), () -> map.put(fits, null),
                         () -> map.containsKey(null), () -> map.containsValue(null), () -> map.remove(null),
-                        () -> map.remove(fits, null), () -> map.replace(fits, null, fits), () -> map.replace(fits, fits, null),
+                        () -> map.replace(fits, null, fits), () -> map.replace(fits, fits, null),
                         () -> map.putIfAbsent(fits, null), () -> map.compute(fits, (Program) null, null),
-                        () -> map.merge(fits, null, Programs.SUM), () -> map.computeIfAbsent(null, Programs.SUM, null)));
+                        () -> map.merge(fits, null, Programs.SUM), () -> map.computeIfAbsent(null, Programs.SUM, null),
+                        () -> map.remove(null, null), () -> map.keySet(null), () -> map.search(1, null)));
+                Check.that("no key has the value null", !map.remove(fits, null));
             }
             Check.equal("requests that were sent", List.of(), server.requests());
         }
