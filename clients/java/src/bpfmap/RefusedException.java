@@ -65,7 +65,9 @@ public final class RefusedException extends RuntimeException {
                     + "was made"),
             meaning(66, "UnknownProgram", "no program has this number"));
 
+    /** The refusal's number. */
     private final int number;
+    /** Where the fault is. */
     private final long place;
 
     RefusedException(int number, long place) {
