@@ -7,8 +7,9 @@ import java.util.Arrays;
 import java.util.List;
 import java.util.Map;
 import java.util.Objects;
-import java.util.Spliterator;
 import java.util.concurrent.ConcurrentMap;
+import java.util.concurrent.Executor;
+import java.util.concurrent.ForkJoinPool;
 import java.util.function.BiConsumer;
 import java.util.function.BiFunction;
 import java.util.function.Function;
@@ -48,12 +49,12 @@ public final class RemoteMap<K, V> extends ItemWalks<K, V> implements Concurrent
 
     private final ConnectionPool pool;
     private final Coder<K, V> coder;
-    private final WalkPrograms walks;
+    private final WalkSources<K, V> sources;
 
     RemoteMap(ConnectionPool pool, Codec<K> keys, Codec<V> values) {
         this.pool = pool;
         coder = new Coder<>(keys, values, pool.version());
-        walks = new WalkPrograms(pool.version());
+        sources = new WalkSources<>(pool, coder, key -> call(Request.remove(key)));
     }
 
     /**
@@ -109,6 +110,25 @@ public final class RemoteMap<K, V> extends ItemWalks<K, V> implements Concurrent
     @Override
     public void close() {
         pool.close();
+    }
+
+    /**
+     * This map's calls as futures. What hangs on them runs in {@link ForkJoinPool#commonPool}.
+     *
+     * @return the calls
+     */
+    public AsyncMap<K, V> async() {
+        return async(ForkJoinPool.commonPool());
+    }
+
+    /**
+     * This map's calls as futures. Each such object has a thread and an order of its own.
+     *
+     * @param callbacks runs what hangs on the futures
+     * @return the calls
+     */
+    public AsyncMap<K, V> async(Executor callbacks) {
+        return new AsyncMap<>(this, pool, coder, callbacks);
     }
 
     // ---- calls of one key, each one request
@@ -266,7 +286,7 @@ public final class RemoteMap<K, V> extends ItemWalks<K, V> implements Concurrent
      *     counted
      */
     public <R> WalkIterator<Map.Entry<K, R>> walk(long parallelismThreshold, Program program, byte[] argument, Codec<R> answers) {
-        return answerSource(parallelismThreshold, program, argument, answers).iterator();
+        return sources.answers(parallelismThreshold, program, argument, answers).iterator();
     }
 
     /**
@@ -280,7 +300,7 @@ public final class RemoteMap<K, V> extends ItemWalks<K, V> implements Concurrent
      * @return an item for each answer, in the order of the keys' bytes
      */
     public <R> Stream<Map.Entry<K, R>> stream(long parallelismThreshold, Program program, byte[] argument, Codec<R> answers) {
-        return answerSource(parallelismThreshold, program, argument, answers).stream(false);
+        return sources.answers(parallelismThreshold, program, argument, answers).stream(false);
     }
 
     // ---- calls with a Java function, by loops of requests
@@ -357,7 +377,7 @@ public final class RemoteMap<K, V> extends ItemWalks<K, V> implements Concurrent
     @Override
     public boolean containsValue(Object value) {
         byte[] wanted = coder.valueOf(value);
-        try (WalkIterator<byte[]> found = rawSource(walks.entries(), Map.Entry::getValue).iterator()) {
+        try (WalkIterator<byte[]> found = sources.rawValues().iterator()) {
             while (found.hasNext()) {
                 if (Arrays.equals(found.next(), wanted)) {
                     return true;
@@ -378,7 +398,7 @@ public final class RemoteMap<K, V> extends ItemWalks<K, V> implements Concurrent
     /** {@inheritDoc} It removes the keys of a walk; entries that are put meanwhile may stay. */
     @Override
     public void clear() {
-        try (WalkIterator<byte[]> found = rawSource(walks.keys(), Map.Entry::getKey).iterator()) {
+        try (WalkIterator<byte[]> found = sources.rawKeys().iterator()) {
             while (found.hasNext()) {
                 List<Request<byte[]>> removals = new ArrayList<>();
                 while (removals.size() < BATCH && found.hasNext()) {
@@ -420,40 +440,19 @@ public final class RemoteMap<K, V> extends ItemWalks<K, V> implements Concurrent
         return new EntryView<>(this);
     }
 
-    /** Walks over the keys, in the order of their bytes. */
+    @Override
     WalkSource<K> keySource() {
-        return source(walks.keys(), coder::key, Spliterator.DISTINCT);
+        return sources.keys();
     }
 
-    /** Walks over the values. */
+    @Override
     WalkSource<V> valueSource() {
-        return source(walks.entries(), coder::value, 0);
+        return sources.values();
     }
 
-    /** Walks over the entries, in the order of the keys' bytes. */
+    @Override
     WalkSource<Map.Entry<K, V>> entrySource() {
-        return source(walks.entries(), item -> new PuttingEntry<>(this, coder.key(item), coder.value(item)),
-                Spliterator.DISTINCT);
-    }
-
-    private WalkSource<byte[]> rawSource(Program program, Function<Map.Entry<byte[], byte[]>, byte[]> part) {
-        return source(program, part, 0);
-    }
-
-    /** Walks of views. If version 1 does not carry the value of an entry, that is refused as an answer with it is. */
-    private <T> WalkSource<T> source(Program program, Function<Map.Entry<byte[], byte[]>, T> decoder, int characteristics) {
-        return new WalkSource<>(() -> pool.walk(Request.forEach(program, null, Long.MAX_VALUE)), decoder, this::removeRaw, true,
-                characteristics);
-    }
-
-    private <R> WalkSource<Map.Entry<K, R>> answerSource(long threshold, Program program, byte[] argument, Codec<R> answers) {
-        Request<Walk<byte[], byte[]>> request = Request.forEach(program, coder.argumentOf(argument), threshold);
-        return new WalkSource<>(() -> pool.walk(request), item -> coder.decoded(item, answers), this::removeRaw, false,
-                Spliterator.DISTINCT);
-    }
-
-    private void removeRaw(byte[] key) {
-        call(Request.remove(key));
+        return sources.entries(this);
     }
 
     /** Whether two values are the same to the server. */

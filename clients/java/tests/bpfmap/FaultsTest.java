@@ -7,6 +7,10 @@ import java.util.Iterator;
 import java.util.List;
 import java.util.Map;
 import java.util.TreeMap;
+import java.util.concurrent.CompletableFuture;
+import java.util.concurrent.CompletionException;
+import java.util.concurrent.TimeUnit;
+import java.util.concurrent.TimeoutException;
 
 /**
  * A fault at each read, write and wait of a script of calls, one after the other: each answer is that of its own call, and the calls
@@ -14,6 +18,7 @@ import java.util.TreeMap;
  */
 final class FaultsTest {
     private static final int KEYS = 4;
+    private static final int PATIENCE = 20;
     private static final Settings SETTINGS = Settings.DEFAULT;
 
     private final MemoryTable table = new MemoryTable();
@@ -51,6 +56,10 @@ final class FaultsTest {
 
     static String walks() throws IOException {
         return atEach(FaultsTest::walksOfAMap);
+    }
+
+    static String asynchronous() throws IOException {
+        return atEach(FaultsTest::callsOfAnAsyncMap);
     }
 
     /** Runs a script with each kind of fault at each of its operations. */
@@ -184,5 +193,26 @@ final class FaultsTest {
             Check.equal("the first key", "key 0", keys.next());
         }
         Check.equal("a get after a walk that was left", "value of key 2", map.get("key 2"));
+    }
+
+    private void callsOfAnAsyncMap() {
+        try (RemoteMap<String, String> map = open()) {
+            AsyncMap<String, String> calls = map.async(Runnable::run);
+            for (int round = 0; round < 2; round++) {
+                Map<String, CompletableFuture<String>> futures = new TreeMap<>();
+                entries.keySet().forEach(key -> futures.put(key, calls.get(key)));
+                futures.forEach((key, future) -> make(() -> Check.equal(key, entries.get(key), answerOf(future))));
+            }
+        }
+    }
+
+    /** The answer, or the exception that came instead. */
+    private static String answerOf(CompletableFuture<String> future) throws IOException {
+        try {
+            return future.orTimeout(PATIENCE, TimeUnit.SECONDS).join();
+        } catch (CompletionException e) {
+            Check.that("an answer, or a failure: " + e, !(e.getCause() instanceof TimeoutException));
+            throw new IOException(e);
+        }
     }
 }
