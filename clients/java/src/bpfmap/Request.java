@@ -10,6 +10,9 @@ import java.util.Objects;
  * sent: a key, value or argument that is too long by {@link TooLongException}. What version 1 alone does not carry is refused by a
  * connection of that version.
  *
+ * <p>A request with a program names the {@link Program} itself, which each connection registers at its first use. A number, by
+ * {@link Connection#numberOf}, does for the connection that gave it.
+ *
  * @param <T> the answer; null stands for nothing
  */
 public final class Request<T> {
@@ -113,9 +116,12 @@ public final class Request<T> {
     }
 
     /**
+     * Registers a program, and tells the server's own number for it, which another connection may {@link Connection#adopt adopt}. You
+     * need this for nothing else: a request that names its {@link Program} registers it.
+     *
      * @param program the program to be verified and registered
      * @return a request whose answer is its number
-     * @throws RefusedException where it is longer than a frame can hold: 11 or 12, as the server would say
+     * @throws RefusedException if it is longer than a frame can hold: 11 or 12, as the server would say
      */
     public static Request<Long> register(Program program) {
         byte[] units = program.units();
@@ -127,6 +133,8 @@ public final class Request<T> {
     }
 
     /**
+     * Gets a value.
+     *
      * @param key the key
      * @return a request for its value
      */
@@ -135,6 +143,8 @@ public final class Request<T> {
     }
 
     /**
+     * Puts a value.
+     *
      * @param key the key
      * @param value its new value
      * @return a request for the value before
@@ -144,6 +154,8 @@ public final class Request<T> {
     }
 
     /**
+     * Puts a value if there is none.
+     *
      * @param key the key
      * @param value its value, where it has none
      * @return a request for the value that it has, or nothing
@@ -153,6 +165,8 @@ public final class Request<T> {
     }
 
     /**
+     * Removes a key.
+     *
      * @param key the key
      * @return a request for the value that was removed
      */
@@ -161,6 +175,8 @@ public final class Request<T> {
     }
 
     /**
+     * Removes a key if it has this value.
+     *
      * @param key the key
      * @param expected the value with which it is removed
      * @return a request for whether it was
@@ -170,6 +186,8 @@ public final class Request<T> {
     }
 
     /**
+     * Replaces a value, if there is one.
+     *
      * @param key the key
      * @param value its new value, where it has one
      * @return a request for the value before
@@ -179,6 +197,8 @@ public final class Request<T> {
     }
 
     /**
+     * Replaces a value, if it is this one.
+     *
      * @param key the key
      * @param expected the value that is replaced
      * @param value the new one
@@ -370,7 +390,11 @@ public final class Request<T> {
         return new Request<>(Answers::readCounts, 0x22, named(program), argumentField(argument));
     }
 
-    /** @return a request for the number of entries */
+    /**
+     * Counts the entries.
+     *
+     * @return a request for the number of entries
+     */
     public static Request<Counts> count() {
         return new Request<>(Answers::readCounts, 0x23);
     }
