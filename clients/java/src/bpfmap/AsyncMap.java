@@ -4,17 +4,13 @@ import java.util.Map;
 import java.util.Objects;
 import java.util.concurrent.CompletableFuture;
 import java.util.concurrent.Executor;
-import java.util.concurrent.ExecutorService;
-import java.util.concurrent.SynchronousQueue;
-import java.util.concurrent.ThreadPoolExecutor;
-import java.util.concurrent.TimeUnit;
 import java.util.function.Function;
 import java.util.function.Supplier;
 
 /**
  * A map's calls as futures. None of its methods waits: the calls are made on a thread of this map. Calls of one key are made in the
  * order in which you ask for them, and those that wait for their turn are sent together in one pipeline, over one connection. Calls
- * that go over all entries have threads of their own, and no order.
+ * that go over all entries, and {@code putAll}, have threads of their own, as many as the map has connections, and no order.
  *
  * <p>A future ends as the call of {@link RemoteMap} does: with its answer or with its exception. What hangs on a future runs on the
  * executor, so it may wait for another call. A future that is cancelled before its call was sent is not sent. A key, value or
@@ -28,21 +24,18 @@ import java.util.function.Supplier;
  * @param <V> the values
  */
 public final class AsyncMap<K, V> {
-    private static final long IDLE_SECONDS = 10;
-
     private final RemoteMap<K, V> map;
     private final Coder<K, V> coder;
     private final Executor callbacks;
     private final Lane lane;
-    private final ExecutorService walkers;
+    private final Executor walkers;
 
     AsyncMap(RemoteMap<K, V> map, ConnectionPool pool, Coder<K, V> coder, Executor callbacks) {
         this.map = map;
         this.coder = coder;
         this.callbacks = Objects.requireNonNull(callbacks);
         lane = new Lane(pool, callbacks);
-        walkers = new ThreadPoolExecutor(0, Integer.MAX_VALUE, IDLE_SECONDS, TimeUnit.SECONDS, new SynchronousQueue<>(),
-                Lane::newThread);
+        walkers = Lane.threads(pool.connections());
     }
 
     /**

@@ -36,6 +36,11 @@ final class ConnectionPool implements AutoCloseable {
         return settings.version();
     }
 
+    /** How many connections calls have at most. */
+    int connections() {
+        return settings.connections();
+    }
+
     /** What is done with a connection. */
     interface Use<T> {
         T on(Connection connection) throws IOException;

@@ -26,7 +26,7 @@ final class Lane {
     private final Executor callbacks;
     private final Queue<Waiting<?, ?>> queue = new ConcurrentLinkedQueue<>();
     private final AtomicInteger count = new AtomicInteger();
-    private final ThreadPoolExecutor thread;
+    private final Executor thread;
 
     /** A call that waits for its turn, and then for its answer. */
     private static final class Waiting<T, R> {
@@ -54,6 +54,15 @@ final class Lane {
                 future.completeExceptionally(e);
             }
         }
+
+        /** Hands over what came before a failure of all calls that were sent together, or the failure. */
+        private void complete(Throwable failure) {
+            if (reply != null && reply.isAnswered()) {
+                complete();
+            } else {
+                future.completeExceptionally(failure);
+            }
+        }
     }
 
     /**
@@ -63,11 +72,18 @@ final class Lane {
     Lane(ConnectionPool pool, Executor callbacks) {
         this.pool = pool;
         this.callbacks = callbacks;
-        thread = new ThreadPoolExecutor(1, 1, IDLE_SECONDS, TimeUnit.SECONDS, new LinkedBlockingQueue<>(), Lane::newThread);
-        thread.allowCoreThreadTimeOut(true);
+        thread = threads(1);
     }
 
-    static Thread newThread(Runnable work) {
+    /** Makes so many threads at most, which end when there is nothing to do for them. What they can't do yet waits. */
+    static Executor threads(int most) {
+        ThreadPoolExecutor made = new ThreadPoolExecutor(most, most, IDLE_SECONDS, TimeUnit.SECONDS, new LinkedBlockingQueue<>(),
+                Lane::newThread);
+        made.allowCoreThreadTimeOut(true);
+        return made;
+    }
+
+    private static Thread newThread(Runnable work) {
         Thread made = new Thread(work, "bpfmap-async");
         made.setDaemon(true);
         return made;
@@ -112,7 +128,7 @@ final class Lane {
             });
             calls.forEach(call -> callbacks.execute(call::complete));
         } catch (RuntimeException | Error e) {
-            calls.forEach(call -> callbacks.execute(() -> call.future.completeExceptionally(e)));
+            calls.forEach(call -> callbacks.execute(() -> call.complete(e)));
         }
     }
 }

@@ -60,7 +60,8 @@ final class ObjectFile {
         }
         int machine = content.getShort(MACHINE_AT) & 0xffff;
         if (machine != BPF) {
-            throw new ObjectFaultException("the object is for machine " + machine + ", not for BPF: compile with clang -target bpf");
+            throw new ObjectFaultException("the object is for machine " + machine
+                    + ", not for BPF: compile with clang -target bpf");
         }
         long names = readSections();
         readSymbols();

@@ -116,8 +116,8 @@ public final class Request<T> {
     }
 
     /**
-     * Registers a program, and tells the server's own number for it, which another connection may {@link Connection#adopt adopt}. You
-     * need this for nothing else: a request that names its {@link Program} registers it.
+     * Registers a program, and tells the server's own number for it, which another connection may {@link Connection#adopt adopt}.
+     * You need this for nothing else: a request that names its {@link Program} registers it.
      *
      * @param program the program to be verified and registered
      * @return a request whose answer is its number

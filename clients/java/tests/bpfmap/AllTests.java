@@ -31,6 +31,7 @@ public final class AllTests {
         tests.runStreams(server);
         tests.runPrograms();
         tests.judge("sentences of refusals", () -> RefusalTest.sentences(Path.of("docs")));
+        tests.judge("the README's blocks", () -> ReadmeTest.blocks(server, Path.of("clients", "java", "README.md")));
         tests.judge("examples", () -> ExamplesTest.printed(server, Path.of("examples", "clients", "README.md")));
         System.out.println("clients/java: " + tests.passed + " tests passed, " + tests.failed + " failed");
         System.exit(tests.failed == 0 ? 0 : 1);

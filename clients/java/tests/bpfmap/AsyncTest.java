@@ -37,8 +37,8 @@ final class AsyncTest {
     }
 
     private static void eachCall(AsyncMap<String, Long> calls) throws Exception {
-        List<CompletableFuture<?>> made = List.of(calls.put("a", 1L), calls.put("a", 2L), calls.get("a"), calls.putIfAbsent("a", 3L),
-                calls.replace("a", 4L), calls.replace("a", 4L, 5L), calls.remove("a", 9L), calls.containsKey("a"),
+        List<CompletableFuture<?>> made = List.of(calls.put("a", 1L), calls.put("a", 2L), calls.get("a"),
+                calls.putIfAbsent("a", 3L), calls.replace("a", 4L), calls.replace("a", 4L, 5L), calls.remove("a", 9L), calls.containsKey("a"),
                 calls.compute("a", Programs.SUM, Codec.longs().encode(1L)),
                 calls.computeIfPresent("b", Programs.SUM, null), calls.computeIfAbsent("a", Programs.SUM, null), calls.remove("a"),
                 calls.get("a"));
@@ -51,7 +51,8 @@ final class AsyncTest {
         Check.equal("a count", 3L, calls.mappingCount().get(PATIENCE, TimeUnit.SECONDS));
         byte[] one = Codec.longs().encode(1L);
         Check.equal("a walk", 3, calls.forEach(1, Programs.SUM, one, Codec.longs()).get(PATIENCE, TimeUnit.SECONDS).items().size());
-        Check.equal("a search", 1, calls.search(1, Programs.SUM, one, Codec.longs()).get(PATIENCE, TimeUnit.SECONDS).items().size());
+        Check.equal("a search", 1,
+                calls.search(1, Programs.SUM, one, Codec.longs()).get(PATIENCE, TimeUnit.SECONDS).items().size());
         Check.equal("a replacement", new Counts(3, 3, 0), calls.replaceAll(Programs.SUM, one).get(PATIENCE, TimeUnit.SECONDS));
         Check.equal("after it", 3L, calls.get("y").get(PATIENCE, TimeUnit.SECONDS));
     }

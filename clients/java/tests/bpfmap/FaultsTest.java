@@ -13,8 +13,8 @@ import java.util.concurrent.TimeUnit;
 import java.util.concurrent.TimeoutException;
 
 /**
- * A fault at each read, write and wait of a script of calls, one after the other: each answer is that of its own call, and the calls
- * after the fault go on.
+ * A fault at each read, write and wait of a script of calls, one after the other: each answer is that of its own call, and the
+ * calls after the fault go on.
  */
 final class FaultsTest {
     private static final int KEYS = 4;

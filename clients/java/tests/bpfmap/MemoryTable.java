@@ -10,8 +10,8 @@ import java.util.Map;
 import java.util.TreeMap;
 
 /**
- * A server in the memory of the tests, for faults that no socket can be made to have: a session takes bytes and gives bytes. It knows
- * the calls and the programs that the tests of faults use.
+ * A server in the memory of the tests, for faults that no socket can be made to have: a session takes bytes and gives bytes. It
+ * knows the calls and the programs that the tests of faults use.
  */
 final class MemoryTable {
     private static final HexFormat HEX = HexFormat.of();
@@ -105,7 +105,8 @@ final class MemoryTable {
             byte[] key = HEX.parseHex(entry.getKey());
             byte[] made = run(programs.get((int) number), entry.getValue(), new byte[0]);
             ByteBuffer item = ByteBuffer.allocate(1 + key.length + 2 + made.length);
-            answers.writeBytes(frame(Body.ITEM, item.put((byte) key.length).put(key).putShort((short) made.length).put(made).array()));
+            item.put((byte) key.length).put(key).putShort((short) made.length).put(made);
+            answers.writeBytes(frame(Body.ITEM, item.array()));
         }
         answers.writeBytes(end(entries.size(), entries.size()));
         return answers.toByteArray();
