@@ -185,7 +185,12 @@ public final class Connection implements AutoCloseable {
     /** Throws if this connection can't carry a request. */
     void check(Request<?> request) {
         request.check(version);
-        numbers.check(request);
+        ProgramName name = request.program();
+        if (name != null && name.program() == null) {
+            numbers.atServer(name);
+        } else if (name != null && !numbers.has(name.program())) {
+            name.program().check(version);
+        }
     }
 
     /** Makes calls, and reads all their answers. Those whose program is refused end with that refusal, and are not sent. */

@@ -63,12 +63,4 @@ final class Numbers {
         }
         throw new ForeignNumberException(number);
     }
-
-    /** Throws if a request has a number that is not of this connection. */
-    void check(Request<?> request) {
-        ProgramName name = request.program();
-        if (name != null && name.program() == null) {
-            atServer(name);
-        }
-    }
 }

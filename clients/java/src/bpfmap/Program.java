@@ -15,6 +15,7 @@ import java.util.regex.Pattern;
  * server verifies a program when it is first used; what may stand in one says docs/PROGRAMS.md.
  */
 public final class Program {
+    private static final int UNIT = 8;
     private static final int LARGEST_SIZE = 0xffff;
     /** Pairs of digits, and no instruction begins with one; possessive, so that a long text takes no stack. */
     private static final Pattern HEX = Pattern.compile("\\s*+(?:[0-9a-fA-F]{2}\\s*+)++");
@@ -137,6 +138,14 @@ public final class Program {
         }
         String text = StandardCharsets.UTF_8.newDecoder().decode(ByteBuffer.wrap(content)).toString();
         return HEX.matcher(text).matches() ? ofHex(text, sizes) : ofText(text, sizes);
+    }
+
+    /** Throws as the server would if a version's frames do not hold this program. */
+    void check(Version version) {
+        if (units.length > version.longestProgram()) {
+            boolean isWhole = units.length % UNIT == 0;
+            throw new RefusedException(isWhole ? RefusedException.TOO_MANY_UNITS : RefusedException.NOT_WHOLE_UNITS, 0);
+        }
     }
 
     /**

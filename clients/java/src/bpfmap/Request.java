@@ -18,7 +18,6 @@ import java.util.Objects;
 public final class Request<T> {
     static final int LONGEST_KEY = 64;
 
-    private static final int UNIT = 8;
     private static final Field ABSENT = new Field(new byte[] {(byte) 0xff, (byte) 0xff});
 
     private final byte[] frame;
@@ -64,22 +63,17 @@ public final class Request<T> {
         longestValue = Arrays.stream(fields).mapToInt(Field::valueLength).max().orElse(0);
     }
 
-    /** Throws where a version does not carry this request. No other than Register has a body that is too long. */
+    /** Throws if a version does not carry this request. No other than Register has a body that is too long. */
     void check(Version version) {
         checkValue(longestValue, version);
-        checkProgram(frame.length - Integer.BYTES - Version.BEFORE_PROGRAM, version);
+        if (registered != null) {
+            registered.check(version);
+        }
     }
 
     private static void checkValue(int length, Version version) {
         if (length > version.longestValue()) {
             throw new TooLongException("value", length, version.longestValue());
-        }
-    }
-
-    private static void checkProgram(int length, Version version) {
-        if (length > version.longestProgram()) {
-            boolean whole = length % UNIT == 0;
-            throw new RefusedException(whole ? RefusedException.TOO_MANY_UNITS : RefusedException.NOT_WHOLE_UNITS, 0);
         }
     }
 
@@ -125,7 +119,7 @@ public final class Request<T> {
      */
     public static Request<Long> register(Program program) {
         byte[] units = program.units();
-        checkProgram(units.length, Version.TWO);
+        program.check(Version.TWO);
         Program.Sizes sizes = program.sizes();
         ByteBuffer declared = ByteBuffer.allocate(4 * Short.BYTES).putShort((short) sizes.key())
                 .putShort((short) sizes.oldValue()).putShort((short) sizes.argument()).putShort((short) sizes.result());

@@ -107,7 +107,7 @@ public final class AllTests {
         judge("items as they arrive", StreamsTest::asItemsArrive);
         judge("walks that are left", StreamsTest::left);
         judge("a walk that was closed", StreamsTest::closed);
-        judge("calls amid a walk", () -> StreamsTest.callsAmidAWalk(server));
+        judge("calls amid a walk", StreamsTest::callsAmidAWalk);
         judge("streams of programs", () -> StreamsTest.programs(server));
         judge("walks with functions", () -> BulkTest.likeConcurrentHashMap(server));
         judge("a set of keys", () -> BulkTest.newKeySet(server));

@@ -14,7 +14,7 @@ import java.util.concurrent.TimeUnit;
 
 /** A map's calls as futures. */
 final class AsyncTest {
-    private static final int CALLS = 20_000;
+    private static final int CALLS = 5_000;
     private static final int PATIENCE = 20;
 
     private AsyncTest() {}

@@ -20,7 +20,7 @@ final class BrokenTest {
     private static final byte[] ONE = Codec.longs().encode(1L);
     private static final String PUT = "11" + "0161" + "0001" + "01";
     private static final String NOTHING = "00000003 82 ffff";
-    private static final int CALLS = 100_000;
+    private static final int CALLS = 40_000;
     private static final int TRIES = 12;
     private static final Duration SHORT = Duration.ofMillis(300);
     private static final long PATIENCE = 5_000;

@@ -26,7 +26,7 @@ import java.util.function.ToLongFunction;
 
 /** The walks with Java functions are all there, and answer as ConcurrentHashMap's. */
 final class BulkTest {
-    private static final int ENTRIES = 300;
+    private static final int ENTRIES = 20;
 
     private final ConcurrentSkipListSet<String> seen = new ConcurrentSkipListSet<>();
 
@@ -45,7 +45,7 @@ final class BulkTest {
                 if (method.getDeclaringClass() == ConcurrentHashMap.class && method.getParameterCount() > 1
                         && method.getParameterTypes()[0] == long.class) {
                     Method same = RemoteMap.class.getMethod(method.getName(), method.getParameterTypes());
-                    for (long threshold : new long[] {1, ENTRIES, ENTRIES + 1, Long.MAX_VALUE}) {
+                    for (long threshold : new long[] {1, ENTRIES + 1}) {
                         Check.equal(method.getName(), new BulkTest().answer(method, model, threshold),
                                 new BulkTest().answer(same, map, threshold));
                     }
@@ -54,7 +54,7 @@ final class BulkTest {
             }
             keySets(map);
         }
-        return compared + " methods, by four thresholds";
+        return compared + " methods, in parallel and not";
     }
 
     /** What a method answers or hands over. Functions are such that the order of the items makes no difference. */

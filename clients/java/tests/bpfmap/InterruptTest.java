@@ -21,8 +21,8 @@ import java.util.stream.IntStream;
 
 /** Threads that are interrupted in the middle of calls, and threads that share a map or a connection. */
 final class InterruptTest {
-    private static final int INTERRUPTS = 300;
-    private static final int CALLS = 300;
+    private static final int INTERRUPTS = 200;
+    private static final int CALLS = 100;
     private static final int PATIENCE = 5_000;
     private static final long SEED = 57;
 

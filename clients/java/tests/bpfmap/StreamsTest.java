@@ -18,8 +18,9 @@ final class StreamsTest {
     private static final String FIRST = "00000006 86 0161 0001 31";
     private static final String SECOND = "00000006 86 0162 0001 32";
     private static final String END_OF_TWO = "00000019 87 0000000000000002 0000000000000002 0000000000000000";
-    private static final int STREAMS = 100;
+    private static final int STREAMS = 20;
     private static final int MANY = 20_000;
+    private static final int LEFT = 20;
     private static final int PATIENCE = 5;
 
     private StreamsTest() {}
@@ -158,12 +159,13 @@ final class StreamsTest {
     }
 
     /** Calls amid a walk go over another connection, and few of the walk's items are here. */
-    static String callsAmidAWalk(Path server) throws Exception {
-        try (Mapd mapd = Mapd.start(server);
-                RemoteMap<Long, byte[]> map = mapd.open(Codec.longs(), Codec.bytes(), 1)) {
+    static String callsAmidAWalk() throws Exception {
+        try (MemoryServer server = new MemoryServer();
+                RemoteMap<Long, byte[]> map = server.open(Codec.longs(), Codec.bytes())) {
             TreeMap<Long, byte[]> wanted = new TreeMap<>();
             for (long key = 0; key < MANY; key++) {
-                wanted.put(key, new byte[200 + (int) key % 50]);
+                // The order of a walk is that of the keys' bytes.
+                wanted.put(Long.reverseBytes(key), new byte[200 + (int) key % 50]);
             }
             map.putAll(wanted);
             int most = 0;
@@ -189,9 +191,9 @@ final class StreamsTest {
         return "two walks over " + MANY + " entries at once, and gets";
     }
 
-    /** More walks are left than the server has workers. */
+    /** Walks that are left one after the other take nothing with them. */
     private static void leaveOften(RemoteMap<Long, byte[]> map) {
-        for (int time = 0; time < 3 * Mapd.WORKERS; time++) {
+        for (int time = 0; time < LEFT; time++) {
             try (Stream<byte[]> values = map.values().stream()) {
                 Check.that("a value", values.anyMatch(value -> value.length >= 200));
             }
