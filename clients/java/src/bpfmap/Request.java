@@ -151,7 +151,7 @@ public final class Request<T> {
      * Puts a value if there is none.
      *
      * @param key the key
-     * @param value its value, where it has none
+     * @param value its value, if it has none
      * @return a request for the value that it has, or nothing
      */
     public static Request<byte[]> putIfAbsent(byte[] key, byte[] value) {
@@ -183,7 +183,7 @@ public final class Request<T> {
      * Replaces a value, if there is one.
      *
      * @param key the key
-     * @param value its new value, where it has one
+     * @param value its new value, if it has one
      * @return a request for the value before
      */
     public static Request<byte[]> replace(byte[] key, byte[] value) {

@@ -2,12 +2,19 @@ package bpfmap;
 
 /** The programs by which the views of a map walk its entries: all whose values a version carries. */
 final class WalkPrograms {
+    private static final WalkPrograms OF_ONE = new WalkPrograms(Version.ONE);
+    private static final WalkPrograms OF_TWO = new WalkPrograms(Version.TWO);
+
     private final Program keys;
     private final Program entries;
 
-    WalkPrograms(Version version) {
+    private WalkPrograms(Version version) {
         keys = program(version, "mov64 r0, 0\nexit\n");
         entries = program(version, copy(version.longestValue()));
+    }
+
+    static WalkPrograms of(Version version) {
+        return version == Version.ONE ? OF_ONE : OF_TWO;
     }
 
     /** Answers no bytes for each entry. */

@@ -21,7 +21,7 @@ final class WalkSources<K, V> {
         this.pool = pool;
         this.coder = coder;
         this.remover = remover;
-        programs = new WalkPrograms(pool.version());
+        programs = WalkPrograms.of(pool.version());
     }
 
     WalkSource<K> keys() {

@@ -19,8 +19,8 @@ final class StreamsTest {
     private static final String SECOND = "00000006 86 0162 0001 32";
     private static final String END_OF_TWO = "00000019 87 0000000000000002 0000000000000002 0000000000000000";
     private static final int STREAMS = 20;
-    private static final int MANY = 20_000;
-    private static final int LEFT = 20;
+    private static final int MANY = 5_000;
+    private static final int LEFT = 8;
     private static final int PATIENCE = 5;
 
     private StreamsTest() {}

@@ -21,7 +21,7 @@ final class VersionsTest {
     /** The least length that version 1 does not carry. */
     private static final byte[] LEAST = filled(Version.ONE.longestValue() + 1);
     private static final Program.Sizes LARGE = new Program.Sizes(64, 1024, 1024, 1024);
-    private static final Program COPY = Program.of(new WalkPrograms(Version.TWO).entries().units(), LARGE);
+    private static final Program COPY = Program.of(WalkPrograms.of(Version.TWO).entries().units(), LARGE);
     private static final int TOO_LONG = 65;
     private static final int PIPELINE = 200;
 
