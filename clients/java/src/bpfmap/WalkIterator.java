@@ -1,6 +1,7 @@
 package bpfmap;
 
 import java.lang.ref.Cleaner;
+import java.lang.ref.Reference;
 import java.util.Iterator;
 import java.util.Map;
 import java.util.function.Consumer;
@@ -48,19 +49,28 @@ public final class WalkIterator<T> implements Iterator<T>, AutoCloseable {
      */
     @Override
     public boolean hasNext() {
-        boolean hasNext = walk.hasNext();
-        Counts counts = walk.countsIfRead();
-        if (needsAll && counts != null && counts.unfit() > 0) {
-            throw new RefusedException(RefusedException.VALUE_TOO_LONG, 0);
+        try {
+            boolean hasNext = walk.hasNext();
+            Counts counts = walk.countsIfRead();
+            if (needsAll && counts != null && counts.unfit() > 0) {
+                throw new RefusedException(RefusedException.VALUE_TOO_LONG, 0);
+            }
+            return hasNext;
+        } finally {
+            // Else the cleaner might close the walk while its last item is waited for.
+            Reference.reachabilityFence(this);
         }
-        return hasNext;
     }
 
     @Override
     public T next() {
-        Map.Entry<byte[], byte[]> item = walk.next();
-        last = item.getKey();
-        return decoder.apply(item);
+        try {
+            Map.Entry<byte[], byte[]> item = walk.next();
+            last = item.getKey();
+            return decoder.apply(item);
+        } finally {
+            Reference.reachabilityFence(this);
+        }
     }
 
     /** How many items are here already. */

@@ -14,8 +14,8 @@ import java.util.concurrent.TimeUnit;
 
 /** A map's calls as futures. */
 final class AsyncTest {
-    private static final int CALLS = 5_000;
-    private static final int PATIENCE = 20;
+    private static final int CALLS = 2_000;
+    private static final int PATIENCE = 60;
 
     private AsyncTest() {}
 

@@ -18,7 +18,7 @@ import java.util.concurrent.TimeoutException;
  */
 final class FaultsTest {
     private static final int KEYS = 4;
-    private static final int PATIENCE = 20;
+    private static final int PATIENCE = 60;
     private static final Settings SETTINGS = Settings.DEFAULT;
 
     private final MemoryTable table = new MemoryTable();

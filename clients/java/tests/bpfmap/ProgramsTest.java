@@ -74,6 +74,8 @@ final class ProgramsTest {
             Check.equal("text", Programs.SUM, Program.ofFile(file, SIZES));
             Files.writeString(file, HexFormat.ofDelimiter(" ").formatHex(Programs.SUM.units()) + "\n");
             Check.equal("hex", Programs.SUM, Program.ofFile(file, SIZES));
+            Files.writeString(file, "95 00 00 00 00 00 00 00\n".repeat(4096));
+            Check.equal("the longest hex", Program.ofText("exit\n".repeat(4096), SIZES), Program.ofFile(file, SIZES));
             Files.write(file, "\u007fELF, or not".getBytes(StandardCharsets.UTF_8));
             Check.raises("no object", ObjectFaultException.class, () -> Program.ofFile(file, SIZES));
             Files.write(file, new byte[] {(byte) 0xff});
