@@ -44,7 +44,7 @@ final class Body {
         return takeBytes(takeByte());
     }
 
-    /** A value, or null where there is none. */
+    /** A value, or null if there is none. */
     byte[] takeValueOrNothing() throws ProtocolException {
         int length = take(2).getShort() & 0xffff;
         return length == ABSENT ? null : takeBytes(length);

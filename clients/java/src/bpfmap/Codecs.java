@@ -7,11 +7,12 @@ import java.nio.charset.CharacterCodingException;
 import java.nio.charset.StandardCharsets;
 import java.util.Arrays;
 
-/** The three codecs of {@link Codec}. */
+/** The codecs of {@link Codec}. */
 final class Codecs {
     static final Codec<byte[]> BYTES = new Bytes();
     static final Codec<String> STRINGS = new Strings();
     static final Codec<Long> LONGS = new Longs();
+    static final Codec<Boolean> BOOLEANS = new Booleans();
 
     private Codecs() {}
 
@@ -60,6 +61,21 @@ final class Codecs {
                 throw new IllegalArgumentException("a number has 8 bytes, not " + bytes.length);
             }
             return ByteBuffer.wrap(bytes).order(ByteOrder.LITTLE_ENDIAN).getLong();
+        }
+    }
+
+    private static final class Booleans implements Codec<Boolean> {
+        @Override
+        public byte[] encode(Boolean value) {
+            return new byte[] {(byte) (value ? 1 : 0)};
+        }
+
+        @Override
+        public Boolean decode(byte[] bytes) {
+            if (bytes.length != 1 || bytes[0] < 0 || bytes[0] > 1) {
+                throw new IllegalArgumentException("a truth value is a byte 1 or 0, not " + bytes.length + " bytes");
+            }
+            return bytes[0] == 1;
         }
     }
 }

@@ -1,37 +1,33 @@
 package bpfmap;
 
-import java.io.BufferedInputStream;
-import java.io.DataInputStream;
-import java.io.EOFException;
 import java.io.IOException;
-import java.io.OutputStream;
-import java.net.InetSocketAddress;
-import java.net.ProtocolException;
-import java.net.Socket;
+import java.io.InterruptedIOException;
 import java.net.SocketTimeoutException;
-import java.util.HashMap;
+import java.util.ArrayList;
+import java.util.LinkedHashMap;
+import java.util.List;
 import java.util.Map;
+import java.util.concurrent.Semaphore;
 
 /**
- * One connection to a server, for one thread at a time. A call that meets a fault of the connection throws, and the connection is
- * closed: the call was made or it was not, and nothing here makes it again.
+ * One connection to a server. Threads that share it make their calls one after the other. Whatever cuts a call short (a fault of
+ * the connection, a late answer, an interrupt, any other exception) closes the connection: the call may have been made, nothing
+ * here makes it again, and no later call gets its answer.
  */
 public final class Connection implements AutoCloseable {
-    private static final int PIECE = 16 * 1024;
-
-    private final Socket socket;
-    private final DataInputStream input;
-    private final OutputStream output;
+    private final Transport transport;
+    private final Frames frames;
     private final Version version;
-    private final Map<Program, Long> programs = new HashMap<>();
-    private boolean isBetweenCalls;
-    private boolean mayHaveEnded;
+    private final Numbers numbers = new Numbers();
+    private final Semaphore turn = new Semaphore(1);
+    private volatile boolean isWalking;
+    private volatile boolean isBetweenCalls;
+    private volatile boolean mayHaveEnded;
 
-    private Connection(Socket socket, Version version) throws IOException {
-        this.socket = socket;
+    private Connection(Transport transport, Version version) {
+        this.transport = transport;
         this.version = version;
-        input = new DataInputStream(new BufferedInputStream(socket.getInputStream(), PIECE));
-        output = socket.getOutputStream();
+        frames = new Frames(transport, version);
     }
 
     /**
@@ -41,108 +37,219 @@ public final class Connection implements AutoCloseable {
      * @param port its port
      * @param settings the times and the version of the protocol
      * @return the connection
-     * @throws IOException where there is no server, or it has no worker left for this connection
-     * @throws RefusedException where the server does not know the version
+     * @throws IOException if there is no server, or it has no worker left for this connection; it names host and port
+     * @throws RefusedException if the server does not know the version
      */
     public static Connection open(String host, int port, Settings settings) throws IOException {
-        Socket socket = new Socket();
-        try {
-            socket.setTcpNoDelay(true);
-            socket.setSoTimeout(Settings.milliseconds(settings.answerTimeout()));
-            socket.connect(new InetSocketAddress(host, port), Settings.milliseconds(settings.connectTimeout()));
-            Connection connection = new Connection(socket, settings.version());
-            connection.begin();
-            return connection;
-        } catch (IOException | RuntimeException e) {
-            socket.close();
-            throw e;
-        }
+        return over(SocketTransport.connect(host, port, settings), host + ":" + port, settings.version());
     }
 
-    private void begin() throws IOException {
+    /** Says Hello over a transport, which is closed if that fails. */
+    static Connection over(Transport transport, String server, Version version) throws IOException {
+        Connection connection = new Connection(transport, version);
+        boolean isOpen = false;
         try {
-            call(Request.hello(version));
+            connection.call(Request.hello(version));
+            isOpen = true;
+            return connection;
         } catch (SocketTimeoutException e) {
-            throw (IOException) new SocketTimeoutException("no Hello came: the server may have no worker left for this connection")
-                    .initCause(e);
+            throw (IOException) new SocketTimeoutException(server + ": no Hello came: the server may have no worker left for this "
+                    + "connection").initCause(e);
+        } catch (RefusedException e) {
+            throw e.ofHello(version);
+        } finally {
+            if (!isOpen) {
+                connection.close();
+            }
         }
     }
 
     /**
-     * Makes one call and waits for its answer.
+     * Makes one call and waits for its answer. A program that the request names is registered first, if this connection has not
+     * done so yet.
      *
      * @param request the call
      * @param <T> the answer
      * @return the answer
-     * @throws RefusedException where the server refused the request
-     * @throws UnfitException where the program's windows are too small
-     * @throws TooLongException where the version does not carry its value; nothing was sent
-     * @throws IOException where the connection broke
+     * @throws RefusedException if the server refused the request or its program
+     * @throws UnfitException if the program's windows are too small
+     * @throws TooLongException if the version does not carry its value; nothing was sent
+     * @throws ForeignNumberException if it has a program's number that this connection did not give; nothing was sent
+     * @throws IllegalStateException if a walk of this connection is open; nothing was sent
+     * @throws IOException if the connection broke, or the thread was interrupted
      */
     public <T> T call(Request<T> request) throws IOException {
-        request.check(version);
+        check(request);
         Reply<T> reply = new Reply<>(request);
-        exchange(() -> {
-            output.write(request.frame());
-            reply.read(this);
-        });
+        makeAll(List.of(reply));
         return reply.get();
     }
 
     /**
-     * The number of a program, which is registered where this connection has not done so. Numbers are kept for each connection
-     * alone, since a server that began anew has given its numbers to other programs.
+     * Begins a walk, whose items are read as they come. Until it has ended or is closed this connection makes no other call.
+     *
+     * @param request a request by {@link Request#forEach(Program, byte[], long)} or {@link Request#search(Program, byte[], long)}
+     * @return the walk
+     * @throws RefusedException if the server refused the request or its program
+     * @throws IOException if the connection broke, or the thread was interrupted
+     */
+    public OpenWalk walk(Request<Walk<byte[], byte[]>> request) throws IOException {
+        return walk(request, () -> { });
+    }
+
+    /** Begins a walk; the action runs when it has ended or was closed. */
+    OpenWalk walk(Request<Walk<byte[], byte[]>> request, Runnable atEnd) throws IOException {
+        check(request);
+        takeTurn();
+        boolean hasBegun = false;
+        try {
+            Reply<?> reply = new Reply<>(request);
+            registerAll(List.of(reply));
+            if (reply.refusal() != null) {
+                throw reply.refusal();
+            }
+            isWalking = true;
+            hasBegun = true;
+            return OpenWalk.begin(this, request, atEnd);
+        } finally {
+            if (!hasBegun) {
+                turn.release();
+            }
+        }
+    }
+
+    /**
+     * The number of a program, which is registered if this connection has not done so. The number means something to this
+     * connection alone. A request that names the {@link Program} itself needs none.
      *
      * @param program the program
      * @return its number
-     * @throws RefusedException where the server refused the program
-     * @throws IOException where the connection broke
+     * @throws RefusedException if the server refused the program
+     * @throws IOException if the connection broke, or the thread was interrupted
      */
     public long numberOf(Program program) throws IOException {
-        Long known = programs.get(program);
-        if (known != null) {
-            return known;
+        if (!numbers.has(program)) {
+            call(Request.register(program));
         }
-        long number = call(Request.register(program));
-        programs.put(program, number);
-        return number;
+        return numbers.given(program);
     }
 
-    /** @return the version of the protocol */
+    /**
+     * Allows a server's number that another connection was answered, by {@link Request#register}. You say by this that the server
+     * has not been started again since: else it may be another program's.
+     *
+     * @param number the number that the server answered
+     */
+    public void adopt(long number) {
+        numbers.adopt(number);
+    }
+
+    /**
+     * The version of the protocol.
+     *
+     * @return the version that both sides speak
+     */
     public Version version() {
         return version;
     }
 
-    /** @return an empty pipeline of this connection */
+    /**
+     * Begins a pipeline.
+     *
+     * @return an empty pipeline of this connection
+     */
     public Pipeline pipeline() {
         return new Pipeline(this);
     }
 
-    /** @return whether a further call can be made here, as far as this side knows */
+    /**
+     * Whether a further call can be made here, as far as this side knows.
+     *
+     * @return whether it can
+     */
     public boolean isUsable() {
-        return isBetweenCalls && !mayHaveEnded && !socket.isClosed();
+        return isBetweenCalls && !mayHaveEnded && transport.isOpen();
     }
 
-    /** Closes the socket; calls that were answered stand. */
+    /** Closes the socket. Calls that were answered stand. */
     @Override
     public void close() {
-        try {
-            socket.close();
-        } catch (IOException e) {
-            mayHaveEnded = true;
+        transport.close();
+    }
+
+    /** Whether it is usable, and the server has neither ended it nor sent anything that was not asked for. */
+    boolean isFresh() {
+        return isUsable() && frames.isQuiet();
+    }
+
+    /** Throws if this connection can't carry a request. */
+    void check(Request<?> request) {
+        request.check(version);
+        ProgramName name = request.program();
+        if (name != null && name.program() == null) {
+            numbers.atServer(name);
+        } else if (name != null && !numbers.has(name.program())) {
+            name.program().check(version);
         }
     }
 
-    /** Calls whose answers are all read before the next calls begin. */
-    interface Exchange {
-        void run() throws IOException;
+    /** Makes calls, and reads all their answers. Those whose program is refused end with that refusal, and are not sent. */
+    void makeAll(List<? extends Reply<?>> replies) throws IOException {
+        takeTurn();
+        try {
+            registerAll(replies);
+            exchange(replies.stream().filter(reply -> !reply.hasEnded()).toList());
+        } finally {
+            turn.release();
+        }
     }
 
-    /** Runs an exchange; whatever cuts it short closes the connection, so that no answer is taken for a later call's. */
-    void exchange(Exchange exchange) throws IOException {
-        isBetweenCalls = false;
+    private void takeTurn() throws IOException {
+        if (isWalking) {
+            throw new IllegalStateException("a walk of this connection is open: nothing was sent. Read it to its end or "
+                    + "close it, or make the call over another connection");
+        }
         try {
-            exchange.run();
+            turn.acquire();
+        } catch (InterruptedException e) {
+            Thread.currentThread().interrupt();
+            throw new InterruptedIOException("the thread was interrupted before the call: nothing was sent");
+        }
+    }
+
+    /** Registers the programs that are named and not yet known. */
+    private void registerAll(List<? extends Reply<?>> replies) throws IOException {
+        Map<Program, Reply<?>> unknown = new LinkedHashMap<>();
+        for (Reply<?> reply : replies) {
+            ProgramName name = reply.request().program();
+            if (name != null && name.program() != null && !numbers.has(name.program())) {
+                unknown.computeIfAbsent(name.program(), program -> new Reply<>(Request.register(program)));
+            }
+        }
+        if (!unknown.isEmpty()) {
+            exchange(new ArrayList<>(unknown.values()));
+            replies.forEach(reply -> refuseWith(unknown, reply));
+        }
+    }
+
+    private static void refuseWith(Map<Program, Reply<?>> registered, Reply<?> reply) {
+        ProgramName name = reply.request().program();
+        Reply<?> registration = name == null ? null : registered.get(name.program());
+        if (registration != null && registration.refusal() != null) {
+            reply.refuse(registration.refusal());
+        }
+    }
+
+    /** Sends requests and reads their answers; whatever cuts that short closes the connection. */
+    private void exchange(List<? extends Reply<?>> replies) throws IOException {
+        if (replies.isEmpty()) {
+            return;
+        }
+        try {
+            begin(replies.stream().map(Reply::request).toList());
+            for (Reply<?> reply : replies) {
+                reply.read(this);
+            }
             isBetweenCalls = true;
         } finally {
             if (!isBetweenCalls) {
@@ -151,31 +258,49 @@ public final class Connection implements AutoCloseable {
         }
     }
 
-    OutputStream output() {
-        return output;
+    /** Hands over requests for sending. From here on the connection is in the middle of a call. */
+    void begin(List<? extends Request<?>> requests) throws IOException {
+        if (!transport.isOpen()) {
+            throw new IOException("the connection is closed: nothing was sent. Open another one");
+        }
+        isBetweenCalls = false;
+        frames.send(requests.stream().map(this::frameOf).iterator());
+    }
+
+    private byte[] frameOf(Request<?> request) {
+        ProgramName name = request.program();
+        return name == null ? request.frame() : request.frame(numbers.atServer(name));
+    }
+
+    /** Ends a walk; if its answer was not read to the end, the connection is closed. */
+    void endWalk(boolean isWhole) {
+        isBetweenCalls = isWhole;
+        if (!isWhole) {
+            close();
+        }
+        isWalking = false;
+        turn.release();
     }
 
     /** Reads the answer to this request, the next that was sent. */
     <T> T read(Request<T> request) throws IOException {
         try {
-            return request.read(this::nextBody);
+            T answer = request.read(frames::next);
+            if (request.registered() != null) {
+                numbers.put(request.registered(), (Long) answer);
+            }
+            return answer;
         } catch (RefusedException e) {
-            mayHaveEnded |= e.mayEndSession();
+            noteRefusal(e);
             throw e;
         }
     }
 
-    private Body nextBody() throws IOException {
-        try {
-            int length = input.readInt();
-            if (length < 1 || length > version.longestBody()) {
-                throw new ProtocolException("the server sent a frame of length " + Integer.toUnsignedString(length));
-            }
-            byte[] body = new byte[length];
-            input.readFully(body);
-            return new Body(body);
-        } catch (EOFException e) {
-            throw new EOFException("the connection ended before the answer");
-        }
+    void noteRefusal(RefusedException refusal) {
+        mayHaveEnded |= refusal.mayEndSession();
+    }
+
+    Frames frames() {
+        return frames;
     }
 }

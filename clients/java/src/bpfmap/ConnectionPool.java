@@ -1,23 +1,32 @@
 package bpfmap;
 
 import java.io.IOException;
+import java.io.InterruptedIOException;
 import java.io.UncheckedIOException;
+import java.net.SocketTimeoutException;
 import java.util.ArrayDeque;
 import java.util.Deque;
 import java.util.concurrent.Semaphore;
+import java.util.concurrent.atomic.AtomicBoolean;
 
-/** A map's connections, each lent to one thread at a time. A thread waits where all are lent. */
+/**
+ * A map's connections, each lent to one call at a time. A thread waits if all are lent. A walk does not wait, and no call waits for
+ * it: it takes an idle connection or opens one more.
+ */
 final class ConnectionPool implements AutoCloseable {
-    private final String host;
-    private final int port;
+    private final Opener opener;
     private final Settings settings;
     private final Semaphore free;
     private final Deque<Connection> idle = new ArrayDeque<>();
     private boolean isClosed;
 
-    ConnectionPool(String host, int port, Settings settings) {
-        this.host = host;
-        this.port = port;
+    /** Opens a connection. */
+    interface Opener {
+        Connection open() throws IOException;
+    }
+
+    ConnectionPool(Opener opener, Settings settings) {
+        this.opener = opener;
         this.settings = settings;
         free = new Semaphore(settings.connections(), true);
     }
@@ -27,6 +36,11 @@ final class ConnectionPool implements AutoCloseable {
         return settings.version();
     }
 
+    /** How many connections calls have at most. */
+    int connections() {
+        return settings.connections();
+    }
+
     /** What is done with a connection. */
     interface Use<T> {
         T on(Connection connection) throws IOException;
@@ -34,27 +48,80 @@ final class ConnectionPool implements AutoCloseable {
 
     /** Lends a connection; one that breaks is closed, and so are the idle ones, which the same server had. */
     <T> T use(Use<T> use) {
-        free.acquireUninterruptibly();
+        acquire();
         try {
             return useOne(use);
         } catch (IOException e) {
-            closeIdle();
-            throw new UncheckedIOException(e);
+            throw unchecked(e);
         } finally {
             free.release();
         }
     }
 
-    private <T> T useOne(Use<T> use) throws IOException {
-        Connection connection = take();
-        if (connection == null) {
-            connection = Connection.open(host, port, settings);
+    /** Begins a walk, which gives its connection back when it has ended. */
+    OpenWalk walk(Request<Walk<byte[], byte[]>> request) {
+        try {
+            return walk(takeOrOpen(), request);
+        } catch (IOException e) {
+            throw unchecked(e);
         }
+    }
+
+    /** Begins a walk. Its connection comes back once: at the walk's end, or here if the walk does not begin. */
+    private OpenWalk walk(Connection connection, Request<Walk<byte[], byte[]>> request) throws IOException {
+        AtomicBoolean isBack = new AtomicBoolean();
+        Runnable atEnd = () -> {
+            if (isBack.compareAndSet(false, true)) {
+                giveBack(connection);
+            }
+        };
+        boolean hasBegun = false;
+        try {
+            OpenWalk walk = connection.walk(request, atEnd);
+            hasBegun = true;
+            return walk;
+        } finally {
+            if (!hasBegun) {
+                atEnd.run();
+            }
+        }
+    }
+
+    private void acquire() {
+        try {
+            free.acquire();
+        } catch (InterruptedException e) {
+            Thread.currentThread().interrupt();
+            throw new UncheckedIOException(
+                    new InterruptedIOException("the thread was interrupted before the call: nothing was sent"));
+        }
+    }
+
+    /** The exception for the caller. An interrupt says nothing of the server, so other connections stay. */
+    private UncheckedIOException unchecked(IOException failure) {
+        boolean isInterrupt = failure instanceof InterruptedIOException && !(failure instanceof SocketTimeoutException);
+        if (!isInterrupt) {
+            closeIdle();
+        }
+        return new UncheckedIOException(failure);
+    }
+
+    private <T> T useOne(Use<T> use) throws IOException {
+        Connection connection = takeOrOpen();
         try {
             return use.on(connection);
         } finally {
             giveBack(connection);
         }
+    }
+
+    private Connection takeOrOpen() throws IOException {
+        Connection connection = take();
+        while (connection != null && !connection.isFresh()) {
+            connection.close();
+            connection = take();
+        }
+        return connection != null ? connection : opener.open();
     }
 
     private synchronized Connection take() {
@@ -64,8 +131,9 @@ final class ConnectionPool implements AutoCloseable {
         return idle.pollFirst();
     }
 
+    /** Takes a connection back: one that can't be used, or that is one too many, is closed. */
     private synchronized void giveBack(Connection connection) {
-        if (isClosed || !connection.isUsable()) {
+        if (isClosed || !connection.isUsable() || idle.size() >= settings.connections()) {
             connection.close();
         } else {
             idle.addFirst(connection);

@@ -1,48 +1,74 @@
 package bpfmap;
 
-import java.util.AbstractMap;
 import java.util.AbstractSet;
-import java.util.Iterator;
-import java.util.List;
 import java.util.Map;
+import java.util.Objects;
+import java.util.Spliterator;
+import java.util.concurrent.atomic.AtomicBoolean;
+import java.util.function.Consumer;
 import java.util.function.Predicate;
+import java.util.stream.Stream;
 
-/** A map's entries. */
-final class EntryView<K, V> extends AbstractSet<Map.Entry<K, V>> {
+/**
+ * A map's entries, those of one walk for each iterator, spliterator and stream. They come as they arrive, in the order of the keys'
+ * bytes. {@code setValue} of an entry is a put. A stream or iterator that you leave before its end you close.
+ *
+ * @param <K> the keys
+ * @param <V> the values
+ */
+public final class EntryView<K, V> extends AbstractSet<Map.Entry<K, V>> {
     private final RemoteMap<K, V> map;
+    private final WalkSource<Map.Entry<K, V>> source;
 
     EntryView(RemoteMap<K, V> map) {
         this.map = map;
-    }
-
-    /** An entry as a walk found it; a new value is put into the map. */
-    private static final class PuttingEntry<K, V> extends AbstractMap.SimpleEntry<K, V> {
-        private static final long serialVersionUID = 1;
-
-        private final transient RemoteMap<K, V> map;
-
-        PuttingEntry(RemoteMap<K, V> map, Map.Entry<K, V> entry) {
-            super(entry);
-            this.map = map;
-        }
-
-        @Override
-        public V setValue(V value) {
-            map.put(getKey(), value);
-            return super.setValue(value);
-        }
+        source = map.entrySource();
     }
 
     @Override
-    public Iterator<Map.Entry<K, V>> iterator() {
-        List<Map.Entry<K, V>> entries = map.walkEntries().stream()
-                .<Map.Entry<K, V>>map(entry -> new PuttingEntry<>(map, entry)).toList();
-        return new WalkIterator<>(map, entries, Map.Entry::getKey);
+    public WalkIterator<Map.Entry<K, V>> iterator() {
+        return source.iterator();
+    }
+
+    /** {@inheritDoc} It is CONCURRENT, DISTINCT and NONNULL. */
+    @Override
+    public Spliterator<Map.Entry<K, V>> spliterator() {
+        return source.spliterator();
+    }
+
+    @Override
+    public Stream<Map.Entry<K, V>> stream() {
+        return source.stream(false);
+    }
+
+    @Override
+    public Stream<Map.Entry<K, V>> parallelStream() {
+        return source.stream(true);
+    }
+
+    @Override
+    public void forEach(Consumer<? super Map.Entry<K, V>> action) {
+        source.forEach(action);
+    }
+
+    @Override
+    public Object[] toArray() {
+        return source.toList().toArray();
+    }
+
+    @Override
+    public <T> T[] toArray(T[] array) {
+        return source.toList().toArray(array);
     }
 
     @Override
     public int size() {
         return map.size();
+    }
+
+    @Override
+    public boolean isEmpty() {
+        return map.isEmpty();
     }
 
     @Override
@@ -56,17 +82,20 @@ final class EntryView<K, V> extends AbstractSet<Map.Entry<K, V>> {
 
     @Override
     public boolean remove(Object other) {
-        return other instanceof Map.Entry<?, ?> entry && map.remove(entry.getKey(), entry.getValue());
+        return other instanceof Map.Entry<?, ?> entry && entry.getKey() != null && map.remove(entry.getKey(), entry.getValue());
     }
 
     /** {@inheritDoc} An entry goes only while it has the value that the filter saw. */
     @Override
     public boolean removeIf(Predicate<? super Map.Entry<K, V>> filter) {
-        boolean anyWent = false;
-        for (Map.Entry<K, V> entry : map.walkEntries()) {
-            anyWent |= filter.test(entry) && map.remove(entry.getKey(), entry.getValue());
-        }
-        return anyWent;
+        Objects.requireNonNull(filter);
+        AtomicBoolean hasRemoved = new AtomicBoolean();
+        forEach(entry -> {
+            if (filter.test(entry) && map.remove(entry.getKey(), entry.getValue())) {
+                hasRemoved.set(true);
+            }
+        });
+        return hasRemoved.get();
     }
 
     @Override

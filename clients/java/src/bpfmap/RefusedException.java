@@ -4,8 +4,8 @@ import java.util.Map;
 
 /**
  * The server refused a request; nothing was done, unless the number is 65. That one comes in version 1 alone, in place of an
- * answer whose value is too long for it: the call was made, and its change stands. Numbers and sentences are those of
- * docs/REFUSALS.md and, of 60 to 64, of docs/PROTOCOL.md.
+ * answer whose value is too long for it: the call was made, and its change stands. 20 to 24 refuse a program's text, here and
+ * before anything is sent. Numbers and sentences are those of docs/REFUSALS.md and, of 60 to 64, of docs/PROTOCOL.md.
  */
 public final class RefusedException extends RuntimeException {
     private static final long serialVersionUID = 1;
@@ -14,7 +14,10 @@ public final class RefusedException extends RuntimeException {
     static final int NOT_WHOLE_UNITS = 11;
     static final int TOO_MANY_UNITS = 12;
     static final int VALUE_TOO_LONG = 65;
+    private static final int WRONG_VERSION = 64;
     private static final int FIRST_OF_UNITS = 10;
+    private static final int FIRST_OF_LINES = 20;
+    private static final int LAST_OF_LINES = 24;
     private static final int LAST_OF_UNITS = 47;
     private static final int FIRST_OF_FRAMES = 60;
     private static final int LAST_OF_FRAMES = 64;
@@ -30,6 +33,13 @@ public final class RefusedException extends RuntimeException {
             meaning(16, "BadWidth", "an offset of DIV or MOD other than 0 and 1, one of MOV with a register that is none of "
                     + "0, 8, 16 (and 32 at 64 bits), an END of other than 16, 32 or 64 bits"),
             meaning(17, "CutWide", "a wide instruction has no second unit"),
+            meaning(20, "UnknownName", "the bytes up to the first blank, newline or end are no name"),
+            meaning(21, "BadOperand", "an operand, a separator or the blank after the name is missing or ill-formed, or a number "
+                    + "has a needless zero or is -0"),
+            meaning(22, "OutOfRange", "a well-formed number doesn't fit its field"),
+            meaning(23, "Trailing", "after the last operand stands anything but a newline, the text's end included"),
+            meaning(24, "BadCount", "the text is empty (line 0), or this line has no other fault and its instruction passes 4,096 "
+                    + "units"),
             meaning(30, "BackwardJump", "a jump's distance is below 0"),
             meaning(31, "JumpOut", "a jump goes to the number of units or past it"),
             meaning(32, "JumpIntoWide", "a jump goes to the second unit of a wide instruction"),
@@ -55,31 +65,73 @@ public final class RefusedException extends RuntimeException {
                     + "was made"),
             meaning(66, "UnknownProgram", "no program has this number"));
 
+    /** The refusal's number. */
     private final int number;
+    /** Where the fault is. */
     private final long place;
 
     RefusedException(int number, long place) {
-        super(message(number, place));
+        this(number, place, "");
+    }
+
+    private RefusedException(int number, long place, String advice) {
+        super(message(number, place) + advice);
         this.number = number;
         this.place = place;
     }
 
-    /** @return the refusal's number */
+    /** A refusal of a program's text, with the line that was refused. */
+    static RefusedException ofLine(int number, long place, String line) {
+        return new RefusedException(number, place, ": '" + line + "'");
+    }
+
+    /** What a server's refusal of a Hello with this version says, with what to do about it. */
+    RefusedException ofHello(Version version) {
+        if (number != WRONG_VERSION) {
+            return this;
+        }
+        String advice = version == Version.TWO
+                ? ". This server is older and does not speak version 2: ask for version 1"
+                : ". This server does not speak version 1: ask for version 2";
+        String how = ", by Settings.DEFAULT.withVersion(Version." + (version == Version.TWO ? Version.ONE : Version.TWO) + ")";
+        RefusedException told = new RefusedException(number, place, advice + how);
+        told.initCause(this);
+        return told;
+    }
+
+    /**
+     * The refusal's number.
+     *
+     * @return the number
+     */
     public int number() {
         return number;
     }
 
-    /** @return the unit of a program for 10 to 47, counted from 0, else 0 */
+    /**
+     * Where the fault is.
+     *
+     * @return the unit of a program for 10 to 17 and 30 to 47, counted from 0; the line of a text for 20 to 24, counted from 1;
+     *     else 0
+     */
     public long place() {
         return place;
     }
 
-    /** @return the refusal's name */
+    /**
+     * The refusal's name.
+     *
+     * @return the name
+     */
     public String name() {
         return meaningOf(number)[0];
     }
 
-    /** @return what the refusal means; of 40 to 47, how to mend the program */
+    /**
+     * The refusal in words.
+     *
+     * @return what the refusal means; of 40 to 47, how to mend the program
+     */
     public String sentence() {
         return meaningOf(number)[1];
     }
@@ -104,7 +156,8 @@ public final class RefusedException extends RuntimeException {
 
     private static String message(int number, long place) {
         String[] meaning = meaningOf(number);
-        String where = number >= FIRST_OF_UNITS && number <= LAST_OF_UNITS ? " at unit " + place : "";
+        String where = number < FIRST_OF_UNITS || number > LAST_OF_UNITS ? ""
+                : number >= FIRST_OF_LINES && number <= LAST_OF_LINES ? " at line " + place : " at unit " + place;
         return "refused " + number + " " + meaning[0] + where + ": " + meaning[1];
     }
 }

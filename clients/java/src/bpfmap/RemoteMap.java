@@ -2,37 +2,41 @@ package bpfmap;
 
 import java.io.IOException;
 import java.io.UncheckedIOException;
-import java.util.AbstractMap;
 import java.util.ArrayList;
 import java.util.Arrays;
-import java.util.Collection;
 import java.util.List;
 import java.util.Map;
 import java.util.Objects;
-import java.util.Set;
 import java.util.concurrent.ConcurrentMap;
+import java.util.concurrent.Executor;
+import java.util.concurrent.ForkJoinPool;
 import java.util.function.BiConsumer;
 import java.util.function.BiFunction;
 import java.util.function.Function;
+import java.util.stream.Stream;
 
 /**
  * A map that a server keeps, shared with all its clients. Any number of threads may use one; each call takes one of the map's
- * connections, and waits where all are taken.
+ * connections, and waits if all are taken.
  *
  * <p>{@code get}, {@code put}, {@code putIfAbsent}, {@code remove}, {@code replace}, {@code compute} and the like with a
  * {@link Program}, and {@code size} are one request, and the server does each in one step. A program is registered by its bytes
  * the first time that a connection uses it, which is one request more. The forms with a Java function are loops of such requests,
- * as {@link ConcurrentMap}'s own: the function runs here, and again where another client was faster. Views walk over the entries;
- * they are weakly consistent, and each walk brings all entries here at once.
+ * as {@link ConcurrentMap}'s own: the function runs here, and again if another client was faster.
+ *
+ * <p>Views and the forms with a threshold walk over the entries, which come as they arrive. They are weakly consistent. An open
+ * walk has a connection of its own, beside those of {@link Settings#connections}. Close an iterator or a stream that you leave
+ * before its end: that ends the walk's connection. A threshold is that of {@link java.util.concurrent.ConcurrentHashMap}: from
+ * that many entries on your functions run in parallel.
  *
  * <p>Neither keys nor values are null. What all calls throw:
  * <ul>
  * <li>{@link NullPointerException} for a null key, value or function, {@link TooLongException} for a key above 64 bytes or a value
  *     or argument above 1,024, in version 1 above 256: nothing was sent.
- * <li>{@link RefusedException} where the server refuses, {@link UnfitException} where a program's windows are too small: nothing
- *     was done. But behind a refusal 65, which version 1 alone meets, the call was made: its answer is a longer value.
- * <li>{@link UncheckedIOException} where the connection breaks or the time is over: the call was made or it was not, and it is not
- *     made again. The next call takes another connection.
+ * <li>{@link RefusedException} if the server refuses, {@link UnfitException} if a program's windows are too small: nothing
+ *     was done. But after a refusal 65, which version 1 alone meets, the call was made: its answer is a longer value.
+ * <li>{@link UncheckedIOException} if the connection breaks, the time is over or the thread is interrupted: the call was made or it
+ *     was not, and it is not made again. The next call takes another connection. An interrupted thread stays interrupted.
  * <li>{@link IllegalArgumentException} by a codec that can't read what the server has: the call was made.
  * <li>{@link IllegalStateException} after {@link #close}.
  * </ul>
@@ -40,19 +44,17 @@ import java.util.function.Function;
  * @param <K> the keys
  * @param <V> the values
  */
-public final class RemoteMap<K, V> extends AbstractMap<K, V> implements ConcurrentMap<K, V>, AutoCloseable {
+public final class RemoteMap<K, V> extends ItemWalks<K, V> implements ConcurrentMap<K, V>, AutoCloseable {
     private static final int BATCH = 1024;
 
     private final ConnectionPool pool;
-    private final Codec<K> keys;
-    private final Codec<V> values;
-    private final WalkPrograms walks;
+    private final Coder<K, V> coder;
+    private final WalkSources<K, V> sources;
 
-    private RemoteMap(ConnectionPool pool, Codec<K> keys, Codec<V> values) {
+    RemoteMap(ConnectionPool pool, Codec<K> keys, Codec<V> values) {
         this.pool = pool;
-        this.keys = Objects.requireNonNull(keys);
-        this.values = Objects.requireNonNull(values);
-        walks = new WalkPrograms(pool.version());
+        coder = new Coder<>(keys, values, pool.version());
+        sources = new WalkSources<>(pool, coder, key -> call(Request.remove(key)));
     }
 
     /**
@@ -83,9 +85,25 @@ public final class RemoteMap<K, V> extends AbstractMap<K, V> implements Concurre
      * @return the map
      */
     public static <K, V> RemoteMap<K, V> open(String host, int port, Codec<K> keys, Codec<V> values, Settings settings) {
-        RemoteMap<K, V> map = new RemoteMap<>(new ConnectionPool(host, port, settings), keys, values);
+        ConnectionPool pool = new ConnectionPool(() -> Connection.open(host, port, settings), settings);
+        RemoteMap<K, V> map = new RemoteMap<>(pool, keys, values);
         map.pool.use(Connection::isUsable);
         return map;
+    }
+
+    /**
+     * A set of keys that a server keeps: those of its map, each with the value {@code true}. {@link KeyView#getMap} has the map,
+     * which you close.
+     *
+     * @param host the server's name or address
+     * @param port its port
+     * @param keys how keys are sent
+     * @param settings how many connections, the times, and the version of the protocol
+     * @param <K> the keys
+     * @return the set
+     */
+    public static <K> KeyView<K, Boolean> newKeySet(String host, int port, Codec<K> keys, Settings settings) {
+        return open(host, port, keys, Codec.booleans(), settings).keySet(Boolean.TRUE);
     }
 
     /** Closes the connections, the lent ones when they come back. The server keeps the entries. */
@@ -94,53 +112,74 @@ public final class RemoteMap<K, V> extends AbstractMap<K, V> implements Concurre
         pool.close();
     }
 
+    /**
+     * This map's calls as futures. What hangs on them runs in {@link ForkJoinPool#commonPool}.
+     *
+     * @return the calls
+     */
+    public AsyncMap<K, V> async() {
+        return async(ForkJoinPool.commonPool());
+    }
+
+    /**
+     * This map's calls as futures. Each such object has a thread and an order of its own.
+     *
+     * @param callbacks runs what hangs on the futures
+     * @return the calls
+     */
+    public AsyncMap<K, V> async(Executor callbacks) {
+        return new AsyncMap<>(this, pool, coder, callbacks);
+    }
+
     // ---- calls of one key, each one request
 
     @Override
     public V get(Object key) {
-        return decoded(call(Request.get(keyOf(key))));
+        return coder.decoded(call(Request.get(coder.keyOf(key))));
     }
 
     /** {@inheritDoc} It is a {@code get}. */
     @Override
     public boolean containsKey(Object key) {
-        return call(Request.get(keyOf(key))) != null;
+        return call(Request.get(coder.keyOf(key))) != null;
     }
 
     @Override
     public V put(K key, V value) {
-        return decoded(call(Request.put(keyOf(key), valueOf(value))));
+        return coder.decoded(call(Request.put(coder.keyOf(key), coder.valueOf(value))));
     }
 
     @Override
     public V putIfAbsent(K key, V value) {
-        return decoded(call(Request.putIfAbsent(keyOf(key), valueOf(value))));
+        return coder.decoded(call(Request.putIfAbsent(coder.keyOf(key), coder.valueOf(value))));
     }
 
     @Override
     public V remove(Object key) {
-        return decoded(call(Request.remove(keyOf(key))));
+        return coder.decoded(call(Request.remove(coder.keyOf(key))));
     }
 
+    /** {@inheritDoc} No key has the value null, so for that one nothing is asked. */
     @Override
     public boolean remove(Object key, Object value) {
-        return call(Request.removeIf(keyOf(key), valueOf(value)));
+        byte[] bytes = coder.keyOf(key);
+        return value != null && call(Request.removeIf(bytes, coder.valueOf(value)));
     }
 
     @Override
     public V replace(K key, V value) {
-        return decoded(call(Request.replace(keyOf(key), valueOf(value))));
+        return coder.decoded(call(Request.replace(coder.keyOf(key), coder.valueOf(value))));
     }
 
     @Override
     public boolean replace(K key, V oldValue, V newValue) {
-        return call(Request.replaceIf(keyOf(key), valueOf(oldValue), valueOf(newValue)));
+        return call(Request.replaceIf(coder.keyOf(key), coder.valueOf(oldValue), coder.valueOf(newValue)));
     }
 
     // ---- calls with a program, each one request
 
     /**
-     * The program's answer becomes the key's value; where it answers nothing the key is removed or stays absent. It gets the key,
+     * The program's answer becomes the key's value; if it answers nothing the key is removed or stays absent. It gets the key,
      * the old value if there is one, and the argument.
      *
      * @param key the key
@@ -149,11 +188,11 @@ public final class RemoteMap<K, V> extends AbstractMap<K, V> implements Concurre
      * @return the new value, or null
      */
     public V compute(K key, Program program, byte[] argument) {
-        return run(keyOf(key), program, argument, Request::compute);
+        return coder.decoded(call(Request.compute(coder.keyOf(key), program, coder.argumentOf(argument))));
     }
 
     /**
-     * Where the key is absent, the program's answer becomes its value, if it answers. It gets the key and the argument.
+     * If the key is absent, the program's answer becomes its value, if it answers. It gets the key and the argument.
      *
      * @param key the key
      * @param program the program
@@ -161,11 +200,11 @@ public final class RemoteMap<K, V> extends AbstractMap<K, V> implements Concurre
      * @return the value that the key then has, or null
      */
     public V computeIfAbsent(K key, Program program, byte[] argument) {
-        return run(keyOf(key), program, argument, Request::computeIfAbsent);
+        return coder.decoded(call(Request.computeIfAbsent(coder.keyOf(key), program, coder.argumentOf(argument))));
     }
 
     /**
-     * Where the key is present, the program's answer becomes its value; where it answers nothing the key is removed. It gets the
+     * If the key is present, the program's answer becomes its value; if it answers nothing the key is removed. It gets the
      * key, the old value and the argument.
      *
      * @param key the key
@@ -174,11 +213,11 @@ public final class RemoteMap<K, V> extends AbstractMap<K, V> implements Concurre
      * @return the value that the key then has, or null
      */
     public V computeIfPresent(K key, Program program, byte[] argument) {
-        return run(keyOf(key), program, argument, Request::computeIfPresent);
+        return coder.decoded(call(Request.computeIfPresent(coder.keyOf(key), program, coder.argumentOf(argument))));
     }
 
     /**
-     * Where the key is absent, the value is put. Else the program's answer becomes its value; where it answers nothing the key is
+     * If the key is absent, the value is put. Else the program's answer becomes its value; if it answers nothing the key is
      * removed. It gets the key, the old value, and this value as its argument.
      *
      * @param key the key
@@ -187,7 +226,7 @@ public final class RemoteMap<K, V> extends AbstractMap<K, V> implements Concurre
      * @return the value that the key then has, or null
      */
     public V merge(K key, V value, Program program) {
-        return run(keyOf(key), program, valueOf(value), (bytes, number, merged) -> Request.merge(bytes, merged, number));
+        return coder.decoded(call(Request.merge(coder.keyOf(key), coder.valueOf(value), program)));
     }
 
     // ---- walks with a program, each one request
@@ -200,8 +239,8 @@ public final class RemoteMap<K, V> extends AbstractMap<K, V> implements Concurre
      * @return what was counted
      */
     public Counts replaceAll(Program program, byte[] argument) {
-        byte[] checked = argumentOf(argument);
-        return withNumber(program, number -> Request.replaceAll(number, checked));
+        byte[] checked = coder.argumentOf(argument);
+        return call(Request.replaceAll(program, checked));
     }
 
     /**
@@ -215,8 +254,8 @@ public final class RemoteMap<K, V> extends AbstractMap<K, V> implements Concurre
      * @return an item for each answer, in the order of the keys' bytes
      */
     public <R> Walk<K, R> forEach(long parallelismThreshold, Program program, byte[] argument, Codec<R> answers) {
-        byte[] checked = argumentOf(argument);
-        return decoded(withNumber(program, number -> Request.forEach(number, checked, parallelismThreshold)), answers);
+        byte[] checked = coder.argumentOf(argument);
+        return coder.decoded(call(Request.forEach(program, checked, parallelismThreshold)), answers);
     }
 
     /**
@@ -230,15 +269,45 @@ public final class RemoteMap<K, V> extends AbstractMap<K, V> implements Concurre
      * @return one item, or none
      */
     public <R> Walk<K, R> search(long parallelismThreshold, Program program, byte[] argument, Codec<R> answer) {
-        byte[] checked = argumentOf(argument);
-        return decoded(withNumber(program, number -> Request.search(number, checked, parallelismThreshold)), answer);
+        byte[] checked = coder.argumentOf(argument);
+        return coder.decoded(call(Request.search(program, checked, parallelismThreshold)), answer);
+    }
+
+    /**
+     * Runs the program on each entry, and has its answers as they come. Close the iterator if you leave it before its end; its
+     * {@code remove} removes the key.
+     *
+     * @param parallelismThreshold from how many entries on the server may use more than one thread, as an unsigned number
+     * @param program the program
+     * @param argument its argument, or null for none
+     * @param answers how the answers are read
+     * @param <R> the answers
+     * @return an item for each answer, in the order of the keys' bytes; {@link WalkIterator#counts} tells at the end what was
+     *     counted
+     */
+    public <R> WalkIterator<Map.Entry<K, R>> walk(long parallelismThreshold, Program program, byte[] argument, Codec<R> answers) {
+        return sources.answers(parallelismThreshold, program, argument, answers).iterator();
+    }
+
+    /**
+     * The same as a stream, whose walk begins at its terminal operation. Close the stream, as you do an iterator.
+     *
+     * @param parallelismThreshold from how many entries on the server may use more than one thread, as an unsigned number
+     * @param program the program
+     * @param argument its argument, or null for none
+     * @param answers how the answers are read
+     * @param <R> the answers
+     * @return an item for each answer, in the order of the keys' bytes
+     */
+    public <R> Stream<Map.Entry<K, R>> stream(long parallelismThreshold, Program program, byte[] argument, Codec<R> answers) {
+        return sources.answers(parallelismThreshold, program, argument, answers).stream(false);
     }
 
     // ---- calls with a Java function, by loops of requests
 
     /**
      * {@inheritDoc} The function runs here, in a loop of {@code get} and {@code replace}, {@code putIfAbsent} or {@code remove}: it
-     * runs again where another client has changed the value. The form with a program is one request.
+     * runs again if another client has changed the value. The form with a program is one request.
      */
     @Override
     public V compute(K key, BiFunction<? super K, ? super V, ? extends V> function) {
@@ -252,7 +321,7 @@ public final class RemoteMap<K, V> extends AbstractMap<K, V> implements Concurre
     }
 
     /**
-     * {@inheritDoc} The function runs here, in a loop of {@code get} and {@code replace} or {@code remove}: it runs again where
+     * {@inheritDoc} The function runs here, in a loop of {@code get} and {@code replace} or {@code remove}: it runs again if
      * another client has changed the value.
      */
     @Override
@@ -262,7 +331,7 @@ public final class RemoteMap<K, V> extends AbstractMap<K, V> implements Concurre
 
     /**
      * {@inheritDoc} The function runs here, in a loop of {@code get} and {@code replace}, {@code putIfAbsent} or {@code remove}: it
-     * runs again where another client has changed the value. The form with a program is one request.
+     * runs again if another client has changed the value. The form with a program is one request.
      */
     @Override
     public V merge(K key, V value, BiFunction<? super V, ? super V, ? extends V> function) {
@@ -278,12 +347,18 @@ public final class RemoteMap<K, V> extends AbstractMap<K, V> implements Concurre
     /** {@inheritDoc} It goes over the entries of a walk. */
     @Override
     public void forEach(BiConsumer<? super K, ? super V> action) {
-        ConcurrentMap.super.forEach(action);
+        Objects.requireNonNull(action);
+        entrySet().forEach(entry -> action.accept(entry.getKey(), entry.getValue()));
     }
 
     // ---- all entries
 
-    /** @return the number of entries, in one request */
+    /**
+     * Counts the entries, in one request.
+     *
+     * @return the number of entries
+     */
+    @Override
     public long mappingCount() {
         return call(Request.count()).scanned();
     }
@@ -301,88 +376,91 @@ public final class RemoteMap<K, V> extends AbstractMap<K, V> implements Concurre
     /** {@inheritDoc} It walks over all entries. */
     @Override
     public boolean containsValue(Object value) {
-        byte[] wanted = valueOf(value);
-        return walk(walks.entries()).stream().anyMatch(item -> Arrays.equals(item.getValue(), wanted));
+        byte[] wanted = coder.valueOf(value);
+        try (WalkIterator<byte[]> found = sources.rawValues().iterator()) {
+            while (found.hasNext()) {
+                if (Arrays.equals(found.next(), wanted)) {
+                    return true;
+                }
+            }
+            return false;
+        }
     }
 
-    /** {@inheritDoc} The puts are sent together. Where one fails, those before it and some behind it may have been made. */
+    /** {@inheritDoc} The puts are sent together. If one fails, those before it and some after it may have been made. */
     @Override
     public void putAll(Map<? extends K, ? extends V> entries) {
         List<Request<byte[]>> puts = new ArrayList<>();
-        entries.forEach((key, value) -> puts.add(Request.put(keyOf(key), valueOf(value))));
+        entries.forEach((key, value) -> puts.add(Request.put(coder.keyOf(key), coder.valueOf(value))));
         pool.use(connection -> callAll(connection, puts));
     }
 
     /** {@inheritDoc} It removes the keys of a walk; entries that are put meanwhile may stay. */
     @Override
     public void clear() {
-        List<Request<byte[]>> removals = new ArrayList<>();
-        walk(walks.keys()).forEach(item -> removals.add(Request.remove(item.getKey())));
-        pool.use(connection -> callAll(connection, removals));
+        try (WalkIterator<byte[]> found = sources.rawKeys().iterator()) {
+            while (found.hasNext()) {
+                List<Request<byte[]>> removals = new ArrayList<>();
+                while (removals.size() < BATCH && found.hasNext()) {
+                    removals.add(Request.remove(found.next()));
+                }
+                pool.use(connection -> callAll(connection, removals));
+            }
+        }
     }
 
-    /** {@inheritDoc} Each of its iterators has the keys of one walk. */
+    /** {@inheritDoc} Each of its iterators and streams has the keys of one walk. */
     @Override
-    public Set<K> keySet() {
-        return new KeyView<>(this);
+    public KeyView<K, V> keySet() {
+        return new KeyView<>(this, null);
     }
 
-    /** {@inheritDoc} Each of its iterators has the values of one walk, and removes by key. */
+    /**
+     * The keys, as {@link #keySet()} has them. A key that is added to the view gets this value if it is absent.
+     *
+     * @param mappedValue the value of keys that are added
+     * @return the view
+     */
+    public KeyView<K, V> keySet(V mappedValue) {
+        return new KeyView<>(this, Objects.requireNonNull(mappedValue));
+    }
+
+    /** {@inheritDoc} Each of its iterators and streams has the values of one walk; iterators remove by key. */
     @Override
-    public Collection<V> values() {
+    public ValueView<K, V> values() {
         return new ValueView<>(this);
     }
 
-    /** {@inheritDoc} Each of its iterators has the entries of one walk, and removes by key; {@code setValue} of one is a put. */
+    /**
+     * {@inheritDoc} Each of its iterators and streams has the entries of one walk; iterators remove by key. {@code setValue} of an
+     * entry is a put.
+     */
     @Override
-    public Set<Map.Entry<K, V>> entrySet() {
+    public EntryView<K, V> entrySet() {
         return new EntryView<>(this);
     }
 
-    /** The keys of a walk, in the order of their bytes. */
-    List<K> walkKeys() {
-        return walk(walks.keys()).stream().map(item -> keys.decode(item.getKey())).toList();
+    @Override
+    WalkSource<K> keySource() {
+        return sources.keys();
     }
 
-    /** The entries of a walk, in the order of the keys' bytes. */
-    List<Map.Entry<K, V>> walkEntries() {
-        return walk(walks.entries()).stream().map(this::entryOf).toList();
+    @Override
+    WalkSource<V> valueSource() {
+        return sources.values();
+    }
+
+    @Override
+    WalkSource<Map.Entry<K, V>> entrySource() {
+        return sources.entries(this);
     }
 
     /** Whether two values are the same to the server. */
     boolean areEqual(Object one, Object other) {
-        return Arrays.equals(valueOf(one), valueOf(other));
+        return Arrays.equals(coder.valueOf(one), coder.valueOf(other));
     }
 
-    private Map.Entry<K, V> entryOf(Map.Entry<byte[], byte[]> item) {
-        return Map.entry(keys.decode(item.getKey()), values.decode(item.getValue()));
-    }
-
-    /** Walks over all entries; where version 1 does not carry the value of one, that is refused as an answer with it is. */
-    private List<Map.Entry<byte[], byte[]>> walk(Program program) {
-        Walk<byte[], byte[]> walk = withNumber(program, number -> Request.forEach(number, null, Long.MAX_VALUE));
-        if (walk.counts().unfit() > 0) {
-            throw new RefusedException(RefusedException.VALUE_TOO_LONG, 0);
-        }
-        return walk.items();
-    }
-
-    // ---- bytes and requests
-
-    /** A request for a program's answer on a key, by the program's number. */
-    private interface KeyRequest {
-        Request<byte[]> of(byte[] key, long program, byte[] argument);
-    }
-
-    private V run(byte[] key, Program program, byte[] argument, KeyRequest request) {
-        byte[] checked = argumentOf(argument);
-        return decoded(withNumber(program, number -> request.of(key, number, checked)));
-    }
-
-    private <T> T withNumber(Program program, Function<Long, Request<T>> request) {
-        Objects.requireNonNull(program);
-        return pool.use(connection -> connection.call(request.apply(connection.numberOf(program))));
-    }
+    // ---- requests
 
     private <T> T call(Request<T> request) {
         return pool.use(connection -> connection.call(request));
@@ -403,31 +481,5 @@ public final class RemoteMap<K, V> extends AbstractMap<K, V> implements Concurre
         for (Reply<byte[]> reply : replies) {
             reply.get();
         }
-    }
-
-    @SuppressWarnings("unchecked")
-    private byte[] keyOf(Object key) {
-        return Request.checkKey(keys.encode((K) Objects.requireNonNull(key)));
-    }
-
-    @SuppressWarnings("unchecked")
-    private byte[] valueOf(Object value) {
-        return Request.checkValue(values.encode((V) Objects.requireNonNull(value)), pool.version());
-    }
-
-    private byte[] argumentOf(byte[] argument) {
-        return argument == null ? null : Request.checkValue(argument, pool.version());
-    }
-
-    private V decoded(byte[] value) {
-        return value == null ? null : values.decode(value);
-    }
-
-    private <R> Walk<K, R> decoded(Walk<byte[], byte[]> walk, Codec<R> answers) {
-        List<Map.Entry<K, R>> items = new ArrayList<>();
-        for (Map.Entry<byte[], byte[]> item : walk.items()) {
-            items.add(Map.entry(keys.decode(item.getKey()), answers.decode(item.getValue())));
-        }
-        return new Walk<>(items, walk.counts());
     }
 }

@@ -11,7 +11,7 @@ public final class Reply<T> {
     private final Request<T> request;
     private T answer;
     private RuntimeException refusal;
-    private IOException failure;
+    private Throwable failure;
     private boolean hasEnded;
 
     Reply(Request<T> request) {
@@ -22,7 +22,7 @@ public final class Reply<T> {
         return request;
     }
 
-    /** Reads the answer; throws where the connection breaks. */
+    /** Reads the answer; throws if the connection breaks. */
     void read(Connection connection) throws IOException {
         try {
             answer = connection.read(request);
@@ -32,21 +32,43 @@ public final class Reply<T> {
         hasEnded = true;
     }
 
-    void fail(IOException why) {
+    /** Ends without being sent: the request's program was refused. */
+    void refuse(RuntimeException why) {
+        refusal = why;
+        hasEnded = true;
+    }
+
+    /** Ends without an answer. */
+    void fail(Throwable why) {
         failure = why;
         hasEnded = true;
     }
 
-    /** @return whether the request was made and answered, be it by a refusal */
+    boolean hasEnded() {
+        return hasEnded;
+    }
+
+    /** What the server refused, or null. */
+    RuntimeException refusal() {
+        return refusal;
+    }
+
+    /**
+     * Whether the server has answered.
+     *
+     * @return whether the request was made and answered, be it by a refusal
+     */
     public boolean isAnswered() {
         return hasEnded && failure == null;
     }
 
     /**
+     * The answer.
+     *
      * @return the answer
-     * @throws RefusedException where the server refused the request
-     * @throws UnfitException where the program's windows are too small
-     * @throws IOException where the connection broke before the answer: the call was made or it was not
+     * @throws RefusedException if the server refused the request, or the program that it names
+     * @throws UnfitException if the program's windows are too small
+     * @throws IOException if the connection broke before the answer: the call may have been made
      * @throws IllegalStateException before the pipeline was run
      */
     public T get() throws IOException {

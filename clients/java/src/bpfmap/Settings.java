@@ -6,17 +6,26 @@ import java.util.Objects;
 /**
  * How a map reaches its server.
  *
- * @param connections how many connections at most are open at once. Each takes a worker of the server for as long as it is open,
- *     so all clients together may have as many as the server has workers.
+ * @param connections how many connections at most calls have at once. Each open walk has one of its own beside these. Each
+ *     connection takes a worker of the server for as long as it is open, so all clients together may have as many as the server has
+ *     workers.
  * @param connectTimeout how long a connection may take to come up
  * @param answerTimeout how long an answer may take to come on, counted from its last byte
- * @param version the version of the protocol; no other one is tried where the server refuses it
+ * @param version the version of the protocol; no other one is tried if the server refuses it
  */
 public record Settings(int connections, Duration connectTimeout, Duration answerTimeout, Version version) {
     /** Two connections, 5 seconds to come up, 10 seconds for an answer, and version 2. */
     public static final Settings DEFAULT = new Settings(2, Duration.ofSeconds(5), Duration.ofSeconds(10));
 
-    // Sockets take milliseconds as a positive int.
+    /**
+     * Settings. Times are from a millisecond to 24 days.
+     *
+     * @param connections how many connections at most
+     * @param connectTimeout how long a connection may take to come up
+     * @param answerTimeout how long an answer may take to come on
+     * @param version the version of the protocol
+     * @throws IllegalArgumentException if a time is not, or there is no connection
+     */
     public Settings {
         if (connections < 1) {
             throw new IllegalArgumentException("a map needs a connection, not " + connections);
@@ -38,6 +47,8 @@ public record Settings(int connections, Duration connectTimeout, Duration answer
     }
 
     /**
+     * These settings with another number of connections.
+     *
      * @param most how many connections at most
      * @return these settings with that many
      */
@@ -46,6 +57,8 @@ public record Settings(int connections, Duration connectTimeout, Duration answer
     }
 
     /**
+     * These settings with another time for connecting.
+     *
      * @param time how long a connection may take to come up
      * @return these settings with that time
      */
@@ -54,6 +67,8 @@ public record Settings(int connections, Duration connectTimeout, Duration answer
     }
 
     /**
+     * These settings with another time for answers.
+     *
      * @param time how long an answer may take to come on
      * @return these settings with that time
      */
@@ -62,6 +77,8 @@ public record Settings(int connections, Duration connectTimeout, Duration answer
     }
 
     /**
+     * These settings with another version of the protocol.
+     *
      * @param spoken the version of the protocol
      * @return these settings with that version
      */

@@ -4,6 +4,7 @@ package bpfmap;
 public final class UnfitException extends RuntimeException {
     private static final long serialVersionUID = 1;
 
+    /** What did not fit. */
     private final Window window;
 
     /** What did not fit into its window, in the order in which the server looks at them. */
@@ -21,7 +22,11 @@ public final class UnfitException extends RuntimeException {
         this.window = window;
     }
 
-    /** @return the first that did not fit */
+    /**
+     * What did not fit.
+     *
+     * @return the first that did not fit
+     */
     public Window window() {
         return window;
     }

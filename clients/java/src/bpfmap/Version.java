@@ -4,7 +4,7 @@ package bpfmap;
 public enum Version {
     /** The only one that older servers know. An answer that is too long for it is refused with 65. */
     ONE(1, 256, 8192),
-    /** What is spoken where no other is asked for. */
+    /** What is spoken if no other is asked for. */
     TWO(2, 1024, 32_777);
 
     /** The bytes of a Register's body before its program. */
@@ -20,12 +20,20 @@ public enum Version {
         this.longestBody = longestBody;
     }
 
-    /** @return its number */
+    /**
+     * The version's number.
+     *
+     * @return its number
+     */
     public int number() {
         return number;
     }
 
-    /** @return the most bytes of a value or argument */
+    /**
+     * The longest value that it carries.
+     *
+     * @return the most bytes of a value or argument
+     */
     public int longestValue() {
         return longestValue;
     }

@@ -1,23 +1,20 @@
 package bpfmap;
 
-import java.nio.ByteBuffer;
-import java.nio.ByteOrder;
-
 /** The programs by which the views of a map walk its entries: all whose values a version carries. */
 final class WalkPrograms {
-    private static final long EXIT = 0x95;
-    private static final long ANSWER_NO_BYTES = 0xb7;
-    private static final long ANSWER_OLD_LENGTH = 0x70bf;
-    private static final long LOAD_OLD = 0x2079;
-    private static final long STORE_RESULT = 0x047b;
-    private static final int OFFSET = 16;
+    private static final WalkPrograms OF_ONE = new WalkPrograms(Version.ONE);
+    private static final WalkPrograms OF_TWO = new WalkPrograms(Version.TWO);
 
     private final Program keys;
     private final Program entries;
 
-    WalkPrograms(Version version) {
-        keys = program(version, ANSWER_NO_BYTES, EXIT);
-        entries = program(version, copy(version));
+    private WalkPrograms(Version version) {
+        keys = program(version, "mov64 r0, 0\nexit\n");
+        entries = program(version, copy(version.longestValue()));
+    }
+
+    static WalkPrograms of(Version version) {
+        return version == Version.ONE ? OF_ONE : OF_TWO;
     }
 
     /** Answers no bytes for each entry. */
@@ -30,26 +27,23 @@ final class WalkPrograms {
         return entries;
     }
 
-    /** Loads of 8 bytes and stores, over the whole window; then the old value's length is the answer's. */
-    private static long[] copy(Version version) {
-        int words = version.longestValue() / Long.BYTES;
-        long[] units = new long[2 * words + 2];
-        for (int word = 0; word < words; word++) {
-            long offset = (long) word * Long.BYTES << OFFSET;
-            units[2 * word] = LOAD_OLD | offset;
-            units[2 * word + 1] = STORE_RESULT | offset;
+    /**
+     * Loads of 8 bytes and stores. Behind each power of two it ends if the value is no longer, so that a short value takes few
+     * instructions; the old value's length is then at most the number of bytes that were stored.
+     */
+    private static String copy(int longest) {
+        StringBuilder text = new StringBuilder();
+        for (int offset = 0; offset < longest; offset += Long.BYTES) {
+            if (Integer.bitCount(offset) == 1) {
+                text.append("jgt64 r7, ").append(offset).append(", +2\nmov64 r0, r7\nexit\n");
+            }
+            text.append("ldd r0, [r2+").append(offset).append("]\nstxd [r4+").append(offset).append("], r0\n");
         }
-        units[2 * words] = ANSWER_OLD_LENGTH;
-        units[2 * words + 1] = EXIT;
-        return units;
+        return text.append("mov64 r0, r7\nexit\n").toString();
     }
 
-    private static Program program(Version version, long... units) {
-        ByteBuffer bytes = ByteBuffer.allocate(units.length * Long.BYTES).order(ByteOrder.LITTLE_ENDIAN);
-        for (long unit : units) {
-            bytes.putLong(unit);
-        }
+    private static Program program(Version version, String text) {
         int longest = version.longestValue();
-        return Program.of(bytes.array(), new Program.Sizes(Request.LONGEST_KEY, longest, 0, longest));
+        return Program.ofText(text, new Program.Sizes(Request.LONGEST_KEY, longest, 0, longest));
     }
 }

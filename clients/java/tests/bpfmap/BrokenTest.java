@@ -20,7 +20,9 @@ final class BrokenTest {
     private static final byte[] ONE = Codec.longs().encode(1L);
     private static final String PUT = "11" + "0161" + "0001" + "01";
     private static final String NOTHING = "00000003 82 ffff";
-    private static final int CALLS = 100_000;
+    private static final int CALLS = 20_000;
+    /** So many of the longest values are more than the buffers of a system take. */
+    private static final int LONG = 8_000;
     private static final int TRIES = 12;
     private static final Duration SHORT = Duration.ofMillis(300);
     private static final long PATIENCE = 5_000;
@@ -63,7 +65,8 @@ final class BrokenTest {
         try (Mapd mapd = Mapd.start(server);
                 PlayedServer proxy = new PlayedServer(peer -> passOn(peer, mapd.port(), cut));
                 Connection direct = mapd.connect(); Connection connection = proxy.connect()) {
-            long program = direct.numberOf(Programs.SUM);
+            long program = direct.call(Request.register(Programs.SUM));
+            connection.adopt(program);
             Pipeline pipeline = connection.pipeline();
             List<Reply<byte[]>> replies = merges(pipeline, program, calls);
             pipeline.run();
@@ -127,28 +130,29 @@ final class BrokenTest {
 
     /** Answers are read while requests are sent: more of both than any buffer of the system takes. */
     static String longPipeline(Path server) throws Exception {
-        byte[] value = new byte[Version.ONE.longestValue()];
+        byte[] value = new byte[Version.TWO.longestValue()];
         try (Mapd mapd = Mapd.start(server); Connection connection = mapd.connect()) {
             Pipeline pipeline = connection.pipeline();
             List<Reply<byte[]>> replies = new ArrayList<>();
-            for (int call = 0; call < CALLS; call++) {
+            for (int call = 0; call < LONG; call++) {
                 replies.add(pipeline.add(Request.put(KEY, value)));
             }
             pipeline.run();
             Check.equal("the first answer", null, replies.get(0).get());
-            for (Reply<byte[]> reply : replies.subList(1, CALLS)) {
+            for (Reply<byte[]> reply : replies.subList(1, LONG)) {
                 Check.equal("a later answer", value, reply.get());
             }
             Check.that("the connection goes on", connection.isUsable());
             pipeline.run();
             Check.equal("a call behind it", value, connection.call(Request.get(KEY)));
         }
-        return CALLS + " puts of " + value.length + " bytes";
+        return LONG + " puts of " + value.length + " bytes";
     }
 
     /** A refused call of a pipeline is an error of its own; the calls behind it are answered. */
     static String refusedInPipeline(Path server) throws Exception {
         try (Mapd mapd = Mapd.start(server); Connection connection = mapd.connect()) {
+            connection.adopt(5);
             Pipeline pipeline = connection.pipeline();
             Reply<byte[]> unknown = pipeline.add(Request.compute(KEY, 5, null));
             Reply<byte[]> put = pipeline.add(Request.put(KEY, ONE));

@@ -14,8 +14,10 @@ import java.util.concurrent.ConcurrentMap;
 
 /** A map does what {@code ConcurrentHashMap} does, its views and codecs included. */
 final class MapTest {
-    private static final int STEPS = 3000;
-    private static final int ENTRIES = 1200;
+    private static final int STEPS = 1000;
+    private static final int ENTRIES = 60;
+    /** Between the lengths of two values of a walk: so they are of all sizes. */
+    private static final int STRIDE = 59;
     private static final int LONGEST = Version.TWO.longestValue();
     private static final long SEED = 36;
 
@@ -116,17 +118,18 @@ final class MapTest {
                 RemoteMap<Long, byte[]> map = mapd.open(Codec.longs(), Codec.bytes(), 1)) {
             Map<Long, byte[]> wanted = new HashMap<>();
             for (long key = 0; key < ENTRIES; key++) {
-                byte[] value = new byte[(int) key % (LONGEST + 1)];
+                byte[] value = new byte[(int) (key * STRIDE % (LONGEST + 1))];
                 Arrays.fill(value, (byte) (key + 1));
                 wanted.put(key, value);
             }
             map.putAll(wanted);
+            byte[] second = wanted.get(1L);
             Check.equal("the count", (long) ENTRIES, map.mappingCount());
             for (Map.Entry<Long, byte[]> entry : map.entrySet()) {
                 Check.equal("the value of " + entry.getKey(), wanted.remove(entry.getKey()), entry.getValue());
             }
             Check.that("each entry comes once", wanted.isEmpty());
-            Check.that("a value by its bytes", map.containsValue(new byte[] {2}) && !map.containsValue(new byte[] {1}));
+            Check.that("a value by its bytes", map.containsValue(second) && !map.containsValue(new byte[] {1}));
             map.clear();
             Check.equal("no entry is left", 0, map.size());
         }
@@ -187,9 +190,11 @@ final class MapTest {
                         () -> map.putAll(Map.of(fits, fits, longKey, fits))));
                 refuseNull(List.of(() -> map.get(null), () -> map.put(null, fits), () -> map.put(fits, null),
                         () -> map.containsKey(null), () -> map.containsValue(null), () -> map.remove(null),
-                        () -> map.remove(fits, null), () -> map.replace(fits, null, fits), () -> map.replace(fits, fits, null),
+                        () -> map.replace(fits, null, fits), () -> map.replace(fits, fits, null),
                         () -> map.putIfAbsent(fits, null), () -> map.compute(fits, (Program) null, null),
-                        () -> map.merge(fits, null, Programs.SUM), () -> map.computeIfAbsent(null, Programs.SUM, null)));
+                        () -> map.merge(fits, null, Programs.SUM), () -> map.computeIfAbsent(null, Programs.SUM, null),
+                        () -> map.remove(null, null), () -> map.keySet(null), () -> map.search(1, null)));
+                Check.that("no key has the value null", !map.remove(fits, null));
             }
             Check.equal("requests that were sent", List.of(), server.requests());
         }

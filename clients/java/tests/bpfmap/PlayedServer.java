@@ -106,6 +106,11 @@ final class PlayedServer implements AutoCloseable {
         return requests;
     }
 
+    /** Whether a play has not ended yet. */
+    boolean isPlaying() {
+        return !playing.isDone();
+    }
+
     private void playAll() {
         for (Play play : plays) {
             playOne(play);

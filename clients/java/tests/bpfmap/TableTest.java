@@ -10,10 +10,12 @@ import java.util.ArrayList;
 import java.util.HashMap;
 import java.util.List;
 import java.util.Map;
+import java.util.stream.LongStream;
 
 /** Runs the rows of tests/requests.txt by each version, once by a connection and once by a map, each against a fresh server. */
 final class TableTest {
     private static final int PATIENCE = 10_000;
+    private static final long LARGEST_NUMBER = 100;
 
     private final List<Table.Row> rows;
     private final List<String> differences = new ArrayList<>();
@@ -33,6 +35,9 @@ final class TableTest {
     static String byConnection(Path server, Path table, Version version) throws IOException {
         TableTest test = new TableTest(Table.read(table, version));
         try (Mapd mapd = Mapd.start(server); Connection connection = mapd.connect(version)) {
+            // Rows call programs by the server's numbers, among them some that it has not given.
+            LongStream.rangeClosed(0, LARGEST_NUMBER).forEach(connection::adopt);
+            connection.adopt(-1);
             return test.run("java's connection", row -> row.call().equals("raw")
                     ? rawAnswer(row, mapd.port()) : answer(row, connection));
         }

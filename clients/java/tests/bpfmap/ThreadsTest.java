@@ -10,8 +10,8 @@ import java.util.concurrent.Future;
 /** Threads that share one counter. */
 final class ThreadsTest {
     static final int THREADS = 8;
-    private static final int CALLS = 1000;
-    private static final int LOOPS = 100;
+    private static final int CALLS = 500;
+    private static final int LOOPS = 50;
 
     private ThreadsTest() {}
 

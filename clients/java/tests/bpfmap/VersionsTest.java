@@ -21,7 +21,7 @@ final class VersionsTest {
     /** The least length that version 1 does not carry. */
     private static final byte[] LEAST = filled(Version.ONE.longestValue() + 1);
     private static final Program.Sizes LARGE = new Program.Sizes(64, 1024, 1024, 1024);
-    private static final Program COPY = Program.of(new WalkPrograms(Version.TWO).entries().units(), LARGE);
+    private static final Program COPY = Program.of(WalkPrograms.of(Version.TWO).entries().units(), LARGE);
     private static final int TOO_LONG = 65;
     private static final int PIPELINE = 200;
 
@@ -102,7 +102,8 @@ final class VersionsTest {
     static String programs(Path server) throws Exception {
         try (Mapd mapd = Mapd.start(server); Connection first = mapd.connect(Version.ONE); Connection second = mapd.connect()) {
             refuses("large windows", 47, () -> first.numberOf(COPY));
-            long copy = second.numberOf(COPY);
+            long copy = second.call(Request.register(COPY));
+            first.adopt(copy);
             Check.equal("a merge", LONG, second.call(Request.merge(KEY, LONG, copy)));
             refuses("a merge", TOO_LONG, () -> first.call(Request.merge(KEY, SHORT, copy)));
             refuses("a compute", TOO_LONG, () -> first.call(Request.compute(KEY, copy, null)));
@@ -162,17 +163,21 @@ final class VersionsTest {
                 Connection connection = server.connect()) {
             Check.equal("its version", Version.ONE, connection.version());
         }
-        refusesHello("00000006 85 40 00000000", RefusedException.class);
+        Exception refusal = refusesHello("00000006 85 40 00000000", RefusedException.class);
+        Check.that("it says what to do: " + refusal.getMessage(), refusal.getMessage().startsWith("refused 64 WrongVersion: ")
+                && refusal.getMessage().endsWith("ask for version 1, by Settings.DEFAULT.withVersion(Version.ONE)"));
         refusesHello("00000002 8001", ProtocolException.class);
         return "are not asked twice";
     }
 
-    private static void refusesHello(String answer, Class<? extends Exception> kind) throws Exception {
+    private static Exception refusesHello(String answer, Class<? extends Exception> kind) throws Exception {
         try (ServerSocket listener = new ServerSocket(0, 1, InetAddress.getByName(Mapd.HOST))) {
             Thread server = new Thread(() -> answerHello(listener, answer));
             server.start();
-            Check.raises(answer, kind, () -> Connection.open(Mapd.HOST, listener.getLocalPort(), Settings.DEFAULT));
+            Exception thrown = Check.raises(answer, kind,
+                    () -> Connection.open(Mapd.HOST, listener.getLocalPort(), Settings.DEFAULT));
             server.join();
+            return thrown;
         }
     }
 
