@@ -20,9 +20,13 @@ use verifier::Verified;
 /// `threshold` entries, else in the calling thread.
 #[derive(Clone, Copy)]
 pub struct Walk<'a> {
+    /// Which answers are given.
     pub kind: WalkKind,
+    /// The program that is run.
     pub program: &'a Verified,
+    /// Its argument.
     pub arg: &'a Option<Value>,
+    /// From how many entries on the workers run it.
     pub threshold: u64,
 }
 
