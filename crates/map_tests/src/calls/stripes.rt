@@ -190,13 +190,23 @@ fn a_refused_call_leaves_the_table(rt: HostRuntime) -> Result<(), Fail> {
     Ok(())
 }
 
-/// The keys that one run puts.
+/// The nine keys that one run puts, and that are scanned.
 const RUN: [u8; 9] = [0, 1, 2, 3, 4, 5, 6, 7, 8];
 
 /// Puts nine keys in one run; the replies to the calls that were made.
 fn replies_of_run(alloc: Global, table: &mut Striped) -> Vec<Reply> {
     let value = &new_value();
-    let keys = RUN.map(key_of);
+    let keys = [
+        key_of(0),
+        key_of(1),
+        key_of(2),
+        key_of(3),
+        key_of(4),
+        key_of(5),
+        key_of(6),
+        key_of(7),
+        key_of(8),
+    ];
     let calls = keys.each_ref().map(|key| Call::Put { key, value });
     match table.run(alloc, &calls) {
         Ok(replies) => replies,
