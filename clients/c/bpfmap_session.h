@@ -216,7 +216,9 @@ static inline uint8_t bpfmap_refuse(const struct bpfmap_session *session, const 
 static inline size_t bpfmap_frame_room(const struct bpfmap_request *request, unsigned fields)
 {
     enum { HEAD = 4 + 1, LONGEST = HEAD + 1 + BPFMAP_KEY_BYTES + 2 * (2 + BPFMAP_VALUE_BYTES) + 8 };
-    return fields & BPFMAP_HAS_CODE ? HEAD + 8 + request->program->code.length : LONGEST;
+    if (fields & BPFMAP_HAS_CODE)
+        return HEAD + 8 + request->program->code.length;
+    return LONGEST;
 }
 
 static inline uint8_t *bpfmap_write_program(uint8_t *to, const struct bpfmap_program *program)

@@ -122,7 +122,8 @@ enum bpfmap_kind {
 
 enum bpfmap_window { BPFMAP_NO_WINDOW, BPFMAP_KEY_WINDOW, BPFMAP_OLD_WINDOW, BPFMAP_ARG_WINDOW };
 
-/* A reply. Every call that takes one clears it first, so nothing of an earlier answer stays. */
+/* A reply. Every call that takes one clears it first, so nothing of an earlier answer stays. A zero follows the bytes of a key and of a
+ * value, so if they are text they can be read as a string. */
 struct bpfmap_reply {
     enum bpfmap_call call; /* what it answers */
     enum bpfmap_kind kind;
@@ -131,7 +132,7 @@ struct bpfmap_reply {
     uint64_t number;
     uint64_t scanned, given, unfit;
     size_t key_length, value_length;
-    uint8_t key[BPFMAP_KEY_BYTES], value[BPFMAP_VALUE_BYTES];
+    uint8_t key[BPFMAP_KEY_BYTES + 1], value[BPFMAP_VALUE_BYTES + 1];
 };
 
 /* Returns these bytes as a key, value, argument or code. They are not copied. */

@@ -135,13 +135,6 @@ static long milliseconds(void)
     return now.tv_sec * 1000 + now.tv_nsec / 1000000;
 }
 
-/* Reads all that comes and sends nothing. */
-static void be_silent(int connection, const void *given)
-{
-    (void)given;
-    skip_bytes(connection, SIZE_MAX);
-}
-
 static void silent_server_is_left(void)
 {
     struct played played;

@@ -28,6 +28,13 @@ static inline void skip_bytes(int connection, size_t length)
         length--;
 }
 
+/* Reads all that comes and sends nothing. */
+static inline void be_silent(int connection, const void *given)
+{
+    (void)given;
+    skip_bytes(connection, SIZE_MAX);
+}
+
 static inline void *serve_once(void *given)
 {
     struct played *played = (struct played *)given;

@@ -1,36 +1,13 @@
-/* Processes, signals and threads that share a client: each answer is that of its call, or there is none. */
+/* Processes and signals that share a client: each answer is that of its call, or there is none. */
 #include "../bpfmap_client.h"
 #include "server.h"
 #include "played.h"
+#include "secrets.h"
 
-enum { NAMES = 50, CALLS = 400, CHILDREN = 4, THREADS = 8, LITTLE_TIME = 300 };
+enum { CALLS = 400, CHILDREN = 4, LITTLE_TIME = 300 };
 
 static struct bpfmap_client client;
 static struct bpfmap_program sum;
-
-/* Keys, and their values. */
-static char names[NAMES][32], secrets[NAMES][32];
-
-static struct bpfmap_span name_of(unsigned number)
-{
-    return bpfmap_text(names[number % NAMES]);
-}
-
-static void check_secret(unsigned number, const struct bpfmap_reply *reply)
-{
-    const char *wanted = secrets[number % NAMES];
-    CHECK(reply->kind == BPFMAP_VALUE && strcmp((const char *)reply->value, wanted) == 0, "'%s' came for '%s'",
-          (const char *)reply->value, wanted);
-}
-
-static void put_secrets(void)
-{
-    for (unsigned i = 0; i < NAMES; i++) {
-        sprintf(names[i], "name %u", i);
-        sprintf(secrets[i], "secret of name %u", i);
-        CHECK_STATUS(&client, BPFMAP_OK, bpfmap_put(&client, name_of(i), bpfmap_text(secrets[i]), NULL));
-    }
-}
 
 static void get_secret(unsigned number)
 {
@@ -184,12 +161,6 @@ static void count_signal(int number)
     signals++;
 }
 
-static void be_silent(int connection, const void *given)
-{
-    (void)given;
-    skip_bytes(connection, SIZE_MAX);
-}
-
 /* Signals don't make a timeout longer than twice its time. */
 static void signals_stretch_no_timeout(void)
 {
@@ -210,88 +181,16 @@ static void signals_stretch_no_timeout(void)
     end_played(&played);
 }
 
-/* ---- threads */
-
-struct user {
-    pthread_t thread;
-    unsigned number, answered, refused;
-};
-
-/* Asks for its own name, until it has had enough answers. */
-static void *share_client(void *given)
-{
-    struct user *user = (struct user *)given;
-    struct bpfmap_span name = name_of(user->number);
-    struct bpfmap_reply reply;
-    while (user->answered < CALLS) {
-        enum bpfmap_status status = bpfmap_get(&client, name, &reply);
-        CHECK(status == BPFMAP_OK || status == BPFMAP_BUSY, "a thread gets status %d", (int)status);
-        if (status == BPFMAP_OK)
-            check_secret(user->number, &reply);
-        else
-            CHECK(reply.kind == BPFMAP_NO_ANSWER && reply.value[0] == 0, "a thread has an answer that it did not ask for");
-        user->answered += status == BPFMAP_OK;
-        user->refused += status == BPFMAP_BUSY;
-    }
-    return NULL;
-}
-
-static void threads_get_their_own(void)
-{
-    static struct user users[THREADS];
-    unsigned refused = 0;
-    for (unsigned i = 0; i < THREADS; i++) {
-        users[i].number = i;
-        CHECK(pthread_create(&users[i].thread, NULL, share_client, &users[i]) == 0, "no thread");
-    }
-    for (int i = 0; i < THREADS; i++) {
-        pthread_join(users[i].thread, NULL);
-        refused += users[i].refused;
-    }
-    printf("client c: %d threads shared a client: %d answers, each that of its call, and %u times busy\n", THREADS,
-           THREADS * CALLS, refused);
-}
-
-static void *wait_for_silence(void *given)
-{
-    struct bpfmap_reply reply;
-    bpfmap_get((struct bpfmap_client *)given, bpfmap_text("a"), &reply);
-    return NULL;
-}
-
-/* A thread that is cancelled inside a call leaves a busy client. */
-static void cancelled_thread_leaves_a_busy_client(void)
-{
-    static struct bpfmap_client silent;
-    struct timespec moment = {.tv_nsec = 50000000};
-    struct bpfmap_reply reply;
-    struct played played = {.play = be_silent, .greets = BPFMAP_VERSION};
-    pthread_t thread;
-    start_played(&played);
-    CHECK_STATUS(&silent, BPFMAP_OK, bpfmap_connect(&silent, "127.0.0.1", played.port, TIMEOUT));
-    CHECK(pthread_create(&thread, NULL, wait_for_silence, &silent) == 0, "no thread");
-    nanosleep(&moment, NULL);
-    pthread_cancel(thread);
-    pthread_join(thread, NULL);
-    CHECK_STATUS(&silent, BPFMAP_BUSY, bpfmap_get(&silent, bpfmap_text("b"), &reply));
-    CHECK_STATUS(&silent, BPFMAP_BUSY, bpfmap_receive(&silent, &reply));
-    bpfmap_close(&silent);
-    CHECK_STATUS(&silent, BPFMAP_CLOSED, bpfmap_get(&silent, bpfmap_text("b"), &reply));
-    end_played(&played);
-}
-
 int main(void)
 {
     sum = sum_program();
     start_server();
     connect_to_server(&client);
-    put_secrets();
+    put_secrets(&client);
     children_are_refused(0);
     children_are_refused(5);
     signals_change_nothing();
     signals_stretch_no_timeout();
-    threads_get_their_own();
-    cancelled_thread_leaves_a_busy_client();
     bpfmap_close(&client);
     printf("client c: %d children were refused the parent's connection, and had their own\n", 2 * CHILDREN);
     return 0;
