@@ -255,6 +255,8 @@ static inline enum bpfmap_status bpfmap_read_more(struct bpfmap_client *client)
     struct bpfmap_session *session = &client->session;
     size_t unread = session->in_end - session->in_begin;
     enum bpfmap_status status = bpfmap_check_process(client);
+    if (status == BPFMAP_OK && session->out_begin < session->out_end)
+        bpfmap_send_some(client);
     while (status == BPFMAP_OK && session->out_begin < session->out_end && session->in_end - session->in_begin == unread)
         status = bpfmap_exchange(client);
     return status == BPFMAP_OK && session->in_end - session->in_begin == unread ? bpfmap_read_some(client) : status;
@@ -262,20 +264,17 @@ static inline enum bpfmap_status bpfmap_read_more(struct bpfmap_client *client)
 
 /* ---- a request, and its answer */
 
-/* Puts a request into the buffer, and sends from it while there is no room. After a send that failed no request is taken. */
-static inline enum bpfmap_status bpfmap_put_request(struct bpfmap_client *client, const struct bpfmap_request *request)
+/* Sends from the buffer until there is room for the request, and takes it. After a send that failed no request is taken. */
+static inline enum bpfmap_status bpfmap_make_room_for(struct bpfmap_client *client, const struct bpfmap_request *request)
 {
-    enum bpfmap_status status;
-    do {
-        if (client->send_error)
-            return BPFMAP_BROKEN;
-        status = bpfmap_session_ask(&client->session, request);
-        if (status != BPFMAP_FULL)
-            return status;
+    enum bpfmap_status status = BPFMAP_FULL;
+    while (status == BPFMAP_FULL) {
         status = bpfmap_check_process(client);
         if (status == BPFMAP_OK)
             status = bpfmap_exchange(client);
-    } while (status == BPFMAP_OK);
+        if (status == BPFMAP_OK)
+            status = client->send_error ? BPFMAP_BROKEN : bpfmap_session_ask(&client->session, request);
+    }
     return status;
 }
 
@@ -290,23 +289,33 @@ static inline enum bpfmap_status bpfmap_take_reply(struct bpfmap_client *client,
     return status;
 }
 
+/* Registers the program of a request, and takes the request then. */
+static inline enum bpfmap_status bpfmap_register_for(struct bpfmap_client *client, const struct bpfmap_request *request)
+{
+    struct bpfmap_request registration = bpfmap_request_of(BPFMAP_REGISTER);
+    struct bpfmap_reply reply;
+    enum bpfmap_status status;
+    registration.program = request->program;
+    status = bpfmap_session_ask(&client->session, &registration);
+    if (status == BPFMAP_OK)
+        status = bpfmap_take_reply(client, &reply);
+    return status == BPFMAP_OK ? bpfmap_session_ask(&client->session, request) : status;
+}
+
 /* Takes a request. If its program is not registered on this connection and no request waits, it registers the program first. */
 static inline enum bpfmap_status bpfmap_take_request(struct bpfmap_client *client, const struct bpfmap_request *request)
 {
-    struct bpfmap_request registration;
-    struct bpfmap_reply reply;
     enum bpfmap_status status;
     if (!client->is_open)
         return bpfmap_session_end(&client->session, BPFMAP_CLOSED, 0);
-    status = bpfmap_put_request(client, request);
-    if (status != BPFMAP_UNREGISTERED || client->session.waiting > 0 || !request->program)
-        return status;
-    registration = bpfmap_request_of(BPFMAP_REGISTER);
-    registration.program = request->program;
-    status = bpfmap_put_request(client, &registration);
-    if (status == BPFMAP_OK)
-        status = bpfmap_take_reply(client, &reply);
-    return status == BPFMAP_OK ? bpfmap_put_request(client, request) : status;
+    if (client->send_error)
+        return BPFMAP_BROKEN;
+    status = bpfmap_session_ask(&client->session, request);
+    if (status == BPFMAP_FULL)
+        return bpfmap_make_room_for(client, request);
+    if (status == BPFMAP_UNREGISTERED && client->session.waiting == 0 && request->program)
+        return bpfmap_register_for(client, request);
+    return status == BPFMAP_GARBLED ? bpfmap_fail(client, status, 0) : status;
 }
 
 /* Returns BPFMAP_OK if no request waits for its answer, or what to do first. */
@@ -343,10 +352,12 @@ static inline enum bpfmap_status bpfmap_ask(struct bpfmap_client *client, const 
     status = bpfmap_check_alone(&client->session);
     if (status == BPFMAP_OK)
         status = bpfmap_take_request(client, request);
-    if (status == BPFMAP_OK)
+    if (status == BPFMAP_OK) {
+        bpfmap_read_more(client);
         status = bpfmap_take_reply(client, reply);
-    else
+    } else {
         bpfmap_clear_reply(client, request, status, reply);
+    }
     return bpfmap_end_call(client, status);
 }
 
@@ -457,7 +468,8 @@ static inline struct bpfmap_program bpfmap_numbered(const struct bpfmap_client *
 /* Asks for a key's value. Returns BPFMAP_ABSENT if it has none. */
 static inline enum bpfmap_status bpfmap_get(struct bpfmap_client *client, struct bpfmap_span key, struct bpfmap_reply *reply)
 {
-    struct bpfmap_request request = bpfmap_request_of(BPFMAP_GET);
+    struct bpfmap_request request;
+    bpfmap_begin_request(&request, BPFMAP_GET);
     request.key = key;
     return bpfmap_ask(client, &request, reply);
 }
@@ -466,7 +478,8 @@ static inline enum bpfmap_status bpfmap_get(struct bpfmap_client *client, struct
 static inline enum bpfmap_status bpfmap_put(struct bpfmap_client *client, struct bpfmap_span key, struct bpfmap_span value,
                                             struct bpfmap_reply *reply)
 {
-    struct bpfmap_request request = bpfmap_request_of(BPFMAP_PUT);
+    struct bpfmap_request request;
+    bpfmap_begin_request(&request, BPFMAP_PUT);
     request.key = key;
     request.value = value;
     return bpfmap_ask(client, &request, reply);
@@ -476,7 +489,8 @@ static inline enum bpfmap_status bpfmap_put(struct bpfmap_client *client, struct
 static inline enum bpfmap_status bpfmap_put_if_absent(struct bpfmap_client *client, struct bpfmap_span key,
                                                       struct bpfmap_span value, struct bpfmap_reply *reply)
 {
-    struct bpfmap_request request = bpfmap_request_of(BPFMAP_PUT_IF_ABSENT);
+    struct bpfmap_request request;
+    bpfmap_begin_request(&request, BPFMAP_PUT_IF_ABSENT);
     request.key = key;
     request.value = value;
     return bpfmap_ask(client, &request, reply);
@@ -485,7 +499,8 @@ static inline enum bpfmap_status bpfmap_put_if_absent(struct bpfmap_client *clie
 /* Removes a key. The reply has its value. Returns BPFMAP_ABSENT if it had none. */
 static inline enum bpfmap_status bpfmap_remove(struct bpfmap_client *client, struct bpfmap_span key, struct bpfmap_reply *reply)
 {
-    struct bpfmap_request request = bpfmap_request_of(BPFMAP_REMOVE);
+    struct bpfmap_request request;
+    bpfmap_begin_request(&request, BPFMAP_REMOVE);
     request.key = key;
     return bpfmap_ask(client, &request, reply);
 }
@@ -494,7 +509,8 @@ static inline enum bpfmap_status bpfmap_remove(struct bpfmap_client *client, str
 static inline enum bpfmap_status bpfmap_remove_if(struct bpfmap_client *client, struct bpfmap_span key,
                                                   struct bpfmap_span expected, struct bpfmap_reply *reply)
 {
-    struct bpfmap_request request = bpfmap_request_of(BPFMAP_REMOVE_IF);
+    struct bpfmap_request request;
+    bpfmap_begin_request(&request, BPFMAP_REMOVE_IF);
     request.key = key;
     request.expected = expected;
     return bpfmap_ask(client, &request, reply);
@@ -504,7 +520,8 @@ static inline enum bpfmap_status bpfmap_remove_if(struct bpfmap_client *client, 
 static inline enum bpfmap_status bpfmap_replace(struct bpfmap_client *client, struct bpfmap_span key, struct bpfmap_span value,
                                                 struct bpfmap_reply *reply)
 {
-    struct bpfmap_request request = bpfmap_request_of(BPFMAP_REPLACE);
+    struct bpfmap_request request;
+    bpfmap_begin_request(&request, BPFMAP_REPLACE);
     request.key = key;
     request.value = value;
     return bpfmap_ask(client, &request, reply);
@@ -515,7 +532,8 @@ static inline enum bpfmap_status bpfmap_replace_if(struct bpfmap_client *client,
                                                    struct bpfmap_span expected, struct bpfmap_span value,
                                                    struct bpfmap_reply *reply)
 {
-    struct bpfmap_request request = bpfmap_request_of(BPFMAP_REPLACE_IF);
+    struct bpfmap_request request;
+    bpfmap_begin_request(&request, BPFMAP_REPLACE_IF);
     request.key = key;
     request.expected = expected;
     request.value = value;
@@ -527,7 +545,8 @@ static inline enum bpfmap_status bpfmap_ask_compute(struct bpfmap_client *client
                                                     const struct bpfmap_program *program, struct bpfmap_span arg,
                                                     struct bpfmap_reply *reply)
 {
-    struct bpfmap_request request = bpfmap_request_of(call);
+    struct bpfmap_request request;
+    bpfmap_begin_request(&request, call);
     request.key = key;
     request.program = program;
     request.arg = arg;
@@ -566,7 +585,8 @@ static inline enum bpfmap_status bpfmap_compute_if_present(struct bpfmap_client 
 static inline enum bpfmap_status bpfmap_merge(struct bpfmap_client *client, struct bpfmap_span key, struct bpfmap_span value,
                                               const struct bpfmap_program *program, struct bpfmap_reply *reply)
 {
-    struct bpfmap_request request = bpfmap_request_of(BPFMAP_MERGE);
+    struct bpfmap_request request;
+    bpfmap_begin_request(&request, BPFMAP_MERGE);
     request.key = key;
     request.value = value;
     request.program = program;
@@ -583,7 +603,8 @@ static inline enum bpfmap_status bpfmap_replace_all(struct bpfmap_client *client
 /* Counts the entries: the reply's `scanned`. */
 static inline enum bpfmap_status bpfmap_count(struct bpfmap_client *client, struct bpfmap_reply *reply)
 {
-    struct bpfmap_request request = bpfmap_request_of(BPFMAP_COUNT);
+    struct bpfmap_request request;
+    bpfmap_begin_request(&request, BPFMAP_COUNT);
     return bpfmap_ask(client, &request, reply);
 }
 
@@ -594,7 +615,8 @@ static inline enum bpfmap_status bpfmap_begin_walk(struct bpfmap_client *client,
                                                    const struct bpfmap_program *program, struct bpfmap_span arg,
                                                    uint64_t threshold)
 {
-    struct bpfmap_request request = bpfmap_request_of(call);
+    struct bpfmap_request request;
+    bpfmap_begin_request(&request, call);
     enum bpfmap_status status = bpfmap_begin_call(client);
     if (status == BPFMAP_BUSY)
         return status;

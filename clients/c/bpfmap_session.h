@@ -43,11 +43,13 @@ struct bpfmap_session {
 
     uint64_t id; /* no other session of this process has it */
     int version; /* of the protocol */
-    size_t longest_value;           /* of a value or argument in this version */
+    size_t longest_value;           /* of a value or argument in this version; and of an answer's body */
+    size_t longest_answer;
     size_t first_waiting, waiting;
     size_t out_begin, out_end;      /* requests that are not sent */
     size_t in_begin, in_end;        /* answers that are not read */
-    size_t registers, registering;  /* how many programs were registered or wait for that, and how many of them wait */
+    size_t registers, registering;  /* how many Registers were asked for, and how many of them wait for their answers */
+    size_t forgetting;              /* how many more wait whose answers will be forgotten */
     struct bpfmap_known known[BPFMAP_PROGRAMS]; /* the last ones, by their place modulo BPFMAP_PROGRAMS */
     uint8_t calls[BPFMAP_DEPTH];    /* the tags of the requests that wait, from first_waiting on, round the end */
     uint8_t out[BPFMAP_SENT_BYTES], in[BPFMAP_BUFFER_BYTES];
@@ -74,8 +76,6 @@ static inline enum bpfmap_status bpfmap_find_number(const struct bpfmap_session 
     size_t settled = session->registers - session->registering;
     size_t oldest = session->registers > BPFMAP_PROGRAMS ? session->registers - BPFMAP_PROGRAMS : 0;
     uint64_t mark;
-    if (!program)
-        return BPFMAP_UNREGISTERED;
     if (program->session != 0) {
         *number = program->number;
         return program->session == session->id ? BPFMAP_OK : BPFMAP_STALE;
@@ -90,9 +90,13 @@ static inline enum bpfmap_status bpfmap_find_number(const struct bpfmap_session 
     return BPFMAP_UNREGISTERED;
 }
 
-/* Notes that a Register was asked for. */
+/* Notes that a Register was asked for. If too many of them wait, its number will be forgotten. */
 static inline void bpfmap_begin_known(struct bpfmap_session *session, const struct bpfmap_program *program)
 {
+    if (session->registering == BPFMAP_PROGRAMS || session->forgetting > 0) {
+        session->forgetting++;
+        return;
+    }
     session->known[session->registers % BPFMAP_PROGRAMS].mark = bpfmap_mark(program);
     session->registers++;
     session->registering++;
@@ -102,6 +106,10 @@ static inline void bpfmap_begin_known(struct bpfmap_session *session, const stru
 static inline void bpfmap_settle_known(struct bpfmap_session *session, int is_refused, uint64_t number)
 {
     struct bpfmap_known *known = &session->known[(session->registers - session->registering) % BPFMAP_PROGRAMS];
+    if (session->registering == 0) {
+        session->forgetting--;
+        return;
+    }
     known->number = number;
     if (is_refused)
         known->mark = 0;
@@ -199,14 +207,14 @@ static inline uint8_t bpfmap_refuse_code(const struct bpfmap_session *session, s
     return length % 8 ? 11 : 12;
 }
 
-/* Returns the number of the refusal that a request gets before it is sent, or 0: a part of it is too long for this version. */
-static inline uint8_t bpfmap_refuse(const struct bpfmap_session *session, const struct bpfmap_request *request, unsigned fields)
+/* Whether a key, value or argument is too long for this version. */
+static inline int bpfmap_is_too_long(const struct bpfmap_session *session, const struct bpfmap_request *request, unsigned fields)
 {
     size_t longest = session->longest_value;
-    if (fields & BPFMAP_HAS_CODE)
-        return bpfmap_refuse_code(session, request->program->code.length);
     if (fields & BPFMAP_HAS_KEY && request->key.length > BPFMAP_KEY_BYTES)
         return 1;
+    if (!(fields & (BPFMAP_HAS_EXPECTED | BPFMAP_HAS_VALUE | BPFMAP_HAS_ARG)))
+        return 0;
     return (fields & BPFMAP_HAS_EXPECTED && request->expected.length > longest) ||
            (fields & BPFMAP_HAS_VALUE && request->value.length > longest) ||
            (fields & BPFMAP_HAS_ARG && request->arg.bytes && request->arg.length > longest);
@@ -385,8 +393,9 @@ static inline enum bpfmap_status bpfmap_take_small(const struct bpfmap_session *
 static inline enum bpfmap_status bpfmap_take(struct bpfmap_session *session, const uint8_t *body, size_t size,
                                              struct bpfmap_reply *reply)
 {
+    if (body[0] == 0x82)
+        return bpfmap_take_answer(session, body, size, reply);
     switch (body[0]) {
-    case 0x82: return bpfmap_take_answer(session, body, size, reply);
     case 0x85: return bpfmap_take_refusal(session, body, size, reply);
     case 0x86: return bpfmap_take_item(session, body, size, reply);
     case 0x87: return bpfmap_take_counts(body, size, reply);
@@ -432,26 +441,42 @@ static inline int bpfmap_make_out_room(struct bpfmap_session *session, size_t si
     return BPFMAP_SENT_BYTES - session->out_end >= size;
 }
 
-/* Returns why a request can't be taken now, or BPFMAP_OK. */
+/* Refuses a request before it is sent. */
+static inline enum bpfmap_status bpfmap_refuse(struct bpfmap_session *session, uint8_t number)
+{
+    session->refusal.number = number;
+    session->refusal.place = 0;
+    return BPFMAP_REFUSED;
+}
+
+/* Returns why a request with a program can't be taken now; or BPFMAP_OK, and sets the program's number. */
+static inline enum bpfmap_status bpfmap_may_use_program(struct bpfmap_session *session, const struct bpfmap_request *request,
+                                                        unsigned fields, uint64_t *number)
+{
+    uint8_t refused;
+    if (!request->program)
+        return BPFMAP_UNREGISTERED;
+    if (fields & BPFMAP_HAS_PROGRAM)
+        return bpfmap_find_number(session, request->program, number);
+    refused = bpfmap_refuse_code(session, request->program->code.length);
+    return refused ? bpfmap_refuse(session, refused) : BPFMAP_OK;
+}
+
+/* Returns why a request can't be taken now; or BPFMAP_OK, and sets its program's number. */
 static inline enum bpfmap_status bpfmap_may_ask(struct bpfmap_session *session, const struct bpfmap_request *request,
                                                 unsigned fields, uint64_t *number)
 {
-    uint8_t refused;
     if (session->status != BPFMAP_OK)
         return session->status;
     if (session->waiting == 0 && session->in_begin < session->in_end) /* bytes that nobody asked for */
         return bpfmap_session_end(session, BPFMAP_GARBLED, 0);
-    if (fields & BPFMAP_HAS_CODE && !request->program)
-        return BPFMAP_UNREGISTERED;
-    refused = bpfmap_refuse(session, request, fields);
-    if (refused) {
-        session->refusal.number = refused;
-        session->refusal.place = 0;
-        return BPFMAP_REFUSED;
-    }
-    if (session->waiting == BPFMAP_DEPTH || (fields & BPFMAP_HAS_CODE && session->registering == BPFMAP_PROGRAMS))
+    if (bpfmap_is_too_long(session, request, fields))
+        return bpfmap_refuse(session, 1);
+    if (session->waiting == BPFMAP_DEPTH)
         return BPFMAP_UNREAD;
-    return fields & BPFMAP_HAS_PROGRAM ? bpfmap_find_number(session, request->program, number) : BPFMAP_OK;
+    if (fields & (BPFMAP_HAS_PROGRAM | BPFMAP_HAS_CODE))
+        return bpfmap_may_use_program(session, request, fields, number);
+    return BPFMAP_OK;
 }
 
 /* Takes a request: its bytes are in the output then. If it has a program with code, a Register of that program must have been answered
@@ -485,6 +510,7 @@ static inline void bpfmap_session_begin(struct bpfmap_session *session, int vers
     session->id = ((((uint64_t)now.tv_sec * 1000000000u + (uint64_t)now.tv_nsec) << 16) ^ (uint64_t)(uintptr_t)session) | 1;
     session->version = version;
     session->longest_value = version == 1 ? BPFMAP_VALUE_BYTES_1 : BPFMAP_VALUE_BYTES;
+    session->longest_answer = 1 + 1 + BPFMAP_KEY_BYTES + 2 + session->longest_value; /* an Item */
     bpfmap_session_ask(session, &hello);
 }
 
@@ -492,6 +518,8 @@ static inline void bpfmap_session_begin(struct bpfmap_session *session, int vers
 static inline uint8_t *bpfmap_session_room(struct bpfmap_session *session, size_t *length)
 {
     enum { LONGEST_FRAME = 4 + 1 + 1 + BPFMAP_KEY_BYTES + 2 + BPFMAP_VALUE_BYTES };
+    if (session->in_begin == session->in_end)
+        session->in_begin = session->in_end = 0;
     if (BPFMAP_BUFFER_BYTES - session->in_end < LONGEST_FRAME && session->in_begin > 0) {
         memmove(session->in, session->in + session->in_begin, session->in_end - session->in_begin);
         session->in_end -= session->in_begin;
@@ -523,11 +551,13 @@ static inline size_t bpfmap_session_feed(struct bpfmap_session *session, const v
 static inline int bpfmap_has_frame(const struct bpfmap_session *session, size_t *size)
 {
     const uint8_t *frame = session->in + session->in_begin;
-    size_t there = session->in_end - session->in_begin, longest = 1 + 1 + BPFMAP_KEY_BYTES + 2 + session->longest_value;
-    *size = there < 4 ? 1 : bpfmap_read32(frame);
-    if (*size == 0 || *size > longest)
+    size_t there = session->in_end - session->in_begin;
+    if (there < 4)
+        return 0;
+    *size = bpfmap_read32(frame);
+    if (*size == 0 || *size > session->longest_answer)
         return -1;
-    return there >= 4 && there - 4 >= *size;
+    return there - 4 >= *size;
 }
 
 /* Drops the request that was answered. */
@@ -573,8 +603,6 @@ static inline enum bpfmap_status bpfmap_take_frame(struct bpfmap_session *sessio
         return bpfmap_session_garbled(session);
     }
     session->in_begin += 4 + size;
-    if (session->in_begin == session->in_end)
-        session->in_begin = session->in_end = 0;
     if (reply->kind != BPFMAP_ITEM)
         bpfmap_drop_waiting(session, reply);
     return status;
@@ -592,7 +620,7 @@ static inline enum bpfmap_status bpfmap_try_next(struct bpfmap_session *session,
     bpfmap_clear(reply);
     if (has_frame < 0)
         return bpfmap_session_garbled(session);
-    return session->status == BPFMAP_OK ? BPFMAP_NOT_ASKED : session->status;
+    return bpfmap_is_answer(session->status) ? BPFMAP_NOT_ASKED : session->status; /* BPFMAP_REFUSED: the Hello was */
 }
 
 /* Gives the next reply: they come in the order of the requests. A walk has one for each Item, and BPFMAP_END. Returns its status;

@@ -174,12 +174,18 @@ static inline void bpfmap_store64(void *bytes, uint64_t number)
         to[i] = (uint8_t)(number >> 8 * i);
 }
 
+/* Makes an empty request of this call: set the fields that it takes. */
+static inline void bpfmap_begin_request(struct bpfmap_request *request, enum bpfmap_call call)
+{
+    memset(request, 0, sizeof *request);
+    request->call = call;
+}
+
 /* Returns an empty request of this call: set the fields that it takes. */
 static inline struct bpfmap_request bpfmap_request_of(enum bpfmap_call call)
 {
     struct bpfmap_request request;
-    memset(&request, 0, sizeof request);
-    request.call = call;
+    bpfmap_begin_request(&request, call);
     return request;
 }
 

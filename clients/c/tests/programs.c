@@ -115,6 +115,27 @@ static void many_programs_are_told_apart(void)
     CHECK(bpfmap_mark(&programs[0]) != bpfmap_mark(&programs[1]) && bpfmap_mark(&programs[0]) != 0, "sizes make no difference");
 }
 
+/* More Registers in a pipeline than a client remembers: each is answered, and no number is taken for another program's. */
+static void many_registers_may_wait(void)
+{
+    enum { COUNT = 3 * BPFMAP_PROGRAMS };
+    struct bpfmap_program sum = sum_program(), remove = removal();
+    struct bpfmap_request request = bpfmap_request_of(BPFMAP_REGISTER);
+    CHECK_STATUS(&client, BPFMAP_OK, bpfmap_put(&client, bpfmap_text("n"), value(), NULL));
+    for (int i = 0; i < COUNT; i++) {
+        request.program = i < COUNT / 2 ? &remove : &sum;
+        CHECK_STATUS(&client, BPFMAP_OK, bpfmap_send(&client, &request));
+        if (i % 3 == 2)
+            CHECK_STATUS(&client, BPFMAP_OK, bpfmap_receive(&client, &reply));
+    }
+    for (int i = COUNT / 3; i < COUNT; i++)
+        CHECK_STATUS(&client, BPFMAP_OK, bpfmap_receive(&client, &reply));
+    CHECK(client.session.registering == 0 && client.session.forgetting == 0, "a register waits");
+    CHECK_STATUS(&client, BPFMAP_OK, bpfmap_merge(&client, bpfmap_text("n"), value(), &sum, &reply));
+    CHECK(bpfmap_load64(reply.value) == 2, "another program was called");
+    CHECK_STATUS(&client, BPFMAP_ABSENT, bpfmap_merge(&client, bpfmap_text("n"), value(), &remove, &reply));
+}
+
 /* The verifier's refusal comes to the call that uses the program first, with number and place. */
 static void refused_program_is_explained(void)
 {
@@ -289,10 +310,11 @@ int main(void)
     pipeline_wants_registered_programs();
     refused_program_is_explained();
     many_programs_are_told_apart();
+    CHECK_STATUS(&client, BPFMAP_OK, bpfmap_remove(&client, bpfmap_text("n"), NULL));
+    many_registers_may_wait();
     no_answer_is_stale();
     client_of_zeros_is_closed();
     items_are_given_as_they_come();
-    CHECK_STATUS(&client, BPFMAP_OK, bpfmap_remove(&client, bpfmap_text("n"), NULL));
     put_many();
     walk_can_be_left();
     walk_has_an_end();

@@ -131,7 +131,7 @@ static void append_reply(char *text, enum bpfmap_status status, const struct bpf
     }
 }
 
-/* The status that belongs to a reply of this kind. */
+/* The status that belongs to a reply of this kind; that of BPFMAP_DONE is its answer. */
 static enum bpfmap_status status_of(const struct bpfmap_reply *reply)
 {
     int is_put = reply->call == BPFMAP_PUT || reply->call == BPFMAP_PUT_IF_ABSENT;
@@ -200,7 +200,8 @@ static void make(struct bpfmap_client *client, const struct bpfmap_request *made
     case BPFMAP_REPLACE_ALL: status = bpfmap_replace_all(client, program, arg, &reply); break;
     case BPFMAP_COUNT: status = bpfmap_count(client, &reply); break;
     }
-    CHECK(status == status_of(&reply), "status %d, %s", (int)status, bpfmap_explain(client, status));
+    CHECK(status == status_of(&reply) || (reply.kind == BPFMAP_DONE && status == BPFMAP_UNCHANGED), "status %d, %s",
+          (int)status, bpfmap_explain(client, status));
     CHECK(is_clear(&reply), "a reply has bytes that nobody answered");
     append_reply(text, status, &reply);
 }
