@@ -1,5 +1,5 @@
-/* A client of `mapd` in C99 and C++11, over POSIX sockets (and MSG_DONTWAIT, which Linux, the BSDs and macOS have). README.md beside
- * it says how to begin. This is not examples/c/bpfmap.h, which is for programs that run in the map.
+/* A client of `mapd` in C99 and C++11, over POSIX sockets (and MSG_DONTWAIT, which Linux, the BSDs and macOS have). README.md
+ * beside it says how to begin. This is not examples/c/bpfmap.h, which is for programs that run in the map.
  *
  *     static struct bpfmap_client client;
  *     struct bpfmap_reply reply;
@@ -15,10 +15,10 @@
  * Include it before any other header, or define _POSIX_C_SOURCE as 200809L yourself. A client has fixed buffers, 56 KB in all, and
  * allocates nothing after bpfmap_connect.
  *
- * - If a connection fails, each request that waits for its answer gets an error, and so do all later ones. Such a call may have been
- *   made or not; nothing makes it again. bpfmap_reconnect begins anew.
- * - One thread at a time uses a client. If a second thread calls it meanwhile, that call returns BPFMAP_BUSY and sends nothing. So does
- *   each call after one that was left by longjmp or by a cancelled thread, until you close the client.
+ * - If a connection fails, each request that waits for its answer gets an error, and so do all later ones. Such a call may have
+ *   been made or not; nothing makes it again. bpfmap_reconnect begins anew.
+ * - One thread at a time uses a client. If a second thread calls it meanwhile, that call returns BPFMAP_BUSY and sends nothing. So
+ *   does each call after one that was left by longjmp or by a cancelled thread, until you close the client.
  * - After fork the client belongs to the process that connected it. In the other one a call that needs the connection returns
  *   BPFMAP_FORKED and sends nothing; bpfmap_reconnect gives that process a connection of its own. bpfmap_close there harms nobody.
  * - A reply may be NULL if you don't need it. */
@@ -164,8 +164,8 @@ static inline int bpfmap_open_socket(const struct bpfmap_client *client, int *er
     return opened;
 }
 
-/* Opens a connection to the first address of the host that answers, and keeps that address. Returns the socket; or -1 and an errno, or
- * 0 if there is no address. */
+/* Opens a connection to the first address of the host that answers, and keeps that address. Returns the socket; or -1 and an
+ * errno, or 0 if there is no address. */
 static inline int bpfmap_find_host(struct bpfmap_client *client, const char *host, const char *port, int *error)
 {
     struct addrinfo hints, *found, *address;
@@ -363,16 +363,16 @@ static inline enum bpfmap_status bpfmap_ask(struct bpfmap_client *client, const 
 
 /* ---- pipelines: up to BPFMAP_DEPTH requests, and their answers in the same order */
 
-/* Takes a request. It goes out when the buffer is full, at the latest when bpfmap_receive has to wait. If it returns BPFMAP_UNREAD the
- * request was not taken: receive an answer, and send it again. */
+/* Takes a request. It goes out when the buffer is full, at the latest when bpfmap_receive has to wait. If it returns BPFMAP_UNREAD
+ * the request was not taken: receive an answer, and send it again. */
 static inline enum bpfmap_status bpfmap_send(struct bpfmap_client *client, const struct bpfmap_request *request)
 {
     enum bpfmap_status status = bpfmap_begin_call(client);
     return status == BPFMAP_BUSY ? status : bpfmap_end_call(client, bpfmap_take_request(client, request));
 }
 
-/* Waits for the next answer. A walk gives each Item by itself, and BPFMAP_END at last. Answers that came before the connection failed
- * are still received. */
+/* Waits for the next answer. A walk gives each Item by itself, and BPFMAP_END at last. Answers that came before the connection
+ * failed are still received. */
 static inline enum bpfmap_status bpfmap_receive(struct bpfmap_client *client, struct bpfmap_reply *reply)
 {
     struct bpfmap_reply unread;
@@ -410,9 +410,9 @@ static inline enum bpfmap_status bpfmap_greet(struct bpfmap_client *client, int 
     return bpfmap_end_call(client, status);
 }
 
-/* Connects, and begins a session of this version of the protocol, 1 or 2. In version 1 values have at most 256 bytes, and an answer with
- * a longer one is refused with 65: then the call was made all the same. A server that does not know the version refuses it with 64;
- * nothing is tried a second time. */
+/* Connects, and begins a session of this version of the protocol, 1 or 2. In version 1 values have at most 256 bytes, and an
+ * answer with a longer one is refused with 65: then the call was made all the same. A server that does not know the version
+ * refuses it with 64; nothing is tried a second time. */
 static inline enum bpfmap_status bpfmap_connect_version(struct bpfmap_client *client, const char *host, const char *port,
                                                         int timeout, int version)
 {
@@ -425,15 +425,15 @@ static inline enum bpfmap_status bpfmap_connect_version(struct bpfmap_client *cl
     return bpfmap_greet(client, version, opened, error);
 }
 
-/* Connects, and begins a session of version 2. The timeout in milliseconds is for each wait for the server's next bytes, or until it
- * takes more; 0 waits without end. If all workers of the server are busy, it answers when one of them is free. */
+/* Connects, and begins a session of version 2. The timeout in milliseconds is for each wait for the server's next bytes, or until
+ * it takes more; 0 waits without end. If all workers of the server are busy, it answers when one of them is free. */
 static inline enum bpfmap_status bpfmap_connect(struct bpfmap_client *client, const char *host, const char *port, int timeout)
 {
     return bpfmap_connect_version(client, host, port, timeout, BPFMAP_VERSION);
 }
 
-/* Closes the connection if it is open, and connects to the same address again, by the same version: after a failure, after a walk that
- * you left, or in a child of fork. Programs with code are registered again when they are used. */
+/* Closes the connection if it is open, and connects to the same address again, by the same version: after a failure, after a walk
+ * that you left, or in a child of fork. Programs with code are registered again when they are used. */
 static inline enum bpfmap_status bpfmap_reconnect(struct bpfmap_client *client)
 {
     int error = 0, opened = -1;
@@ -446,8 +446,8 @@ static inline enum bpfmap_status bpfmap_reconnect(struct bpfmap_client *client)
 
 /* ---- programs */
 
-/* Registers a program's code. The calls below do so by themselves; call it to see a refusal early, or before you send a request with the
- * program in a pipeline. The reply has the number of the program, which is the same for all clients of this server. */
+/* Registers a program's code. The calls below do so by themselves; call it to see a refusal early, or before you send a request
+ * with the program in a pipeline. The reply has the number of the program, which is the same for all clients of this server. */
 static inline enum bpfmap_status bpfmap_register(struct bpfmap_client *client, const struct bpfmap_program *program,
                                                  struct bpfmap_reply *reply)
 {
@@ -553,8 +553,8 @@ static inline enum bpfmap_status bpfmap_ask_compute(struct bpfmap_client *client
     return bpfmap_ask(client, &request, reply);
 }
 
-/* Runs the program on the key. The reply has the new value. Returns BPFMAP_ABSENT if the program answered nothing, so that the key has no
- * value now; BPFMAP_UNFIT if the program did not run. */
+/* Runs the program on the key. The reply has the new value. Returns BPFMAP_ABSENT if the program answered nothing, so that the key
+ * has no value now; BPFMAP_UNFIT if the program did not run. */
 static inline enum bpfmap_status bpfmap_compute(struct bpfmap_client *client, struct bpfmap_span key,
                                                 const struct bpfmap_program *program, struct bpfmap_span arg,
                                                 struct bpfmap_reply *reply)
@@ -571,8 +571,8 @@ static inline enum bpfmap_status bpfmap_compute_if_absent(struct bpfmap_client *
     return bpfmap_ask_compute(client, BPFMAP_COMPUTE_IF_ABSENT, key, program, arg, reply);
 }
 
-/* Runs the program if the key has a value. The reply has the new one. Returns BPFMAP_ABSENT if the key has none now, and BPFMAP_UNFIT as
- * bpfmap_compute does. */
+/* Runs the program if the key has a value. The reply has the new one. Returns BPFMAP_ABSENT if the key has none now, and
+ * BPFMAP_UNFIT as bpfmap_compute does. */
 static inline enum bpfmap_status bpfmap_compute_if_present(struct bpfmap_client *client, struct bpfmap_span key,
                                                            const struct bpfmap_program *program, struct bpfmap_span arg,
                                                            struct bpfmap_reply *reply)
@@ -627,8 +627,8 @@ static inline enum bpfmap_status bpfmap_begin_walk(struct bpfmap_client *client,
     return bpfmap_end_call(client, status == BPFMAP_OK ? bpfmap_take_request(client, &request) : status);
 }
 
-/* Begins a walk. Then call bpfmap_receive while it returns BPFMAP_OK: each time the reply has an Item, the program's answer at the key.
- * It returns BPFMAP_END, with the counts, after the last one. Any other call returns BPFMAP_WALKING meanwhile. */
+/* Begins a walk. Then call bpfmap_receive while it returns BPFMAP_OK: each time the reply has an Item, the program's answer at the
+ * key. It returns BPFMAP_END, with the counts, after the last one. Any other call returns BPFMAP_WALKING meanwhile. */
 static inline enum bpfmap_status bpfmap_begin_for_each(struct bpfmap_client *client, const struct bpfmap_program *program,
                                                        struct bpfmap_span arg, uint64_t threshold)
 {
@@ -642,8 +642,8 @@ static inline enum bpfmap_status bpfmap_begin_search(struct bpfmap_client *clien
     return bpfmap_begin_walk(client, BPFMAP_SEARCH, program, arg, threshold);
 }
 
-/* Ends a walk. After its end that does nothing, and returns BPFMAP_OK. Before, it closes the connection, since the rest of the Items is
- * still to come, and returns BPFMAP_CLOSED: call bpfmap_reconnect to go on. */
+/* Ends a walk. After its end that does nothing, and returns BPFMAP_OK. Before, it closes the connection, since the rest of the
+ * Items is still to come, and returns BPFMAP_CLOSED: call bpfmap_reconnect to go on. */
 static inline enum bpfmap_status bpfmap_leave_walk(struct bpfmap_client *client)
 {
     if (client->session.waiting > 0)

@@ -479,8 +479,8 @@ static inline enum bpfmap_status bpfmap_may_ask(struct bpfmap_session *session, 
     return BPFMAP_OK;
 }
 
-/* Takes a request: its bytes are in the output then. If it has a program with code, a Register of that program must have been answered
- * in this session. Returns BPFMAP_OK, or why it was not taken. */
+/* Takes a request: its bytes are in the output then. If it has a program with code, a Register of that program must have been
+ * answered in this session. Returns BPFMAP_OK, or why it was not taken. */
 static inline enum bpfmap_status bpfmap_session_ask(struct bpfmap_session *session, const struct bpfmap_request *request)
 {
     unsigned fields = bpfmap_fields(request->call);

@@ -1,4 +1,5 @@
-/* The types of the C client, and what their numbers mean. You don't include this header: bpfmap_client.h and bpfmap_session.h do. */
+/* The types of the C client, and what their numbers mean. You don't include this header: bpfmap_client.h and bpfmap_session.h do.
+ */
 #ifndef BPFMAP_TYPES_H
 #define BPFMAP_TYPES_H
 
@@ -122,8 +123,8 @@ enum bpfmap_kind {
 
 enum bpfmap_window { BPFMAP_NO_WINDOW, BPFMAP_KEY_WINDOW, BPFMAP_OLD_WINDOW, BPFMAP_ARG_WINDOW };
 
-/* A reply. Every call that takes one clears it first, so nothing of an earlier answer stays. A zero follows the bytes of a key and of a
- * value, so if they are text they can be read as a string. */
+/* A reply. Every call that takes one clears it first, so nothing of an earlier answer stays. A zero follows the bytes of a key and
+ * of a value, so if they are text they can be read as a string. */
 struct bpfmap_reply {
     enum bpfmap_call call; /* what it answers */
     enum bpfmap_kind kind;

@@ -1,6 +1,6 @@
-/* A fault at every point of a call: send, recv, poll and connect fail, take or give a single byte, or are left by longjmp, each at its
- * first, second, third .. use. The server is a fake in this process, whose answers name what was asked. No call ever gets the answer
- * of another, no request arrives twice, and after a failure the connection is closed. */
+/* A fault at every point of a call: send, recv, poll and connect fail, take or give a single byte, or are left by longjmp, each at
+ * its first, second, third .. use. The server is a fake in this process, whose answers name what was asked. No call ever gets the
+ * answer of another, no request arrives twice, and after a failure the connection is closed. */
 #define _POSIX_C_SOURCE 200809L
 #include <netdb.h>
 #include <netinet/tcp.h>

@@ -1,5 +1,5 @@
-/* Programs are registered anew on each connection, and no number outlives its own; answers leave nothing behind in a reply; walks can
- * be left. */
+/* Programs are registered anew on each connection, and no number outlives its own; answers leave nothing behind in a reply; walks
+ * can be left. */
 #include "../bpfmap_client.h"
 #include "server.h"
 #include "played.h"
@@ -297,7 +297,8 @@ static void items_are_given_as_they_come(void)
     CHECK(write(told[1], "", 1) == 1, "a pipe is broken");
     CHECK_STATUS(&other, BPFMAP_OK, bpfmap_receive(&other, &reply));
     CHECK_STATUS(&other, BPFMAP_BROKEN, bpfmap_receive(&other, &reply));
-    CHECK(strstr(bpfmap_explain(&other, BPFMAP_BROKEN), "the server ended the connection; calls without an answer may have been made"),
+    CHECK(strcmp(bpfmap_explain(&other, BPFMAP_BROKEN), "the server ended the connection; calls without an answer may have been "
+                                                        "made; connect again") == 0,
           "%s", bpfmap_explain(&other, BPFMAP_BROKEN));
     end_played(&played);
     close(told[0]);

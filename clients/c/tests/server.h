@@ -8,7 +8,7 @@
 #include <stdlib.h>
 #include <sys/wait.h>
 
-enum { TIMEOUT = 20000, LONGEST_TEST_SECONDS = 100 };
+enum { TIMEOUT = 60000, LONGEST_TEST_SECONDS = 100 };
 
 /* The server that runs, and the port it listens on. */
 static pid_t server_process;

@@ -1,5 +1,5 @@
-/* The session without sockets: its bytes are those of docs/PROTOCOL.md's example, however they are cut; and under an event loop over a
- * socket that does not block. */
+/* The session without sockets: its bytes are those of docs/PROTOCOL.md's example, however they are cut; and under an event loop
+ * over a socket that does not block. */
 #include "../bpfmap_client.h"
 #include "server.h"
 

@@ -81,8 +81,8 @@ static void calls_are_made_all_the_same(size_t length)
 
 enum { COPY_BYTES = 16 * (BPFMAP_VALUE_BYTES / 8) + 16 };
 
-/* Writes a program that answers a window's bytes: the window of the register from, whose length is in the register length. Version 1
- * refuses it, so the program that is returned has the number that version 2 gave it. */
+/* Writes a program that answers a window's bytes: the window of the register from, whose length is in the register length. Version
+ * 1 refuses it, so the program that is returned has the number that version 2 gave it. */
 static uint64_t register_copy_of(uint8_t *code, int from, int length)
 {
     struct bpfmap_program copy;
