@@ -37,7 +37,7 @@ static const char script[] =
 static const char *port;
 static const struct operation *operation;
 static int is_redis, depth;
-static uint64_t program;
+static struct bpfmap_program program;
 static char before[200];
 static pthread_barrier_t ready;
 static int is_over;
@@ -69,17 +69,18 @@ static void write_key(char *key, uint64_t number)
 
 static void redis_send(struct bpfmap_client *client, const char *bytes, size_t length)
 {
-    while (BPFMAP_BUFFER_BYTES - client->out_end < length)
-        NEED(bpfmap_exchange(client) == BPFMAP_OK && !client->takes_nothing, "Redis takes nothing");
-    memcpy(client->out + client->out_end, bytes, length);
-    client->out_end += length;
+    struct bpfmap_session *session = &client->session;
+    while (!bpfmap_make_out_room(session, length))
+        NEED(bpfmap_exchange(client) == BPFMAP_OK && !client->send_error, "Redis takes nothing");
+    memcpy(session->out + session->out_end, bytes, length);
+    session->out_end += length;
 }
 
 /* The bytes of the next answer, up to and with the newline of its first line or of its text; 0 where it is not whole. */
-static size_t redis_answer_size(const struct bpfmap_client *client)
+static size_t redis_answer_size(const struct bpfmap_session *session)
 {
-    const char *from = (const char *)client->in + client->in_begin;
-    size_t there = client->in_end - client->in_begin, size;
+    const char *from = (const char *)session->in + session->in_begin;
+    size_t there = session->in_end - session->in_begin, size;
     const char *newline = (const char *)memchr(from, '\n', there);
     if (!newline)
         return 0;
@@ -92,13 +93,14 @@ static size_t redis_answer_size(const struct bpfmap_client *client)
 /* Waits for an answer. Its first line is the text, which ends where the client reads on. */
 static const char *redis_receive(struct bpfmap_client *client)
 {
+    struct bpfmap_session *session = &client->session;
     size_t size;
     const char *answer;
-    while ((size = redis_answer_size(client)) == 0)
-        NEED(bpfmap_read_more(client) == BPFMAP_OK, "Redis ended: %s", bpfmap_explain(client, client->status));
-    answer = (const char *)client->in + client->in_begin;
+    while ((size = redis_answer_size(session)) == 0)
+        NEED(bpfmap_read_more(client) == BPFMAP_OK, "Redis ended: %s", bpfmap_explain(client, session->status));
+    answer = (const char *)session->in + session->in_begin;
     NEED(*answer != '-', "Redis answered %.*s", (int)size, answer);
-    client->in_begin += size;
+    session->in_begin += size;
     return answer;
 }
 
@@ -114,9 +116,12 @@ static void redis_send_line(struct bpfmap_client *client, const char *first, uin
 static void redis_connect(struct bpfmap_client *client)
 {
     int error;
-    *client = (struct bpfmap_client){.status = BPFMAP_OK, .timeout = TIMEOUT};
-    client->socket = bpfmap_open_socket("127.0.0.1", port, TIMEOUT, &error);
-    NEED(client->socket >= 0, "no connection to Redis: %s", strerror(error));
+    memset(client, 0, sizeof *client);
+    client->timeout = TIMEOUT;
+    client->socket = bpfmap_find_host(client, "127.0.0.1", port, &error);
+    client->is_open = client->socket >= 0;
+    client->process = getpid();
+    NEED(client->is_open, "no connection to Redis: %s", strerror(error));
 }
 
 /* Sets all keys, and loads the script. */
@@ -144,7 +149,7 @@ static uint64_t redis_value(struct bpfmap_client *client, uint64_t key)
 
 /* ---- requests and answers of mapd */
 
-static void need(const struct bpfmap_client *client, enum bpfmap_status status)
+static void need(struct bpfmap_client *client, enum bpfmap_status status)
 {
     NEED(status == BPFMAP_OK, "%s", bpfmap_explain(client, status));
 }
@@ -153,7 +158,7 @@ static void map_send(struct bpfmap_client *client, uint64_t key)
 {
     static const uint8_t one[8] = {1};
     char bytes[KEY_LENGTH];
-    struct bpfmap_request request = {.call = operation->call, .value = {one, sizeof one}, .program = program};
+    struct bpfmap_request request = {.call = operation->call, .value = {one, sizeof one}, .program = &program};
     write_key(bytes, key);
     request.key = bpfmap_bytes(bytes, KEY_LENGTH);
     need(client, bpfmap_send(client, &request));
@@ -163,24 +168,22 @@ static void map_receive(struct bpfmap_client *client)
 {
     struct bpfmap_reply reply;
     need(client, bpfmap_receive(client, &reply));
-    NEED(reply.kind == BPFMAP_VALUE && reply.value_length == 8, "an answer of kind %d", (int)reply.kind);
+    NEED(reply.value_length == 8, "an answer of %zu bytes", reply.value_length);
 }
 
-/* Puts all keys, and registers the sum. */
+/* Puts all keys, and makes the sum: each connection registers it with its first Merge. */
 static void map_prepare(struct bpfmap_client *client)
 {
     static const uint8_t none[8];
     static const uint8_t sum[] = {0x79, 0x20, 0, 0, 0, 0, 0, 0, 0x79, 0x39, 0, 0, 0, 0, 0, 0, 0x0f, 0x90, 0, 0, 0, 0, 0, 0,
                                   0x7b, 0x04, 0, 0, 0, 0, 0, 0, 0xb7, 0x00, 0, 0, 8, 0, 0, 0, 0x95, 0x00, 0, 0, 0, 0, 0, 0};
-    struct bpfmap_sizes sizes = {.key = 64, .old = 8, .arg = 8, .result = 8};
     struct bpfmap_reply reply;
+    program = bpfmap_program_of(bpfmap_windows(64, 8, 8, 8), bpfmap_bytes(sum, sizeof sum));
     for (uint64_t key = 0; key < KEYS; key++) {
         char bytes[KEY_LENGTH];
         write_key(bytes, key);
         need(client, bpfmap_put(client, bpfmap_bytes(bytes, KEY_LENGTH), bpfmap_bytes(none, sizeof none), &reply));
     }
-    need(client, bpfmap_register(client, sizes, bpfmap_bytes(sum, sizeof sum), &reply));
-    program = reply.program;
 }
 
 static uint64_t map_value(struct bpfmap_client *client, uint64_t key)
@@ -189,7 +192,6 @@ static uint64_t map_value(struct bpfmap_client *client, uint64_t key)
     char bytes[KEY_LENGTH];
     write_key(bytes, key);
     need(client, bpfmap_get(client, bpfmap_bytes(bytes, KEY_LENGTH), &reply));
-    NEED(reply.kind == BPFMAP_VALUE, "a key is gone");
     return bpfmap_load64(reply.value);
 }
 

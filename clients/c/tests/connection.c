@@ -11,7 +11,7 @@ static struct bpfmap_reply reply;
 
 static int is_failure(enum bpfmap_status status)
 {
-    return status == BPFMAP_BROKEN || status == BPFMAP_TIMED_OUT || status == BPFMAP_GARBLED;
+    return status >= BPFMAP_CLOSED;
 }
 
 /* Connects to a server that plays this after the Hello. */
@@ -24,7 +24,7 @@ static void play(struct played *played, void (*part)(int, const void *), const v
 
 /* ---- a server that ends */
 
-static struct bpfmap_request sum_request(uint64_t program)
+static struct bpfmap_request sum_request(const struct bpfmap_program *program)
 {
     static const uint8_t one[8] = {1};
     struct bpfmap_request request = {
@@ -35,11 +35,11 @@ static struct bpfmap_request sum_request(uint64_t program)
 /* The server is killed while 1,000 requests are on their way: each gets its answer, or an error; none an answer behind an error. */
 static void server_is_killed(int answered_first)
 {
-    struct bpfmap_request request;
+    struct bpfmap_program sum = sum_program();
+    struct bpfmap_request request = sum_request(&sum);
     int answered = 0, failed = 0;
     start_server();
     connect_to_server(&client);
-    request = sum_request(register_sum(&client));
     for (int i = 0; i < 1000; i++)
         CHECK_STATUS(&client, BPFMAP_OK, bpfmap_send(&client, &request));
     for (int i = 0; i < 1000; i++) {
@@ -83,10 +83,10 @@ static void server_ends_inside_an_answer(const void *resets)
     for (int i = 0; i < 10; i++)
         CHECK_STATUS(&client, BPFMAP_OK, bpfmap_send(&client, &get));
     for (int i = 0; i < 3; i++)
-        CHECK_STATUS(&client, BPFMAP_OK, bpfmap_receive(&client, &reply));
+        CHECK_STATUS(&client, BPFMAP_ABSENT, bpfmap_receive(&client, &reply));
     for (int i = 3; i < 12; i++)
         CHECK_STATUS(&client, BPFMAP_BROKEN, bpfmap_receive(&client, &reply));
-    CHECK(client.error == (resets ? ECONNRESET : 0), "the end has errno %d", client.error);
+    CHECK(client.session.error == (resets ? ECONNRESET : 0), "the end has errno %d", client.session.error);
     CHECK_STATUS(&client, BPFMAP_BROKEN, bpfmap_ask(&client, &get, &reply));
     CHECK_STATUS(&client, BPFMAP_BROKEN, bpfmap_send(&client, &get));
     end_played(&played);
@@ -108,7 +108,8 @@ static void answer_and_stop_reading(int connection, const void *given)
 static void server_ends_while_client_sends(void)
 {
     static const uint8_t code[BPFMAP_PROGRAM_BYTES];
-    struct bpfmap_request large = {.call = BPFMAP_REGISTER, .code = bpfmap_bytes(code, sizeof code)};
+    struct bpfmap_program program = bpfmap_program_of(bpfmap_windows(0, 0, 0, 0), bpfmap_bytes(code, sizeof code));
+    struct bpfmap_request large = {.call = BPFMAP_REGISTER, .program = &program};
     struct bpfmap_request get = {.call = BPFMAP_GET, .key = bpfmap_text("ab")};
     struct played played;
     enum bpfmap_status status = BPFMAP_OK;
@@ -119,7 +120,7 @@ static void server_ends_while_client_sends(void)
         status = bpfmap_send(&client, &large);
     CHECK_STATUS(&client, BPFMAP_BROKEN, status);
     for (int i = 0; i < 3; i++)
-        CHECK_STATUS(&client, BPFMAP_OK, bpfmap_receive(&client, &reply));
+        CHECK_STATUS(&client, BPFMAP_ABSENT, bpfmap_receive(&client, &reply));
     CHECK_STATUS(&client, BPFMAP_BROKEN, bpfmap_receive(&client, &reply));
     CHECK_STATUS(&client, BPFMAP_BROKEN, bpfmap_send(&client, &get));
     end_played(&played);
@@ -132,13 +133,6 @@ static long milliseconds(void)
     struct timespec now;
     clock_gettime(CLOCK_MONOTONIC, &now);
     return now.tv_sec * 1000 + now.tv_nsec / 1000000;
-}
-
-/* Reads all that comes and sends nothing. */
-static void be_silent(int connection, const void *given)
-{
-    (void)given;
-    skip_bytes(connection, SIZE_MAX);
 }
 
 static void silent_server_is_left(void)
@@ -165,7 +159,8 @@ static void take_nothing(int connection, const void *given)
 static void server_that_takes_nothing_is_left(void)
 {
     static const uint8_t code[BPFMAP_PROGRAM_BYTES];
-    struct bpfmap_request large = {.call = BPFMAP_REGISTER, .code = bpfmap_bytes(code, sizeof code)};
+    struct bpfmap_program program = bpfmap_program_of(bpfmap_windows(0, 0, 0, 0), bpfmap_bytes(code, sizeof code));
+    struct bpfmap_request large = {.call = BPFMAP_REGISTER, .program = &program};
     struct played played;
     enum bpfmap_status status = BPFMAP_OK;
     int given_up[2];
@@ -213,6 +208,7 @@ static const struct frame no_answers[] = {
     {"Refused without a place", BPFMAP_MERGE, 6, {0, 0, 0, 2, 0x85, 66}},
     {"Registered that is cut short", BPFMAP_REGISTER, 12, {0, 0, 0, 8, 0x81}},
     {"Value to a Count", BPFMAP_COUNT, 7, {0, 0, 0, 3, 0x82, 255, 255}},
+    {"Value to a Register", BPFMAP_REGISTER, 7, {0, 0, 0, 3, 0x82, 255, 255}},
     {"an Item to a Count", BPFMAP_COUNT, 8, {0, 0, 0, 4, 0x86, 0, 0, 0}},
     {"End that is cut short", BPFMAP_COUNT, 28, {0, 0, 0, 24, 0x87}},
     {"an Item without a key", BPFMAP_FOR_EACH, 5, {0, 0, 0, 1, 0x86}},
@@ -229,14 +225,25 @@ static void send_frame(int connection, const void *given)
     skip_bytes(connection, SIZE_MAX);
 }
 
+/* Sends the frame as the answer to a request. */
+static void answer_with_frame(int connection, const void *given)
+{
+    skip_request(connection);
+    send_frame(connection, given);
+}
+
 static void garbled_answer_ends_the_connection(const struct frame *frame)
 {
     struct played played;
-    struct bpfmap_request request = {.call = frame->call, .key = bpfmap_text("ab")};
+    struct bpfmap_program program = sum_program();
+    struct bpfmap_request request = {.call = frame->call, .key = bpfmap_text("ab"), .program = &program};
     enum bpfmap_status status;
-    play(&played, send_frame, frame, TIMEOUT);
+    play(&played, answer_with_frame, frame, TIMEOUT);
+    if (frame->call != BPFMAP_REGISTER)
+        program = bpfmap_numbered(&client, 0);
     status = bpfmap_ask(&client, &request, &reply);
     CHECK(status == BPFMAP_GARBLED, "%s: status %d, %s", frame->name, (int)status, bpfmap_explain(&client, status));
+    CHECK(!client.is_open, "%s: the connection is open", frame->name);
     CHECK_STATUS(&client, BPFMAP_GARBLED, bpfmap_receive(&client, &reply));
     CHECK_STATUS(&client, BPFMAP_GARBLED, bpfmap_get(&client, bpfmap_text("ab"), &reply));
     end_played(&played);
@@ -252,6 +259,8 @@ static void answer_by_bytes(int connection, const void *given)
     struct timespec moment = {.tv_nsec = 1000000};
     int one = 1;
     (void)given;
+    skip_request(connection);
+    skip_request(connection);
     setsockopt(connection, IPPROTO_TCP, TCP_NODELAY, &one, sizeof one);
     for (size_t i = 0; i < sizeof answers; i++) {
         nanosleep(&moment, NULL);
@@ -263,21 +272,26 @@ static void answer_by_bytes(int connection, const void *given)
 static void answer_may_come_by_bytes(void)
 {
     struct played played;
+    struct bpfmap_program zero;
+    struct bpfmap_request walk = {.call = BPFMAP_FOR_EACH, .program = &zero};
     play(&played, answer_by_bytes, NULL, TIMEOUT);
-    CHECK_STATUS(&client, BPFMAP_OK, bpfmap_begin_for_each(&client, 0, bpfmap_none(), 0));
-    CHECK_STATUS(&client, BPFMAP_OK, bpfmap_begin_for_each(&client, 0, bpfmap_none(), 0));
+    zero = bpfmap_numbered(&client, 0);
+    CHECK_STATUS(&client, BPFMAP_OK, bpfmap_send(&client, &walk));
+    CHECK_STATUS(&client, BPFMAP_OK, bpfmap_send(&client, &walk));
     CHECK_STATUS(&client, BPFMAP_OK, bpfmap_receive(&client, &reply));
     CHECK(reply.kind == BPFMAP_ITEM && reply.key_length == 1 && reply.key[0] == 'a' && reply.value_length == 1 &&
               reply.value[0] == 'z', "no Item came, but kind %d", (int)reply.kind);
-    CHECK_STATUS(&client, BPFMAP_OK, bpfmap_receive(&client, &reply));
+    CHECK_STATUS(&client, BPFMAP_END, bpfmap_receive(&client, &reply));
     CHECK(reply.kind == BPFMAP_COUNTS && reply.scanned == 3 && reply.given == 2 && reply.unfit == 1, "no counts came");
     CHECK_STATUS(&client, BPFMAP_REFUSED, bpfmap_receive(&client, &reply));
-    CHECK(client.refusal.number == 9 && client.refusal.place == 0x01020304, "no refusal came");
+    CHECK(reply.refusal.number == 9 && reply.refusal.place == 0x01020304, "no refusal came");
+    CHECK(strcmp(bpfmap_explain(&client, BPFMAP_REFUSED), "refused 9 at 16909060: a request for memory was refused") == 0,
+          "it is explained as '%s'", bpfmap_explain(&client, BPFMAP_REFUSED));
     CHECK_STATUS(&client, BPFMAP_NOT_ASKED, bpfmap_receive(&client, &reply));
     bpfmap_close(&client);
     end_played(&played);
-    CHECK_STATUS(&client, BPFMAP_BROKEN, bpfmap_receive(&client, &reply));
-    CHECK(client.error == ENOTCONN, "a closed client has errno %d", client.error);
+    CHECK_STATUS(&client, BPFMAP_CLOSED, bpfmap_receive(&client, &reply));
+    CHECK_STATUS(&client, BPFMAP_CLOSED, bpfmap_get(&client, bpfmap_text("ab"), &reply));
 }
 
 /* Answers the Hello of a version with what is no answer to it, or a refusal. */
@@ -287,8 +301,12 @@ static void hello_is_not_answered(int version, uint8_t tag, uint8_t number, enum
     struct played played = {.play = send_frame, .given = &frame};
     start_played(&played);
     CHECK_STATUS(&client, wanted, bpfmap_connect_version(&client, "127.0.0.1", played.port, TIMEOUT, version));
-    CHECK(client.socket < 0, "a client that is not connected has a socket");
-    CHECK(is_failure(bpfmap_get(&client, bpfmap_text("ab"), &reply)), "a client that is not connected asks");
+    CHECK(!client.is_open, "a client that is not connected has a socket");
+    if (number == 64)
+        CHECK(strstr(bpfmap_explain(&client, wanted), "refused 64 at 0: ") && strstr(bpfmap_explain(&client, wanted),
+              version == 1 ? "does not know version 1" : "ask for version 1"), "64: %s", bpfmap_explain(&client, wanted));
+    CHECK_STATUS(&client, wanted, bpfmap_get(&client, bpfmap_text("ab"), &reply));
+    CHECK(!bpfmap_is_answer(bpfmap_receive(&client, &reply)), "a client that is not connected has an answer");
     bpfmap_close(&client);
     end_played(&played);
 }
@@ -297,7 +315,7 @@ static void hello_is_not_answered(int version, uint8_t tag, uint8_t number, enum
 static void long_answer_ends_version_1(const uint8_t *bytes)
 {
     struct frame frame = {.length = 6};
-    struct played played = {.play = send_frame, .given = &frame, .greets = 1};
+    struct played played = {.play = answer_with_frame, .given = &frame, .greets = 1};
     memcpy(frame.bytes, bytes, frame.length);
     start_played(&played);
     CHECK_STATUS(&client, BPFMAP_OK, bpfmap_connect_version(&client, "127.0.0.1", played.port, TIMEOUT, 1));
@@ -317,7 +335,7 @@ static void nobody_listens(void)
               getsockname(bound, (struct sockaddr *)&address, &size) == 0, "no port");
     sprintf(port, "%u", (unsigned)ntohs(address.sin_port));
     CHECK_STATUS(&client, BPFMAP_BROKEN, bpfmap_connect(&client, "127.0.0.1", port, TIMEOUT));
-    CHECK(client.error == ECONNREFUSED, "errno %d where nobody listens", client.error);
+    CHECK(client.session.error == ECONNREFUSED, "errno %d where nobody listens", client.session.error);
     CHECK_STATUS(&client, BPFMAP_BROKEN, bpfmap_get(&client, bpfmap_text("ab"), &reply));
     CHECK_STATUS(&client, BPFMAP_NO_ADDRESS, bpfmap_connect(&client, "127.0.0.1", "no such port", TIMEOUT));
     CHECK_STATUS(&client, BPFMAP_NO_ADDRESS, bpfmap_get(&client, bpfmap_text("ab"), &reply));
@@ -348,11 +366,11 @@ static void take_answer(void)
     enum bpfmap_status status = bpfmap_receive(&client, &reply);
     if (walks == MANY_WALKS) {
         CHECK_STATUS(&client, BPFMAP_REFUSED, status);
-        CHECK(client.refusal.number == 11 && reply.call == BPFMAP_REGISTER, "refused %d", client.refusal.number);
+        CHECK(reply.refusal.number == 11 && reply.call == BPFMAP_REGISTER, "refused %d", reply.refusal.number);
         refusals++;
         return;
     }
-    CHECK_STATUS(&client, BPFMAP_OK, status);
+    CHECK_STATUS(&client, reply.kind == BPFMAP_ITEM ? BPFMAP_OK : BPFMAP_END, status);
     if (reply.kind == BPFMAP_ITEM) {
         CHECK(reply.value_length == BPFMAP_VALUE_BYTES, "an Item's value has %zu bytes", reply.value_length);
         items++;
@@ -363,11 +381,12 @@ static void take_answer(void)
     CHECK(items == walks * MANY_ENTRIES, "a walk gave %d items", items);
 }
 
-/* Puts entries, and registers a program that answers the longest value. Its number. */
-static uint64_t fill_and_register(void)
+/* Puts entries, and registers a program that answers the longest value. */
+static struct bpfmap_program fill_and_register(void)
 {
-    uint8_t value[BPFMAP_VALUE_BYTES] = {0}, code[8 * (BPFMAP_VALUE_BYTES / 8 + 2)] = {0};
-    struct bpfmap_sizes sizes = {.key = 64, .old = BPFMAP_VALUE_BYTES, .arg = 0, .result = BPFMAP_VALUE_BYTES};
+    static uint8_t code[8 * (BPFMAP_VALUE_BYTES / 8 + 2)];
+    uint8_t value[BPFMAP_VALUE_BYTES] = {0};
+    struct bpfmap_program program;
     for (uint64_t i = 0; i < MANY_ENTRIES; i++) {
         uint8_t key[8];
         bpfmap_store64(key, i);
@@ -378,8 +397,9 @@ static uint64_t fill_and_register(void)
         memcpy(code + 8 * i, unit, sizeof unit);
     }
     memcpy(code + BPFMAP_VALUE_BYTES, "\xb7\0\0\0\0\4\0\0\x95", 9); /* mov64 r0, 1024; exit */
-    CHECK_STATUS(&client, BPFMAP_OK, bpfmap_register(&client, sizes, bpfmap_bytes(code, sizeof code), &reply));
-    return reply.program;
+    program = bpfmap_program_of(bpfmap_windows(64, BPFMAP_VALUE_BYTES, 0, BPFMAP_VALUE_BYTES), bpfmap_bytes(code, sizeof code));
+    CHECK_STATUS(&client, BPFMAP_OK, bpfmap_register(&client, &program, &reply));
+    return program;
 }
 
 /* Ten megabytes of answers are asked for and not received, and ten megabytes of requests follow: neither side waits for the
@@ -387,18 +407,19 @@ static uint64_t fill_and_register(void)
 static void more_is_sent_than_fits(void)
 {
     static const uint8_t code[BPFMAP_PROGRAM_BYTES - 1];
-    struct bpfmap_request walk = {.call = BPFMAP_FOR_EACH}, large = {.call = BPFMAP_REGISTER};
+    struct bpfmap_program longest, refused = bpfmap_program_of(bpfmap_windows(0, 0, 0, 0), bpfmap_bytes(code, sizeof code));
+    struct bpfmap_request walk = {.call = BPFMAP_FOR_EACH, .program = &longest};
+    struct bpfmap_request large = {.call = BPFMAP_REGISTER, .program = &refused};
     int unread = 0;
     start_server();
     connect_to_server(&client);
-    walk.program = fill_and_register();
-    large.code = bpfmap_bytes(code, sizeof code);
+    longest = fill_and_register();
     for (int i = 0; i < MANY_WALKS; i++)
         unread += send_and_receive(&walk, take_answer);
     for (int i = 0; i < MANY_PROGRAMS; i++)
         unread += send_and_receive(&large, take_answer);
     CHECK(unread > 0, "all of that fits somewhere");
-    CHECK_STATUS(&client, BPFMAP_UNREAD, bpfmap_count(&client, &reply));
+    CHECK_STATUS(&client, walks < MANY_WALKS ? BPFMAP_WALKING : BPFMAP_UNREAD, bpfmap_count(&client, &reply));
     while (refusals < MANY_PROGRAMS)
         take_answer();
     CHECK(walks == MANY_WALKS, "%d walks came to their end", walks);
@@ -446,6 +467,7 @@ int main(void)
     hello_is_not_answered(2, 0x80, 1, BPFMAP_GARBLED);
     hello_is_not_answered(1, 0x80, 2, BPFMAP_GARBLED);
     hello_is_not_answered(2, 0x85, 64, BPFMAP_REFUSED);
+    hello_is_not_answered(1, 0x85, 64, BPFMAP_REFUSED);
     long_answer_ends_version_1((const uint8_t[]){0, 0, 1, 69, 0x82, 1});
     long_answer_ends_version_1((const uint8_t[]){0, 0, 4, 68, 0x82, 4});
     nobody_listens();

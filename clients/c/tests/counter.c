@@ -8,12 +8,13 @@ enum { THREADS = 8, ALONE = 300, PIPELINED = 2000, DEPTH = 64 };
 struct worker {
     pthread_t thread;
     struct bpfmap_client client;
-    uint64_t program, greatest;
+    const struct bpfmap_program *program;
+    uint64_t greatest;
 };
 
 static const uint8_t one[8] = {1};
 
-static struct bpfmap_request merge_of(uint64_t program)
+static struct bpfmap_request merge_of(const struct bpfmap_program *program)
 {
     struct bpfmap_request request = {
         .call = BPFMAP_MERGE, .key = bpfmap_text("hits"), .value = bpfmap_bytes(one, sizeof one), .program = program};
@@ -68,12 +69,12 @@ int main(void)
     static struct bpfmap_client client;
     static struct worker workers[THREADS];
     struct bpfmap_reply reply;
-    uint64_t program, wanted = THREADS * (ALONE + PIPELINED);
+    struct bpfmap_program program = sum_program();
+    uint64_t wanted = THREADS * (ALONE + PIPELINED);
     start_server();
     connect_to_server(&client);
-    program = register_sum(&client);
     for (int i = 0; i < THREADS; i++) {
-        workers[i].program = program;
+        workers[i].program = &program;
         CHECK(pthread_create(&workers[i].thread, NULL, work, &workers[i]) == 0, "no thread");
     }
     for (int i = 0; i < THREADS; i++)

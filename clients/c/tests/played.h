@@ -28,6 +28,21 @@ static inline void skip_bytes(int connection, size_t length)
         length--;
 }
 
+/* Reads a whole request. */
+static inline void skip_request(int connection)
+{
+    uint8_t head[4];
+    if (recv(connection, head, sizeof head, MSG_WAITALL) == (ssize_t)sizeof head)
+        skip_bytes(connection, bpfmap_read32(head));
+}
+
+/* Reads all that comes and sends nothing. */
+static inline void be_silent(int connection, const void *given)
+{
+    (void)given;
+    skip_bytes(connection, SIZE_MAX);
+}
+
 static inline void *serve_once(void *given)
 {
     struct played *played = (struct played *)given;

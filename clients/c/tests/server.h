@@ -8,7 +8,7 @@
 #include <stdlib.h>
 #include <sys/wait.h>
 
-enum { TIMEOUT = 20000, LONGEST_TEST_SECONDS = 100 };
+enum { TIMEOUT = 60000, LONGEST_TEST_SECONDS = 100 };
 
 /* The server that runs, and the port it listens on. */
 static pid_t server_process;
@@ -111,13 +111,9 @@ static const uint8_t sum_code[] = {
     0x95, 0x00, 0, 0, 0, 0, 0, 0  /* exit */
 };
 
-/* Registers the program of sums. Its number. */
-static inline uint64_t register_sum(struct bpfmap_client *client)
+static inline struct bpfmap_program sum_program(void)
 {
-    struct bpfmap_sizes sizes = {.key = 64, .old = 8, .arg = 8, .result = 8};
-    struct bpfmap_reply reply;
-    CHECK_STATUS(client, BPFMAP_OK, bpfmap_register(client, sizes, bpfmap_bytes(sum_code, sizeof sum_code), &reply));
-    return reply.program;
+    return bpfmap_program_of(bpfmap_windows(64, 8, 8, 8), bpfmap_bytes(sum_code, sizeof sum_code));
 }
 
 #endif

@@ -39,6 +39,9 @@ struct words {
 static uint8_t storage[MOST_BYTES];
 static size_t stored;
 
+/* The program that a row registers, or the number that it calls. */
+static struct bpfmap_program program;
+
 static char wanted[TEXT_BYTES], came[TEXT_BYTES];
 
 static struct words split(char *text)
@@ -59,7 +62,7 @@ static unsigned digit(char letter)
 }
 
 /* Stores the bytes of a word behind those that are there. */
-static struct bpfmap_bytes bytes_of(const char *word)
+static struct bpfmap_span bytes_of(const char *word)
 {
     const char *star = strchr(word, '*');
     size_t digits = strcmp(word, "-") == 0 ? 0 : star ? (size_t)(star - word) : strlen(word);
@@ -71,7 +74,7 @@ static struct bpfmap_bytes bytes_of(const char *word)
     return bpfmap_bytes(first, (size_t)(storage + stored - first));
 }
 
-static struct bpfmap_bytes joined(char **word, size_t count)
+static struct bpfmap_span joined(char **word, size_t count)
 {
     uint8_t *first = storage + stored;
     for (size_t i = 0; i < count; i++)
@@ -103,16 +106,22 @@ static void append_counts(char *text, const struct bpfmap_reply *reply)
 }
 
 /* Writes what came of a call, as the row's answers are written, but with all bytes written out. */
-static void append_reply(char *text, const struct bpfmap_reply *reply)
+static void append_reply(char *text, enum bpfmap_status status, const struct bpfmap_reply *reply)
 {
     static const char *const windows[] = {"", "unfit key", "unfit old", "unfit arg"};
     switch (reply->kind) {
+    case BPFMAP_NO_ANSWER: strcat(text, "no answer"); break;
     case BPFMAP_WELCOME: strcat(text, "welcome"); break;
-    case BPFMAP_PROGRAM: strcat(text, "program"); append_number(text, reply->program); break;
+    case BPFMAP_REGISTERED: strcat(text, "program"); append_number(text, reply->number); break;
     case BPFMAP_VALUE: strcat(text, "value "); append_hex(text, reply->value, reply->value_length, "-"); break;
     case BPFMAP_NOTHING: strcat(text, "nothing"); break;
-    case BPFMAP_DONE: strcat(text, reply->done ? "true" : "false"); break;
-    case BPFMAP_UNFIT: strcat(text, windows[reply->window]); break;
+    case BPFMAP_DONE: strcat(text, status == BPFMAP_OK ? "true" : "false"); break;
+    case BPFMAP_REFUSAL:
+        strcpy(text, "refused");
+        append_number(text, reply->refusal.number);
+        append_number(text, reply->refusal.place);
+        break;
+    case BPFMAP_WINDOW: strcat(text, windows[reply->window]); break;
     case BPFMAP_COUNTS: append_counts(text, reply); break;
     case BPFMAP_ITEM:
         strcat(text, " ");
@@ -122,40 +131,59 @@ static void append_reply(char *text, const struct bpfmap_reply *reply)
     }
 }
 
-static void append_status(char *text, const struct bpfmap_client *client, enum bpfmap_status status)
+/* The status that belongs to a reply of this kind; that of BPFMAP_DONE is its answer. */
+static enum bpfmap_status status_of(const struct bpfmap_reply *reply)
 {
-    if (status != BPFMAP_REFUSED) {
-        sprintf(text + strlen(text), "status %d, %s", (int)status, bpfmap_explain(client, status));
-        return;
+    int is_put = reply->call == BPFMAP_PUT || reply->call == BPFMAP_PUT_IF_ABSENT;
+    switch (reply->kind) {
+    case BPFMAP_VALUE: return reply->call == BPFMAP_PUT_IF_ABSENT ? BPFMAP_UNCHANGED : BPFMAP_OK;
+    case BPFMAP_NOTHING: return is_put ? BPFMAP_OK : BPFMAP_ABSENT;
+    case BPFMAP_WINDOW: return BPFMAP_UNFIT;
+    case BPFMAP_REFUSAL: return BPFMAP_REFUSED;
+    case BPFMAP_COUNTS: return reply->call == BPFMAP_SEARCH || reply->call == BPFMAP_FOR_EACH ? BPFMAP_END : BPFMAP_OK;
+    default: return BPFMAP_OK;
     }
-    strcpy(text, "refused");
-    append_number(text, client->refusal.number);
-    append_number(text, client->refusal.place);
 }
 
 /* Writes what came of a walk that has begun. */
-static enum bpfmap_status append_walk(char *text, struct bpfmap_client *client, enum bpfmap_status status)
+static void append_walk(char *text, struct bpfmap_client *client, enum bpfmap_status status)
 {
-    struct bpfmap_reply reply = {.kind = BPFMAP_ITEM};
+    struct bpfmap_reply reply = {.kind = BPFMAP_REFUSAL, .refusal = client->session.refusal};
     strcpy(text, "items");
-    while (status == BPFMAP_OK && reply.kind == BPFMAP_ITEM) {
-        status = bpfmap_receive(client, &reply);
-        if (status == BPFMAP_OK)
-            append_reply(text, &reply);
+    if (status == BPFMAP_REFUSED) {
+        append_reply(text, status, &reply);
+        return;
     }
-    return status;
+    CHECK_STATUS(client, BPFMAP_OK, status);
+    while ((status = bpfmap_receive(client, &reply)) == BPFMAP_OK)
+        append_reply(text, status, &reply);
+    CHECK(status == status_of(&reply), "a walk ends with status %d, %s", (int)status, bpfmap_explain(client, status));
+    append_reply(text, status, &reply);
+}
+
+/* Whether all bytes of a reply that have no answer are 0. */
+static int is_clear(const struct bpfmap_reply *reply)
+{
+    for (size_t i = reply->value_length; i < sizeof reply->value; i++)
+        if (reply->value[i] != 0)
+            return 0;
+    for (size_t i = reply->key_length; i < sizeof reply->key; i++)
+        if (reply->key[i] != 0)
+            return 0;
+    return 1;
 }
 
 /* Makes a request by the function of its name, and writes what came of it. */
-static enum bpfmap_status make(struct bpfmap_client *client, const struct bpfmap_request *made, char *text)
+static void make(struct bpfmap_client *client, const struct bpfmap_request *made, char *text)
 {
     struct bpfmap_reply reply;
     enum bpfmap_status status = BPFMAP_NOT_ASKED;
-    struct bpfmap_bytes key = made->key, value = made->value, expected = made->expected, arg = made->arg;
-    uint64_t program = made->program;
+    struct bpfmap_span key = made->key, value = made->value, expected = made->expected, arg = made->arg;
+    const struct bpfmap_program *program = made->program;
+    memset(&reply, 0xaa, sizeof reply);
     switch (made->call) {
     case BPFMAP_HELLO: break;
-    case BPFMAP_REGISTER: status = bpfmap_register(client, made->sizes, made->code, &reply); break;
+    case BPFMAP_REGISTER: status = bpfmap_register(client, program, &reply); break;
     case BPFMAP_GET: status = bpfmap_get(client, key, &reply); break;
     case BPFMAP_PUT: status = bpfmap_put(client, key, value, &reply); break;
     case BPFMAP_PUT_IF_ABSENT: status = bpfmap_put_if_absent(client, key, value, &reply); break;
@@ -167,16 +195,15 @@ static enum bpfmap_status make(struct bpfmap_client *client, const struct bpfmap
     case BPFMAP_COMPUTE_IF_ABSENT: status = bpfmap_compute_if_absent(client, key, program, arg, &reply); break;
     case BPFMAP_COMPUTE_IF_PRESENT: status = bpfmap_compute_if_present(client, key, program, arg, &reply); break;
     case BPFMAP_MERGE: status = bpfmap_merge(client, key, value, program, &reply); break;
-    case BPFMAP_SEARCH:
-        return append_walk(text, client, bpfmap_begin_search(client, program, arg, made->threshold));
-    case BPFMAP_FOR_EACH:
-        return append_walk(text, client, bpfmap_begin_for_each(client, program, arg, made->threshold));
+    case BPFMAP_SEARCH: append_walk(text, client, bpfmap_begin_search(client, program, arg, made->threshold)); return;
+    case BPFMAP_FOR_EACH: append_walk(text, client, bpfmap_begin_for_each(client, program, arg, made->threshold)); return;
     case BPFMAP_REPLACE_ALL: status = bpfmap_replace_all(client, program, arg, &reply); break;
     case BPFMAP_COUNT: status = bpfmap_count(client, &reply); break;
     }
-    if (status == BPFMAP_OK)
-        append_reply(text, &reply);
-    return status;
+    CHECK(status == status_of(&reply) || (reply.kind == BPFMAP_DONE && status == BPFMAP_UNCHANGED), "status %d, %s",
+          (int)status, bpfmap_explain(client, status));
+    CHECK(is_clear(&reply), "a reply has bytes that nobody answered");
+    append_reply(text, status, &reply);
 }
 
 static uint16_t size_of(const char *word)
@@ -184,27 +211,27 @@ static uint16_t size_of(const char *word)
     return (uint16_t)strtoul(word, NULL, 10);
 }
 
-static void read_argument(struct bpfmap_request *request, char argument, const char *word)
+static void read_argument(const struct bpfmap_client *client, struct bpfmap_request *request, char argument, const char *word)
 {
     switch (argument) {
     case 'k': request->key = bytes_of(word); break;
     case 'v': request->value = bytes_of(word); break;
     case 'e': request->expected = bytes_of(word); break;
     case 'a': request->arg = strcmp(word, "none") == 0 ? bpfmap_none() : bytes_of(word); break;
-    case 'p': request->program = strtoull(word, NULL, 10); break;
+    case 'p': program = bpfmap_numbered(client, strtoull(word, NULL, 10)); break;
     default: request->threshold = strtoull(word, NULL, 10);
     }
 }
 
-static struct bpfmap_request request_of(const struct words *words)
+static struct bpfmap_request request_of(const struct bpfmap_client *client, const struct words *words)
 {
-    struct bpfmap_request request = {.call = BPFMAP_REGISTER};
+    struct bpfmap_request request = {.call = BPFMAP_REGISTER, .program = &program};
     const struct call_name *named = call_names, *end = call_names + sizeof call_names / sizeof *call_names;
     if (strcmp(words->word[0], "register") == 0) {
         char *const *word = words->word;
         CHECK(words->count >= 6, "a register has too few words");
-        request.sizes = (struct bpfmap_sizes){size_of(word[1]), size_of(word[2]), size_of(word[3]), size_of(word[4])};
-        request.code = joined((char **)word + 5, words->count - 5);
+        program = bpfmap_program_of(bpfmap_windows(size_of(word[1]), size_of(word[2]), size_of(word[3]), size_of(word[4])),
+                                    joined((char **)word + 5, words->count - 5));
         return request;
     }
     while (named < end && strcmp(named->name, words->word[0]) != 0)
@@ -212,7 +239,7 @@ static struct bpfmap_request request_of(const struct words *words)
     CHECK(named < end && words->count == 1 + strlen(named->arguments), "no call: %s", words->word[0]);
     request.call = named->call;
     for (size_t i = 1; i < words->count; i++)
-        read_argument(&request, named->arguments[i - 1], words->word[i]);
+        read_argument(client, &request, named->arguments[i - 1], words->word[i]);
     return request;
 }
 
@@ -226,7 +253,7 @@ static void write_wanted(const struct words *answer)
         if (i > 0)
             strcat(wanted, " ");
         if (equals) {
-            struct bpfmap_bytes key;
+            struct bpfmap_span key;
             *equals = 0;
             key = bytes_of(word);
             append_hex(wanted, key.bytes, key.length, "-");
@@ -234,7 +261,7 @@ static void write_wanted(const struct words *answer)
             word = equals + 1;
         }
         if (is_bytes) {
-            struct bpfmap_bytes bytes = bytes_of(word);
+            struct bpfmap_span bytes = bytes_of(word);
             append_hex(wanted, bytes.bytes, bytes.length, "-");
         } else {
             strcat(wanted, word);
@@ -243,9 +270,10 @@ static void write_wanted(const struct words *answer)
 }
 
 /* Sends bytes on a connection of their own, and writes all that comes. */
-static void run_raw(struct bpfmap_bytes sent)
+static void run_raw(struct bpfmap_span sent)
 {
-    int error, opened = bpfmap_open_socket("127.0.0.1", server_port, TIMEOUT, &error);
+    static struct bpfmap_client raw = {.timeout = TIMEOUT};
+    int error, opened = bpfmap_find_host(&raw, "127.0.0.1", server_port, &error);
     uint8_t received[512];
     ssize_t count = 1;
     CHECK(opened >= 0, "no connection: %s", strerror(error));
@@ -267,15 +295,13 @@ static int run_row(struct bpfmap_client *client, char *name, char *request_text,
     stored = 0;
     *came = 0;
     if (strcmp(words.word[0], "raw") == 0) {
-        struct bpfmap_bytes bytes = joined(answer.word, answer.count);
+        struct bpfmap_span bytes = joined(answer.word, answer.count);
         *wanted = 0;
         append_hex(wanted, bytes.bytes, bytes.length, "");
         run_raw(joined(words.word + 1, words.count - 1));
     } else {
-        struct bpfmap_request request = request_of(&words);
-        enum bpfmap_status status = make(client, &request, came);
-        if (status != BPFMAP_OK)
-            append_status(came, client, status);
+        struct bpfmap_request request = request_of(client, &words);
+        make(client, &request, came);
         write_wanted(&answer);
     }
     if (strcmp(came, wanted) == 0)

@@ -19,17 +19,15 @@ static const uint8_t touch[] = {
     0xb7, 0x00, 0x00, 0x00, 0x10, 0x00, 0x00, 0x00,
     0x95, 0x00, 0x00, 0x00, 0x00, 0x00, 0x00, 0x00,
 };
-static const struct bpfmap_sizes touch_sizes = {.key = 64, .old = 16, .arg = 8, .result = 16};
-
 enum { SESSION_BYTES = 16 };
 
 static struct bpfmap_client client;
 
-/* Ends the program unless the request was answered. */
-static void need(enum bpfmap_status status)
+/* Ends the program unless the call has this status, or BPFMAP_OK. Whether it is BPFMAP_OK. */
+static int need(enum bpfmap_status status, enum bpfmap_status allowed)
 {
-    if (status == BPFMAP_OK)
-        return;
+    if (status == BPFMAP_OK || status == allowed)
+        return status == BPFMAP_OK;
     fprintf(stderr, "session_store: %s\n", bpfmap_explain(&client, status));
     exit(1);
 }
@@ -37,21 +35,20 @@ static void need(enum bpfmap_status status)
 /* A session is a user's number and the time of the last access, in seconds. */
 static void begin(const char *name, uint64_t user, uint64_t now)
 {
-    struct bpfmap_reply reply;
     uint8_t session[SESSION_BYTES];
     bpfmap_store64(session, user);
     bpfmap_store64(session + 8, now);
-    need(bpfmap_put(&client, bpfmap_text(name), bpfmap_bytes(session, sizeof session), &reply));
+    need(bpfmap_put(&client, bpfmap_text(name), bpfmap_bytes(session, sizeof session), NULL), BPFMAP_OK);
 }
 
-static void access_at(uint64_t program, const char *name, uint64_t now)
+static void access_at(const struct bpfmap_program *program, const char *name, uint64_t now)
 {
     struct bpfmap_reply reply;
     uint8_t time[8];
     bpfmap_store64(time, now);
-    need(bpfmap_compute_if_present(&client, bpfmap_text(name), program, bpfmap_bytes(time, sizeof time), &reply));
     printf("%s at %llu: ", name, (unsigned long long)now);
-    if (reply.kind == BPFMAP_VALUE)
+    if (need(bpfmap_compute_if_present(&client, bpfmap_text(name), program, bpfmap_bytes(time, sizeof time), &reply),
+             BPFMAP_ABSENT))
         printf("user %llu, last access %llu\n", (unsigned long long)bpfmap_load64(reply.value),
                (unsigned long long)bpfmap_load64(reply.value + 8));
     else
@@ -61,30 +58,31 @@ static void access_at(uint64_t program, const char *name, uint64_t now)
 /* Removes a session without an access since this time, unless there is one meanwhile. */
 static void expire(const char *name, uint64_t since)
 {
-    struct bpfmap_reply session, removal = {.done = 0};
-    need(bpfmap_get(&client, bpfmap_text(name), &session));
-    if (session.kind == BPFMAP_VALUE && session.value_length == SESSION_BYTES && bpfmap_load64(session.value + 8) < since)
-        need(bpfmap_remove_if(&client, bpfmap_text(name), bpfmap_bytes(session.value, session.value_length), &removal));
-    printf("%s without access since %llu: %s\n", name, (unsigned long long)since, removal.done ? "removed" : "kept");
+    struct bpfmap_reply session;
+    int is_old = need(bpfmap_get(&client, bpfmap_text(name), &session), BPFMAP_ABSENT) &&
+                 session.value_length == SESSION_BYTES && bpfmap_load64(session.value + 8) < since;
+    int is_removed = is_old && need(bpfmap_remove_if(&client, bpfmap_text(name),
+                                                     bpfmap_bytes(session.value, session.value_length), NULL),
+                                    BPFMAP_UNCHANGED);
+    printf("%s without access since %llu: %s\n", name, (unsigned long long)since, is_removed ? "removed" : "kept");
 }
 
 int main(int count, char **word)
 {
-    struct bpfmap_reply reply;
+    struct bpfmap_program program = bpfmap_program_of(bpfmap_windows(64, 16, 8, 16), bpfmap_bytes(touch, sizeof touch));
     if (count != 3) {
         fprintf(stderr, "session_store HOST PORT\n");
         return 2;
     }
-    need(bpfmap_connect(&client, word[1], word[2], 5000));
-    need(bpfmap_register(&client, touch_sizes, bpfmap_bytes(touch, sizeof touch), &reply));
+    need(bpfmap_connect(&client, word[1], word[2], 5000), BPFMAP_OK);
     begin("c0ffee", 42, 100);
     begin("decade", 7, 101);
-    access_at(reply.program, "c0ffee", 130);
-    access_at(reply.program, "c0ffee", 120);
-    access_at(reply.program, "facade", 130);
+    access_at(&program, "c0ffee", 130);
+    access_at(&program, "c0ffee", 120);
+    access_at(&program, "facade", 130);
     expire("c0ffee", 110);
     expire("decade", 110);
-    access_at(reply.program, "decade", 140);
+    access_at(&program, "decade", 140);
     bpfmap_close(&client);
     return 0;
 }

@@ -27,11 +27,9 @@ static const uint8_t bucket[] = {
     0xb7, 0x00, 0x00, 0x00, 0x18, 0x00, 0x00, 0x00,
     0x95, 0x00, 0x00, 0x00, 0x00, 0x00, 0x00, 0x00,
 };
-static const struct bpfmap_sizes bucket_sizes = {.key = 64, .old = 24, .arg = 16, .result = 24};
-
 static struct bpfmap_client client;
 
-/* Ends the program unless the request was answered. */
+/* Ends the program unless the call was made and its answer is a value. */
 static void need(enum bpfmap_status status)
 {
     if (status == BPFMAP_OK)
@@ -41,17 +39,13 @@ static void need(enum bpfmap_status status)
 }
 
 /* Asks for tokens at this time, in seconds. A real service would take the time from its clock. */
-static void ask(uint64_t program, const char *name, uint64_t now, uint64_t wanted)
+static void ask(const struct bpfmap_program *program, const char *name, uint64_t now, uint64_t wanted)
 {
     struct bpfmap_reply reply;
     uint8_t argument[16];
     bpfmap_store64(argument, now);
     bpfmap_store64(argument + 8, wanted);
     need(bpfmap_compute(&client, bpfmap_text(name), program, bpfmap_bytes(argument, sizeof argument), &reply));
-    if (reply.kind != BPFMAP_VALUE) {
-        fprintf(stderr, "token_bucket: %s is no bucket\n", name);
-        exit(1);
-    }
     printf("%s at %llu: %llu %s, %llu left\n", name, (unsigned long long)bpfmap_load64(reply.value + 8),
            (unsigned long long)wanted, bpfmap_load64(reply.value + 16) == 1 ? "granted" : "refused",
            (unsigned long long)bpfmap_load64(reply.value));
@@ -59,18 +53,17 @@ static void ask(uint64_t program, const char *name, uint64_t now, uint64_t wante
 
 int main(int count, char **word)
 {
-    struct bpfmap_reply reply;
+    struct bpfmap_program program = bpfmap_program_of(bpfmap_windows(64, 24, 16, 24), bpfmap_bytes(bucket, sizeof bucket));
     if (count != 3) {
         fprintf(stderr, "token_bucket HOST PORT\n");
         return 2;
     }
     need(bpfmap_connect(&client, word[1], word[2], 5000));
-    need(bpfmap_register(&client, bucket_sizes, bpfmap_bytes(bucket, sizeof bucket), &reply));
-    ask(reply.program, "alice", 100, 4);
-    ask(reply.program, "alice", 100, 4);
-    ask(reply.program, "alice", 101, 4);
-    ask(reply.program, "bob", 101, 4);
-    ask(reply.program, "alice", 102, 4);
+    ask(&program, "alice", 100, 4);
+    ask(&program, "alice", 100, 4);
+    ask(&program, "alice", 101, 4);
+    ask(&program, "bob", 101, 4);
+    ask(&program, "alice", 102, 4);
     bpfmap_close(&client);
     return 0;
 }
