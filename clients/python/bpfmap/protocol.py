@@ -5,6 +5,7 @@ from collections import deque
 from typing import Callable, Deque, Dict, Generic, List, NamedTuple, Optional, TypeVar
 
 from .errors import ProtocolFault, Refused, Unfit
+from .programs import Function
 
 LONGEST_KEY = 64
 # What a Register's body has before its program: the tag and four sizes.
@@ -63,14 +64,25 @@ class Walked(NamedTuple):
 
 
 class Request(Generic[T]):
-    """A frame to be sent, and how the last frame of its answer is read. Only a walk has frames of items before that one."""
+    """A frame to be sent, and how the last frame of its answer is read. Only a walk has frames of items before that one.
 
-    __slots__ = ("frame", "read", "has_items")
+    If it runs a function, the number that the function has on the connection still has to be put into the frame, at this place.
+    `made` is the function that it registers, if it does.
+    """
+
+    __slots__ = ("frame", "read", "has_items", "function", "place", "made")
 
     def __init__(self, sent: bytes, read: "Callable[[Deque[Entry], bytes], T]", has_items: bool = False) -> None:
         self.frame = sent
         self.read = read
         self.has_items = has_items
+        self.function: Optional[Function] = None
+        self.place = 0
+        self.made: Optional[Function] = None
+
+    def bind(self, number: int) -> None:
+        """Puts the function's number into the frame."""
+        self.frame = self.frame[: self.place] + number_field(number) + self.frame[self.place + 8 :]
 
 
 # What calls have that are no walks.
@@ -162,6 +174,11 @@ class FrameReader:
         """The next frame's body, where one is whole."""
         return self._bodies.popleft() if self._bodies else None
 
+    @property
+    def has_rest(self) -> bool:
+        """Whether bytes are there that nobody took."""
+        return bool(self._bodies or self._bytes)
+
 
 def frame(tag: int, *fields: bytes) -> bytes:
     """A frame of this tag and these fields."""
@@ -171,6 +188,8 @@ def frame(tag: int, *fields: bytes) -> bytes:
 
 def key_field(key: bytes) -> bytes:
     """A key with its length; one that is too long is refused with 1."""
+    if type(key) is not bytes:  # pylint: disable=unidiomatic-typecheck
+        key = _as_bytes(key, "key")
     if len(key) > LONGEST_KEY:
         raise Refused(1)
     return bytes([len(key)]) + key
@@ -178,9 +197,20 @@ def key_field(key: bytes) -> bytes:
 
 def value_field(value: bytes, longest: int) -> bytes:
     """A value with its length; one that is too long is refused with 1."""
+    if type(value) is not bytes:  # pylint: disable=unidiomatic-typecheck
+        value = _as_bytes(value, "value")
     if len(value) > longest:
         raise Refused(1)
     return struct.pack(">H", len(value)) + value
+
+
+def _as_bytes(given: object, name: str) -> bytes:
+    """The bytes of what is like bytes. What is not is refused by a sentence that says what to write in its place."""
+    if isinstance(given, (bytes, bytearray, memoryview)):
+        return bytes(given)
+    kind = type(given).__name__
+    advice = 'write b"..", or encode it: name.encode()' if isinstance(given, str) else "encode it first"
+    raise TypeError(f"a {name} is bytes, and not {kind}: {advice}; bpfmap.Map takes keys and values of str, int and json")
 
 
 def arg_field(arg: Optional[bytes], longest: int) -> bytes:

@@ -8,7 +8,7 @@ import unittest
 from typing import Callable, List
 
 from bpfmap import AsyncClient, Client, ConnectionBroken, Pending, ProtocolFault, Refused, TimedOut, Unfit
-from bpfmap.connection import send_some
+from bpfmap.outgoing import Outgoing
 
 from .server import HOST, MapdTest, PlayedServer, receive_exactly
 
@@ -255,8 +255,10 @@ class FaultTest(unittest.TestCase):
         """It is no fault yet: what the server sent before is still read."""
         mine, other = socket.socketpair()
         other.close()
+        outgoing = Outgoing(b"abc")
         with mine:
-            self.assertEqual(bytes(send_some(mine, memoryview(b"abc"))), b"")
+            outgoing.send_some(mine)
+        self.assertEqual((bytes(outgoing.rest), outgoing.is_cut), (b"", True))
 
 
 class KilledTest(MapdTest):
