@@ -44,9 +44,10 @@ def compile_c(file: Path, header: Optional[Path] = None) -> bytes:
 
 
 def _headers(header: Optional[Path]) -> List[Path]:
-    """The folders that may have bpfmap.h: the given one, and this repository's."""
-    repository = Path(__file__).resolve().parents[3] / "examples/c"
-    return ([header] if header is not None else []) + ([repository] if repository.is_dir() else [])
+    """The folders that may have bpfmap.h: the given one, this package's if it is installed, and the repository's."""
+    package = Path(__file__).resolve().parent
+    folders = ([header] if header is not None else []) + [package, package.parents[2] / "examples/c"]
+    return [folder for folder in folders if (folder / "bpfmap.h").exists()]
 
 
 def _compile(command: List[str], file: Path) -> bytes:

@@ -87,7 +87,10 @@ def sockets_by(plan: Plan) -> "mock._patch":
 
 
 class InterruptedAt:
-    """Raises Interrupted at the nth instruction that the package runs in a `with` block: a signal may come at each of them."""
+    """Raises Interrupted at the nth instruction that the package runs in a `with` block: a signal may come at each of them.
+
+    Those of a `__del__` are left out: what is raised there Python itself prints, and drops.
+    """
 
     def __init__(self, nth: int) -> None:
         self._nth = nth
@@ -106,7 +109,7 @@ class InterruptedAt:
         sys.settrace(None)
 
     def _enter(self, frame: types.FrameType, _: str, __: object) -> "Optional[Callable[..., object]]":
-        if not frame.f_code.co_filename.startswith(_PACKAGE):
+        if not frame.f_code.co_filename.startswith(_PACKAGE) or frame.f_code.co_name == "__del__":
             return None
         frame.f_trace_opcodes = True
         frame.f_trace_lines = False

@@ -21,14 +21,14 @@ def answer_of(tag: int, key: bytes) -> bytes:
 class TellingServer:
     """Answers each call of a key by its tag and key, and a walk by as many entries as its argument says, each with the argument.
 
-    `registered` lists the programs by connection, `frames` counts the frames that came after a Hello.
+    `registered` lists the programs by connection, `keys` has each key that it was asked for.
     """
 
     def __init__(self) -> None:
         self._listener = socket.create_server((HOST, 0), backlog=200)
         self.port: int = self._listener.getsockname()[1]
         self.registered: Dict[int, List[bytes]] = {}
-        self.frames = 0
+        self.keys: Set[bytes] = set()
         self.connections = 0
         self._open: Set[socket.socket] = set()
         self._thread = threading.Thread(target=self._accept_all, daemon=True)
@@ -77,7 +77,6 @@ class TellingServer:
             body = stream.read(length)
             if len(head) < 4 or len(body) < length:
                 return
-            self.frames += body[0] != 0
             for piece in self._answers(body, number):
                 connection.sendall(piece)
 
@@ -91,7 +90,9 @@ class TellingServer:
         elif tag in _DONE:
             yield frame(0x83, b"\1")
         elif tag in _KEYED:
-            value = answer_of(tag, body[2 : 2 + body[1]])
+            key = body[2 : 2 + body[1]]
+            self.keys.add(key)
+            value = answer_of(tag, key)
             yield frame(0x82, struct.pack(">H", len(value)) + value)
         elif tag in _WALKS:
             yield from _walk(body)

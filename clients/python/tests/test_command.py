@@ -12,7 +12,7 @@ from typing import Iterator
 
 from bpfmap import Client
 from bpfmap.bench import percentiles
-from bpfmap.command import load
+from bpfmap.dump import load
 
 from .server import HOST, MapdTest
 

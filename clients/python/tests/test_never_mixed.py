@@ -24,7 +24,7 @@ import threading
 import time
 import unittest
 import warnings
-from typing import Awaitable, Callable, Dict, List
+from typing import Awaitable, Callable, Dict, List, Set
 
 from bpfmap import AsyncClient, Client, ConnectionBroken, NotSent, Pending, Pool, function
 
@@ -103,10 +103,18 @@ class TellingTest(unittest.TestCase):
     """Tests with a server whose answers say whose they are."""
 
     def setUp(self) -> None:
+        # An exception at any instruction may leave a socket that was just made, which Python then closes, and tells.
+        ignored = warnings.catch_warnings()
+        ignored.__enter__()
+        self.addCleanup(ignored.__exit__, None, None, None)
+        warnings.simplefilter("ignore", ResourceWarning)
         self.server = TellingServer()
         self.server.__enter__()
         self.addCleanup(self.server.__exit__)
         self.keys = (b"bob %d" % number for number in itertools.count())
+        # The keys of calls that failed by NotSent: the server never sees them.
+        self.unsent: Set[bytes] = set()
+        self.addCleanup(lambda: self.assertEqual(self.unsent & self.server.keys, set()))
 
     def open(self) -> Client:
         """A client."""
@@ -115,12 +123,11 @@ class TellingTest(unittest.TestCase):
     def check_next(self, client: Client) -> bool:
         """The client answers the next call by what belongs to it, or fails. Returns whether it answered."""
         key = next(self.keys)
-        before = self.server.frames
         try:
             expect(client.get(key), answer_of(_GET, key))
             return True
         except NotSent:
-            self.assertEqual(self.server.frames, before)
+            self.unsent.add(key)
             return False
         except ConnectionBroken:
             return False
@@ -138,15 +145,12 @@ class SocketTest(TellingTest):
     ]
 
     def _break_off(self, operation: Callable[[Client], None], plan: Plan) -> None:
-        """One run, that the plan breaks off. A call that says NotSent was not seen by the server."""
+        """One run, that the plan breaks off."""
         with sockets_by(plan):
-            before = self.server.frames
             try:
                 with self.open() as client:
                     self._run(client, operation)
                     self.check_next(client)
-            except NotSent:
-                self.assertEqual(self.server.frames, before)
             except (ConnectionBroken, KeyboardInterrupt, Interrupted, ValueError):
                 pass
 
@@ -192,18 +196,7 @@ class HandlerTest(TellingTest):
                 self.assertEqual(refused, [True])
 
 
-class QuietTest(TellingTest):
-    """Tests in which an exception comes at any instruction. A socket that was just made is then closed by nobody."""
-
-    def setUp(self) -> None:
-        super().setUp()
-        ignored = warnings.catch_warnings()
-        ignored.__enter__()
-        self.addCleanup(ignored.__exit__, None, None, None)
-        warnings.simplefilter("ignore")
-
-
-class InstructionTest(QuietTest):
+class InstructionTest(TellingTest):
     """An exception at each instruction of Python that the client runs."""
 
     def _break_off(self, client: Client, operation: Callable[[Client], None], nth: int) -> bool:
@@ -403,7 +396,7 @@ class CancelledTest(TellingTest):
             self.assertGreater(nth, 1)
 
 
-class LoopTest(QuietTest):
+class LoopTest(TellingTest):
     """A handler that raises at each instruction of a task or of what the loop calls; then the loop goes on."""
 
     def test_each_instruction(self) -> None:
