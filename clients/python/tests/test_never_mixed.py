@@ -38,6 +38,7 @@ _ENTRIES = 5
 _ARGUMENT = b"5 entries"
 _MANY = b"20000 entries"
 _TIMEOUT = 3
+_MOST_STROKES = 3
 
 
 class Mixed(AssertionError):
@@ -108,6 +109,8 @@ class TellingTest(unittest.TestCase):
         ignored.__enter__()
         self.addCleanup(ignored.__exit__, None, None, None)
         warnings.simplefilter("ignore", ResourceWarning)
+        # A coroutine that was just made may never be awaited then.
+        warnings.simplefilter("ignore", RuntimeWarning)
         self.server = TellingServer()
         self.server.__enter__()
         self.addCleanup(self.server.__exit__)
@@ -236,59 +239,60 @@ class InstructionTest(TellingTest):
 
 
 class SignalTest(MapdTest):
-    """A live server, and a timer whose handler raises at random times."""
+    """A live server, and a timer whose handler raises at random times, once or a few times in a row."""
 
     seconds = 4.0
 
-    def _strike(self, *_: object) -> None:
-        raise Interrupted
-
-    def test_signals(self) -> None:
-        with Client(HOST, self.port) as client, client.pipeline() as calls:
-            for number in range(100):
-                calls.put(b"%d" % number, b"of %d" % number)
+    def setUp(self) -> None:
+        super().setUp()
+        self._left = 0
+        self._struck = 0
+        self._client = Client(HOST, self.port)
         self.addCleanup(signal.signal, signal.SIGALRM, signal.signal(signal.SIGALRM, self._strike))
         self.addCleanup(signal.setitimer, signal.ITIMER_REAL, 0)
+
+    def _strike(self, *_: object) -> None:
+        """The handler. It disarms the timer with its last stroke, so no more than are caught ever come."""
+        self._left -= 1
+        if self._left <= 0:
+            signal.setitimer(signal.ITIMER_REAL, 0)
+        raise Interrupted
+
+    def _guarded(self, work: Callable[[], None], depth: int = _MOST_STROKES) -> None:
+        """Does some work that strokes may break off, also while the ones before are caught."""
+        try:
+            if depth:
+                self._guarded(work, depth - 1)
+            else:
+                work()
+        except Interrupted:
+            self._struck += 1
+
+    def test_signals(self) -> None:
+        with self._client.pipeline() as calls:
+            for number in range(100):
+                calls.put(b"%d" % number, b"of %d" % number)
         chance = random.Random(57)
         end = time.monotonic() + self.seconds
-        struck = 0
-        client = Client(HOST, self.port)
         while time.monotonic() < end:
-            struck += self._is_struck(client, chance)
-            try:
-                expect(client.get(b"7"), b"of 7")
-            except ConnectionBroken:
-                client.close()
-                client = Client(HOST, self.port)
-        client.close()
-        self.assertGreater(struck, 50)
+            self._left = chance.randint(1, _MOST_STROKES)
+            self._guarded(lambda: self._call_until_struck(chance))
+            self._guarded(lambda: signal.setitimer(signal.ITIMER_REAL, 0))
+            self._check_next()
+        self._client.close()
+        self.assertGreater(self._struck, 50)
 
-    def _is_struck(self, client: Client, chance: random.Random) -> bool:
-        """Makes calls until the timer strikes, once or several times in a row."""
+    def _call_until_struck(self, chance: random.Random) -> None:
+        signal.setitimer(signal.ITIMER_REAL, chance.uniform(1e-5, 2e-3), 2e-4)
         try:
-            signal.setitimer(signal.ITIMER_REAL, chance.uniform(1e-5, 2e-3), chance.choice((0, 1e-4)))
             while True:
-                self._call(client, chance.randrange(100))
-        except Interrupted:
-            pass
+                self._call(chance.randrange(100))
         except ConnectionBroken:
-            return False
-        finally:
-            self._disarm()
-        return True
+            pass
 
-    def _disarm(self) -> None:
-        """Stops the timer, though it strikes meanwhile."""
-        while True:
-            try:
-                signal.setitimer(signal.ITIMER_REAL, 0)
-                return
-            except Interrupted:
-                pass
-
-    def _call(self, client: Client, number: int) -> None:
-        expect(client.get(b"%d" % number), b"of %d" % number)
-        calls = client.pipeline()
+    def _call(self, number: int) -> None:
+        expect(self._client.get(b"%d" % number), b"of %d" % number)
+        calls = self._client.pipeline()
         sent = [calls.get(b"%d" % each) for each in range(20)]
         try:
             calls.execute()
@@ -296,6 +300,13 @@ class SignalTest(MapdTest):
             for each, call in enumerate(sent):
                 if call.is_done and call.error is None:
                     expect(call.result(), b"of %d" % each)
+
+    def _check_next(self) -> None:
+        try:
+            expect(self._client.get(b"7"), b"of 7")
+        except ConnectionBroken:
+            self._client.close()
+            self._client = Client(HOST, self.port)
 
 
 async def async_call(client: AsyncClient) -> None:
