@@ -26,6 +26,7 @@ from .session import Arrivals, Session
 
 T = TypeVar("T")
 Value = Optional[bytes]
+_LONGEST_END = 1.0
 _NOT_OPEN = "the client is not open; nothing was sent"
 
 
@@ -66,23 +67,26 @@ class AsyncClient(Forkable):
 
     async def open(self) -> None:
         """Connects, and begins the session."""
-        self._is_foreign = False
         session = await self._connect()
-        await self.close()
-        self._begin_anew()
+        ended = self._end_all()
+        self._is_foreign = False
         self._session = session
         self._is_open = True
+        await _wait_for_ends(ended)
 
     async def close(self) -> None:
         """Ends the session, and the walks that have not ended. Calls that wait for an answer raise ConnectionBroken."""
+        await _wait_for_ends(self._end_all())
+
+    def _end_all(self) -> List[Session]:
+        """Ends all sessions, and returns them."""
         self._is_open = False
         session, self._session = self._session, None
         ended = [each for each in (session, *self._lent) if each is not None and not each.is_foreign]
-        self._lent.clear()
+        self._begin_anew()
         for each in ended:
             each.end(MayHaveBeenMade("the client was closed"))
-        for each in ended:
-            await each.closed.wait()
+        return ended
 
     def after_fork(self) -> None:
         """Lets go of the sessions in a process that was made by fork."""
@@ -319,6 +323,12 @@ class AsyncClient(Forkable):
             raise NoConnectionInTime(f"no connection to {host}:{port} in {timeout} seconds") from error
         except OSError as error:
             raise NotSent(f"no connection to {host}:{port}: {error}") from error
+
+
+async def _wait_for_ends(sessions: List[Session]) -> None:
+    """Waits until the loop has closed these connections. An exception in the loop may have kept it from saying so."""
+    if sessions:
+        await asyncio.wait([asyncio.ensure_future(each.closed.wait()) for each in sessions], timeout=_LONGEST_END)
 
 
 class AsyncPipeline(PipelineCalls):

@@ -67,8 +67,8 @@ class Session(asyncio.Protocol, Forkable):
 
     def connection_lost(self, exc: Optional[Exception]) -> None:
         """Ends all calls that wait."""
-        self.end(MayHaveBeenMade("the server ended the connection" + (f": {exc}" if exc else "")))
         self.closed.set()
+        self.end(MayHaveBeenMade("the server ended the connection" + (f": {exc}" if exc else "")))
 
     @property
     def is_usable(self) -> bool:

@@ -4,6 +4,7 @@ import asyncio
 import multiprocessing
 import os
 import pickle
+import signal
 import sys
 import threading
 import traceback
@@ -28,6 +29,8 @@ def in_a_child(work: Callable[[], None]) -> int:
     if child:
         return child
     status = 1
+    # A process that waits for ever is ended.
+    signal.alarm(30)
     try:
         work()
         status = 0

@@ -431,7 +431,7 @@ class LoopTest(TellingTest):
                 loop.run_until_complete(task)
         except (Interrupted, ConnectionBroken):
             pass
-        loop.run_until_complete(self._check(client, task))
+        loop.run_until_complete(asyncio.wait_for(self._check(client, task), 20))
         return at.was_reached
 
     async def _check(self, client: AsyncClient, task: "asyncio.Task[None]") -> None:

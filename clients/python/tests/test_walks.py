@@ -128,7 +128,7 @@ class WalkTest(TellingTest):
 
     def test_pool(self) -> None:
         """A walk keeps a connection of the pool, and gives it back at its end."""
-        with Pool(HOST, self.server.port, size=2, timeout=0.2) as pool:
+        with Pool(HOST, self.server.port, size=2, timeout=1) as pool:
             walk = pool.for_each(0, _MANY)
             next(walk)
             self.assertEqual(pool.get(b"a"), answer_of(_GET, b"a"))
@@ -299,16 +299,16 @@ class LiveWalkTest(MapdTest):
 
     def test_left_walks_free_their_workers(self) -> None:
         """More walks are left than the server has workers."""
-        with Client(HOST, self.port, timeout=5) as client:
+        with Client(HOST, self.port) as client:
             with client.pipeline() as calls:
-                for number in range(5_000):
+                for number in range(1_000):
                     calls.put(entry_key(number), bytes(64))
             copy = function("mov64 r0, 0\nexit\n")
             for _ in range(40):
                 with client.for_each(copy) as walk:
                     self.assertEqual(next(walk), (entry_key(0), b""))
                     self.assertEqual(client.get(entry_key(7)), bytes(64))
-            self.assertEqual(client.count(), 5_000)
+            self.assertEqual(client.count(), 1_000)
 
     def test_function_that_is_refused(self) -> None:
         """Each call that wants it says so; the others are made, and the connection goes on."""
