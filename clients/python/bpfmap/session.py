@@ -73,7 +73,7 @@ class Session(asyncio.Protocol, Forkable):
     @property
     def is_usable(self) -> bool:
         """Whether a call may be sent."""
-        return self._transport is not None and not self._is_changing
+        return not self.is_over and not self._is_changing
 
     @property
     def is_idle(self) -> bool:
@@ -84,7 +84,7 @@ class Session(asyncio.Protocol, Forkable):
         """Sends the requests of calls; their answers set the event."""
         if self._is_changing:
             self.end(MayHaveBeenMade(_BROKEN_OFF))
-        if self._transport is None:
+        if self._transport is None or self.is_over:
             closed = NotSent("the connection is closed; nothing was sent")
             fail_unsent(calls, closed)
             raise closed
@@ -100,10 +100,11 @@ class Session(asyncio.Protocol, Forkable):
     def end(self, error: ConnectionBroken) -> None:
         """Closes the connection. A call without an answer ends by the error, or by NotSent if its bytes are still here."""
         self.is_over = True
-        transport, self._transport = self._transport, None
-        unsent = 0 if transport is None else transport.get_write_buffer_size()
-        if transport is not None:
-            _close(transport)
+        unsent = 0
+        if self._transport is not None:
+            unsent = self._transport.get_write_buffer_size()
+            _close(self._transport)
+            self._transport = None
         behind = 0
         while self._waiting:
             call, event = self._waiting[-1]
