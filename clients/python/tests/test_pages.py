@@ -50,8 +50,7 @@ class PagesTest(MapdTest):
 
     @unittest.skipUnless(shutil.which("clang"), "there is no clang")
     def test_command_line(self) -> None:
-        script = self._blocks("sh")[1].replace("examples/", f"{ROOT}/examples/")
-        printed = self._run_shell(script).splitlines()
+        printed = self._run_shell(self._blocks("sh")[1]).splitlines()
         self.assertEqual(printed[:6], ["nothing", "30", "nothing", "status 4", "5", "2"])
         self.assertRegex(printed[6], r"^\d+ .*/examples/c/counter.c$")
         self.assertEqual(len(printed), 7)
@@ -65,10 +64,10 @@ class PagesTest(MapdTest):
         return subprocess.run(words, env=environment, capture_output=True, text=True, timeout=60, check=True).stdout
 
     def _run_shell(self, script: str) -> str:
-        script = script.replace("7070", str(self.port)).replace("clients/python", str(_PACKAGE)).replace("python3", sys.executable)
         environment = {**os.environ, "BPFMAP_SERVER": f"{HOST}:{self.port}", "PYTHONPATH": str(_PACKAGE)}
         with tempfile.TemporaryDirectory() as folder:
-            script = script.replace("/tmp/", f"{folder}/")
+            script = script.replace("/tmp/", f"{folder}/").replace("7070", str(self.port)).replace("python3", sys.executable)
+            script = script.replace("clients/python", str(_PACKAGE)).replace("examples/c/", f"{ROOT}/examples/c/")
             done = subprocess.run(
                 ["bash", "-e", "-c", script], cwd=folder, env=environment, capture_output=True, text=True, timeout=60, check=False
             )
