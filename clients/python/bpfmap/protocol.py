@@ -64,25 +64,43 @@ class Walked(NamedTuple):
 
 
 class Request(Generic[T]):
-    """A frame to be sent, and how the last frame of its answer is read. Only a walk has frames of items before that one.
+    """A frame to be sent, and how the last frame of its answer is read. Only a walk has frames of items before that one."""
 
-    If it runs a function, the number that the function has on the connection still has to be put into the frame, at this place.
-    `made` is the function that it registers, if it does.
-    """
+    __slots__ = ("frame", "read", "has_items")
 
-    __slots__ = ("frame", "read", "has_items", "function", "place", "made")
+    # What a FunctionRequest and a RegisterRequest have of their own.
+    function: Optional[Function] = None
+    made: Optional[Function] = None
 
     def __init__(self, sent: bytes, read: "Callable[[Deque[Entry], bytes], T]", has_items: bool = False) -> None:
         self.frame = sent
         self.read = read
         self.has_items = has_items
-        self.function: Optional[Function] = None
-        self.place = 0
-        self.made: Optional[Function] = None
 
     def bind(self, number: int) -> None:
         """Puts the function's number into the frame."""
-        self.frame = self.frame[: self.place] + number_field(number) + self.frame[self.place + 8 :]
+        raise NotImplementedError
+
+
+class FunctionRequest(Request[T]):
+    """A request that runs a function. The number that it has on the connection still has to be put into the frame, at this place."""
+
+    def __init__(self, request: Request[T], function: Function, place: int) -> None:
+        super().__init__(request.frame, request.read, request.has_items)
+        self.function = function
+        self._place = place
+
+    def bind(self, number: int) -> None:
+        """Puts the function's number into the frame."""
+        self.frame = self.frame[: self._place] + number_field(number) + self.frame[self._place + 8 :]
+
+
+class RegisterRequest(Request[T]):
+    """A request that registers a function."""
+
+    def __init__(self, sent: bytes, read: "Callable[[Deque[Entry], bytes], T]", made: Function) -> None:
+        super().__init__(sent, read)
+        self.made = made
 
 
 # What calls have that are no walks.
@@ -151,6 +169,10 @@ class FrameReader:
 
     def feed(self, piece: bytes) -> None:
         """Takes the next bytes of the stream."""
+        if not self._bytes and 4 < len(piece) == 4 + int.from_bytes(piece[:4], "big") <= 4 + self._longest_body:
+            # One frame, as most answers come.
+            self._bodies.append(piece[4:])
+            return
         self._bytes += piece
         while self._cut():
             pass

@@ -8,7 +8,9 @@ from .programs import Function, Program, Registered, Runnable, Size, function
 from .protocol import (
     Counts,
     Entry,
+    FunctionRequest,
     Limits,
+    RegisterRequest,
     Request,
     Walked,
     arg_field,
@@ -56,9 +58,7 @@ class Requests:
         def read(items: Deque[Entry], body: bytes) -> Registered:
             return Registered(read_registered(items, body), made, self.client)
 
-        request: Request[int] = Request(frame(0x01, sizes, made.units), read)
-        request.made = made
-        return request
+        return RegisterRequest(frame(0x01, sizes, made.units), read, made)
 
     def get(self, key: bytes) -> Request[Value]:
         """Asks for a key's value."""
@@ -141,11 +141,8 @@ class Requests:
             return request
         if isinstance(program, Registered):
             self._check_owner(program)
-            request.function = program.function
-        elif isinstance(program, Function):
-            request.function = program
-        request.place = place
-        return request
+            return FunctionRequest(request, program.function, place)
+        return FunctionRequest(request, program, place) if isinstance(program, Function) else request
 
     def _check_owner(self, program: Registered) -> None:
         if program.client != self.client:
