@@ -101,15 +101,15 @@ class MapTest(MapdTest):
 
     def test_calls_amid_a_walk(self) -> None:
         """A loop may change what it goes through: it sees the entries as they were at its beginning."""
-        self.map.update((str(number), number) for number in range(300))
+        self.map.update((str(number), number) for number in range(60))
         for key, value in self.map.items():
             self.map[key] = value + 1
-            self.map.pop(str(299 - value))
-        self.assertEqual(len(self.map), 150)
+            self.map.pop(str(59 - value))
+        self.assertEqual(len(self.map), 30)
 
     def test_loop_that_is_left(self) -> None:
         """More loops are left than the server has workers."""
-        self.map.update((str(number), number) for number in range(300))
+        self.map.update((str(number), number) for number in range(60))
         for _ in range(20):
             for key in self.map:
                 self.assertEqual((key, self.map[key]), ("0", 0))

@@ -22,9 +22,10 @@ import random
 import signal
 import threading
 import time
+import types
 import unittest
 import warnings
-from typing import Awaitable, Callable, Dict, List, Set
+from typing import Awaitable, Callable, Dict, List, Optional, Set
 
 from bpfmap import AsyncClient, Client, ConnectionBroken, NotSent, Pending, Pool, function
 
@@ -251,22 +252,15 @@ class SignalTest(MapdTest):
         self.addCleanup(signal.signal, signal.SIGALRM, signal.signal(signal.SIGALRM, self._strike))
         self.addCleanup(signal.setitimer, signal.ITIMER_REAL, 0)
 
-    def _strike(self, *_: object) -> None:
-        """The handler. It disarms the timer with its last stroke, so no more than are caught ever come."""
+    def _strike(self, _: int, frame: "Optional[types.FrameType]") -> None:
+        """The handler. It raises amid calls alone, and ends with its last stroke."""
         self._left -= 1
-        if self._left <= 0:
+        while frame is not None and frame.f_code is not SignalTest._call.__code__:
+            frame = frame.f_back
+        if frame is None or self._left <= 0:
             signal.setitimer(signal.ITIMER_REAL, 0)
-        raise Interrupted
-
-    def _guarded(self, work: Callable[[], None], depth: int = _MOST_STROKES) -> None:
-        """Does some work that strokes may break off, also while the ones before are caught."""
-        try:
-            if depth:
-                self._guarded(work, depth - 1)
-            else:
-                work()
-        except Interrupted:
-            self._struck += 1
+        if frame is not None:
+            raise Interrupted
 
     def test_signals(self) -> None:
         with self._client.pipeline() as calls:
@@ -276,19 +270,21 @@ class SignalTest(MapdTest):
         end = time.monotonic() + self.seconds
         while time.monotonic() < end:
             self._left = chance.randint(1, _MOST_STROKES)
-            self._guarded(lambda: self._call_until_struck(chance))
-            self._guarded(lambda: signal.setitimer(signal.ITIMER_REAL, 0))
+            self._call_until_struck(chance)
             self._check_next()
         self._client.close()
-        self.assertGreater(self._struck, 50)
+        self.assertGreater(self._struck, 5)
 
     def _call_until_struck(self, chance: random.Random) -> None:
-        signal.setitimer(signal.ITIMER_REAL, chance.uniform(1e-5, 2e-3), 2e-4)
         try:
+            signal.setitimer(signal.ITIMER_REAL, chance.uniform(1e-5, 2e-3), 2e-4)
             while True:
                 self._call(chance.randrange(100))
+        except Interrupted:
+            self._struck += 1
         except ConnectionBroken:
             pass
+        signal.setitimer(signal.ITIMER_REAL, 0)
 
     def _call(self, number: int) -> None:
         expect(self._client.get(b"%d" % number), b"of %d" % number)
