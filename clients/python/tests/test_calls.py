@@ -234,5 +234,5 @@ class WrongArgumentsTest(MapdTest):
             wide = memoryview(array("I", [1, 2]))
             self.assertIsNone(client.put(bytearray(b"a"), wide))
             self.assertEqual(client.get(memoryview(b"a")), wide.tobytes())
-            self.assertEqual(client.compute(wide, client.register(COPY)), b"")
+            self.assertEqual(client.compute(wide, client.register("mov64 r0, 0\nexit\n")), b"")
             self.assertEqual(client.remove(b"a"), wide.tobytes())

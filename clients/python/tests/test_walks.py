@@ -301,14 +301,14 @@ class LiveWalkTest(MapdTest):
         """More walks are left than the server has workers."""
         with Client(HOST, self.port) as client:
             with client.pipeline() as calls:
-                for number in range(1_000):
+                for number in range(100):
                     calls.put(entry_key(number), bytes(64))
             copy = function("mov64 r0, 0\nexit\n")
-            for _ in range(40):
+            for _ in range(20):
                 with client.for_each(copy) as walk:
                     self.assertEqual(next(walk), (entry_key(0), b""))
                     self.assertEqual(client.get(entry_key(7)), bytes(64))
-            self.assertEqual(client.count(), 1_000)
+            self.assertEqual(client.count(), 100)
 
     def test_function_that_is_refused(self) -> None:
         """Each call that wants it says so; the others are made, and the connection goes on."""
