@@ -15,6 +15,9 @@ class AsyncWalk:
     `async with` block, or where nobody has it any more. That closes its connection, and leaves the client's others.
     """
 
+    # So that a walk whose making was broken off is not left.
+    _is_left = True
+
     def __init__(self, session: Session, pending: "Pending[Walked]", arrivals: Arrivals, give_back: Callable[[Session], None]) -> None:
         self._session = session
         self._pending = pending

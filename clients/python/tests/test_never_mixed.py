@@ -40,8 +40,8 @@ _ARGUMENT = b"5 entries"
 _MANY = b"20000 entries"
 _TIMEOUT = 3
 _MOST_STROKES = 3
-# The number of an instruction that is not reached. Python 3.12 and later count none of a function's before it ran once.
-_NEVER = 1 << 60
+# Instructions: one that is not reached (Python 3.12 counts none of a function before it ran once), and fewer than operations have.
+_NEVER, _LEAST = 1 << 60, 200
 
 
 class Mixed(AssertionError):
@@ -218,6 +218,7 @@ class InstructionTest(TellingTest):
         steps = {one_call: 1, call_with_a_function: 2, pipeline: 3, walk: 13, walk_that_is_left: 97}
         for operation, step in steps.items():
             client = self.open()
+            struck = 0
             self._break_off(client, operation, _NEVER)
             for nth in itertools.count(1, step):
                 with self.subTest(operation.__name__, nth=nth):
@@ -225,10 +226,11 @@ class InstructionTest(TellingTest):
                     if not self.check_next(client):
                         client.close()
                         client = self.open()
-                if not was_reached:
+                struck += was_reached
+                if not was_reached and nth > _LEAST:
                     break
             client.close()
-            self.assertGreater(nth, 200)
+            self.assertGreater(struck, _LEAST // step // 2)
 
     def test_pool(self) -> None:
         """A pool goes on: it replaces what was broken off, and loses no place."""
@@ -239,7 +241,7 @@ class InstructionTest(TellingTest):
                     with self.subTest(operation.__name__, nth=nth):
                         was_reached = self._break_off(pool, operation, nth)
                         expect(pool.get(b"bob"), answer_of(_GET, b"bob"))
-                        if not was_reached:
+                        if not was_reached and nth > _LEAST:
                             break
 
 
@@ -419,7 +421,7 @@ class LoopTest(TellingTest):
             for nth in itertools.count(1, step):
                 with self.subTest(operation.__name__, nth=nth):
                     was_reached = self._break_off(loop, operation, nth)
-                if not was_reached:
+                if not was_reached and nth > _LEAST:
                     break
 
     def _break_off(self, loop: asyncio.AbstractEventLoop, operation: "Callable[[AsyncClient], Awaitable[None]]", nth: int) -> bool:
