@@ -46,7 +46,8 @@ CALLS = tuple(_MAKE)
 def run_bench(bench: Bench) -> str:
     """Runs it, and says what came of it in three lines."""
     with Client(bench.host, bench.port, version=bench.version) as client:
-        program = client.register(SUM)
+        # The number as it is: the processes have clients of their own, and the server is the same.
+        program = int(client.register(SUM))
         _fill(client, bench)
     with ProcessPoolExecutor(bench.clients) as pool:
         runs = list(pool.map(_run_client, [bench] * bench.clients, [program] * bench.clients))

@@ -80,14 +80,19 @@ class Refused(BpfmapError):
     65 comes in version 1 alone, in place of an answer whose value is too long for it: the call was made, and its change stands.
 
     `number` is the refusal's, `place` the unit of a program or the line of a text, else 0; `name` and `sentence` say what it means.
+    `advice` says what to do, if that depends on more than the number.
     """
 
-    def __init__(self, number: int, place: int = 0) -> None:
+    def __init__(self, number: int, place: int = 0, advice: str = "") -> None:
         self.number = number
         self.place = place
+        self.advice = advice
         self.name, self.sentence = REFUSALS.get(number, ("Unknown", "this client knows no refusal of this number"))
         where = f" at {_PLACES[number]} {place}" if number in _PLACES else ""
-        super().__init__(f"refused {number} {self.name}{where}: {self.sentence}")
+        super().__init__(f"refused {number} {self.name}{where}: {self.sentence}" + (f"; {advice}" if advice else ""))
+
+    def __reduce__(self) -> "Tuple[type, Tuple[int, int, str]]":
+        return type(self), (self.number, self.place, self.advice)
 
 
 class Unfit(BpfmapError):
@@ -97,18 +102,45 @@ class Unfit(BpfmapError):
         self.window = window
         super().__init__(f"unfit {window}: the program's window for it was declared too small")
 
+    def __reduce__(self) -> "Tuple[type, Tuple[str]]":
+        return type(self), (self.window,)
+
 
 class ObjectFault(BpfmapError):
-    """An object file holds more than one function's instructions, or is no object for BPF."""
+    """An object file holds more than one function's instructions, or is no object for BPF; or a C file can't be compiled."""
+
+
+class StaleProgram(BpfmapError):
+    """A program's number was answered to another client. Nothing was sent: there the number may mean another program."""
+
+
+class OtherProcess(BpfmapError):
+    """A walk, or an AsyncClient, was taken along into another process by fork. Nothing was sent; open one in this process."""
 
 
 class ConnectionBroken(BpfmapError, ConnectionError):
-    """The connection ended before the answer. The call may have been made or not; it is not made again."""
+    """The connection ended before the answer. It is always one of the two below, which say whether the call may be repeated."""
+
+
+class NotSent(ConnectionBroken):
+    """The call failed before its first byte was sent: it was not made, and may safely be made again over another connection."""
+
+
+class MayHaveBeenMade(ConnectionBroken):
+    """The call failed between its first byte and the last of its answer: the server may have made it. It is not made again."""
 
 
 class TimedOut(ConnectionBroken, TimeoutError):
-    """No answer came in time. The connection was closed; the call may have been made or not."""
+    """No answer, or no connection, came in time. It is always one of the two below."""
 
 
-class ProtocolFault(ConnectionBroken):
+class NoConnectionInTime(TimedOut, NotSent):
+    """No connection came in time, or none of a pool was free. The call was not sent."""
+
+
+class NoAnswerInTime(TimedOut, MayHaveBeenMade):
+    """No byte of an answer came in time. The connection was closed; the call may have been made."""
+
+
+class ProtocolFault(MayHaveBeenMade):
     """The server sent what docs/PROTOCOL.md does not have in this place. The connection was closed."""

@@ -2,9 +2,9 @@
 
 from collections import deque
 from types import TracebackType
-from typing import Callable, Deque, List, Optional, Type, TypeVar
+from typing import Callable, Deque, List, Optional, Type, TypeVar, Union
 
-from .programs import Program
+from .programs import Function, Program, Runnable, Size
 from .protocol import Counts, Pending, Request, Walked
 from .requests import Requests
 
@@ -31,7 +31,9 @@ class PipelineCalls:
         waiting, self._waiting = self._waiting, deque()
         return waiting
 
-    def register(self, program: Program, key: int = 64, old: int = 256, arg: int = 256, result: int = 256) -> "Pending[int]":
+    def register(
+        self, program: Union[Program, Function], key: Size = None, old: Size = None, arg: Size = None, result: Size = None
+    ) -> "Pending[int]":
         """See Client.register."""
         return self._add(self._requests.register(program, key, old, arg, result))
 
@@ -63,31 +65,31 @@ class PipelineCalls:
         """See Client.replace_if."""
         return self._add(self._requests.replace_if(key, expected, value))
 
-    def compute(self, key: bytes, program: int, arg: Value = None) -> "Pending[Value]":
+    def compute(self, key: bytes, program: Runnable, arg: Value = None) -> "Pending[Value]":
         """See Client.compute."""
         return self._add(self._requests.compute(key, program, arg))
 
-    def compute_if_absent(self, key: bytes, program: int, arg: Value = None) -> "Pending[Value]":
+    def compute_if_absent(self, key: bytes, program: Runnable, arg: Value = None) -> "Pending[Value]":
         """See Client.compute_if_absent."""
         return self._add(self._requests.compute_if_absent(key, program, arg))
 
-    def compute_if_present(self, key: bytes, program: int, arg: Value = None) -> "Pending[Value]":
+    def compute_if_present(self, key: bytes, program: Runnable, arg: Value = None) -> "Pending[Value]":
         """See Client.compute_if_present."""
         return self._add(self._requests.compute_if_present(key, program, arg))
 
-    def merge(self, key: bytes, value: bytes, program: int) -> "Pending[Value]":
+    def merge(self, key: bytes, value: bytes, program: Runnable) -> "Pending[Value]":
         """See Client.merge."""
         return self._add(self._requests.merge(key, value, program))
 
-    def search(self, program: int, arg: Value = None, threshold: int = 1) -> "Pending[Walked]":
+    def search(self, program: Runnable, arg: Value = None, threshold: int = 1) -> "Pending[Walked]":
         """See Client.search; its answer is a Walked, with all items."""
         return self._add(self._requests.search(program, arg, threshold))
 
-    def for_each(self, program: int, arg: Value = None, threshold: int = 1) -> "Pending[Walked]":
+    def for_each(self, program: Runnable, arg: Value = None, threshold: int = 1) -> "Pending[Walked]":
         """See Client.for_each; its answer is a Walked, with all items."""
         return self._add(self._requests.for_each(program, arg, threshold))
 
-    def replace_all(self, program: int, arg: Value = None) -> "Pending[Counts]":
+    def replace_all(self, program: Runnable, arg: Value = None) -> "Pending[Counts]":
         """See Client.replace_all."""
         return self._add(self._requests.replace_all(program, arg))
 

@@ -5,6 +5,7 @@ from collections import deque
 from typing import Callable, Deque, Dict, Generic, List, NamedTuple, Optional, TypeVar
 
 from .errors import ProtocolFault, Refused, Unfit
+from .programs import Function
 
 LONGEST_KEY = 64
 # What a Register's body has before its program: the tag and four sizes.
@@ -67,10 +68,39 @@ class Request(Generic[T]):
 
     __slots__ = ("frame", "read", "has_items")
 
+    # What a FunctionRequest and a RegisterRequest have of their own.
+    function: Optional[Function] = None
+    made: Optional[Function] = None
+
     def __init__(self, sent: bytes, read: "Callable[[Deque[Entry], bytes], T]", has_items: bool = False) -> None:
         self.frame = sent
         self.read = read
         self.has_items = has_items
+
+    def bind(self, number: int) -> None:
+        """Puts the function's number into the frame."""
+        raise NotImplementedError
+
+
+class FunctionRequest(Request[T]):
+    """A request that runs a function. The number that it has on the connection still has to be put into the frame, at this place."""
+
+    def __init__(self, request: Request[T], function: Function, place: int) -> None:
+        super().__init__(request.frame, request.read, request.has_items)
+        self.function = function
+        self._place = place
+
+    def bind(self, number: int) -> None:
+        """Puts the function's number into the frame."""
+        self.frame = self.frame[: self._place] + number_field(number) + self.frame[self._place + 8 :]
+
+
+class RegisterRequest(Request[T]):
+    """A request that registers a function."""
+
+    def __init__(self, sent: bytes, read: "Callable[[Deque[Entry], bytes], T]", made: Function) -> None:
+        super().__init__(sent, read)
+        self.made = made
 
 
 # What calls have that are no walks.
@@ -139,6 +169,10 @@ class FrameReader:
 
     def feed(self, piece: bytes) -> None:
         """Takes the next bytes of the stream."""
+        if not self._bytes and 4 < len(piece) == 4 + int.from_bytes(piece[:4], "big") <= 4 + self._longest_body:
+            # One frame, as most answers come.
+            self._bodies.append(piece[4:])
+            return
         self._bytes += piece
         while self._cut():
             pass
@@ -162,6 +196,11 @@ class FrameReader:
         """The next frame's body, where one is whole."""
         return self._bodies.popleft() if self._bodies else None
 
+    @property
+    def has_rest(self) -> bool:
+        """Whether bytes are there that nobody took."""
+        return bool(self._bodies or self._bytes)
+
 
 def frame(tag: int, *fields: bytes) -> bytes:
     """A frame of this tag and these fields."""
@@ -171,6 +210,8 @@ def frame(tag: int, *fields: bytes) -> bytes:
 
 def key_field(key: bytes) -> bytes:
     """A key with its length; one that is too long is refused with 1."""
+    if type(key) is not bytes:  # pylint: disable=unidiomatic-typecheck
+        key = _as_bytes(key, "key")
     if len(key) > LONGEST_KEY:
         raise Refused(1)
     return bytes([len(key)]) + key
@@ -178,9 +219,20 @@ def key_field(key: bytes) -> bytes:
 
 def value_field(value: bytes, longest: int) -> bytes:
     """A value with its length; one that is too long is refused with 1."""
+    if type(value) is not bytes:  # pylint: disable=unidiomatic-typecheck
+        value = _as_bytes(value, "value")
     if len(value) > longest:
         raise Refused(1)
     return struct.pack(">H", len(value)) + value
+
+
+def _as_bytes(given: object, name: str) -> bytes:
+    """The bytes of what is like bytes. What is not is refused by a sentence that says what to write in its place."""
+    if isinstance(given, (bytes, bytearray, memoryview)):
+        return bytes(given)
+    kind = type(given).__name__
+    advice = 'write b"..", or encode it: name.encode()' if isinstance(given, str) else "encode it first"
+    raise TypeError(f"a {name} is bytes, and not {kind}: {advice}; bpfmap.Map takes keys and values of str, int and json")
 
 
 def arg_field(arg: Optional[bytes], longest: int) -> bytes:

@@ -19,10 +19,10 @@ PATIENCE = 20
 
 
 class Mapd:
-    """A fresh mapd on a free port."""
+    """A fresh mapd on a free port, or on this one."""
 
-    def __init__(self) -> None:
-        words = [str(MAPD), "--listen", f"{HOST}:0", "--workers", WORKERS]
+    def __init__(self, port: int = 0) -> None:
+        words = [str(MAPD), "--listen", f"{HOST}:{port}", "--workers", WORKERS]
         self._process = subprocess.Popen(words, stdout=subprocess.PIPE, stderr=subprocess.PIPE, text=True)
         try:
             self.port = self._read_port()

@@ -7,8 +7,19 @@ import time
 import unittest
 from typing import Callable, List
 
-from bpfmap import AsyncClient, Client, ConnectionBroken, Pending, ProtocolFault, Refused, TimedOut, Unfit
-from bpfmap.connection import send_some
+from bpfmap import (
+    AsyncClient,
+    Client,
+    ConnectionBroken,
+    MayHaveBeenMade,
+    NotSent,
+    Pending,
+    ProtocolFault,
+    Refused,
+    TimedOut,
+    Unfit,
+)
+from bpfmap.outgoing import Outgoing
 
 from .server import HOST, MapdTest, PlayedServer, receive_exactly
 
@@ -87,6 +98,8 @@ class EndedTest(unittest.TestCase):
             calls = [pipeline.put(b"a", bytes(256)) for _ in range(40_000)]
             self.assertRaises(ConnectionBroken, pipeline.execute)
             self._check(calls, 3)
+            self.assertIsInstance(calls[3].error, MayHaveBeenMade)
+            self.assertIsInstance(calls[-1].error, NotSent)
 
     def test_call(self) -> None:
         """The call was read and not answered: it is an error, and no second connection is made."""
@@ -117,8 +130,29 @@ class EndedTest(unittest.TestCase):
     def test_no_server(self) -> None:
         with socket.create_server((HOST, 0)) as listener:
             port = listener.getsockname()[1]
-        self.assertRaises(ConnectionBroken, Client, HOST, port)
-        self.assertRaises(ConnectionBroken, asyncio.run, AsyncClient(HOST, port).open())
+        self.assertRaisesRegex(NotSent, f"no connection to {HOST}:{port}", Client, HOST, port)
+        self.assertRaisesRegex(NotSent, f"no connection to {HOST}:{port}", asyncio.run, AsyncClient(HOST, port).open())
+        self.assertRaises(NotSent, asyncio.run, AsyncClient(HOST, port).get(b"a"))
+
+    def test_send_that_the_system_refuses(self) -> None:
+        """Nothing was sent; a call that was sent and not answered is another thing."""
+        with PlayedServer(answering(1, 0)) as server, Client(HOST, server.port) as client:
+            self.assertRaises(MayHaveBeenMade, client.get, b"a")
+        with PlayedServer(lambda connection: connection.recv(1)) as server, Client(HOST, server.port) as client:
+            client._connection._socket.shutdown(socket.SHUT_WR)
+            self.assertRaisesRegex(NotSent, "nothing was sent: .*[Pp]ipe", client.get, b"a")
+
+    def test_bytes_that_nobody_asked_for(self) -> None:
+        """They are taken for no call's answer."""
+
+        def play(connection: socket.socket) -> None:
+            receive_exactly(connection, len(_GET))
+            connection.sendall((_VALUE + b"x") * 2)
+            connection.recv(1)
+
+        with PlayedServer(play) as server, Client(HOST, server.port) as client:
+            self.assertEqual(client.get(b"a"), b"x")
+            self.assertRaisesRegex(NotSent, "what nobody asked for", client.get, b"b")
 
 
 class SilentTest(unittest.TestCase):
@@ -153,6 +187,24 @@ class SilentTest(unittest.TestCase):
                 await client.get(b"a")
             with self.assertRaises(ConnectionBroken):
                 await client.get(b"a")
+
+    def test_async_pipeline_that_nobody_reads(self) -> None:
+        """Of its ten megabytes the last ones never left this process, and their calls were not sent."""
+
+        async def run(port: int) -> "List[Pending[object]]":
+            async with AsyncClient(HOST, port, timeout=1) as client:
+                pipeline = client.pipeline()
+                calls = [pipeline.put(b"a", bytes(256)) for _ in range(40_000)]
+                with self.assertRaises(TimedOut):
+                    await pipeline.execute()
+                return calls
+
+        done = threading.Event()
+        with PlayedServer(lambda connection: done.wait(_FOREVER)) as server:
+            calls = asyncio.run(run(server.port))
+            done.set()
+        self.assertIsInstance(calls[0].error, MayHaveBeenMade)
+        self.assertIsInstance(calls[-1].error, NotSent)
 
     def test_answers_that_come_slowly(self) -> None:
         """All of them take longer than the timeout, each of them does not."""
@@ -255,8 +307,10 @@ class FaultTest(unittest.TestCase):
         """It is no fault yet: what the server sent before is still read."""
         mine, other = socket.socketpair()
         other.close()
+        outgoing = Outgoing(b"abc")
         with mine:
-            self.assertEqual(bytes(send_some(mine, memoryview(b"abc"))), b"")
+            outgoing.send_some(mine)
+        self.assertEqual((bytes(outgoing.rest), outgoing.is_cut), (b"", True))
 
 
 class KilledTest(MapdTest):

@@ -3,6 +3,7 @@
 import asyncio
 import re
 import unittest
+from array import array
 from typing import Dict, NamedTuple, Optional
 
 from bpfmap import COPY, SUM, AsyncClient, Client, Counts, Refused
@@ -106,7 +107,7 @@ class WalkTest(MapdTest):
 
     def test_async_walk(self) -> None:
         with Client(HOST, self.port) as client:
-            program = self._fill(client)
+            program = int(self._fill(client))
 
         async def run() -> None:
             async with AsyncClient(HOST, self.port) as client:
@@ -216,11 +217,22 @@ class WrongArgumentsTest(MapdTest):
 
     def test_wrong_arguments(self) -> None:
         with Client(HOST, self.port) as client:
-            self.assertRaises(TypeError, client.get, "a")
-            self.assertRaises(TypeError, client.put, b"a", 7)
+            self.assertRaisesRegex(TypeError, 'a key is bytes, and not str: write b".."', client.get, "a")
+            self.assertRaisesRegex(TypeError, "a value is bytes, and not int: encode it first", client.put, b"a", 7)
+            self.assertRaisesRegex(TypeError, "a value is bytes, and not list", client.put, b"a", [7])
+            self.assertRaisesRegex(TypeError, "bpfmap.Map takes keys and values of str", client.pipeline().put, b"a", "x")
             self.assertRaises(OverflowError, client.compute, b"a", -1)
             self.assertRaises(OverflowError, client.compute, b"a", 1 << 64)
             self.assertRaises(OverflowError, client.register, SUM, 1 << 16)
             self.assertRaises(ValueError, Client, HOST, self.port, version=3)
             self.assertRaises(ValueError, AsyncClient, HOST, self.port, version=0)
             self.assertIsNone(client.get(b"a"))
+
+    def test_what_is_like_bytes(self) -> None:
+        """All of its bytes are sent, however wide its items are."""
+        with Client(HOST, self.port) as client:
+            wide = memoryview(array("I", [1, 2]))
+            self.assertIsNone(client.put(bytearray(b"a"), wide))
+            self.assertEqual(client.get(memoryview(b"a")), wide.tobytes())
+            self.assertEqual(client.compute(wide, client.register("mov64 r0, 0\nexit\n")), b"")
+            self.assertEqual(client.remove(b"a"), wide.tobytes())

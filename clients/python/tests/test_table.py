@@ -29,7 +29,7 @@ class TableTest(MapdTest):
         self.calls = table.calls_of(self.version)
 
     def test_client(self) -> None:
-        with Client(HOST, self.port, version=self.version) as client:
+        with Client(HOST, self.port, version=self.version, timeout=60) as client:
             for row in self.calls:
                 self._compare(row, table.came_to(row, lambda: _run(client, row)))
 
@@ -48,7 +48,7 @@ class TableTest(MapdTest):
 
     def test_pipeline(self) -> None:
         """All rows in one pipeline."""
-        with Client(HOST, self.port, version=self.version) as client:
+        with Client(HOST, self.port, version=self.version, timeout=60) as client:
             pipeline = client.pipeline()
             sent = [(row, _result_of(pipeline, row)) for row in self.calls]
             with self.assertRaises(Exception):
@@ -61,7 +61,7 @@ class TableTest(MapdTest):
             self._compare(row, outcome)
 
     async def _run_async(self) -> List[Tuple[table.Row, table.Outcome]]:
-        async with AsyncClient(HOST, self.port, version=self.version) as client:
+        async with AsyncClient(HOST, self.port, version=self.version, timeout=60) as client:
             return [(row, await _outcome_async(client, row)) for row in self.calls]
 
     def test_async_pipeline(self) -> None:
@@ -69,7 +69,7 @@ class TableTest(MapdTest):
             self._compare(row, table.came_to(row, result))
 
     async def _run_async_pipeline(self) -> List[Tuple[table.Row, Callable[[], object]]]:
-        async with AsyncClient(HOST, self.port, version=self.version) as client:
+        async with AsyncClient(HOST, self.port, version=self.version, timeout=60) as client:
             pipeline = client.pipeline()
             sent = [(row, _result_of(pipeline, row)) for row in self.calls]
             with self.assertRaises(Exception):

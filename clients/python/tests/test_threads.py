@@ -4,12 +4,13 @@ import asyncio
 import threading
 from typing import Callable, List
 
-from bpfmap import SUM, AsyncClient, Client
+from bpfmap import SUM, AsyncClient, Client, Pool, function
 
 from .server import HOST, MapdTest
 
 _THREADS = 8
 _MERGES = 250
+_ADD = function(SUM)
 _KEY = b"counter"
 _ONE = (1).to_bytes(8, "little")
 _SUM = (_THREADS * _MERGES).to_bytes(8, "little")
@@ -36,15 +37,28 @@ class CounterTest(MapdTest):
 
     def test_a_client_for_each_thread(self) -> None:
         with Client(HOST, self.port) as first:
-            program = first.register(SUM)
 
             def work() -> None:
                 with Client(HOST, self.port) as client:
                     for _ in range(_MERGES):
-                        client.merge(_KEY, _ONE, program)
+                        client.merge(_KEY, _ONE, _ADD)
 
             self._run_threads(work)
             self.assertEqual(first.get(_KEY), _SUM)
+
+    def test_a_pool_for_all_threads(self) -> None:
+        """Each of its connections registers the function once."""
+        with Pool(HOST, self.port, size=3) as pool:
+
+            def work() -> None:
+                own = threading.current_thread().name.encode()
+                for number in range(1, _MERGES + 1):
+                    pool.merge(_KEY, _ONE, _ADD)
+                    self.assertEqual(pool.merge(own, _ONE, _ADD), number.to_bytes(8, "little"))
+
+            self._run_threads(work)
+            self.assertEqual(pool.get(_KEY), _SUM)
+            self.assertLessEqual(pool.register(SUM), 3)
 
     def test_one_client_for_all_threads(self) -> None:
         """Each thread counts on a key of its own too: so it sees that its answers are its own."""
@@ -63,17 +77,15 @@ class CounterTest(MapdTest):
     def test_a_pipeline_for_each_thread(self) -> None:
         """Each merge answers another sum: together they are 1 to 2,000, each once."""
         answers: List[bytes] = []
-        with Client(HOST, self.port) as first:
-            program = first.register(SUM)
 
-            def work() -> None:
-                with Client(HOST, self.port) as client:
-                    pipeline = client.pipeline()
-                    for _ in range(_MERGES):
-                        pipeline.merge(_KEY, _ONE, program)
-                    answers.extend(pipeline.execute())
+        def work() -> None:
+            with Client(HOST, self.port) as client:
+                pipeline = client.pipeline()
+                for _ in range(_MERGES):
+                    pipeline.merge(_KEY, _ONE, _ADD)
+                answers.extend(pipeline.execute())
 
-            self._run_threads(work)
+        self._run_threads(work)
         numbers = sorted(int.from_bytes(answer, "little") for answer in answers)
         self.assertEqual(numbers, list(range(1, _THREADS * _MERGES + 1)))
 

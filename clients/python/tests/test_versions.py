@@ -72,7 +72,7 @@ class VersionsTest(MapdTest):
         with self.assertRaises(Refused) as raised:
             old.register(_COPY, old=1_024, result=1_024)
         self.assertEqual(raised.exception.number, 47)
-        program = new.register(_COPY, old=1_024, result=1_024)
+        program = int(new.register(_COPY, old=1_024, result=1_024))
         new.put(b"a", _LONG)
         for call in (old.compute, old.compute_if_present):
             self._refuses(lambda call=call: call(b"a", program))
@@ -80,7 +80,7 @@ class VersionsTest(MapdTest):
         self._refuses(lambda: old.compute_if_absent(b"a", program))
         self._refuses(lambda: old.merge(b"a", b"x", program))
         self.assertEqual(new.compute(b"a", program), _LONG)
-        self.assertIsNone(old.compute(b"a", new.register(_NOTHING, old=1_024)))
+        self.assertIsNone(old.compute(b"a", int(new.register(_NOTHING, old=1_024))))
         self.assertIsNone(new.get(b"a"))
 
     def test_program_of_many_units(self) -> None:
@@ -88,11 +88,11 @@ class VersionsTest(MapdTest):
         with self.assertRaises(Refused) as raised:
             self.old.register("exit\n" * 513)
         self.assertEqual(raised.exception.number, 12)
-        self.assertIsNone(self.old.compute(b"a", self.new.register(many, 64, 0, 0, 0)))
+        self.assertIsNone(self.old.compute(b"a", int(self.new.register(many, 64, 0, 0, 0))))
 
     def test_walks(self) -> None:
         """An item that is too long takes the place of the whole answer; a walk that counts goes on."""
-        program = self.new.register(_COPY, old=1_024, result=1_024)
+        program = int(self.new.register(_COPY, old=1_024, result=1_024))
         self.new.put(b"a", b"x")
         self.new.put(b"b", _LONG)
         self.new.put(b"c", b"z")
@@ -119,7 +119,7 @@ class VersionsTest(MapdTest):
         async def run() -> None:
             async with AsyncClient(HOST, self.port, version=1) as old, AsyncClient(HOST, self.port) as new:
                 self.assertEqual((old.limits, new.limits), (VERSIONS[1], VERSIONS[2]))
-                program = await new.register(_COPY, old=1_024, result=1_024)
+                program = int(await new.register(_COPY, old=1_024, result=1_024))
                 await new.put(b"a", _LONG)
                 self.assertEqual(await new.get(b"a"), _LONG)
                 for call in (old.get(b"a"), old.for_each(program), old.put(b"a", b"x")):
@@ -140,11 +140,11 @@ class OneVersionTest(unittest.TestCase):
     def test_server_that_refuses_the_version(self) -> None:
         """An older server answers version 2 by a refusal."""
         with PlayedServer(lambda connection: None, answer="0000000685" + "40" + "00000000") as server:
-            with self.assertRaises(Refused) as raised:
+            with self.assertRaisesRegex(Refused, "ask for version 1, by Client.host, port, version=1. or --protocol 1") as raised:
                 Client(HOST, server.port)
         self.assertEqual(raised.exception.number, 64)
         with PlayedServer(lambda connection: None, answer="0000000685" + "40" + "00000000") as server:
-            with self.assertRaises(Refused):
+            with self.assertRaisesRegex(Refused, "ask for version 1"):
                 asyncio.run(AsyncClient(HOST, server.port).open())
 
     def test_server_that_answers_another_version(self) -> None:
