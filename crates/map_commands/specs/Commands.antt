@@ -23,13 +23,13 @@ use Rattle.admission.specs.Admissions.{IsAdmitted}
 use Rattle.admission.specs.declared.fault.AdmissionFault.{AdmissionFault}
 use Rattle.admission.specs.declared.fault.AdmissionFault.TheVariants.{Decode, Flow, Verify}
 use Rattle.map_commands.specs.Hex.{SpellsBytes, IsFault}
-use Rattle.map_commands.specs.declared.bpfmap.words.RunTexts.{RunTexts}
-use Rattle.map_commands.specs.declared.bpfmap.words.Command.{Command}
-use Rattle.map_commands.specs.declared.bpfmap.words.Command.TheVariants.{Asm, Disasm, Check, Explain, Run}
-use Rattle.map_commands.specs.declared.bpfmap.refusal.Refusal.{Refusal}
-use Rattle.map_commands.specs.declared.bpfmap.refusal.Refusal.TheVariants.{TooLong, NoMemory, NotHex, Assemble, Program}
-use Rattle.map_commands.specs.declared.bpfmap.report.Report.{Report}
-use Rattle.map_commands.specs.declared.bpfmap.report.Report.TheVariants.{Text, Accepted, Answered, Unfit, Refused, Explained}
+use Rattle.map_commands.specs.declared.words.RunTexts.{RunTexts}
+use Rattle.map_commands.specs.declared.words.Command.{Command}
+use Rattle.map_commands.specs.declared.words.Command.TheVariants.{Asm, Disasm, Check, Explain, Run}
+use Rattle.map_commands.specs.declared.refusal.Refusal.{Refusal}
+use Rattle.map_commands.specs.declared.refusal.Refusal.TheVariants.{TooLong, NoMemory, NotHex, Assemble, Program}
+use Rattle.map_commands.specs.declared.report.Report.{Report}
+use Rattle.map_commands.specs.declared.report.Report.TheVariants.{Text, Accepted, Answered, Unfit, Refused, Explained}
 use Rattle.verifier.specs.declared.abstract_state.AbstractState.{AbstractState}
 use Rattle.verifier.specs.Walks.{KnowsRuns}
 use Rattle.map_commands.specs.Explanations.{lines_below}

@@ -3,14 +3,14 @@ use Rattle.std.specs.Prelude.{◌≡◌, ◌+◌, ◌⊎◌, ℕ, List, IfSome, 
 use Rattle.clap.specs.Words.{IsAmong, fault_of}
 use Rattle.clap.specs.declared.error.ErrorKind.{ErrorKind}
 use Rattle.clap.specs.declared.error.ErrorKind.TheVariants.{DisplayHelp, DisplayVersion}
-use Rattle.map_commands.specs.declared.bpfmap.words.Command.{Command}
-use Rattle.map_commands.specs.declared.bpfmap.words.Task.TheVariants.{Report as Reporting}
-use Rattle.map_commands.specs.declared.bpfmap.refusal.Refusal.{Refusal}
-use Rattle.map_commands.specs.declared.bpfmap.refusal.Refusal.TheVariants.{NoMemory as OutOfMemory}
-use Rattle.map_commands.specs.declared.bpfmap.report.Report.{Report}
-use Rattle.map_commands.specs.declared.bpfmap.report.Report.TheVariants as report
-use Rattle.map_commands.specs.declared.bpfmap.ending.Ending.{Ending}
-use Rattle.map_commands.specs.declared.bpfmap.ending.Ending.TheVariants.{Reported, Refused, Explained, NoMemory, BadStripes, Shown, Faulty, Unread, NotUtf8}
+use Rattle.map_commands.specs.declared.words.Command.{Command}
+use Rattle.map_commands.specs.declared.words.Task.TheVariants.{Report as Reporting}
+use Rattle.map_commands.specs.declared.refusal.Refusal.{Refusal}
+use Rattle.map_commands.specs.declared.refusal.Refusal.TheVariants.{NoMemory as OutOfMemory}
+use Rattle.map_commands.specs.declared.report.Report.{Report}
+use Rattle.map_commands.specs.declared.report.Report.TheVariants as report
+use Rattle.map_commands.specs.declared.ending.Ending.{Ending}
+use Rattle.map_commands.specs.declared.ending.Ending.TheVariants.{Reported, Refused, Explained, NoMemory, BadStripes, Shown, Faulty, Unread, NotUtf8}
 use Rattle.map_commands.specs.CommandLine.{Asks, bpfmap}
 use Rattle.map_commands.specs.Commands.{IsReport, IsUnreadable}
 use Rattle.devices.specs.Devices.{SourceState, SinkState, TakesBytes, TakesPart, TakesIfItCan}

@@ -10,10 +10,10 @@ use Rattle.verifier.specs.Messages as verify
 use Rattle.verifier.specs.declared.fault.VerifyFault.{VerifyFault}
 use Rattle.admission.specs.Admissions.{fault_message}
 use Rattle.admission.specs.declared.fault.AdmissionFault.TheVariants.{Verify}
-use Rattle.map_commands.specs.declared.bpfmap.refusal.Refusal.{Refusal}
-use Rattle.map_commands.specs.declared.bpfmap.refusal.Refusal.TheVariants.{TooLong, NoMemory, NotHex, Assemble, Program}
-use Rattle.map_commands.specs.declared.bpfmap.words.Command.{Command}
-use Rattle.map_commands.specs.declared.bpfmap.words.Command.TheVariants.{Asm, Disasm, Check, Explain, Run}
+use Rattle.map_commands.specs.declared.refusal.Refusal.{Refusal}
+use Rattle.map_commands.specs.declared.refusal.Refusal.TheVariants.{TooLong, NoMemory, NotHex, Assemble, Program}
+use Rattle.map_commands.specs.declared.words.Command.{Command}
+use Rattle.map_commands.specs.declared.words.Command.TheVariants.{Asm, Disasm, Check, Explain, Run}
 use Rattle.map_commands.specs.Commands.{SpellsProgram}
 use Rattle.map_commands.specs.Reasons.{IsKnownReason}
 

@@ -2,10 +2,10 @@
 use Rattle.std.specs.Prelude.{ℕ}
 use Rattle.bpf_assembler.specs.Faults as assemble
 use Rattle.admission.specs.Admissions as admission
-use Rattle.map_commands.specs.declared.bpfmap.hex.HexFault.{HexFault}
-use Rattle.map_commands.specs.declared.bpfmap.hex.HexFault.TheVariants as hex
-use Rattle.map_commands.specs.declared.bpfmap.refusal.Refusal.{Refusal}
-use Rattle.map_commands.specs.declared.bpfmap.refusal.Refusal.TheVariants.{TooLong, NoMemory, NotHex, Assemble, Program}
+use Rattle.map_commands.specs.declared.hex.HexFault.{HexFault}
+use Rattle.map_commands.specs.declared.hex.HexFault.TheVariants as hex
+use Rattle.map_commands.specs.declared.refusal.Refusal.{Refusal}
+use Rattle.map_commands.specs.declared.refusal.Refusal.TheVariants.{TooLong, NoMemory, NotHex, Assemble, Program}
 
 abbrev pub refusal_number : Refusal → ℕ
 refusal_number TooLong = 1

@@ -132,7 +132,7 @@ impl From<AdmissionFault> for Refusal {
 impl From<DecodeFault> for Refusal {
     ghost use Rattle.std.specs.Prelude.{◌≡◌};
     ghost use Rattle.admission.specs.declared.fault.AdmissionFault.TheVariants.{Decode};
-    ghost use Rattle.map_commands.specs.declared.bpfmap.refusal.Refusal.TheVariants.{Program};
+    ghost use Rattle.map_commands.specs.declared.refusal.Refusal.TheVariants.{Program};
 
     ghost from_gives = { λ fault e. e ≡ Program (Decode fault) };
 
