@@ -12,6 +12,8 @@ from unittest import mock
 import bpfmap
 
 T = TypeVar("T")
+# Python 3.12 and later don't tell of each instruction: there it is each line.
+POINTS = "opcode" if sys.version_info < (3, 12) else "line"
 _PACKAGE = str(Path(bpfmap.__file__).parent) + os.sep
 
 
@@ -111,12 +113,12 @@ class InterruptedAt:
     def _enter(self, frame: types.FrameType, _: str, __: object) -> "Optional[Callable[..., object]]":
         if not frame.f_code.co_filename.startswith(_PACKAGE) or frame.f_code.co_name == "__del__":
             return None
-        frame.f_trace_opcodes = True
-        frame.f_trace_lines = False
+        frame.f_trace_opcodes = POINTS == "opcode"
+        frame.f_trace_lines = POINTS == "line"
         return self._step
 
     def _step(self, _: types.FrameType, event: str, __: object) -> "Callable[..., object]":
-        if event == "opcode":
+        if event == POINTS:
             self._count += 1
             if self._count == self._nth:
                 raise Interrupted

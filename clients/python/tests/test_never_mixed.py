@@ -29,7 +29,7 @@ from typing import Awaitable, Callable, Dict, List, Optional, Set
 
 from bpfmap import AsyncClient, Client, ConnectionBroken, NotSent, Pending, Pool, function
 
-from .faults import CancelledAt, Interrupted, InterruptedAt, Plan, sockets_by
+from .faults import POINTS, CancelledAt, Interrupted, InterruptedAt, Plan, sockets_by
 from .server import HOST, MapdTest
 from .telling import TellingServer, answer_of, entry_key
 
@@ -40,8 +40,8 @@ _ARGUMENT = b"5 entries"
 _MANY = b"20000 entries"
 _TIMEOUT = 3
 _MOST_STROKES = 3
-# Instructions: one that is not reached (Python 3.12 counts none of a function before it ran once), and fewer than operations have.
-_NEVER, _LEAST = 1 << 60, 200
+# Instructions or lines: one that is not reached, and fewer than operations have.
+_NEVER, _LEAST = 1 << 60, 200 if POINTS == "opcode" else 20
 
 
 class Mixed(AssertionError):
