@@ -2,8 +2,8 @@
 ghost use Rattle.std.specs.Prelude.{◌≡◌, ◌≤◌, All, IfOk, IfSome};
 ghost use Rattle.crews.specs.Crews.{IsCrewOf};
 
+mod at_work;
 mod loopback;
-mod workers;
 
 use crate::bpfmap::memory::{Pieces, ROOM, Room};
 use bin_stripes::{OpenGate, Pass, StripedMap};
