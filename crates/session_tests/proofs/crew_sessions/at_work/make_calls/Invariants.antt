@@ -1,5 +1,5 @@
 use Rattle.std.proofs.Common.{◌≡◌}
-use Rattle.session_tests.proofs.crew_sessions.workers.make_calls.Given as goal
+use Rattle.session_tests.proofs.crew_sessions.at_work.make_calls.Given as goal
 
 -- the pass serves the same map
 abbrev pub invariant-loop-number : goal.invariant-loop-number
