@@ -215,7 +215,8 @@ class InstructionTest(TellingTest):
         return at.was_reached
 
     def test_each_instruction(self) -> None:
-        steps = {one_call: 1, call_with_a_function: 2, pipeline: 3, walk: 13, walk_that_is_left: 97}
+        # At each nth instruction, since all of them would take minutes.
+        steps = {one_call: 3, call_with_a_function: 7, pipeline: 11, walk: 53, walk_that_is_left: 389}
         for operation, step in steps.items():
             client = self.open()
             struck = 0
@@ -235,7 +236,7 @@ class InstructionTest(TellingTest):
     def test_pool(self) -> None:
         """A pool goes on: it replaces what was broken off, and loses no place."""
         with Pool(HOST, self.server.port, size=2, timeout=_TIMEOUT) as pool:
-            for operation, step in ((one_call, 3), (pipeline, 5), (walk, 29)):
+            for operation, step in ((one_call, 11), (pipeline, 17), (walk, 97)):
                 self._break_off(pool, operation, _NEVER)
                 for nth in itertools.count(1, step):
                     with self.subTest(operation.__name__, nth=nth):
