@@ -17,7 +17,6 @@ from typing import Union
 
 sys.path.insert(0, str(Path(__file__).resolve().parent))
 sys.dont_write_bytecode = True
-import full  # noqa: E402
 import sequential as model  # noqa: E402
 import wire  # noqa: E402
 from sequential import Call  # noqa: E402
@@ -160,7 +159,7 @@ class Known:
 def said(address: str, session: list[Asked]) -> list[bytes]:
     """The answers to a session that is sent in one piece."""
     with wire.Client(address) as client:
-        return list(full.bodies_of(client.exchange(wire.frames([wire.hello(2), *map(body_of, session)]))))
+        return list(wire.bodies_of(client.exchange(wire.frames([wire.hello(2), *map(body_of, session)]))))
 
 
 def hear_session(known: Known, session: list[Asked], answers: list[bytes]) -> str:

@@ -260,14 +260,15 @@ class SignalTest(MapdTest):
         self.addCleanup(signal.setitimer, signal.ITIMER_REAL, 0)
 
     def _strike(self, _: int, frame: "Optional[types.FrameType]") -> None:
-        """The handler. It raises amid calls alone, and ends with its last stroke."""
-        self._left -= 1
+        """The handler. It raises amid calls alone, and ends with its last stroke; between two calls it waits for the next one."""
         while frame is not None and frame.f_code is not SignalTest._call.__code__:
             frame = frame.f_back
-        if frame is None or self._left <= 0:
+        if frame is None:
+            return
+        self._left -= 1
+        if self._left <= 0:
             signal.setitimer(signal.ITIMER_REAL, 0)
-        if frame is not None:
-            raise Interrupted
+        raise Interrupted
 
     def test_signals(self) -> None:
         with self._client.pipeline() as calls:
