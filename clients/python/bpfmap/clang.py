@@ -13,7 +13,7 @@ from .elf import read_object
 from .errors import ObjectFault
 
 _NAMES = ("clang-21", "clang-20", "clang-19", "clang-18", "clang")
-_SIZES = re.compile(r"^ \* sizes: *(.*?) *(?:\*/)?$", re.MULTILINE)
+_SIZES = re.compile(r"^(?:/\*| \*) sizes: *(.*?) *(?:\*/)?$", re.MULTILINE)
 _SIZE = re.compile(r"--(key|old|arg|result) ([0-9]+)")
 # How a program in which a jump leads back is compiled once more.
 _AGAIN = (["-w", "-mllvm", "-disable-block-placement"], ["-w", "-O1"])

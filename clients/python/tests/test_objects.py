@@ -96,7 +96,7 @@ class ExamplesTest(MapdTest):
         accepted = 0
         with Client(HOST, self.port) as client:
             for file in sorted(_HEADER.glob("*.c")):
-                sizes = re.search(r"^ \* sizes: (.*)$", file.read_text(), re.MULTILINE)
+                sizes = re.search(r"^(?:/\*| \*) sizes: (.*)$", file.read_text(), re.MULTILINE)
                 if sizes is not None:
                     self._register(client, file, sizes.group(1).split())
                     accepted += 1
