@@ -36,6 +36,7 @@ impl Walk {
 }
 
 /// A walk that is asked for again and again.
+#[derive(Drop)]
 struct AskedWalk {
     walk: Walk,
     program: Verified,
