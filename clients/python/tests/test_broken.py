@@ -19,6 +19,7 @@ from bpfmap import (
     TimedOut,
     Unfit,
 )
+from bpfmap.connection import Address
 from bpfmap.outgoing import Outgoing
 
 from .server import HOST, MapdTest, PlayedServer, receive_exactly
@@ -133,6 +134,10 @@ class EndedTest(unittest.TestCase):
         self.assertRaisesRegex(NotSent, f"no connection to {HOST}:{port}", Client, HOST, port)
         self.assertRaisesRegex(NotSent, f"no connection to {HOST}:{port}", asyncio.run, AsyncClient(HOST, port).open())
         self.assertRaises(NotSent, asyncio.run, AsyncClient(HOST, port).get(b"a"))
+
+    def test_address_in_a_message(self) -> None:
+        self.assertEqual(str(Address("::1", 7070, None)), "[::1]:7070")
+        self.assertEqual(str(Address("example.org", 7070, None)), "example.org:7070")
 
     def test_send_that_the_system_refuses(self) -> None:
         """Nothing was sent; a call that was sent and not answered is another thing."""
