@@ -5,6 +5,11 @@ ghost use Rattle.bins.specs.Mixed.{mixed, word_at};
 
 use crate::fronts::front_of;
 
+/// What hashes by the fixed seed begin with: digits of pi.
+const FIXED_START: u64 = 0x243F_6A88_85A3_08D3;
+/// By what the fixed seed multiplies: 2^64 divided by the golden ratio.
+const FIXED_FACTOR: u64 = 0x9E37_79B9_7F4A_7C15;
+
 /// What a hash begins with, and the number by which each word is multiplied.
 #[derive(Clone, Copy)]
 pub struct Seed {
@@ -42,13 +47,14 @@ impl Seed {
 
     /// A seed that is always the same, for tables whose keys nobody chooses to slow them down.
     pub fn fixed() -> Seed {
-        Seed::new(0x243F_6A88_85A3_08D3, 0x9E37_79B9_7F4A_7C15)
+        Seed::new(FIXED_START, FIXED_FACTOR)
     }
 
     /// Another seed, which follows from this one.
     pub(crate) fn next(&self) -> Seed {
-        let start = folded(self.start ^ 1, self.factor);
-        Seed::new(start, folded(start ^ 2, self.factor))
+        let start = folded(self.start ^ FIXED_START, FIXED_FACTOR);
+        let factor = folded(self.factor ^ start, FIXED_FACTOR);
+        Seed::new(start, factor)
     }
 }
 
