@@ -3,7 +3,7 @@ use Rattle.std.proofs.Common.{◌≡◌, ◌≢◌, ℕ, ◌+◌, ◌-◌, ◌<�
 use Rattle.std.specs.Prelude.{nat_eq}
 use Rattle.std.specs.List.{swap_remove}
 use Rattle.std.proofs.lemmas.Bool.{eq-eqb, ne_eqb}
-use Rattle.std.proofs.lemmas.List.{length-set, length_push, length-take-le, get_or_append_left, get_or_push, get_or-take, get_or-set_same, get_or-set_other, take_more, take_all, take_at, set_at, set-append_left}
+use Rattle.std.proofs.lemmas.List.{length-set, length_push, length-take-le, get_or_append_left, get_or_push, get_or-take, get_or-set_same, take_more, take_all, take_at, set_at, set-append_left}
 use Rattle.bins.specs.declared.chains.Link.{Link}
 use Rattle.bins.specs.declared.chains.Link.TheVariants.{Head, Next}
 use Rattle.bins.specs.Chains.{Links, IsLinkTo, follow, heads_relinked, nexts_relinked, bin_of, bins_of}

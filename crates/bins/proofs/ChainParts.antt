@@ -1,11 +1,11 @@
 -- A chain whose positions are parted among two bins, from its head on.
-use Rattle.std.proofs.Common.{◌≡◌, ◌≢◌, ℕ, ◌+◌, ◌-◌, ◌*◌, ◌<◌, ◌≤◌, cond, List, [], ◌∷◌, ◌++◌, length, slice_index, refl, sym, ap, subst, ◌∙◌, arith, inl, inr}
+use Rattle.std.proofs.Common.{◌≡◌, ◌≢◌, ℕ, ◌+◌, ◌-◌, ◌<◌, ◌≤◌, cond, List, [], ◌∷◌, ◌++◌, length, slice_index, sym, ap, subst, ◌∙◌, arith, inl, inr}
 use Rattle.std.specs.Prelude.{nat_lt}
 use Rattle.std.proofs.lemmas.Bool.{cases_lt, cases_eq}
 use Rattle.std.proofs.lemmas.Bool.Decides.{nat_tests}
 use Rattle.std.proofs.lemmas.List.{length_push, get_or_append_left, get_or_push}
-use Rattle.bins.specs.Chains.{AreSpread, IsLast, Links, Moved, bin_of, bins_of}
-use Rattle.bins.proofs.ChainLemmas.{last_in, last_at, links_alike}
+use Rattle.bins.specs.Chains.{IsLast, Links, Moved}
+use Rattle.bins.proofs.ChainLemmas.{last_at, links_alike}
 
 -- the positions from `at` on have been parted
 abbrev pub between : (ℕ → ℕ) → (ℕ → ℕ) → ℕ → ℕ → ℕ

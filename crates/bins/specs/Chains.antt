@@ -1,6 +1,6 @@
 -- Chains of positions among a list of hashes: each position leads to the last one before it in the same bin.
 -- Which bin a hash goes to, and what number of bins is told, is our profile.
-use Rattle.std.specs.Prelude.{◌≡◌, ◌≢◌, ℕ, ◌+◌, ◌-◌, ◌*◌, ◌%◌, ◌^◌, ◌<◌, ◌≤◌, ◌⊎◌, List, Option, Some, None, length, set, slice_index, cond, nat_lt}
+use Rattle.std.specs.Prelude.{◌≡◌, ◌≢◌, ℕ, ◌-◌, ◌*◌, ◌%◌, ◌<◌, ◌≤◌, ◌⊎◌, List, Option, Some, None, length, set, slice_index, cond, nat_lt}
 use Rattle.std.specs.Int.{IsPowerOfTwo}
 use Rattle.bins.specs.declared.told_size.TheConstants.{MOST_BINS}
 use Rattle.bins.specs.declared.chains.TheConstants.{FIRST_HEADS, MOST_HALF}

@@ -58,11 +58,23 @@ impl Seed {
     }
 }
 
+/// The hash of eight bytes, which a number has: they are one word.
+#[inline(always)]
+fn hash_of_eight(seed: &Seed, key: &[u8]) -> u64
+    requires { length key.now ≡ 8 }
+    ensures { result ≡ mixed seed.now key.now }
+{
+    folded(seed.start ^ 8 ^ front_of(key), seed.factor)
+}
+
 /// The hash of these bytes. Takes no memory.
 #[inline(always)]
 pub(crate) fn mixed_hash(seed: &Seed, key: &[u8]) -> u64
     ensures { result ≡ mixed seed.now key.now }
 {
+    if key.len() == 8 {
+        return hash_of_eight(seed, key);
+    }
     let mut hash = seed.start ^ key.len() as u64;
     for number in 0..key.len().div_ceil(8) {
         hash = folded(hash ^ word(key, number), seed.factor);

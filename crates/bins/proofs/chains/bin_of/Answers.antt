@@ -1,4 +1,3 @@
-use Rattle.std.proofs.Common.{arith}
 use Rattle.bins.proofs.ChainBins.{masked_twice, bin_low, bin_high}
 use Rattle.bins.proofs.chains.bin_of.Goals as goal
 

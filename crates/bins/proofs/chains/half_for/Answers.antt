@@ -1,4 +1,4 @@
-use Rattle.std.proofs.Common.{◌*◌, ◌<◌, sym, subst, arith}
+use Rattle.std.proofs.Common.{sym, subst, arith}
 use Rattle.std.specs.Int.{IsPowerOfTwo}
 use Rattle.bins.proofs.ChainBins.{bin_doubled, twice_power}
 use Rattle.bins.proofs.chains.half_for.Goals as goal

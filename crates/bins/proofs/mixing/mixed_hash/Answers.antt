@@ -1,8 +1,6 @@
-use Rattle.std.proofs.Common.{◌≡◌, ◌+◌, ◌*◌, ◌/◌, ◌<◌, ℕ, length, suc, sym, ap, ◌∙◌, arith, refl}
+use Rattle.std.proofs.Common.{◌≡◌, ◌+◌, ◌/◌, length, ap, ◌∙◌, arith, refl}
 use Rattle.std.proofs.Common.{add-one}
-use Rattle.std.specs.Prelude.{bit_xor}
-use Rattle.std.specs.Hash.FoldHasher.{folded_multiply}
-use Rattle.bins.specs.Mixed.{mixed, after_words, word_at}
+use Rattle.bins.specs.Mixed.{mixed, after_words}
 use Rattle.bins.proofs.mixing.mixed_hash.Goals as goal
 
 pub loop-number-init : goal.loop-number-init

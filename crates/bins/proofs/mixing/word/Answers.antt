@@ -1,4 +1,4 @@
-use Rattle.std.proofs.Common.{ℕ, List, ◌-◌, ◌*◌, length, min, drop, take, ap, subst, ◌≡◌, ◌∙◌, arith}
+use Rattle.std.proofs.Common.{ℕ, ◌-◌, ◌*◌, length, min, drop, take, ap, ◌≡◌, arith}
 use Rattle.std.proofs.lemmas.List.{take_all, length-drop}
 use Rattle.bins.specs.Fronts.{front}
 use Rattle.bins.specs.Mixed.{word_at}

@@ -1,5 +1,5 @@
 use Rattle.std.proofs.Common.{◌≡◌, ◌<◌, ◌++◌, ◌∷◌, [], ℕ, List, length, slice_index, sym, ap, subst, ◌∙◌}
-use Rattle.bins.specs.Chains.{AreSpread, Links, bin_of, bins_of}
+use Rattle.bins.specs.Chains.{AreSpread, Links, bins_of}
 use Rattle.bins.proofs.ChainBins.{bin_within}
 use Rattle.bins.proofs.ChainLemmas.{links_alike}
 use Rattle.bins.proofs.ChainParts.{links_widened}

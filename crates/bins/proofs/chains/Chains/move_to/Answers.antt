@@ -1,6 +1,4 @@
-use Rattle.std.proofs.Common.{◌≡◌, ◌<◌, ◌+◌, ◌-◌, ℕ, List, length, set, sym, ap, ◌∙◌, arith}
-use Rattle.std.proofs.lemmas.List.{length-set}
-use Rattle.bins.specs.declared.chains.Link.{Link}
+use Rattle.std.proofs.Common.{◌≡◌, ◌+◌, ◌-◌, ℕ, List, length, set, ap, ◌∙◌, arith}
 use Rattle.bins.specs.Chains.{Links, heads_relinked, nexts_relinked}
 use Rattle.bins.proofs.ChainEdits.{hidden, moved_out, moved_in, length-heads_relinked, length-nexts_relinked}
 use Rattle.bins.proofs.chains.Chains.move_to.Goals as goal

@@ -1,4 +1,4 @@
-use Rattle.std.proofs.Common.{rules, arith, ◌≡◌, ℕ, [], List, length, slice_index, ap, sym, ◌∙◌}
+use Rattle.std.proofs.Common.{rules, arith, ◌≡◌, ℕ, length, slice_index, ap, sym, ◌∙◌}
 use Rattle.bins.proofs.ChainLemmas.{links_none}
 use Rattle.bins.proofs.chains.Chains.open.Goals as goal
 

@@ -1,10 +1,10 @@
-use Rattle.std.proofs.Common.{◌≡◌, ◌≢◌, ◌<◌, ◌≤◌, ◌+◌, ◌-◌, ◌*◌, ℕ, List, length, slice_index, refl, sym, ap, subst, ◌∙◌, arith, inl, inr}
+use Rattle.std.proofs.Common.{◌≡◌, ◌≢◌, ◌<◌, ◌+◌, ◌-◌, ℕ, List, length, slice_index, refl, sym, ap, ◌∙◌, arith, inl, inr}
 use Rattle.std.proofs.lemmas.Bool.{cases_lt}
 use Rattle.std.proofs.lemmas.List.{get_or_read}
-use Rattle.bins.specs.Chains.{IsLast, Links, bin_of, bins_of}
+use Rattle.bins.specs.Chains.{IsLast, bin_of, bins_of}
 use Rattle.bins.proofs.ChainBins.{bin_same, bin_parted}
 use Rattle.bins.proofs.ChainLemmas.{last_in, last_at}
-use Rattle.bins.proofs.ChainParts.{between, to_come, all_parted, none_parted, one_moved, one_stays, next_there}
+use Rattle.bins.proofs.ChainParts.{between, to_come, none_parted, one_moved, one_stays, next_there}
 use Rattle.bins.proofs.chains.Chains.part.Goals as goal
 use Rattle.bins.proofs.chains.Chains.part.Goals.{After-bin_of}
 

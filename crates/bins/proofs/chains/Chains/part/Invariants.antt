@@ -1,5 +1,5 @@
-use Rattle.std.proofs.Common.{◌≡◌, ◌<◌, ◌≤◌, ◌+◌, ◌-◌, ℕ, length}
-use Rattle.bins.specs.Chains.{AreLinkedBy, Links, bins_of}
+use Rattle.std.proofs.Common.{◌≡◌, ◌<◌, ◌≤◌, ◌+◌, ◌-◌, length}
+use Rattle.bins.specs.Chains.{AreLinkedBy, bins_of}
 use Rattle.bins.proofs.ChainParts.{between}
 use Rattle.bins.proofs.chains.Chains.part.Given as goal
 

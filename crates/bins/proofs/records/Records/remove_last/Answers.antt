@@ -1,4 +1,4 @@
-use Rattle.std.proofs.Common.{ℕ, ◌≡◌, ◌-◌, List, length, take, map, ap, sym, ◌∙◌, arith}
+use Rattle.std.proofs.Common.{ℕ, ◌≡◌, ◌-◌, length, take, map, ap, sym, ◌∙◌, arith}
 use Rattle.std.proofs.lemmas.List.{take-map, length-map}
 use Rattle.bins.specs.declared.records.Record.{Record}
 use Rattle.bins.proofs.records.Records.remove_last.Goals as goal

@@ -1,4 +1,4 @@
-use Rattle.std.proofs.Common.{ap, sym, ◌∙◌}
+use Rattle.std.proofs.Common.{ap}
 use Rattle.std.proofs.lemmas.List.{map-set}
 use Rattle.bins.specs.declared.records.Record.{Record}
 use Rattle.bins.proofs.RecordLemmas.{map_kept}
