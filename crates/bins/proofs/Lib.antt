@@ -19,8 +19,10 @@ pub mod ChainLemmas
 pub mod ChainMoves
 pub mod PowersOfTwo
 pub mod ChainBins
+pub mod ChainParts
+pub mod RecordLemmas
+pub mod ToldLemmas
 pub mod ChainEdits
 pub mod TreeLemmas
 pub mod FinderLemmas
 pub mod FrontLemmas
-pub mod Examples

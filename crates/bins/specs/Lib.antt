@@ -7,6 +7,9 @@ pub mod Rows
 pub mod Replacements
 pub mod Passes
 pub mod Hashes
+pub mod Mixed
+pub mod Records
+pub mod Told
 pub mod Chains
 pub mod Trees
 pub mod Finders
