@@ -23,14 +23,16 @@ mod hashed_bins;
 mod hashes;
 mod index;
 mod list_bins;
+mod location;
 mod merged_entries;
 mod raw_rows;
 mod replacement;
 mod row;
-mod row_list;
 mod rows;
+mod segment;
 mod sorted_entries;
 mod tree;
+mod width_rows;
 
 pub use bins::Bins;
 pub use counts::Counts;
