@@ -5,6 +5,8 @@ pub mod PairedEntries
 pub mod AddedCopies
 pub mod OrderedEntries
 pub mod GapLemmas
+pub mod RowBytes
+pub mod SegmentLemmas
 pub mod RowLemmas
 pub mod RowWrites
 pub mod RowRemovals

@@ -1,7 +1,7 @@
 -- The rows of a table's entries: a key and its value side by side, where the location of their position says.
 use Rattle.std.specs.Prelude.{◌≡◌, ℕ, ◌+◌, ◌<◌, ◌≤◌, ◌%◌, ◌/◌, Bool, true, false, cond, nat_eq, List, [], length, map, take, drop, count_by, slice_index_or, ⊤}
 use Rattle.bpf_model.specs.declared.limits.TheConstants.{KEY_BYTES, VALUE_BYTES}
-use Rattle.byteorder.specs.Endian.{little_number}
+use Rattle.byteorder.specs.Endian.{little_bytes, little_number}
 use Rattle.bins.specs.declared.location.TheConstants.{MOST_ROWS, VACANT_CODE, WIDTH_CODES}
 use Rattle.bins.specs.declared.location.Width.{Width}
 use Rattle.bins.specs.declared.location.Location.{Location}
@@ -92,29 +92,33 @@ IsNear (In width i) = (width.step < VACANT_CODE) × (i < MOST_ROWS)
 abbrev pub kept : List ℕ → List ℕ → ℕ → KeptRow
 kept key value owner = record { key = key; value = value; owner = owner }
 
--- so many bytes have the length of a string, and the string follows
-abbrev pub string_in : ℕ → List ℕ → List ℕ
-string_in many bytes = take (little_number many bytes) (drop many bytes)
+-- the number in the first bytes, so many, the lowest first
+unfoldable pub number : ℕ → List ℕ → ℕ
+number many bytes = little_number many bytes
+
+-- a number in so many bytes
+unfoldable pub word_of : ℕ → ℕ → List ℕ
+word_of many value = little_bytes many value
 
 -- a row's bytes are its owner in eight, then its key and then its value
 abbrev pub owner_in : List ℕ → ℕ
-owner_in bytes = little_number 8 bytes
+owner_in bytes = number 8 bytes
 
 abbrev pub key_length : List ℕ → ℕ
-key_length bytes = little_number 2 (drop 8 bytes)
+key_length bytes = number 2 (drop 8 bytes)
 
 abbrev pub key_in : List ℕ → List ℕ
-key_in bytes = string_in 2 (drop 8 bytes)
+key_in bytes = take (key_length bytes) (drop 10 bytes)
 
 -- where the value begins
 abbrev pub value_place : List ℕ → ℕ
 value_place bytes = 10 + key_length bytes
 
 abbrev pub value_length : List ℕ → ℕ
-value_length bytes = little_number 4 (drop (value_place bytes) bytes)
+value_length bytes = number 4 (drop (value_place bytes) bytes)
 
 abbrev pub value_in : List ℕ → List ℕ
-value_in bytes = string_in 4 (drop (value_place bytes) bytes)
+value_in bytes = take (value_length bytes) (drop (value_place bytes + 4) bytes)
 
 -- the row that has these bytes
 abbrev pub row_in : List ℕ → KeptRow

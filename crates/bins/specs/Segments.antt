@@ -42,6 +42,10 @@ part bytes start many = take many (drop start bytes)
 abbrev pub KeepsOthers : ℕ → ℕ → List ℕ → List ℕ → Type 0
 KeepsOthers start stride old new = (at many : ℕ) → length (part old at many) ≡ many → (at + many ≤ start) ⊎ (start + stride ≤ at) → part new at many ≡ part old at many
 
+-- all bytes that there were are as they were
+abbrev pub KeepsAll : List ℕ → List ℕ → Type 0
+KeepsAll old new = (at many : ℕ) → length (part old at many) ≡ many → part new at many ≡ part old at many
+
 -- rows lie one after the other, and there is a row in the last segment
 pub record AreSegments (segments : List (List ℕ)) (shift most stride many : ℕ) : Type 0 where
   pub stride_is : stride ≡ HEAD_BYTES + most

@@ -1,7 +1,6 @@
 //! The bytes of one row: the position whose location names it, and a key and its value, each after its length.
 ghost use Rattle.std.specs.Prelude.{◌≡◌, ◌+◌, ◌<◌, ◌≤◌, ◌^◌, ◌++◌, length, drop};
-ghost use Rattle.bins.specs.KeptRows.{HasLength, HoldsRow, kept, key_in, owner_in, row_in, string_in, value_in, value_place};
-ghost use Rattle.byteorder.specs.Endian.{little_bytes};
+ghost use Rattle.bins.specs.KeptRows.{HoldsRow, kept, key_in, number, row_in, value_in, word_of};
 
 use bpf_model::limits::{KEY_BYTES, VALUE_BYTES};
 use byteorder::{ByteOrder, LittleEndian};
@@ -10,6 +9,68 @@ use byteorder::{ByteOrder, LittleEndian};
 /// value's.
 pub const HEAD_BYTES: usize = 14;
 
+/// The length of a key, in two bytes.
+#[inline(always)]
+#[tactic(auto, unfolding(crate::specs::KeptRows::number, crate::specs::KeptRows::word_of))]
+fn key_length(bytes: &[u8]) -> usize
+    requires { 2 ≤ length bytes.now }
+    ensures value { result ≡ number 2 bytes.now }
+{
+    LittleEndian::read_u16(bytes) as usize
+}
+
+/// Writes the length of a key.
+#[inline(always)]
+#[tactic(auto, unfolding(crate::specs::KeptRows::number, crate::specs::KeptRows::word_of))]
+fn put_key_length(bytes: &mut [u8], many: usize)
+    requires range { 2 ≤ length bytes.old }
+    requires small { many < 2 ^ 16 }
+    ensures after { bytes.new ≡ word_of 2 many ++ drop 2 bytes.old }
+{
+    LittleEndian::write_u16(bytes, many as u16);
+}
+
+/// The length of a value, in four bytes.
+#[inline(always)]
+#[tactic(auto, unfolding(crate::specs::KeptRows::number, crate::specs::KeptRows::word_of))]
+fn value_length(bytes: &[u8]) -> usize
+    requires { 4 ≤ length bytes.now }
+    ensures value { result ≡ number 4 bytes.now }
+{
+    LittleEndian::read_u32(bytes) as usize
+}
+
+/// Writes the length of a value.
+#[inline(always)]
+#[tactic(auto, unfolding(crate::specs::KeptRows::number, crate::specs::KeptRows::word_of))]
+fn put_value_length(bytes: &mut [u8], many: usize)
+    requires range { 4 ≤ length bytes.old }
+    requires small { many < 2 ^ 32 }
+    ensures after { bytes.new ≡ word_of 4 many ++ drop 4 bytes.old }
+{
+    LittleEndian::write_u32(bytes, many as u32);
+}
+
+/// The owner of a row, in eight bytes.
+#[inline(always)]
+#[tactic(auto, unfolding(crate::specs::KeptRows::number, crate::specs::KeptRows::word_of))]
+fn owner_at(bytes: &[u8]) -> usize
+    requires { 8 ≤ length bytes.now }
+    ensures value { result ≡ number 8 bytes.now }
+{
+    LittleEndian::read_u64(bytes) as usize
+}
+
+/// Writes the owner of a row.
+#[inline(always)]
+#[tactic(auto, unfolding(crate::specs::KeptRows::number, crate::specs::KeptRows::word_of))]
+fn put_owner(bytes: &mut [u8], owner: usize)
+    requires { 8 ≤ length bytes.old }
+    ensures after { bytes.new ≡ word_of 8 owner ++ drop 8 bytes.old }
+{
+    LittleEndian::write_u64(bytes, owner as u64);
+}
+
 /// The key of a row.
 #[inline(always)]
 pub(crate) fn key_of(row: &[u8]) -> &[u8]
@@ -17,7 +78,7 @@ pub(crate) fn key_of(row: &[u8]) -> &[u8]
     ensures value { result.now ≡ key_in row.now }
     ensures fits { length result.now ≤ KEY_BYTES }
 {
-    let len = LittleEndian::read_u16(&row[8..]) as usize;
+    let len = key_length(&row[8..]);
     &row[10..10 + len]
 }
 
@@ -28,8 +89,8 @@ pub(crate) fn value_of(row: &[u8]) -> &[u8]
     ensures value { result.now ≡ value_in row.now }
     ensures fits { length result.now ≤ VALUE_BYTES }
 {
-    let start = 10 + LittleEndian::read_u16(&row[8..]) as usize;
-    let len = LittleEndian::read_u32(&row[start..]) as usize;
+    let start = 10 + key_length(&row[8..]);
+    let len = value_length(&row[start..]);
     &row[start + 4..start + 4 + len]
 }
 
@@ -39,7 +100,7 @@ pub(crate) fn owner_of(row: &[u8]) -> usize
     requires { HoldsRow row.now }
     ensures value { result ≡ (row_in row.now).owner }
 {
-    LittleEndian::read_u64(row) as usize
+    owner_at(row)
 }
 
 /// Tells a row which position's location names it.
@@ -50,21 +111,30 @@ pub(crate) fn set_owner(row: &mut [u8], owner: usize)
     ensures holds { HoldsRow row.new }
     ensures same { length row.new ≡ length row.old }
 {
-    LittleEndian::write_u64(row, owner as u64);
+    put_owner(row, owner);
 }
 
-/// Writes a value at the start of these bytes, after its length; eight bytes, which a number has, as one word.
+/// Writes a string at the start of these bytes; one of eight bytes, which a number has, as one word.
+#[inline(always)]
+fn put_bytes(rest: &mut [u8], bytes: &[u8])
+    requires { length bytes.now ≤ length rest.old }
+    ensures after { rest.new ≡ bytes.now ++ drop (length bytes.now) rest.old }
+{
+    match <[u8; 8]>::try_from(bytes) {
+        Ok(number) => rest[..8].copy_from_slice(&number),
+        Err(_) => rest[..bytes.len()].copy_from_slice(bytes),
+    }
+}
+
+/// Writes a value at the start of these bytes, after its length.
 #[inline(always)]
 fn put_value(rest: &mut [u8], value: &[u8])
     requires range { 4 + length value.now ≤ length rest.old }
     requires fits { length value.now ≤ VALUE_BYTES }
-    ensures after { rest.new ≡ little_bytes 4 (length value.now) ++ (value.now ++ drop (4 + length value.now) rest.old) }
+    ensures after { rest.new ≡ word_of 4 (length value.now) ++ (value.now ++ drop (4 + length value.now) rest.old) }
 {
-    LittleEndian::write_u32(rest, value.len() as u32);
-    match <[u8; 8]>::try_from(value) {
-        Ok(number) => rest[4..12].copy_from_slice(&number),
-        Err(_) => rest[4..4 + value.len()].copy_from_slice(value),
-    }
+    put_value_length(rest, value.len());
+    put_bytes(&mut rest[4..], value);
 }
 
 /// Writes a key at the start of these bytes, after its length.
@@ -72,10 +142,22 @@ fn put_value(rest: &mut [u8], value: &[u8])
 fn put_key(rest: &mut [u8], key: &[u8])
     requires range { 2 + length key.now ≤ length rest.old }
     requires fits { length key.now ≤ KEY_BYTES }
-    ensures after { rest.new ≡ little_bytes 2 (length key.now) ++ (key.now ++ drop (2 + length key.now) rest.old) }
+    ensures after { rest.new ≡ word_of 2 (length key.now) ++ (key.now ++ drop (2 + length key.now) rest.old) }
 {
-    LittleEndian::write_u16(rest, key.len() as u16);
-    rest[2..2 + key.len()].copy_from_slice(key);
+    put_key_length(rest, key.len());
+    put_bytes(&mut rest[2..], key);
+}
+
+/// Writes a key and a value at the start of these bytes, each after its length.
+#[inline(always)]
+fn put_strings(rest: &mut [u8], key: &[u8], value: &[u8])
+    requires range { 6 + length key.now + length value.now ≤ length rest.old }
+    requires key { length key.now ≤ KEY_BYTES }
+    requires value { length value.now ≤ VALUE_BYTES }
+    ensures after { rest.new ≡ word_of 2 (length key.now) ++ (key.now ++ (word_of 4 (length value.now) ++ (value.now ++ drop (6 + length key.now + length value.now) rest.old))) }
+{
+    put_key(rest, key);
+    put_value(&mut rest[2 + key.len()..], value);
 }
 
 /// Writes a row.
@@ -88,9 +170,8 @@ pub(crate) fn write(row: &mut [u8], owner: usize, key: &[u8], value: &[u8])
     ensures holds { HoldsRow row.new }
     ensures same { length row.new ≡ length row.old }
 {
-    LittleEndian::write_u64(row, owner as u64);
-    put_key(&mut row[8..], key);
-    put_value(&mut row[10 + key.len()..], value);
+    put_owner(row, owner);
+    put_strings(&mut row[8..], key, value);
 }
 
 /// Sets the value of a row.
@@ -103,6 +184,6 @@ pub(crate) fn set_value(row: &mut [u8], value: &[u8])
     ensures holds { HoldsRow row.new }
     ensures same { length row.new ≡ length row.old }
 {
-    let start = 10 + LittleEndian::read_u16(&row[8..]) as usize;
+    let start = 10 + key_length(&row[8..]);
     put_value(&mut row[start..], value);
 }

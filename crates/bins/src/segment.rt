@@ -1,7 +1,7 @@
 //! A segment: memory of a fixed size for rows of any one width.
 ghost use Rattle.std.specs.Prelude.{◌≡◌, ◌+◌, ◌<◌, ◌≤◌, length, [], IfOk};
 ghost use Rattle.bins.specs.KeptRows.{HoldsRow, kept, row_in};
-ghost use Rattle.bins.specs.Segments.{HoldsSlot, KeepsOthers, part};
+ghost use Rattle.bins.specs.Segments.{HoldsSlot, KeepsAll, KeepsOthers, part};
 
 use crate::row::{HEAD_BYTES, set_owner, set_value, write};
 use bpf_model::NoMemory;
@@ -32,7 +32,6 @@ impl Model for Segment {
 impl Segment {
     /// An empty one. Returns `NoMemory` if the request for its memory is refused.
     pub(crate) fn new(alloc: Global) -> Result<Segment, NoMemory>
-        ensures ok { IfOk result (λ segment. segment ≡ []) }
     {
         let bytes = Vec::with_capacity(alloc, SEGMENT_BYTES)?;
         Ok(Segment { bytes })
@@ -53,7 +52,7 @@ impl Segment {
     fn reach(&mut self, end: usize)
         requires { end ≤ SEGMENT_BYTES }
         ensures enough { end ≤ length self.new }
-        ensures others { KeepsOthers (length self.new) 0 self.old self.new }
+        ensures all { KeepsAll self.old self.new }
     {
         if self.bytes.len() < end {
             let grown = self.bytes.resize(end, 0);
