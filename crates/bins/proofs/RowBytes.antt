@@ -165,8 +165,8 @@ module _ (old : List ℕ) (holds : HoldsRow old) where
         (λ n is. ap (take n) (beyond 10 (omega arith)) ∙ ap (λ (m : ℕ). take m (drop 10 old)) (is ∙ key_is_long))
         (λ n is. ap (number 4) (beyond n (omega (arith, is))) ∙ ap (λ (m : ℕ). number 4 (drop m old)) (is ∙ ap (λ (m : ℕ). 10 + m) key_is_long) ∙ sym value_is_long)
         (λ n m one two.
-            let at : n ≡ value_place old + 4 = omega (arith, one, key_is_long) in
-            ap (take m) (beyond n (omega (arith, one))) ∙ (λ i. take ((two ∙ value_is_long) i) (drop (at i) old)))
+        let at : n ≡ value_place old + 4 = omega (arith, one, key_is_long) in
+        ap (take m) (beyond n (omega (arith, one))) ∙ (λ i. take ((two ∙ value_is_long) i) (drop (at i) old)))
         key_inside (omega (arith, value_is_long, holds.value))
         (omega (arith, length-append (word_of 8 owner) (drop 8 old), length-word 8 owner, length-drop 8 old, holds.range, key_is_long, value_is_long))
 

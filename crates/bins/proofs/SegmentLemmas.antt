@@ -1,7 +1,9 @@
 -- What a write to a part of a segment leaves.
 use Rattle.std.proofs.Common.{◌≡◌, ℕ, zero, suc, ◌+◌, ◌-◌, ◌<◌, ◌≤◌, ◌⊎◌, List, [], ◌∷◌, ◌++◌, length, take, drop, min, refl, sym, ap, ◌∙◌, inl, inr, arith, length-append, length-drop}
-use Rattle.std.proofs.lemmas.List.{drop-append-le, drop-take, length-take, take-append-le, take_all}
-use Rattle.std.proofs.lemmas.Slice.{between-put_mid, drop-put_mid, take-put_mid_below}
+use Rattle.std.proofs.lemmas.List.{append-nil, drop-append-le, drop-take, drop_all, length-take, take-append-le, take-take, take_all}
+use Rattle.std.proofs.lemmas.Slice.{between-put_mid, drop-put_mid, put_mid-paste, take-put_mid_below}
+use Rattle.std.specs.List.{copy_within}
+use lib.Seq.{paste}
 use borrow.Rule.Slice.PartMut.{put_mid}
 use Rattle.bins.specs.Segments.{KeepsAll, KeepsOthers, part}
 
@@ -33,3 +35,62 @@ module _ (start stride k : ℕ) (xs ys : List ℕ) (range : start + stride ≤ l
 -- one write after the other
 pub both_kept : (start stride : ℕ) (old mid new : List ℕ) → KeepsAll old mid → KeepsOthers start stride mid new → KeepsOthers start stride old new
 both_kept start stride old mid new all others at many long apart = others at many (ap length (all at many long) ∙ long) apart ∙ all at many long
+
+-- a write through a vector's slice
+module _ (start stride k n : ℕ) (was items slice ys : List ℕ) (same : was ≡ items) (read : slice ≡ items) (long : n ≡ length items)
+    (range : start + stride ≤ length was) (wide : length ys ≡ stride) (size : k ≡ stride) where
+  abbrev now : List ℕ
+  now = put_mid start k slice ys
+
+  now_long : length now ≡ length items
+  now_long = omega (
+    arith,
+    length-append (take start slice) (ys ++ drop k (drop start slice)),
+    length-append ys (drop k (drop start slice)),
+    length-drop k (drop start slice),
+    length-drop start slice,
+    length-take start slice,
+    ap length read,
+    ap length same,
+    range,
+    wide,
+    size,
+  )
+
+  pub through : take n now ++ drop (length now) items ≡ now
+  through =
+      (λ i. take_all n now (omega (arith, now_long, long)) i ++ drop_all (length now) items (omega (arith, now_long)) i) ∙ append-nil now
+
+  pub kept_through : KeepsOthers start stride was (take n now ++ drop (length now) items)
+  kept_through at many whole apart =
+      ap (λ (xs : List ℕ). part xs at many) through
+      ∙ others_kept start stride k slice ys (omega (arith, range, ap length read, ap length same)) wide size at many (ap (λ (xs : List ℕ). length (part xs at many)) (read ∙ sym same) ∙ whole) apart
+      ∙ ap (λ (xs : List ℕ). part xs at many) (read ∙ sym same)
+
+-- the row that was written so
+module _ (start stride k n : ℕ) (was items slice ys : List ℕ) (same : was ≡ items) (read : slice ≡ items) (long : n ≡ length items)
+    (range : start + stride ≤ length was) (wide : length ys ≡ stride) (size : k ≡ stride) where
+  pub row_through : part (take n (put_mid start k slice ys) ++ drop (length (put_mid start k slice ys)) items) start stride ≡ ys
+  row_through =
+      ap (λ (xs : List ℕ). part xs start stride) (through start stride k n was items slice ys same read long range wide size)
+      ∙ part_written start stride k slice ys (omega (arith, range, ap length read, ap length same)) wide size
+
+-- a row copied over another in the same segment
+module _ (from start stride : ℕ) (was items new : List ℕ) (same : was ≡ items) (is : new ≡ copy_within items from (from + stride) start)
+    (range : start + stride ≤ length was) (there : from + stride ≤ length was) where
+  abbrev zs : List ℕ
+  zs = part items from stride
+
+  copied_is : new ≡ put_mid start stride items zs
+  copied_is =
+      let n : from + stride - from ≡ stride = omega arith in
+      let wide : stride ≡ length zs = sym (part_long items from stride (omega (arith, there, ap length same))) in
+      is ∙ (λ i. paste items start (drop from items) (n i))
+      ∙ ap (λ (t : List ℕ). take start items ++ t ++ drop (start + stride) items) (sym (take-take stride stride (drop from items) (omega arith)))
+      ∙ sym (put_mid-paste start stride items zs zs stride refl refl wide)
+
+  pub kept_copied : KeepsOthers start stride was new
+  kept_copied at many whole apart =
+      ap (λ (xs : List ℕ). part xs at many) copied_is
+      ∙ others_kept start stride stride items zs (omega (arith, range, ap length same)) (part_long items from stride (omega (arith, there, ap length same))) refl at many (ap (λ (xs : List ℕ). length (part xs at many)) (sym same) ∙ whole) apart
+      ∙ ap (λ (xs : List ℕ). part xs at many) (sym same)

@@ -1,5 +1,5 @@
 //! A segment: memory of a fixed size for rows of any one width.
-ghost use Rattle.std.specs.Prelude.{◌≡◌, ◌+◌, ◌<◌, ◌≤◌, length, [], IfOk};
+ghost use Rattle.std.specs.Prelude.{◌≡◌, ◌+◌, ◌<◌, ◌≤◌, ◌^◌, length};
 ghost use Rattle.bins.specs.KeptRows.{HoldsRow, kept, row_in};
 ghost use Rattle.bins.specs.Segments.{HoldsSlot, KeepsAll, KeepsOthers, part};
 
@@ -31,8 +31,7 @@ impl Model for Segment {
 
 impl Segment {
     /// An empty one. Returns `NoMemory` if the request for its memory is refused.
-    pub(crate) fn new(alloc: Global) -> Result<Segment, NoMemory>
-    {
+    pub(crate) fn new(alloc: Global) -> Result<Segment, NoMemory> {
         let bytes = Vec::with_capacity(alloc, SEGMENT_BYTES)?;
         Ok(Segment { bytes })
     }
@@ -113,12 +112,12 @@ impl Segment {
     /// Copies a row over another.
     #[inline(always)]
     pub(crate) fn copy_from(&mut self, start: usize, row: &[u8])
-        requires { start + length row.now ≤ length self.old }
+        requires range { start + length row.now ≤ length self.old }
         ensures row { part self.new start (length row.now) ≡ row.now }
         ensures others { KeepsOthers start (length row.now) self.old self.new }
     {
-        let end = start + row.len();
-        self.bytes[start..end].copy_from_slice(row);
+        let part = &mut self.bytes[start..];
+        part[..row.len()].copy_from_slice(row);
     }
 
     /// Copies a row of its own over another.
