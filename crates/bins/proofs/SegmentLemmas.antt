@@ -1,6 +1,6 @@
 -- What a write to a part of a segment leaves.
 use Rattle.std.proofs.Common.{◌≡◌, ℕ, zero, suc, ◌+◌, ◌-◌, ◌<◌, ◌≤◌, ◌⊎◌, List, [], ◌∷◌, ◌++◌, length, take, drop, min, refl, sym, ap, ◌∙◌, inl, inr, arith, length-append, length-drop}
-use Rattle.std.proofs.lemmas.List.{append-nil, drop-append-le, drop-take, drop_all, length-take, take-append-le, take-take, take_all}
+use Rattle.std.proofs.lemmas.List.{drop-append-le, drop-take, length-take, take-append-le, take-take, take_at}
 use Rattle.std.proofs.lemmas.Slice.{between-put_mid, drop-put_mid, put_mid-paste, take-put_mid_below}
 use Rattle.std.specs.List.{copy_within}
 use lib.Seq.{paste}
@@ -57,11 +57,10 @@ module _ (start stride k n : ℕ) (was items slice ys : List ℕ) (same : was �
     size,
   )
 
-  pub through : take n now ++ drop (length now) items ≡ now
-  through =
-      (λ i. take_all n now (omega (arith, now_long, long)) i ++ drop_all (length now) items (omega (arith, now_long)) i) ∙ append-nil now
+  pub through : take n (now ++ drop (length now) items) ≡ now
+  through = take_at now (drop (length now) items) n (omega (arith, now_long, long))
 
-  pub kept_through : KeepsOthers start stride was (take n now ++ drop (length now) items)
+  pub kept_through : KeepsOthers start stride was (take n (now ++ drop (length now) items))
   kept_through at many whole apart =
       ap (λ (xs : List ℕ). part xs at many) through
       ∙ others_kept start stride k slice ys (omega (arith, range, ap length read, ap length same)) wide size at many (ap (λ (xs : List ℕ). length (part xs at many)) (read ∙ sym same) ∙ whole) apart
@@ -70,7 +69,7 @@ module _ (start stride k n : ℕ) (was items slice ys : List ℕ) (same : was �
 -- the row that was written so
 module _ (start stride k n : ℕ) (was items slice ys : List ℕ) (same : was ≡ items) (read : slice ≡ items) (long : n ≡ length items)
     (range : start + stride ≤ length was) (wide : length ys ≡ stride) (size : k ≡ stride) where
-  pub row_through : part (take n (put_mid start k slice ys) ++ drop (length (put_mid start k slice ys)) items) start stride ≡ ys
+  pub row_through : part (take n (put_mid start k slice ys ++ drop (length (put_mid start k slice ys)) items)) start stride ≡ ys
   row_through =
       ap (λ (xs : List ℕ). part xs start stride) (through start stride k n was items slice ys same read long range wide size)
       ∙ part_written start stride k slice ys (omega (arith, range, ap length read, ap length same)) wide size

@@ -23,7 +23,7 @@ module _ (e w : ℕ) (some : 0 < e) where
       omega (arith, mul-le-mul_left w rest)
 
   less_apart : (a b : ℕ) → a < b → a * w + w ≤ b * w
-  less_apart a b less = let more : a + 1 ≤ b = less in omega (arith, mul-le-mul_left w more)
+  less_apart a b less = let more : a + 1 ≤ b = omega arith in omega (arith, mul-le-mul_left w more)
 
   pub apart_slots : (i j : ℕ) → i ≢ j → i / e ≡ j / e → (place e w i + w ≤ place e w j) ⊎ (place e w j + w ≤ place e w i)
   apart_slots i j other same =
@@ -110,14 +110,14 @@ module _ (was now : List (List ℕ)) (e w many : ℕ) where
       let inside : at < length old = omega (arith, long, is, before) in
       let ends : length old - 1 ≡ last = omega (arith, long, is) in
       ext_get_or nobody _ _ (omega (arith, rows_long now e w last, one_less old at nobody nobody inside, ends)) (λ i below.
-        let less : i < last = omega (arith, below, rows_long now e w last) in
-        rows_read now e w last i less ∙ elim (cases_eq i at) [
-          | inl same ↦
-              let at_less : at < last = omega (arith, less, same) in
-              ap (λ (n : ℕ). row_in (slot now e w n)) same ∙ ap row_in (here at_less) ∙ sym (rows_read was e w many last (omega (arith, is)))
-              ∙ ap (row_at old) (sym ends) ∙ sym (kept_moved old at nobody nobody inside (omega (arith, at_less, ends))) ∙ ap (λ (n : ℕ). get_or (swap_remove old at nobody) n nobody) (sym same)
-          | inr other ↦ ap row_in (others i less other) ∙ sym (rows_read was e w many i (omega (arith, less, is))) ∙ sym (kept_else old at nobody nobody inside i (omega (arith, less, ends)) other)
-        ])
+      let less : i < last = omega (arith, below, rows_long now e w last) in
+      rows_read now e w last i less ∙ elim (cases_eq i at) [
+        | inl same ↦
+            let at_less : at < last = omega (arith, less, same) in
+            ap (λ (n : ℕ). row_in (slot now e w n)) same ∙ ap row_in (here at_less) ∙ sym (rows_read was e w many last (omega (arith, is)))
+            ∙ ap (row_at old) (sym ends) ∙ sym (kept_moved old at nobody nobody inside (omega (arith, at_less, ends))) ∙ ap (λ (n : ℕ). get_or (swap_remove old at nobody) n nobody) (sym same)
+        | inr other ↦ ap row_in (others i less other) ∙ sym (rows_read was e w many i (omega (arith, less, is))) ∙ sym (kept_else old at nobody nobody inside i (omega (arith, less, ends)) other)
+      ])
 
   -- what slots hold
   pub hold_others : HoldRows was e w many → (at : ℕ) → HoldsSlot (slot now e w at) w → ((i : ℕ) → i < many → i ≢ at → slot now e w i ≡ slot was e w i) → HoldRows now e w many

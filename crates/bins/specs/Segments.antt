@@ -65,3 +65,15 @@ pub record IsSameBut (old new : KeptWidth) : Type 0 where
   pub most : new.most ≡ old.most
   pub segments : new.segments ≡ old.segments
   pub limit : new.limit ≡ old.limit
+
+-- there is a segment for one more row, and the rows are as before
+pub record IsOpened (old new : List (List ℕ)) (each many : ℕ) : Type 0 where
+  pub room : many < length new * each
+  pub needed : length new * each ≤ many + each
+  pub slots : (stride i : ℕ) → i < many → slot new each stride i ≡ slot old each stride i
+
+-- no segment is there for nothing, and the rows are as before
+pub record IsClosed (old new : List (List ℕ)) (each many : ℕ) : Type 0 where
+  pub enough : many ≤ length new * each
+  pub needed : length new * each < many + each
+  pub slots : (stride i : ℕ) → i < many → slot new each stride i ≡ slot old each stride i

@@ -383,6 +383,25 @@ impl RawRows {
         self.fill(position, key, value);
     }
 
+    /// Adds a copy of another list's row after the others.
+    #[inline(always)]
+    fn push_from(&mut self, other: &RawRows, position: usize)
+        requires rows { AreIn self.old }
+        requires other { AreIn other.now }
+        requires range { position < length other.now.locations.items }
+        requires room { IsRoomy self.old }
+        requires few { length self.old.locations.items < self.old.room }
+        ensures rows { AreIn self.new }
+        ensures keys { keys_in self.new ≡ keys_in self.old ++ string_at (keys_in other.now) position ∷ [] }
+        ensures values { values_in self.new ≡ values_in self.old ++ string_at (values_in other.now) position ∷ [] }
+        ensures many { length self.new.locations.items ≡ length self.old.locations.items + 1 }
+        ensures room { IsRoomy self.new }
+        ensures same { self.new.room ≡ self.old.room }
+    {
+        let (key, value) = other.entry(position);
+        self.push_reserved(key, value);
+    }
+
     /// Adds copies of all of another list's rows after the others.
     pub(crate) fn push_all(&mut self, other: &RawRows)
         requires rows { AreIn self.old }
@@ -397,8 +416,7 @@ impl RawRows {
         ensures same { self.new.room ≡ self.old.room }
     {
         for position in 0..other.len() {
-            let (key, value) = other.entry(position);
-            self.push_reserved(key, value);
+            self.push_from(other, position);
         }
     }
 

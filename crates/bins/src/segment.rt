@@ -116,8 +116,7 @@ impl Segment {
         ensures row { part self.new start (length row.now) ≡ row.now }
         ensures others { KeepsOthers start (length row.now) self.old self.new }
     {
-        let part = &mut self.bytes[start..];
-        part[..row.len()].copy_from_slice(row);
+        self.bytes[start..start + row.len()].copy_from_slice(row);
     }
 
     /// Copies a row of its own over another.

@@ -2,7 +2,7 @@
 ghost use Rattle.std.specs.Prelude.{◌≡◌, ◌≢◌, ℕ, ◌+◌, ◌-◌, ◌*◌, ◌/◌, ◌<◌, ◌≤◌, ◌^◌, ◌++◌, ◌∷◌, [], length, set, IsTrue, OnOk, vec_capacity};
 ghost use Rattle.std.specs.List.{swap_remove};
 ghost use Rattle.bins.specs.KeptRows.{kept, nobody, row_at};
-ghost use Rattle.bins.specs.Segments.{AreFew, HoldRows, HoldsSlot, IsSameBut, KeptWidth, slot};
+ghost use Rattle.bins.specs.Segments.{AreFew, HoldRows, HoldsSlot, IsClosed, IsOpened, IsSameBut, KeptWidth, slot};
 
 use crate::row::{HEAD_BYTES, key_of, owner_of, value_of};
 use crate::segment::{SEGMENT_BYTES, Segment};
@@ -61,6 +61,45 @@ fn copy_row(segments: &mut Vec<Segment>, last: usize, at: usize, shape: (u32, us
             segment.copy_from(start, end.row(from, stride));
         }
         segments.push_reserved(end);
+    }
+}
+
+/// Makes sure that there is a segment for one more row: a free one, if the others are full.
+#[inline(always)]
+fn open_slot(segments: &mut Vec<Segment>, free: &mut Vec<Segment>, many: usize, shift: u32)
+    requires bounded { shift < 64 }
+    requires spare { 0 < length free.old.items }
+    requires enough { many ≤ length segments.old.items * 2 ^ shift }
+    requires needed { length segments.old.items * 2 ^ shift < many + 2 ^ shift }
+    requires limit { many < vec_capacity segments.old * 2 ^ shift }
+    ensures opened { IsOpened segments.old.items segments.new.items (2 ^ shift) many }
+    ensures total { length segments.new.items + length free.new.items ≡ length segments.old.items + length free.old.items }
+    ensures room { vec_capacity segments.new ≡ vec_capacity segments.old }
+    ensures list { vec_capacity free.new ≡ vec_capacity free.old }
+{
+    if many >> shift == segments.len() {
+        if let Some(segment) = free.pop() {
+            segments.push_reserved(segment);
+        }
+    }
+}
+
+/// Makes the last segment a free one if no row is left in it.
+#[inline(always)]
+fn close_slot(segments: &mut Vec<Segment>, free: &mut Vec<Segment>, last: usize, shift: u32)
+    requires bounded { shift < 64 }
+    requires list { length segments.old.items + length free.old.items ≤ vec_capacity free.old }
+    requires enough { last < length segments.old.items * 2 ^ shift }
+    requires needed { length segments.old.items * 2 ^ shift ≤ last + 2 ^ shift }
+    ensures closed { IsClosed segments.old.items segments.new.items (2 ^ shift) last }
+    ensures total { length segments.new.items + length free.new.items ≡ length segments.old.items + length free.old.items }
+    ensures room { vec_capacity segments.new ≡ vec_capacity segments.old }
+    ensures list { vec_capacity free.new ≡ vec_capacity free.old }
+{
+    if last == (last >> shift) << shift {
+        if let Some(segment) = segments.pop() {
+            free.push_reserved(segment);
+        }
     }
 }
 
@@ -200,11 +239,7 @@ impl WidthRows {
         ensures segments { self.new.segments + length free.new.items ≡ self.old.segments + length free.old.items }
         ensures list { vec_capacity free.new ≡ vec_capacity free.old }
     {
-        if self.many >> self.shift == self.segments.len() {
-            if let Some(segment) = free.pop() {
-                self.segments.push_reserved(segment);
-            }
-        }
+        open_slot(&mut self.segments, free, self.many, self.shift);
         let (index, start) = place_of(self.many, self.shift, self.stride);
         let segment = &mut self.segments[index];
         segment.write(start, self.stride, owner, key, value);
@@ -227,11 +262,7 @@ impl WidthRows {
         let owner = owner_of(slot_of(&self.segments, last, self.shift, self.stride));
         copy_row(&mut self.segments, last, at, (self.shift, self.stride));
         self.many = last;
-        if last >> self.shift << self.shift == last {
-            if let Some(segment) = self.segments.pop() {
-                free.push_reserved(segment);
-            }
-        }
+        close_slot(&mut self.segments, free, last, self.shift);
         owner
     }
 

@@ -1,0 +1,155 @@
+-- The room that is left where the rows of one width change.
+use Rattle.std.proofs.Common.{◌≡◌, ◌≢◌, ℕ, ◌+◌, ◌-◌, ◌<◌, ◌≤◌, Bool, true, false, cond, nat_eq, List, [], length, min, set, refl, sym, ap, subst, ◌∙◌, inl, inr, arith, get_or-set_same, get_or-set_other}
+use Rattle.std.specs.Prelude.{vec_capacity}
+use Rattle.std.proofs.lemmas.Bool.{cases_Bool, cases_eq, cases_lt, eqb-true, eq-eqb}
+use Rattle.std.proofs.lemmas.List.{get_or_past, length-set}
+use Rattle.bins.specs.declared.raw_rows.RawRows.{RawRows}
+use Rattle.bins.specs.declared.raw_rows.TheConstants.{WIDTHS}
+use Rattle.bins.specs.declared.location.TheConstants.{VACANT_CODE}
+use Rattle.bins.specs.declared.location.Width.{Width}
+use Rattle.bins.specs.KeptRows.{KeptRow, Lists, is_same_width, with_rows}
+use Rattle.bins.specs.Segments.{AreFew, KeptWidth, no_width}
+use Rattle.bpf_model.specs.declared.limits.TheConstants.{KEY_BYTES, VALUE_BYTES}
+use Rattle.bins.specs.Rows.{AreWidths, HasRoom, IsRoomy, segments_for, used, width_at}
+use Rattle.bins.proofs.PoolLemmas.{total_changed}
+
+abbrev pub lists_of : List KeptWidth → Lists
+lists_of widths = λ width. (width_at widths width.step).rows
+
+-- a width that has rows is one of all
+pub width_inside : (widths : List KeptWidth) (step at : ℕ) → at < length (width_at widths step).rows → step < length widths
+width_inside widths step at below = elim (cases_lt step (length widths)) [
+  | inl inside ↦ inside
+  | inr beyond ↦
+      let none : length (width_at widths step).rows ≡ 0 = ap (λ (w : KeptWidth). length w.rows) (get_or_past widths step no_width beyond) in
+      absurd (omega (arith, below, none))
+]
+
+module _ (widths : List KeptWidth) (k : ℕ) (w : KeptWidth) (inside : k < length widths) where
+  abbrev now : List KeptWidth
+  now = set widths k w
+
+  pub width_here : width_at now k ≡ w
+  width_here = get_or-set_same widths k w no_width inside
+
+  pub width_else : (step : ℕ) → step ≢ k → width_at now step ≡ width_at widths step
+  width_else step other = get_or-set_other widths k step w no_width other
+
+  -- what is so of all is so of all
+  pub each_width : (P : KeptWidth → Type 0) → P w → (step : ℕ) → P (width_at widths step) → P (width_at now step)
+  each_width P new step old = elim (cases_eq step k) [
+    | inl is ↦ subst (λ (n : ℕ). P (width_at now n)) (sym is) (subst P (sym width_here) new)
+    | inr other ↦ subst P (sym (width_else step other)) old
+  ]
+
+  pub used_now : length widths ≡ WIDTHS → used now + (width_at widths k).segments ≡ used widths + w.segments
+  used_now all =
+      let changed = total_changed WIDTHS k (λ step. (width_at widths step).segments) (λ step. (width_at now step).segments) (omega (arith, inside, all))
+      (λ step other. ap (λ (v : KeptWidth). v.segments) (width_else step other)) in
+      let here : (width_at now k).segments ≡ w.segments = ap (λ (v : KeptWidth). v.segments) width_here in
+      omega (arith, changed, here)
+
+differ : (b : Bool) → b ≡ true → b ≡ false → ⊥
+differ b yes no = cc
+
+-- the rows of one width are others
+pub lists_set : (widths : List KeptWidth) (k : Width) (w : KeptWidth) (rows : List KeptRow) → k.step < length widths → w.rows ≡ rows → lists_of (set widths k.step w) ≡ with_rows (lists_of widths) k rows
+lists_set widths k w rows inside is =
+    let each : (j : Width) → lists_of (set widths k.step w) j ≡ with_rows (lists_of widths) k rows j = λ j. elim (cases_Bool (is_same_width k j)) [
+      | inl same ↦
+          let steps : k.step ≡ j.step = eqb-true k.step j.step same in
+          ap (λ (n : ℕ). (width_at (set widths k.step w) n).rows) (sym steps) ∙ ap (λ (v : KeptWidth). v.rows) (width_here widths k.step w inside) ∙ is
+          ∙ sym (ap (λ (b : Bool). cond b rows (lists_of widths j)) same)
+      | inr not ↦
+          let other : j.step ≢ k.step = λ e. differ (is_same_width k j) (eq-eqb k.step j.step (sym e)) not in
+          ap (λ (v : KeptWidth). v.rows) (width_else widths k.step w inside j.step other) ∙ sym (ap (λ (b : Bool). cond b rows (lists_of widths j)) not)
+    ] in
+    λ i j. each j i
+
+-- a position has room, so the lists are there
+pub opened : (raw : RawRows) → IsRoomy raw → (p : ℕ) → p < length raw.locations.items → AreWidths raw.widths.items
+opened raw r p inside = r.open (r.room.open (omega (arith, inside, r.inside)))
+
+-- a width that has rows is one of a few
+pub few_widths : (raw : RawRows) → IsRoomy raw → (step at : ℕ) → at < length (width_at raw.widths.items step).rows → step < VACANT_CODE
+few_widths raw r step at below =
+    let inside = width_inside raw.widths.items step at below in
+    let all = (r.open (omega (arith, inside))).all in
+    omega (arith, inside, all)
+
+-- the room of rows whose locations are others
+pub roomy_as : (old new : RawRows) → new.widths ≡ old.widths → new.free ≡ old.free → new.room ≡ old.room → vec_capacity new.locations ≡ vec_capacity old.locations
+    → length new.locations.items ≤ old.room → IsRoomy old → IsRoomy new
+roomy_as old new widths free room wide less r =
+    let items : new.widths.items ≡ old.widths.items = λ i. (widths i).items in
+    let frees : length new.free.items ≡ length old.free.items = λ i. length (free i).items in
+    let list : vec_capacity new.free ≡ vec_capacity old.free = λ i. vec_capacity (free i) in
+    let same_room : segments_for new.room ≡ segments_for old.room = ap segments_for room in
+    record {
+      inside = omega (arith, less, room);
+      room = record {
+        near = omega (arith, r.room.near, room);
+        locations = omega (arith, r.room.locations, room, wide);
+        open = λ some. subst (λ (ws : List KeptWidth). 0 < length ws) (sym items) (r.room.open (omega (arith, some, room)));
+        limits = subst (λ (ws : List KeptWidth). (step : ℕ) → step < length ws → new.room ≤ (width_at ws step).limit) (sym items) (λ step below. let enough = r.room.limits step below in omega (arith, enough, room));
+        segments = subst (λ (ws : List KeptWidth). segments_for new.room ≤ used ws + length new.free.items) (sym items) (omega (arith, same_room, frees, r.room.segments));
+      };
+      open = subst (λ (ws : List KeptWidth). 0 < length ws → AreWidths ws) (sym items) r.open;
+      few = subst (λ (ws : List KeptWidth). (step : ℕ) → AreFew (width_at ws step)) (sym items) r.few;
+      pool = subst (λ (ws : List KeptWidth). used ws + length new.free.items ≤ vec_capacity new.free) (sym items) (omega (arith, frees, list, r.pool));
+    }
+
+-- the rows of one width change, and segments go from the free ones to it or back
+module _ (old new : RawRows) (r : IsRoomy old) (k : ℕ) (w : KeptWidth) (inside : k < length old.widths.items) (widths : new.widths.items ≡ set old.widths.items k w)
+    (long : length new.locations.items ≡ length old.locations.items) (wide : vec_capacity new.locations ≡ vec_capacity old.locations) (room : new.room ≡ old.room) (most : w.most ≡ (width_at old.widths.items k).most) (limit : w.limit ≡ (width_at old.widths.items k).limit) (few : AreFew w)
+    (segments : w.segments + length new.free.items ≡ (width_at old.widths.items k).segments + length old.free.items) (list : vec_capacity new.free ≡ vec_capacity old.free) where
+  abbrev was : List KeptWidth
+  was = old.widths.items
+
+  abbrev will : List KeptWidth
+  will = set was k w
+
+  ready : AreWidths was
+  ready = r.open (omega (arith, inside))
+
+  same_use : used will + length new.free.items ≡ used was + length old.free.items
+  same_use = let u = used_now was k w inside ready.all in omega (arith, u, segments)
+
+  widest : KEY_BYTES + VALUE_BYTES ≤ (width_at will (WIDTHS - 1)).most
+  widest = elim (cases_eq (WIDTHS - 1) k) [
+    | inl is ↦
+        let here : (width_at will (WIDTHS - 1)).most ≡ w.most = ap (λ (n : ℕ). (width_at will n).most) is ∙ ap (λ (v : KeptWidth). v.most) (width_here was k w inside) in
+        let there : (width_at was k).most ≡ (width_at was (WIDTHS - 1)).most = ap (λ (n : ℕ). (width_at was n).most) (sym is) in
+        omega (arith, here, there, most, ready.widest)
+    | inr other ↦ let same : (width_at will (WIDTHS - 1)).most ≡ (width_at was (WIDTHS - 1)).most = ap (λ (v : KeptWidth). v.most) (width_else was k w inside (WIDTHS - 1) other) in omega (arith, same, ready.widest)
+  ]
+
+  limits : (step : ℕ) → step < length will → new.room ≤ (width_at will step).limit
+  limits step below = elim (cases_eq step k) [
+    | inl is ↦
+        let here : (width_at will step).limit ≡ w.limit = ap (λ (n : ℕ). (width_at will n).limit) is ∙ ap (λ (v : KeptWidth). v.limit) (width_here was k w inside) in
+        let enough = r.room.limits k inside in
+        omega (arith, here, limit, enough, room)
+    | inr other ↦
+        let same : (width_at will step).limit ≡ (width_at was step).limit = ap (λ (v : KeptWidth). v.limit) (width_else was k w inside step other) in
+        let enough = r.room.limits step (omega (arith, below, length-set was k w)) in
+        omega (arith, same, enough, room)
+  ]
+
+  same_room : segments_for new.room ≡ segments_for old.room
+  same_room = ap segments_for room
+
+  pub roomy_set : IsRoomy new
+  roomy_set = record {
+    inside = omega (arith, r.inside, room, long);
+    room = record {
+      near = omega (arith, r.room.near, room);
+      locations = omega (arith, r.room.locations, room, wide);
+      open = λ some. omega (arith, inside, ap length widths, length-set was k w);
+      limits = λ step below. subst (λ (ws : List KeptWidth). new.room ≤ (width_at ws step).limit) (sym widths) (limits step (omega (arith, below, ap length widths)));
+      segments = subst (λ (ws : List KeptWidth). segments_for new.room ≤ used ws + length new.free.items) (sym widths) (omega (arith, same_room, same_use, r.room.segments));
+    };
+    open = λ some. subst AreWidths (sym widths) (record { all = length-set was k w ∙ ready.all; widest = widest });
+    few = λ step. subst (λ (ws : List KeptWidth). AreFew (width_at ws step)) (sym widths) (each_width was k w inside AreFew few step (r.few step));
+    pool = subst (λ (ws : List KeptWidth). used ws + length new.free.items ≤ vec_capacity new.free) (sym widths) (omega (arith, same_use, list, r.pool));
+  }

@@ -1,0 +1,130 @@
+-- What a write to a row of one width leaves.
+use Rattle.std.proofs.Common.{◌≡◌, ◌≢◌, ℕ, zero, suc, ◌+◌, ◌-◌, ◌*◌, ◌/◌, ◌^◌, ◌<◌, ◌≤◌, List, [], ◌∷◌, ◌++◌, length, get_or, set, take, refl, sym, ap, subst, ◌∙◌, inl, inr, arith}
+use Rattle.std.proofs.lemmas.Bool.{cases_eq, cases_lt}
+use Rattle.std.proofs.lemmas.List.{get_or_read, length-set, length_push, length-take-le}
+use Rattle.std.proofs.Math.Nat.{mul-le-mul_left, pow-le-pow_right}
+use Rattle.bins.specs.KeptRows.{HoldsRow, KeptRow, row_in, row_at}
+use Rattle.bins.specs.Segments.{AreSegments, HoldRows, HoldsSlot, IsClosed, IsOpened, KeepsOthers, part, rows_from, slot}
+use Rattle.bins.proofs.SegmentLemmas.{inside_part}
+use Rattle.bins.proofs.SlotLemmas.{has_segment, hold_others, place, rows_long, rows_pushed, rows_read, rows_set, slot_before, slot_here, slot_left, slot_other, within}
+
+pub each_many : (shift : ℕ) → 8 ≤ shift → 256 ≤ 2 ^ shift
+each_many shift small = pow-le-pow_right {n = 2} (omega arith) {i = 8} {j = shift} small
+
+-- a few segments for the rows
+pub few_segments : (l e many : ℕ) → 256 ≤ e → l * e < many + e → l * 256 < many + 256
+few_segments zero e many wide needed = omega arith
+few_segments (suc l) e many wide needed = let more = mul-le-mul_left l wide in omega (arith, more, needed)
+
+-- the bytes of a row that there is
+module _ (segments : List (List ℕ)) (e w i index start : ℕ) (bytes : List ℕ) (holds : HoldsSlot (slot segments e w i) w)
+    (inside : index < length segments) (idx : index ≡ i / e) (st : start ≡ place e w i) (read : bytes ≡ get_or segments index bytes) where
+  pub same_bytes : bytes ≡ get_or segments (i / e) []
+  same_bytes = get_or_read segments index bytes inside read [] ∙ ap (λ (n : ℕ). get_or segments n []) idx
+
+  pub same_slot : part bytes start w ≡ slot segments e w i
+  same_slot = (λ j. part (same_bytes j) (st j) w)
+
+  pub bytes_inside : start + w ≤ length bytes
+  bytes_inside = inside_part bytes start w (has_segment segments e w i holds) (ap length same_slot ∙ holds.wide)
+
+  pub bytes_hold : HoldsRow (part bytes start w)
+  bytes_hold = subst HoldsRow (sym same_slot) holds.holds
+
+-- one row is written over
+pub record Written (segments : List (List ℕ)) (shift most w many at index : ℕ) (new : List ℕ) (r : KeptRow) : Type 0 where
+  pub all : AreSegments (set segments index new) shift most w many
+  pub rows : rows_from (set segments index new) (2 ^ shift) w many ≡ set (rows_from segments (2 ^ shift) w many) at r
+
+module _ (segments : List (List ℕ)) (shift most w many : ℕ) (inv : AreSegments segments shift most w many) where
+  abbrev e : ℕ
+  e = 2 ^ shift
+
+  some : 0 < e
+  some = let m = each_many shift inv.small in omega (arith, m)
+
+  pub row_inside : (at : ℕ) → at < many → at / e < length segments
+  row_inside at below = within e w some at many (length segments) below inv.enough
+
+  pub few_inside : length segments * 256 < many + 256
+  few_inside = few_segments (length segments) e many (each_many shift inv.small) inv.needed
+
+  module _ (at : ℕ) (new : List ℕ) (r : KeptRow) (below : at < many)
+      (holds : HoldsSlot (part new (place e w at) w) w) (row : row_in (part new (place e w at) w) ≡ r)
+      (others : KeepsOthers (place e w at) w (get_or segments (at / e) []) new) where
+    abbrev now : List (List ℕ)
+    now = set segments (at / e) new
+
+    here : slot now e w at ≡ part new (place e w at) w
+    here = slot_here e w some segments at new (row_inside at below)
+
+    elsewhere : (i : ℕ) → i < many → i ≢ at → slot now e w i ≡ slot segments e w i
+    elsewhere i less other = slot_other e w some segments at new (row_inside at below) others i other (inv.rows i less).wide
+
+    pub written_at : Written segments shift most w many at (at / e) new r
+    written_at = record {
+      all = record {
+        stride_is = inv.stride_is;
+        small = inv.small;
+        bounded = inv.bounded;
+        shape = inv.shape;
+        enough = omega (arith, inv.enough, ap (λ (n : ℕ). n * e) (length-set segments (at / e) new));
+        needed = omega (arith, inv.needed, ap (λ (n : ℕ). n * e) (length-set segments (at / e) new));
+        rows = hold_others segments now e w many inv.rows at (subst (λ (b : List ℕ). HoldsSlot b w) (sym here) holds) elsewhere;
+      };
+      rows = rows_set segments now e w many at r below (ap row_in here ∙ row) elsewhere;
+    }
+
+    pub written_to : (index : ℕ) → index ≡ at / e → Written segments shift most w many at index new r
+    written_to index idx = subst (λ (n : ℕ). Written segments shift most w many at n new r) (sym idx) written_at
+
+-- a row is added
+pub record Added (old segments : List (List ℕ)) (shift most w many index : ℕ) (new : List ℕ) (r : KeptRow) : Type 0 where
+  pub all : AreSegments (set segments index new) shift most w (many + 1)
+  pub rows : rows_from (set segments index new) (2 ^ shift) w (many + 1) ≡ rows_from old (2 ^ shift) w many ++ r ∷ []
+
+module _ (old segments : List (List ℕ)) (shift most w many : ℕ) (inv : AreSegments old shift most w many) (opened : IsOpened old segments (2 ^ shift) many) where
+  abbrev each : ℕ
+  each = 2 ^ shift
+
+  any : 0 < each
+  any = let m = each_many shift inv.small in omega (arith, m)
+
+  pub next_inside : many / each < length segments
+  next_inside = within each w any many (many + 1) (length segments) (omega arith) (omega (arith, opened.room))
+
+  module _ (new : List ℕ) (r : KeptRow)
+      (holds : HoldsSlot (part new (place each w many) w) w) (row : row_in (part new (place each w many) w) ≡ r)
+      (others : KeepsOthers (place each w many) w (get_or segments (many / each) []) new) where
+    abbrev after : List (List ℕ)
+    after = set segments (many / each) new
+
+    last_slot : slot after each w many ≡ part new (place each w many) w
+    last_slot = slot_here each w any segments many new next_inside
+
+    before : (i : ℕ) → i < many → slot after each w i ≡ slot old each w i
+    before i less =
+        slot_other each w any segments many new next_inside others i (λ is. absurd (omega (arith, less, is))) (ap length (opened.slots w i less) ∙ (inv.rows i less).wide)
+        ∙ opened.slots w i less
+
+    pub added_at : Added old segments shift most w many (many / each) new r
+    added_at = record {
+      all = record {
+        stride_is = inv.stride_is;
+        small = inv.small;
+        bounded = inv.bounded;
+        shape = inv.shape;
+        enough = omega (arith, opened.room, ap (λ (n : ℕ). n * each) (length-set segments (many / each) new));
+        needed = omega (arith, opened.needed, ap (λ (n : ℕ). n * each) (length-set segments (many / each) new));
+        rows = λ i less. elim (cases_lt i many) [
+          | inl below ↦ subst (λ (b : List ℕ). HoldsSlot b w) (sym (before i below)) (inv.rows i below)
+          | inr above ↦
+              let is : i ≡ many = omega (arith, less, above) in
+              subst (λ (n : ℕ). HoldsSlot (slot after each w n) w) (sym is) (subst (λ (b : List ℕ). HoldsSlot b w) (sym last_slot) holds)
+        ];
+      };
+      rows = rows_pushed old after each w many r (ap row_in last_slot ∙ row) before;
+    }
+
+    pub added_to : (index : ℕ) → index ≡ many / each → Added old segments shift most w many index new r
+    added_to index idx = subst (λ (n : ℕ). Added old segments shift most w many n new r) (sym idx) added_at

@@ -1,0 +1,19 @@
+use Rattle.std.proofs.Common.{◌<◌, [], List, ℕ, length, arith, ap, ◌∙◌}
+use Rattle.std.specs.List.{swap_remove}
+use Rattle.bins.specs.Rows.{keys_in, lists_in, values_in}
+use Rattle.bins.proofs.RowRemovals.{emptied_first}
+use Rattle.bins.proofs.RowSteps.{keys_length, values_length}
+use Rattle.bins.proofs.raw_rows.RawRows.swap_remove.Goals as goal
+
+-- what the vacated position held does not matter
+pub returns-clause-keys : goal.returns-clause-keys
+returns-clause-keys c =
+    let raw = c.args.self.now in
+    let range : c.args.position < length (keys_in raw) = omega (arith, c.requires.range, keys_length raw.locations.items (lists_in raw)) in
+    c.take_vacant.ensures.keys ∙ ap (λ (xs : List (List ℕ)). swap_remove xs c.args.position []) c.vacate.ensures.keys ∙ emptied_first (keys_in raw) c.args.position [] range
+
+pub returns-clause-values : goal.returns-clause-values
+returns-clause-values c =
+    let raw = c.args.self.now in
+    let range : c.args.position < length (values_in raw) = omega (arith, c.requires.range, values_length raw.locations.items (lists_in raw)) in
+    c.take_vacant.ensures.values ∙ ap (λ (xs : List (List ℕ)). swap_remove xs c.args.position []) c.vacate.ensures.values ∙ emptied_first (values_in raw) c.args.position [] range
