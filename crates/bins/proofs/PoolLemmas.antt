@@ -67,6 +67,14 @@ total_changed (suc n) k f g inside same = elim (cases_eq n k) [
       omega (arith, rest, here)
 ]
 
+pub total_part : (n k : ℕ) (f : ℕ → ℕ) → k < n → f k ≤ total n f
+unfolding total
+total_part zero k f inside = absurd (omega (arith, inside))
+total_part (suc n) k f inside = elim (cases_eq n k) [
+  | inl is ↦ let here : f n ≡ f k = ap f is in omega (arith, here)
+  | inr other ↦ let rest = total_part n k f (omega (arith, inside, other)) in omega (arith, rest)
+]
+
 -- a location names a row of one width at most
 abbrev is_filled : Location → Bool
 is_filled Vacant = false

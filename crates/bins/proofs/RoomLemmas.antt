@@ -1,8 +1,8 @@
 -- The room that is left where the rows of one width change.
-use Rattle.std.proofs.Common.{◌≡◌, ◌≢◌, ℕ, ◌+◌, ◌-◌, ◌<◌, ◌≤◌, Bool, true, false, cond, nat_eq, List, [], length, min, set, refl, sym, ap, subst, ◌∙◌, inl, inr, arith, get_or-set_same, get_or-set_other}
+use Rattle.std.proofs.Common.{◌≡◌, ◌≢◌, ℕ, ◌+◌, ◌-◌, ◌<◌, ◌≤◌, Bool, true, false, cond, nat_eq, List, [], length, get_or, min, set, refl, sym, ap, subst, ◌∙◌, inl, inr, arith, get_or-set_same, get_or-set_other}
 use Rattle.std.specs.Prelude.{vec_capacity}
 use Rattle.std.proofs.lemmas.Bool.{cases_Bool, cases_eq, cases_lt, eqb-true, eq-eqb}
-use Rattle.std.proofs.lemmas.List.{get_or_past, length-set}
+use Rattle.std.proofs.lemmas.List.{get_or_past, get_or_read, length-set}
 use Rattle.bins.specs.declared.raw_rows.RawRows.{RawRows}
 use Rattle.bins.specs.declared.raw_rows.TheConstants.{WIDTHS}
 use Rattle.bins.specs.declared.location.TheConstants.{VACANT_CODE}
@@ -11,7 +11,7 @@ use Rattle.bins.specs.KeptRows.{KeptRow, Lists, is_same_width, with_rows}
 use Rattle.bins.specs.Segments.{AreFew, KeptWidth, no_width}
 use Rattle.bpf_model.specs.declared.limits.TheConstants.{KEY_BYTES, VALUE_BYTES}
 use Rattle.bins.specs.Rows.{AreWidths, HasRoom, IsRoomy, segments_for, used, width_at}
-use Rattle.bins.proofs.PoolLemmas.{total_changed}
+use Rattle.bins.proofs.PoolLemmas.{total_changed, total_part}
 
 abbrev pub lists_of : List KeptWidth → Lists
 lists_of widths = λ width. (width_at widths width.step).rows
@@ -24,6 +24,13 @@ width_inside widths step at below = elim (cases_lt step (length widths)) [
       let none : length (width_at widths step).rows ≡ 0 = ap (λ (w : KeptWidth). length w.rows) (get_or_past widths step no_width beyond) in
       absurd (omega (arith, below, none))
 ]
+
+pub read_width : (widths : List KeptWidth) (step : ℕ) (w : KeptWidth) → step < length widths → w ≡ get_or widths step w → w ≡ width_at widths step
+read_width widths step w inside value = get_or_read widths step w inside value no_width
+
+-- the segments of one width are some of all
+pub used_part : (widths : List KeptWidth) (step : ℕ) → step < length widths → length widths ≡ WIDTHS → (width_at widths step).segments ≤ used widths
+used_part widths step inside all = total_part WIDTHS step (λ n. (width_at widths n).segments) (omega (arith, inside, all))
 
 module _ (widths : List KeptWidth) (k : ℕ) (w : KeptWidth) (inside : k < length widths) where
   abbrev now : List KeptWidth

@@ -128,3 +128,67 @@ module _ (old segments : List (List ℕ)) (shift most w many : ℕ) (inv : AreSe
 
     pub added_to : (index : ℕ) → index ≡ many / each → Added old segments shift most w many index new r
     added_to index idx = subst (λ (n : ℕ). Added old segments shift most w many n new r) (sym idx) added_at
+
+-- segments are opened and closed
+module _ (old : List (List ℕ)) (each : ℕ) (positive : 0 < each) where
+  abbrev l : ℕ
+  l = length old
+
+  pub less_segments : (many cap : ℕ) → l * each ≤ many → many < cap * each → l < cap
+  less_segments many cap full limit = elim (cases_lt l cap) [
+    | inl below ↦ below
+    | inr above ↦ absurd (omega (arith, mul-le-mul_left each above, full, limit))
+  ]
+
+  pub opened_more : (b : List ℕ) (many : ℕ) → many ≤ l * each → l * each < many + each → many / each ≡ l → IsOpened old (old ++ b ∷ []) each many
+  opened_more b many enough needed full =
+      let long : length (old ++ b ∷ []) * each ≡ l * each + each = let push = length_push old b in ap (λ (n : ℕ). n * each) push ∙ omega arith in
+      let all : l * each ≤ many = let is = ap (λ (n : ℕ). n * each) full in omega (arith, is) in
+      record {
+        room = omega (arith, long, enough, positive);
+        needed = omega (arith, long, all);
+        slots = λ stride i less. slot_before each stride positive old (b ∷ []) i (within each stride positive i many l less enough);
+      }
+
+  pub opened_same : (many : ℕ) → many ≤ l * each → l * each < many + each → many / each ≢ l → IsOpened old old each many
+  opened_same many enough needed other = record {
+    room = elim (cases_lt (many / each) l) [
+      | inl below ↦ let step : many / each + 1 ≤ l = omega (arith, below) in omega (arith, mul-le-mul_left each step)
+      | inr above ↦
+          let more : l + 1 ≤ many / each = omega (arith, above, other) in
+          absurd (omega (arith, mul-le-mul_left each more, enough, positive))
+    ];
+    needed = omega (arith, needed);
+    slots = λ stride i less. refl;
+  }
+
+  -- how many there are where a row was taken from the last
+  pub last_segment : (last : ℕ) → last < l * each → l * each ≤ last + each → l ≡ last / each + 1
+  last_segment last enough needed = elim (cases_lt (last / each) l) [
+    | inl below ↦ elim (cases_lt (last / each + 1) l) [
+      | inl more ↦ let step : last / each + 2 ≤ l = omega (arith, more) in absurd (omega (arith, mul-le-mul_left each step, needed))
+      | inr less ↦ omega (arith, below, less)
+    ]
+    | inr above ↦ absurd (omega (arith, mul-le-mul_left each above, enough))
+  ]
+
+  pub closed_less : (last : ℕ) → last < l * each → l * each ≤ last + each → last ≡ last / each * each → IsClosed old (take (l - 1) old) each last
+  closed_less last enough needed edge =
+      let one = last_segment last enough needed in
+      let long : length (take (l - 1) old) ≡ last / each = length-take-le (l - 1) old (omega arith) ∙ omega (arith, one) in
+      let size : length (take (l - 1) old) * each ≡ last = ap (λ (n : ℕ). n * each) long ∙ sym edge in
+      record {
+        enough = omega (arith, size);
+        needed = omega (arith, size, positive);
+        slots = λ stride i less. slot_left each stride positive old (l - 1) i (within each stride positive i last (l - 1) less (omega (arith, ap (λ (n : ℕ). n * each) (length-take-le (l - 1) old (omega arith)), size)));
+      }
+
+  pub closed_same : (last : ℕ) → last < l * each → l * each ≤ last + each → last ≢ last / each * each → IsClosed old old each last
+  closed_same last enough needed other =
+      let one = last_segment last enough needed in
+      let size : l * each ≡ last / each * each + each = ap (λ (n : ℕ). n * each) one ∙ omega arith in
+      record {
+        enough = omega (arith, enough);
+        needed = omega (arith, size, other, positive);
+        slots = λ stride i less. refl;
+      }
