@@ -192,3 +192,30 @@ module _ (old : List (List ℕ)) (each : ℕ) (positive : 0 < each) where
         needed = omega (arith, size, other, positive);
         slots = λ stride i less. refl;
       }
+
+-- what is left where the last row took a place
+pub closed_all : (segments copied left : List (List ℕ)) (shift most w many last at : ℕ) → AreSegments segments shift most w many → last < many
+    → slot copied (2 ^ shift) w at ≡ slot segments (2 ^ shift) w last → ((i : ℕ) → i < last → i ≢ at → slot copied (2 ^ shift) w i ≡ slot segments (2 ^ shift) w i)
+    → IsClosed copied left (2 ^ shift) last → AreSegments left shift most w last
+closed_all segments copied left shift most w many last at inv less moved others closed = record {
+  stride_is = inv.stride_is;
+  small = inv.small;
+  bounded = inv.bounded;
+  shape = inv.shape;
+  enough = closed.enough;
+  needed = closed.needed;
+  rows = λ i below. subst (λ (b : List ℕ). HoldsSlot b w) (sym (closed.slots w i below)) (elim (cases_eq i at) [
+    | inl is ↦ subst (λ (b : List ℕ). HoldsSlot b w) (sym (ap (slot copied (2 ^ shift) w) is ∙ moved)) (inv.rows last less)
+    | inr other ↦ subst (λ (b : List ℕ). HoldsSlot b w) (sym (others i below other)) (inv.rows i (omega (arith, below, less)))
+  ]);
+}
+
+-- a row is copied to the place of another
+module _ (segments : List (List ℕ)) (each w last at : ℕ) (positive : 0 < each) (new : List ℕ) (inside : at / each < length segments)
+    (here : part new (place each w at) w ≡ slot segments each w last) (others : KeepsOthers (place each w at) w (get_or segments (at / each) []) new)
+    (hold : HoldRows segments each w (last + 1)) where
+  pub copied_here : slot (set segments (at / each) new) each w at ≡ slot segments each w last
+  copied_here = slot_here each w positive segments at new inside ∙ here
+
+  pub copied_others : (i : ℕ) → i < last → i ≢ at → slot (set segments (at / each) new) each w i ≡ slot segments each w i
+  copied_others i less other = slot_other each w positive segments at new inside others i other (hold i (omega (arith, less))).wide

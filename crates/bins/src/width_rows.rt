@@ -228,6 +228,7 @@ impl WidthRows {
     #[inline(always)]
     pub(crate) fn push(&mut self, free: &mut Vec<Segment>, owner: usize, key: &[u8], value: &[u8])
         requires spare { 0 < length free.old.items }
+        requires near { length self.old.rows < 2 ^ 56 }
         requires limit { length self.old.rows < self.old.limit }
         requires fit { length key.now + length value.now ≤ self.old.most }
         requires key { length key.now ≤ KEY_BYTES }

@@ -20,6 +20,14 @@ push-requires-clause-limit c =
     let is = read_width raw.widths.items step c.index_mut-rows.result.now inside c.index_mut-rows.ensures.value in
     let enough = c.requires.room.room.limits step inside in omega (arith, c.requires.few, enough, ap (λ (w : KeptWidth). length w.rows) is, ap (λ (w : KeptWidth). w.limit) is)
 
+pub push-requires-clause-near : goal.push-requires-clause-near
+push-requires-clause-near c =
+    let raw = c.args.self.now in
+    let step = c.args.width.step in
+    let inside : step < length raw.widths.items = c.requires.range in
+    let is = read_width raw.widths.items step c.index_mut-rows.result.now inside c.index_mut-rows.ensures.value in
+    omega (arith, c.requires.few, c.requires.room.room.near, ap (λ (w : KeptWidth). length w.rows) is)
+
 pub push-requires-clause-fit : goal.push-requires-clause-fit
 push-requires-clause-fit c =
     let raw = c.args.self.now in

@@ -1,4 +1,4 @@
-use Rattle.std.proofs.Common.{◌≡◌, ◌+◌, ◌<◌, ◌≤◌, ◌^◌, List, ℕ, length, set, refl, sym, ap, subst, ◌∙◌, arith}
+use Rattle.std.proofs.Common.{◌≡◌, ◌+◌, ◌<◌, ◌≤◌, ◌^◌, ◌/◌, [], List, ℕ, length, get_or, set, refl, sym, ap, subst, ◌∙◌, arith}
 use Rattle.bins.specs.KeptRows.{KeptRow, kept, key_in, row_at, row_in}
 use Rattle.bins.specs.Segments.{HoldsSlot, KeepsOthers, KeptWidth, part, rows_from, slot}
 use Rattle.bins.proofs.SlotLemmas.{place, rows_long, rows_read}
@@ -45,7 +45,7 @@ invariant_of-self c =
     let holds : HoldsSlot (part new (place (2 ^ w.shift) w.stride at) w.stride) w.stride = subst (λ (n : ℕ). HoldsSlot (part new n w.stride) w.stride) c.place_of-index.ensures.start c.set_owner.ensures.holds in
     let row : row_in (part new (place (2 ^ w.shift) w.stride at) w.stride) ≡ kept (row_in (slot w.segments.items (2 ^ w.shift) w.stride c.args.at)).key (row_in (slot w.segments.items (2 ^ w.shift) w.stride c.args.at)).value c.args.owner =
     subst (λ (n : ℕ). row_in (part new n w.stride) ≡ kept (row_in (slot w.segments.items (2 ^ w.shift) w.stride c.args.at)).key (row_in (slot w.segments.items (2 ^ w.shift) w.stride c.args.at)).value c.args.owner) c.place_of-index.ensures.start (c.set_owner.ensures.row ∙ ap (λ (b : List ℕ). kept (row_in b).key (row_in b).value c.args.owner) slots) in
-    let others : KeepsOthers (place (2 ^ w.shift) w.stride at) w.stride _ new = subst (λ (n : ℕ). KeepsOthers n w.stride _ new) c.place_of-index.ensures.start (subst (λ (b : List ℕ). KeepsOthers start w.stride b new) bytes c.set_owner.ensures.others) in
+    let others : KeepsOthers (place (2 ^ w.shift) w.stride at) w.stride (get_or segments (at / 2 ^ w.shift) []) new = subst (λ (n : ℕ). KeepsOthers n w.stride (get_or segments (at / 2 ^ w.shift) []) new) c.place_of-index.ensures.start (subst (λ (b : List ℕ). KeepsOthers start w.stride b new) bytes c.set_owner.ensures.others) in
     let written = written_to segments w.shift w.most w.stride w.many c.self.invariant at new _ below holds row others index c.place_of-index.ensures.index in
     written.all
 
@@ -66,7 +66,7 @@ returns-clause-rows c =
     let holds : HoldsSlot (part new (place (2 ^ w.shift) w.stride at) w.stride) w.stride = subst (λ (n : ℕ). HoldsSlot (part new n w.stride) w.stride) c.place_of-index.ensures.start c.set_owner.ensures.holds in
     let row : row_in (part new (place (2 ^ w.shift) w.stride at) w.stride) ≡ kept (row_in (slot w.segments.items (2 ^ w.shift) w.stride c.args.at)).key (row_in (slot w.segments.items (2 ^ w.shift) w.stride c.args.at)).value c.args.owner =
     subst (λ (n : ℕ). row_in (part new n w.stride) ≡ kept (row_in (slot w.segments.items (2 ^ w.shift) w.stride c.args.at)).key (row_in (slot w.segments.items (2 ^ w.shift) w.stride c.args.at)).value c.args.owner) c.place_of-index.ensures.start (c.set_owner.ensures.row ∙ ap (λ (b : List ℕ). kept (row_in b).key (row_in b).value c.args.owner) slots) in
-    let others : KeepsOthers (place (2 ^ w.shift) w.stride at) w.stride _ new = subst (λ (n : ℕ). KeepsOthers n w.stride _ new) c.place_of-index.ensures.start (subst (λ (b : List ℕ). KeepsOthers start w.stride b new) bytes c.set_owner.ensures.others) in
+    let others : KeepsOthers (place (2 ^ w.shift) w.stride at) w.stride (get_or segments (at / 2 ^ w.shift) []) new = subst (λ (n : ℕ). KeepsOthers n w.stride (get_or segments (at / 2 ^ w.shift) []) new) c.place_of-index.ensures.start (subst (λ (b : List ℕ). KeepsOthers start w.stride b new) bytes c.set_owner.ensures.others) in
     let written = written_to segments w.shift w.most w.stride w.many c.self.invariant at new _ below holds row others index c.place_of-index.ensures.index in
     written.rows ∙ ap (λ (r : KeptRow). set (rows_from segments (2 ^ w.shift) w.stride w.many) at r) (ap (λ (r : KeptRow). kept r.key r.value c.args.owner) (sym (rows_read segments (2 ^ w.shift) w.stride w.many at below)))
     ∙ ap (λ (v : KeptWidth). set v.rows at ((λ (r : KeptRow). kept r.key r.value c.args.owner) (row_at v.rows at))) c.self.view_is
@@ -88,6 +88,6 @@ returns-clause-few c =
     let holds : HoldsSlot (part new (place (2 ^ w.shift) w.stride at) w.stride) w.stride = subst (λ (n : ℕ). HoldsSlot (part new n w.stride) w.stride) c.place_of-index.ensures.start c.set_owner.ensures.holds in
     let row : row_in (part new (place (2 ^ w.shift) w.stride at) w.stride) ≡ kept (row_in (slot w.segments.items (2 ^ w.shift) w.stride c.args.at)).key (row_in (slot w.segments.items (2 ^ w.shift) w.stride c.args.at)).value c.args.owner =
     subst (λ (n : ℕ). row_in (part new n w.stride) ≡ kept (row_in (slot w.segments.items (2 ^ w.shift) w.stride c.args.at)).key (row_in (slot w.segments.items (2 ^ w.shift) w.stride c.args.at)).value c.args.owner) c.place_of-index.ensures.start (c.set_owner.ensures.row ∙ ap (λ (b : List ℕ). kept (row_in b).key (row_in b).value c.args.owner) slots) in
-    let others : KeepsOthers (place (2 ^ w.shift) w.stride at) w.stride _ new = subst (λ (n : ℕ). KeepsOthers n w.stride _ new) c.place_of-index.ensures.start (subst (λ (b : List ℕ). KeepsOthers start w.stride b new) bytes c.set_owner.ensures.others) in
+    let others : KeepsOthers (place (2 ^ w.shift) w.stride at) w.stride (get_or segments (at / 2 ^ w.shift) []) new = subst (λ (n : ℕ). KeepsOthers n w.stride (get_or segments (at / 2 ^ w.shift) []) new) c.place_of-index.ensures.start (subst (λ (b : List ℕ). KeepsOthers start w.stride b new) bytes c.set_owner.ensures.others) in
     let written = written_to segments w.shift w.most w.stride w.many c.self.invariant at new _ below holds row others index c.place_of-index.ensures.index in
     record { each = omega (arith, few_inside _ w.shift w.most w.stride w.many written.all, rows_long (set segments index new) (2 ^ w.shift) w.stride w.many) }
