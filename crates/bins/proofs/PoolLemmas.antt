@@ -86,8 +86,8 @@ at_most_one false = omega arith
 
 not_one : (i k : ℕ) → i ≢ k → cond (nat_eq i k) 1 0 ≡ 0
 not_one i k other = elim (cases_Bool (nat_eq i k)) [
-  | inl yes ↦ absurd (other (eqb-true i k yes))
-  | inr no ↦ ap (λ (b : Bool). cond b 1 0) no
+  | inl same ↦ absurd (other (eqb-true i k same))
+  | inr differs ↦ ap (λ (b : Bool). cond b 1 0) differs
 ]
 
 one_at : (n k : ℕ) → total n (λ step. cond (nat_eq step k) 1 0) ≤ 1

@@ -57,7 +57,7 @@ module _ (widths : List KeptWidth) (k : ℕ) (w : KeptWidth) (inside : k < lengt
       omega (arith, changed, here)
 
 differ : (b : Bool) → b ≡ true → b ≡ false → ⊥
-differ b yes no = cc
+differ b one two = cc
 
 -- the rows of one width are others
 pub lists_set : (widths : List KeptWidth) (k : Width) (w : KeptWidth) (rows : List KeptRow) → k.step < length widths → w.rows ≡ rows → lists_of (set widths k.step w) ≡ with_rows (lists_of widths) k rows
@@ -75,13 +75,13 @@ lists_set widths k w rows inside is =
 
 -- a position has room, so the lists are there
 pub opened : (raw : RawRows) → IsRoomy raw → (p : ℕ) → p < length raw.locations.items → AreWidths raw.widths.items
-opened raw r p inside = r.open (r.room.open (omega (arith, inside, r.inside)))
+opened raw r p inside = r.ready (r.room.listed (omega (arith, inside, r.inside)))
 
 -- a width that has rows is one of a few
 pub few_widths : (raw : RawRows) → IsRoomy raw → (step at : ℕ) → at < length (width_at raw.widths.items step).rows → step < VACANT_CODE
 few_widths raw r step at below =
     let inside = width_inside raw.widths.items step at below in
-    let all = (r.open (omega (arith, inside))).all in
+    let all = (r.ready (omega (arith, inside))).all in
     omega (arith, inside, all)
 
 -- the room of rows whose locations are others
@@ -97,11 +97,11 @@ roomy_as old new widths free room wide less r =
       room = record {
         near = omega (arith, r.room.near, room);
         locations = omega (arith, r.room.locations, room, wide);
-        open = λ some. subst (λ (ws : List KeptWidth). 0 < length ws) (sym items) (r.room.open (omega (arith, some, room)));
+        listed = λ some. subst (λ (ws : List KeptWidth). 0 < length ws) (sym items) (r.room.listed (omega (arith, some, room)));
         limits = subst (λ (ws : List KeptWidth). (step : ℕ) → step < length ws → new.room ≤ (width_at ws step).limit) (sym items) (λ step below. let enough = r.room.limits step below in omega (arith, enough, room));
         segments = subst (λ (ws : List KeptWidth). segments_for new.room ≤ used ws + length new.free.items) (sym items) (omega (arith, same_room, frees, r.room.segments));
       };
-      open = subst (λ (ws : List KeptWidth). 0 < length ws → AreWidths ws) (sym items) r.open;
+      ready = subst (λ (ws : List KeptWidth). 0 < length ws → AreWidths ws) (sym items) r.ready;
       few = subst (λ (ws : List KeptWidth). (step : ℕ) → AreFew (width_at ws step)) (sym items) r.few;
       pool = subst (λ (ws : List KeptWidth). used ws + length new.free.items ≤ vec_capacity new.free) (sym items) (omega (arith, frees, list, r.pool));
     }
@@ -117,7 +117,7 @@ module _ (old new : RawRows) (r : IsRoomy old) (k : ℕ) (w : KeptWidth) (inside
   will = set was k w
 
   ready : AreWidths was
-  ready = r.open (omega (arith, inside))
+  ready = r.ready (omega (arith, inside))
 
   same_use : used will + length new.free.items ≡ used was + length old.free.items
   same_use = let u = used_now was k w inside ready.all in omega (arith, u, segments)
@@ -152,11 +152,11 @@ module _ (old new : RawRows) (r : IsRoomy old) (k : ℕ) (w : KeptWidth) (inside
     room = record {
       near = omega (arith, r.room.near, room);
       locations = omega (arith, r.room.locations, room, wide);
-      open = λ some. omega (arith, inside, ap length widths, length-set was k w);
+      listed = λ some. omega (arith, inside, ap length widths, length-set was k w);
       limits = λ step below. subst (λ (ws : List KeptWidth). new.room ≤ (width_at ws step).limit) (sym widths) (limits step (omega (arith, below, ap length widths)));
       segments = subst (λ (ws : List KeptWidth). segments_for new.room ≤ used ws + length new.free.items) (sym widths) (omega (arith, same_room, same_use, r.room.segments));
     };
-    open = λ some. subst AreWidths (sym widths) (record { all = length-set was k w ∙ ready.all; widest = widest });
+    ready = λ some. subst AreWidths (sym widths) (record { all = length-set was k w ∙ ready.all; widest = widest });
     few = λ step. subst (λ (ws : List KeptWidth). AreFew (width_at ws step)) (sym widths) (each_width was k w inside AreFew few step (r.few step));
     pool = subst (λ (ws : List KeptWidth). used ws + length new.free.items ≤ vec_capacity new.free) (sym widths) (omega (arith, same_use, list, r.pool));
   }

@@ -24,8 +24,8 @@ same_width_true j k is = eq-eqb j.step k.step (ap (λ (w : Width). w.step) is)
 
 pub same_width_false : (j k : Width) → j ≢ k → is_same_width j k ≡ false
 same_width_false j k other = elim (cases_Bool (is_same_width j k)) [
-  | inl yes ↦ absurd (other (λ i. record { step = eqb-true j.step k.step yes i }))
-  | inr no ↦ no
+  | inl same ↦ absurd (other (λ i. record { step = eqb-true j.step k.step same i }))
+  | inr differs ↦ differs
 ]
 
 -- no location names rows of two widths, nor two rows

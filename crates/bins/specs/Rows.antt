@@ -69,7 +69,7 @@ pub record FitIn (raw : RawRows) (width : Width) (key value : ℕ) : Type 0 wher
 pub record HasRoom (raw : RawRows) (many : ℕ) : Type 0 where
   pub near : many ≤ MOST_ROWS
   pub locations : many ≤ vec_capacity raw.locations
-  pub open : 0 < many → 0 < length raw.widths.items
+  pub listed : 0 < many → 0 < length raw.widths.items
   pub limits : (step : ℕ) → step < length raw.widths.items → many ≤ (width_at raw.widths.items step).limit
   pub segments : segments_for many ≤ used raw.widths.items + length raw.free.items
 
@@ -77,7 +77,7 @@ pub record HasRoom (raw : RawRows) (many : ℕ) : Type 0 where
 pub record IsRoomy (raw : RawRows) : Type 0 where
   pub inside : length raw.locations.items ≤ raw.room
   pub room : HasRoom raw raw.room
-  pub open : 0 < length raw.widths.items → AreWidths raw.widths.items
+  pub ready : 0 < length raw.widths.items → AreWidths raw.widths.items
   pub few : (step : ℕ) → AreFew (width_at raw.widths.items step)
   pub pool : used raw.widths.items + length raw.free.items ≤ vec_capacity raw.free
 

@@ -26,7 +26,7 @@ swap_remove-requires-clause-list c =
     let step = c.args.width.step in
     let inside : step < length raw.widths.items = width_inside raw.widths.items step c.args.at c.requires.range in
     let is = read_width raw.widths.items step c.index_mut-rows.result.now inside c.index_mut-rows.ensures.value in
-    let part = used_part raw.widths.items step inside (c.requires.room.open (omega (arith, inside))).all in omega (arith, part, c.requires.room.pool, ap (λ (w : KeptWidth). w.segments) is)
+    let part = used_part raw.widths.items step inside (c.requires.room.ready (omega (arith, inside))).all in omega (arith, part, c.requires.room.pool, ap (λ (w : KeptWidth). w.segments) is)
 
 pub returns-clause-rows : goal.returns-clause-rows
 returns-clause-rows c =
