@@ -143,3 +143,23 @@ module _ (widths : List KeptWidth) (ps : List Location) (p room free : ℕ) (m :
       let many = total_scaled WIDTHS (λ step. (width_at widths step).segments) (λ step. length (width_at widths step).rows) (λ step. let f = (few step).each in omega (arith, f)) in
       let rows = rows_total in
       omega (arith, one, many, rows, inside, enough)
+
+pub total_start : (f : ℕ → ℕ) → 0 ≡ total 0 f
+unfolding total
+total_start f = refl
+
+pub total_more : (n : ℕ) (f : ℕ → ℕ) → total (n + 1) f ≡ total n f + f n
+unfolding total
+total_more n f = let one : n + 1 ≡ suc n = omega arith in ap (λ (m : ℕ). total m f) one
+
+pub total_upto : (n m : ℕ) (f : ℕ → ℕ) → n ≤ m → total n f ≤ total m f
+unfolding total
+total_upto n zero f less = let none : n ≡ zero = omega (arith, less) in let same = ap (λ (k : ℕ). total k f) none in omega (arith, same)
+total_upto n (suc m) f less = elim (cases_eq n (suc m)) [
+  | inl is ↦ let same = ap (λ (k : ℕ). total k f) is in omega (arith, same)
+  | inr other ↦ let rest = total_upto n m f (omega (arith, less, other)) in omega (arith, rest)
+]
+
+-- segments for fewer positions
+pub fewer_segments : (few many : ℕ) → few ≤ many → segments_for few ≤ segments_for many
+fewer_segments few many less = omega (arith, less)

@@ -1,7 +1,7 @@
 -- What a write to a row of one width leaves.
 use Rattle.std.proofs.Common.{◌≡◌, ◌≢◌, ℕ, zero, suc, ◌+◌, ◌-◌, ◌*◌, ◌/◌, ◌^◌, ◌<◌, ◌≤◌, List, [], ◌∷◌, ◌++◌, length, get_or, set, take, refl, sym, ap, subst, ◌∙◌, inl, inr, arith}
 use Rattle.std.proofs.lemmas.Bool.{cases_eq, cases_lt}
-use Rattle.std.proofs.lemmas.List.{get_or_read, length-set, length_push, length-take-le}
+use Rattle.std.proofs.lemmas.List.{get_or_append_left, get_or_push, get_or_read, length-set, length_push, length-take-le, set_at, set-append_left}
 use Rattle.std.proofs.Math.Nat.{mul-le-mul_left, pow-le-pow_right}
 use Rattle.bins.specs.KeptRows.{HoldsRow, KeptRow, row_in, row_at}
 use Rattle.bins.specs.Segments.{AreSegments, HoldRows, HoldsSlot, IsClosed, IsOpened, KeepsOthers, part, rows_from, slot}
@@ -219,3 +219,52 @@ module _ (segments : List (List ℕ)) (each w last at : ℕ) (positive : 0 < eac
 
   pub copied_others : (i : ℕ) → i < last → i ≢ at → slot (set segments (at / each) new) each w i ≡ slot segments each w i
   copied_others i less other = slot_other each w positive segments at new inside others i other (hold i (omega (arith, less))).wide
+
+-- the last row was copied to the place of another
+pub record Copied (segments new : List (List ℕ)) (each w last at : ℕ) : Type 0 where
+  pub row : slot new each w at ≡ slot segments each w last
+  pub others : (i : ℕ) → i < last → i ≢ at → slot new each w i ≡ slot segments each w i
+
+module _ (segments front : List (List ℕ)) (end : List ℕ) (each w last at : ℕ) (positive : 0 < each) (is : segments ≡ front ++ end ∷ []) (many : last / each + 1 ≡ length segments)
+    (before : at ≤ last) (hold : HoldRows segments each w (last + 1)) where
+  front_long : length front ≡ last / each
+  front_long = omega (arith, many, ap length is, length_push front end)
+
+  last_bytes : get_or segments (last / each) [] ≡ end
+  last_bytes = ap (λ (xs : List (List ℕ)). get_or xs (last / each) []) is ∙ get_or_push front end [] (last / each) front_long
+
+  last_part : part end (place each w last) w ≡ slot segments each w last
+  last_part = ap (λ (b : List ℕ). part b (place each w last) w) (sym last_bytes)
+
+  not_after : at / each ≤ last / each
+  not_after = elim (cases_lt (last / each) (at / each)) [
+    | inl after ↦ let step : last / each + 1 ≤ at / each = omega (arith, after) in absurd (omega (arith, mul-le-mul_left each step, before, positive))
+    | inr fine ↦ fine
+  ]
+
+  pub copied_same : (b : List ℕ) (new : List (List ℕ)) → at / each ≡ length front → part b (place each w at) w ≡ part end (place each w last) w
+      → KeepsOthers (place each w at) w end b → new ≡ front ++ b ∷ [] → Copied segments new each w last at
+  copied_same b new same here others now =
+      let inside : at / each < length segments = omega (arith, not_after, many) in
+      let set_is : new ≡ set segments (at / each) b = now ∙ sym (ap (λ (xs : List (List ℕ)). set xs (at / each) b) is ∙ set_at front end [] b (at / each) (sym same)) in
+      let read : end ≡ get_or segments (at / each) [] = sym last_bytes ∙ ap (λ (n : ℕ). get_or segments n []) (sym front_long ∙ sym same) in
+      let kept = subst (λ (xs : List ℕ). KeepsOthers (place each w at) w xs b) read others in
+      let row = copied_here segments each w last at positive b inside (here ∙ last_part) kept hold in
+      let rest = copied_others segments each w last at positive b inside (here ∙ last_part) kept hold in
+      subst (λ (xs : List (List ℕ)). Copied segments xs each w last at) (sym set_is) (record { row = row; others = rest })
+
+  pub copied_else : (b : List ℕ) (new : List (List ℕ)) → (at / each ≡ length front → ⊥) → part b (place each w at) w ≡ part end (place each w last) w
+      → KeepsOthers (place each w at) w (get_or front (at / each) []) b → new ≡ set front (at / each) b ++ end ∷ [] → Copied segments new each w last at
+  copied_else b new other here others now =
+      let inside : at / each < length segments = omega (arith, not_after, many) in
+      let less : at / each < length front = omega (arith, not_after, front_long, other) in
+      let set_is : new ≡ set segments (at / each) b = now ∙ sym (ap (λ (xs : List (List ℕ)). set xs (at / each) b) is ∙ set-append_left front (end ∷ []) (at / each) b less) in
+      let read : get_or front (at / each) [] ≡ get_or segments (at / each) [] = sym (ap (λ (xs : List (List ℕ)). get_or xs (at / each) []) is ∙ get_or_append_left front (end ∷ []) [] (at / each) less) in
+      let kept = subst (λ (xs : List ℕ). KeepsOthers (place each w at) w xs b) read others in
+      let row = copied_here segments each w last at positive b inside (here ∙ last_part) kept hold in
+      let rest = copied_others segments each w last at positive b inside (here ∙ last_part) kept hold in
+      subst (λ (xs : List (List ℕ)). Copied segments xs each w last at) (sym set_is) (record { row = row; others = rest })
+
+  -- a segment before the last
+  pub front_inside : (at / each ≡ length front → ⊥) → at / each < length front
+  front_inside other = omega (arith, not_after, front_long, other)
