@@ -5,13 +5,13 @@ use Rattle.std.proofs.lemmas.Bool.{cases_Bool, cases_eq, cases_lt, eqb-true, eq-
 use Rattle.std.proofs.lemmas.List.{get_or_past, get_or_read, length-set}
 use Rattle.bins.specs.declared.raw_rows.RawRows.{RawRows}
 use Rattle.bins.specs.declared.raw_rows.TheConstants.{WIDTHS}
-use Rattle.bins.specs.declared.location.TheConstants.{VACANT_CODE}
+use Rattle.bins.specs.declared.location.TheConstants.{MOST_ROWS, VACANT_CODE}
 use Rattle.bins.specs.declared.location.Width.{Width}
 use Rattle.bins.specs.KeptRows.{KeptRow, Lists, is_same_width, with_rows}
 use Rattle.bins.specs.Segments.{AreFew, KeptWidth, no_width}
 use Rattle.bpf_model.specs.declared.limits.TheConstants.{KEY_BYTES, VALUE_BYTES}
-use Rattle.bins.specs.Rows.{AreWidths, HasRoom, IsRoomy, segments_for, used, width_at}
-use Rattle.bins.proofs.PoolLemmas.{total_changed, total_part}
+use Rattle.bins.specs.Rows.{AreWider, AreWidths, HasRoom, IsRoomy, segments_for, used, width_at}
+use Rattle.bins.proofs.PoolLemmas.{total_changed, total_part, total_same}
 
 abbrev pub lists_of : List KeptWidth → Lists
 lists_of widths = λ width. (width_at widths width.step).rows
@@ -160,3 +160,103 @@ module _ (old new : RawRows) (r : IsRoomy old) (k : ℕ) (w : KeptWidth) (inside
     few = λ step. subst (λ (ws : List KeptWidth). AreFew (width_at ws step)) (sym widths) (each_width was k w inside AreFew few step (r.few step));
     pool = subst (λ (ws : List KeptWidth). used ws + length new.free.items ≤ vec_capacity new.free) (sym widths) (omega (arith, same_use, list, r.pool));
   }
+
+-- lists that may have more room
+pub same_used : (old new : List KeptWidth) → AreWider old new → used new ≡ used old
+same_used old new wider = total_same WIDTHS (λ step. (width_at new step).segments) (λ step. (width_at old step).segments) wider.segments
+
+pub same_lists : (old new : List KeptWidth) → AreWider old new → lists_of new ≡ lists_of old
+same_lists old new wider = λ i width. wider.rows width.step i
+
+pub wider_refl : (widths : List KeptWidth) → AreWider widths widths
+wider_refl widths = record { many = refl; rows = λ step. refl; most = λ step. refl; segments = λ step. refl; limit = λ step. omega arith }
+
+pub wider_trans : (one two three : List KeptWidth) → AreWider one two → AreWider two three → AreWider one three
+wider_trans one two three a b = record {
+  many = b.many ∙ a.many;
+  rows = λ step. b.rows step ∙ a.rows step;
+  most = λ step. b.most step ∙ a.most step;
+  segments = λ step. b.segments step ∙ a.segments step;
+  limit = λ step. let x = a.limit step in let y = b.limit step in omega (arith, x, y);
+}
+
+-- the list of one width may have more room
+pub wider_set : (widths : List KeptWidth) (k : ℕ) (w : KeptWidth) → k < length widths → w.rows ≡ (width_at widths k).rows → w.most ≡ (width_at widths k).most → w.segments ≡ (width_at widths k).segments
+    → (width_at widths k).limit ≤ w.limit → AreWider widths (set widths k w)
+wider_set widths k w inside rows most segments limit =
+    let each : (P : KeptWidth → KeptWidth → Type 0) → ((v : KeptWidth) → P v v) → P (width_at widths k) w → (step : ℕ) → P (width_at widths step) (width_at (set widths k w) step) = λ P same new step. elim (cases_eq step k) [
+      | inl is ↦ subst (λ (n : ℕ). P (width_at widths n) (width_at (set widths k w) n)) (sym is) (subst (P (width_at widths k)) (sym (width_here widths k w inside)) new)
+      | inr other ↦ subst (P (width_at widths step)) (sym (width_else widths k w inside step other)) (same (width_at widths step))
+    ] in
+    record {
+      many = length-set widths k w;
+      rows = each (λ old new. new.rows ≡ old.rows) (λ v. refl) rows;
+      most = each (λ old new. new.most ≡ old.most) (λ v. refl) most;
+      segments = each (λ old new. new.segments ≡ old.segments) (λ v. refl) segments;
+      limit = each (λ old new. old.limit ≤ new.limit) (λ v. omega arith) limit;
+    }
+
+-- more room than before
+module _ (old new : RawRows) (r : IsRoomy old) (wider : AreWider old.widths.items new.widths.items)
+    (long : length new.locations.items ≡ length old.locations.items) (cap : vec_capacity old.locations ≤ vec_capacity new.locations)
+    (frees : length old.free.items ≤ length new.free.items) (pool : used old.widths.items + length new.free.items ≤ vec_capacity new.free) where
+  used_same : used new.widths.items ≡ used old.widths.items
+  used_same = same_used old.widths.items new.widths.items wider
+
+  widths_same : AreWidths old.widths.items → AreWidths new.widths.items
+  widths_same w = record { all = wider.many ∙ w.all; widest = let most = wider.most (WIDTHS - 1) in omega (arith, w.widest, most) }
+
+  few_same : (step : ℕ) → AreFew (width_at new.widths.items step)
+  few_same step = let f = (r.few step).each in let s = wider.segments step in let m = ap (λ (rows : List KeptRow). length rows) (wider.rows step) in record { each = omega (arith, f, s, m) }
+
+  pub roomy_more : new.room ≡ old.room → IsRoomy new
+  roomy_more room =
+      let same : segments_for new.room ≡ segments_for old.room = ap segments_for room in
+      record {
+        inside = omega (arith, r.inside, long, room);
+        room = record {
+          near = omega (arith, r.room.near, room);
+          locations = omega (arith, r.room.locations, cap, room);
+          listed = λ some. let before = r.room.listed (omega (arith, some, room)) in omega (arith, before, wider.many);
+          limits = λ step below. let before = r.room.limits step (omega (arith, below, wider.many)) in let more = wider.limit step in omega (arith, before, more, room);
+          segments = omega (arith, r.room.segments, same, used_same, frees);
+        };
+        ready = λ some. widths_same (r.ready (omega (arith, some, wider.many)));
+        few = few_same;
+        pool = omega (arith, pool, used_same);
+      }
+
+  pub roomy_grown : length new.locations.items ≤ new.room → new.room ≤ MOST_ROWS → new.room ≤ vec_capacity new.locations → AreWidths old.widths.items
+      → ((step : ℕ) → step < length new.widths.items → new.room ≤ (width_at new.widths.items step).limit) → segments_for new.room ≤ used old.widths.items + length new.free.items → IsRoomy new
+  roomy_grown inside near locations widths limits enough = record {
+    inside = inside;
+    room = record {
+      near = near;
+      locations = locations;
+      listed = λ some. let all = (widths_same widths).all in omega (arith, all);
+      limits = limits;
+      segments = omega (arith, enough, used_same);
+    };
+    ready = λ some. widths_same widths;
+    few = few_same;
+    pool = omega (arith, pool, used_same);
+  }
+
+-- less room, and fewer free segments
+pub roomy_less : (old new : RawRows) → IsRoomy old → new.widths ≡ old.widths → vec_capacity new.locations ≡ vec_capacity old.locations → length new.locations.items ≤ new.room → new.room ≤ old.room
+    → segments_for new.room ≤ used old.widths.items + length new.free.items → length new.free.items ≤ length old.free.items → vec_capacity new.free ≡ vec_capacity old.free → IsRoomy new
+roomy_less old new r widths wide inside less enough fewer list =
+    let items : new.widths.items ≡ old.widths.items = λ i. (widths i).items in
+    record {
+      inside = inside;
+      room = record {
+        near = omega (arith, r.room.near, less);
+        locations = omega (arith, r.room.locations, less, wide);
+        listed = λ some. subst (λ (ws : List KeptWidth). 0 < length ws) (sym items) (r.room.listed (omega (arith, some, less)));
+        limits = subst (λ (ws : List KeptWidth). (step : ℕ) → step < length ws → new.room ≤ (width_at ws step).limit) (sym items) (λ step below. let before = r.room.limits step below in omega (arith, before, less));
+        segments = subst (λ (ws : List KeptWidth). segments_for new.room ≤ used ws + length new.free.items) (sym items) enough;
+      };
+      ready = subst (λ (ws : List KeptWidth). 0 < length ws → AreWidths ws) (sym items) r.ready;
+      few = subst (λ (ws : List KeptWidth). (step : ℕ) → AreFew (width_at ws step)) (sym items) r.few;
+      pool = subst (λ (ws : List KeptWidth). used ws + length new.free.items ≤ vec_capacity new.free) (sym items) (omega (arith, r.pool, fewer, list));
+    }
