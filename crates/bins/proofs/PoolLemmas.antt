@@ -4,7 +4,7 @@ use Rattle.std.specs.Prelude.{count_by}
 use Rattle.std.specs.List.{sum_by}
 use Rattle.std.proofs.lemmas.Bool.{cases_Bool, cases_eq, cases_lt, eq-eqb, eqb-true}
 use Rattle.std.proofs.lemmas.List.{length-set}
-use Rattle.std.proofs.lemmas.List.Sums.{sum_by-set, count_by-le-length}
+use Rattle.std.proofs.lemmas.List.Sums.{count_by-le-length, sum_by-cons, sum_by-set}
 use Rattle.bins.specs.declared.raw_rows.TheConstants.{WIDTHS}
 use Rattle.bins.specs.declared.location.Width.{Width}
 use Rattle.bins.specs.declared.location.Location.{Location}
@@ -80,50 +80,54 @@ abbrev is_filled : Location → Bool
 is_filled Vacant = false
 is_filled (In width i) = true
 
-at_most_one : (b : Bool) → cond b 1 0 ≤ 1
+abbrev one_if : Bool → ℕ
+one_if b = cond b 1 0
+
+at_most_one : (b : Bool) → one_if b ≤ 1
 at_most_one true = omega arith
 at_most_one false = omega arith
 
-not_one : (i k : ℕ) → i ≢ k → cond (nat_eq i k) 1 0 ≡ 0
+not_one : (i k : ℕ) → i ≢ k → one_if (nat_eq i k) ≡ 0
 not_one i k other = elim (cases_Bool (nat_eq i k)) [
   | inl same ↦ absurd (other (eqb-true i k same))
-  | inr differs ↦ ap (λ (b : Bool). cond b 1 0) differs
+  | inr differs ↦ ap one_if differs
 ]
 
-one_at : (n k : ℕ) → total n (λ step. cond (nat_eq step k) 1 0) ≤ 1
+one_at : (n k : ℕ) → total n (λ step. one_if (nat_eq step k)) ≤ 1
 unfolding total
 one_at zero k = omega arith
 one_at (suc n) k = elim (cases_eq n k) [
   | inl is ↦
-      let none = total_beyond n k (λ step. 0) (λ step. cond (nat_eq step k) 1 0) (omega (arith, is)) (λ i other. not_one i k other) in
+      let none = total_beyond n k (λ step. 0) (λ step. one_if (nat_eq step k)) (omega (arith, is)) (λ i other. not_one i k other) in
       let zeros = total_zero n (λ step. 0) (λ i. refl) in
-      let here : cond (nat_eq n k) 1 0 ≤ 1 = at_most_one (nat_eq n k) in
+      let here : one_if (nat_eq n k) ≤ 1 = at_most_one (nat_eq n k) in
       omega (arith, none, zeros, here)
   | inr other ↦ let rest = one_at n k in let here = not_one n k other in omega (arith, rest, here)
 ]
 
-one_each : (n : ℕ) (x : Location) → total n (λ step. weight (width_of step) x) ≤ cond (is_filled x) 1 0
+one_each : (n : ℕ) (x : Location) → total n (λ step. weight (width_of step) x) ≤ one_if (is_filled x)
 one_each n Vacant = let none = total_zero n (λ step. weight (width_of step) Vacant) (λ i. refl) in omega (arith, none)
 one_each n (In width i) = one_at n width.step
 
-counted : (n : ℕ) (ps : List Location) → total n (λ step. sum_by (weight (width_of step)) ps) ≤ sum_by (λ x. cond (is_filled x) 1 0) ps
+counted : (n : ℕ) (ps : List Location) → total n (λ step. sum_by (weight (width_of step)) ps) ≤ sum_by (λ (x : Location). one_if (is_filled x)) ps
 counted n [] = let none = total_zero n (λ step. sum_by (weight (width_of step)) []) (λ i. refl) in omega (arith, none)
 counted n (x ∷ ps) =
-    let both = total_sum n (λ step. weight (width_of step) x) (λ step. sum_by (weight (width_of step)) ps) (λ step. sum_by (weight (width_of step)) (x ∷ ps)) (λ i. refl) in
+    let both = total_sum n (λ step. weight (width_of step) x) (λ step. sum_by (weight (width_of step)) ps) (λ step. sum_by (weight (width_of step)) (x ∷ ps)) (λ i. sum_by-cons (weight (width_of i)) x ps) in
     let rest = counted n ps in
     let here = one_each n x in
-    omega (arith, both, rest, here)
+    let filled = sum_by-cons (λ (y : Location). one_if (is_filled y)) x ps in
+    omega (arith, both, rest, here, filled)
 
 -- a vacant location names none
-fewer : (ps : List Location) (p : ℕ) → p < length ps → location_at ps p ≡ Vacant → sum_by (λ x. cond (is_filled x) 1 0) ps < length ps
+fewer : (ps : List Location) (p : ℕ) → p < length ps → location_at ps p ≡ Vacant → sum_by (λ (x : Location). one_if (is_filled x)) ps < length ps
 fewer ps p lt vacant =
     let there : Width = width_of 0 in
     omega (
       arith,
       count_by-le-length is_filled (set ps p (In there 0)),
       length-set ps p (In there 0),
-      sum_by-set (λ x. cond (is_filled x) 1 0) ps p (In there 0) Vacant lt,
-      ap (λ (x : Location). cond (is_filled x) 1 0) vacant,
+      sum_by-set (λ (x : Location). one_if (is_filled x)) ps p (In there 0) Vacant lt,
+      ap (λ (x : Location). one_if (is_filled x)) vacant,
     )
 
 -- so there is a free segment for the row of a position that has none yet

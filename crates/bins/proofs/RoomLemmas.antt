@@ -7,11 +7,14 @@ use Rattle.bins.specs.declared.raw_rows.RawRows.{RawRows}
 use Rattle.bins.specs.declared.raw_rows.TheConstants.{WIDTHS}
 use Rattle.bins.specs.declared.location.TheConstants.{MOST_ROWS, VACANT_CODE}
 use Rattle.bins.specs.declared.location.Width.{Width}
-use Rattle.bins.specs.KeptRows.{KeptRow, Lists, is_same_width, with_rows}
+use Rattle.bins.specs.declared.location.Location.{Location}
+use Rattle.bins.specs.declared.location.Location.TheVariants.{In}
+use Rattle.bins.specs.KeptRows.{AreRows, KeptRow, Lists, is_same_width, location_at, with_rows}
 use Rattle.bins.specs.Segments.{AreFew, KeptWidth, no_width}
 use Rattle.bpf_model.specs.declared.limits.TheConstants.{KEY_BYTES, VALUE_BYTES}
-use Rattle.bins.specs.Rows.{AreWider, AreWidths, HasRoom, IsRoomy, segments_for, used, width_at}
-use Rattle.bins.proofs.PoolLemmas.{total_changed, total_part, total_same}
+use Rattle.bins.specs.Rows.{AreWider, AreWidths, HasRoom, IsKept, IsRoomy, segments_for, used, width_at}
+use Rattle.bins.proofs.PoolLemmas.{total_changed, total_part, total_same, total_zero}
+use Rattle.bins.proofs.RowLemmas.{not_vacant}
 
 abbrev pub lists_of : List KeptWidth → Lists
 lists_of widths = λ width. (width_at widths width.step).rows
@@ -259,4 +262,57 @@ roomy_less old new r widths wide inside less enough fewer list =
       ready = subst (λ (ws : List KeptWidth). 0 < length ws → AreWidths ws) (sym items) r.ready;
       few = subst (λ (ws : List KeptWidth). (step : ℕ) → AreFew (width_at ws step)) (sym items) r.few;
       pool = subst (λ (ws : List KeptWidth). used ws + length new.free.items ≤ vec_capacity new.free) (sym items) (omega (arith, r.pool, fewer, list));
+    }
+
+-- the list of one width was asked for more room
+module _ (first widths : List KeptWidth) (k many : ℕ) (w new : KeptWidth) (wider : AreWider first widths) (inside : k < length widths) (read : w ≡ get_or widths k w)
+    (rows : new.rows ≡ w.rows) (most : new.most ≡ w.most) (segments : new.segments ≡ w.segments) (limit : w.limit ≤ new.limit) where
+  seen : w ≡ width_at widths k
+  seen = read_width widths k w inside read
+
+  pub wider_step : AreWider first (set widths k new)
+  wider_step = wider_trans first widths (set widths k new) wider (wider_set widths k new inside
+      (rows ∙ ap (λ (v : KeptWidth). v.rows) seen) (most ∙ ap (λ (v : KeptWidth). v.most) seen) (segments ∙ ap (λ (v : KeptWidth). v.segments) seen)
+      (let same = ap (λ (v : KeptWidth). v.limit) seen in omega (arith, limit, same)))
+
+  pub room_step : ((step : ℕ) → step < k → many ≤ (width_at widths step).limit) → many ≤ new.limit → (step : ℕ) → step < k + 1 → many ≤ (width_at (set widths k new) step).limit
+  room_step before here step below = elim (cases_eq step k) [
+    | inl is ↦ let same : (width_at (set widths k new) step).limit ≡ new.limit = ap (λ (n : ℕ). (width_at (set widths k new) n).limit) is ∙ ap (λ (v : KeptWidth). v.limit) (width_here widths k new inside) in omega (arith, same, here)
+    | inr other ↦
+        let same : (width_at (set widths k new) step).limit ≡ (width_at widths step).limit = ap (λ (v : KeptWidth). v.limit) (width_else widths k new inside step other) in
+        let old = before step (omega (arith, below, other)) in
+        omega (arith, same, old)
+  ]
+
+nothing_named : (width : Width) (p i : ℕ) → location_at [] p ≡ In width i → ⊥
+nothing_named width p i e = not_vacant width (location_at [] p) i refl e
+
+-- no rows
+no_rows : AreRows [] (lists_of [])
+no_rows = record {
+  matched = λ width. record { named = λ p i e. absurd (nothing_named width p i e); owned = λ i below. absurd (omega (arith, below)); counted = refl };
+  few = omega arith;
+}
+
+pub kept_new : (raw : RawRows) → raw.locations.items ≡ [] → raw.widths.items ≡ [] → raw.free.items ≡ [] → raw.room ≡ 0 → IsKept raw
+kept_new raw locations widths free none =
+    let used_none : used raw.widths.items ≡ 0 = ap used widths ∙ total_zero WIDTHS (λ step. (width_at [] step).segments) (λ i. refl) in
+    let no_widths : length raw.widths.items ≡ 0 = ap length widths in
+    let no_positions : length raw.locations.items ≡ 0 = ap length locations in
+    let no_free : length raw.free.items ≡ 0 = ap length free in
+    record {
+      rows = subst (λ (ps : List Location). AreRows ps (lists_of raw.widths.items)) (sym locations) (subst (λ (ws : List KeptWidth). AreRows [] (lists_of ws)) (sym widths) no_rows);
+      room = record {
+        inside = omega (arith, no_positions, none);
+        room = record {
+          near = omega (arith, none);
+          locations = omega (arith, none);
+          listed = λ some. absurd (omega (arith, some, none));
+          limits = λ step below. absurd (omega (arith, below, no_widths));
+          segments = let less : segments_for raw.room ≤ raw.room = omega arith in omega (arith, less, none);
+        };
+        ready = λ some. absurd (omega (arith, some, no_widths));
+        few = subst (λ (ws : List KeptWidth). (step : ℕ) → AreFew (width_at ws step)) (sym widths) (λ step. record { each = omega arith });
+        pool = omega (arith, used_none, no_free);
+      };
     }

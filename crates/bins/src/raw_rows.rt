@@ -60,6 +60,18 @@ fn wanted_for(positions: usize) -> usize
     positions.min(positions / 256 + (WIDTHS + 1))
 }
 
+/// How many segments hold rows of a width.
+#[inline(always)]
+fn segments_at(widths: &Vec<WidthRows>, step: usize) -> usize
+    ensures value { result ≡ (width_at widths.now.items step).segments }
+{
+    if step < widths.len() {
+        let rows = &widths[step];
+        return rows.segments();
+    }
+    0
+}
+
 /// How many segments hold rows.
 fn count_used(widths: &Vec<WidthRows>) -> usize
     requires bounded { used widths.now.items < 2 ^ 64 }
@@ -67,9 +79,7 @@ fn count_used(widths: &Vec<WidthRows>) -> usize
 {
     let mut many = 0;
     for step in 0..WIDTHS {
-        if let Some(rows) = widths.get(step) {
-            many += rows.segments();
-        }
+        many += segments_at(widths, step);
     }
     many
 }
@@ -453,9 +463,7 @@ impl RawRows {
     {
         self.vacate(position);
         self.take_vacant(position);
-        if self.locations.len() < self.room / 4 && self.room >= 64 {
-            self.give_back();
-        }
+        self.give_back();
     }
 
     /// Room for this many more positions. Returns `NoMemory` if a request for it is refused.
@@ -528,9 +536,22 @@ impl RawRows {
         Ok(())
     }
 
+    /// Gives free segments back to the allocator if there are few entries beside those that have room.
+    #[inline(always)]
+    fn give_back(&mut self)
+        requires room { IsRoomy self.old }
+        ensures locations { self.new.locations.items ≡ self.old.locations.items }
+        ensures rows { lists_in self.new ≡ lists_in self.old }
+        ensures room { IsRoomy self.new }
+    {
+        if self.room >= 64 && self.locations.len() < self.room / 4 {
+            self.shrink();
+        }
+    }
+
     /// Gives free segments back to the allocator that no position may come to need.
     #[inline(never)]
-    fn give_back(&mut self)
+    fn shrink(&mut self)
         requires room { IsRoomy self.old }
         ensures locations { self.new.locations.items ≡ self.old.locations.items }
         ensures rows { lists_in self.new ≡ lists_in self.old }

@@ -21,7 +21,9 @@ pub returns : goal.returns
 returns c =
     let widths = c.args.self.now.widths in
     let is = read_width widths.items c.args.width.step c.index-rows.result.now (width_inside widths.items c.args.width.step c.args.at c.requires.range) c.index-rows.ensures in
-    record { fit = λ is_so. record {
-      both = omega (arith, c.suits.ensures.fit is_so, ap (λ (w : KeptWidth). w.most) is, ap length c.entry.ensures.key, ap (λ (w : KeptWidth). length (row_at w.rows c.args.at).key) is);
-      value_fits = c.requires.fits;
-    } }
+    record {
+      fit = λ is_so. record {
+        both = omega (arith, c.suits.ensures.fit is_so, ap (λ (w : KeptWidth). w.most) is, ap length c.entry.ensures.key, ap (λ (w : KeptWidth). length (row_at w.rows c.args.at).key) is);
+        value_fits = c.requires.fits;
+      };
+    }

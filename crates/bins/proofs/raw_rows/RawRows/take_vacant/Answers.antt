@@ -1,4 +1,4 @@
-use Rattle.std.proofs.Common.{rules, ◌≡◌, ◌-◌, ◌<◌, length, arith, refl, sym, ap, ◌∙◌}
+use Rattle.std.proofs.Common.{rules, ◌≡◌, ◌-◌, ◌<◌, ◌≤◌, length, arith, refl, sym, ap, ◌∙◌}
 use Rattle.std.specs.List.{swap_remove}
 use Rattle.bins.specs.KeptRows.{location_at}
 use Rattle.bins.specs.Rows.{IsRoomy, lists_in}
@@ -39,5 +39,5 @@ returns c =
       | in-In w ↦ rw w.self-is w.move_in.ensures.room
       | in_default w ↦ rw w.self-is c.requires.room
     ] in
-    let room = roomy_as after _ refl refl refl c.swap_remove.ensures.capacity (omega (arith, c.swap_remove.ensures.len, still.inside)) still in
-    record { rows = moved.rows; keys = moved.keys; values = moved.values; many = search rules; room = room }
+    let less : length c.swap_remove.new.self.items ≤ after.room = omega (arith, c.swap_remove.ensures.len, c.swap_remove.new.self.ok.0, after.locations.ok.0, still.inside) in
+    record { rows = moved.rows; keys = moved.keys; values = moved.values; many = search rules; room = roomy_as after _ refl refl refl c.swap_remove.ensures.capacity less still }
