@@ -13,10 +13,10 @@ overflow_add-many c =
     let more = total_more c.loop-step.step f in
     let most = total_upto (c.loop-step.step + 1) WIDTHS f (omega (arith, c.loop-step-test.true)) in
     let bound : total WIDTHS f ≤ used c.args.widths.now.items = omega arith in
-    omega (arith, c.loop-step.invariant, c.segments_at.ensures.value, more, most, bound, c.requires)
+    omega (arith, c.loop-step.invariant, c.segments_at-many.ensures.value, more, most, bound, c.requires)
 
 pub loop-step-preserved : goal.loop-step-preserved
 loop-step-preserved c =
     let f : ℕ → ℕ = λ step. (width_at c.args.widths.now.items step).segments in
     let more = total_more c.loop-step.step f in
-    omega (arith, c.loop-step.invariant, c.segments_at.ensures.value, more)
+    omega (arith, c.loop-step.invariant, c.segments_at-many.ensures.value, more)

@@ -10,7 +10,7 @@ returns-then-step-len c =
     let inside : c.args.step < length widths.items = omega (arith, c.if-step-len.true, c.len.ensures, widths.ok.0) in
     record { value = c.segments.ensures.value ∙ ap (λ (w : KeptWidth). w.segments) (read_width widths.items c.args.step c.index-rows.result.now inside c.index-rows.ensures) }
 
-pub returns-else-step-len : goal.returns-else-step-len
-returns-else-step-len c =
+pub returns : goal.returns
+returns c =
     let widths = c.args.widths.now in
     record { value = sym (ap (λ (w : KeptWidth). w.segments) (get_or_past widths.items c.args.step no_width (omega (arith, c.if-step-len.false, c.len.ensures, widths.ok.0)))) }
