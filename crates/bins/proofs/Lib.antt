@@ -5,6 +5,12 @@ pub mod PairedEntries
 pub mod AddedCopies
 pub mod OrderedEntries
 pub mod GapLemmas
+pub mod RowBytes
+pub mod SegmentLemmas
+pub mod SlotLemmas
+pub mod WidthLemmas
+pub mod PoolLemmas
+pub mod RoomLemmas
 pub mod RowLemmas
 pub mod RowWrites
 pub mod RowRemovals

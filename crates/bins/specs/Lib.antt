@@ -3,6 +3,7 @@ pub mod Entries
 pub mod Copies
 pub mod Positions
 pub mod KeptRows
+pub mod Segments
 pub mod Rows
 pub mod Replacements
 pub mod Passes

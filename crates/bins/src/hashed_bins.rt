@@ -1,4 +1,4 @@
-//! Entries found by the hashes of their keys, in rows of three widths.
+//! Entries found by the hashes of their keys, in rows of many widths.
 ghost use Rattle.std.specs.Int.{IsPowerOfTwo};
 ghost use Rattle.bins.specs.Told.{IsBinCount};
 

@@ -1,0 +1,11 @@
+use Rattle.std.proofs.Common.{◌≡◌, ◌+◌, ◌-◌, ◌<◌, ◌≤◌, ◌++◌, ◌∷◌, [], ℕ, length, set, refl, sym, ap, ◌∙◌, arith}
+use Rattle.std.specs.List.{swap_remove}
+use Rattle.bins.specs.KeptRows.{KeptRow, kept, nobody, row_at}
+use Rattle.bins.specs.Segments.{KeptWidth}
+use Rattle.bins.proofs.RoomLemmas.{lists_set, read_width, roomy_set, width_inside}
+use Rattle.bins.proofs.raw_rows.RawRows.len_in.Goals as goal
+
+pub returns : goal.returns
+returns c =
+    let widths = c.args.self.now.widths in
+    record { value = c.len.ensures.value ∙ ap (λ (w : KeptWidth). length w.rows) (read_width widths.items c.args.width.step c.index-rows.result.now c.requires c.index-rows.ensures) }
