@@ -7,5 +7,7 @@
 #![tactic(auto)]
 
 mod registry;
+mod sent;
 
 pub use registry::{ProgramToken, Registry};
+pub use sent::{Digest, SentProgram};
