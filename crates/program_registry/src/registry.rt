@@ -1,5 +1,5 @@
 //! The registry, and the tokens that it gives for programs.
-ghost use Rattle.std.specs.Prelude.{◌≡◌, IfSome, IsSomeAnd, IfOk, IfErr};
+ghost use Rattle.std.specs.Prelude.{◌≡◌, ◌≢◌, ◌≤◌, ◌+◌, ◌↔◌, IsTrue, IfSome, IsSomeAnd, IfOk, IfErr};
 ghost use Rattle.bpf_model.specs.Meaning.{IsSafe};
 ghost use Rattle.program_registry.specs.Sent.{IsSentAs};
 ghost use Rattle.program_registry.specs.Tokens.{IsOf, program_of, token_number};
@@ -17,7 +17,6 @@ use verifier::Verified;
 pub struct Registry {
     programs: Vec<Verified>,
     known: Mutex<Known>,
-    most: usize,
 }
 
 /// What shows that a registry holds a program, for as long as the registry lasts.
@@ -26,18 +25,35 @@ pub struct ProgramToken {
     place: Pushed<Verified>,
 }
 
-/// The numbers of the programs that were registered as they were sent, and how many programs there are. That a digest stands
-/// for the program under its number is not believed: what was sent is compared.
+/// The numbers of the programs that were registered as they were sent, how many programs there are, and how many there may be.
+/// That a digest stands for the program under its number is not believed: what was sent is compared.
 #[derive(Drop)]
 struct Known {
     numbers: BTreeMap<Digest, u64>,
     programs: usize,
+    most: usize,
+    ghost within: { programs ≤ most },
 }
 
 impl Known {
     /// The number that was last noted for the digest.
     fn number_of(&self, digest: Digest) -> Option<u64> {
         self.numbers.get(&digest).copied()
+    }
+
+    /// Tests whether there are as many programs as there may be.
+    fn is_full(&self) -> bool
+        ensures { IsTrue result ↔ (self.now.programs ≡ self.now.most) }
+    {
+        self.programs == self.most
+    }
+
+    /// Counts one program more.
+    fn count_one(&mut self)
+        requires room { self.old.programs ≢ self.old.most }
+        ensures { self.new.programs ≡ self.old.programs + 1 }
+    {
+        self.programs += 1;
     }
 
     /// Notes the digest's number. If memory for that is refused, the program has its number all the same, and isn't known.
@@ -59,8 +75,8 @@ impl Registry {
             known: Mutex::new(Known {
                 numbers: BTreeMap::new(alloc),
                 programs: 0,
+                most,
             }),
-            most,
         })
     }
 
@@ -69,18 +85,18 @@ impl Registry {
     fn keep<R: Wait>(
         &self,
         rt: &R,
-        programs: &mut usize,
+        known: &mut Known,
         verified: Verified,
     ) -> Result<ProgramToken, (NoMemory, Verified)>
         ensures ok { IfOk result (λ token. IsOf self.now token × (program_of token ≡ verified)) }
         ensures err { IfErr result (λ refused. refused.1 ≡ verified) }
     {
-        if *programs >= self.most {
+        if known.is_full() {
             return Err((NoMemory, verified));
         }
         match self.programs.push_shown(rt, verified) {
             Ok(place) => {
-                *programs += 1;
+                known.count_one();
                 Ok(ProgramToken { place })
             }
             Err(verified) => Err((NoMemory, verified)),
@@ -98,7 +114,7 @@ impl Registry {
         ensures err { IfErr result (λ refused. refused.1 ≡ verified) }
     {
         let mut known = self.known.lock(rt);
-        self.keep(rt, &mut known.programs, verified)
+        self.keep(rt, &mut known, verified)
     }
 
     /// As `register`, for a program that was sent like this; one that is registered already has the number that it had, and is
@@ -118,7 +134,7 @@ impl Registry {
         if let Some(token) = self.sent_in(&known, sent) {
             return Ok(token);
         }
-        let token = self.keep(rt, &mut known.programs, verified)?;
+        let token = self.keep(rt, &mut known, verified)?;
         known.note(sent.digest(), token.number());
         Ok(token)
     }
