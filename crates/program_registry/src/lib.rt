@@ -7,6 +7,7 @@
 //! `register_sent`). These and `register` may wait, for another thread that registers in the same moment; `find_same` takes no memory.
 #![tactic(auto)]
 
+mod known;
 mod registry;
 mod sent;
 

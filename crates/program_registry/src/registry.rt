@@ -1,14 +1,14 @@
 //! The registry, and the tokens that it gives for programs.
-ghost use Rattle.std.specs.Prelude.{◌≡◌, ◌≢◌, ◌≤◌, ◌+◌, ◌↔◌, IsTrue, IfSome, IsSomeAnd, IfOk, IfErr};
+ghost use Rattle.std.specs.Prelude.{◌≡◌, IfSome, IsSomeAnd, IfOk, IfErr};
 ghost use Rattle.bpf_model.specs.Meaning.{IsSafe};
 ghost use Rattle.program_registry.specs.Sent.{IsSentAs};
 ghost use Rattle.program_registry.specs.Tokens.{IsOf, program_of, token_number};
 
-use crate::sent::{Digest, SentProgram};
+use crate::known::Known;
+use crate::sent::SentProgram;
 use boxcar::{Pushed, Vec};
 use bpf_model::NoMemory;
 use std::alloc::Global;
-use std::collections::BTreeMap;
 use std::sync::{Mutex, Wait};
 use verifier::Verified;
 
@@ -25,43 +25,6 @@ pub struct ProgramToken {
     place: Pushed<Verified>,
 }
 
-/// The numbers of the programs that were registered as they were sent, how many programs there are, and how many there may be.
-/// That a digest stands for the program under its number is not believed: what was sent is compared.
-#[derive(Drop)]
-struct Known {
-    numbers: BTreeMap<Digest, u64>,
-    programs: usize,
-    most: usize,
-    ghost within: { programs ≤ most },
-}
-
-impl Known {
-    /// The number that was last noted for the digest.
-    fn number_of(&self, digest: Digest) -> Option<u64> {
-        self.numbers.get(&digest).copied()
-    }
-
-    /// Tests whether there are as many programs as there may be.
-    fn is_full(&self) -> bool
-        ensures { IsTrue result ↔ (self.now.programs ≡ self.now.most) }
-    {
-        self.programs == self.most
-    }
-
-    /// Counts one program more.
-    fn count_one(&mut self)
-        requires room { self.old.programs ≢ self.old.most }
-        ensures { self.new.programs ≡ self.old.programs + 1 }
-    {
-        self.programs += 1;
-    }
-
-    /// Notes the digest's number. If memory for that is refused, the program has its number all the same, and isn't known.
-    fn note(&mut self, digest: Digest, number: u64) {
-        let _ = self.numbers.insert(digest, number);
-    }
-}
-
 impl Registry {
     /// A registry without programs. `NoMemory` where a request for memory was refused.
     pub fn new(alloc: Global) -> Result<Registry, NoMemory> {
@@ -72,11 +35,7 @@ impl Registry {
     pub fn bounded(alloc: Global, most: usize) -> Result<Registry, NoMemory> {
         Ok(Registry {
             programs: Vec::new(alloc)?,
-            known: Mutex::new(Known {
-                numbers: BTreeMap::new(alloc),
-                programs: 0,
-                most,
-            }),
+            known: Mutex::new(Known::new(alloc, most)),
         })
     }
 
