@@ -1,7 +1,5 @@
 -- Programs that are found by their numbers.
-use Rattle.std.proofs.Common.{◌≡◌, ◌≢◌, ℕ, ◌+◌, ◌<◌, ◌≤◌, List, [], ◌∷◌, ◌++◌, length, take, get_or, All, Option, Some, None, IfSome, Bool, true, false, refl, sym, ap, subst, ◌∙◌}
-use Rattle.std.specs.Prelude.{◌||◌, nat_eq, if◌then◌else◌}
-use Rattle.std.proofs.lemmas.Bool.{eq-eqb, ne_eqb}
+use Rattle.std.proofs.Common.{◌≡◌, ◌≢◌, ℕ, ◌+◌, ◌<◌, ◌≤◌, List, [], ◌∷◌, ◌++◌, length, take, get_or, All, Option, Some, None, IfSome, inl, inr, refl, sym, ap, subst, ◌∙◌}
 use Rattle.std.proofs.lemmas.List.{take_all, take_more}
 use Rattle.std.proofs.lemmas.List.Elements.{All-append, All-from_recursion, All-get_or, All-from_get_or, All-weaker}
 use Rattle.bpf_model.specs.Meaning.{IsSafe}
@@ -10,28 +8,14 @@ use Rattle.client_protocol.specs.declared.limits.Version.{Version}
 use Rattle.client_protocol.specs.Requests.{Request}
 use Rattle.client_protocol.specs.Requests.Request.{Hello, Register, Get, Put, PutIfAbsent, Remove, RemoveIf, Replace, ReplaceIf, Compute, ComputeIfAbsent, ComputeIfPresent, Merge, Search, ForEach, ReplaceAll, Count}
 use Rattle.client_protocol.specs.declared.response.Response.{Response}
+use Rattle.client_protocol.specs.declared.response.Response.TheVariants as tell
+use Rattle.bpf_model.specs.declared.input.Sizes.{Sizes}
 use Rattle.program_registry.specs.declared.registry.ProgramToken.{ProgramToken}
 use Rattle.program_registry.specs.Tokens.{program_of, token_number}
 use Rattle.atomic_methods.specs.declared.walk_reply.WalkKind.TheVariants as kind
-use Rattle.sessions.specs.Asking.{asked, named, walk, replacement, count, IsCall}
+use Rattle.sessions.specs.Asking.{asked, named, walk, replacement, count, Admits, IsCall}
 use Rattle.crews.specs.Stations.{Station}
-use Rattle.crews.specs.Steps.{IsLike, Agree, has_number, with_token, Finds, number_in, CrewMeets, AsksWithProgram, CrewServes}
-
-or_false : (b : Bool) → (b || false) ≡ (false || b)
-or_false true = refl
-or_false false = refl
-
-or_assoc : (a b c : Bool) → ((a || b) || c) ≡ (a || (b || c))
-or_assoc true b c = refl
-or_assoc false b c = refl
-
-or_true : (a b : Bool) → b ≡ true → (a || b) ≡ true
-or_true true b e = refl
-or_true false b e = e
-
-or_of_false : (a b : Bool) → b ≡ false → (a || b) ≡ a
-or_of_false true b e = refl
-or_of_false false b e = e
+use Rattle.crews.specs.Steps.{IsLike, Agree, IsHeld, Finds, number_in, CrewMeets, CrewAnswersRegister, IsRefusal, AsksWithProgram, CrewServes}
 
 -- what holds of the elements so far, and of the next one
 pub one_further : {X : Type 0} (P : X → Type 0) (xs : List X) (i : ℕ) (x : X) → i < length xs → x ≡ get_or xs i x → All P (take i xs) → P x → All P (take (i + 1) xs)
@@ -70,33 +54,16 @@ agree_more tokens token agree like =
     (λ i lt. longer (get_or tokens i token) (turned (get_or tokens i token) (All-get_or (λ (t : ProgramToken). IsLike t token) tokens i token lt like)) (All-get_or (λ (t : ProgramToken). All (λ (other : ProgramToken). IsLike other t) tokens) tokens i token lt agree)))
     (All-from_recursion (λ (t : ProgramToken). All (λ (other : ProgramToken). IsLike other t) (tokens ++ token ∷ [])) (token ∷ []) (longer token (λ same. refl) like, tt))
 
--- whether the tokens so far, or the next one, have the number
-has_number-more : (number : ℕ) (tokens : List ProgramToken) (token : ProgramToken) → has_number number (tokens ++ token ∷ []) ≡ (has_number number tokens || nat_eq (token_number token) number)
-has_number-more number [] token = or_false (nat_eq (token_number token) number)
-has_number-more number (t ∷ tokens) token =
-    ap (λ (b : Bool). nat_eq (token_number t) number || b) (has_number-more number tokens token)
-    ∙ sym (or_assoc (nat_eq (token_number t) number) (has_number number tokens) (nat_eq (token_number token) number))
+-- the program of a token that is held is answered again
+pub answered_again : (hello : Option Version) (old : Station) (sizes : Sizes) (bytes : List ℕ) (token : ProgramToken) → Admits hello sizes bytes (program_of token) → IsHeld old.tokens token
+    → CrewAnswersRegister hello old sizes bytes (tell.Registered (token_number token) ∷ []) old
+answered_again hello old sizes bytes token admits held = inr (inl (token, admits, held, (refl, refl)))
 
--- the next token has the number
-pub held_here : (tokens : List ProgramToken) (i : ℕ) (token : ProgramToken) (number : ℕ) → i < length tokens → token ≡ get_or tokens i token → token_number token ≡ number
-    → true ≡ has_number number (take (i + 1) tokens)
-held_here tokens i token number lt is same =
-    sym (or_true (has_number number (take i tokens)) _ (eq-eqb _ _ same)) ∙ sym (has_number-more number (take i tokens) token)
-    ∙ ap (λ (t : ProgramToken). has_number number (take i tokens ++ t ∷ [])) is ∙ sym (ap (has_number number) (take_more tokens i token lt))
-
--- the next token hasn't
-pub held_before : (tokens : List ProgramToken) (i : ℕ) (token : ProgramToken) (number : ℕ) (held : Bool) → i < length tokens → token ≡ get_or tokens i token → token_number token ≢ number
-    → held ≡ has_number number (take i tokens) → held ≡ has_number number (take (i + 1) tokens)
-held_before tokens i token number held lt is other before =
-    before ∙ sym (or_of_false (has_number number (take i tokens)) _ (ne_eqb _ _ other)) ∙ sym (has_number-more number (take i tokens) token)
-    ∙ ap (λ (t : ProgramToken). has_number number (take i tokens ++ t ∷ [])) is ∙ sym (ap (has_number number) (take_more tokens i token lt))
-
--- one more token is kept unless its number is there
-pub with_token_held : (tokens : List ProgramToken) (token : ProgramToken) (held : Bool) → held ≡ has_number (token_number token) tokens → held ≡ true → with_token tokens token ≡ tokens
-with_token_held tokens token held is so = ap (λ (b : Bool). if b then tokens else tokens ++ token ∷ []) (sym is ∙ so)
-
-pub with_token_new : (tokens : List ProgramToken) (token : ProgramToken) (held : Bool) → held ≡ has_number (token_number token) tokens → held ≡ false → with_token tokens token ≡ tokens ++ token ∷ []
-with_token_new tokens token held is so = ap (λ (b : Bool). if b then tokens else tokens ++ token ∷ []) (sym is ∙ so)
+-- a program that isn't registered leaves all as it was
+pub register_refused : (hello : Option Version) (old : Station) (sizes : Sizes) (bytes : List ℕ) (response : Response) → IsRefusal hello sizes bytes response
+    → CrewAnswersRegister hello old sizes bytes (response ∷ []) old
+register_refused hello old sizes bytes response (inl refuses) = inr (inr (inl (response, refuses, (refl, refl))))
+register_refused hello old sizes bytes response (inr is) = inr (inr (inr (ap (λ (r : Response). r ∷ []) is, refl)))
 
 -- a call names a program by the number that its request has
 number_of_call : (request : Request) → IsCall request → number_in request ≡ named request

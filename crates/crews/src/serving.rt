@@ -1,13 +1,14 @@
 //! What answers the requests of a session: the crew's passes, and the programs that the session registered.
 ghost use Rattle.std.specs.Prelude.{◌≡◌, ℕ, List, [], ◌∷◌, All, IfOk, IfErr, MatchResult, Option, option_copied};
+ghost use Rattle.std.specs.Bool.{OnTrue};
 ghost use Rattle.bpf_model.specs.Meaning.{IsSafe};
-ghost use Rattle.program_registry.specs.Tokens.{IsOf, program_of, token_number};
+ghost use Rattle.program_registry.specs.Tokens.{IsOf, program_of};
 ghost use Rattle.client_protocol.specs.declared.limits.Version.{Version as TheVersion};
 ghost use Rattle.client_protocol.specs.Responses.{response_of};
 ghost use Rattle.sessions.specs.Answering.{responses_of, walk_responses};
 ghost use Rattle.sessions.specs.Asking.{asked, walk, replacement, count, Admits, IsCall};
 ghost use Rattle.client_protocol.specs.declared.response.Response.TheVariants as tell;
-ghost use Rattle.crews.specs.Steps.{IsLike, Agree, has_number, CrewMeets, Finds, CrewServes, AsksWithProgram, CrewAnswersRegister, IsRefusal};
+ghost use Rattle.crews.specs.Steps.{IsLike, Agree, IsHeld, CrewMeets, Finds, CrewServes, AsksWithProgram, CrewAnswersRegister, IsRefusal};
 
 use crate::team::{heard, told};
 use crate::worker::Worker;
@@ -87,21 +88,30 @@ fn known_safe<'a>(program: &'a Verified) -> &'a Verified
     program
 }
 
-/// Tests whether the number of one more token is among those of the tokens. For the proof it shows that those with its number
-/// stand for its program.
-fn is_held(registry: &Registry, tokens: &[ProgramToken], token: &ProgramToken) -> bool
+/// Looks through the tokens for those with the number of one more. For the proof alone: they stand for its program.
+fn show_agrees(registry: &Registry, tokens: &[ProgramToken], token: &ProgramToken)
     requires mine { All (λ t. IsOf registry.now t) tokens.now × IsOf registry.now token.now }
-    ensures held { result ≡ has_number (token_number token.now) tokens.now }
-    ensures like { All (λ t. IsLike t token.now) tokens.now }
+    ensures { All (λ t. IsLike t token.now) tokens.now }
 {
-    let mut held = false;
     for other in tokens {
         if other.number() == token.number() {
             registry.agrees(other, token);
-            held = true;
         }
     }
-    held
+}
+
+/// Tests whether one of the tokens has the number of one more, and so stands for the same program.
+fn is_held(registry: &Registry, tokens: &[ProgramToken], token: &ProgramToken) -> bool
+    requires mine { All (λ t. IsOf registry.now t) tokens.now × IsOf registry.now token.now }
+    ensures { OnTrue result (IsHeld tokens.now token.now) }
+{
+    for other in tokens {
+        if other.number() == token.number() {
+            registry.agrees(other, token);
+            return true;
+        }
+    }
+    false
 }
 
 /// A token of the program that the bytes spell, which came after this Hello: of the registered one that is the same, or else of
@@ -145,6 +155,7 @@ fn answer_of(reply: Result<WalkReply, NoMemory>) -> Answer
 impl<'a> Serving<'a> {
     /// Answers the number of the program that the bytes spell, which came after this Hello, and keeps its token, unless one of
     /// that number is there; the room for that comes first.
+    #[tactic(auto, using(crate::proofs::TokenLemmas::answered_again, crate::proofs::TokenLemmas::register_refused))]
     fn register<H: Wait, G>(
         &mut self,
         worker: &Worker<'_, H, G>,
@@ -162,9 +173,11 @@ impl<'a> Serving<'a> {
             Err(response) => return response,
         };
         let program = token.number();
-        if !is_held(self.registry, &self.tokens, &token) {
-            self.tokens.push_reserved(token);
+        if is_held(self.registry, &self.tokens, &token) {
+            return ShortResponse::Registered { program };
         }
+        show_agrees(self.registry, &self.tokens, &token);
+        self.tokens.push_reserved(token);
         ShortResponse::Registered { program }
     }
 
