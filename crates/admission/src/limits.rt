@@ -54,4 +54,10 @@ impl ProgramLimits {
             || usize::from(sizes.arg) > self.window
             || usize::from(sizes.result) > self.window
     }
+    /// Tests whether the bytes and sizes are within the limits. Of what the bytes spell it says nothing. Takes no memory.
+    pub fn allows(self, bytes: &[u8], sizes: Sizes) -> bool
+        ensures { IsTrue result ↔ ((HasManyUnits self bytes.now → ⊥) × (HasLargeWindow self sizes → ⊥)) }
+    {
+        !self.has_many_units(bytes) && !self.has_large_window(sizes)
+    }
 }

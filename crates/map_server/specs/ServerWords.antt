@@ -25,6 +25,7 @@ mapd_options =
     ∷ range_option (codes "workers") (pos 32)
     ∷ range_option (codes "team") (pos 8)
     ∷ size_option (codes "sessions")
+    ∷ size_option (codes "programs")
     ∷ []
 
 -- a command without subcommands
@@ -38,6 +39,7 @@ pub record AsksFor (rows : List Row) (asked : MapdWords) : Type 0 where
   pub workers : asked.workers ≡ given_size rows (codes "workers") 4
   pub team : asked.team ≡ given_size rows (codes "team") 1
   pub sessions : asked.sessions ≡ option_and_then spelled_size (one_of (codes "sessions") rows)
+  pub programs : asked.programs ≡ given_size rows (codes "programs") 65536
 
 -- what the words ask for, of which the first is the program's name: clap finds no fault in them, and they ask for this
 abbrev pub AsksServer : List (List ℕ) → MapdWords → Type 0

@@ -81,7 +81,7 @@ fn server_of(
     requires serve { All (λ pass. pass.map ≡ map) passes.items }
     requires passes { asked.now.workers * (1 + asked.now.team) ≤ vec_len passes }
 {
-    let registry = Registry::new(alloc)?;
+    let registry = Registry::bounded(alloc, asked.programs as usize)?;
     let crews = crews_of(
         alloc,
         &map,

@@ -27,6 +27,8 @@ pub struct MapdWords {
     pub team: u64,
     /// How many sessions each worker serves; none: without end.
     pub sessions: Option<u64>,
+    /// How many different programs clients may register.
+    pub programs: u64,
 }
 
 /// Why words ask for no server.
@@ -80,12 +82,15 @@ const WORKERS_DEFAULT: u16 = 4;
 /// The number of threads of each worker's walks, if none is given.
 const TEAM_DEFAULT: u16 = 1;
 
+/// The number of different programs, if none is given.
+const PROGRAMS_DEFAULT: u64 = 65_536;
+
 /// What the options cost.
 const COSTS: &str = "\
 Threads: one for each worker, and one more where there are several; while a worker walks with a team of several, so
 many more. Passes of the map: workers * (1 + team), at most 64.
 Memory: for each client that is served 20 KB, and up to 2 MB while it sends many short requests at once, beside its
-threads' stacks, what its walks answer, and the map.
+threads' stacks, what its walks answer, and the map. A registered program stays.
 A worker serves one client at a time, and further clients wait until one is free.
 Status: 0 all sessions were served, 1 refused, 2 a fault of the words, 3 a failed listen, accept or write.";
 
@@ -146,6 +151,12 @@ fn mapd_command<'a>(alloc: Global) -> Result<clap::Command<'a>, AllocError>
             "sessions",
             "NUMBER",
             "Sessions that each worker serves before it ends, 0 to 65535 [default: without end]",
+        ))?
+        .arg(size_option(
+            alloc,
+            "programs",
+            "NUMBER",
+            "Different programs that clients may register, 0 to 65535 [default: 65536]",
         ))
 }
 
@@ -177,6 +188,7 @@ fn words_of(alloc: Global, matches: &ArgMatches<'_>) -> Result<MapdWords, NoMemo
         workers: u64::from(given_size(matches, "workers", WORKERS_DEFAULT)),
         team: u64::from(given_size(matches, "team", TEAM_DEFAULT)),
         sessions: widened(given_number(matches, "sessions")),
+        programs: widened(given_number(matches, "programs")).unwrap_or(PROGRAMS_DEFAULT),
     })
 }
 

@@ -37,12 +37,13 @@ fn call<R: AllocGlobal + Threads + Wait + Net<Listener = TcpListener, Stream = T
 /// The address that rows listen on.
 const ANY_PORT: &str = "127.0.0.1:0";
 
-/// Makes the words for this address, these numbers of stripes, workers and passes of a team, and so many sessions.
+/// Makes the words for this address, these numbers of stripes, workers and passes of a team, so many sessions and programs.
 fn asked(
     alloc: Global,
     listen: &str,
     sizes: (u64, u64, u64),
     sessions: Option<u64>,
+    programs: u64,
 ) -> Result<MapdWords, AllocError> {
     Ok(MapdWords {
         listen: String::from_str(alloc, listen)?,
@@ -50,19 +51,20 @@ fn asked(
         workers: sizes.1,
         team: sizes.2,
         sessions,
+        programs,
     })
 }
 
 #[test]
 fn words_have_defaults(rt: HostRuntime) -> Result<(), Fail> {
     let words = mapd_words(rt.alloc(), &["mapd", "--listen", ANY_PORT])?;
-    let wanted = asked(rt.alloc(), ANY_PORT, (16, 4, 1), None)?;
+    let wanted = asked(rt.alloc(), ANY_PORT, (16, 4, 1), None, 65536)?;
     assert!(rt; words == wanted, "{words:?}");
     Ok(())
 }
 
 /// Each word of `mapd` once.
-const ALL_WORDS: [&str; 10] = [
+const ALL_WORDS: [&str; 11] = [
     "mapd",
     "--listen",
     "[::1]:7",
@@ -73,12 +75,13 @@ const ALL_WORDS: [&str; 10] = [
     "8",
     "--sessions",
     "65535",
+    "--programs=100",
 ];
 
 #[test]
 fn words_are_taken(rt: HostRuntime) -> Result<(), Fail> {
     let words = mapd_words(rt.alloc(), &ALL_WORDS)?;
-    let wanted = asked(rt.alloc(), "[::1]:7", (2, 32, 8), Some(65535))?;
+    let wanted = asked(rt.alloc(), "[::1]:7", (2, 32, 8), Some(65535), 100)?;
     assert!(rt; words == wanted, "{words:?}");
     Ok(())
 }
