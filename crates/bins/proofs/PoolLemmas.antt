@@ -1,15 +1,14 @@
 -- Why there is a free segment as long as a position has no row.
-use Rattle.std.proofs.Common.{◌≡◌, ◌≢◌, ℕ, zero, suc, ◌+◌, ◌-◌, ◌*◌, ◌/◌, ◌<◌, ◌≤◌, Bool, true, false, cond, nat_eq, List, [], ◌∷◌, length, min, set, refl, sym, ap, ◌∙◌, inl, inr, arith}
-use Rattle.std.specs.Prelude.{count_by}
+use Rattle.std.proofs.Common.{◌≡◌, ◌≢◌, ℕ, zero, suc, ◌+◌, ◌*◌, ◌<◌, ◌≤◌, Bool, true, false, cond, nat_eq, List, [], ◌∷◌, length, set, refl, ap, inl, inr, arith}
 use Rattle.std.specs.List.{sum_by}
-use Rattle.std.proofs.lemmas.Bool.{cases_Bool, cases_eq, cases_lt, eq-eqb, eqb-true}
+use Rattle.std.proofs.lemmas.Bool.{cases_Bool, cases_eq, eqb-true}
 use Rattle.std.proofs.lemmas.List.{length-set}
 use Rattle.std.proofs.lemmas.List.Sums.{count_by-le-length, sum_by-cons, sum_by-set}
 use Rattle.bins.specs.declared.raw_rows.TheConstants.{WIDTHS}
 use Rattle.bins.specs.declared.location.Width.{Width}
 use Rattle.bins.specs.declared.location.Location.{Location}
 use Rattle.bins.specs.declared.location.Location.TheVariants.{Vacant, In}
-use Rattle.bins.specs.KeptRows.{AreRows, Lists, is_in, location_at}
+use Rattle.bins.specs.KeptRows.{AreRows, location_at}
 use Rattle.bins.specs.Segments.{AreFew, KeptWidth}
 use Rattle.bins.specs.Rows.{segments_for, total, used, width_at}
 use Rattle.bins.proofs.RowLemmas.{weight}

@@ -1,5 +1,5 @@
 -- The room that is left where the rows of one width change.
-use Rattle.std.proofs.Common.{◌≡◌, ◌≢◌, ℕ, ◌+◌, ◌-◌, ◌<◌, ◌≤◌, Bool, true, false, cond, nat_eq, List, [], length, get_or, min, set, refl, sym, ap, subst, ◌∙◌, inl, inr, arith, get_or-set_same, get_or-set_other}
+use Rattle.std.proofs.Common.{◌≡◌, ◌≢◌, ℕ, ◌+◌, ◌-◌, ◌<◌, ◌≤◌, Bool, true, false, cond, List, [], length, get_or, set, refl, sym, ap, subst, ◌∙◌, inl, inr, arith, get_or-set_same, get_or-set_other}
 use Rattle.std.specs.Prelude.{vec_capacity}
 use Rattle.std.proofs.lemmas.Bool.{cases_Bool, cases_eq, cases_lt, eqb-true, eq-eqb}
 use Rattle.std.proofs.lemmas.List.{get_or_past, get_or_read, length-set}
@@ -12,7 +12,7 @@ use Rattle.bins.specs.declared.location.Location.TheVariants.{In}
 use Rattle.bins.specs.KeptRows.{AreRows, KeptRow, Lists, is_same_width, location_at, with_rows}
 use Rattle.bins.specs.Segments.{AreFew, KeptWidth, no_width}
 use Rattle.bpf_model.specs.declared.limits.TheConstants.{KEY_BYTES, VALUE_BYTES}
-use Rattle.bins.specs.Rows.{AreWider, AreWidths, HasRoom, IsKept, IsRoomy, segments_for, used, width_at}
+use Rattle.bins.specs.Rows.{AreWider, AreWidths, IsKept, IsRoomy, segments_for, used, width_at}
 use Rattle.bins.proofs.PoolLemmas.{total_changed, total_part, total_same, total_zero}
 use Rattle.bins.proofs.RowLemmas.{not_vacant}
 

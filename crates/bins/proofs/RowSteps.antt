@@ -1,5 +1,5 @@
 -- What a step on rows leaves, said of all widths at once: rows again, and their keys and values.
-use Rattle.std.proofs.Common.{◌≡◌, ◌≢◌, ℕ, ◌-◌, ◌<◌, ◌≤◌, List, [], ◌∷◌, ◌++◌, length, get_or, set, refl, sym, ap, subst, ◌∙◌, arith, inl, inr}
+use Rattle.std.proofs.Common.{◌≡◌, ◌≢◌, ℕ, ◌-◌, ◌<◌, List, [], ◌∷◌, ◌++◌, length, get_or, set, refl, sym, ap, subst, ◌∙◌, arith, inl, inr}
 use Rattle.std.specs.List.{swap_remove}
 use Rattle.std.proofs.lemmas.List.{length-map, length-set, length_push, set-get_or}
 use Rattle.bins.specs.declared.location.TheConstants.{MOST_ROWS}

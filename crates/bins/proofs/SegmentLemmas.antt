@@ -1,5 +1,5 @@
 -- What a write to a part of a segment leaves.
-use Rattle.std.proofs.Common.{◌≡◌, ℕ, zero, suc, ◌+◌, ◌-◌, ◌<◌, ◌≤◌, ◌⊎◌, List, [], ◌∷◌, ◌++◌, length, take, drop, min, refl, sym, ap, ◌∙◌, inl, inr, arith, length-append, length-drop}
+use Rattle.std.proofs.Common.{◌≡◌, ℕ, zero, suc, ◌+◌, ◌-◌, ◌<◌, ◌≤◌, List, ◌++◌, length, take, drop, refl, sym, ap, ◌∙◌, inl, inr, arith, length-append, length-drop}
 use Rattle.std.proofs.lemmas.List.{drop-append-le, drop-take, length-take, take-append-le, take-take, take_at}
 use Rattle.std.proofs.lemmas.Slice.{between-put_mid, drop-put_mid, put_mid-paste, take-put_mid_below}
 use Rattle.std.specs.List.{copy_within}

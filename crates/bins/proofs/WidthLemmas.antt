@@ -3,10 +3,10 @@ use Rattle.std.proofs.Common.{◌≡◌, ◌≢◌, ℕ, zero, suc, ◌+◌, ◌
 use Rattle.std.proofs.lemmas.Bool.{cases_eq, cases_lt}
 use Rattle.std.proofs.lemmas.List.{get_or_append_left, get_or_push, get_or_read, length-set, length_push, length-take-le, set_at, set-append_left}
 use Rattle.std.proofs.Math.Nat.{mul-le-mul_left, pow-le-pow_right}
-use Rattle.bins.specs.KeptRows.{HoldsRow, KeptRow, row_in, row_at}
+use Rattle.bins.specs.KeptRows.{HoldsRow, KeptRow, row_in}
 use Rattle.bins.specs.Segments.{AreSegments, HoldRows, HoldsSlot, IsClosed, IsOpened, KeepsOthers, part, rows_from, slot}
 use Rattle.bins.proofs.SegmentLemmas.{inside_part}
-use Rattle.bins.proofs.SlotLemmas.{has_segment, hold_others, place, rows_long, rows_pushed, rows_read, rows_set, slot_before, slot_here, slot_left, slot_other, within}
+use Rattle.bins.proofs.SlotLemmas.{has_segment, hold_others, place, rows_pushed, rows_set, slot_before, slot_here, slot_left, slot_other, within}
 
 pub each_many : (shift : ℕ) → 8 ≤ shift → 256 ≤ 2 ^ shift
 each_many shift small = pow-le-pow_right {n = 2} (omega arith) {i = 8} {j = shift} small

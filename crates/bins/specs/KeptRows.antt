@@ -1,5 +1,5 @@
 -- The rows of a table's entries: a key and its value side by side, where the location of their position says.
-use Rattle.std.specs.Prelude.{◌≡◌, ℕ, ◌+◌, ◌<◌, ◌≤◌, ◌%◌, ◌/◌, Bool, true, false, cond, nat_eq, List, [], length, map, take, drop, count_by, slice_index_or, ⊤}
+use Rattle.std.specs.Prelude.{◌≡◌, ℕ, ◌+◌, ◌<◌, ◌≤◌, ◌%◌, ◌/◌, Bool, false, cond, nat_eq, List, [], length, map, take, drop, count_by, slice_index_or, ⊤}
 use Rattle.bpf_model.specs.declared.limits.TheConstants.{KEY_BYTES, VALUE_BYTES}
 use Rattle.byteorder.specs.Endian.{little_bytes, little_number}
 use Rattle.bins.specs.declared.location.TheConstants.{MOST_ROWS, VACANT_CODE, WIDTH_CODES}

@@ -1,4 +1,4 @@
-use Rattle.std.proofs.Common.{◌≡◌, ◌+◌, ◌≤◌, ℕ, sym, ap, ◌∙◌, arith}
+use Rattle.std.proofs.Common.{◌+◌, ◌≤◌, ℕ, arith}
 use Rattle.bins.specs.declared.raw_rows.TheConstants.{WIDTHS}
 use Rattle.bins.specs.Rows.{total, used, width_at}
 use Rattle.bins.proofs.PoolLemmas.{total_more, total_start, total_upto}

@@ -1,4 +1,4 @@
-use Rattle.std.proofs.Common.{◌≡◌, ◌<◌, ◌≤◌, ℕ}
+use Rattle.std.proofs.Common.{◌<◌, ◌≤◌, ℕ}
 use Rattle.bins.specs.Rows.{AreWider, width_at}
 use Rattle.bins.proofs.raw_rows.widen.Given as goal
 

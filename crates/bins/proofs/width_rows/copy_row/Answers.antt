@@ -1,8 +1,8 @@
-use Rattle.std.proofs.Common.{◌≡◌, ◌≢◌, ◌+◌, ◌-◌, ◌<◌, ◌≤◌, ◌^◌, ◌*◌, ◌/◌, ◌++◌, ◌∷◌, [], List, ℕ, length, get_or, set, refl, sym, ap, subst, ◌∙◌, arith}
+use Rattle.std.proofs.Common.{◌≡◌, ◌<◌, ◌^◌, ◌/◌, ◌++◌, ◌∷◌, [], List, ℕ, length, get_or, set, sym, ap, subst, ◌∙◌, arith}
 use Rattle.std.proofs.lemmas.List.{get_or_read}
 use Rattle.std.proofs.Math.Nat.{pow-le-pow_right}
-use Rattle.bins.specs.Segments.{KeepsOthers, part, slot}
-use Rattle.bins.proofs.SlotLemmas.{has_segment, place}
+use Rattle.bins.specs.Segments.{KeepsOthers, part}
+use Rattle.bins.proofs.SlotLemmas.{place}
 use Rattle.bins.proofs.WidthLemmas.{Copied, copied_else, copied_same, front_inside}
 use Rattle.bins.proofs.width_rows.copy_row.Goals as goal
 use Rattle.bins.proofs.width_rows.copy_row.Goals.{then-index-len, else-index-len}

@@ -1,4 +1,4 @@
-use Rattle.std.proofs.Common.{◌≡◌, ◌<◌, ◌^◌, sym, ◌∙◌, arith}
+use Rattle.std.proofs.Common.{◌<◌, ◌^◌, sym, ◌∙◌, arith}
 use Rattle.bins.proofs.WidthLemmas.{opened_same}
 use Rattle.bins.proofs.width_rows.open_slot.Goals as goal
 

@@ -1,6 +1,6 @@
-use Rattle.std.proofs.Common.{◌≡◌, ◌+◌, ◌-◌, ◌<◌, ◌≤◌, ◌++◌, ◌∷◌, [], ℕ, length, set, refl, sym, ap, ◌∙◌, arith}
+use Rattle.std.proofs.Common.{◌-◌, ◌<◌, length, refl, ap, ◌∙◌, arith}
 use Rattle.std.specs.List.{swap_remove}
-use Rattle.bins.specs.KeptRows.{KeptRow, kept, nobody, row_at}
+use Rattle.bins.specs.KeptRows.{nobody, row_at}
 use Rattle.bins.specs.Segments.{KeptWidth}
 use Rattle.bins.proofs.RoomLemmas.{lists_set, read_width, roomy_set, used_part, width_inside}
 use Rattle.bins.proofs.raw_rows.RawRows.remove_in.Goals as goal

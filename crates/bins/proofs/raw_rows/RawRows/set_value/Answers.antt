@@ -1,4 +1,4 @@
-use Rattle.std.proofs.Common.{rules, ◌≡◌, refl, sym, ◌∙◌}
+use Rattle.std.proofs.Common.{◌≡◌, refl, sym, ◌∙◌}
 use Rattle.bins.specs.declared.location.Location.TheVariants.{In}
 use Rattle.bins.specs.KeptRows.{KeptRow, kept, location_at, row_at}
 use Rattle.bins.specs.Rows.{keys_in, lists_in, rows_in}

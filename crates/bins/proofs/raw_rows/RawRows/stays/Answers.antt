@@ -1,8 +1,7 @@
-use Rattle.std.proofs.Common.{◌≡◌, ◌+◌, ◌-◌, ◌<◌, ◌≤◌, ◌++◌, ◌∷◌, [], ℕ, length, set, refl, sym, ap, ◌∙◌, arith}
-use Rattle.std.specs.List.{swap_remove}
-use Rattle.bins.specs.KeptRows.{KeptRow, kept, nobody, row_at}
+use Rattle.std.proofs.Common.{length, ap, arith}
+use Rattle.bins.specs.KeptRows.{row_at}
 use Rattle.bins.specs.Segments.{KeptWidth}
-use Rattle.bins.proofs.RoomLemmas.{lists_set, read_width, roomy_set, width_inside}
+use Rattle.bins.proofs.RoomLemmas.{read_width, width_inside}
 use Rattle.bins.proofs.raw_rows.RawRows.stays.Goals as goal
 
 pub index-rows-requires : goal.index-rows-requires

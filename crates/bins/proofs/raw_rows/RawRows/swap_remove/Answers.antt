@@ -1,4 +1,4 @@
-use Rattle.std.proofs.Common.{◌≡◌, ◌<◌, [], List, ℕ, length, arith, sym, ap, subst, ◌∙◌}
+use Rattle.std.proofs.Common.{◌<◌, [], List, ℕ, length, arith, sym, ap, subst, ◌∙◌}
 use Rattle.std.specs.List.{swap_remove}
 use Rattle.bins.specs.declared.location.Location.{Location}
 use Rattle.bins.specs.KeptRows.{AreRows, Lists, keys_of, values_of}

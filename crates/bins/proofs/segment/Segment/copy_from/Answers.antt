@@ -1,4 +1,4 @@
-use Rattle.std.proofs.Common.{◌≡◌, ◌+◌, ◌-◌, ◌<◌, length, sym, ap, ◌∙◌, arith}
+use Rattle.std.proofs.Common.{◌+◌, ◌-◌, length, sym, ap, ◌∙◌, arith}
 use Rattle.bins.proofs.SegmentLemmas.{kept_through, row_through}
 use Rattle.bins.proofs.segment.Segment.copy_from.Goals as goal
 

@@ -1,4 +1,4 @@
-use Rattle.std.proofs.Common.{◌≡◌, ◌+◌, ◌-◌, length, drop, length-drop, sym, ap, ◌∙◌, arith}
+use Rattle.std.proofs.Common.{◌+◌, ◌-◌, length, drop, length-drop, sym, ap, arith}
 use Rattle.std.proofs.lemmas.List.{length-take}
 use Rattle.bins.proofs.SegmentLemmas.{kept_through}
 use Rattle.bins.proofs.segment.Segment.set_owner.Goals as goal

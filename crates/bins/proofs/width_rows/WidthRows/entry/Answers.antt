@@ -1,6 +1,6 @@
-use Rattle.std.proofs.Common.{◌≡◌, ◌<◌, ◌^◌, List, ℕ, length, sym, ap, subst, ◌∙◌, arith}
-use Rattle.bins.specs.KeptRows.{HoldsRow, KeptRow, key_in, value_in, row_at, row_in}
-use Rattle.bins.specs.Segments.{KeptWidth, slot}
+use Rattle.std.proofs.Common.{◌<◌, ◌^◌, length, sym, ap, subst, ◌∙◌, arith}
+use Rattle.bins.specs.KeptRows.{HoldsRow, KeptRow, key_in, value_in, row_at}
+use Rattle.bins.specs.Segments.{KeptWidth}
 use Rattle.bins.proofs.SlotLemmas.{rows_long, rows_read}
 use Rattle.bins.proofs.width_rows.WidthRows.entry.Goals as goal
 

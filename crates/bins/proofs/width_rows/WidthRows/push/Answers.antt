@@ -1,6 +1,6 @@
-use Rattle.std.proofs.Common.{◌≡◌, ◌+◌, ◌*◌, ◌<◌, ◌≤◌, ◌^◌, ◌/◌, ◌++◌, ◌∷◌, [], List, ℕ, length, get_or, set, refl, sym, ap, subst, ◌∙◌, arith}
+use Rattle.std.proofs.Common.{◌≡◌, ◌+◌, ◌<◌, ◌^◌, ◌/◌, ◌++◌, ◌∷◌, [], List, ℕ, length, get_or, set, ap, subst, ◌∙◌, arith}
 use Rattle.std.proofs.lemmas.List.{get_or_read}
-use Rattle.bins.specs.KeptRows.{KeptRow, kept, row_in}
+use Rattle.bins.specs.KeptRows.{kept, row_in}
 use Rattle.bins.specs.Segments.{HoldsSlot, KeepsOthers, KeptWidth, part}
 use Rattle.bins.proofs.SlotLemmas.{place, rows_long}
 use Rattle.bins.proofs.WidthLemmas.{added_to, few_inside, next_inside}

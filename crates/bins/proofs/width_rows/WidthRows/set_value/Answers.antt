@@ -1,8 +1,8 @@
-use Rattle.std.proofs.Common.{◌≡◌, ◌+◌, ◌<◌, ◌≤◌, ◌^◌, ◌/◌, [], List, ℕ, length, get_or, set, refl, sym, ap, subst, ◌∙◌, arith}
+use Rattle.std.proofs.Common.{◌≡◌, ◌<◌, ◌^◌, ◌/◌, [], List, ℕ, length, get_or, set, sym, ap, subst, ◌∙◌, arith}
 use Rattle.bins.specs.KeptRows.{KeptRow, kept, key_in, row_at, row_in}
 use Rattle.bins.specs.Segments.{HoldsSlot, KeepsOthers, KeptWidth, part, rows_from, slot}
 use Rattle.bins.proofs.SlotLemmas.{place, rows_long, rows_read}
-use Rattle.bins.proofs.WidthLemmas.{Written, bytes_hold, bytes_inside, few_inside, row_inside, same_bytes, same_slot, written_to}
+use Rattle.bins.proofs.WidthLemmas.{bytes_hold, bytes_inside, few_inside, row_inside, same_bytes, same_slot, written_to}
 use Rattle.bins.proofs.width_rows.WidthRows.set_value.Goals as goal
 
 pub index_mut-segment-requires : goal.index_mut-segment-requires

@@ -1,8 +1,7 @@
-use Rattle.std.proofs.Common.{◌≡◌, ◌≢◌, ◌+◌, ◌-◌, ◌*◌, ◌<◌, ◌≤◌, ◌^◌, ◌/◌, List, ℕ, length, refl, sym, ap, subst, ◌∙◌, inl, inr, arith}
+use Rattle.std.proofs.Common.{◌-◌, ◌<◌, ◌^◌, List, ℕ, length, sym, ap, subst, ◌∙◌, arith}
 use Rattle.std.specs.List.{swap_remove}
-use Rattle.std.proofs.lemmas.Bool.{cases_eq}
 use Rattle.bins.specs.KeptRows.{HoldsRow, KeptRow, nobody, row_at, row_in}
-use Rattle.bins.specs.Segments.{HoldsSlot, KeptWidth, rows_from, slot}
+use Rattle.bins.specs.Segments.{KeptWidth, rows_from}
 use Rattle.bins.proofs.SlotLemmas.{rows_less, rows_long, rows_read}
 use Rattle.bins.proofs.WidthLemmas.{closed_all, few_inside, last_segment}
 use Rattle.bins.proofs.width_rows.WidthRows.swap_remove.Goals as goal
