@@ -7,14 +7,23 @@
 #![tactic(auto)]
 
 mod accept;
+mod arrivals;
+mod host;
 mod opening;
+mod patience;
 mod program;
+mod server;
+mod sockets;
+mod tcp;
 mod telling;
+mod threads;
 mod words;
 
+pub use arrivals::Limits;
 pub use accept::{Quotas, TcpAccept, TcpReader, TcpWriter};
 pub use admission::{AdmissionFault, ProgramLimits, admit};
 pub use crews::{Accept, Crew, serve, session};
+pub use host::{Host, Port};
 pub use devices::{
     Failed, ReadAfterFlush, ReadFault, Sink, Source, StreamSink, StreamSource, read_all, write_all,
 };
@@ -23,6 +32,7 @@ pub use map_commands::{
     hex_bytes, parse_words, report_of, tell_unread_words, unit_lines,
 };
 pub use program::mapd_on;
+pub use server::{Served, Server};
 pub use sessions::{Alone, Answer, Service, SessionEnd, run_session, session_alone};
 pub use telling::Telling;
 pub use words::{MapdWords, WordsFault, mapd_words};

@@ -10,4 +10,6 @@ returns c = record {
   workers = c.from-2.ensures ∙ c.given_size-2.ensures;
   team = c.from-3.ensures ∙ c.given_size-3.ensures;
   sessions = c.widened.ensures ∙ c.given_number.ensures;
+  clients = c.from-4.ensures ∙ c.given_size-4.ensures;
+  idle = c.widened-2.ensures ∙ c.given_number-2.ensures;
 }
