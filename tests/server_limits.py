@@ -77,29 +77,27 @@ def accepts_are_tried_again(program: Path) -> None:
     with started(program, "--workers", "2") as server, wire.opened(server.address) as first:
         same("a Put", first.ask(wire.put(b"kept", b"1")), wire.NOTHING)
         _, hard = resource.prlimit(server.process.pid, resource.RLIMIT_NOFILE)
-        resource.prlimit(server.process.pid, resource.RLIMIT_NOFILE, (len(descriptors_of(server)), hard))
-        waiting = [wire.Client(server.address) for _ in range(2)]
+        resource.prlimit(server.process.pid, resource.RLIMIT_NOFILE, (3, hard))
+        waiting = [wire.Client(server.address) for _ in range(3)]
         for client in waiting:
             client.send(wire.HELLO)
-        same("the beginning of the line", told_line(server)[:14], "accepts wait: ")
-        same("a Get beside it", first.ask(wire.get(b"kept")), wire.value(b"1"))
-        resource.prlimit(server.process.pid, resource.RLIMIT_NOFILE, (1000, hard))
-        answered = [client for client in waiting if is_answered(client, SOON)]
-        same("somebody who waited is answered", bool(answered), True)
-        same("the line", told_line(server), "accepts go on")
-        same("a Get by one who waited", answered[0].ask(wire.get(b"kept")), wire.value(b"1"))
+        same("a Get beside them", first.ask(wire.get(b"kept")), wire.value(b"1"))
         first.socket.close()
+        same("the beginning of the line", told_line(server)[:14], "accepts wait: ")
+        resource.prlimit(server.process.pid, resource.RLIMIT_NOFILE, (1000, hard))
         for client in waiting:
+            same("one who waited is answered", is_answered(client, SOON), True)
+            same("a Get by one who waited", client.ask(wire.get(b"kept")), wire.value(b"1"))
             client.socket.close()
         with wire.opened(server.address) as one, wire.opened(server.address) as other:
             same("a Get by both workers", [one.ask(wire.get(b"kept")), other.ask(wire.get(b"kept"))], [wire.value(b"1")] * 2)
+            same("the line", told_line(server), "accepts go on")
 
 
 def stop_listening(server: wire.Server) -> None:
     """Ends the server's listening socket from outside, so that each accept fails for good."""
     system = ctypes.CDLL(None, use_errno=True)
     process = system.syscall(PIDFD_OPEN, server.process.pid, 0)
-    stopped = False
     for name in descriptors_of(server):
         if not os.readlink(name).startswith("socket:"):
             continue
@@ -109,9 +107,9 @@ def stop_listening(server: wire.Server) -> None:
         with socket.socket(fileno=found) as taken:
             if taken.getsockopt(socket.SOL_SOCKET, socket.SO_ACCEPTCONN):
                 taken.shutdown(socket.SHUT_RDWR)
-                stopped = True
-    os.close(process)
-    same("a listening socket is found", stopped, True)
+                os.close(process)
+                return
+    raise Wrong("no listening socket is found")
 
 
 def failed_accepts_end_the_server(program: Path) -> None:

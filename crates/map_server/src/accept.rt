@@ -4,6 +4,7 @@ ghost use Rattle.devices.specs.Devices.{CanRead, CanWrite};
 
 use crate::arrivals::{Arrivals, Limits, NO_LIMITS, Then};
 use crate::patience::Patience;
+use crate::shared_stream::SharedStream;
 use crate::sockets::{hear_out, set_up};
 use crate::telling::Telling;
 use bpf_model::NoMemory;
@@ -23,10 +24,10 @@ use std::thread;
 const KEPT_BYTES: usize = 16384;
 
 /// What a worker reads its client's requests from.
-pub type TcpReader = StreamSource<TcpStream>;
+pub type TcpReader = StreamSource<SharedStream>;
 
 /// What it writes the answers to.
-pub type TcpWriter = StreamSink<BufWriter<TcpStream>>;
+pub type TcpWriter = StreamSink<BufWriter<SharedStream>>;
 
 /// The clients of one port. Each worker takes its next client by itself, until it has served as many as it may. It counts
 /// the clients. If an accept fails of a want that may pass, the worker waits and accepts again, for an hour at most. Any other failed
@@ -40,11 +41,21 @@ pub struct TcpAccept<'a, 'b, H: Wait + Clock, E: Sink> {
 }
 
 /// A writer to the stream, which keeps answers back. If there is no memory for that, it keeps back none.
-fn writer_to(alloc: Global, stream: &TcpStream) -> io::Result<BufWriter<TcpStream>> {
-    match BufWriter::with_capacity(alloc, KEPT_BYTES, stream.try_clone()?) {
+fn writer_to(alloc: Global, stream: &SharedStream) -> io::Result<BufWriter<SharedStream>> {
+    match BufWriter::with_capacity(alloc, KEPT_BYTES, stream.shared()?) {
         Ok(writer) => Ok(writer),
-        Err(_) => BufWriter::with_capacity(alloc, 0, stream.try_clone()?),
+        Err(_) => BufWriter::with_capacity(alloc, 0, stream.shared()?),
     }
+}
+
+/// The stream for a reader, and a writer to it. It has one descriptor.
+fn both_ways(
+    alloc: Global,
+    stream: TcpStream,
+) -> io::Result<(SharedStream, BufWriter<SharedStream>)> {
+    let stream = SharedStream::new(alloc, stream)?;
+    let writer = writer_to(alloc, &stream)?;
+    Ok((stream, writer))
 }
 
 /// Tells a client that there is no room for it.
@@ -147,24 +158,8 @@ impl<'a, 'b, H: Wait + Clock, E: Sink> TcpAccept<'a, 'b, H, E> {
         for _ in 0..u64::MAX {
             match self.listener.accept() {
                 Ok((stream, _)) => {
-                    self.arrivals.tell_plenty();
+                    self.arrivals.tell_plenty(&mut patience);
                     return Ok(stream);
-                }
-                Err(error) if self.waits(&mut patience, &error) => {}
-                Err(error) => return Err(error),
-            }
-        }
-        Err(io::Error::from(ErrorKind::Interrupted))
-    }
-
-    /// A writer to the stream.
-    fn writer(&self, stream: &TcpStream) -> io::Result<BufWriter<TcpStream>> {
-        let mut patience = Patience::new();
-        for _ in 0..u64::MAX {
-            match writer_to(self.alloc, stream) {
-                Ok(writer) => {
-                    self.arrivals.tell_plenty();
-                    return Ok(writer);
                 }
                 Err(error) if self.waits(&mut patience, &error) => {}
                 Err(error) => return Err(error),
@@ -193,10 +188,10 @@ impl<'a, 'b, H: Wait + Clock, E: Sink> TcpAccept<'a, 'b, H, E> {
     {
         let stream = self.next_within()?;
         set_up(&stream, self.arrivals.limits.idle);
-        match self.writer(&stream) {
-            Ok(writer) => {
+        match both_ways(self.alloc, stream) {
+            Ok((reader, writer)) => {
                 self.arrivals.is_handed_out();
-                Ok((StreamSource::new(stream), StreamSink::new(writer)))
+                Ok((StreamSource::new(reader), StreamSink::new(writer)))
             }
             Err(error) => {
                 self.arrivals.leaves();
@@ -223,7 +218,7 @@ impl<'a, 'b, H: Wait + Clock, E: Sink> Accept<TcpReader, TcpWriter> for TcpAccep
     fn ended(&self, _worker: u32, reader: TcpReader, writer: TcpWriter, end: SessionEnd) {
         let (stream, _) = writer.into_inner().into_parts();
         if matches!(end, SessionEnd::Refused(_) | SessionEnd::NoMemory) {
-            hear_out(self.arrivals.rt, &stream);
+            hear_out(self.arrivals.rt, stream.as_stream());
         }
         drop(reader);
         self.arrivals.leaves();

@@ -43,7 +43,7 @@ pub(crate) struct Arrivals<'a, 'b, H: Wait + Clock, E: Sink> {
     pub(crate) limits: Limits,
     streams: AtomicU64,
     here: AtomicU64,
-    wanting: AtomicBool,
+    wanting: AtomicU64,
     failed: AtomicBool,
     errors: Mutex<Telling<'b, E>>,
 }
@@ -72,7 +72,7 @@ impl<'a, 'b, H: Wait + Clock, E: Sink> Arrivals<'a, 'b, H, E> {
             limits,
             streams: AtomicU64::new(0),
             here: AtomicU64::new(0),
-            wanting: AtomicBool::new(false),
+            wanting: AtomicU64::new(0),
             failed: AtomicBool::new(false),
             errors: Mutex::new(errors),
         }
@@ -122,9 +122,9 @@ impl<'a, 'b, H: Wait + Clock, E: Sink> Arrivals<'a, 'b, H, E> {
         }
     }
 
-    /// An accept failed of a want that may pass. Standard error is told of the first one.
+    /// A worker's accept failed of a want that may pass. Standard error is told of the first such worker.
     fn tell_want(&self, error: &io::Error) {
-        if self.wanting.swap(true, Ordering::SeqCst) {
+        if self.wanting.fetch_add(1, Ordering::SeqCst) > 0 {
             return;
         }
         let mut errors = self.errors.lock(self.rt);
@@ -134,9 +134,13 @@ impl<'a, 'b, H: Wait + Clock, E: Sink> Arrivals<'a, 'b, H, E> {
         }
     }
 
-    /// Nothing is wanting. Standard error is told if something was.
-    pub(crate) fn tell_plenty(&self) {
-        if self.wanting.load(Ordering::SeqCst) && self.wanting.swap(false, Ordering::SeqCst) {
+    /// Nothing is wanting for this worker. Standard error is told if that is so for all again.
+    pub(crate) fn tell_plenty(&self, patience: &mut Patience) {
+        if !patience.has_waited() {
+            return;
+        }
+        *patience = Patience::new();
+        if self.wanting.fetch_sub(1, Ordering::SeqCst) == 1 {
             self.errors.lock(self.rt).tell(b"accepts go on\n");
         }
     }
@@ -146,13 +150,18 @@ impl<'a, 'b, H: Wait + Clock, E: Sink> Arrivals<'a, 'b, H, E> {
         match accept_fault(error) {
             AcceptFault::Gone => Then::Again,
             AcceptFault::Lasting => Then::Never,
-            AcceptFault::Passing => match patience.next_wait() {
-                None => Then::Never,
-                Some(wait) => {
-                    self.tell_want(error);
-                    Then::After(Duration::from_millis(wait))
-                }
-            },
+            AcceptFault::Passing => self.after_want(patience, error),
+        }
+    }
+
+    /// What follows from a want that may pass, after so much patience.
+    fn after_want(&self, patience: &mut Patience, error: &io::Error) -> Then {
+        if !patience.has_waited() {
+            self.tell_want(error);
+        }
+        match patience.next_wait() {
+            None => Then::Never,
+            Some(wait) => Then::After(Duration::from_millis(wait)),
         }
     }
 }

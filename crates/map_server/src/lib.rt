@@ -13,6 +13,7 @@ mod opening;
 mod patience;
 mod program;
 mod server;
+mod shared_stream;
 mod sockets;
 mod tcp;
 mod telling;
@@ -33,6 +34,7 @@ pub use map_commands::{
 };
 pub use program::mapd_on;
 pub use server::{Served, Server};
+pub use shared_stream::SharedStream;
 pub use sessions::{Alone, Answer, Service, SessionEnd, run_session, session_alone};
 pub use telling::Telling;
 pub use words::{MapdWords, WordsFault, mapd_words};

@@ -1,9 +1,10 @@
 //! How a worker goes on when an accept fails.
-ghost use Rattle.std.specs.Prelude.{◌≡◌, ◌≤◌};
+ghost use Rattle.std.specs.Prelude.{◌≡◌, ◌<◌, ◌↔◌, IsTrue};
 ghost use Rattle.map_server.specs.Waits.{WaitsOnce};
 
 use libc::{EMFILE, ENOMEM, EPERM};
 use std::io::{self, ErrorKind};
+use std::marker::Model;
 
 /// The first wait, in milliseconds.
 const FIRST_WAIT: u64 = 10;
@@ -56,24 +57,39 @@ pub fn accept_fault(error: &io::Error) -> AcceptFault {
 }
 
 /// How long is waited before the next accept, and how long was, in milliseconds.
-#[derive(Clone, Copy, Debug, PartialEq, Eq)]
+#[derive(Drop)]
 pub struct Patience {
     next: u64,
     waited: u64,
-    ghost short: { next ≤ 1000 },
-    ghost within: { waited ≤ 3601000 },
+}
+
+impl Model for Patience {
+    ghost use Rattle.std.specs.Prelude.{◌≤◌};
+    ghost use Rattle.map_server.specs.Waits.{Waits};
+
+    ghost Value = { Waits };
+
+    ghost view = { λ p. record { next = p.next; waited = p.waited } };
+
+    ghost invariant = { λ p. (p.next ≤ 1000) × (p.waited ≤ 3601000) };
 }
 
 impl Patience {
     /// Nothing was waited for: the first wait is the shortest.
     pub fn new() -> Patience
-        ensures next { result.next ≡ 10 }
-        ensures waited { result.waited ≡ 0 }
+        ensures { result ≡ record { next = 10; waited = 0 } }
     {
         Patience {
             next: FIRST_WAIT,
             waited: 0,
         }
+    }
+
+    /// Something was waited for.
+    pub fn has_waited(&self) -> bool
+        ensures { IsTrue result ↔ (0 < self.now.waited) }
+    {
+        self.waited > 0
     }
 
     /// The next wait, in milliseconds; none if an hour was waited.
