@@ -111,18 +111,24 @@ impl<'a, 'b, H: Wait + Clock, E: Sink> TcpAccept<'a, 'b, H, E> {
         quotas: Quotas,
         errors: Telling<'b, E>,
     ) -> TcpAccept<'a, 'b, H, E> {
+        TcpAccept::within(rt, alloc, listener, quotas, NO_LIMITS, errors)
+    }
+
+    /// The same clients, within these limits.
+    pub fn within(
+        rt: &'a H,
+        alloc: Global,
+        listener: TcpListener,
+        quotas: Quotas,
+        limits: Limits,
+        errors: Telling<'b, E>,
+    ) -> TcpAccept<'a, 'b, H, E> {
         TcpAccept {
-            arrivals: Arrivals::new(rt, alloc, NO_LIMITS, errors),
+            arrivals: Arrivals::new(rt, alloc, limits, errors),
             alloc,
             listener,
             quotas,
         }
-    }
-
-    /// The same clients, within these limits.
-    pub fn limited(mut self, limits: Limits) -> TcpAccept<'a, 'b, H, E> {
-        self.arrivals.limits = limits;
-        self
     }
 
     /// How many clients were handed out.

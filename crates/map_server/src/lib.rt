@@ -20,21 +20,21 @@ mod telling;
 mod threads;
 mod words;
 
-pub use arrivals::Limits;
 pub use accept::{Quotas, TcpAccept, TcpReader, TcpWriter};
 pub use admission::{AdmissionFault, ProgramLimits, admit};
+pub use arrivals::Limits;
 pub use crews::{Accept, Crew, serve, session};
-pub use host::{Host, Port};
 pub use devices::{
     Failed, ReadAfterFlush, ReadFault, Sink, Source, StreamSink, StreamSource, read_all, write_all,
 };
+pub use host::{Host, Port};
 pub use map_commands::{
     Command, Ending, HexFault, LINE_BYTES, Line, Refusal, Report, RunTexts, Task, bpfmap_on,
     hex_bytes, parse_words, report_of, tell_unread_words, unit_lines,
 };
 pub use program::mapd_on;
 pub use server::{Served, Server};
-pub use shared_stream::SharedStream;
 pub use sessions::{Alone, Answer, Service, SessionEnd, run_session, session_alone};
+pub use shared_stream::SharedStream;
 pub use telling::Telling;
 pub use words::{MapdWords, WordsFault, mapd_words};

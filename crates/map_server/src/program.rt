@@ -117,7 +117,7 @@ fn last_line(served: &Served) -> (Line, u8)
 }
 
 /// Prints how serving has ended, and answers the status.
-fn finish<W: Sink, E: Sink>(served: &Served, writer: &mut W, errors: Telling<'_, E>) -> u8
+fn finish<W: Sink, E: Sink>(served: &Served, writer: &mut W, errors: &mut Telling<'_, E>) -> u8
     requires { CanWrite (W.state writer.old) }
     ensures { EndsServing served.now (W.state writer.old) (W.state writer.new) [] result }
 {
@@ -129,7 +129,7 @@ fn finish<W: Sink, E: Sink>(served: &Served, writer: &mut W, errors: Telling<'_,
 }
 
 /// Tells standard error that standard output can't be written, and answers the status.
-fn tell_failed_write<E: Sink>(mut errors: Telling<'_, E>) -> u8
+fn tell_failed_write<E: Sink>(errors: &mut Telling<'_, E>) -> u8
     ensures { result ≡ 3 }
 {
     errors.tell(b"failed write\n");
@@ -157,10 +157,10 @@ fn serve_port<H: Host, W: Sink, E: Sink + Send>(
     telling.tell(port.line.as_bytes());
     tell_running(rt, alloc, server.crews.len() as u64, &mut telling);
     if let Err(Failed) = print_at_once(writer, b"ready\n") {
-        return tell_failed_write(telling);
+        return tell_failed_write(&mut telling);
     }
-    let (served, telling) = rt.serve(alloc, port, server, telling);
-    finish(&served, writer, telling)
+    let (served, mut telling) = rt.serve(alloc, port, server, telling);
+    finish(&served, writer, &mut telling)
 }
 
 /// Listens and serves, and answers the status.

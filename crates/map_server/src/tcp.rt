@@ -19,7 +19,8 @@ fn address_line(alloc: Global, address: SocketAddr) -> Result<String, AllocError
     format!(in alloc; "listening on {address}\n")
 }
 
-impl<H: Threads + Wait + Clock + Net<Listener = TcpListener, Stream = TcpStream> + Sync> Host for H {
+impl<H: Threads + Wait + Clock + Net<Listener = TcpListener, Stream = TcpStream> + Sync> Host
+    for H {
     ghost use Rattle.std.specs.Prelude.{IfOk, All, ⊤};
     ghost use Rattle.crews.specs.Crews.{AllCarrySame, IsCrewOf};
 
@@ -50,8 +51,7 @@ impl<H: Threads + Wait + Clock + Net<Listener = TcpListener, Stream = TcpStream>
             quotas,
             limits,
         } = server;
-        let accept =
-            TcpAccept::new(self, alloc, port.listener, quotas, errors).limited(limits);
+        let accept = TcpAccept::within(self, alloc, port.listener, quotas, limits, errors);
         let crews = serve(self, alloc, &accept, &map, &registry, crews, &OpenGate);
         let served = Served {
             crews,

@@ -19,11 +19,14 @@ struct Outcome {
 }
 
 /// Makes one call, with this room in standard output.
-fn call<R: AllocGlobal + Clock + Threads + Wait + Net<Listener = TcpListener, Stream = TcpStream> + Sync>(
-    rt: &R,
-    words: &[&str],
-    output_room: usize,
-) -> Outcome {
+fn call<
+    R: AllocGlobal
+        + Clock
+        + Threads
+        + Wait
+        + Net<Listener = TcpListener, Stream = TcpStream>
+        + Sync,
+>(rt: &R, words: &[&str], output_room: usize) -> Outcome {
     let alloc = rt.alloc();
     let mut writer = StreamSink::new(Room::new(alloc, output_room));
     let mut errors = StreamSink::new(Room::new(alloc, ROOM));
@@ -141,7 +144,12 @@ fn help_and_version_are_shown(rt: HostRuntime) {
 
 /// Calls for a map of these sizes, with a team of 2 and no address to listen on.
 fn call_of_sizes<
-    R: AllocGlobal + Clock + Threads + Wait + Net<Listener = TcpListener, Stream = TcpStream> + Sync,
+    R: AllocGlobal
+        + Clock
+        + Threads
+        + Wait
+        + Net<Listener = TcpListener, Stream = TcpStream>
+        + Sync,
 >(rt: &R, stripes: &str, workers: &str) -> Outcome {
     let words = [
         "mapd",
@@ -187,7 +195,12 @@ const NOBODY: &[u8] = b"ready\nserved 0\n";
 
 /// Calls for no session, with this room in standard output.
 fn serve_nobody<
-    R: AllocGlobal + Clock + Threads + Wait + Net<Listener = TcpListener, Stream = TcpStream> + Sync,
+    R: AllocGlobal
+        + Clock
+        + Threads
+        + Wait
+        + Net<Listener = TcpListener, Stream = TcpStream>
+        + Sync,
 >(rt: &R, room: usize) -> Outcome {
     let words = ["mapd", "--listen", ANY_PORT, "--sessions", "0"];
     call(rt, &words, room)

@@ -8,6 +8,13 @@ returns-in-Err g c = inl (c.tell_failed_write.ensures, c.in-Err.ensures.err)
 
 pub returns : goal.returns
 returns g c =
-    inr (c.args.bound.1, c.requires.asked, (c.serve.result.0, c.serve.ensures,
-      serving_after c.serve.result.0 (g.W.Sink.state c.args.writer.now) (g.W.Sink.state c.print_at_once.new.writer) (g.W.Sink.state c.finish.new.writer) (codes "ready\n") c.finish.result
-      c.in_default.ensures.ok c.finish.ensures))
+    inr (
+      c.args.bound.1,
+      c.requires.asked,
+      (
+        c.serve.result.0,
+        c.serve.ensures,
+        serving_after c.serve.result.0 (g.W.Sink.state c.args.writer.now) (g.W.Sink.state c.print_at_once.new.writer) (g.W.Sink.state c.finish.new.writer) (codes "ready\n") c.finish.result
+            c.in_default.ensures.ok c.finish.ensures,
+      ),
+    )
