@@ -1,5 +1,5 @@
 -- What a call of `mapd` does: what its words ask for, and what is told of it.
-use Rattle.std.specs.Prelude.{◌≡◌, ◌+◌, ◌*◌, ◌⊎◌, ℕ, false, if◌then◌else◌, List, ◌++◌, codes, decimal, string_bytes, IsOk, IsErr}
+use Rattle.std.specs.Prelude.{◌≡◌, ◌+◌, ◌*◌, ◌⊎◌, ℕ, false, if◌then◌else◌, List, ◌++◌, codes, decimal, IfOk, IsOk, IsErr}
 use Rattle.clap.specs.Words.{IsAmong, fault_of}
 use Rattle.clap.specs.declared.error.ErrorKind.{ErrorKind}
 use Rattle.bin_stripes.specs.Opened.{IsPassCount}
@@ -11,7 +11,7 @@ use Rattle.map_commands.specs.declared.ending.Ending.TheVariants.{Reported, Refu
 use Rattle.map_server.specs.declared.words.MapdWords.{MapdWords}
 use Rattle.map_commands.specs.Endings.{Outputs, IsHelpOrVersion, PrintsRefusal, TellsEnding}
 use Rattle.map_commands.specs.Executions.{IsBadCount}
-use Rattle.map_server.specs.declared.host.Port.{Port}
+use Rattle.crews.specs.Crews.{AllCarrySame}
 use Rattle.map_server.specs.declared.server.Server.{Server}
 use Rattle.map_server.specs.declared.server.Served.{Served}
 use Rattle.map_server.specs.Servers.{IsAsked}
@@ -71,29 +71,28 @@ EndsServing served old new before status =
     ((text : List ℕ) × IsLastLine served text status × PrintsAll old new (before ++ text))
     ⊎ ((status ≡ 3) × ((text : List ℕ) × (meant : ℕ) × IsLastLine served text meant × TakesFront old new (before ++ text)))
 
--- over what a host did: the ports that it bound for addresses, the addresses for which it bound none, and how clients were served
-module _ (binds : List ℕ → Port → Type 0) (refuses : List ℕ → Type 0) (serves : Port → Server → Served → Type 0) where
-  -- no port could be bound for the address, of which standard error is told, with why
-  abbrev pub FailsToListen : List ℕ → Outputs → Outputs → ℕ → Type 0
-  FailsToListen address old new status =
-      refuses address × (status ≡ 3) × (new.output ≡ old.output)
-      × ((why : List ℕ) × TakesIfItCan old.errors new.errors (codes "failed listen\n" ++ why))
+-- the port could not be bound, of which standard error is told, with why
+abbrev pub FailsToListen : Outputs → Outputs → ℕ → Type 0
+FailsToListen old new status =
+    (status ≡ 3) × (new.output ≡ old.output) × ((why : List ℕ) × TakesIfItCan old.errors new.errors (codes "failed listen\n" ++ why))
 
-  -- `ready` can't be printed; or it is, then a server as it is asked for serves clients of the port, and then how that ended is printed
-  abbrev pub ServesPort : MapdWords → Port → SinkState → SinkState → ℕ → Type 0
-  ServesPort asked port old new status =
-      ((status ≡ 3) × TakesFront old new (codes "ready\n"))
-      ⊎ ((server : Server) × IsAsked asked server × ((served : Served) × serves port server served × EndsServing served old new (codes "ready\n") status))
+-- the crews of the server served, and each came back with the numbers that it had; or memory was refused, and nobody was served
+abbrev pub ServedBy : Server → Served → Type 0
+ServedBy server served = IfOk served.crews (λ back. AllCarrySame server.crews.items back.items)
 
-  -- no port is bound for the address that is asked for; or one is, and served
-  abbrev pub Listens : MapdWords → Outputs → Outputs → ℕ → Type 0
-  Listens asked old new status =
-      FailsToListen (string_bytes asked.listen) old new status
-      ⊎ ((port : Port) × binds (string_bytes asked.listen) port × ServesPort asked port old.output new.output status)
+-- `ready` can't be printed; or it is, then a server as it is asked for serves clients, and then how that ended is printed
+abbrev pub ServesClients : MapdWords → SinkState → SinkState → ℕ → Type 0
+ServesClients asked old new status =
+    ((status ≡ 3) × TakesFront old new (codes "ready\n"))
+    ⊎ ((server : Server) × IsAsked asked server × ((served : Served) × ServedBy server served × EndsServing served old new (codes "ready\n") status))
 
-  -- what a call does: its words ask for no server; or no map is opened; or it listens
-  abbrev pub RunsMapd : List (List ℕ) → Outputs → Outputs → ℕ → Type 0
-  RunsMapd words old new status =
-      ((ending : Ending) × EndsServerWords words ending × TellsEnding ending old new status)
-      ⊎ ((asked : MapdWords) × AsksServer words asked
-      × (((fault : OpenFault) × IsNotOpened asked fault × TellsOpenFault fault old new status) ⊎ (CanOpen asked × Listens asked old new status)))
+-- the port could not be bound; or it was, and clients are served
+abbrev pub Listens : MapdWords → Outputs → Outputs → ℕ → Type 0
+Listens asked old new status = FailsToListen old new status ⊎ ServesClients asked old.output new.output status
+
+-- what a call does: its words ask for no server; or no map is opened; or it listens
+abbrev pub RunsMapd : List (List ℕ) → Outputs → Outputs → ℕ → Type 0
+RunsMapd words old new status =
+    ((ending : Ending) × EndsServerWords words ending × TellsEnding ending old new status)
+    ⊎ ((asked : MapdWords) × AsksServer words asked
+    × (((fault : OpenFault) × IsNotOpened asked fault × TellsOpenFault fault old new status) ⊎ (CanOpen asked × Listens asked old new status)))

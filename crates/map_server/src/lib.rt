@@ -8,7 +8,6 @@
 
 mod accept;
 mod arrivals;
-mod host;
 mod opening;
 mod patience;
 mod program;
@@ -27,7 +26,6 @@ pub use crews::{Accept, Crew, serve, session};
 pub use devices::{
     Failed, ReadAfterFlush, ReadFault, Sink, Source, StreamSink, StreamSource, read_all, write_all,
 };
-pub use host::{Host, Port};
 pub use map_commands::{
     Command, Ending, HexFault, LINE_BYTES, Line, Refusal, Report, RunTexts, Task, bpfmap_on,
     hex_bytes, parse_words, report_of, tell_unread_words, unit_lines,

@@ -5,12 +5,12 @@ ghost use Rattle.clap.specs.Words.{fault_of, HasKind};
 ghost use Rattle.devices.specs.Devices.{CanWrite, TakesFront, TakesIfItCan};
 ghost use Rattle.map_commands.specs.Endings.{outputs};
 ghost use Rattle.map_server.specs.Servers.{IsAsked};
-ghost use Rattle.map_server.specs.ServerRuns.{EndsServerWords, EndsServing, IsLastLine, Listens, PrintsAll, RunsMapd, ServesPort, TellsOpenFault};
+ghost use Rattle.map_server.specs.ServerRuns.{EndsServerWords, EndsServing, IsLastLine, Listens, PrintsAll, RunsMapd, ServesClients, TellsOpenFault};
 ghost use Rattle.map_server.specs.ServerWords.{mapd, IsWordsFault};
 
-use crate::host::{Host, Port};
 use crate::opening::open_server;
 use crate::server::{Served, Server};
+use crate::tcp::{Port, bind, serve_port};
 use crate::telling::Telling;
 use crate::threads::tell_running;
 use crate::words::{MapdWords, WordsFault, mapd_words};
@@ -24,6 +24,10 @@ use map_commands::{
 };
 use std::alloc::{AllocError, Global};
 use std::io;
+use std::net::{Net, TcpListener, TcpStream};
+use std::rt::Clock;
+use std::sync::Wait;
+use std::thread::Threads;
 
 /// Prints the line of a refusal to open the map, writes its meaning to standard error, and answers the status.
 fn tell_fault<W: Sink, E: Sink>(fault: OpenFault, writer: &mut W, errors: &mut E) -> u8
@@ -137,7 +141,11 @@ fn tell_failed_write<E: Sink>(errors: &mut Telling<'_, E>) -> u8
 }
 
 /// Tells the address that was bound, prints `ready`, serves clients until each worker has ended, and answers the status.
-fn serve_port<H: Host, W: Sink, E: Sink + Send>(
+fn serve_bound<
+    H: Threads + Wait + Clock + Net<Listener = TcpListener, Stream = TcpStream> + Sync,
+    W: Sink,
+    E: Sink + Send,
+>(
     rt: &H,
     alloc: Global,
     asked: &MapdWords,
@@ -148,7 +156,7 @@ fn serve_port<H: Host, W: Sink, E: Sink + Send>(
     requires writes { CanWrite (W.state writer.old) }
     requires warns { CanWrite (E.state errors.old) }
     requires asked { IsAsked asked.now bound.1 }
-    ensures { ServesPort H.binds H.refuses H.serves asked.now bound.0 (W.state writer.old) (W.state writer.new) result }
+    ensures { ServesClients asked.now (W.state writer.old) (W.state writer.new) result }
 {
     // For the proof alone: the clauses name what is asked for.
     let _ = asked;
@@ -159,27 +167,24 @@ fn serve_port<H: Host, W: Sink, E: Sink + Send>(
     if let Err(Failed) = print_at_once(writer, b"ready\n") {
         return tell_failed_write(&mut telling);
     }
-    let (served, mut telling) = rt.serve(alloc, port, server, telling);
+    let (served, mut telling) = serve_port(rt, alloc, port, server, telling);
     finish(&served, writer, &mut telling)
 }
 
 /// Listens and serves, and answers the status.
-fn listen<H: Host, W: Sink, E: Sink + Send>(
-    rt: &H,
-    alloc: Global,
-    asked: &MapdWords,
-    server: Server,
-    writer: &mut W,
-    errors: &mut E,
-) -> u8
+fn listen<
+    H: Threads + Wait + Clock + Net<Listener = TcpListener, Stream = TcpStream> + Sync,
+    W: Sink,
+    E: Sink + Send,
+>(rt: &H, alloc: Global, asked: &MapdWords, server: Server, writer: &mut W, errors: &mut E) -> u8
     requires writes { CanWrite (W.state writer.old) }
     requires warns { CanWrite (E.state errors.old) }
     requires asked { IsAsked asked.now server }
-    ensures { Listens H.binds H.refuses H.serves asked.now (outputs (W.state writer.old) (E.state errors.old))
+    ensures { Listens asked.now (outputs (W.state writer.old) (E.state errors.old))
         (outputs (W.state writer.new) (E.state errors.new)) result }
 {
-    match rt.bind(alloc, asked.listen.as_str()) {
-        Ok(port) => serve_port(rt, alloc, asked, (port, server), writer, errors),
+    match bind(rt, alloc, asked.listen.as_str()) {
+        Ok(port) => serve_bound(rt, alloc, asked, (port, server), writer, errors),
         Err(error) => tell_failed_listen(alloc, &error, errors),
     }
 }
@@ -198,16 +203,14 @@ fn ending_of_fault(alloc: Global, fault: &WordsFault, words: &[&str]) -> Ending
 /// Does what the words ask for, of which the first is the program's name, and returns the status: 0 if it served as
 /// many sessions as it was asked for, 1 for a refusal, 2 for a fault of the words, of which standard error is told in clap's
 /// text, and 3 for a failed listen, accept or write, of which it is told in a line. Waits for clients.
-pub fn mapd_on<H: Host, W: Sink, E: Sink + Send>(
-    rt: &H,
-    alloc: Global,
-    words: &[&str],
-    writer: &mut W,
-    errors: &mut E,
-) -> u8
+pub fn mapd_on<
+    H: Threads + Wait + Clock + Net<Listener = TcpListener, Stream = TcpStream> + Sync,
+    W: Sink,
+    E: Sink + Send,
+>(rt: &H, alloc: Global, words: &[&str], writer: &mut W, errors: &mut E) -> u8
     requires writes { CanWrite (W.state writer.old) }
     requires warns { CanWrite (E.state errors.old) }
-    ensures runs { RunsMapd H.binds H.refuses H.serves (texts words.now) (outputs (W.state writer.old) (E.state errors.old))
+    ensures runs { RunsMapd (texts words.now) (outputs (W.state writer.old) (E.state errors.old))
         (outputs (W.state writer.new) (E.state errors.new)) result }
 {
     let asked = match mapd_words(alloc, words) {

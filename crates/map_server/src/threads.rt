@@ -14,12 +14,12 @@ fn threads_made<H: Threads + Wait + Sync>(rt: &H, wanted: u64) -> u64 {
     let gate = &gate;
     thread::scope(thread::scope_env(), rt, |scope| {
         let held = gate.lock(rt);
-        let mut made = 0;
+        let mut made = 0u64;
         for _ in 0..wanted {
             if scope.spawn(move || drop(gate.lock(rt))).is_err() {
                 break;
             }
-            made += 1;
+            made = made.saturating_add(1);
         }
         drop(held);
         made
