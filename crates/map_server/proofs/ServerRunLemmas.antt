@@ -1,5 +1,5 @@
 -- What `mapd` prints, put together of what each step prints; and that its passes suffice.
-use Rattle.std.proofs.Common.{◌≡◌, ◌∙◌, ◌+◌, ◌*◌, ◌-◌, ◌<◌, ◌≤◌, ◌++◌, ℕ, zero, suc, List, length, arith, [], Option, Some, None, refl, sym, subst, ap, inl, inr}
+use Rattle.std.proofs.Common.{◌≡◌, ◌∙◌, ◌+◌, ◌*◌, ◌-◌, ◌<◌, ◌≤◌, ◌++◌, ℕ, zero, suc, List, length, arith, [], Option, Some, None, refl, sym, ap, inl, inr}
 use Rattle.std.specs.Io.KnownBytes.{Appends}
 use Rattle.std.proofs.lemmas.List.{append_assoc, length-map}
 use Rattle.std.proofs.lemmas.Nat.{row_fits}
