@@ -2,7 +2,9 @@
 use Rattle.std.proofs.Common.{◌≡◌, ℕ, zero, suc, ◌<◌, List, [], ◌∷◌, length, map, slice_index_or, Option, Some, None, IsSome, IsSomeAnd, All, refl, sym, subst, ◌∙◌, arith}
 use Rattle.crews.specs.declared.crew.Crew.{Crew}
 use Rattle.atomic_table.specs.Seated.{TableId}
+use Rattle.devices.specs.Devices.{SourceState, SinkState}
 use Rattle.crews.specs.Crews.{IsCrewOf, IsServed, CarriesSame, AllCarrySame}
+use Rattle.crews.specs.Served.{AllServeClients, HasServedClients}
 
 -- seat by seat, crews served clients of this map
 abbrev pub ServedEach : TableId → List (Option Crew) → List (Option Crew) → Type 0
@@ -48,3 +50,19 @@ carries_same crew = record { worker = refl; pass = refl; team = refl }
 
 pub carries_on : (a b c : Crew) → CarriesSame a b → CarriesSame b c → CarriesSame a c
 carries_on a b c one more = record { worker = more.worker ∙ one.worker; pass = more.pass ∙ one.pass; team = more.team ∙ one.team }
+
+module _ {R W : Type 0} (source : R → SourceState) (sink : W → SinkState) (gave : ℕ → R → W → Type 0) where
+  -- seat by seat, crews were moved by sessions with clients of their workers
+  abbrev pub ServedClientsEach : List (Option Crew) → List (Option Crew) → Type 0
+  ServedClientsEach olds news = (length news ≡ length olds)
+      × ((i : ℕ) (d : Option Crew) → i < length olds → HasServedClients source sink gave (slice_index_or olds i d) (slice_index_or news i d))
+
+  rest_serve : (old new : Option Crew) (olds news : List (Option Crew)) → ServedClientsEach (old ∷ olds) (new ∷ news) → ServedClientsEach olds news
+  rest_serve old new olds news (long, each) = (omega (arith, long), λ i d low. each (suc i) d (omega (arith, low)))
+
+  pub all_serve : (olds news : List Crew) → ServedClientsEach (map Some olds) (map Some news) → AllServeClients source sink gave olds news
+  all_serve [] [] served = tt
+  all_serve [] (new ∷ news) (long, each) = absurd cc
+  all_serve (old ∷ olds) [] (long, each) = absurd cc
+  all_serve (old ∷ olds) (new ∷ news) (long, each) =
+      (each zero None (omega arith), all_serve olds news (rest_serve (Some old) (Some new) (map Some olds) (map Some news) (long, each)))

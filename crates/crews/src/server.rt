@@ -1,6 +1,7 @@
 //! Crews that serve clients, each in a thread of its own.
-ghost use Rattle.std.specs.Prelude.{◌≡◌, ◌≤◌, [], All, IfOk, IsSome, IsSomeAnd, map, Some, vec_len, vec_capacity};
+ghost use Rattle.std.specs.Prelude.{◌≡◌, ◌≤◌, ℕ, [], All, IfOk, IsSome, IsSomeAnd, map, Some, vec_len, vec_capacity};
 ghost use Rattle.crews.specs.Crews.{IsCrewOf, IsServed, CarriesSame, AllCarrySame};
+ghost use Rattle.crews.specs.Served.{ServesClients, AllServeClients, HasServedClients};
 
 use crate::accept::Accept;
 use crate::client::session;
@@ -27,6 +28,7 @@ fn serve_clients<
     requires { IsCrewOf worker.now.map.now crew }
     ensures of { IsCrewOf worker.now.map.now result }
     ensures same { CarriesSame crew result }
+    ensures served { (n : ℕ) × ServesClients R.state W.state A.gave n crew result }
 {
     let mut crew = crew;
     for _ in worker.rt.forever() {
@@ -51,7 +53,8 @@ fn serve_clients<
 }
 
 /// Runs one worker a crew, each in a thread of its own if one can be made, and each serving its clients one after the other
-/// until `accept` has none for it. Gives the crews back in their order, each of this map with the numbers that it carried. `NoMemory`
+/// until `accept` has none for it. Gives the crews back in their order, each of this map with the numbers that it carried, and moved by
+/// nothing but the sessions of clients that its worker was given, one after the other (`served`). `NoMemory`
 /// if a request for the lists of workers was refused: nobody is served then, and the crews are given up. Waits for clients.
 pub fn serve<
     H: Threads + Wait + Sync,
@@ -71,6 +74,7 @@ pub fn serve<
     requires { All (λ crew. IsCrewOf map.now crew) crews.items }
     ensures same { IfOk result (λ back. AllCarrySame crews.items back.items) }
     ensures map { IfOk result (λ back. All (λ crew. IsCrewOf map.now crew) back.items) }
+    ensures served { IfOk result (λ back. AllServeClients R.state W.state A.gave crews.items back.items) }
 {
     let count = crews.len();
     let seats = Vec::with_capacity(alloc, count)?;
@@ -78,7 +82,8 @@ pub fn serve<
     let seats = seated(crews, seats);
     let call = move |_: usize, seat: &mut Option<Crew>|
         requires { IsSomeAnd seat.old (λ crew. IsCrewOf map.now crew) }
-        ensures { IsServed map.entry.now seat.old seat.new }
+        ensures of { IsServed map.entry.now seat.old seat.new }
+        ensures served { HasServedClients R.state W.state A.gave seat.old seat.new }
     {
         if let Some(crew) = seat.take() {
             let worker = Worker {

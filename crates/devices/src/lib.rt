@@ -6,12 +6,16 @@
 //! A read waits as long as its device does. Only `read_all` takes memory.
 #![tactic(auto)]
 
+mod channel;
 mod failed;
+mod owed;
 mod sink;
 mod source;
 mod streams;
 
+pub use channel::{Channel, Received, Sent};
 pub use failed::Failed;
+pub use owed::{Owed, Taking};
 pub use sink::{Sink, write_all};
 pub use source::{ReadAfterFlush, ReadFault, Source, read_all};
 pub use streams::{StreamSink, StreamSource};

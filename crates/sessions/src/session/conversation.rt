@@ -15,6 +15,7 @@ use client_protocol::{Feeder, ProtocolFault, Request, Requests, Version, hello_a
 use devices::{Failed, Sink};
 use std::alloc::Global;
 use std::marker::Model;
+use std::mem;
 
 /// Why a conversation ended at a piece.
 #[derive(Clone, Copy, Debug, PartialEq, Eq)]
@@ -61,6 +62,15 @@ impl Conversation {
         ensures { result ≡ is_inside self.now }
     {
         self.feeder.is_inside()
+    }
+
+    /// Goes on with the conversation that the feeder stands for, and leaves there the one that it was. So the room of one serves the
+    /// pieces of many.
+    pub fn resume(&mut self, feeder: &mut Feeder)
+        ensures here { self.new ≡ feeder.old }
+        ensures there { feeder.new ≡ self.old }
+    {
+        mem::swap(&mut self.feeder, feeder);
     }
 
     /// Answers the requests that are whole with this piece, in order and each into the sink before the next one is looked at. What

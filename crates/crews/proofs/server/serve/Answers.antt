@@ -1,7 +1,8 @@
 use Rattle.std.proofs.Common.{◌≡◌, ◌<◌, List, Option, Some, length, map, sym, subst, slice_index_or}
 use Rattle.crews.specs.declared.crew.Crew.{Crew}
 use Rattle.crews.specs.Crews.{IsServed}
-use Rattle.crews.proofs.ServeLemmas.{ServedEach, all_carry_same, stays_of, each_seated, each_left}
+use Rattle.crews.specs.Served.{HasServedClients}
+use Rattle.crews.proofs.ServeLemmas.{ServedEach, ServedClientsEach, all_carry_same, all_serve, stays_of, each_seated, each_left}
 use Rattle.crews.proofs.server.serve.Goals as goal
 use Rattle.crews.proofs.server.serve.Goals.{In-Ok}
 
@@ -30,7 +31,20 @@ served g c =
       λ i d low.
           let one = all.each i d tt low in
           subst (λ (old : Option Crew). IsServed id old (slice_index_or left i d)) one.argument_is
-          (subst (λ (new : Option Crew). IsServed id one.argument.now new) one.left one.call),
+          (subst (λ (new : Option Crew). IsServed id one.argument.now new) one.left one.call.0),
+    )
+
+-- and which sessions moved their crews
+served_clients : (g : _) (c : In-Ok g) → ServedClientsEach g.R.Source.state g.W.Sink.state g.A.Accept.gave (map Some c.args.crews.items) c.work-seats.result.0.items
+served_clients g c =
+    let all = rw c.in-Ok.is at c.work-seats.ensures in
+    let left = c.work-seats.result.0.items in
+    subst (λ (seats : List (Option Crew)). ServedClientsEach g.R.Source.state g.W.Sink.state g.A.Accept.gave seats left) c.seated-seats.ensures (
+      all.left,
+      λ i d low.
+          let one = all.each i d tt low in
+          subst (λ (old : Option Crew). HasServedClients g.R.Source.state g.W.Sink.state g.A.Accept.gave old (slice_index_or left i d)) one.argument_is
+          (subst (λ (new : Option Crew). HasServedClients g.R.Source.state g.W.Sink.state g.A.Accept.gave one.argument.now new) one.left one.call.1),
     )
 
 pub left_of-requires-clause-all : goal.left_of-requires-clause-all
@@ -47,3 +61,9 @@ returns-clause-map g c =
     let c' = (goal.at.returns-clause-map g c).In-Ok in
     stays_of c.args.map.now c.args.crews.items c.left_of.result.items
     (subst (λ (seats : List (Option Crew)). ServedEach c.args.map.now (map Some c.args.crews.items) seats) (sym c.left_of.ensures) (served g c'))
+
+pub returns-clause-served : goal.returns-clause-served
+returns-clause-served g c =
+    let c' = (goal.at.returns-clause-served g c).In-Ok in
+    all_serve g.R.Source.state g.W.Sink.state g.A.Accept.gave c.args.crews.items c.left_of.result.items
+    (subst (λ (seats : List (Option Crew)). ServedClientsEach g.R.Source.state g.W.Sink.state g.A.Accept.gave (map Some c.args.crews.items) seats) (sym c.left_of.ensures) (served_clients g c'))

@@ -1,0 +1,47 @@
+-- How a crew served clients one after the other: what each session was, and that nothing else moved the crew.
+use Rattle.std.specs.Prelude.{◌≡◌, ℕ, zero, suc, List, [], Option, Some}
+use Rattle.std.specs.Io.KnownBytes.{Appends, Consumes}
+use Rattle.program_registry.specs.declared.registry.ProgramToken.{ProgramToken}
+use Rattle.devices.specs.Devices.{SourceState, SinkState}
+use Rattle.sessions.specs.Sessions.{Ended}
+use Rattle.sessions.specs.declared.session.SessionEnd.{SessionEnd}
+use Rattle.crews.specs.declared.crew.Crew.{Crew}
+use Rattle.crews.specs.Crews.{station}
+use Rattle.crews.specs.Stations.{Station}
+use Rattle.crews.specs.Steps.{CrewServes, Pairwise}
+
+-- over what readers and writers tell, and which pairs of them were given to each worker
+module _ {R W : Type 0} (source : R → SourceState) (sink : W → SinkState) (gave : ℕ → R → W → Type 0) where
+  -- a session of this worker ended so, and left its client's reader and writer so: they came as one pair, what was read of the
+  -- one is answered by what was written to the other, and the states went from the old to the new
+  pub record IsAnswered (worker : ℕ) (old : Station) (end : SessionEnd) (reader : R) (writer : W) (new : Station) : Type 0 where
+    pub came : R
+    pub came_writer : W
+    pub given : gave worker came came_writer
+    pub read : List ℕ
+    pub written : List ℕ
+    pub consumed : Consumes (source came).left (source reader).left read
+    pub appended : Appends (sink came_writer).held (sink writer).held written
+    pub ended : Ended CrewServes old end read (source reader).last written new
+
+  -- a session with a client of this worker moved the crew
+  pub record ServesClient (old new : Crew) : Type 0 where
+    pub end : SessionEnd
+    pub reader : R
+    pub writer : W
+    pub tokens : List ProgramToken
+    pub session : IsAnswered old.worker (station old []) end reader writer (station new tokens)
+
+  -- so many sessions moved the crew, one after the other, and nothing else did
+  abbrev pub ServesClients : ℕ → Crew → Crew → Type 0
+  ServesClients zero old new = new ≡ old
+  ServesClients (suc n) old new = (mid : Crew) × ServesClients n old mid × ServesClient mid new
+
+  -- each crew was moved by sessions with clients of its worker alone
+  abbrev pub AllServeClients : List Crew → List Crew → Type 0
+  AllServeClients olds news = Pairwise (λ old new. (n : ℕ) × ServesClients n old new) olds news
+
+  -- a seat from which a crew served clients
+  abbrev pub HasServedClients : Option Crew → Option Crew → Type 0
+  HasServedClients (Some old) (Some new) = (n : ℕ) × ServesClients n old new
+  HasServedClients old new = ⊥
