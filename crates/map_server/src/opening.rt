@@ -11,6 +11,7 @@ use crate::arrivals::Limits;
 use crate::server::Server;
 use crate::words::MapdWords;
 use bin_stripes::{OpenFault, Pass, StripedMap};
+use bins::Seed;
 use bpf_model::NoMemory;
 use bulk_walks::Team;
 use crews::Crew;
@@ -102,14 +103,14 @@ fn server_of(
     })
 }
 
-/// An empty map, no program, and the crews that are asked for.
-pub fn open_server(alloc: Global, asked: &MapdWords) -> Result<Server, OpenFault>
+/// An empty map that hashes keys by this seed, no program, and the crews that are asked for.
+pub fn open_server(alloc: Global, asked: &MapdWords, seed: Seed) -> Result<Server, OpenFault>
     requires { IsInRange asked.now }
     ensures ok { IfOk result (λ _. CanOpen asked.now) }
     ensures asked { IfOk result (λ server. IsAsked asked.now server) }
     ensures err { IfErr result (λ fault. IsNotOpened asked.now fault) }
 {
     let passes = asked.workers * (1 + asked.team);
-    let (map, passes) = StripedMap::open(alloc, asked.stripes, passes)?;
+    let (map, passes) = StripedMap::open_seeded(alloc, asked.stripes, passes, seed)?;
     Ok(server_of(alloc, asked, map, passes)?)
 }

@@ -15,6 +15,7 @@ use crate::telling::Telling;
 use crate::threads::tell_running;
 use crate::words::{MapdWords, WordsFault, mapd_words};
 use bin_stripes::OpenFault;
+use bins::Seed;
 use bpf_model::NoMemory;
 use clap::error::ErrorKind;
 use devices::{Failed, Sink, write_all};
@@ -25,6 +26,7 @@ use map_commands::{
 use std::alloc::{AllocError, Global};
 use std::io;
 use std::net::{Net, TcpListener, TcpStream};
+use std::random::RandomSource;
 use std::rt::Clock;
 use std::sync::Wait;
 use std::thread::Threads;
@@ -200,11 +202,25 @@ fn ending_of_fault(alloc: Global, fault: &WordsFault, words: &[&str]) -> Ending
     }
 }
 
+/// A seed that nobody can guess; the one that is always the same if the system gives no random bytes.
+fn drawn_seed<R: RandomSource>(rt: &R) -> Seed {
+    let (mut start, mut factor) = ([0; 8], [0; 8]);
+    if rt.fill_bytes(&mut start).is_err() || rt.fill_bytes(&mut factor).is_err() {
+        return Seed::fixed();
+    }
+    Seed::new(u64::from_le_bytes(start), u64::from_le_bytes(factor))
+}
+
 /// Does what the words ask for, of which the first is the program's name, and returns the status: 0 if it served as
 /// many sessions as it was asked for, 1 for a refusal, 2 for a fault of the words, of which standard error is told in clap's
 /// text, and 3 for a failed listen, accept or write, of which it is told in a line. Waits for clients.
 pub fn mapd_on<
-    H: Threads + Wait + Clock + Net<Listener = TcpListener, Stream = TcpStream> + Sync,
+    H: Threads
+        + Wait
+        + Clock
+        + RandomSource
+        + Net<Listener = TcpListener, Stream = TcpStream>
+        + Sync,
     W: Sink,
     E: Sink + Send,
 >(rt: &H, alloc: Global, words: &[&str], writer: &mut W, errors: &mut E) -> u8
@@ -217,7 +233,7 @@ pub fn mapd_on<
         Ok(asked) => asked,
         Err(fault) => return ending_of_fault(alloc, &fault, words).tell(writer, errors),
     };
-    match open_server(alloc, &asked) {
+    match open_server(alloc, &asked, drawn_seed(rt)) {
         Ok(server) => listen(rt, alloc, &asked, server, writer, errors),
         Err(fault) => tell_fault(fault, writer, errors),
     }

@@ -5,6 +5,7 @@ use crate::bpfmap::memory::{ROOM, Room};
 use map_server::{MapdWords, StreamSink, WordsFault, mapd_on, mapd_words};
 use std::alloc::{AllocError, Global};
 use std::net::{Net, TcpListener, TcpStream};
+use std::random::RandomSource;
 use std::rt::Clock;
 use std::sync::Wait;
 use std::test::Fail;
@@ -22,6 +23,7 @@ struct Outcome {
 fn call<
     R: AllocGlobal
         + Clock
+        + RandomSource
         + Threads
         + Wait
         + Net<Listener = TcpListener, Stream = TcpStream>
@@ -149,6 +151,7 @@ fn help_and_version_are_shown(rt: HostRuntime) {
 fn call_of_sizes<
     R: AllocGlobal
         + Clock
+        + RandomSource
         + Threads
         + Wait
         + Net<Listener = TcpListener, Stream = TcpStream>
@@ -200,6 +203,7 @@ const NOBODY: &[u8] = b"ready\nserved 0\n";
 fn serve_nobody<
     R: AllocGlobal
         + Clock
+        + RandomSource
         + Threads
         + Wait
         + Net<Listener = TcpListener, Stream = TcpStream>

@@ -2,6 +2,7 @@
 use super::{Outcome, call};
 use std::io::{self, Read, Write};
 use std::net::{Net, TcpListener, TcpStream};
+use std::random::RandomSource;
 use std::rt::Clock;
 use std::sync::Wait;
 use std::test::Fail;
@@ -96,6 +97,7 @@ fn hear_refusal<R: Net<Listener = TcpListener, Stream = TcpStream> + Clock + All
 fn serve_one_each<
     R: AllocGlobal
         + Clock
+        + RandomSource
         + Threads
         + Wait
         + Net<Listener = TcpListener, Stream = TcpStream>
@@ -117,6 +119,7 @@ fn serve_one_each<
 fn call_and_share<
     R: AllocGlobal
         + Clock
+        + RandomSource
         + Threads
         + Wait
         + Net<Listener = TcpListener, Stream = TcpStream>
@@ -143,6 +146,7 @@ fn clients_share_a_map(rt: HostRuntime) -> Result<(), Fail> {
 fn call_and_hear<
     R: AllocGlobal
         + Clock
+        + RandomSource
         + Threads
         + Wait
         + Net<Listener = TcpListener, Stream = TcpStream>
