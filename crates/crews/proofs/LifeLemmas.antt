@@ -30,7 +30,7 @@ numbers_go_on a b c one more = record { map_is = more.map_is ∙ one.map_is; pas
 -- ---- the turns of one client
 
 -- these exchanges are turns of this client
-pub turns_of : ℕ → List (Exchange Station) → List Turn
+abbrev pub turns_of : ℕ → List (Exchange Station) → List Turn
 turns_of client [] = []
 turns_of client (x ∷ xs) = record { client = client; exchange = x } ∷ turns_of client xs
 

@@ -41,7 +41,7 @@ front_of_front xs ys whole (missing, is) = (ys ++ missing, is ∙ append_assoc x
 
 -- ---- one exchange more
 
-exchange : Station → List ℕ → List ℕ → Station → Exchange Station
+abbrev exchange : Station → List ℕ → List ℕ → Station → Exchange Station
 exchange old piece written new = record { old = old; piece = piece; written = written; new = new }
 
 one_more : (f : Exchange Station → List ℕ) (xs : List (Exchange Station)) (x : Exchange Station) → flat_map f (xs ++ x ∷ []) ≡ flat_map f xs ++ f x
@@ -67,7 +67,7 @@ numbers_of : (old new : Station) → SameNumbers old new → KeepsNumbers (known
 numbers_of old new same = record { map_is = same.map; pass = same.pass; team = same.team }
 
 -- what a sink tells that keeps what a connection is owed
-pub sink_of : OwedState → SinkState
+abbrev pub sink_of : OwedState → SinkState
 sink_of owed = record { held = Some owed.rest; keeps_back = false; failures = owed.failures }
 
 -- a refusal was written there, or a front of it
@@ -75,7 +75,7 @@ pub refusal_told : (number : ℕ) (end result : SessionEnd) (a b : OwedState) �
     → (result ≡ session.WriteFailed → TakesFront (sink_of a) (sink_of b) (refusal number)) → TellsRefusal number end (Some (Ended result)) a.rest b.rest
 refusal_told number end result a b either whole front = elim either [
   | inl is ↦ inl (ap (λ (e : SessionEnd). Some (Ended e)) is, (whole is).0)
-  | inr is ↦ let ((part, (rest, taken, parts)), count) = front is in inr (ap (λ (e : SessionEnd). Some (Ended e)) is, (part, (rest, parts), taken))
+  | inr is ↦ let (part, (rest, taken, parts), count) = front is in inr (ap (λ (e : SessionEnd). Some (Ended e)) is, (part, (rest, parts), taken))
 ]
 
 -- a piece was answered
@@ -163,6 +163,9 @@ broken old new held next piece written leaving a c exchanges read said breaks is
       says = subst (λ (l : Option Parting). SaysSo l next xs (read ++ piece) (said ++ written)) (sym is) (said ++ written, inr (inr part), front_all (said ++ written));
     }
 
+some_same : (x y : List ℕ) → Some x ≡ Some y → x ≡ y
+some_same x y is = cc
+
 -- what the conversation made of a piece
 pub piece_says : {U : Type 0} (taken : Result U ConversationEnd) (old new : Station) (held next : Held) (piece : List ℕ) (leaving : Option Parting) (a b c : OwedState) → 1 ≤ length piece
     → OnOk taken ((held_fault next ≡ None) × ((written : List ℕ) × TakesBytes (sink_of a) (sink_of b) written × AnswersPiece CrewServes held old piece written next new))
@@ -183,7 +186,7 @@ piece_says (Err (Refused fault)) old new held next piece leaving a b c some ok r
     refused old new held next piece written fault leaving a.rest b.rest c.rest exchanges read said faulty takes.0 answers tells all
 piece_says (Err NoMemory) old new held next piece leaving a b c some ok refuses lacks breaks tells exchanges read said (opened, all) =
     let (same, still, kept) = lacks refl in
-    let unwritten : b.rest ≡ a.rest = cc in
+    let unwritten : b.rest ≡ a.rest = some_same b.rest a.rest (ap (λ (s : SinkState). s.held) kept) in
     subst (λ (h : Held). SaysMore (known old) (known new) exchanges old.tokens new.tokens h leaving (read ++ piece) said a.rest c.rest) (sym same)
     (subst (λ (s : Station). SaysMore (known old) (known s) exchanges old.tokens s.tokens held leaving (read ++ piece) said a.rest c.rest) (sym still)
     (lacking old held piece leaving a.rest c.rest exchanges read said some (subst (λ (t : List ℕ). TellsRefusal 9 session.NoMemory leaving t c.rest) unwritten tells) opened all))
@@ -202,20 +205,20 @@ says_around s0 s1 s2 s3 t0 t1 t2 next leaving exchanges read said owed more lent
 
 -- it is not leaving
 pub none_leaving : (leaving : Option Parting) (test : Bool) → test ≡ is_some leaving → test ≡ false → leaving ≡ None
-none_leaving None test is no = refl
-none_leaving (Some parting) test is no = absurd cc
+none_leaving None test is unset = refl
+none_leaving (Some parting) test is unset = absurd cc
 
 -- ---- the client sends no more
 
 pub closed_now : (held : Held) (exchanges : List (Exchange Station)) (read said : List ℕ) → is_inside held ≡ false → SaysSo None held exchanges read said → SaysSo (Some (Ended session.Closed)) held exchanges read said
 closed_now (open_at hello []) exchanges read said between (opened, all) = (hello, all)
 closed_now (open_at hello (b ∷ rest)) exchanges read said between (opened, all) = absurd cc
-closed_now (failed fault) exchanges read said between ((hello, (rest, is)), all) = absurd cc
+closed_now (failed fault) exchanges read said between ((hello, rest, is), all) = absurd cc
 
 pub cut_now : (held : Held) (exchanges : List (Exchange Station)) (read said : List ℕ) → is_inside held ≡ true → SaysSo None held exchanges read said → SaysSo (Some (Ended session.Cut)) held exchanges read said
 cut_now (open_at hello []) exchanges read said inside (opened, all) = absurd cc
 cut_now (open_at hello (b ∷ rest)) exchanges read said inside (opened, all) = (hello, b ∷ rest, (λ none. absurd cc), all)
-cut_now (failed fault) exchanges read said inside ((hello, (rest, is)), all) = absurd cc
+cut_now (failed fault) exchanges read said inside ((hello, rest, is), all) = absurd cc
 
 pub failed_now : (held : Held) (exchanges : List (Exchange Station)) (read said : List ℕ) → SaysSo None held exchanges read said → SaysSo (Some (Ended session.ReadFailed)) held exchanges read said
 failed_now held exchanges read said (opened, all) = (held, opened, all)
