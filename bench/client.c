@@ -1,6 +1,6 @@
-/* Makes so many calls of one kind by the C client, for bench/client.sh to count its instructions: one after the other, or a hundred at
-   once.
-   client PORT get|put|merge|pipeline CALLS */
+/* Makes so many calls of one kind by the C client, for bench/client.sh to count its instructions: one after the other, or a hundred
+   at once.
+   client PORT get|put|put_unread|merge|pipeline CALLS */
 #include "../clients/c/bpfmap_client.h"
 #include <stdlib.h>
 
@@ -36,6 +36,11 @@ static void put(void)
     need(bpfmap_put(&client, key(), bpfmap_bytes(one, sizeof one), &reply));
 }
 
+static void put_unread(void)
+{
+    need(bpfmap_put(&client, key(), bpfmap_bytes(one, sizeof one), NULL));
+}
+
 static void merge(void)
 {
     need(bpfmap_merge(&client, key(), bpfmap_bytes(one, sizeof one), &sum, &reply));
@@ -55,7 +60,8 @@ static const struct kind {
     const char *name;
     void (*call)(void);
     long calls; /* of one turn */
-} kinds[] = {{"get", get, 1}, {"put", put, 1}, {"merge", merge, 1}, {"pipeline", get_in_pipeline, DEPTH}};
+} kinds[] = {{"get", get, 1}, {"put", put, 1}, {"put_unread", put_unread, 1}, {"merge", merge, 1},
+             {"pipeline", get_in_pipeline, DEPTH}};
 
 int main(int words, char **word)
 {
@@ -64,7 +70,7 @@ int main(int words, char **word)
     while (words == 4 && kind < end && strcmp(kind->name, word[2]) != 0)
         kind++;
     if (words != 4 || kind == end) {
-        fprintf(stderr, "client PORT get|put|merge|pipeline CALLS\n");
+        fprintf(stderr, "client PORT get|put|put_unread|merge|pipeline CALLS\n");
         return 2;
     }
     sum = bpfmap_program_of(bpfmap_windows(64, 8, 8, 8), bpfmap_bytes(sum_code, sizeof sum_code));

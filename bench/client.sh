@@ -25,7 +25,7 @@ instructions() {
         sed -n 's/.*Collected : \([0-9]*\).*/\1/p'
 }
 
-for call in get put merge pipeline; do
+for call in get put put_unread merge pipeline; do
     first=$(instructions $call 1000)
     second=$(instructions $call 2000)
     echo "$call: $(((second - first) / 1000)) instructions"

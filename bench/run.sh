@@ -19,6 +19,7 @@ for name in sum alu eight mix; do $bench hex $name > "$work/$name.hex"; done
 side() {
     case $1 in
         run | into) $bench "$1" "$2" "$3" ;;
+        known | new) $bench register "$1" "$2" "$3" ;;
         shape | verify | call) $bench "$1" "$2" "$3" ;;
         *) "$work/$1" "$3" < "$work/$2.hex" ;;
     esac
@@ -89,6 +90,16 @@ measure_verify straight 250
 measure_verify jumps 125
 measure_verify ladder 125
 measure_verify spills 125
+
+# units, how often: Registers of one program beside Registers of new ones, which are verified
+measure_registers() {
+    medians "$1" "$2" known new | paste -s | awk -v times="$2" -v units="$1" '{
+        printf "a Register of %d units: %.2f us for a known program, %.2f us for a new one\n", units, $1 / times / 1e3, $2 / times / 1e3 }'
+}
+measure_registers 6 20000
+measure_registers 30 10000
+measure_registers 512 2000
+measure_registers 4096 300
 
 # a call on a table of one entry: how often, how often for callgrind
 measure_call() {

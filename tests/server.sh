@@ -92,6 +92,9 @@ expect "33 workers" 2 "" "error: *33*" --listen 127.0.0.1:0 --workers 33
 expect "no workers" 2 "" "error: *0*" --listen 127.0.0.1:0 --workers 0
 expect "a team of 9" 2 "" "error: *9*" --listen 127.0.0.1:0 --team 9
 expect "too many sessions" 2 "" "error: *65536*" --listen 127.0.0.1:0 --sessions 65536
+expect "no clients" 2 "" "error: *0*" --listen 127.0.0.1:0 --clients 0
+expect "too many clients" 2 "" "error: *65536*" --listen 127.0.0.1:0 --clients 65536
+expect "no time to be silent" 2 "" "error: *0*" --listen 127.0.0.1:0 --idle 0
 expect "no address" 2 "" "error: *--listen*"
 expect "three stripes" 1 "refused 50 at 0" "not a number of stripes" --listen 127.0.0.1:0 --stripes 3
 expect "more than 64 passes" 1 "refused 51 at 0" "?*" --listen 127.0.0.1:0 --workers 32 --team 8
@@ -143,9 +146,10 @@ serve "deep pipelines" pipelines --workers 5 --stripes 1
 serve "a client that does not read" unread --workers 2
 [ -n "${MAPD_IS_CHECKED:-}" ] || limits="ulimit -s 256" serve "a stack of 256 KiB" longest --workers 4 --team 2
 serve "the longest programs and values" longest --workers 4 --team 8 --stripes 64
-limits="ulimit -n 16" errors="*failed accept*" serve "no descriptors" descriptors --workers 32
+limits="ulimit -n 16" errors="accepts wait:*" serve "no descriptors" descriptors --workers 32
 kib=65536
 [ -z "${MAPD_IS_CHECKED:-}" ] || kib=1000000
+judge "what is limited or wanting" python3 tests/server_limits.py --program "$program"
 judge "changed bytes" python3 tests/mutated.py --server --program "$program" --kib "$kib" 10
 if [ -z "${MAPD_IS_CHECKED:-}" ]; then
     limits="ulimit -v 100000" serve "no memory" memory --workers 3

@@ -39,4 +39,5 @@ run_where_built frames.sh $bpfmap
 run_where_built process.sh $bpfmap
 run_where_built server.sh $mapd
 run_where_built install.sh $bpfmap $mapd
+run_where_built tls.sh $mapd
 [ ! -e "$work/failed" ]

@@ -81,7 +81,7 @@ static inline enum bpfmap_status bpfmap_end_call(struct bpfmap_client *client, e
 /* ---- the connection */
 
 /* Closes the connection for this reason, which all later calls get too. Answers that were received are still given. */
-static inline enum bpfmap_status bpfmap_fail(struct bpfmap_client *client, enum bpfmap_status status, int error)
+static inline BPFMAP_COLD enum bpfmap_status bpfmap_fail(struct bpfmap_client *client, enum bpfmap_status status, int error)
 {
     int was_open = client->is_open;
     client->is_open = 0;
@@ -108,7 +108,7 @@ static inline long long bpfmap_milliseconds(void)
 
 /* Waits until the socket can do one of these events, for at most so many milliseconds (0: without end). Returns the events; 0 after
  * the time; -1 with errno. */
-static inline int bpfmap_wait(int socket, short events, int timeout)
+static inline BPFMAP_COLD int bpfmap_wait(int socket, short events, int timeout)
 {
     long long end = bpfmap_milliseconds() + timeout, left = timeout;
     struct pollfd watched;
@@ -231,7 +231,7 @@ static inline void bpfmap_send_some(struct bpfmap_client *client)
 
 /* Takes one step of sending: sends what the system takes now. If that is not all, it waits until the system takes more, or until
  * the server sends, and reads that. So neither side waits for the other. Returns BPFMAP_UNREAD if there is no room to read. */
-static inline enum bpfmap_status bpfmap_exchange(struct bpfmap_client *client)
+static inline BPFMAP_COLD enum bpfmap_status bpfmap_exchange(struct bpfmap_client *client)
 {
     size_t room;
     int ready;
@@ -250,7 +250,7 @@ static inline enum bpfmap_status bpfmap_exchange(struct bpfmap_client *client)
 }
 
 /* Sends all requests that are not sent, and waits until the server sends something. */
-static inline enum bpfmap_status bpfmap_read_more(struct bpfmap_client *client)
+static inline BPFMAP_HOT enum bpfmap_status bpfmap_read_more(struct bpfmap_client *client)
 {
     struct bpfmap_session *session = &client->session;
     size_t unread = session->in_end - session->in_begin;
@@ -265,7 +265,8 @@ static inline enum bpfmap_status bpfmap_read_more(struct bpfmap_client *client)
 /* ---- a request, and its answer */
 
 /* Sends from the buffer until there is room for the request, and takes it. After a send that failed no request is taken. */
-static inline enum bpfmap_status bpfmap_make_room_for(struct bpfmap_client *client, const struct bpfmap_request *request)
+static inline BPFMAP_COLD enum bpfmap_status bpfmap_make_room_for(struct bpfmap_client *client,
+                                                                  const struct bpfmap_request *request)
 {
     enum bpfmap_status status = BPFMAP_FULL;
     while (status == BPFMAP_FULL) {
@@ -279,7 +280,7 @@ static inline enum bpfmap_status bpfmap_make_room_for(struct bpfmap_client *clie
 }
 
 /* Waits for the next answer, and takes it. */
-static inline enum bpfmap_status bpfmap_take_reply(struct bpfmap_client *client, struct bpfmap_reply *reply)
+static inline BPFMAP_HOT enum bpfmap_status bpfmap_take_reply(struct bpfmap_client *client, struct bpfmap_reply *reply)
 {
     enum bpfmap_status status;
     while ((status = bpfmap_try_next(&client->session, reply)) == BPFMAP_WAITING)
@@ -290,20 +291,20 @@ static inline enum bpfmap_status bpfmap_take_reply(struct bpfmap_client *client,
 }
 
 /* Registers the program of a request, and takes the request then. */
-static inline enum bpfmap_status bpfmap_register_for(struct bpfmap_client *client, const struct bpfmap_request *request)
+static inline BPFMAP_COLD enum bpfmap_status bpfmap_register_for(struct bpfmap_client *client,
+                                                                 const struct bpfmap_request *request)
 {
     struct bpfmap_request registration = bpfmap_request_of(BPFMAP_REGISTER);
-    struct bpfmap_reply reply;
     enum bpfmap_status status;
     registration.program = request->program;
     status = bpfmap_session_ask(&client->session, &registration);
     if (status == BPFMAP_OK)
-        status = bpfmap_take_reply(client, &reply);
+        status = bpfmap_take_reply(client, NULL);
     return status == BPFMAP_OK ? bpfmap_session_ask(&client->session, request) : status;
 }
 
 /* Takes a request. If its program is not registered on this connection and no request waits, it registers the program first. */
-static inline enum bpfmap_status bpfmap_take_request(struct bpfmap_client *client, const struct bpfmap_request *request)
+static inline BPFMAP_HOT enum bpfmap_status bpfmap_take_request(struct bpfmap_client *client, const struct bpfmap_request *request)
 {
     enum bpfmap_status status;
     if (!client->is_open)
@@ -326,10 +327,12 @@ static inline enum bpfmap_status bpfmap_check_alone(const struct bpfmap_session 
     return bpfmap_is_walk((enum bpfmap_call)session->calls[session->first_waiting]) ? BPFMAP_WALKING : BPFMAP_UNREAD;
 }
 
-/* Makes an empty reply to a request that was not sent. */
-static inline enum bpfmap_status bpfmap_clear_reply(struct bpfmap_client *client, const struct bpfmap_request *request,
-                                                    enum bpfmap_status status, struct bpfmap_reply *reply)
+/* Makes an empty reply, unless it is NULL, to a request that was not sent. */
+static inline BPFMAP_COLD enum bpfmap_status bpfmap_clear_reply(struct bpfmap_client *client, const struct bpfmap_request *request,
+                                                                enum bpfmap_status status, struct bpfmap_reply *reply)
 {
+    if (!reply)
+        return status;
     bpfmap_clear(reply);
     reply->call = request->call;
     if (status == BPFMAP_REFUSED) {
@@ -343,10 +346,7 @@ static inline enum bpfmap_status bpfmap_clear_reply(struct bpfmap_client *client
 static inline enum bpfmap_status bpfmap_ask(struct bpfmap_client *client, const struct bpfmap_request *request,
                                             struct bpfmap_reply *reply)
 {
-    struct bpfmap_reply unread;
     enum bpfmap_status status = bpfmap_begin_call(client);
-    if (!reply)
-        reply = &unread;
     if (status == BPFMAP_BUSY)
         return bpfmap_clear_reply(client, request, status, reply);
     status = bpfmap_check_alone(&client->session);
@@ -375,10 +375,7 @@ static inline enum bpfmap_status bpfmap_send(struct bpfmap_client *client, const
  * failed are still received. */
 static inline enum bpfmap_status bpfmap_receive(struct bpfmap_client *client, struct bpfmap_reply *reply)
 {
-    struct bpfmap_reply unread;
     enum bpfmap_status status = bpfmap_begin_call(client);
-    if (!reply)
-        reply = &unread;
     if (status != BPFMAP_BUSY)
         return bpfmap_end_call(client, bpfmap_take_reply(client, reply));
     bpfmap_clear(reply);
@@ -390,7 +387,6 @@ static inline enum bpfmap_status bpfmap_receive(struct bpfmap_client *client, st
 /* Begins a session over the socket, or ends it if there is none. */
 static inline enum bpfmap_status bpfmap_greet(struct bpfmap_client *client, int version, int opened, int error)
 {
-    struct bpfmap_reply reply;
     enum bpfmap_status status;
     bpfmap_session_begin(&client->session, version);
     client->socket = opened;
@@ -402,7 +398,7 @@ static inline enum bpfmap_status bpfmap_greet(struct bpfmap_client *client, int 
     else if (opened < 0)
         status = error == ETIMEDOUT ? BPFMAP_TIMED_OUT : BPFMAP_BROKEN;
     else
-        status = bpfmap_take_reply(client, &reply);
+        status = bpfmap_take_reply(client, NULL);
     if (status != BPFMAP_OK) {
         bpfmap_fail(client, status, error);
         bpfmap_session_forget(&client->session);

@@ -91,7 +91,7 @@ static inline enum bpfmap_status bpfmap_find_number(const struct bpfmap_session 
 }
 
 /* Notes that a Register was asked for. If too many of them wait, its number will be forgotten. */
-static inline void bpfmap_begin_known(struct bpfmap_session *session, const struct bpfmap_program *program)
+static inline BPFMAP_COLD void bpfmap_begin_known(struct bpfmap_session *session, const struct bpfmap_program *program)
 {
     if (session->registering == BPFMAP_PROGRAMS || session->forgetting > 0) {
         session->forgetting++;
@@ -103,7 +103,7 @@ static inline void bpfmap_begin_known(struct bpfmap_session *session, const stru
 }
 
 /* Notes the answer to the oldest Register that waits: its number, or that it was refused. */
-static inline void bpfmap_settle_known(struct bpfmap_session *session, int is_refused, uint64_t number)
+static inline BPFMAP_COLD void bpfmap_settle_known(struct bpfmap_session *session, int is_refused, uint64_t number)
 {
     struct bpfmap_known *known = &session->known[(session->registers - session->registering) % BPFMAP_PROGRAMS];
     if (session->registering == 0) {
@@ -199,7 +199,7 @@ static inline unsigned bpfmap_fields(enum bpfmap_call call)
 }
 
 /* Returns the number of the refusal that a program's code gets before it is sent, or 0. */
-static inline uint8_t bpfmap_refuse_code(const struct bpfmap_session *session, size_t length)
+static inline BPFMAP_COLD uint8_t bpfmap_refuse_code(const struct bpfmap_session *session, size_t length)
 {
     size_t longest = session->version == 1 ? BPFMAP_PROGRAM_BYTES_1 : BPFMAP_PROGRAM_BYTES;
     if (length <= longest)
@@ -309,8 +309,8 @@ static inline int bpfmap_take_value(const struct bpfmap_session *session, const 
 }
 
 /* Takes a Value response. */
-static inline enum bpfmap_status bpfmap_take_answer(const struct bpfmap_session *session, const uint8_t *body, size_t size,
-                                                    struct bpfmap_reply *reply)
+static inline BPFMAP_HOT enum bpfmap_status bpfmap_take_answer(const struct bpfmap_session *session, const uint8_t *body,
+                                                               size_t size, struct bpfmap_reply *reply)
 {
     if (!(bpfmap_fields(reply->call) & BPFMAP_GIVES_VALUE))
         return BPFMAP_GARBLED;
@@ -338,7 +338,7 @@ static inline enum bpfmap_status bpfmap_take_item(const struct bpfmap_session *s
 }
 
 /* Takes an End response. */
-static inline enum bpfmap_status bpfmap_take_counts(const uint8_t *body, size_t size, struct bpfmap_reply *reply)
+static inline BPFMAP_COLD enum bpfmap_status bpfmap_take_counts(const uint8_t *body, size_t size, struct bpfmap_reply *reply)
 {
     if (reply->call < BPFMAP_SEARCH || size != 25)
         return BPFMAP_GARBLED;
@@ -350,8 +350,8 @@ static inline enum bpfmap_status bpfmap_take_counts(const uint8_t *body, size_t 
 }
 
 /* Takes a Refused response. */
-static inline enum bpfmap_status bpfmap_take_refusal(struct bpfmap_session *session, const uint8_t *body, size_t size,
-                                                     struct bpfmap_reply *reply)
+static inline BPFMAP_COLD enum bpfmap_status bpfmap_take_refusal(struct bpfmap_session *session, const uint8_t *body,
+                                                                 size_t size, struct bpfmap_reply *reply)
 {
     if (size != 6)
         return BPFMAP_GARBLED;
@@ -363,8 +363,8 @@ static inline enum bpfmap_status bpfmap_take_refusal(struct bpfmap_session *sess
 }
 
 /* Takes the response whose body has this tag, of the smaller kinds. */
-static inline enum bpfmap_status bpfmap_take_small(const struct bpfmap_session *session, const uint8_t *body, size_t size,
-                                                   struct bpfmap_reply *reply)
+static inline BPFMAP_COLD enum bpfmap_status bpfmap_take_small(const struct bpfmap_session *session, const uint8_t *body,
+                                                               size_t size, struct bpfmap_reply *reply)
 {
     enum bpfmap_call call = reply->call;
     if (body[0] == 0x80 && call == BPFMAP_HELLO && size == 2 && body[1] == session->version) {
@@ -390,7 +390,7 @@ static inline enum bpfmap_status bpfmap_take_small(const struct bpfmap_session *
 }
 
 /* Takes a response to the reply's call. The body has a byte at least. */
-static inline enum bpfmap_status bpfmap_take(struct bpfmap_session *session, const uint8_t *body, size_t size,
+static inline BPFMAP_HOT enum bpfmap_status bpfmap_take(struct bpfmap_session *session, const uint8_t *body, size_t size,
                                              struct bpfmap_reply *reply)
 {
     if (body[0] == 0x82)
@@ -406,7 +406,8 @@ static inline enum bpfmap_status bpfmap_take(struct bpfmap_session *session, con
 /* ---- the session */
 
 /* Ends the session for this reason, which all later requests get too. Answers that were received are still given. */
-static inline enum bpfmap_status bpfmap_session_end(struct bpfmap_session *session, enum bpfmap_status status, int error)
+static inline BPFMAP_COLD enum bpfmap_status bpfmap_session_end(struct bpfmap_session *session, enum bpfmap_status status,
+                                                                int error)
 {
     if (session->status == BPFMAP_OK) {
         session->status = status;
@@ -442,7 +443,7 @@ static inline int bpfmap_make_out_room(struct bpfmap_session *session, size_t si
 }
 
 /* Refuses a request before it is sent. */
-static inline enum bpfmap_status bpfmap_refuse(struct bpfmap_session *session, uint8_t number)
+static inline BPFMAP_COLD enum bpfmap_status bpfmap_refuse(struct bpfmap_session *session, uint8_t number)
 {
     session->refusal.number = number;
     session->refusal.place = 0;
@@ -548,7 +549,7 @@ static inline size_t bpfmap_session_feed(struct bpfmap_session *session, const v
 }
 
 /* Returns whether the next answer's frame is there: 1; or 0; or -1 if no answer has this length. */
-static inline int bpfmap_has_frame(const struct bpfmap_session *session, size_t *size)
+static inline BPFMAP_HOT int bpfmap_has_frame(const struct bpfmap_session *session, size_t *size)
 {
     const uint8_t *frame = session->in + session->in_begin;
     size_t there = session->in_end - session->in_begin;
@@ -561,7 +562,7 @@ static inline int bpfmap_has_frame(const struct bpfmap_session *session, size_t 
 }
 
 /* Drops the request that was answered. */
-static inline void bpfmap_drop_waiting(struct bpfmap_session *session, const struct bpfmap_reply *reply)
+static inline BPFMAP_HOT void bpfmap_drop_waiting(struct bpfmap_session *session, const struct bpfmap_reply *reply)
 {
     session->first_waiting = (session->first_waiting + 1) % BPFMAP_DEPTH;
     session->waiting--;
@@ -577,25 +578,35 @@ static inline void bpfmap_session_forget(struct bpfmap_session *session)
 }
 
 /* Ends a session whose server sent no answer: nothing more of it is read. */
-static inline enum bpfmap_status bpfmap_session_garbled(struct bpfmap_session *session)
+static inline BPFMAP_COLD enum bpfmap_status bpfmap_session_garbled(struct bpfmap_session *session)
 {
     bpfmap_session_forget(session);
     session->status = BPFMAP_OK;
     return bpfmap_session_end(session, BPFMAP_GARBLED, 0);
 }
 
-/* Clears a reply. The size is volatile, so that the compiler calls memset: what it writes in its place takes twice as long. */
-static inline void bpfmap_clear(struct bpfmap_reply *reply)
+/* Clears a reply, unless it is NULL. The size is volatile, so that the compiler calls memset: what it writes in its place takes
+ * twice as long. All bytes are cleared, since what the memory had before can't be known: it may be the reply of another client. */
+static inline BPFMAP_HOT void bpfmap_clear(struct bpfmap_reply *reply)
 {
     volatile size_t size = sizeof *reply;
-    memset(reply, 0, size);
+    if (reply)
+        memset(reply, 0, size);
 }
 
-/* Gives the reply whose frame has this size. */
-static inline enum bpfmap_status bpfmap_take_frame(struct bpfmap_session *session, size_t size, struct bpfmap_reply *reply)
+/* Gives the reply whose frame has this size. If it is NULL the answer goes into one that nobody reads, so only what the session
+ * reads of that is cleared. */
+static inline BPFMAP_HOT enum bpfmap_status bpfmap_take_frame(struct bpfmap_session *session, size_t size,
+                                                              struct bpfmap_reply *reply)
 {
+    struct bpfmap_reply unread;
     enum bpfmap_status status;
-    bpfmap_clear(reply);
+    if (reply) {
+        bpfmap_clear(reply);
+    } else {
+        reply = &unread;
+        memset(reply, 0, offsetof(struct bpfmap_reply, key));
+    }
     reply->call = (enum bpfmap_call)session->calls[session->first_waiting];
     status = bpfmap_take(session, session->in + session->in_begin + 4, size, reply);
     if (status == BPFMAP_GARBLED) {
@@ -609,7 +620,7 @@ static inline enum bpfmap_status bpfmap_take_frame(struct bpfmap_session *sessio
 }
 
 /* Does what bpfmap_session_next says, but leaves the reply as it is if it returns BPFMAP_WAITING. */
-static inline enum bpfmap_status bpfmap_try_next(struct bpfmap_session *session, struct bpfmap_reply *reply)
+static inline BPFMAP_HOT enum bpfmap_status bpfmap_try_next(struct bpfmap_session *session, struct bpfmap_reply *reply)
 {
     size_t size = 0;
     int has_frame = session->waiting > 0 ? bpfmap_has_frame(session, &size) : 0;
@@ -623,7 +634,8 @@ static inline enum bpfmap_status bpfmap_try_next(struct bpfmap_session *session,
     return bpfmap_is_answer(session->status) ? BPFMAP_NOT_ASKED : session->status; /* BPFMAP_REFUSED: the Hello was */
 }
 
-/* Gives the next reply: they come in the order of the requests. A walk has one for each Item, and BPFMAP_END. Returns its status;
+/* Gives the next reply: they come in the order of the requests. A walk has one for each Item, and BPFMAP_END. The reply may be NULL
+ * if you don't need it. Returns its status;
  * BPFMAP_WAITING if it is not here yet; BPFMAP_NOT_ASKED if no request waits; or why the session ended. */
 static inline enum bpfmap_status bpfmap_session_next(struct bpfmap_session *session, struct bpfmap_reply *reply)
 {

@@ -14,6 +14,15 @@
 #include <stdint.h>
 #include <string.h>
 
+/* For the compiler: a function that each call goes through, and one that few calls do. */
+#if defined __GNUC__
+#define BPFMAP_HOT __attribute__((always_inline))
+#define BPFMAP_COLD __attribute__((cold))
+#else
+#define BPFMAP_HOT
+#define BPFMAP_COLD
+#endif
+
 enum {
     BPFMAP_VERSION = 2,             /* of the protocol, if you ask for no other */
     BPFMAP_KEY_BYTES = 64,          /* the longest key */

@@ -320,9 +320,9 @@ class AsyncClient(Forkable):
         try:
             await asyncio.wait_for(connecting, timeout)
         except asyncio.TimeoutError as error:
-            raise NoConnectionInTime(f"no connection to {host}:{port} in {timeout} seconds") from error
+            raise NoConnectionInTime(f"no connection to {self._address} in {timeout} seconds") from error
         except OSError as error:
-            raise NotSent(f"no connection to {host}:{port}: {error}") from error
+            raise NotSent(f"no connection to {self._address}: {error}") from error
 
 
 async def _wait_for_ends(sessions: List[Session]) -> None:

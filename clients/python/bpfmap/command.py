@@ -20,7 +20,7 @@ _EPILOG = """\
 Keys are text. Values are text; with --as hex both are hex, and - is no byte; with --as number values are numbers of 8 bytes,
 little-endian. PROGRAM is `sum`, or `copy`, which answers every value as it is, or a file, which is registered first: C (named .c,
 compiled by clang, with its sizes in its head), assembler text, hex, or an object by clang. It may also be the number of a
-registered program. A server keeps each program until it ends, so register what you use often once.
+registered program. A server keeps each program until it ends; one that it has already keeps its number.
 
 Status: 0 done; 1 refused or unfit; 2 a fault of the words; 3 no connection, or one that broke; 4 the answer is nothing, as of an
 absent key, or false."""

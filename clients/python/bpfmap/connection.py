@@ -37,6 +37,10 @@ class Address(NamedTuple):
     port: int
     timeout: Optional[float]
 
+    def __str__(self) -> str:
+        """Host and port, as the command line takes them: an IPv6 address stands in brackets."""
+        return f"[{self.host}]:{self.port}" if ":" in self.host else f"{self.host}:{self.port}"
+
 
 class Connection(Forkable):
     """A session over TCP. After any fault it is closed for good.
@@ -79,9 +83,9 @@ class Connection(Forkable):
             opened.setsockopt(socket.IPPROTO_TCP, socket.TCP_NODELAY, 1)
             return opened
         except socket.timeout as error:
-            raise NoConnectionInTime(f"no connection to {host}:{port} in {timeout} seconds") from error
+            raise NoConnectionInTime(f"no connection to {self._address} in {timeout} seconds") from error
         except OSError as error:
-            raise NotSent(f"no connection to {host}:{port}: {error}") from error
+            raise NotSent(f"no connection to {self._address}: {error}") from error
 
     def close(self) -> None:
         """Closes the connection; a second time does nothing. The session ends though another process has a copy of the socket."""

@@ -19,6 +19,7 @@ from bpfmap import (
     TimedOut,
     Unfit,
 )
+from bpfmap.connection import Address
 from bpfmap.outgoing import Outgoing
 
 from .server import HOST, MapdTest, PlayedServer, receive_exactly
@@ -27,6 +28,8 @@ _HELLO = bytes.fromhex("000000020002")
 _GET = bytes.fromhex("00000003100161")
 _VALUE = bytes.fromhex("00000004820001")
 _FOREVER = 20
+# A timeout that is to pass. A played server greets sooner, on a busy machine too.
+_SOON = 0.5
 
 
 def answering(count: int, times: int) -> Callable[[socket.socket], None]:
@@ -134,6 +137,10 @@ class EndedTest(unittest.TestCase):
         self.assertRaisesRegex(NotSent, f"no connection to {HOST}:{port}", asyncio.run, AsyncClient(HOST, port).open())
         self.assertRaises(NotSent, asyncio.run, AsyncClient(HOST, port).get(b"a"))
 
+    def test_address_in_a_message(self) -> None:
+        self.assertEqual(str(Address("::1", 7070, None)), "[::1]:7070")
+        self.assertEqual(str(Address("example.org", 7070, None)), "example.org:7070")
+
     def test_send_that_the_system_refuses(self) -> None:
         """Nothing was sent; a call that was sent and not answered is another thing."""
         with PlayedServer(answering(1, 0)) as server, Client(HOST, server.port) as client:
@@ -165,12 +172,12 @@ class SilentTest(unittest.TestCase):
             pass
 
     def test_call(self) -> None:
-        with PlayedServer(self._wait) as server, Client(HOST, server.port, timeout=1) as client:
+        with PlayedServer(self._wait) as server, Client(HOST, server.port, timeout=_SOON) as client:
             self.assertRaises(TimedOut, client.get, b"a")
             self.assertRaisesRegex(ConnectionBroken, "nothing was sent", client.get, b"a")
 
     def test_pipeline(self) -> None:
-        with PlayedServer(self._wait) as server, Client(HOST, server.port, timeout=1) as client:
+        with PlayedServer(self._wait) as server, Client(HOST, server.port, timeout=_SOON) as client:
             pipeline = client.pipeline()
             call = pipeline.get(b"a")
             self.assertRaises(TimedOut, pipeline.execute)
@@ -182,7 +189,7 @@ class SilentTest(unittest.TestCase):
             asyncio.run(self._run_async(server.port))
 
     async def _run_async(self, port: int) -> None:
-        async with AsyncClient(HOST, port, timeout=1) as client:
+        async with AsyncClient(HOST, port, timeout=_SOON) as client:
             with self.assertRaises(TimedOut):
                 await client.get(b"a")
             with self.assertRaises(ConnectionBroken):
@@ -192,7 +199,7 @@ class SilentTest(unittest.TestCase):
         """Of its ten megabytes the last ones never left this process, and their calls were not sent."""
 
         async def run(port: int) -> "List[Pending[object]]":
-            async with AsyncClient(HOST, port, timeout=1) as client:
+            async with AsyncClient(HOST, port, timeout=_SOON) as client:
                 pipeline = client.pipeline()
                 calls = [pipeline.put(b"a", bytes(256)) for _ in range(40_000)]
                 with self.assertRaises(TimedOut):

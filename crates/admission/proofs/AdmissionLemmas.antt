@@ -21,8 +21,7 @@ use Rattle.flow_shape.specs.declared.fault.FlowFault.TheVariants.{BackwardJump, 
 use Rattle.flow_shape.proofs.FaultLemmas.{starts_inside}
 use Rattle.admission.specs.declared.fault.AdmissionFault.{AdmissionFault}
 use Rattle.admission.specs.declared.fault.AdmissionFault.TheVariants.{Decode, Flow, Verify}
-use Rattle.admission.specs.declared.limits.ProgramLimits.{ProgramLimits}
-use Rattle.admission.specs.Admissions.{admission_fault_unit, IsNotAdmitted}
+use Rattle.admission.specs.Admissions.{Allowance, admission_fault_unit, IsNotAdmitted}
 
 -- ---- faults of decoding
 
@@ -70,7 +69,7 @@ flow_unit program (FallsOffEnd unit) has = starts_inside program unit (is_there 
 
 -- ---- refusals
 
-pub refused_unit : (limits : ProgramLimits) (bytes : List ℕ) (sizes : Sizes) (fault : AdmissionFault) → IsNotAdmitted limits bytes sizes fault → admission_fault_unit fault < 2 ^ 32
+pub refused_unit : (limits : Allowance) (bytes : List ℕ) (sizes : Sizes) (fault : AdmissionFault) → IsNotAdmitted limits bytes sizes fault → admission_fault_unit fault < 2 ^ 32
 refused_unit limits bytes sizes (Decode fault) (inl (many, is)) = let zero : decode.decode_fault_unit fault ≡ 0 = ap decode.decode_fault_unit is in omega (arith, zero)
 refused_unit limits bytes sizes (Decode fault) (inr (few, inl is)) = let zero : decode.decode_fault_unit fault ≡ 0 = ap decode.decode_fault_unit is in omega (arith, zero)
 refused_unit limits bytes sizes (Decode fault) (inr (few, inr first)) = decode_unit bytes fault first

@@ -17,7 +17,6 @@ use Rattle.verifier.specs.Plain.{IsPlain}
 use Rattle.verifier.specs.declared.fault.VerifyFault.TheVariants.{NoMemory as OutOfMemory, SizesTooLarge}
 use Rattle.admission.specs.declared.fault.AdmissionFault.{AdmissionFault}
 use Rattle.admission.specs.declared.fault.AdmissionFault.TheVariants.{Decode, Flow, Verify}
-use Rattle.admission.specs.declared.limits.ProgramLimits.{ProgramLimits}
 
 abbrev pub admission_fault_number : AdmissionFault → ℕ
 admission_fault_number (Decode fault) = decode.decode_fault_number fault
@@ -40,22 +39,27 @@ pub record IsAdmitted (bytes : List ℕ) (sizes : Sizes) (program : List Insn) :
   pub spelled : Spells bytes program
   pub safe : IsSafe program sizes
 
+-- the most units of a program, and the most bytes of its old value, argument and result
+pub record Allowance : Type 0 where
+  pub units : ℕ
+  pub window : ℕ
+
 -- the limits of any program
-abbrev pub greatest : ProgramLimits
+abbrev pub greatest : Allowance
 greatest = record { units = PROGRAM_UNITS; window = VALUE_BYTES }
 
 -- whole units, and more than the limits allow
-abbrev pub HasManyUnits : ProgramLimits → List ℕ → Type 0
+abbrev pub HasManyUnits : Allowance → List ℕ → Type 0
 HasManyUnits limits bytes = (length bytes % 8 ≡ 0) × (limits.units < length bytes / 8)
 
 -- a declared size is above its limit
-abbrev pub HasLargeWindow : ProgramLimits → Sizes → Type 0
+abbrev pub HasLargeWindow : Allowance → Sizes → Type 0
 HasLargeWindow limits sizes =
     (KEY_BYTES < sizes.key) ⊎ ((limits.window < sizes.old) ⊎ ((limits.window < sizes.arg) ⊎ (limits.window < sizes.result)))
 
 -- why the bytes are not admitted: the first step that refuses. The number of units is looked at before any of them, and the
 -- sizes before the verifier walks, which refuses no plain program unless memory runs out
-abbrev pub IsNotAdmitted : ProgramLimits → List ℕ → Sizes → AdmissionFault → Type 0
+abbrev pub IsNotAdmitted : Allowance → List ℕ → Sizes → AdmissionFault → Type 0
 IsNotAdmitted limits bytes sizes (Decode fault) =
     (HasManyUnits limits bytes × (fault ≡ TooManyUnits))
     ⊎ ((HasManyUnits limits bytes → ⊥) × ((fault ≡ NoMemory) ⊎ decode.IsFirstDecodeFault bytes fault))

@@ -1,6 +1,5 @@
 //! The steps from bytes to a verified program.
-ghost use Rattle.std.specs.Prelude.{◌≡◌, ◌≤◌, IfOk, OnOk, IfErr};
-ghost use Rattle.bpf_model.specs.declared.limits.TheConstants.{VALUE_BYTES};
+ghost use Rattle.std.specs.Prelude.{◌≡◌, IfOk, OnOk, IfErr};
 ghost use Rattle.admission.specs.Admissions.{IsAdmitted, IsNotAdmitted, HasManyUnits, HasLargeWindow};
 
 use crate::fault::AdmissionFault;
@@ -20,7 +19,6 @@ pub fn admit(
     bytes: &[u8],
     sizes: Sizes,
 ) -> Result<Verified, AdmissionFault>
-    requires within { limits.window ≤ VALUE_BYTES }
     ensures ok { IfOk result (λ v. IsAdmitted bytes.now sizes v.program) }
     ensures sizes { IfOk result (λ v. v.sizes ≡ sizes) }
     ensures units { OnOk result (HasManyUnits limits bytes.now → ⊥) }

@@ -4,12 +4,28 @@ ghost use Rattle.admission.specs.Admissions.{HasManyUnits, HasLargeWindow};
 
 use bpf_model::Sizes;
 use bpf_model::limits::{KEY_BYTES, PROGRAM_UNITS, VALUE_BYTES};
+use std::marker::Model;
 
 /// The most units of a program, and the most bytes of its old value, argument and result.
 #[derive(Clone, Copy, Debug, PartialEq, Eq)]
 pub struct ProgramLimits {
     pub units: usize,
     pub window: usize,
+}
+
+impl Model for ProgramLimits {
+    ghost use Rattle.std.specs.Prelude.{◌≤◌};
+    ghost use Rattle.bpf_model.specs.declared.limits.TheConstants.{VALUE_BYTES};
+    ghost use Rattle.admission.specs.Admissions.{Allowance};
+
+    ghost Value = { Allowance };
+
+    ghost view = { λ limits. record { units = limits.units; window = limits.window } };
+
+    // No limit allows what no program may have.
+    ghost invariant = { λ limits. limits.window ≤ VALUE_BYTES };
+
+    ghost inverse = { λ allowance. record { units = allowance.units; window = allowance.window } };
 }
 
 /// The bytes of a unit.
@@ -37,5 +53,11 @@ impl ProgramLimits {
             || usize::from(sizes.old) > self.window
             || usize::from(sizes.arg) > self.window
             || usize::from(sizes.result) > self.window
+    }
+    /// Tests whether the bytes and sizes are within the limits. Of what the bytes spell it says nothing. Takes no memory.
+    pub fn allows(self, bytes: &[u8], sizes: Sizes) -> bool
+        ensures { IsTrue result ↔ ((HasManyUnits self bytes.now → ⊥) × (HasLargeWindow self sizes → ⊥)) }
+    {
+        !self.has_many_units(bytes) && !self.has_large_window(sizes)
     }
 }

@@ -10,6 +10,7 @@ mod made_up;
 mod memory;
 mod opening;
 mod programs;
+mod registers;
 mod runs;
 mod session;
 mod tables;
@@ -20,6 +21,7 @@ use calls::{Keys, Method, calls_sum};
 use entries::work_often;
 use made_up::checksum;
 use programs::Sample;
+use registers::{Programs, register_often};
 use runs::{Mode, answer_of, bytes_of, run_often};
 use session::{Ask, serve};
 use std::alloc::Global;
@@ -30,7 +32,7 @@ use tables::call_often;
 use walk::{Walk, walk_often};
 
 /// What is printed where there are no words.
-const ROWS: [(&str, &[&str]); 30] = [
+const ROWS: [(&str, &[&str]); 32] = [
     ("answer", &["sum"]),
     ("answer", &["alu"]),
     ("answer", &["eight"]),
@@ -53,6 +55,8 @@ const ROWS: [(&str, &[&str]); 30] = [
     ("calls", &["merge", "1000", "4", "500"]),
     ("calls", &["merge", "near", "4", "500"]),
     ("calls", &["merge", "apart", "4", "500"]),
+    ("register", &["known", "4096", "2"]),
+    ("register", &["new", "6", "2"]),
     ("session", &["get", "2"]),
     ("session", &["put", "2"]),
     ("session", &["replace", "2"]),
@@ -87,6 +91,15 @@ fn calls_text<R: Threads + Wait + Sync>(
     let keys = Keys::named(keys)?;
     let sum = calls_sum(rt, alloc, method, keys, threads.parse()?, count.parse()?)?;
     Ok(format!(in alloc; "the sum of the values is {sum}")?)
+}
+
+fn register_text<R: Wait>(rt: &R, alloc: Global, words: &[&str; 3]) -> Result<String> {
+    let [programs, units, count] = words;
+    let Some(programs) = Programs::named(programs) else {
+        bail!("the programs are known and new");
+    };
+    let numbers = register_often(rt, alloc, programs, units.parse()?, count.parse()?)?;
+    Ok(format!(in alloc; "{numbers} numbers were given")?)
 }
 
 fn session_text<R: Wait>(rt: &R, alloc: Global, ask: &str, count: &str) -> Result<String> {
@@ -141,6 +154,9 @@ fn text<R: Threads + Wait + Sync>(
     match (mode, words) {
         ("calls", [method, keys, threads, count]) => {
             calls_text(rt, alloc, &[method, keys, threads, count])
+        }
+        ("register", [programs, units, count]) => {
+            register_text(rt, alloc, &[programs, units, count])
         }
         ("session", [ask, count]) => session_text(rt, alloc, ask, count),
         ("walk", [kind, workers, entries, count]) => {

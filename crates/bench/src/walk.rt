@@ -35,6 +35,14 @@ impl Walk {
     }
 }
 
+/// A walk that is asked for again and again.
+#[derive(Drop)]
+struct AskedWalk {
+    walk: Walk,
+    program: Verified,
+    arg: Option<Value>,
+}
+
 /// Puts the value 1 under so many keys.
 fn fill<R: Wait>(rt: &R, map: &StripedMap, pass: &mut Pass, entries: u64) -> Result<()>
     requires { pass.old.map ≡ map.now }
@@ -67,13 +75,12 @@ fn walked<R: Threads + Wait + Sync>(
     alloc: Global,
     map: &StripedMap,
     team: Team,
-    walk: Walk,
-    program: &Verified,
-    arg: &Option<Value>,
+    asked: &AskedWalk,
 ) -> (Team, Result<WalkReply, NoMemory>)
     requires { All (λ pass. pass.map ≡ map.now) team.passes.items }
     ensures { All (λ pass. pass.map ≡ map.now) result.0.passes.items }
 {
+    let AskedWalk { walk, program, arg } = asked;
     match walk {
         Walk::ForEach => for_each(rt, alloc, map, team, program, arg, 0, &OpenGate),
         Walk::Search => search(rt, alloc, map, team, program, arg, 0, &OpenGate),
@@ -87,9 +94,7 @@ fn walked_often<R: Threads + Wait + Sync>(
     alloc: Global,
     map: &StripedMap,
     mut team: Team,
-    walk: Walk,
-    program: &Verified,
-    arg: &Option<Value>,
+    asked: &AskedWalk,
     count: u64,
 ) -> Result<(u64, u64)>
     requires { All (λ pass. pass.map ≡ map.now) team.passes.items }
@@ -98,7 +103,7 @@ fn walked_often<R: Threads + Wait + Sync>(
     for turn in 0..count {
         // For the proof alone: its invariant of the loop is named for this variable.
         let _ = turn;
-        let (again, reply) = walked(rt, alloc, map, team, walk, program, arg);
+        let (again, reply) = walked(rt, alloc, map, team, asked);
         let counts = reply?.counts;
         sums = (
             sums.0.wrapping_add(counts.scanned),
@@ -121,9 +126,12 @@ pub fn walk_often<R: Threads + Wait + Sync>(
     if workers == 0 || workers > 63 {
         bail!("from 1 to 63 workers");
     }
-    let program = verified(alloc, Sample::Sum)?;
-    let arg = Some(numbered_value(1)?);
+    let asked = AskedWalk {
+        walk,
+        program: verified(alloc, Sample::Sum)?,
+        arg: Some(numbered_value(1)?),
+    };
     let (map, passes) = opened(alloc, workers + 1)?;
     let team = filled(rt, &map, passes, entries)?;
-    walked_often(rt, alloc, &map, team, walk, &program, &arg, count)
+    walked_often(rt, alloc, &map, team, &asked, count)
 }

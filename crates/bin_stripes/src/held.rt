@@ -52,11 +52,17 @@ impl<B: Bins> Shows<Snapshot<B>> for Scanning {
     ghost shows = { λ found actions. actions ≡ scanned (map.entries (B.table found.value)) ∷ [] };
 }
 
+/// By what values are replaced.
+#[derive(Clone, Copy)]
+pub(crate) struct Replacer<'a> {
+    pub(crate) program: &'a Verified,
+    pub(crate) arg: &'a Option<Value>,
+}
+
 /// What was replaced, by what, and how many.
 #[derive(Drop)]
 struct Replacement<'a, B> {
-    program: &'a Verified,
-    arg: &'a Option<Value>,
+    by: Replacer<'a>,
     counts: Counts,
     before: Snapshot<B>,
 }
@@ -66,7 +72,7 @@ struct Replacing;
 
 impl<'a, B: Bins> Shows<Replacement<'a, B>> for Replacing {
     ghost shows = { λ done actions.
-        AreReplacements done.program.now done.arg.now (map.entries (B.table done.before.value)) actions done.counts };
+        AreReplacements done.by.program.now done.by.arg.now (map.entries (B.table done.before.value)) actions done.counts };
 }
 
 /// Makes the call on the stripe of its key. A program runs in the workspace; the bytes of the replied value are left in
@@ -206,7 +212,7 @@ pub(crate) fn make_replacements<B: Bins + Drop, G: Gate>(
     table: &Stripes<B>,
     seat: &mut PassSeat<B>,
     stripe: usize,
-    by: (&Verified, &Option<Value>),
+    by: Replacer<'_>,
     gate: &G,
     worker: u32,
 ) -> Counts
@@ -215,7 +221,7 @@ pub(crate) fn make_replacements<B: Bins + Drop, G: Gate>(
     requires held { SeatHolds B.table table.now.table_id.slots stripe seat.old.me }
     ensures same { (seat.new.table_id ≡ seat.old.table_id) × (seat.new.id ≡ seat.old.id) }
     ensures made { (there : Table) × (Leaves table.now.table_id.slots stripe (seen_of seat.old.me.0 stripe) there
-        × Lets (λ actions. AreReplacements by.entry.0.now by.entry.1.now (map.entries there) actions result)
+        × Lets (λ actions. AreReplacements by.entry.program.now by.entry.arg.now (map.entries there) actions result)
         table.now.table_id.slots stripe seat.old.me seat.new.me) }
     ensures bounded { result.scanned < 2 ^ 57 }
 {
@@ -224,14 +230,8 @@ pub(crate) fn make_replacements<B: Bins + Drop, G: Gate>(
     };
     gate.pass(Place::Held, worker);
     let before = Snapshot::of(&*bins);
-    let (program, arg) = by;
-    let counts = replace_each(bins, program, arg);
-    let done = Replacement {
-        program,
-        arg,
-        counts,
-        before,
-    };
+    let counts = replace_each(bins, by.program, by.arg);
+    let done = Replacement { by, counts, before };
     let_go::<B, _, Replacing>(table, seat, stripe, &done);
     counts
 }

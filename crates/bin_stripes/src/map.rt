@@ -9,7 +9,7 @@ ghost use Rattle.bin_stripes.specs.Passes.{ServesSameMap, stripes_of};
 use crate::fault::CallFault;
 use crate::gate::Gate;
 use crate::ghost_action::GhostAction;
-use crate::held::{make_call, make_copies, make_count, make_replacements, make_scan};
+use crate::held::{Replacer, make_call, make_copies, make_count, make_replacements, make_scan};
 use crate::pass::Pass;
 use crate::rule::{Shape, Striping};
 use crate::seats::{try_call, try_replace, try_scan};
@@ -265,7 +265,14 @@ impl StripedMap {
         let table = &self.table.shared;
         let mut seat = pass.known.take();
         take_stripe(rt, table, &mut seat, slot);
-        let counts = make_replacements(table, &mut seat, slot, (program, arg), gate, worker);
+        let counts = make_replacements(
+            table,
+            &mut seat,
+            slot,
+            Replacer { program, arg },
+            gate,
+            worker,
+        );
         pass.known.put(seat);
         counts
     }
@@ -292,7 +299,7 @@ impl StripedMap {
             &self.table.shared,
             &mut seat,
             stripe as usize,
-            (program, arg),
+            Replacer { program, arg },
         );
         pass.known.put(seat);
         answer

@@ -13,7 +13,7 @@ use crate::rule::{Deal, Shape};
 use crate::steps::{PassSeat, STRIPE_WORDS, Stripes};
 use atomic_methods::{Workspace, is_stripe_count};
 use atomic_table::Table;
-use bins::Bins;
+use bins::{Bins, Seed};
 use bpf_model::NoMemory;
 use known_seat::Known;
 use std::alloc::Global;
@@ -34,25 +34,47 @@ impl StripedMap {
         ensures ok { IfOk result (λ opened. IsOpened stripes passes opened.0 opened.1.items) }
         ensures serve { IfOk result (λ opened. All (λ pass. pass.map ≡ opened.0) opened.1.items) }
     {
+        StripedMap::open_seeded(alloc, stripes, passes, Seed::fixed())
+    }
+
+    /// As `open`, for a map that hashes keys by this seed inside its stripes: nobody who does not know it can choose keys that are
+    /// slow to find. `BadStripes` where it may not have so many stripes, else `BadPasses` where there are not from 1 to `MAX_PASSES`,
+    /// else `NoMemory` where a request for memory was refused.
+    pub fn open_seeded(
+        alloc: Global,
+        stripes: u64,
+        passes: u64,
+        seed: Seed,
+    ) -> Result<(StripedMap, Vec<Pass>), OpenFault>
+        ensures bad_stripes { IsErrOf result OpenFault.BadStripes ↔ (IsStripeCount stripes → ⊥) }
+        ensures bad_passes { IsErrOf result OpenFault.BadPasses ↔ IsStripeCount stripes × (IsPassCount passes → ⊥) }
+        ensures ok { IfOk result (λ opened. IsOpened stripes passes opened.0 opened.1.items) }
+        ensures serve { IfOk result (λ opened. All (λ pass. pass.map ≡ opened.0) opened.1.items) }
+    {
         if !is_stripe_count(stripes) {
             return Err(OpenFault::BadStripes);
         }
         if passes == 0 || passes > MAX_PASSES {
             return Err(OpenFault::BadPasses);
         }
-        Ok(opened(alloc, stripes, passes)?)
+        Ok(opened(alloc, stripes, passes, seed)?)
     }
 }
 
 /// The map and its passes.
 #[tactic(auto, using(crate::proofs::OpenedLemmas::serve_all))]
-fn opened(alloc: Global, stripes: u64, passes: u64) -> Result<(StripedMap, Vec<Pass>), NoMemory>
+fn opened(
+    alloc: Global,
+    stripes: u64,
+    passes: u64,
+    seed: Seed,
+) -> Result<(StripedMap, Vec<Pass>), NoMemory>
     requires stripes { IsStripeCount stripes }
     requires passes { IsPassCount passes }
     ensures ok { IfOk result (λ opened. IsOpened stripes passes opened.0 opened.1.items) }
     ensures serve { IfOk result (λ opened. All (λ pass. pass.map ≡ opened.0) opened.1.items) }
 {
-    let (words, slots) = free_stripes::<StripeBins>(alloc, stripes)?;
+    let (words, slots) = free_stripes::<StripeBins>(alloc, stripes, seed)?;
     let shape = Shape { stripes, passes };
     let Ok((table, seat)) = Table::new(alloc, &words, slots, &shape) else {
         return Err(NoMemory);
@@ -65,6 +87,7 @@ fn opened(alloc: Global, stripes: u64, passes: u64) -> Result<(StripedMap, Vec<P
 fn free_stripes<B: Bins + Drop>(
     alloc: Global,
     stripes: u64,
+    seed: Seed,
 ) -> Result<(Vec<u64>, Vec<Option<B>>), NoMemory>
     requires bounded { stripes ≤ 64 }
     ensures words { IfOk result (λ made. made.0.items ≡ replicate (words_of stripes) 0) }
@@ -74,7 +97,7 @@ fn free_stripes<B: Bins + Drop>(
     let words = zero_words(alloc, stripes * STRIPE_WORDS as u64)?;
     let mut slots = Vec::new(alloc);
     for _ in 0..stripes {
-        slots.push(Some(B::open(alloc, stripes)?))?;
+        slots.push(Some(B::open_seeded(alloc, stripes, seed)?))?;
     }
     Ok((words, slots))
 }

@@ -8,7 +8,7 @@ ghost use Rattle.bin_stripes.specs.Holding.{IsLaid, Rests, Settles, SeatRefuses,
 
 use crate::fault::CallFault;
 use crate::gate::OpenGate;
-use crate::held::{make_call, make_replacements, make_scan};
+use crate::held::{Replacer, make_call, make_replacements, make_scan};
 use crate::steps::{PassSeat, Stripes, try_take_stripe};
 use atomic_methods::{HashedCall, ReplyKind, Workspace};
 use bins::{Bins, Counts};
@@ -69,14 +69,14 @@ pub(crate) fn try_replace<B: Bins + Drop>(
     table: &Stripes<B>,
     seat: &mut PassSeat<B>,
     stripe: usize,
-    by: (&Verified, &Option<Value>),
+    by: Replacer<'_>,
 ) -> Result<Counts, CallFault>
     requires table { IsLaid table.now.table_id table.now.key × (seat.old.table_id ≡ table.now.table_id) }
     requires stripe { stripe < table.now.table_id.slots }
     requires rests { Rests seat.old.me }
     ensures same { (seat.new.table_id ≡ seat.old.table_id) × (seat.new.id ≡ seat.old.id) }
     ensures ok { IfOk result (λ counts.
-        SeatReplaces table.now.table_id.slots stripe seat.old.me by.entry.0.now by.entry.1.now counts seat.new.me) }
+        SeatReplaces table.now.table_id.slots stripe seat.old.me by.entry.program.now by.entry.arg.now counts seat.new.me) }
     ensures err { OnErr result (Settles table.now.table_id.slots stripe seat.old.me [] seat.new.me) }
     ensures busy { IfErr result (λ fault. fault ≡ CallFault.Busy) }
     ensures bounded { IfOk result (λ counts. counts.scanned < 2 ^ 57) }

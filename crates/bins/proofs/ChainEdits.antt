@@ -3,7 +3,7 @@ use Rattle.std.proofs.Common.{◌≡◌, ◌≢◌, ℕ, ◌+◌, ◌-◌, ◌<�
 use Rattle.std.specs.Prelude.{nat_eq}
 use Rattle.std.specs.List.{swap_remove}
 use Rattle.std.proofs.lemmas.Bool.{eq-eqb, ne_eqb}
-use Rattle.std.proofs.lemmas.List.{length-set, length_push, length-take-le, get_or_append_left, get_or_push, get_or-take, get_or-set_same, get_or-set_other, take_more, take_all, take_at, set_at, set-append_left}
+use Rattle.std.proofs.lemmas.List.{length-set, length_push, length-take-le, get_or_append_left, get_or_push, get_or-take, get_or-set_same, take_more, take_all, take_at, set_at, set-append_left}
 use Rattle.bins.specs.declared.chains.Link.{Link}
 use Rattle.bins.specs.declared.chains.Link.TheVariants.{Head, Next}
 use Rattle.bins.specs.Chains.{Links, IsLinkTo, follow, heads_relinked, nexts_relinked, bin_of, bins_of}
@@ -123,38 +123,37 @@ links_linked bin new heads nexts n i link is within none in_bins same to =
     (last_alike bin new i (new i) (follow heads nexts link) (λ j high e. same j (λ eq. omega (arith, eq, high)) ∙ e) (λ j high e. sym (same j (λ eq. omega (arith, eq, high))) ∙ e) before))
     link to
 
--- the bins of the positions but i
-abbrev pub rest_bins : ℕ → ℕ → List ℕ → List ℕ → ℕ → ℕ
-rest_bins s i heads hs = hidden (bins_of s (length heads) hs) i (length heads)
+-- a position taken out of the chain of its bin
+pub moved_out : (bin : ℕ → ℕ) (heads nexts others news : List ℕ) (i from at : ℕ) (link : Link) → Links bin (length nexts) heads nexts → i < length nexts → bin i ≡ from → from < length heads
+    → at ≡ slice_index nexts i → IsLinkTo bin (length nexts) from i link → others ≡ heads_relinked link at heads → news ≡ nexts_relinked link at nexts
+    → Links (hidden bin i (length heads)) (length news) others news
+moved_out bin heads nexts others news i from at link is within e in_bins read to heads_are nexts_are =
+    let to_bin : IsLinkTo bin (length nexts) (bin i) i link = subst (λ (k : ℕ). IsLinkTo bin (length nexts) k i link) (sym e) to in
+    let out = links_unlinked bin heads nexts (length nexts) i link is within (subst (λ (k : ℕ). k < length heads) (sym e) in_bins) to_bin in
+    let size : length nexts ≡ length news = sym (ap length nexts_are ∙ length-nexts_relinked link at nexts) in
+    subst (λ (k : ℕ). Links (hidden bin i (length heads)) k others news) size
+    (subst (λ (xs : List ℕ). Links (hidden bin i (length heads)) (length nexts) xs news) (ap (λ (x : ℕ). heads_relinked link x heads) (sym read) ∙ sym heads_are)
+    (subst (λ (xs : List ℕ). Links (hidden bin i (length heads)) (length nexts) (heads_relinked link (slice_index nexts i) heads) xs) (ap (λ (x : ℕ). nexts_relinked link x nexts) (sym read) ∙ sym nexts_are) out))
 
--- a position taken out of the chain of its hash
-pub links_out : (s i : ℕ) (heads hs nexts others news : List ℕ) (link : Link) (b at : ℕ) → Links (bins_of s (length heads) hs) (length hs) heads nexts → length nexts ≡ length hs → i < length hs → b < length heads
-    → b ≡ bin_of s (length heads) (slice_index hs i) → at ≡ slice_index nexts i → IsLinkTo (bins_of s (length heads) hs) (length nexts) b i link
-    → others ≡ heads_relinked link at heads → news ≡ nexts_relinked link at nexts → Links (rest_bins s i heads hs) (length news) others news
-links_out s i heads hs nexts others news link b at is long within in_bins e read to heads_are nexts_are =
-    let to_bin : IsLinkTo (bins_of s (length heads) hs) (length hs) (bins_of s (length heads) hs i) i link =
-    subst (λ (k : ℕ). IsLinkTo (bins_of s (length heads) hs) (length hs) k i link) e (subst (λ (k : ℕ). IsLinkTo (bins_of s (length heads) hs) k b i link) long to) in
-    let out = links_unlinked (bins_of s (length heads) hs) heads nexts (length hs) i link is within (subst (λ (k : ℕ). k < length heads) e in_bins) to_bin in
-    let size : length hs ≡ length news = sym (ap length nexts_are ∙ length-nexts_relinked link at nexts ∙ long) in
-    subst (λ (k : ℕ). Links (rest_bins s i heads hs) k others news) size
-    (subst (λ (xs : List ℕ). Links (rest_bins s i heads hs) (length hs) xs news) (ap (λ (x : ℕ). heads_relinked link x heads) (sym read) ∙ sym heads_are)
-    (subst (λ (xs : List ℕ). Links (rest_bins s i heads hs) (length hs) (heads_relinked link (slice_index nexts i) heads) xs) (ap (λ (x : ℕ). nexts_relinked link x nexts) (sym read) ∙ sym nexts_are) out))
+-- and linked into the chain of another
+pub moved_in : (bin new : ℕ → ℕ) (bins : ℕ) (others news heads_after nexts_after : List ℕ) (i into at : ℕ) (link : Link) → Links (hidden bin i bins) (length news) others news → length others ≡ bins → i < length news
+    → into < bins → new i ≡ into → ((j : ℕ) → j ≢ i → new j ≡ bin j) → at ≡ follow others news link → IsLinkTo (hidden bin i bins) (length news) into i link
+    → heads_after ≡ heads_relinked link (i + 1) others → nexts_after ≡ nexts_relinked link (i + 1) (set news i at) → Links new (length nexts_after) heads_after nexts_after
+moved_in bin new bins others news heads_after nexts_after i into at link is size within in_bins here same leads to heads_are nexts_are =
+    let none = hidden_here bin i bins in
+    let linked = links_linked (hidden bin i bins) new others news (length news) i link is within (omega (arith, none, size)) (omega (arith, here, in_bins, size))
+    (λ j other. same j other ∙ sym (hidden_other bin i bins j other)) (subst (λ (k : ℕ). IsLinkTo (hidden bin i bins) (length news) k i link) (sym here) to) in
+    let count : length news ≡ length nexts_after = sym (ap length nexts_are ∙ length-nexts_relinked link (i + 1) (set news i at) ∙ length-set news i at) in
+    subst (λ (k : ℕ). Links new k heads_after nexts_after) count
+    (subst (λ (xs : List ℕ). Links new (length news) xs nexts_after) (sym heads_are)
+    (subst (λ (xs : List ℕ). Links new (length news) (heads_relinked link (i + 1) others) xs) (ap (λ (x : ℕ). nexts_relinked link (i + 1) (set news i x)) (sym leads) ∙ sym nexts_are) linked))
 
--- a position linked into the chain of its new hash
-pub links_in : (s i h b at : ℕ) (heads hs others news hashes heads_after nexts_after : List ℕ) (link : Link)
-    → Links (rest_bins s i heads hs) (length news) others news → length others ≡ length heads → length news ≡ length hs → i < length hs → b < length heads
-    → b ≡ bin_of s (length heads) h → at ≡ follow others news link → IsLinkTo (rest_bins s i heads hs) (length news) b i link
-    → hashes ≡ set hs i h → heads_after ≡ heads_relinked link (i + 1) others → nexts_after ≡ nexts_relinked link (i + 1) (set news i at)
-    → Links (bins_of s (length heads_after) hashes) (length hashes) heads_after nexts_after
-links_in s i h b at heads hs others news hashes heads_after nexts_after link is bins long within in_bins e leads to hashes_are heads_are nexts_are =
-    let new_here : bins_of s (length heads) hashes i ≡ b = ap (bin_of s (length heads)) (ap (λ (xs : List ℕ). slice_index xs i) hashes_are ∙ get_or-set_same hs i h 0 within) ∙ sym e in
-    let new_other : (j : ℕ) → j ≢ i → bins_of s (length heads) hashes j ≡ rest_bins s i heads hs j = λ j other.
-    ap (bin_of s (length heads)) (ap (λ (xs : List ℕ). slice_index xs j) hashes_are ∙ get_or-set_other hs i j h 0 other) ∙ sym (hidden_other (bins_of s (length heads) hs) i (length heads) j other) in
-    let none = hidden_here (bins_of s (length heads) hs) i (length heads) in
-    let linked = links_linked (rest_bins s i heads hs) (bins_of s (length heads) hashes) others news (length news) i link is (omega (arith, long, within)) (omega (arith, none, bins)) (omega (arith, new_here, in_bins, bins)) new_other
-    (subst (λ (k : ℕ). IsLinkTo (rest_bins s i heads hs) (length news) k i link) (sym new_here) to) in
-    let size : length news ≡ length hashes = long ∙ sym (ap length hashes_are ∙ length-set hs i h) in
-    let count : length heads ≡ length heads_after = sym (ap length heads_are ∙ length-heads_relinked link (i + 1) others ∙ bins) in
-    links_at s (length heads) (length heads_after) (length news) (length hashes) hashes (heads_relinked link (i + 1) others) heads_after nexts_after count size (sym heads_are)
-    (subst (λ (xs : List ℕ). Links (bins_of s (length heads) hashes) (length news) (heads_relinked link (i + 1) others) xs)
-    (ap (λ (x : ℕ). nexts_relinked link (i + 1) (set news i x)) (sym leads) ∙ sym nexts_are) linked)
+-- the same fact of equal numbers and lists
+pub links_told : (half half_now bins : ℕ) (hs hashes heads nexts news : List ℕ) → half_now ≡ half → length heads ≡ bins → hashes ≡ hs → news ≡ nexts → length nexts ≡ length hashes
+    → Links (bins_of half bins hs) (length nexts) heads nexts → Links (bins_of half_now (length heads) hashes) (length hashes) heads news
+links_told half half_now bins hs hashes heads nexts news same count hashes_are nexts_are long is =
+    subst (λ (x : ℕ). Links (bins_of x (length heads) hashes) (length hashes) heads news) (sym same)
+    (subst (λ (x : ℕ). Links (bins_of half x hashes) (length hashes) heads news) (sym count)
+    (subst (λ (xs : List ℕ). Links (bins_of half bins xs) (length hashes) heads news) (sym hashes_are)
+    (subst (λ (x : ℕ). Links (bins_of half bins hs) x heads news) long
+    (subst (λ (xs : List ℕ). Links (bins_of half bins hs) (length nexts) heads xs) (sym nexts_are) is))))

@@ -1,7 +1,7 @@
 -- Chains of positions: a further position, the last one taken out, and a link that is made to lead elsewhere.
-use Rattle.std.proofs.Common.{◌≡◌, ◌≢◌, ℕ, ◌+◌, ◌-◌, ◌<◌, ◌≤◌, List, length, set, slice_index, sym, ap, subst, ◌∙◌, arith, inl, inr}
+use Rattle.std.proofs.Common.{◌≡◌, ◌≢◌, ℕ, ◌+◌, ◌-◌, ◌<◌, ◌≤◌, List, length, set, take, slice_index, sym, ap, subst, ◌∙◌, arith, inl, inr}
 use Rattle.std.proofs.lemmas.Bool.{cases_eq, cases_lt}
-use Rattle.std.proofs.lemmas.List.{length-set, get_or-set_same, get_or-set_other}
+use Rattle.std.proofs.lemmas.List.{length-set, length-take-le, get_or-take, get_or_past, get_or-set_same, get_or-set_other}
 use Rattle.bins.specs.Chains.{IsLast, Links}
 
 -- the same fact of equal numbers
@@ -146,3 +146,12 @@ links_none bin n heads nexts none zeros = record {
   };
   at_nexts = λ i high. absurd (omega (arith, none, high));
 }
+
+pub none_lead : (bin : ℕ → ℕ) (n k : ℕ) (heads nexts : List ℕ) → Links bin n heads nexts → n ≡ 0 → k ≤ length heads → (b : ℕ) → slice_index (take k heads) b ≡ 0
+none_lead bin n k heads nexts is none le b = elim (cases_lt b k) [
+  | inl lt ↦
+      let range = (is.at_heads b (omega (arith, lt, le))).range in
+      let zero_is : slice_index heads b ≡ 0 = omega (arith, range, none) in
+      get_or-take k heads b 0 lt ∙ zero_is
+  | inr ge ↦ get_or_past (take k heads) b 0 (omega (arith, ge, length-take-le k heads le))
+]

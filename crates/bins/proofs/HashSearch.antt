@@ -3,10 +3,9 @@ use Rattle.std.proofs.Common.{◌≡◌, ◌≢◌, ℕ, ◌<◌, List, length, 
 use Rattle.std.specs.List.{AllWithin}
 use Rattle.std.proofs.lemmas.Bool.{cases_lt}
 use Rattle.std.proofs.lemmas.List.{get_or-map, length-map}
-use Rattle.bins.specs.Hashes.{hash}
 use Rattle.bins.specs.Chains.{IsLastOf}
 
-module _ (hs : List ℕ) (ks : List (List ℕ)) (are : hs ≡ map hash ks) where
+module _ (hash : List ℕ → ℕ) (hs : List ℕ) (ks : List (List ℕ)) (are : hs ≡ map hash ks) where
   pub as_many : length hs ≡ length ks
   as_many = ap length are ∙ length-map ks hash
 

@@ -5,6 +5,12 @@ pub mod PairedEntries
 pub mod AddedCopies
 pub mod OrderedEntries
 pub mod GapLemmas
+pub mod RowBytes
+pub mod SegmentLemmas
+pub mod SlotLemmas
+pub mod WidthLemmas
+pub mod PoolLemmas
+pub mod RoomLemmas
 pub mod RowLemmas
 pub mod RowWrites
 pub mod RowRemovals
@@ -19,8 +25,10 @@ pub mod ChainLemmas
 pub mod ChainMoves
 pub mod PowersOfTwo
 pub mod ChainBins
+pub mod ChainParts
+pub mod RecordLemmas
+pub mod ToldLemmas
 pub mod ChainEdits
 pub mod TreeLemmas
 pub mod FinderLemmas
 pub mod FrontLemmas
-pub mod Examples

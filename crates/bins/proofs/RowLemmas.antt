@@ -1,29 +1,32 @@
--- Rows in lists of three widths: what a location reads, and what makes lists of strings equal. `k` is the width that is spoken
+-- Rows in lists of many widths: what a location reads, and what makes lists of strings equal. `k` is the width that is spoken
 -- of, and `f` the key or the value of a row.
-use Rattle.std.proofs.Common.{◌≡◌, ◌≢◌, ℕ, ◌<◌, ◌≤◌, ◌⊎◌, cond, List, [], length, map, get_or, set, refl, sym, ap, subst, ◌∙◌, arith, inl, inr, get_or-set_same, get_or-set_other}
-use Rattle.std.proofs.lemmas.Bool.{cases_eq, cases_lt}
+use Rattle.std.proofs.Common.{◌≡◌, ◌≢◌, ℕ, ◌<◌, ◌≤◌, ◌⊎◌, Bool, true, false, cond, List, [], length, map, get_or, set, refl, sym, ap, subst, ◌∙◌, arith, inl, inr, get_or-set_same, get_or-set_other}
+use Rattle.std.proofs.lemmas.Bool.{cases_Bool, cases_eq, cases_lt, eq-eqb, eqb-true}
 use Rattle.std.proofs.lemmas.List.{length-set, length-map, ext_get_or, get_or-map, get_or_past, get_or_read}
 use Rattle.std.proofs.lemmas.List.Sums.{sum_by-set, count_by-le-length}
-use Rattle.bins.specs.declared.row.Width.{Width}
-use Rattle.bins.specs.declared.row.Width.TheVariants.{Short, Middle, Long}
-use Rattle.bins.specs.declared.row.Location.{Location}
-use Rattle.bins.specs.declared.row.Location.TheVariants.{Vacant, In}
-use Rattle.bins.specs.KeptRows.{KeptRow, Lists, AreMatched, is_in, nobody, location_at, row_at, row_of, rows_of, with_rows}
+use Rattle.bins.specs.declared.location.Width.{Width}
+use Rattle.bins.specs.declared.location.Location.{Location}
+use Rattle.bins.specs.declared.location.Location.TheVariants.{Vacant, In}
+use Rattle.bins.specs.KeptRows.{KeptRow, Lists, AreMatched, is_in, is_same_width, nobody, location_at, row_at, row_of, rows_of, with_rows}
 
 abbrev pub weight : Width → Location → ℕ
 weight k location = cond (is_in k location) 1 0
 
 -- two widths are one, or are not
 pub widths : (j k : Width) → (j ≡ k) ⊎ (j ≢ k)
-widths Short Short = inl refl
-widths Short Middle = inr (λ e. cc)
-widths Short Long = inr (λ e. cc)
-widths Middle Short = inr (λ e. cc)
-widths Middle Middle = inl refl
-widths Middle Long = inr (λ e. cc)
-widths Long Short = inr (λ e. cc)
-widths Long Middle = inr (λ e. cc)
-widths Long Long = inl refl
+widths j k = elim (cases_eq j.step k.step) [
+  | inl is ↦ inl (λ i. record { step = is i })
+  | inr other ↦ inr (λ e. other (ap (λ (w : Width). w.step) e))
+]
+
+pub same_width_true : (j k : Width) → j ≡ k → is_same_width j k ≡ true
+same_width_true j k is = eq-eqb j.step k.step (ap (λ (w : Width). w.step) is)
+
+pub same_width_false : (j k : Width) → j ≢ k → is_same_width j k ≡ false
+same_width_false j k other = elim (cases_Bool (is_same_width j k)) [
+  | inl same ↦ absurd (other (λ i. record { step = eqb-true j.step k.step same i }))
+  | inr differs ↦ differs
+]
 
 -- no location names rows of two widths, nor two rows
 pub not_vacant : (k : Width) (x : Location) (i : ℕ) → x ≡ Vacant → x ≡ In k i → ⊥
@@ -39,39 +42,19 @@ pub same_in : (k : Width) (i j : ℕ) → In k i ≡ In k j → i ≡ j
 same_in k i j e = cc
 
 pub weight_in : (k : Width) (i : ℕ) → weight k (In k i) ≡ 1
-weight_in Short i = refl
-weight_in Middle i = refl
-weight_in Long i = refl
+weight_in k i = ap (λ (b : Bool). cond b 1 0) (same_width_true k k refl)
 
 -- a location that names no row of this width
 pub weight_none : (k : Width) (x : Location) → ((i : ℕ) → x ≡ In k i → ⊥) → weight k x ≡ 0
 weight_none k Vacant none = refl
-weight_none Short (In Short i) none = absurd (none i refl)
-weight_none Short (In Middle i) none = refl
-weight_none Short (In Long i) none = refl
-weight_none Middle (In Short i) none = refl
-weight_none Middle (In Middle i) none = absurd (none i refl)
-weight_none Middle (In Long i) none = refl
-weight_none Long (In Short i) none = refl
-weight_none Long (In Middle i) none = refl
-weight_none Long (In Long i) none = absurd (none i refl)
+weight_none k (In j i) none = ap (λ (b : Bool). cond b 1 0) (same_width_false k j (λ is. none i (ap (λ (w : Width). In w i) (sym is))))
 
 -- the rows of a width that were given for others, and the rows of the other widths
 pub rows_with_same : (lists : Lists) (k : Width) (rows : List KeptRow) → rows_of (with_rows lists k rows) k ≡ rows
-rows_with_same lists Short rows = refl
-rows_with_same lists Middle rows = refl
-rows_with_same lists Long rows = refl
+rows_with_same lists k rows = ap (λ (b : Bool). cond b rows (lists k)) (same_width_true k k refl)
 
 pub rows_with_other : (lists : Lists) (k j : Width) (rows : List KeptRow) → j ≢ k → rows_of (with_rows lists k rows) j ≡ rows_of lists j
-rows_with_other lists Short Short rows other = absurd (other refl)
-rows_with_other lists Short Middle rows other = refl
-rows_with_other lists Short Long rows other = refl
-rows_with_other lists Middle Short rows other = refl
-rows_with_other lists Middle Middle rows other = absurd (other refl)
-rows_with_other lists Middle Long rows other = refl
-rows_with_other lists Long Short rows other = refl
-rows_with_other lists Long Middle rows other = refl
-rows_with_other lists Long Long rows other = absurd (other refl)
+rows_with_other lists k j rows other = ap (λ (b : Bool). cond b rows (lists j)) (same_width_false k j (λ is. other (sym is)))
 
 -- a location reads the same where the rows of that width do that it may name
 pub reads_with : (k : Width) (f : KeptRow → List ℕ) (lists : Lists) (rows : List KeptRow) (x : Location)

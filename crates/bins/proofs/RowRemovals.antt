@@ -1,12 +1,12 @@
--- Rows in lists of three widths: what is left where a row or a position is given up.
+-- Rows in lists of many widths: what is left where a row or a position is given up.
 use Rattle.std.proofs.Common.{◌≡◌, ◌≢◌, ℕ, ◌-◌, ◌<◌, List, [], ◌∷◌, length, get_or, set, take, map, refl, sym, ap, subst, ◌∙◌, arith, inl, inr, get_or-set_same, get_or-set_other}
 use Rattle.std.specs.List.{swap_remove}
 use Rattle.std.proofs.lemmas.Bool.{cases_eq, cases_lt}
 use Rattle.std.proofs.lemmas.List.{length-set, length-map, get_or-map, map-set, get_or_default, take-map, take-set-le, set-set}
 use Rattle.std.proofs.lemmas.List.Sums.{sum_by-set, sum_by-swap_remove}
-use Rattle.bins.specs.declared.row.Width.{Width}
-use Rattle.bins.specs.declared.row.Location.{Location}
-use Rattle.bins.specs.declared.row.Location.TheVariants.{Vacant, In}
+use Rattle.bins.specs.declared.location.Width.{Width}
+use Rattle.bins.specs.declared.location.Location.{Location}
+use Rattle.bins.specs.declared.location.Location.TheVariants.{Vacant, In}
 use Rattle.bins.specs.KeptRows.{KeptRow, Lists, AreMatched, nobody, location_at, row_at, row_of, rows_of, with_rows}
 use Rattle.bins.proofs.GapLemmas.{kept_else, kept_moved, one_less}
 use Rattle.bins.proofs.RowLemmas.{weight, not_vacant, apart, same_in, weight_in, reads_with, read_with, inside, strings, strings_by, others_matched}

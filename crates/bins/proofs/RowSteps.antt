@@ -1,15 +1,12 @@
 -- What a step on rows leaves, said of all widths at once: rows again, and their keys and values.
-use Rattle.std.proofs.Common.{◌≡◌, ◌≢◌, ℕ, ◌-◌, ◌<◌, ◌≤◌, List, [], ◌∷◌, ◌++◌, length, get_or, set, refl, sym, ap, subst, ◌∙◌, arith, inl, inr}
+use Rattle.std.proofs.Common.{◌≡◌, ◌≢◌, ℕ, ◌-◌, ◌<◌, List, [], ◌∷◌, ◌++◌, length, get_or, set, refl, sym, ap, subst, ◌∙◌, arith, inl, inr}
 use Rattle.std.specs.List.{swap_remove}
 use Rattle.std.proofs.lemmas.List.{length-map, length-set, length_push, set-get_or}
-use Rattle.bins.specs.declared.row.TheConstants.{MOST_ROWS}
-use Rattle.bins.specs.declared.row.Width.{Width}
-use Rattle.bins.specs.declared.row.Width.TheVariants.{Short, Middle, Long}
-use Rattle.bins.specs.declared.row.Location.{Location}
-use Rattle.bins.specs.declared.row.Location.TheVariants.{Vacant, In}
-use Rattle.bins.specs.declared.raw_rows.RawRows.{RawRows}
+use Rattle.bins.specs.declared.location.TheConstants.{MOST_ROWS}
+use Rattle.bins.specs.declared.location.Width.{Width}
+use Rattle.bins.specs.declared.location.Location.{Location}
+use Rattle.bins.specs.declared.location.Location.TheVariants.{Vacant, In}
 use Rattle.bins.specs.KeptRows.{KeptRow, Lists, AreMatched, AreRows, kept, location_at, row_at, row_of, rows_of, with_rows, keys_of, values_of}
-use Rattle.bins.specs.Rows.{HasRoom, room_of}
 use Rattle.bins.proofs.GapLemmas.{one_less}
 use Rattle.bins.proofs.RowLemmas.{widths, not_vacant, apart, rows_with_same, rows_with_other, reads_with}
 use Rattle.bins.proofs.RowWrites.{linked, linked_other, linked_strings, pushed_matched, written, written_strings}
@@ -144,9 +141,3 @@ pushed_rows ps lists m few = record {
   matched = λ k. pushed_matched k ps (rows_of lists k) (m.matched k);
   few = omega (arith, few, length_push ps Vacant);
 }
-
--- the room of one width
-pub room_at : (raw : RawRows) (many : ℕ) → HasRoom raw many → (k : Width) → many ≤ room_of raw k
-room_at raw many room Short = room.shorts
-room_at raw many room Middle = room.middles
-room_at raw many room Long = room.longs

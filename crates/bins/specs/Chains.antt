@@ -1,29 +1,33 @@
 -- Chains of positions among a list of hashes: each position leads to the last one before it in the same bin.
--- Which bin a hash goes to, and when the bins double, is our profile.
-use Rattle.std.specs.Prelude.{◌≡◌, ◌≢◌, ℕ, ◌-◌, ◌*◌, ◌/◌, ◌%◌, ◌^◌, ◌<◌, ◌≤◌, ◌⊎◌, List, Option, Some, None, length, set, slice_index}
+-- Which bin a hash goes to, and what number of bins is told, is our profile.
+use Rattle.std.specs.Prelude.{◌≡◌, ◌≢◌, ℕ, ◌-◌, ◌*◌, ◌%◌, ◌<◌, ◌≤◌, ◌⊎◌, List, Option, Some, None, length, set, slice_index, cond, nat_lt}
 use Rattle.std.specs.Int.{IsPowerOfTwo}
-use Rattle.bins.specs.declared.chains.TheConstants.{FIRST_BINS, MOST_BINS}
+use Rattle.bins.specs.declared.told_size.TheConstants.{MOST_BINS}
+use Rattle.bins.specs.declared.chains.TheConstants.{FIRST_HEADS, MOST_HALF}
 use Rattle.bins.specs.declared.chains.Chains.{Chains}
+use Rattle.bins.specs.declared.mixing.Seed.{Seed}
 use Rattle.bins.specs.declared.chains.Link.{Link}
 use Rattle.bins.specs.declared.chains.Link.TheVariants.{Head, Next}
 
--- the bin of a hash: what told the stripe is taken off, and the lowest bits of the rest count
+-- the bin of a hash, where there are `half` bins to twice as many: its remainder by twice the half, or by the half where
+-- there is no bin of that number yet
 unfoldable pub bin_of : ℕ → ℕ → ℕ → ℕ
-bin_of stripes bins hash = (hash / stripes) % bins
+bin_of half bins hash = let rest = hash % (2 * half) in cond (nat_lt rest bins) rest (rest - half)
 
--- there may be so many bins
-abbrev pub IsBinCount : ℕ → Type 0
-IsBinCount bins = IsPowerOfTwo bins × (FIRST_BINS ≤ bins) × (bins ≤ MOST_BINS)
+-- hashes may be spread over so many bins by this half
+pub record AreSpread (half bins : ℕ) : Type 0 where
+  pub power : IsPowerOfTwo half
+  pub some : FIRST_HEADS ≤ half
+  pub least : half ≤ bins
+  pub most : bins ≤ 2 * half
+  pub bounded : half ≤ MOST_HALF
 
--- what stands at positions: the hashes in their order, and the bins that they are spread over
+-- what stands at positions: the hashes by this seed in their order, and the stripes and bins that are told of them
 pub record PlacedHashes : Type 0 where
   pub stripes : ℕ
   pub bins : ℕ
+  pub seed : Seed
   pub hashes : List ℕ
-
-abbrev pub placed : Chains → PlacedHashes
-placed chains =
-    record { stripes = 2 ^ chains.shift; bins = length chains.heads.items; hashes = chains.hashes.items }
 
 -- the hashes are more than twice the bins, and there may be more bins
 abbrev pub IsCrowded : ℕ → List ℕ → Type 0
@@ -51,26 +55,25 @@ pub record Links (bin : ℕ → ℕ) (n : ℕ) (heads nexts : List ℕ) : Type 0
 
 -- the bin of each position
 abbrev pub bins_of : ℕ → ℕ → List ℕ → ℕ → ℕ
-bins_of stripes bins hashes position = bin_of stripes bins (slice_index hashes position)
+bins_of half bins hashes position = bin_of half bins (slice_index hashes position)
 
 -- the bin of a hash among these chains, and that of a position
 abbrev pub bin_in : Chains → ℕ → ℕ
-bin_in chains hash = bin_of (2 ^ chains.shift) (length chains.heads.items) hash
+bin_in chains hash = bin_of chains.half (length chains.heads.items) hash
 
 abbrev pub position_bin : Chains → ℕ → ℕ
-position_bin chains position = bin_in chains (slice_index chains.hashes.items position)
+position_bin chains position = bin_in chains (slice_index chains.records.hashes position)
 
 -- all positions are chained by these bins
 abbrev pub AreLinkedBy : (ℕ → ℕ) → Chains → Type 0
-AreLinkedBy bin chains = Links bin (length chains.nexts.items) chains.heads.items chains.nexts.items
+AreLinkedBy bin chains = Links bin (length chains.records.nexts) chains.heads.items chains.records.nexts
 
 -- all positions are chained by their hashes
 pub record AreChained (chains : Chains) : Type 0 where
-  pub shift : chains.shift < 32
-  pub bins : IsBinCount (length chains.heads.items)
-  pub long : length chains.nexts.items ≡ length chains.hashes.items
-  pub links : Links (bins_of (2 ^ chains.shift) (length chains.heads.items) chains.hashes.items)
-      (length chains.hashes.items) chains.heads.items chains.nexts.items
+  pub spread : AreSpread chains.half (length chains.heads.items)
+  pub long : length chains.records.nexts ≡ length chains.records.hashes
+  pub links : Links (bins_of chains.half (length chains.heads.items) chains.records.hashes)
+      (length chains.records.hashes) chains.heads.items chains.records.nexts
 
 -- all positions are chained by some bins
 abbrev pub AreLinked : Chains → Type 0
@@ -90,7 +93,7 @@ follow heads nexts (Next position) = slice_index nexts position
 -- the chains have this link
 abbrev pub IsLink : Chains → Link → Type 0
 IsLink chains (Head bin) = bin < length chains.heads.items
-IsLink chains (Next position) = position < length chains.nexts.items
+IsLink chains (Next position) = position < length chains.records.nexts
 
 -- the heads, and the nexts, after one link was made to lead elsewhere
 abbrev pub heads_relinked : Link → ℕ → List ℕ → List ℕ
@@ -103,11 +106,20 @@ nexts_relinked (Next position) at nexts = set nexts position at
 
 -- one link leads elsewhere, and nothing else has changed
 pub record Relinked (link : Link) (at : ℕ) (old new : Chains) : Type 0 where
-  pub shift : new.shift ≡ old.shift
-  pub hashes : new.hashes.items ≡ old.hashes.items
+  pub half : new.half ≡ old.half
+  pub hashes : new.records.hashes ≡ old.records.hashes
   pub heads : new.heads.items ≡ heads_relinked link at old.heads.items
-  pub nexts : new.nexts.items ≡ nexts_relinked link at old.nexts.items
+  pub nexts : new.records.nexts ≡ nexts_relinked link at old.records.nexts
 
--- after a further hash the bins are as many as before, or twice as many where they had become crowded
+-- this position went to a bin, and the others are where they were
+pub record Moved (bin new : ℕ → ℕ) (position into : ℕ) : Type 0 where
+  pub here : new position ≡ into
+  pub others : (j : ℕ) → j ≢ position → new j ≡ bin j
+
+-- all positions are chained by some bins, by which this one is in bin b
+abbrev pub AreLinkedAt : ℕ → ℕ → Chains → Type 0
+AreLinkedAt position b chains = (bin : ℕ → ℕ) × AreLinkedBy bin chains × (bin position ≡ b)
+
+-- after a further hash as many bins are told as before, or twice as many where they had become crowded
 abbrev pub MayDouble : PlacedHashes → PlacedHashes → Type 0
 MayDouble old new = (new.bins ≡ old.bins) ⊎ (IsCrowded old.bins new.hashes × (new.bins ≡ 2 * old.bins))

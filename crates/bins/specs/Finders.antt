@@ -2,10 +2,10 @@
 use Rattle.std.specs.Prelude.{◌≡◌, ℕ, List, map}
 use Rattle.bins.specs.declared.finder.Finder.{Finder}
 use Rattle.bins.specs.declared.finder.Finder.TheVariants.{Hashes, Keys}
-use Rattle.bins.specs.Hashes.{hash}
+use Rattle.bins.specs.Mixed.{mixed}
 use Rattle.bins.specs.Trees.{Locates}
 
--- the index has the hash of each key, in their order, or the tree has the position of each
+-- the index has the hash of each key by its seed, in their order, or the tree has the position of each
 abbrev pub Finds : Finder → List (List ℕ) → Type 0
-Finds (Hashes index) keys = index.hashes ≡ map hash keys
+Finds (Hashes index) keys = index.hashes ≡ map (mixed index.seed) keys
 Finds (Keys tree) keys = Locates tree.positions keys

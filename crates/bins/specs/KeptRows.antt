@@ -1,11 +1,11 @@
 -- The rows of a table's entries: a key and its value side by side, where the location of their position says.
-use Rattle.std.specs.Prelude.{◌≡◌, ℕ, ◌-◌, ◌<◌, ◌≤◌, Bool, true, false, cond, nat_lt, List, [], length, map, count_by, slice_index_or, ⊤}
+use Rattle.std.specs.Prelude.{◌≡◌, ℕ, ◌+◌, ◌<◌, ◌≤◌, ◌%◌, ◌/◌, Bool, false, cond, nat_eq, List, [], length, map, take, drop, count_by, slice_index_or, ⊤}
 use Rattle.bpf_model.specs.declared.limits.TheConstants.{KEY_BYTES, VALUE_BYTES}
-use Rattle.bins.specs.declared.row.TheConstants.{SHORT_BYTES, MIDDLE_BYTES, MIDDLE_WORD, LONG_WORD, VACANT_WORD, MOST_ROWS}
-use Rattle.bins.specs.declared.row.Width.{Width}
-use Rattle.bins.specs.declared.row.Width.TheVariants.{Short, Middle, Long}
-use Rattle.bins.specs.declared.row.Location.{Location}
-use Rattle.bins.specs.declared.row.Location.TheVariants.{Vacant, In}
+use Rattle.byteorder.specs.Endian.{little_bytes, little_number}
+use Rattle.bins.specs.declared.location.TheConstants.{MOST_ROWS, VACANT_CODE, WIDTH_CODES}
+use Rattle.bins.specs.declared.location.Width.{Width}
+use Rattle.bins.specs.declared.location.Location.{Location}
+use Rattle.bins.specs.declared.location.Location.TheVariants.{Vacant, In}
 
 -- a key and its value, and the position whose location names them
 pub record KeptRow : Type 0 where
@@ -20,22 +20,19 @@ pub record KeptEntries : Type 0 where
   pub room : ℕ
 
 -- the rows of each width
-pub record Lists : Type 0 where
-  pub short : List KeptRow
-  pub middle : List KeptRow
-  pub long : List KeptRow
+abbrev pub Lists : Type 0
+Lists = Width → List KeptRow
 
 -- those of one width
 abbrev pub rows_of : Lists → Width → List KeptRow
-rows_of lists Short = lists.short
-rows_of lists Middle = lists.middle
-rows_of lists Long = lists.long
+rows_of lists width = lists width
+
+abbrev pub is_same_width : Width → Width → Bool
+is_same_width width other = nat_eq width.step other.step
 
 -- the same, but for the rows of one width
 abbrev pub with_rows : Lists → Width → List KeptRow → Lists
-with_rows lists Short rows = record { short = rows; middle = lists.middle; long = lists.long }
-with_rows lists Middle rows = record { short = lists.short; middle = rows; long = lists.long }
-with_rows lists Long rows = record { short = lists.short; middle = lists.middle; long = rows }
+with_rows lists width rows = λ other. cond (is_same_width width other) rows (lists other)
 
 -- what stands in no list
 abbrev pub nobody : KeptRow
@@ -43,10 +40,7 @@ nobody = record { key = []; value = []; owner = 0 }
 
 -- the location that a word names
 abbrev pub location_of : ℕ → Location
-location_of word =
-    cond (nat_lt word MIDDLE_WORD) (In Short word)
-    (cond (nat_lt word LONG_WORD) (In Middle (word - MIDDLE_WORD))
-    (cond (nat_lt word VACANT_WORD) (In Long (word - LONG_WORD)) Vacant))
+location_of word = cond (nat_eq (word % WIDTH_CODES) VACANT_CODE) Vacant (In (record { step = word % WIDTH_CODES }) (word / WIDTH_CODES))
 
 -- the location at a position
 abbrev pub location_at : List Location → ℕ → Location
@@ -69,17 +63,6 @@ keys_of locations lists = map (λ location. (row_of lists location).key) locatio
 abbrev pub values_of : List Location → Lists → List (List ℕ)
 values_of locations lists = map (λ location. (row_of lists location).value) locations
 
-abbrev pub is_same_width : Width → Width → Bool
-is_same_width Short Short = true
-is_same_width Short Middle = false
-is_same_width Short Long = false
-is_same_width Middle Short = false
-is_same_width Middle Middle = true
-is_same_width Middle Long = false
-is_same_width Long Short = false
-is_same_width Long Middle = false
-is_same_width Long Long = true
-
 -- the location names a row of this width
 abbrev pub is_in : Width → Location → Bool
 is_in width Vacant = false
@@ -100,17 +83,49 @@ pub record AreRows (locations : List Location) (lists : Lists) : Type 0 where
 abbrev pub string_at : List (List ℕ) → ℕ → List ℕ
 string_at strings p = slice_index_or strings p []
 
--- a location that four bytes have room for
+-- a location that eight bytes have room for
 abbrev pub IsNear : Location → Type 0
 IsNear Vacant = ⊤
-IsNear (In width i) = i < MOST_ROWS
-
--- a row of this width has room for so many bytes of a key and of a value
-abbrev pub FitIn : Width → ℕ → ℕ → Type 0
-FitIn Short key value = (key ≤ SHORT_BYTES) × (value ≤ SHORT_BYTES)
-FitIn Middle key value = (key ≤ KEY_BYTES) × (value ≤ MIDDLE_BYTES)
-FitIn Long key value = (key ≤ KEY_BYTES) × (value ≤ VALUE_BYTES)
+IsNear (In width i) = (width.step < VACANT_CODE) × (i < MOST_ROWS)
 
 -- the row of this owner
 abbrev pub kept : List ℕ → List ℕ → ℕ → KeptRow
 kept key value owner = record { key = key; value = value; owner = owner }
+
+-- the number in the first bytes, so many, the lowest first
+unfoldable pub number : ℕ → List ℕ → ℕ
+number many bytes = little_number many bytes
+
+-- a number in so many bytes
+unfoldable pub word_of : ℕ → ℕ → List ℕ
+word_of many value = little_bytes many value
+
+-- a row's bytes are its owner in eight, then its key and then its value
+abbrev pub owner_in : List ℕ → ℕ
+owner_in bytes = number 8 bytes
+
+abbrev pub key_length : List ℕ → ℕ
+key_length bytes = number 2 (drop 8 bytes)
+
+abbrev pub key_in : List ℕ → List ℕ
+key_in bytes = take (key_length bytes) (drop 10 bytes)
+
+-- where the value begins
+abbrev pub value_place : List ℕ → ℕ
+value_place bytes = 10 + key_length bytes
+
+abbrev pub value_length : List ℕ → ℕ
+value_length bytes = number 4 (drop (value_place bytes) bytes)
+
+abbrev pub value_in : List ℕ → List ℕ
+value_in bytes = take (value_length bytes) (drop (value_place bytes + 4) bytes)
+
+-- the row that has these bytes
+abbrev pub row_in : List ℕ → KeptRow
+row_in bytes = kept (key_in bytes) (value_in bytes) (owner_in bytes)
+
+-- a key and a value lie in these bytes, and are not too long
+pub record HoldsRow (bytes : List ℕ) : Type 0 where
+  pub range : value_place bytes + (4 + value_length bytes) ≤ length bytes
+  pub key : key_length bytes ≤ KEY_BYTES
+  pub value : value_length bytes ≤ VALUE_BYTES

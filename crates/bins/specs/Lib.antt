@@ -3,10 +3,14 @@ pub mod Entries
 pub mod Copies
 pub mod Positions
 pub mod KeptRows
+pub mod Segments
 pub mod Rows
 pub mod Replacements
 pub mod Passes
 pub mod Hashes
+pub mod Mixed
+pub mod Records
+pub mod Told
 pub mod Chains
 pub mod Trees
 pub mod Finders

@@ -1,17 +1,24 @@
--- The rows of a table in their three lists, and the room that is there for more.
-use Rattle.std.specs.Prelude.{◌≡◌, ℕ, ◌≤◌, List, vec_capacity}
+-- The rows of a table in segments, and the room that is there for more.
+use Rattle.std.specs.Prelude.{◌≡◌, ℕ, zero, suc, ◌+◌, ◌/◌, ◌<◌, ◌≤◌, ◌-◌, List, [], length, min, slice_index_or, vec_capacity}
+use Rattle.bpf_model.specs.declared.limits.TheConstants.{KEY_BYTES, VALUE_BYTES}
+use Rattle.bins.specs.declared.location.TheConstants.{MOST_ROWS}
+use Rattle.bins.specs.declared.location.Width.{Width}
 use Rattle.bins.specs.declared.raw_rows.RawRows.{RawRows}
-use Rattle.bins.specs.declared.row.Width.{Width}
-use Rattle.bins.specs.declared.row.Width.TheVariants.{Short, Middle, Long}
-use Rattle.bins.specs.KeptRows.{AreRows, KeptRow, Lists, keys_of, rows_of, values_of}
+use Rattle.bins.specs.declared.raw_rows.TheConstants.{WIDTHS}
+use Rattle.bins.specs.KeptRows.{AreRows, KeptRow, Lists, keys_of, values_of}
+use Rattle.bins.specs.Segments.{AreFew, KeptWidth, no_width}
+
+-- the rows of a width, with what is said of them
+abbrev pub width_at : List KeptWidth → ℕ → KeptWidth
+width_at widths step = slice_index_or widths step no_width
 
 -- the rows of one structure
 abbrev pub lists_in : RawRows → Lists
-lists_in raw = record { short = raw.shorts.items; middle = raw.middles.items; long = raw.longs.items }
+lists_in raw = λ width. (width_at raw.widths.items width.step).rows
 
 -- those of one width
 abbrev pub rows_in : RawRows → Width → List KeptRow
-rows_in raw width = rows_of (lists_in raw) width
+rows_in raw width = (width_at raw.widths.items width.step).rows
 
 abbrev pub AreIn : RawRows → Type 0
 AreIn raw = AreRows raw.locations.items (lists_in raw)
@@ -22,21 +29,59 @@ keys_in raw = keys_of raw.locations.items (lists_in raw)
 abbrev pub values_in : RawRows → List (List ℕ)
 values_in raw = values_of raw.locations.items (lists_in raw)
 
--- so many rows of this width have room
-abbrev pub room_of : RawRows → Width → ℕ
-room_of raw Short = vec_capacity raw.shorts
-room_of raw Middle = vec_capacity raw.middles
-room_of raw Long = vec_capacity raw.longs
+-- the sum of the first so many numbers
+unfoldable pub total : ℕ → (ℕ → ℕ) → ℕ
+total zero f = 0
+total (suc n) f = total n f + f n
 
--- there is as much room as there was
-pub record SameRoom (old new : RawRows) : Type 0 where
-  pub locations : vec_capacity new.locations ≡ vec_capacity old.locations
-  pub shorts : vec_capacity new.shorts ≡ vec_capacity old.shorts
-  pub middles : vec_capacity new.middles ≡ vec_capacity old.middles
-  pub longs : vec_capacity new.longs ≡ vec_capacity old.longs
+-- how many segments hold rows
+abbrev pub used : List KeptWidth → ℕ
+used widths = total WIDTHS (λ step. (width_at widths step).segments)
 
--- so many rows of each width have room
+-- so many segments are enough for so many rows of any widths
+abbrev pub segments_for : ℕ → ℕ
+segments_for positions = min positions (positions / 256 + (WIDTHS + 1))
+
+-- there are lists for the rows of each width, the last of which takes any key and any value
+pub record AreWidths (widths : List KeptWidth) : Type 0 where
+  pub all : length widths ≡ WIDTHS
+  pub widest : KEY_BYTES + VALUE_BYTES ≤ (width_at widths (WIDTHS - 1)).most
+
+-- there are no rows in them
+pub record AreEmpty (widths : List KeptWidth) : Type 0 where
+  pub rows : (step : ℕ) → (width_at widths step).rows ≡ []
+  pub segments : (step : ℕ) → (width_at widths step).segments ≡ 0
+
+-- nothing has changed but that lists may have more room
+pub record AreWider (old new : List KeptWidth) : Type 0 where
+  pub many : length new ≡ length old
+  pub rows : (step : ℕ) → (width_at new step).rows ≡ (width_at old step).rows
+  pub most : (step : ℕ) → (width_at new step).most ≡ (width_at old step).most
+  pub segments : (step : ℕ) → (width_at new step).segments ≡ (width_at old step).segments
+  pub limit : (step : ℕ) → (width_at old step).limit ≤ (width_at new step).limit
+
+-- a row of this width has room for so many bytes of a key and of a value
+pub record FitIn (raw : RawRows) (width : Width) (key value : ℕ) : Type 0 where
+  pub both : key + value ≤ (width_at raw.widths.items width.step).most
+  pub value_fits : value ≤ VALUE_BYTES
+
+-- so many rows of any widths have room, without more memory
 pub record HasRoom (raw : RawRows) (many : ℕ) : Type 0 where
-  pub shorts : many ≤ vec_capacity raw.shorts
-  pub middles : many ≤ vec_capacity raw.middles
-  pub longs : many ≤ vec_capacity raw.longs
+  pub near : many ≤ MOST_ROWS
+  pub locations : many ≤ vec_capacity raw.locations
+  pub listed : 0 < many → 0 < length raw.widths.items
+  pub limits : (step : ℕ) → step < length raw.widths.items → many ≤ (width_at raw.widths.items step).limit
+  pub segments : segments_for many ≤ used raw.widths.items + length raw.free.items
+
+-- so it is for the positions that there are, and the list of free segments takes them all
+pub record IsRoomy (raw : RawRows) : Type 0 where
+  pub inside : length raw.locations.items ≤ raw.room
+  pub room : HasRoom raw raw.room
+  pub ready : 0 < length raw.widths.items → AreWidths raw.widths.items
+  pub few : (step : ℕ) → AreFew (width_at raw.widths.items step)
+  pub pool : used raw.widths.items + length raw.free.items ≤ vec_capacity raw.free
+
+-- both
+pub record IsKept (raw : RawRows) : Type 0 where
+  pub rows : AreIn raw
+  pub room : IsRoomy raw

@@ -8,11 +8,6 @@ use Rattle.bins.specs.Table.{by_bytes}
 abbrev pub Positions : Type 0
 Positions = BTreeMap (List ℕ) ℕ
 
--- the bins and the stripes that are told of a tree, which has no bins
-pub record TreeNumbers : Type 0 where
-  pub bins : ℕ
-  pub stripes : ℕ
-
 -- each key that stands in the list has its position, and no other key has one
 pub record Locates (positions : Positions) (keys : List (List ℕ)) : Type 0 where
   pub has : (key : List ℕ) (position : ℕ) → slice_get keys position ≡ Some key → get by_bytes positions key ≡ Some position

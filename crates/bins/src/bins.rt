@@ -7,6 +7,7 @@ ghost use Rattle.bins.specs.Replacements.{ReplacesEach};
 use crate::counts::Counts;
 use crate::entry_list::EntryList;
 use crate::hashes::HashedKey;
+use crate::mixing::Seed;
 use crate::sorted_entries::sorted_copies;
 use bpf_model::limits::VALUE_BYTES;
 use bpf_model::{Key, NoMemory, Value};
@@ -23,6 +24,15 @@ pub trait Bins {
     /// No entries, for one of `stripes` stripes of a table. Returns `NoMemory` if a request for memory is refused.
     fn open(alloc: Global, stripes: u64) -> Result<Self, NoMemory>
         ensures ok { IfOk result (λ bins. table bins ≡ map.empty) };
+
+    /// As `open`, for bins that hash keys by this seed if they hash them at all: nobody who does not know it can choose keys
+    /// that are slow to find. Returns `NoMemory` if a request for memory is refused.
+    fn open_seeded(alloc: Global, stripes: u64, seed: Seed) -> Result<Self, NoMemory>
+        ensures ok { IfOk result (λ bins. table bins ≡ map.empty) }
+    {
+        let _ = seed;
+        Self::open(alloc, stripes)
+    }
 
     /// The bytes of a key's value. Takes no memory.
     fn find(&self, key: &HashedKey<'_>) -> Option<&[u8]>

@@ -2,27 +2,30 @@
 //!
 //! A bin's head is its last position, and a position's next is the one before it in the same bin; both count from 1, and 0
 //! ends a chain. So a chain falls, and the hashes alone determine the heads and the nexts (`AreChained` of
-//! `specs/Chains.antt`). A doubling of the bins makes the links anew, and touches nothing else.
-ghost use Rattle.std.specs.Prelude.{◌≡◌, ◌<◌, ◌≤◌, ◌^◌, ◌*◌, ◌↔◌, ℕ, ◌++◌, [], ◌∷◌, length, set, slice_index, IfOk, OnOk, OnErr, IsTrue};
+//! `specs/Chains.antt`). Bins are added one at a time: a further one takes its positions out of the chain of one bin, and
+//! the others stay as they are. So no call stands still while the bins grow.
+ghost use Rattle.std.specs.Prelude.{◌≡◌, ◌<◌, ◌≤◌, ◌+◌, ◌-◌, ◌*◌, ◌↔◌, ℕ, ◌++◌, [], ◌∷◌, length, set, slice_index, IfOk, OnOk, OnErr, IsTrue};
 ghost use Rattle.std.specs.List.{swap_remove};
-ghost use Rattle.std.specs.Int.{IsPowerOfTwo};
-ghost use Rattle.bins.specs.Chains.{AreChained, AreLinked, AreLinkedBy, IsBinCount, IsCrowded, IsLast, IsLastOf, IsLink, IsLinkTo, Links, MayDouble, Relinked, bin_in, bin_of, bins_of, follow, position_bin, placed};
+ghost use Rattle.bins.specs.Chains.{AreChained, AreLinked, AreLinkedAt, AreLinkedBy, AreSpread, IsLast, IsLastOf, IsLink, IsLinkTo, Moved, Relinked, bin_in, bin_of, bins_of, follow, position_bin};
 
+use crate::growth::make_room;
+use crate::records::Records;
 use bpf_model::NoMemory;
 use std::alloc::Global;
 
 /// The first number of bins.
-pub const FIRST_BINS: usize = 8;
-/// The greatest number of bins.
-pub const MOST_BINS: usize = 65_536;
+pub const FIRST_HEADS: usize = 8;
+/// Where the bins are no more than these, their room is kept when the last position goes.
+const KEPT_HEADS: usize = 1_024;
+/// From here on no bins are added: no memory has room for so many.
+pub const MOST_HALF: usize = 1 << 60;
 
-/// The hashes in the order of their positions, and the links of their chains. `1 << shift` is the number of stripes.
+/// The hashes in the order of their positions, and the links of their chains. There are `half` bins to twice as many.
 #[derive(Drop)]
 pub struct Chains {
-    shift: u32,
+    half: usize,
     heads: Vec<usize>,
-    hashes: Vec<u32>,
-    nexts: Vec<usize>,
+    records: Records,
 }
 
 /// A link of a chain: the head of a bin, or the next of a position.
@@ -34,76 +37,41 @@ pub enum Link {
     Next(usize),
 }
 
-/// How far the bits that told the stripe reach.
-fn shift_of(stripes: u64) -> u32
-    ensures range { result < 32 }
-    ensures value { IsPowerOfTwo stripes → stripes < 2 ^ 32 → 2 ^ result ≡ stripes }
-{
-    stripes.trailing_zeros().min(31)
-}
-
 /// The bin of a hash.
 #[inline(always)]
-fn bin_of(shift: u32, bins: usize, hash: u32) -> usize
-    requires shift { shift < 32 }
-    requires bins { IsBinCount bins }
-    ensures value { result ≡ bin_of (2 ^ shift) bins hash }
+fn bin_of(half: usize, bins: usize, hash: u64) -> usize
+    requires { AreSpread half bins }
+    ensures value { result ≡ bin_of half bins hash }
     ensures range { result < bins }
 {
-    (hash >> shift) as usize & (bins - 1)
+    let rest = hash as usize & (2 * half - 1);
+    if rest < bins { rest } else { rest - half }
 }
 
-/// Chains all positions, from heads that lead nowhere.
-fn chain_all(shift: u32, heads: &mut Vec<usize>, hashes: &[u32], nexts: &mut Vec<usize>)
-    requires shift { shift < 32 }
-    requires bins { IsBinCount (length heads.old.items) }
-    requires long { length nexts.old.items ≡ length hashes.now }
-    requires empty { (b : ℕ) → slice_index heads.old.items b ≡ 0 }
-    ensures links { Links (bins_of (2 ^ shift) (length heads.new.items) hashes.now) (length hashes.now)
-        heads.new.items nexts.new.items }
-    ensures bins { length heads.new.items ≡ length heads.old.items }
-    ensures long { length nexts.new.items ≡ length nexts.old.items }
+/// The half by which a further bin may be added to these: as many bins as there are once they are twice the half.
+fn half_for(half: usize, bins: usize) -> usize
+    requires spread { AreSpread half bins }
+    requires few { bins < MOST_HALF }
+    ensures spread { AreSpread result bins }
+    ensures room { bins < 2 * result }
+    ensures same { (hash : ℕ) → bin_of result bins hash ≡ bin_of half bins hash }
 {
-    let bins = heads.len();
-    for position in 0..hashes.len() {
-        let bin = bin_of(shift, bins, hashes[position]);
-        nexts[position] = heads[bin];
-        heads[bin] = position + 1;
-    }
+    if bins == 2 * half { bins } else { half }
 }
 
 impl Chains {
     /// No positions, in 8 bins. Returns `NoMemory` if a request for memory is refused.
-    pub fn open(alloc: Global, stripes: u64) -> Result<Chains, NoMemory>
+    pub fn open(alloc: Global) -> Result<Chains, NoMemory>
         ensures chained { IfOk result AreChained }
-        ensures empty { IfOk result (λ chains. chains.hashes.items ≡ []) }
-        ensures bins { IfOk result (λ chains. length chains.heads.items ≡ 8) }
-        ensures stripes { IsPowerOfTwo stripes → stripes < 2 ^ 32
-            → IfOk result (λ chains. 2 ^ chains.shift ≡ stripes) }
+        ensures empty { IfOk result (λ chains. chains.records.hashes ≡ []) }
     {
         let mut heads = Vec::new(alloc);
-        heads.resize(FIRST_BINS, 0)?;
+        heads.resize(FIRST_HEADS, 0)?;
         Ok(Chains {
-            shift: shift_of(stripes),
+            half: FIRST_HEADS,
             heads,
-            hashes: Vec::new(alloc),
-            nexts: Vec::new(alloc),
+            records: Records::new(alloc),
         })
-    }
-
-    /// The number of bins. Takes no memory.
-    pub fn bins(&self) -> usize
-        ensures value { result ≡ length self.now.heads.items }
-    {
-        self.heads.len()
-    }
-
-    /// For how many stripes it was opened. Takes no memory.
-    pub fn stripes(&self) -> u64
-        requires shift { self.now.shift < 32 }
-        ensures value { result ≡ 2 ^ self.now.shift }
-    {
-        1 << self.shift
     }
 
     /// Where memory for the chains comes from.
@@ -114,160 +82,94 @@ impl Chains {
     /// The number of positions. Takes no memory.
     #[inline(always)]
     pub fn len(&self) -> usize
-        ensures value { result ≡ length self.now.hashes.items }
+        ensures value { result ≡ length self.now.records.hashes }
     {
-        self.hashes.len()
+        self.records.len()
     }
 
-    /// How many positions follow the last one in its chain. Takes no memory.
+    /// How many positions the chain of the last one has. Takes no memory.
     #[inline(always)]
     pub fn steps_from_last(&self) -> usize
         requires chained { AreChained self.now }
-        ensures bound { result ≤ length self.now.hashes.items }
+        ensures bound { result ≤ length self.now.records.hashes }
     {
         let mut steps = 0;
-        let mut at = self.nexts.last().copied().unwrap_or(0);
+        let mut at = self.records.len();
         while at != 0 {
+            at = self.records.next(at - 1);
             steps += 1;
-            at = self.nexts[at - 1];
         }
         steps
     }
 
     /// The first position with this hash along a chain.
     #[inline(always)]
-    fn find_from(&self, first: usize, hash: u32) -> Option<usize>
+    fn find_from(&self, first: usize, hash: u64) -> Option<usize>
         requires chained { AreChained self.now }
-        requires range { first ≤ length self.now.hashes.items }
-        ensures value { (n : ℕ) → n ≤ length self.now.hashes.items
+        requires range { first ≤ length self.now.records.hashes }
+        ensures value { (n : ℕ) → n ≤ length self.now.records.hashes
             → IsLast (position_bin self.now) n (bin_in self.now hash) first
-            → IsLastOf self.now.hashes.items n hash result }
+            → IsLastOf self.now.records.hashes n hash result }
     {
         let mut at = first;
         while at != 0 {
             let position = at - 1;
-            if self.hashes[position] == hash {
+            if self.records.hash(position) == hash {
                 return Some(position);
             }
-            at = self.nexts[position];
+            at = self.records.next(position);
         }
         None
     }
 
     /// The last position of a hash. Takes no memory.
     #[inline(always)]
-    pub fn last(&self, hash: u32) -> Option<usize>
+    pub fn last(&self, hash: u64) -> Option<usize>
         requires chained { AreChained self.now }
-        ensures value { IsLastOf self.now.hashes.items (length self.now.hashes.items) hash result }
+        ensures value { IsLastOf self.now.records.hashes (length self.now.records.hashes) hash result }
     {
-        let bin = bin_of(self.shift, self.heads.len(), hash);
+        let bin = bin_of(self.half, self.heads.len(), hash);
         self.find_from(self.heads[bin], hash)
     }
 
     /// The last position before this one that has the same hash. Takes no memory.
     #[inline(always)]
-    pub fn before(&self, position: usize, hash: u32) -> Option<usize>
+    pub fn before(&self, position: usize, hash: u64) -> Option<usize>
         requires chained { AreChained self.now }
-        requires range { position < length self.now.hashes.items }
-        requires same { slice_index self.now.hashes.items position ≡ hash }
-        ensures value { IsLastOf self.now.hashes.items position hash result }
+        requires range { position < length self.now.records.hashes }
+        requires same { slice_index self.now.records.hashes position ≡ hash }
+        ensures value { IsLastOf self.now.records.hashes position hash result }
     {
-        self.find_from(self.nexts[position], hash)
+        self.find_from(self.records.next(position), hash)
     }
 
     /// A further position, for this hash.
-    fn add(&mut self, hash: u32) -> Result<(), NoMemory>
+    fn add(&mut self, hash: u64) -> Result<(), NoMemory>
         requires chained { AreChained self.old }
         ensures chained { AreChained self.new }
-        ensures ok { OnOk result (self.new.hashes.items ≡ self.old.hashes.items ++ hash ∷ []) }
-        ensures err { OnErr result (self.new.hashes.items ≡ self.old.hashes.items) }
-        ensures bins { length self.new.heads.items ≡ length self.old.heads.items }
-        ensures shift { self.new.shift ≡ self.old.shift }
+        ensures ok { OnOk result (self.new.records.hashes ≡ self.old.records.hashes ++ hash ∷ []) }
+        ensures err { OnErr result (self.new.records.hashes ≡ self.old.records.hashes) }
     {
-        self.hashes.try_reserve(1)?;
-        let bin = bin_of(self.shift, self.heads.len(), hash);
-        self.nexts.push(self.heads[bin])?;
-        self.hashes.push_reserved(hash);
-        self.heads[bin] = self.nexts.len();
+        let bin = bin_of(self.half, self.heads.len(), hash);
+        self.records.push(hash, self.heads[bin])?;
+        self.heads[bin] = self.records.len();
         Ok(())
-    }
-
-    /// Whether the hashes are more than twice the bins, and there may be more bins.
-    fn is_crowded(&self) -> bool
-        requires chained { AreChained self.now }
-        ensures exact { IsTrue result ↔ IsCrowded (length self.now.heads.items) self.now.hashes.items }
-    {
-        self.hashes.len() > 2 * self.heads.len() && self.heads.len() < MOST_BINS
-    }
-
-    /// Twice the bins, if there is memory.
-    fn double(&mut self) -> Result<(), NoMemory>
-        requires chained { AreChained self.old }
-        requires bounded { length self.old.heads.items < MOST_BINS }
-        ensures chained { AreChained self.new }
-        ensures hashes { self.new.hashes.items ≡ self.old.hashes.items }
-        ensures ok { OnOk result (length self.new.heads.items ≡ 2 * length self.old.heads.items) }
-        ensures err { OnErr result (length self.new.heads.items ≡ length self.old.heads.items) }
-        ensures shift { self.new.shift ≡ self.old.shift }
-    {
-        let bins = 2 * self.heads.len();
-        let mut heads = Vec::with_capacity(*self.heads.allocator(), bins)?;
-        heads.resize(bins, 0)?;
-        chain_all(self.shift, &mut heads, &self.hashes, &mut self.nexts);
-        self.heads = heads;
-        Ok(())
-    }
-
-    /// Adds a hash, at the position after the others, and doubles the bins if the hashes are more than twice as many
-    /// then and the memory for it is granted. Returns `NoMemory` if the room for the hash is refused.
-    pub fn push(&mut self, hash: u32) -> Result<(), NoMemory>
-        requires chained { AreChained self.old }
-        ensures chained { AreChained self.new }
-        ensures ok { OnOk result (self.new.hashes.items ≡ self.old.hashes.items ++ hash ∷ []) }
-        ensures err { OnErr result (self.new.hashes.items ≡ self.old.hashes.items) }
-        ensures err_bins { OnErr result (length self.new.heads.items ≡ length self.old.heads.items) }
-        ensures bins { OnOk result (MayDouble (placed self.old) (placed self.new)) }
-        ensures shift { self.new.shift ≡ self.old.shift }
-    {
-        self.add(hash)?;
-        if self.is_crowded() {
-            let _ = self.double();
-        }
-        Ok(())
-    }
-
-    /// Takes the last position out of its chain, of which it is the head, and gives its hash.
-    fn take_last(&mut self) -> u32
-        requires chained { AreChained self.old }
-        requires some { 0 < length self.old.hashes.items }
-        ensures chained { AreChained self.new }
-        ensures hashes { self.old.hashes.items ≡ self.new.hashes.items ++ result ∷ [] }
-        ensures bins { length self.new.heads.items ≡ length self.old.heads.items }
-        ensures shift { self.new.shift ≡ self.old.shift }
-    {
-        let position = self.hashes.len() - 1;
-        let hash = self.hashes[position];
-        let bin = bin_of(self.shift, self.heads.len(), hash);
-        self.heads[bin] = self.nexts[position];
-        self.hashes.truncate(position);
-        self.nexts.truncate(position);
-        hash
     }
 
     /// The link of a bin that leads, or would lead, to a position.
     fn link_to(&self, bin: usize, position: usize) -> Link
         requires linked { AreLinked self.now }
         requires bin { bin < length self.now.heads.items }
-        requires position { position < length self.now.nexts.items }
+        requires position { position < length self.now.records.nexts }
         ensures is_link { IsLink self.now result }
         ensures leads { (bins : ℕ → ℕ) → AreLinkedBy bins self.now
-            → IsLinkTo bins (length self.now.nexts.items) bin position result }
+            → IsLinkTo bins (length self.now.records.nexts) bin position result }
     {
         let mut link = Link::Head(bin);
         let mut at = self.heads[bin];
-        while at > position + 1 {
+        while at.saturating_sub(1) > position {
             link = Link::Next(at - 1);
-            at = self.nexts[at - 1];
+            at = self.records.next(at - 1);
         }
         link
     }
@@ -275,11 +177,11 @@ impl Chains {
     /// The position that a link leads to, counted from 1.
     fn follow(&self, link: Link) -> usize
         requires { IsLink self.now link }
-        ensures value { result ≡ follow self.now.heads.items self.now.nexts.items link }
+        ensures value { result ≡ follow self.now.heads.items self.now.records.nexts link }
     {
         match link {
             Link::Head(bin) => self.heads[bin],
-            Link::Next(position) => self.nexts[position],
+            Link::Next(position) => self.records.next(position),
         }
     }
 
@@ -290,43 +192,165 @@ impl Chains {
     {
         match link {
             Link::Head(bin) => self.heads[bin] = at,
-            Link::Next(position) => self.nexts[position] = at,
+            Link::Next(position) => self.records.set_next(position, at),
         }
     }
 
-    /// Gives a position another hash: takes it out of the one's chain, and links it in the other's.
-    fn rehash(&mut self, position: usize, hash: u32)
-        requires chained { AreChained self.old }
-        requires range { position < length self.old.hashes.items }
-        ensures chained { AreChained self.new }
-        ensures hashes { self.new.hashes.items ≡ set self.old.hashes.items position hash }
+    /// Takes a position, counted from 1, out of the chain of one bin, and links it in that of another.
+    fn move_to(&mut self, at: usize, from: usize, into: usize)
+        requires linked { AreLinkedAt (at - 1) from self.old }
+        requires some { 0 < at }
+        requires range { at ≤ length self.old.records.nexts }
+        requires from { from < length self.old.heads.items }
+        requires into { into < length self.old.heads.items }
+        ensures linked { (bin new : ℕ → ℕ) → AreLinkedBy bin self.old → bin (at - 1) ≡ from
+            → Moved bin new (at - 1) into → AreLinkedBy new self.new }
+        ensures hashes { self.new.records.hashes ≡ self.old.records.hashes }
+        ensures nexts { length self.new.records.nexts ≡ length self.old.records.nexts }
         ensures bins { length self.new.heads.items ≡ length self.old.heads.items }
-        ensures shift { self.new.shift ≡ self.old.shift }
+        ensures half { self.new.half ≡ self.old.half }
+    {
+        let position = at - 1;
+        let old_link = self.link_to(from, position);
+        let next = self.records.next(position);
+        self.relink(old_link, next);
+        let new_link = self.link_to(into, position);
+        let after = self.follow(new_link);
+        self.records.set_next(position, after);
+        self.relink(new_link, at);
+    }
+
+    /// Gives a position, counted from 1, another hash: takes it out of the one's chain, and links it in the other's.
+    fn rehash(&mut self, at: usize, hash: u64)
+        requires chained { AreChained self.old }
+        requires some { 0 < at }
+        requires range { at ≤ length self.old.records.hashes }
+        ensures chained { AreChained self.new }
+        ensures hashes { self.new.records.hashes ≡ set self.old.records.hashes (at - 1) hash }
     {
         let bins = self.heads.len();
-        let old_bin = bin_of(self.shift, bins, self.hashes[position]);
-        let old_link = self.link_to(old_bin, position);
-        let next = self.nexts[position];
-        self.relink(old_link, next);
-        let new_bin = bin_of(self.shift, bins, hash);
-        let new_link = self.link_to(new_bin, position);
-        self.nexts[position] = self.follow(new_link);
-        self.relink(new_link, position + 1);
-        self.hashes[position] = hash;
+        let from = bin_of(self.half, bins, self.records.hash(at - 1));
+        let into = bin_of(self.half, bins, hash);
+        self.move_to(at, from, into);
+        self.records.set_hash(at - 1, hash);
+    }
+
+    /// Parts the positions of one bin: those that go to the last bin, which has none yet, are taken there.
+    fn part(&mut self, into: usize)
+        requires spread { AreSpread self.old.half into }
+        requires few { into < 2 * self.old.half }
+        requires bins { length self.old.heads.items ≡ into + 1 }
+        requires long { length self.old.records.nexts ≡ length self.old.records.hashes }
+        requires linked { AreLinkedBy (bins_of self.old.half into self.old.records.hashes) self.old }
+        ensures linked { AreLinkedBy (bins_of self.old.half (into + 1) self.old.records.hashes) self.new }
+        ensures hashes { self.new.records.hashes ≡ self.old.records.hashes }
+        ensures nexts { length self.new.records.nexts ≡ length self.old.records.nexts }
+        ensures bins { length self.new.heads.items ≡ length self.old.heads.items }
+        ensures half { self.new.half ≡ self.old.half }
+    {
+        let bins = self.heads.len();
+        let from = into - self.half;
+        let mut at = self.heads[from];
+        while at != 0 {
+            let here = at;
+            at = self.records.next(here - 1);
+            if bin_of(self.half, bins, self.records.hash(here - 1)) == into {
+                self.move_to(here, from, into);
+            }
+        }
+    }
+
+    /// One bin more, if there is memory for it: the positions of one other bin are parted among the two.
+    fn add_bin(&mut self) -> Result<(), NoMemory>
+        requires chained { AreChained self.old }
+        requires few { length self.old.heads.items < MOST_HALF }
+        ensures chained { AreChained self.new }
+        ensures hashes { self.new.records.hashes ≡ self.old.records.hashes }
+    {
+        let bins = self.heads.len();
+        make_room(&mut self.heads)?;
+        self.heads.push_reserved(0);
+        self.half = half_for(self.half, bins);
+        self.part(bins);
+        Ok(())
+    }
+
+    /// Whether there are more positions than bins, and there may be more bins.
+    fn is_crowded(&self) -> bool
+        ensures few { IsTrue result → length self.now.heads.items < MOST_HALF }
+    {
+        self.records.len() > self.heads.len() && self.heads.len() < MOST_HALF
+    }
+
+    /// Adds bins while there are more positions than bins, as far as memory for them is granted: two at most, so that what was
+    /// refused is made up for.
+    fn spread(&mut self)
+        requires chained { AreChained self.old }
+        ensures chained { AreChained self.new }
+        ensures hashes { self.new.records.hashes ≡ self.old.records.hashes }
+    {
+        for _ in 0..2 {
+            if !self.is_crowded() || self.add_bin().is_err() {
+                return;
+            }
+        }
+    }
+
+    /// Adds a hash, at the position after the others, and bins where there are fewer than positions then and the memory for it
+    /// is granted. Returns `NoMemory` if the room for the hash is refused.
+    pub fn push(&mut self, hash: u64) -> Result<(), NoMemory>
+        requires chained { AreChained self.old }
+        ensures chained { AreChained self.new }
+        ensures ok { OnOk result (self.new.records.hashes ≡ self.old.records.hashes ++ hash ∷ []) }
+        ensures err { OnErr result (self.new.records.hashes ≡ self.old.records.hashes) }
+    {
+        self.add(hash)?;
+        self.spread();
+        Ok(())
+    }
+
+    /// Takes the last position out of its chain, of which it is the head, and gives its hash.
+    fn take_last(&mut self) -> u64
+        requires chained { AreChained self.old }
+        requires some { 0 < length self.old.records.hashes }
+        ensures chained { AreChained self.new }
+        ensures hashes { self.old.records.hashes ≡ self.new.records.hashes ++ result ∷ [] }
+    {
+        let position = self.records.len() - 1;
+        let hash = self.records.hash(position);
+        let bin = bin_of(self.half, self.heads.len(), hash);
+        self.heads[bin] = self.records.next(position);
+        self.records.remove_last();
+        hash
     }
 
     /// Removes the hash at a position; the last hash takes that position. Takes no memory.
     pub fn swap_remove(&mut self, position: usize)
         requires chained { AreChained self.old }
-        requires range { position < length self.old.hashes.items }
+        requires range { position < length self.old.records.hashes }
         ensures chained { AreChained self.new }
-        ensures hashes { self.new.hashes.items ≡ swap_remove self.old.hashes.items position 0 }
-        ensures bins { length self.new.heads.items ≡ length self.old.heads.items }
-        ensures shift { self.new.shift ≡ self.old.shift }
+        ensures hashes { self.new.records.hashes ≡ swap_remove self.old.records.hashes position 0 }
     {
         let hash = self.take_last();
-        if position < self.hashes.len() {
-            self.rehash(position, hash);
+        if position < self.records.len() {
+            self.rehash(position + 1, hash);
         }
+        if self.records.len() == 0 && self.heads.len() > KEPT_HEADS {
+            self.give_back();
+        }
+    }
+
+    /// Gives the room of all positions and of most bins back, once there is no position.
+    #[cold]
+    fn give_back(&mut self)
+        requires chained { AreChained self.old }
+        requires empty { length self.old.records.hashes ≡ 0 }
+        ensures chained { AreChained self.new }
+        ensures hashes { self.new.records.hashes ≡ self.old.records.hashes }
+    {
+        self.half = FIRST_HEADS;
+        self.heads.truncate(FIRST_HEADS);
+        self.heads.shrink_to_fit();
+        self.records.give_back();
     }
 }

@@ -1,4 +1,4 @@
-//! Lists of entries, in rows of three widths.
+//! Lists of entries, in rows of many widths.
 ghost use Rattle.std.specs.Prelude.{◌≡◌, ◌+◌, ◌<◌, ◌≤◌, ◌^◌, ◌++◌, ◌∷◌, ◌↔◌, [], length, map, IfOk, IsTrue, OnOk, OnErr};
 ghost use Rattle.std.specs.List.Sorted.{IsPermutation, IsSortedBy};
 ghost use Rattle.bins.specs.KeptRows.{string_at};
@@ -15,7 +15,7 @@ use std::alloc::Global;
 use std::cmp::Ordering;
 use std::marker::Model;
 
-/// A list of entries in rows, each a key and its value. One whose key and value are short takes 48 bytes. Room for the longest
+/// A list of entries in rows, each a key and its value. Room for the longest
 /// is reserved, and not touched before it is needed.
 #[derive(Drop)]
 pub struct EntryList {

@@ -2,15 +2,17 @@
 ghost use Rattle.std.specs.Prelude.{◌≡◌, ◌≢◌, ◌<◌, ◌++◌, ◌↔◌, [], ◌∷◌, length, map, HoldsAt, IfOk, IfSome, IfNone, IsTrue, OnOk, OnErr};
 ghost use Rattle.std.specs.List.{AllWithin, swap_remove};
 ghost use Rattle.std.specs.Int.{IsPowerOfTwo, from_le_bytes, to_le_bytes, w64};
-ghost use Rattle.bins.specs.Hashes.{hash as hash_of};
-ghost use Rattle.bins.specs.Chains.{IsBinCount};
+ghost use Rattle.bins.specs.Mixed.{mixed};
+ghost use Rattle.bins.specs.Told.{IsBinCount};
 ghost use Rattle.bins.specs.KeptRows.{string_at};
 ghost use Rattle.bins.specs.Finders.{Finds};
 ghost use Rattle.bins.specs.Trees.{StandOnce};
 
 use crate::hashes::HashedKey;
 use crate::index::Index;
+use crate::mixing::Seed;
 use crate::rows::Rows;
+use crate::told_size::ToldSize;
 use crate::tree::Tree;
 use bpf_model::{Key, NoMemory};
 use std::alloc::Global;
@@ -58,9 +60,9 @@ fn is_at(rows: &Rows, position: usize, bytes: &[u8]) -> bool
 
 /// The position of the key with this hash.
 #[inline(always)]
-fn position_with(index: &Index, rows: &Rows, key: &Key, hash: u32) -> Option<usize>
-    requires index { index.now.hashes ≡ map hash_of rows.now.keys }
-    requires hash { hash ≡ hash_of key.now }
+fn position_with(index: &Index, rows: &Rows, key: &Key, hash: u64) -> Option<usize>
+    requires index { index.now.hashes ≡ map (mixed index.now.seed) rows.now.keys }
+    requires hash { hash ≡ mixed index.now.seed key.now }
     ensures bound { IfSome result (λ position. position < length rows.now.keys) }
     ensures found { IfSome result (HoldsAt (λ k. k ≡ key.now) rows.now.keys) }
     ensures absent { IfNone result (AllWithin (λ k. k ≢ key.now) rows.now.keys 0 (length rows.now.keys)) }
@@ -76,14 +78,16 @@ fn position_with(index: &Index, rows: &Rows, key: &Key, hash: u32) -> Option<usi
 }
 
 impl Finder {
-    /// For no keys, of one of `stripes` stripes of a table. Returns `NoMemory` if a request for memory is refused.
-    pub(crate) fn open(alloc: Global, stripes: u64) -> Result<Finder, NoMemory>
+    /// For no keys, of one of `stripes` stripes of a table, which are hashed by this seed. Returns `NoMemory` if a request for
+    /// memory is refused.
+    pub(crate) fn open(alloc: Global, stripes: u64, seed: Seed) -> Result<Finder, NoMemory>
         ensures ok { IfOk result (λ finder. Finds finder []) }
     {
-        Ok(Finder::Hashes(Index::open(alloc, stripes)?))
+        let index = Index::open(alloc, ToldSize::new(stripes), seed)?;
+        Ok(Finder::Hashes(index))
     }
 
-    /// The number of bins; a tree tells it as if bins still doubled. Takes no memory.
+    /// The number of bins that is told, whatever finds the keys. Takes no memory.
     pub(crate) fn bins(&self) -> u64
         ensures count { IsBinCount result }
     {
@@ -112,7 +116,10 @@ impl Finder {
         ensures absent { IfNone result (AllWithin (λ k. k ≢ key.now) rows.now.keys 0 (length rows.now.keys)) }
     {
         match self {
-            Finder::Hashes(index) => position_with(index, rows, key.key(), key.hash()),
+            Finder::Hashes(index) => {
+                let hash = index.hash_of(key.key().as_slice());
+                position_with(index, rows, key.key(), hash)
+            }
             Finder::Keys(tree) => tree.position(key.key()),
         }
     }
@@ -141,7 +148,10 @@ impl Finder {
         ensures err { OnErr result (Finds self.new rows.now.keys) }
     {
         match self {
-            Finder::Hashes(index) => index.push(key.hash()),
+            Finder::Hashes(index) => {
+                let hash = index.hash_of(key.key().as_slice());
+                index.push(hash)
+            }
             Finder::Keys(tree) => tree.push(rows, key.key()),
         }
     }
@@ -159,43 +169,53 @@ impl Finder {
         }
     }
 
-    /// Counts the steps along the chain that the last key came into; whether chains have become long.
+    /// Whether another way to find the keys is due: chains have become long, or there are far fewer or more keys than when the
+    /// tree was made.
     #[inline(always)]
-    fn is_slow(&mut self) -> bool
-        ensures same { self.new ≡ self.old }
+    fn is_due(&mut self, rows: &Rows) -> bool
+        requires finds { Finds self.old rows.now.keys }
+        ensures finds { Finds self.new rows.now.keys }
     {
         match self {
             Finder::Hashes(index) => index.is_slow(),
-            Finder::Keys(_) => false,
+            Finder::Keys(tree) => tree.is_outlived(rows),
         }
     }
 
-    /// Takes a tree instead of the index, if there is memory for it.
+    /// The other way to find the keys. Returns `NoMemory` if a request for memory is refused.
+    fn other(&self, rows: &Rows) -> Result<Finder, NoMemory>
+        requires finds { Finds self.now rows.now.keys }
+        requires once { StandOnce rows.now.keys }
+        ensures finds { IfOk result (λ finder. Finds finder rows.now.keys) }
+    {
+        match self {
+            Finder::Hashes(index) => Ok(Finder::Keys(Tree::of(index, rows)?)),
+            Finder::Keys(tree) => Ok(Finder::Hashes(tree.index(rows)?)),
+        }
+    }
+
+    /// Finds the keys the other way, if there is memory for it.
     #[cold]
-    fn plant(&mut self, rows: &Rows)
+    fn change(&mut self, rows: &Rows)
         requires finds { Finds self.old rows.now.keys }
         requires once { StandOnce rows.now.keys }
         ensures finds { Finds self.new rows.now.keys }
     {
-        let tree = match self {
-            Finder::Hashes(index) => Tree::of(index, rows),
-            Finder::Keys(_) => return,
-        };
-        if let Ok(tree) = tree {
-            *self = Finder::Keys(tree);
+        if let Ok(other) = self.other(rows) {
+            *self = other;
         }
     }
 
-    /// Looks at the chain that the last key came into, and takes a tree instead of the index once chains have become long and
-    /// memory for it is granted.
+    /// Looks at the chain that the last key came into, and takes a tree instead of the index once chains have become long, or an
+    /// index by another seed instead of the tree once there are far fewer or more keys, if memory for it is granted.
     #[inline(always)]
     pub(crate) fn settle(&mut self, rows: &Rows)
         requires finds { Finds self.old rows.now.keys }
         requires once { StandOnce rows.now.keys }
         ensures finds { Finds self.new rows.now.keys }
     {
-        if self.is_slow() {
-            self.plant(rows);
+        if self.is_due(rows) {
+            self.change(rows);
         }
     }
 }

@@ -1,12 +1,13 @@
-//! Entries found by the hashes of their keys, in rows of three widths.
+//! Entries found by the hashes of their keys, in rows of many widths.
 ghost use Rattle.std.specs.Int.{IsPowerOfTwo};
-ghost use Rattle.bins.specs.Chains.{IsBinCount};
+ghost use Rattle.bins.specs.Told.{IsBinCount};
 
 use crate::bins::Bins;
 use crate::counts::Counts;
 use crate::entry_list::EntryList;
 use crate::finder::Finder;
 use crate::hashes::HashedKey;
+use crate::mixing::Seed;
 use crate::replacement::replace_rows;
 use crate::rows::Rows;
 use bpf_model::{NoMemory, Value};
@@ -43,8 +44,8 @@ impl Model for HashedBins {
 }
 
 impl HashedBins {
-    /// How many bins the index has: a power of two from 8 to 65,536. A tree, which has none, tells how many there would
-    /// be. Takes no memory.
+    /// How many bins are told: a power of two from 8 to 65,536, which doubles where a new key makes the entries more than
+    /// twice as many. Takes no memory.
     pub fn bins(&self) -> u64
         ensures count { IsBinCount result }
     {
@@ -63,8 +64,12 @@ impl Bins for HashedBins {
     ghost table = { λ bins. bins };
 
     fn open(alloc: Global, stripes: u64) -> Result<HashedBins, NoMemory> {
+        HashedBins::open_seeded(alloc, stripes, Seed::fixed())
+    }
+
+    fn open_seeded(alloc: Global, stripes: u64, seed: Seed) -> Result<HashedBins, NoMemory> {
         Ok(HashedBins {
-            finder: Finder::open(alloc, stripes)?,
+            finder: Finder::open(alloc, stripes, seed)?,
             rows: Rows::new(alloc),
             _gap: [0; 8],
         })

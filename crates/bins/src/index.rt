@@ -1,50 +1,70 @@
 //! Positions of entries, found by the hashes of their keys.
-ghost use Rattle.std.specs.Prelude.{◌≡◌, ◌<◌, ◌^◌, ◌++◌, [], ◌∷◌, length, slice_index, IfOk, OnOk, OnErr};
+ghost use Rattle.std.specs.Prelude.{◌≡◌, ◌<◌, ◌*◌, ◌^◌, ◌++◌, [], ◌∷◌, length, slice_index, IfOk, OnOk, OnErr};
 ghost use Rattle.std.specs.List.{swap_remove};
 ghost use Rattle.std.specs.Int.{IsPowerOfTwo};
-ghost use Rattle.bins.specs.Chains.{IsBinCount, IsLastOf, MayDouble};
+ghost use Rattle.bins.specs.Chains.{IsCrowded, IsLastOf, MayDouble};
+ghost use Rattle.bins.specs.Mixed.{mixed};
+ghost use Rattle.bins.specs.Told.{IsBinCount};
 
 use crate::chains::Chains;
+use crate::mixing::{Seed, mixed_hash};
+use crate::told_size::ToldSize;
 use bpf_model::NoMemory;
 use std::alloc::Global;
 use std::marker::Model;
 
-/// So many steps along a chain are few, and one more for each `HASHES_PER_STEP` hashes.
+/// So many positions of a chain are few.
 const FEW_STEPS: usize = 16;
-/// Where the bins double no more, the mean chain grows by a position for each 65,536 hashes: few is eight times as much.
-const HASHES_PER_STEP: usize = 8192;
 
 /// A list of hashes, each found again by the chain of its bin. A position in the list is that of an entry, which stands
-/// elsewhere. 12 bytes a hash, and 8 bytes a bin.
+/// elsewhere. 16 bytes a hash, and 8 bytes a bin, of which there are as many as hashes.
 #[derive(Drop)]
 pub struct Index {
     chains: Chains,
+    told: ToldSize,
+    // By which keys are hashed.
+    seed: Seed,
     // The steps beyond a few that walks along chains took.
     excess: u64,
 }
 
 impl Model for Index {
-    ghost use Rattle.bins.specs.Chains.{PlacedHashes, AreChained, placed};
+    ghost use Rattle.bins.specs.Chains.{PlacedHashes, AreChained};
 
     ghost Value = { PlacedHashes };
 
-    ghost view = { λ index. placed index.chains };
+    ghost view = { λ index. record {
+      stripes = index.told.stripes;
+      bins = index.told.bins;
+      seed = index.seed;
+      hashes = index.chains.records.hashes;
+    } };
 
     ghost invariant = { λ index. AreChained index.chains };
 }
 
 impl Index {
-    /// No hashes, in 8 bins, for one of `stripes` stripes of a table. Returns `NoMemory` if a request for memory is
-    /// refused.
-    pub fn open(alloc: Global, stripes: u64) -> Result<Index, NoMemory>
-        ensures ok { IfOk result (λ index. (index.hashes ≡ []) × (index.bins ≡ 8)) }
-        ensures stripes { IsPowerOfTwo stripes → stripes < 2 ^ 32
-            → IfOk result (λ index. index.stripes ≡ stripes) }
+    /// No hashes, by this seed, of which this size is told. Returns `NoMemory` if a request for memory is refused.
+    pub fn open(alloc: Global, told: ToldSize, seed: Seed) -> Result<Index, NoMemory>
+        ensures hashes { IfOk result (λ index. index.hashes ≡ []) }
+        ensures bins { IfOk result (λ index. index.bins ≡ told.bins) }
+        ensures stripes { IfOk result (λ index. index.stripes ≡ told.stripes) }
+        ensures seed { IfOk result (λ index. index.seed ≡ seed) }
     {
         Ok(Index {
-            chains: Chains::open(alloc, stripes)?,
+            chains: Chains::open(alloc)?,
+            told,
+            seed,
             excess: 0,
         })
+    }
+
+    /// The size that is told. Takes no memory.
+    pub fn told(&self) -> ToldSize
+        ensures bins { result.bins ≡ self.now.bins }
+        ensures stripes { result.stripes ≡ self.now.stripes }
+    {
+        self.told.copied()
     }
 
     /// For how many stripes it was opened. Takes no memory.
@@ -52,7 +72,7 @@ impl Index {
         ensures value { result ≡ self.now.stripes }
         ensures power { IsPowerOfTwo result }
     {
-        self.chains.stripes()
+        self.told.stripes()
     }
 
     /// Where memory for the index comes from.
@@ -60,17 +80,32 @@ impl Index {
         self.chains.alloc()
     }
 
-    /// The number of bins. Takes no memory.
+    /// The seed by which keys are hashed.
+    pub fn seed(&self) -> Seed
+        ensures { result ≡ self.now.seed }
+    {
+        self.seed
+    }
+
+    /// The number of bins that is told. Takes no memory.
     pub fn bins(&self) -> u64
         ensures value { result ≡ self.now.bins }
         ensures count { IsBinCount result }
     {
-        self.chains.bins() as u64
+        self.told.bins()
+    }
+
+    /// The hash of a key's bytes. Takes no memory.
+    #[inline(always)]
+    pub fn hash_of(&self, key: &[u8]) -> u64
+        ensures value { result ≡ mixed self.now.seed key.now }
+    {
+        mixed_hash(&self.seed, key)
     }
 
     /// The last position of a hash. Takes no memory.
     #[inline(always)]
-    pub fn last(&self, hash: u32) -> Option<usize>
+    pub fn last(&self, hash: u64) -> Option<usize>
         ensures value { IsLastOf self.now.hashes (length self.now.hashes) hash result }
     {
         self.chains.last(hash)
@@ -78,7 +113,7 @@ impl Index {
 
     /// The last position before this one that has the same hash. Takes no memory.
     #[inline(always)]
-    pub fn before(&self, position: usize, hash: u32) -> Option<usize>
+    pub fn before(&self, position: usize, hash: u64) -> Option<usize>
         requires range { position < length self.now.hashes }
         requires same { slice_index self.now.hashes position ≡ hash }
         ensures value { IsLastOf self.now.hashes position hash result }
@@ -86,15 +121,19 @@ impl Index {
         self.chains.before(position, hash)
     }
 
-    /// Adds a hash, at the position after the others; the bins double if the hashes are more than twice as many then,
-    /// and the memory for it is granted. Returns `NoMemory` if the room for the hash is refused: all is as before.
-    pub fn push(&mut self, hash: u32) -> Result<(), NoMemory>
+    /// Adds a hash, at the position after the others; twice the bins are told if the hashes are more than twice as many then.
+    /// Returns `NoMemory` if the room for the hash is refused: all is as before.
+    pub fn push(&mut self, hash: u64) -> Result<(), NoMemory>
         ensures ok { OnOk result (self.new.hashes ≡ self.old.hashes ++ hash ∷ []) }
         ensures err { OnErr result (self.new ≡ self.old) }
         ensures stripes { self.new.stripes ≡ self.old.stripes }
+        ensures seed { self.new.seed ≡ self.old.seed }
         ensures bins { OnOk result (MayDouble self.old self.new) }
+        ensures crowded { OnOk result (IsCrowded self.old.bins self.new.hashes → self.new.bins ≡ 2 * self.old.bins) }
     {
-        self.chains.push(hash)
+        self.chains.push(hash)?;
+        self.told.count_entries(self.chains.len());
+        Ok(())
     }
 
     /// Removes the hash at a position; the last hash takes that position. Takes no memory.
@@ -103,12 +142,13 @@ impl Index {
         ensures hashes { self.new.hashes ≡ swap_remove self.old.hashes position 0 }
         ensures bins { self.new.bins ≡ self.old.bins }
         ensures stripes { self.new.stripes ≡ self.old.stripes }
+        ensures seed { self.new.seed ≡ self.old.seed }
     {
         self.chains.swap_remove(position);
     }
 
-    /// Looks at the chain that the last hash came into. Its steps beyond a few are added to a sum; whether the sum is more
-    /// than the hashes, and then it begins anew. Takes no memory.
+    /// Looks at the chain that the last hash came into. Its positions beyond a few are added to a sum; whether the sum is
+    /// more than the hashes, and then it begins anew. Takes no memory.
     #[inline(always)]
     pub fn is_slow(&mut self) -> bool
         ensures same { self.new ≡ self.old }
@@ -122,8 +162,9 @@ impl Index {
     fn count_steps(&mut self, steps: usize) -> bool
         ensures same { self.new ≡ self.old }
     {
-        let few = FEW_STEPS + self.chains.len() / HASHES_PER_STEP;
-        self.excess = self.excess.saturating_add(steps.saturating_sub(few) as u64);
+        self.excess = self
+            .excess
+            .saturating_add(steps.saturating_sub(FEW_STEPS) as u64);
         let slow = self.excess > self.chains.len() as u64;
         if slow {
             self.excess = 0;

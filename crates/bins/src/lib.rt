@@ -3,7 +3,7 @@
 //! The promise to the layers above is the contract of the trait `Bins`: its content is a finite map from keys to
 //! values, and each call is said by what it does to that map (`specs/Table.antt`). What a program makes of each entry:
 //! `specs/Replacements.antt`. `ListBins` keeps the entries in one list, sorted by key. `HashedBins` keeps keys
-//! and values in rows of three widths (`specs/KeptRows.antt`), in no order, beside an index by the hashes of the keys
+//! and values in rows of many widths (`specs/KeptRows.antt`), in no order, beside an index by the hashes of the keys
 //! (`hash_of`, `specs/Hashes.antt`), so that a search comes to the entries of one hash alone.
 //!
 //! A new key, `open`, `copy_into` and `entries` take memory, and no other call of theirs does; if it is refused, the
@@ -19,18 +19,24 @@ mod counts;
 mod entry_list;
 mod finder;
 mod fronts;
+mod growth;
 mod hashed_bins;
 mod hashes;
 mod index;
 mod list_bins;
+mod location;
 mod merged_entries;
+mod mixing;
 mod raw_rows;
+mod records;
 mod replacement;
 mod row;
-mod row_list;
 mod rows;
+mod segment;
 mod sorted_entries;
+mod told_size;
 mod tree;
+mod width_rows;
 
 pub use bins::Bins;
 pub use counts::Counts;
@@ -39,4 +45,5 @@ pub use hashed_bins::HashedBins;
 pub use hashes::{HashedKey, hash_of};
 pub use list_bins::ListBins;
 pub use merged_entries::{EntryPosition, MergedEntries};
+pub use mixing::Seed;
 pub use sorted_entries::{SortedEntries, sorted_copies};

@@ -1,47 +1,133 @@
-//! Rows in a list for each width, and for each position the location of its row. A row names the position in turn, so that when
-//! one goes, the last one of its list takes the gap and its position is told.
-ghost use Rattle.std.specs.Prelude.{◌≡◌, ◌+◌, ◌-◌, ◌<◌, ◌≤◌, ◌^◌, ◌++◌, [], ◌∷◌, length, set, IsTrue, OnOk, OnErr, vec_capacity};
+//! Rows in segments, and for each position the location of its row. A row names the position in turn, so that when one goes,
+//! the last one of its width takes the gap and its position is told.
+ghost use Rattle.std.specs.Prelude.{◌≡◌, ℕ, ◌+◌, ◌-◌, ◌*◌, ◌<◌, ◌≤◌, ◌^◌, ◌++◌, [], ◌∷◌, length, set, IfOk, IsTrue, OnOk, OnErr, vec_capacity};
 ghost use Rattle.std.specs.List.{swap_remove};
-ghost use Rattle.bins.specs.KeptRows.{FitIn, kept, nobody, location_at, row_at, string_at, with_rows};
-ghost use Rattle.bins.specs.Rows.{AreIn, HasRoom, SameRoom, keys_in, lists_in, room_of, rows_in, values_in};
-ghost use Rattle.bins.specs.declared.row.Location.TheVariants.{Vacant, In};
-ghost use Rattle.bins.specs.declared.row.Width.TheVariants.{Short};
+ghost use Rattle.bins.specs.KeptRows.{kept, nobody, location_at, row_at, string_at, with_rows};
+ghost use Rattle.bins.specs.Rows.{AreEmpty, AreIn, AreWider, AreWidths, FitIn, IsKept, IsRoomy, keys_in, lists_in, rows_in, segments_for, used, values_in, width_at};
+ghost use Rattle.bins.specs.declared.location.Location.TheVariants.{Vacant};
 
-use crate::row::{Location, LocationWord, MIDDLE_BYTES, MOST_ROWS, Row, SHORT_BYTES, Width};
-use crate::row_list::{add, add_copy, entry_at, grow, move_at, remove_at, set_value_at};
+use crate::location::{Location, LocationWord, MOST_ROWS, Width};
+use crate::segment::Segment;
+use crate::width_rows::WidthRows;
 use bpf_model::limits::{KEY_BYTES, VALUE_BYTES};
 use bpf_model::{Key, NoMemory};
 use std::alloc::Global;
 
-/// A row of a short key and a short value.
-pub(crate) type ShortRow = Row<SHORT_BYTES, SHORT_BYTES>;
-/// A row of any key and a value of middle length.
-pub(crate) type MiddleRow = Row<KEY_BYTES, MIDDLE_BYTES>;
-/// A row of any key and any value.
-pub(crate) type LongRow = Row<KEY_BYTES, VALUE_BYTES>;
+/// How many widths there are.
+pub const WIDTHS: usize = 17;
 
 /// The locations of rows, and the rows.
 #[derive(Drop)]
 pub(crate) struct RawRows {
     locations: Vec<LocationWord>,
-    shorts: Vec<ShortRow>,
-    middles: Vec<MiddleRow>,
-    longs: Vec<LongRow>,
+    widths: Vec<WidthRows>,
+    free: Vec<Segment>,
+    room: usize,
+}
+
+/// Lists for the rows of each width. A row has room for so many bytes of a key and a value together, and a segment for two to
+/// the power of the last number of such rows. Returns `NoMemory` if the request for the list's memory is refused.
+fn open_widths(alloc: Global) -> Result<Vec<WidthRows>, NoMemory>
+    ensures widths { IfOk result (λ widths. AreWidths widths.items) }
+    ensures empty { IfOk result (λ widths. AreEmpty widths.items) }
+{
+    let mut widths = Vec::with_capacity(alloc, WIDTHS)?;
+    widths.push_reserved(WidthRows::new(alloc, 0, 18, 13));
+    widths.push_reserved(WidthRows::new(alloc, 19, 32, 12));
+    widths.push_reserved(WidthRows::new(alloc, 33, 48, 12));
+    widths.push_reserved(WidthRows::new(alloc, 49, 64, 11));
+    widths.push_reserved(WidthRows::new(alloc, 65, 80, 11));
+    widths.push_reserved(WidthRows::new(alloc, 81, 100, 11));
+    widths.push_reserved(WidthRows::new(alloc, 101, 128, 10));
+    widths.push_reserved(WidthRows::new(alloc, 129, 160, 10));
+    widths.push_reserved(WidthRows::new(alloc, 161, 200, 10));
+    widths.push_reserved(WidthRows::new(alloc, 201, 248, 10));
+    widths.push_reserved(WidthRows::new(alloc, 249, 312, 9));
+    widths.push_reserved(WidthRows::new(alloc, 313, 392, 9));
+    widths.push_reserved(WidthRows::new(alloc, 393, 488, 9));
+    widths.push_reserved(WidthRows::new(alloc, 489, 608, 8));
+    widths.push_reserved(WidthRows::new(alloc, 609, 752, 8));
+    widths.push_reserved(WidthRows::new(alloc, 753, 912, 8));
+    widths.push_reserved(WidthRows::new(alloc, 913, 1_088, 8));
+    Ok(widths)
+}
+
+/// How many segments there are at least where so many positions have room. Rows of one width leave less than a segment unused,
+/// and a segment holds 256 rows or more: so any mix of widths fits.
+fn wanted_for(positions: usize) -> usize
+    ensures value { result ≡ segments_for positions }
+{
+    positions.min(positions / 256 + (WIDTHS + 1))
+}
+
+/// How many segments hold rows of a width.
+#[inline(always)]
+fn segments_at(widths: &Vec<WidthRows>, step: usize) -> usize
+    ensures value { result ≡ (width_at widths.now.items step).segments }
+{
+    if step < widths.len() {
+        let rows = &widths[step];
+        return rows.segments();
+    }
+    0
+}
+
+/// How many segments hold rows.
+fn count_used(widths: &Vec<WidthRows>) -> usize
+    requires bounded { used widths.now.items < 2 ^ 64 }
+    ensures value { result ≡ used widths.now.items }
+{
+    let mut many = 0;
+    for step in 0..WIDTHS {
+        many += segments_at(widths, step);
+    }
+    many
+}
+
+/// Room in each list for the segments of so many rows. Returns `NoMemory` if a request for it is refused.
+fn widen(widths: &mut Vec<WidthRows>, many: usize) -> Result<(), NoMemory>
+    requires few { many ≤ MOST_ROWS }
+    ensures wider { AreWider widths.old.items widths.new.items }
+    ensures ok { OnOk result ((step : ℕ) → step < length widths.new.items → many ≤ (width_at widths.new.items step).limit) }
+{
+    for step in 0..widths.len() {
+        let rows = &mut widths[step];
+        rows.reserve(many)?;
+    }
+    Ok(())
+}
+
+/// Asks for free segments until there are so many beside those that hold rows. Returns `NoMemory` if a request is refused.
+fn add_segments(free: &mut Vec<Segment>, used: usize, wanted: usize) -> Result<(), NoMemory>
+    requires bounded { wanted ≤ MOST_ROWS }
+    requires pool { used + length free.old.items ≤ vec_capacity free.old }
+    ensures pool { used + length free.new.items ≤ vec_capacity free.new }
+    ensures more { length free.old.items ≤ length free.new.items }
+    ensures ok { OnOk result (wanted ≤ used + length free.new.items) }
+{
+    let alloc = *free.allocator();
+    let many = used + free.len();
+    if free.capacity() < wanted {
+        free.try_reserve(wanted - free.len())?;
+    }
+    for _count in many..wanted {
+        free.push_reserved(Segment::new(alloc)?);
+    }
+    Ok(())
 }
 
 impl RawRows {
     /// No rows.
     pub(crate) fn new(alloc: Global) -> RawRows
-        ensures rows { AreIn result }
+        ensures kept { IsKept result }
         ensures keys { keys_in result ≡ [] }
         ensures values { values_in result ≡ [] }
-        ensures room { HasRoom result 0 }
     {
         RawRows {
             locations: Vec::new(alloc),
-            shorts: Vec::new(alloc),
-            middles: Vec::new(alloc),
-            longs: Vec::new(alloc),
+            widths: Vec::new(alloc),
+            free: Vec::new(alloc),
+            room: 0,
         }
     }
 
@@ -62,90 +148,83 @@ impl RawRows {
         ensures key_fits { length result.0.now ≤ KEY_BYTES }
         ensures value_fits { length result.1.now ≤ VALUE_BYTES }
     {
-        match width {
-            Width::Short => entry_at(&self.shorts, at),
-            Width::Middle => entry_at(&self.middles, at),
-            Width::Long => entry_at(&self.longs, at),
-        }
+        let rows = &self.widths[width.step];
+        rows.entry(at)
     }
 
     /// Sets the value of a row.
     #[inline(always)]
     fn set_value_in(&mut self, width: Width, at: usize, value: &[u8])
+        requires room { IsRoomy self.old }
         requires range { at < length (rows_in self.old width) }
-        requires fit { FitIn width (length (row_at (rows_in self.old width) at).key) (length value.now) }
+        requires fit { FitIn self.old width (length (row_at (rows_in self.old width) at).key) (length value.now) }
         ensures rows { lists_in self.new ≡ with_rows (lists_in self.old) width (set (rows_in self.old width) at
             (kept (row_at (rows_in self.old width) at).key value.now (row_at (rows_in self.old width) at).owner)) }
-        ensures locations { self.new.locations.items ≡ self.old.locations.items }
-        ensures room { SameRoom self.old self.new }
+        ensures locations { self.new.locations ≡ self.old.locations }
+        ensures room { IsRoomy self.new }
+        ensures same { self.new.room ≡ self.old.room }
     {
-        match width {
-            Width::Short => set_value_at(&mut self.shorts, at, value),
-            Width::Middle => set_value_at(&mut self.middles, at, value),
-            Width::Long => set_value_at(&mut self.longs, at, value),
-        }
+        let rows = &mut self.widths[width.step];
+        rows.set_value(at, value);
     }
 
     /// Tells a row which position's location names it.
     #[inline(always)]
     fn move_in(&mut self, width: Width, at: usize, owner: usize)
+        requires room { IsRoomy self.old }
         requires range { at < length (rows_in self.old width) }
-        requires near { owner < MOST_ROWS }
         ensures rows { lists_in self.new ≡ with_rows (lists_in self.old) width (set (rows_in self.old width) at
             (kept (row_at (rows_in self.old width) at).key (row_at (rows_in self.old width) at).value owner)) }
         ensures locations { self.new.locations ≡ self.old.locations }
-        ensures room { SameRoom self.old self.new }
+        ensures room { IsRoomy self.new }
+        ensures same { self.new.room ≡ self.old.room }
     {
-        match width {
-            Width::Short => move_at(&mut self.shorts, at, owner),
-            Width::Middle => move_at(&mut self.middles, at, owner),
-            Width::Long => move_at(&mut self.longs, at, owner),
-        }
+        let rows = &mut self.widths[width.step];
+        rows.set_owner(at, owner);
     }
 
     /// Adds a row after the others of its width.
     #[inline(always)]
     fn add_in(&mut self, width: Width, owner: usize, key: &[u8], value: &[u8])
-        requires room { length (rows_in self.old width) < room_of self.old width }
-        requires near { owner < MOST_ROWS }
-        requires fit { FitIn width (length key.now) (length value.now) }
-        ensures rows { lists_in self.new ≡ with_rows (lists_in self.old) width (rows_in self.old width ++ kept key.now value.now owner ∷ []) }
+        requires room { IsRoomy self.old }
+        requires range { width.step < length self.old.widths.items }
+        requires spare { 0 < length self.old.free.items }
+        requires few { length (rows_in self.old width) < self.old.room }
+        requires fit { FitIn self.old width (length key.now) (length value.now) }
+        requires key { length key.now ≤ KEY_BYTES }
+        ensures rows { lists_in self.new ≡ with_rows (lists_in self.old) width
+            (rows_in self.old width ++ kept key.now value.now owner ∷ []) }
         ensures locations { self.new.locations ≡ self.old.locations }
-        ensures room { SameRoom self.old self.new }
+        ensures room { IsRoomy self.new }
+        ensures same { self.new.room ≡ self.old.room }
     {
-        match width {
-            Width::Short => add(&mut self.shorts, owner, key, value),
-            Width::Middle => add(&mut self.middles, owner, key, value),
-            Width::Long => add(&mut self.longs, owner, key, value),
-        }
+        let rows = &mut self.widths[width.step];
+        rows.push(&mut self.free, owner, key, value);
     }
 
     /// Removes a row; the last one of its width takes the gap. Whose the last one is.
     #[inline(always)]
     fn remove_in(&mut self, width: Width, at: usize) -> usize
-        requires { at < length (rows_in self.old width) }
+        requires room { IsRoomy self.old }
+        requires range { at < length (rows_in self.old width) }
         ensures owner { result ≡ (row_at (rows_in self.old width) (length (rows_in self.old width) - 1)).owner }
         ensures rows { lists_in self.new ≡ with_rows (lists_in self.old) width (swap_remove (rows_in self.old width) at nobody) }
         ensures locations { self.new.locations ≡ self.old.locations }
-        ensures room { SameRoom self.old self.new }
+        ensures room { IsRoomy self.new }
+        ensures same { self.new.room ≡ self.old.room }
     {
-        match width {
-            Width::Short => remove_at(&mut self.shorts, at),
-            Width::Middle => remove_at(&mut self.middles, at),
-            Width::Long => remove_at(&mut self.longs, at),
-        }
+        let rows = &mut self.widths[width.step];
+        rows.swap_remove(&mut self.free, at)
     }
 
     /// How many rows of a width there are.
     #[inline(always)]
     fn len_in(&self, width: Width) -> usize
+        requires { width.step < length self.now.widths.items }
         ensures value { result ≡ length (rows_in self.now width) }
     {
-        match width {
-            Width::Short => self.shorts.len(),
-            Width::Middle => self.middles.len(),
-            Width::Long => self.longs.len(),
-        }
+        let rows = &self.widths[width.step];
+        rows.len()
     }
 
     /// The key and the value at a position.
@@ -165,42 +244,18 @@ impl RawRows {
         }
     }
 
-    /// Room for this many more positions, and for a row of each width for each.
-    pub(crate) fn reserve(&mut self, more: usize) -> Result<(), NoMemory>
-        requires bounded { length self.old.locations.items + more ≤ 2 ^ 57 }
-        requires room { HasRoom self.old (length self.old.locations.items) }
-        ensures ok { OnOk result (length self.new.locations.items + more ≤ vec_capacity self.new.locations) }
-        ensures ok_rows { OnOk result (HasRoom self.new (length self.new.locations.items + more)) }
-        ensures locations { self.new.locations.items ≡ self.old.locations.items }
-        ensures rows { lists_in self.new ≡ lists_in self.old }
-        ensures room { HasRoom self.new (length self.new.locations.items) }
-    {
-        let many = self.locations.len() + more;
-        if self.shorts.capacity() < many {
-            grow(&mut self.shorts, many)?;
-        }
-        if self.middles.capacity() < many {
-            grow(&mut self.middles, many)?;
-        }
-        if self.longs.capacity() < many {
-            grow(&mut self.longs, many)?;
-        }
-        if self.locations.capacity() < many {
-            grow(&mut self.locations, many)?;
-        }
-        Ok(())
-    }
-
     /// Gives up the row of a position.
     fn vacate(&mut self, position: usize)
         requires rows { AreIn self.old }
         requires range { position < length self.old.locations.items }
+        requires room { IsRoomy self.old }
         ensures rows { AreIn self.new }
         ensures keys { keys_in self.new ≡ set (keys_in self.old) position [] }
         ensures values { values_in self.new ≡ set (values_in self.old) position [] }
         ensures vacant { location_at self.new.locations.items position ≡ Vacant }
         ensures many { length self.new.locations.items ≡ length self.old.locations.items }
-        ensures room { SameRoom self.old self.new }
+        ensures room { IsRoomy self.new }
+        ensures same { self.new.room ≡ self.old.room }
     {
         let word = &self.locations[position];
         if let Location::In(width, at) = word.get() {
@@ -210,22 +265,40 @@ impl RawRows {
         }
     }
 
+    /// The narrowest width in which so many bytes have room.
+    #[inline(always)]
+    fn width_of(&self, bytes: usize) -> Width
+        requires widths { AreWidths self.now.widths.items }
+        requires fits { bytes ≤ KEY_BYTES + VALUE_BYTES }
+        ensures range { result.step < WIDTHS }
+        ensures fit { bytes ≤ (width_at self.now.widths.items result.step).most }
+    {
+        for step in 0..WIDTHS - 1 {
+            let rows = &self.widths[step];
+            if rows.holds(bytes) {
+                return Width { step };
+            }
+        }
+        Width { step: WIDTHS - 1 }
+    }
+
     /// Writes a key and a value into a new row of a vacant position: the narrowest in which they have room.
     #[inline(always)]
     fn fill(&mut self, position: usize, key: &[u8], value: &[u8])
         requires rows { AreIn self.old }
         requires range { position < length self.old.locations.items }
         requires vacant { location_at self.old.locations.items position ≡ Vacant }
-        requires room { HasRoom self.old (length self.old.locations.items) }
+        requires room { IsRoomy self.old }
         requires key { length key.now ≤ KEY_BYTES }
         requires value { length value.now ≤ VALUE_BYTES }
         ensures rows { AreIn self.new }
         ensures keys { keys_in self.new ≡ set (keys_in self.old) position key.now }
         ensures values { values_in self.new ≡ set (values_in self.old) position value.now }
         ensures many { length self.new.locations.items ≡ length self.old.locations.items }
-        ensures room { SameRoom self.old self.new }
+        ensures room { IsRoomy self.new }
+        ensures same { self.new.room ≡ self.old.room }
     {
-        let width = Width::of(key.len(), value.len());
+        let width = self.width_of(key.len() + value.len());
         let at = self.len_in(width);
         self.add_in(width, position, key, value);
         self.locations[position] = LocationWord::new(Location::In(width, at));
@@ -236,12 +309,13 @@ impl RawRows {
     fn refill(&mut self, position: usize, bytes: &[u8])
         requires rows { AreIn self.old }
         requires range { position < length self.old.locations.items }
-        requires room { HasRoom self.old (length self.old.locations.items) }
+        requires room { IsRoomy self.old }
         requires fits { length bytes.now ≤ VALUE_BYTES }
         ensures rows { AreIn self.new }
         ensures keys { keys_in self.new ≡ keys_in self.old }
         ensures values { values_in self.new ≡ set (values_in self.old) position bytes.now }
-        ensures room { SameRoom self.old self.new }
+        ensures room { IsRoomy self.new }
+        ensures same { self.new.room ≡ self.old.room }
     {
         let key = Key::from_slice(self.entry(position).0);
         let key = key.unwrap();
@@ -254,23 +328,24 @@ impl RawRows {
     fn stays(&self, width: Width, at: usize, bytes: &[u8]) -> bool
         requires range { at < length (rows_in self.now width) }
         requires fits { length bytes.now ≤ VALUE_BYTES }
-        ensures fit { IsTrue result → FitIn width (length (row_at (rows_in self.now width) at).key) (length bytes.now) }
+        ensures fit { IsTrue result → FitIn self.now width (length (row_at (rows_in self.now width) at).key) (length bytes.now) }
     {
-        let key = self.entry_in(width, at).0;
-        Width::of(key.len(), bytes.len()) == width
+        let rows = &self.widths[width.step];
+        rows.suits(rows.entry(at).0.len() + bytes.len())
     }
 
     /// Sets the value of a position. A row that stays as wide is written where it lies.
-    #[inline(never)]
-    fn set_any(&mut self, position: usize, bytes: &[u8])
+    #[inline(always)]
+    pub(crate) fn set_value(&mut self, position: usize, bytes: &[u8])
         requires rows { AreIn self.old }
         requires range { position < length self.old.locations.items }
-        requires room { HasRoom self.old (length self.old.locations.items) }
+        requires room { IsRoomy self.old }
         requires fits { length bytes.now ≤ VALUE_BYTES }
         ensures rows { AreIn self.new }
         ensures keys { keys_in self.new ≡ keys_in self.old }
         ensures values { values_in self.new ≡ set (values_in self.old) position bytes.now }
-        ensures room { SameRoom self.old self.new }
+        ensures room { IsRoomy self.new }
+        ensures same { self.new.room ≡ self.old.room }
     {
         let word = &self.locations[position];
         match word.get() {
@@ -281,40 +356,19 @@ impl RawRows {
         }
     }
 
-    /// Sets the value of a position: a short one of a short row at once.
-    #[inline(always)]
-    pub(crate) fn set_value(&mut self, position: usize, bytes: &[u8])
-        requires rows { AreIn self.old }
-        requires range { position < length self.old.locations.items }
-        requires room { HasRoom self.old (length self.old.locations.items) }
-        requires fits { length bytes.now ≤ VALUE_BYTES }
-        ensures rows { AreIn self.new }
-        ensures keys { keys_in self.new ≡ keys_in self.old }
-        ensures values { values_in self.new ≡ set (values_in self.old) position bytes.now }
-        ensures room { SameRoom self.old self.new }
-    {
-        let word = &self.locations[position];
-        match word.get() {
-            Location::In(Width::Short, at) if bytes.len() <= SHORT_BYTES => {
-                set_value_at(&mut self.shorts, at, bytes);
-            }
-            _ => self.set_any(position, bytes),
-        }
-    }
-
     /// Adds a vacant position after the others.
     #[inline(always)]
     fn push_vacant(&mut self)
         requires rows { AreIn self.old }
-        requires few { length self.old.locations.items < MOST_ROWS }
-        requires room { length self.old.locations.items < vec_capacity self.old.locations }
+        requires room { IsRoomy self.old }
+        requires few { length self.old.locations.items < self.old.room }
         ensures rows { AreIn self.new }
         ensures keys { keys_in self.new ≡ keys_in self.old ++ [] ∷ [] }
         ensures values { values_in self.new ≡ values_in self.old ++ [] ∷ [] }
         ensures vacant { location_at self.new.locations.items (length self.old.locations.items) ≡ Vacant }
         ensures many { length self.new.locations.items ≡ length self.old.locations.items + 1 }
-        ensures lists { lists_in self.new ≡ lists_in self.old }
-        ensures room { SameRoom self.old self.new }
+        ensures room { IsRoomy self.new }
+        ensures same { self.new.room ≡ self.old.room }
     {
         self.locations
             .push_reserved(LocationWord::new(Location::Vacant));
@@ -323,40 +377,20 @@ impl RawRows {
     /// Adds a key and a value after the others.
     pub(crate) fn push_reserved(&mut self, key: &[u8], value: &[u8])
         requires rows { AreIn self.old }
-        requires few { length self.old.locations.items < MOST_ROWS }
-        requires room { length self.old.locations.items < vec_capacity self.old.locations }
-        requires room_rows { HasRoom self.old (length self.old.locations.items + 1) }
+        requires room { IsRoomy self.old }
+        requires few { length self.old.locations.items < self.old.room }
         requires key { length key.now ≤ KEY_BYTES }
         requires value { length value.now ≤ VALUE_BYTES }
         ensures rows { AreIn self.new }
         ensures keys { keys_in self.new ≡ keys_in self.old ++ key.now ∷ [] }
         ensures values { values_in self.new ≡ values_in self.old ++ value.now ∷ [] }
         ensures many { length self.new.locations.items ≡ length self.old.locations.items + 1 }
-        ensures room { SameRoom self.old self.new }
+        ensures room { IsRoomy self.new }
+        ensures same { self.new.room ≡ self.old.room }
     {
         let position = self.locations.len();
         self.push_vacant();
         self.fill(position, key, value);
-    }
-
-    /// Adds a copy of a short row after the others.
-    #[inline(always)]
-    fn push_short(&mut self, row: &ShortRow)
-        requires rows { AreIn self.old }
-        requires few { length self.old.locations.items < MOST_ROWS }
-        requires room { length self.old.locations.items < vec_capacity self.old.locations }
-        requires room_rows { HasRoom self.old (length self.old.locations.items + 1) }
-        ensures rows { AreIn self.new }
-        ensures keys { keys_in self.new ≡ keys_in self.old ++ row.now.key ∷ [] }
-        ensures values { values_in self.new ≡ values_in self.old ++ row.now.value ∷ [] }
-        ensures many { length self.new.locations.items ≡ length self.old.locations.items + 1 }
-        ensures room { SameRoom self.old self.new }
-    {
-        let position = self.locations.len();
-        let at = self.shorts.len();
-        self.push_vacant();
-        add_copy(&mut self.shorts, position, row);
-        self.locations[position] = LocationWord::new(Location::In(Width::Short, at));
     }
 
     /// Adds a copy of another list's row after the others.
@@ -365,36 +399,31 @@ impl RawRows {
         requires rows { AreIn self.old }
         requires other { AreIn other.now }
         requires range { position < length other.now.locations.items }
-        requires few { length self.old.locations.items < MOST_ROWS }
-        requires room { length self.old.locations.items < vec_capacity self.old.locations }
-        requires room_rows { HasRoom self.old (length self.old.locations.items + 1) }
+        requires room { IsRoomy self.old }
+        requires few { length self.old.locations.items < self.old.room }
         ensures rows { AreIn self.new }
         ensures keys { keys_in self.new ≡ keys_in self.old ++ string_at (keys_in other.now) position ∷ [] }
         ensures values { values_in self.new ≡ values_in self.old ++ string_at (values_in other.now) position ∷ [] }
         ensures many { length self.new.locations.items ≡ length self.old.locations.items + 1 }
-        ensures room { SameRoom self.old self.new }
+        ensures room { IsRoomy self.new }
+        ensures same { self.new.room ≡ self.old.room }
     {
-        let word = &other.locations[position];
-        if let Location::In(Width::Short, at) = word.get() {
-            self.push_short(&other.shorts[at]);
-        } else {
-            let (key, value) = other.entry(position);
-            self.push_reserved(key, value);
-        }
+        let (key, value) = other.entry(position);
+        self.push_reserved(key, value);
     }
 
     /// Adds copies of all of another list's rows after the others.
     pub(crate) fn push_all(&mut self, other: &RawRows)
         requires rows { AreIn self.old }
         requires other { AreIn other.now }
-        requires few { length self.old.locations.items + length other.now.locations.items ≤ MOST_ROWS }
-        requires room { length self.old.locations.items + length other.now.locations.items ≤ vec_capacity self.old.locations }
-        requires room_rows { HasRoom self.old (length self.old.locations.items + length other.now.locations.items) }
+        requires room { IsRoomy self.old }
+        requires few { length self.old.locations.items + length other.now.locations.items ≤ self.old.room }
         ensures rows { AreIn self.new }
         ensures keys { keys_in self.new ≡ keys_in self.old ++ keys_in other.now }
         ensures values { values_in self.new ≡ values_in self.old ++ values_in other.now }
         ensures many { length self.new.locations.items ≡ length self.old.locations.items + length other.now.locations.items }
-        ensures room { SameRoom self.old self.new }
+        ensures room { IsRoomy self.new }
+        ensures same { self.new.room ≡ self.old.room }
     {
         for position in 0..other.len() {
             self.push_from(other, position);
@@ -406,11 +435,12 @@ impl RawRows {
         requires rows { AreIn self.old }
         requires range { position < length self.old.locations.items }
         requires vacant { location_at self.old.locations.items position ≡ Vacant }
+        requires room { IsRoomy self.old }
         ensures rows { AreIn self.new }
         ensures keys { keys_in self.new ≡ swap_remove (keys_in self.old) position [] }
         ensures values { values_in self.new ≡ swap_remove (values_in self.old) position [] }
         ensures many { length self.new.locations.items ≤ length self.old.locations.items }
-        ensures room { SameRoom self.old self.new }
+        ensures room { IsRoomy self.new }
     {
         let last = &self.locations[self.locations.len() - 1];
         if let Location::In(width, at) = last.get() {
@@ -419,17 +449,118 @@ impl RawRows {
         self.locations.swap_remove(position);
     }
 
-    /// Takes out a position with its row; the last position takes the gap.
+    /// Takes out a position with its row; the last position takes the gap. What is no longer needed goes back to the
+    /// allocator.
     pub(crate) fn swap_remove(&mut self, position: usize)
         requires rows { AreIn self.old }
         requires range { position < length self.old.locations.items }
+        requires room { IsRoomy self.old }
         ensures rows { AreIn self.new }
         ensures keys { keys_in self.new ≡ swap_remove (keys_in self.old) position [] }
         ensures values { values_in self.new ≡ swap_remove (values_in self.old) position [] }
         ensures many { length self.new.locations.items ≤ length self.old.locations.items }
-        ensures room { SameRoom self.old self.new }
+        ensures room { IsRoomy self.new }
     {
         self.vacate(position);
         self.take_vacant(position);
+        self.give_back();
+    }
+
+    /// Room for this many more positions. Returns `NoMemory` if a request for it is refused.
+    #[inline(always)]
+    pub(crate) fn reserve(&mut self, more: usize) -> Result<(), NoMemory>
+        requires room { IsRoomy self.old }
+        requires few { length self.old.locations.items + more ≤ MOST_ROWS }
+        ensures ok { OnOk result (length self.new.locations.items + more ≤ self.new.room) }
+        ensures locations { self.new.locations.items ≡ self.old.locations.items }
+        ensures rows { lists_in self.new ≡ lists_in self.old }
+        ensures room { IsRoomy self.new }
+    {
+        let many = self.locations.len() + more;
+        if many <= self.room {
+            return Ok(());
+        }
+        self.grow_for(many)
+    }
+
+    /// Room for so many positions, and if it is granted for an eighth more.
+    #[inline(never)]
+    fn grow_for(&mut self, many: usize) -> Result<(), NoMemory>
+        requires room { IsRoomy self.old }
+        requires more { self.old.room < many }
+        requires few { many ≤ MOST_ROWS }
+        ensures ok { OnOk result (many ≤ self.new.room) }
+        ensures locations { self.new.locations.items ≡ self.old.locations.items }
+        ensures rows { lists_in self.new ≡ lists_in self.old }
+        ensures room { IsRoomy self.new }
+    {
+        let further = (many + many / 8).min(MOST_ROWS);
+        match self.grow(further) {
+            Ok(()) => Ok(()),
+            Err(_) => self.grow(many),
+        }
+    }
+
+    /// Room for so many positions. Returns `NoMemory` if a request for it is refused.
+    fn grow(&mut self, many: usize) -> Result<(), NoMemory>
+        requires room { IsRoomy self.old }
+        requires more { self.old.room < many }
+        requires few { many ≤ MOST_ROWS }
+        ensures ok { OnOk result (many ≤ self.new.room) }
+        ensures err { OnErr result (self.new.room ≡ self.old.room) }
+        ensures locations { self.new.locations.items ≡ self.old.locations.items }
+        ensures rows { lists_in self.new ≡ lists_in self.old }
+        ensures room { IsRoomy self.new }
+    {
+        self.open()?;
+        self.locations.try_reserve(many - self.locations.len())?;
+        widen(&mut self.widths, many)?;
+        let used = count_used(&self.widths);
+        add_segments(&mut self.free, used, wanted_for(many))?;
+        self.room = many;
+        Ok(())
+    }
+
+    /// Lists for the rows of each width, if there are none yet. Returns `NoMemory` if a request for them is refused.
+    fn open(&mut self) -> Result<(), NoMemory>
+        requires room { IsRoomy self.old }
+        ensures ok { OnOk result (AreWidths self.new.widths.items) }
+        ensures locations { self.new.locations.items ≡ self.old.locations.items }
+        ensures rows { lists_in self.new ≡ lists_in self.old }
+        ensures room { IsRoomy self.new }
+        ensures same { self.new.room ≡ self.old.room }
+    {
+        if self.widths.is_empty() {
+            self.widths = open_widths(*self.widths.allocator())?;
+        }
+        Ok(())
+    }
+
+    /// Gives free segments back to the allocator if there are few entries beside those that have room.
+    #[inline(always)]
+    fn give_back(&mut self)
+        requires room { IsRoomy self.old }
+        ensures locations { self.new.locations.items ≡ self.old.locations.items }
+        ensures rows { lists_in self.new ≡ lists_in self.old }
+        ensures room { IsRoomy self.new }
+    {
+        if self.room >= 64 && self.locations.len() < self.room / 4 {
+            self.shrink();
+        }
+    }
+
+    /// Gives free segments back to the allocator that no position may come to need.
+    #[inline(never)]
+    fn shrink(&mut self)
+        requires room { IsRoomy self.old }
+        ensures locations { self.new.locations.items ≡ self.old.locations.items }
+        ensures rows { lists_in self.new ≡ lists_in self.old }
+        ensures room { IsRoomy self.new }
+    {
+        let few = self.locations.len();
+        let room = (few + few / 8).min(self.room);
+        let used = count_used(&self.widths);
+        self.free.truncate(wanted_for(room).saturating_sub(used));
+        self.room = room;
     }
 }

@@ -1,40 +1,32 @@
-//! The keys and values of entries, in rows of three widths.
+//! The keys and values of entries, in rows of many widths.
 ghost use Rattle.std.specs.Prelude.{◌≡◌, ◌+◌, ◌<◌, ◌≤◌, ◌++◌, [], ◌∷◌, length, set, OnOk};
 ghost use Rattle.std.specs.List.{swap_remove};
 ghost use Rattle.bins.specs.KeptRows.{string_at};
 
+use crate::location::MOST_ROWS;
 use crate::raw_rows::RawRows;
-use crate::row::MOST_ROWS;
 use bpf_model::NoMemory;
 use bpf_model::limits::{KEY_BYTES, VALUE_BYTES};
 use std::alloc::Global;
 use std::marker::Model;
 
-/// Keys and their values, at the same positions. A position takes four bytes, and the row that it names 44 if neither the
-/// key nor the value is longer than `SHORT_BYTES`, 136 if the value is no longer than `MIDDLE_BYTES`, and else 1,096. Room
-/// for a row of each width is reserved with each position, and not touched before it is needed.
+/// Keys and their values, at the same positions. A position takes eight bytes, and the row that it names so many as the
+/// narrowest width for its key and its value. There are free segments enough for rows of any widths; they are not touched before
+/// they are needed.
 #[derive(Drop)]
 pub(crate) struct Rows {
     raw: RawRows,
 }
 
 impl Model for Rows {
-    ghost use Rattle.std.specs.Prelude.{◌≤◌, length, min, vec_capacity};
-    ghost use Rattle.bins.specs.declared.row.TheConstants.{MOST_ROWS};
     ghost use Rattle.bins.specs.KeptRows.{KeptEntries};
-    ghost use Rattle.bins.specs.Rows.{AreIn, keys_in, values_in};
+    ghost use Rattle.bins.specs.Rows.{IsKept, keys_in, values_in};
 
     ghost Value = { KeptEntries };
 
-    ghost view = { λ rows. record {
-      keys = keys_in rows.raw;
-      values = values_in rows.raw;
-      room = min MOST_ROWS (min (vec_capacity rows.raw.locations)
-          (min (vec_capacity rows.raw.shorts) (min (vec_capacity rows.raw.middles) (vec_capacity rows.raw.longs))));
-    } };
+    ghost view = { λ rows. record { keys = keys_in rows.raw; values = values_in rows.raw; room = rows.raw.room } };
 
-    ghost invariant = { λ rows. AreIn rows.raw
-        × (length rows.raw.locations.items ≤ min (vec_capacity rows.raw.shorts) (min (vec_capacity rows.raw.middles) (vec_capacity rows.raw.longs))) };
+    ghost invariant = { λ rows. IsKept rows.raw };
 }
 
 impl Rows {

@@ -1,93 +1,31 @@
 //! The positions of the keys of rows, by a tree of the keys.
-ghost use Rattle.std.specs.Prelude.{◌≡◌, ◌≢◌, ◌<◌, ◌++◌, [], ◌∷◌, Some, length, IfOk, IsSome, OnOk, OnErr};
+ghost use Rattle.std.specs.Prelude.{◌≡◌, ◌≢◌, ◌<◌, ◌++◌, [], ◌∷◌, Some, length, map, IfOk, IsSome, OnOk, OnErr};
 ghost use Rattle.std.specs.List.{AllWithin, swap_remove};
 ghost use Rattle.std.specs.Int.{IsPowerOfTwo};
 ghost use Rattle.std.specs.BTreeMap.{get};
-ghost use Rattle.bins.specs.Chains.{IsBinCount};
+ghost use Rattle.bins.specs.Mixed.{mixed};
+ghost use Rattle.bins.specs.Told.{IsBinCount};
 ghost use Rattle.bins.specs.KeptRows.{string_at};
 ghost use Rattle.bins.specs.Table.{by_bytes};
 ghost use Rattle.bins.specs.Trees.{Locates, Sets, StandOnce};
 
-use crate::chains::MOST_BINS;
 use crate::index::Index;
+use crate::mixing::Seed;
 use crate::rows::Rows;
+use crate::told_size::ToldSize;
 use bpf_model::{Key, NoMemory};
 use std::alloc::Global;
 use std::collections::BTreeMap;
-use std::marker::Model;
 
-/// The position of each key, and the size that an index of these keys would have.
+/// The position of each key, and what an index of these keys would tell and be made by.
 #[derive(Drop)]
 pub(crate) struct Tree {
     positions: BTreeMap<Key, usize>,
-    size: IndexSize,
-}
-
-/// How many bins an index of these keys might have, and the number of stripes of the table.
-#[derive(Drop)]
-pub(crate) struct IndexSize {
-    bins: u64,
-    stripes: u64,
-}
-
-impl Model for IndexSize {
-    ghost use Rattle.std.specs.Int.{IsPowerOfTwo};
-    ghost use Rattle.bins.specs.Chains.{IsBinCount};
-    ghost use Rattle.bins.specs.Trees.{TreeNumbers};
-
-    ghost Value = { TreeNumbers };
-
-    ghost view = { λ size. record { bins = size.bins; stripes = size.stripes } };
-
-    ghost invariant = { λ size. IsBinCount size.bins × IsPowerOfTwo size.stripes };
-}
-
-/// As many bins as before, or twice as many if these entries are more than twice the bins.
-fn bins_for(bins: u64, entries: usize) -> u64
-    requires { IsBinCount bins }
-    ensures count { IsBinCount result }
-{
-    if bins < MOST_BINS as u64 && entries as u64 > 2 * bins {
-        2 * bins
-    } else {
-        bins
-    }
-}
-
-impl IndexSize {
-    /// That of an index.
-    pub(crate) fn of(index: &Index) -> IndexSize
-        ensures stripes { result.stripes ≡ index.now.stripes }
-        ensures bins { result.bins ≡ index.now.bins }
-    {
-        IndexSize {
-            bins: index.bins(),
-            stripes: index.stripes(),
-        }
-    }
-
-    /// How many bins.
-    fn bins(&self) -> u64
-        ensures value { result ≡ self.now.bins }
-        ensures count { IsBinCount result }
-    {
-        self.bins
-    }
-
-    /// How many stripes.
-    fn stripes(&self) -> u64
-        ensures value { result ≡ self.now.stripes }
-        ensures power { IsPowerOfTwo result }
-    {
-        self.stripes
-    }
-
-    /// The bins double if these entries are more than twice the bins.
-    fn count_entries(&mut self, entries: usize)
-        ensures stripes { self.new.stripes ≡ self.old.stripes }
-    {
-        self.bins = bins_for(self.bins, entries);
-    }
+    alloc: Global,
+    told: ToldSize,
+    seed: Seed,
+    // With so many keys it was made, or an index was to stand for it last.
+    made_with: usize,
 }
 
 /// Enters a key with its position.
@@ -133,33 +71,41 @@ fn move_position(positions: &mut BTreeMap<Key, usize>, key: &Key, position: usiz
     }
 }
 
+/// How many keys leave a tree of this many: half of them, or twice as many.
+fn is_far_from(made_with: usize, keys: usize) -> bool {
+    keys <= made_with / 2 || keys / 2 >= made_with
+}
+
 impl Tree {
     /// The tree of these keys, which an index had found. Returns `NoMemory` if a request for memory is refused.
     pub(crate) fn of(index: &Index, rows: &Rows) -> Result<Tree, NoMemory>
         requires { StandOnce rows.now.keys }
         ensures locates { IfOk result (λ tree. Locates tree.positions rows.now.keys) }
-        ensures stripes { IfOk result (λ tree. tree.size.stripes ≡ index.now.stripes) }
+        ensures stripes { IfOk result (λ tree. tree.told.stripes ≡ index.now.stripes) }
     {
         Ok(Tree {
             positions: positions_by_key(index.alloc(), rows)?,
-            size: IndexSize::of(index),
+            alloc: index.alloc(),
+            told: index.told(),
+            seed: index.seed(),
+            made_with: rows.len(),
         })
     }
 
-    /// How many bins an index would have. Takes no memory.
+    /// How many bins an index would tell. Takes no memory.
     pub(crate) fn bins(&self) -> u64
-        ensures value { result ≡ self.now.size.bins }
+        ensures value { result ≡ self.now.told.bins }
         ensures count { IsBinCount result }
     {
-        self.size.bins()
+        self.told.bins()
     }
 
     /// The number of stripes of the table. Takes no memory.
     pub(crate) fn stripes(&self) -> u64
-        ensures value { result ≡ self.now.size.stripes }
+        ensures value { result ≡ self.now.told.stripes }
         ensures power { IsPowerOfTwo result }
     {
-        self.size.stripes()
+        self.told.stripes()
     }
 
     /// The position of a key. Takes no memory.
@@ -177,11 +123,11 @@ impl Tree {
         requires new { AllWithin (λ k. k ≢ key.now) rows.now.keys 0 (length rows.now.keys) }
         ensures ok { OnOk result (Locates self.new.positions (rows.now.keys ++ key.now ∷ [])) }
         ensures err { OnErr result (Locates self.new.positions rows.now.keys) }
-        ensures stripes { self.new.size.stripes ≡ self.old.size.stripes }
+        ensures stripes { self.new.told.stripes ≡ self.old.told.stripes }
     {
         let position = rows.len();
         add_position(&mut self.positions, key.copied(), position)?;
-        self.size.count_entries(position + 1);
+        self.told.count_entries(position + 1);
         Ok(())
     }
 
@@ -191,11 +137,38 @@ impl Tree {
         requires locates { Locates self.old.positions rows.now.keys }
         requires range { position < length rows.now.keys }
         ensures locates { Locates self.new.positions (swap_remove rows.now.keys position []) }
-        ensures stripes { self.new.size.stripes ≡ self.old.size.stripes }
+        ensures stripes { self.new.told.stripes ≡ self.old.told.stripes }
     {
         let key = key_at(rows, position);
         let last = key_at(rows, rows.len() - 1);
         move_position(&mut self.positions, &last, position);
         self.positions.remove(&key);
+    }
+
+    /// Whether it has half as many keys as when it was made, or twice as many: its index is to be tried again then. Where that
+    /// is refused, it is tried after as much again.
+    pub(crate) fn is_outlived(&mut self, rows: &Rows) -> bool
+        ensures positions { self.new.positions ≡ self.old.positions }
+        ensures stripes { self.new.told.stripes ≡ self.old.told.stripes }
+    {
+        let keys = rows.len();
+        let far = is_far_from(self.made_with, keys);
+        if far {
+            self.made_with = keys;
+        }
+        far
+    }
+
+    /// An index of these keys, by another seed than the one before. Returns `NoMemory` if a request for memory is refused.
+    pub(crate) fn index(&self, rows: &Rows) -> Result<Index, NoMemory>
+        ensures hashes { IfOk result (λ index. index.hashes ≡ map (mixed index.seed) rows.now.keys) }
+        ensures stripes { IfOk result (λ index. index.stripes ≡ self.now.told.stripes) }
+    {
+        let mut index = Index::open(self.alloc, self.told.copied(), self.seed.next())?;
+        for position in 0..rows.len() {
+            let hash = index.hash_of(rows.key(position));
+            index.push(hash)?;
+        }
+        Ok(index)
     }
 }

@@ -6,3 +6,4 @@ pub mod WideLemmas
 pub mod SpellingLemmas
 pub mod FaultLemmas
 pub mod UnitOfFault
+pub mod SamenessLemmas

@@ -14,9 +14,11 @@ mod encoder;
 mod fault;
 mod opcode;
 mod operands;
+mod sameness;
 mod spelling;
 mod unit;
 
 pub use decoder::decode;
 pub use encoder::encode;
 pub use fault::DecodeFault;
+pub use sameness::spells;

@@ -5,7 +5,7 @@ ghost use Rattle.bulk_walks.specs.Walks.{AllWalked, MayScan, CountsAll};
 ghost use Rattle.bulk_walks.specs.Turns.{CountsTurns};
 
 use crate::team::Team;
-use crate::turns::Worker;
+use crate::turns::Turns;
 use atomic_methods::{WalkReply, count_of};
 use bin_stripes::{Gate, Pass, StripedMap};
 use bpf_model::NoMemory;
@@ -15,7 +15,7 @@ use std::thread::Threads;
 use workers::work;
 
 /// The worker's stripes, one after the other.
-fn count_turns<R: Wait, G: Gate>(rt: &R, worker: &Worker<'_>, gate: &G, pass: &mut Pass) -> u64
+fn count_turns<R: Wait, G: Gate>(rt: &R, worker: &Turns<'_>, gate: &G, pass: &mut Pass) -> u64
     requires map { pass.old.map ≡ worker.now.map.now }
     requires worker { worker.now.number < worker.now.workers }
     ensures map { pass.new.map ≡ pass.old.map }
@@ -65,7 +65,7 @@ pub fn mapping_count<R: Threads + Wait + Sync, G: Gate + Sync>(
         requires { (pass.old.map ≡ map.now) × (worker < workers) }
         ensures { (pass.new.map ≡ map.entry.now) × CountsTurns (stripes_of map.entry.now) workers worker pass.old.view pass.new.view result }
     {
-        let worker = Worker {
+        let worker = Turns {
             map,
             number: worker as u64,
             workers,

@@ -5,7 +5,7 @@ ghost use Rattle.bulk_walks.specs.Walks.{Walked, AllWalked, MayScan};
 ghost use Rattle.bulk_walks.specs.Turns.{WorkerFinds, FindsInOrder, FindsAll, found_in, found_of};
 
 use crate::answering::Part;
-use crate::turns::Worker;
+use crate::turns::Turns;
 use bin_stripes::{Gate, Pass, StripedMap};
 use bins::{EntryList, SortedEntries};
 use bpf_model::NoMemory;
@@ -18,7 +18,7 @@ use workers::work;
 fn scan_turns<R: Wait, G: Gate>(
     rt: &R,
     alloc: Global,
-    worker: &Worker<'_>,
+    worker: &Turns<'_>,
     gate: &G,
     pass: &mut Pass,
 ) -> Result<EntryList, NoMemory>
@@ -43,7 +43,7 @@ fn scan_turns<R: Wait, G: Gate>(
 fn sorted_turns<R: Wait, G: Gate>(
     rt: &R,
     alloc: Global,
-    worker: &Worker<'_>,
+    worker: &Turns<'_>,
     gate: &G,
     pass: &mut Pass,
 ) -> Result<SortedEntries, NoMemory>
@@ -94,7 +94,7 @@ pub(crate) fn find<R: Threads + Wait + Sync, G: Gate + Sync>(
         requires { (pass.old.map ≡ map.now) × (worker < workers) }
         ensures { (pass.new.map ≡ map.entry.now) × IfOk result (λ found. FindsInOrder (stripes_of map.entry.now) workers worker pass.old.view pass.new.view found) × Walked (stripes_of map.entry.now) workers worker MayScan pass.old.view pass.new.view }
     {
-        let worker = Worker {
+        let worker = Turns {
             map,
             number: worker as u64,
             workers,

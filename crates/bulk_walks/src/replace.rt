@@ -6,7 +6,7 @@ ghost use Rattle.atomic_methods.specs.Whole.{IsSum};
 ghost use Rattle.bulk_walks.specs.Turns.{ReplacesTurns, HasRoom, AreSums};
 
 use crate::team::Team;
-use crate::turns::Worker;
+use crate::turns::Turns;
 use atomic_methods::WalkReply;
 use bin_stripes::{Gate, Pass, StripedMap};
 use bins::{Counts, MergedEntries};
@@ -37,7 +37,7 @@ pub(crate) const ZERO: Counts = Counts {
 /// The worker's stripes, one after the other.
 fn replace_turns<R: Wait, G: Gate>(
     rt: &R,
-    worker: &Worker<'_>,
+    worker: &Turns<'_>,
     program: &Verified,
     arg: &Option<Value>,
     gate: &G,
@@ -102,7 +102,7 @@ pub fn replace_all<R: Threads + Wait + Sync, G: Gate + Sync>(
         requires { (pass.old.map ≡ map.now) × (worker < workers) }
         ensures { (pass.new.map ≡ map.entry.now) × ReplacesTurns (stripes_of map.entry.now) program.entry.now arg.entry.now (stripes_of map.entry.now) workers worker pass.old.view pass.new.view result }
     {
-        let worker = Worker {
+        let worker = Turns {
             map,
             number: worker as u64,
             workers,

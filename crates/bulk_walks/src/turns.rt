@@ -2,15 +2,15 @@
 
 use bin_stripes::{Gate, Place, StripedMap};
 
-/// One of the workers of a walk over a map. Its turns are the stripes `number`, `number + workers`, and so on.
+/// The turns of one worker of a walk over a map: the stripes `number`, `number + workers`, and so on.
 #[derive(Drop)]
-pub(crate) struct Worker<'a> {
+pub(crate) struct Turns<'a> {
     pub(crate) map: &'a StripedMap,
     pub(crate) number: u64,
     pub(crate) workers: u64,
 }
 
-impl<'a> Worker<'a> {
+impl<'a> Turns<'a> {
     /// Passes the gate before its first stripe, if it has one.
     pub(crate) fn start<G: Gate>(&self, gate: &G) {
         if self.number < self.map.stripes() {

@@ -89,8 +89,9 @@ called_numbers old new responses invocation (inr (refuses, is)) = refuses.nothin
 meets : (hello : Option Version) (old : Station) (asks : Asked) (responses : List Response) (new : Station) → CrewMeets hello old asks responses new → SameNumbers old new
 meets hello old (greeting version) responses new m = once old new _ responses m
 meets hello old (registration sizes bytes) responses new (inl (token, admits, is, same)) = subst (λ (s : Station). SameNumbers old s) (sym same) (record { map = refl; pass = refl; team = refl })
-meets hello old (registration sizes bytes) responses new (inr (inl (response, refuses, m))) = once old new response responses m
-meets hello old (registration sizes bytes) responses new (inr (inr m)) = once old new _ responses m
+meets hello old (registration sizes bytes) responses new (inr (inl (token, admits, held, m))) = once old new _ responses m
+meets hello old (registration sizes bytes) responses new (inr (inr (inl (response, refuses, m)))) = once old new response responses m
+meets hello old (registration sizes bytes) responses new (inr (inr (inr m))) = once old new _ responses m
 meets hello old (call invocation) responses new m = record { map = m.same.map; pass = called_numbers old new responses invocation m.made; team = ap team_numbers m.team }
 meets hello old (walk kind program arg) responses new (inl (reply, walks, is)) = team_walks old new _ (λ before after walked. walked_numbers _ _ before after walked.walked) walks
 meets hello old (walk kind program arg) responses new (inr (walks, is)) = team_walks old new _ (λ before after walked. walked_numbers _ _ before after walked) walks

@@ -131,8 +131,9 @@ made old new responses invocation map (inr (refuses, is)) = record {
 asked_leads : (hello : Option Version) (old : Station) (responses : List Response) (new : Station) (asks : Asked) (m : CrewMeets hello old asks responses new) → Leads old (call_asked hello old new responses asks m) new
 asked_leads hello old responses new (greeting version) m = once old new _ responses m
 asked_leads hello old responses new (registration sizes bytes) (inl (token, admits, is, same)) = subst (λ (s : Station). Leads old [] s) (sym same) (record { map = refl; numbers = refl; mine = λ k lt. sym (append-nil (mine_of old.pass.view k)) })
-asked_leads hello old responses new (registration sizes bytes) (inr (inl (response, refuses, m))) = once old new response responses m
-asked_leads hello old responses new (registration sizes bytes) (inr (inr m)) = once old new _ responses m
+asked_leads hello old responses new (registration sizes bytes) (inr (inl (token, admits, held, m))) = once old new _ responses m
+asked_leads hello old responses new (registration sizes bytes) (inr (inr (inl (response, refuses, m)))) = once old new response responses m
+asked_leads hello old responses new (registration sizes bytes) (inr (inr (inr m))) = once old new _ responses m
 asked_leads hello old responses new (call invocation) m = made old new responses invocation m.same.map m.made
 asked_leads hello old responses new (walk kind program arg) (inl (reply, walks, is)) = team_walks old new _ walks
 asked_leads hello old responses new (walk kind program arg) (inr (walks, is)) = team_walks old new _ walks

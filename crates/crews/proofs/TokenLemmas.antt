@@ -1,5 +1,5 @@
 -- Programs that are found by their numbers.
-use Rattle.std.proofs.Common.{◌≡◌, ◌≢◌, ℕ, ◌+◌, ◌<◌, ◌≤◌, List, [], ◌∷◌, ◌++◌, length, take, get_or, All, Option, Some, None, IfSome, refl, sym, ap, subst, ◌∙◌}
+use Rattle.std.proofs.Common.{◌≡◌, ◌≢◌, ℕ, ◌+◌, ◌<◌, ◌≤◌, List, [], ◌∷◌, ◌++◌, length, take, get_or, All, Option, Some, None, IfSome, inl, inr, refl, sym, ap, subst, ◌∙◌}
 use Rattle.std.proofs.lemmas.List.{take_all, take_more}
 use Rattle.std.proofs.lemmas.List.Elements.{All-append, All-from_recursion, All-get_or, All-from_get_or, All-weaker}
 use Rattle.bpf_model.specs.Meaning.{IsSafe}
@@ -8,12 +8,14 @@ use Rattle.client_protocol.specs.declared.limits.Version.{Version}
 use Rattle.client_protocol.specs.Requests.{Request}
 use Rattle.client_protocol.specs.Requests.Request.{Hello, Register, Get, Put, PutIfAbsent, Remove, RemoveIf, Replace, ReplaceIf, Compute, ComputeIfAbsent, ComputeIfPresent, Merge, Search, ForEach, ReplaceAll, Count}
 use Rattle.client_protocol.specs.declared.response.Response.{Response}
+use Rattle.client_protocol.specs.declared.response.Response.TheVariants as tell
+use Rattle.bpf_model.specs.declared.input.Sizes.{Sizes}
 use Rattle.program_registry.specs.declared.registry.ProgramToken.{ProgramToken}
 use Rattle.program_registry.specs.Tokens.{program_of, token_number}
 use Rattle.atomic_methods.specs.declared.walk_reply.WalkKind.TheVariants as kind
-use Rattle.sessions.specs.Asking.{asked, named, walk, replacement, count, IsCall}
+use Rattle.sessions.specs.Asking.{asked, named, walk, replacement, count, Admits, IsCall}
 use Rattle.crews.specs.Stations.{Station}
-use Rattle.crews.specs.Steps.{IsLike, Agree, Finds, number_in, CrewMeets, AsksWithProgram, CrewServes}
+use Rattle.crews.specs.Steps.{IsLike, Agree, IsHeld, Finds, number_in, CrewMeets, CrewAnswersRegister, IsRefusal, AsksWithProgram, CrewServes}
 
 -- what holds of the elements so far, and of the next one
 pub one_further : {X : Type 0} (P : X → Type 0) (xs : List X) (i : ℕ) (x : X) → i < length xs → x ≡ get_or xs i x → All P (take i xs) → P x → All P (take (i + 1) xs)
@@ -51,6 +53,17 @@ agree_more tokens token agree like =
     (All-from_get_or (λ (t : ProgramToken). All (λ (other : ProgramToken). IsLike other t) (tokens ++ token ∷ [])) tokens token
     (λ i lt. longer (get_or tokens i token) (turned (get_or tokens i token) (All-get_or (λ (t : ProgramToken). IsLike t token) tokens i token lt like)) (All-get_or (λ (t : ProgramToken). All (λ (other : ProgramToken). IsLike other t) tokens) tokens i token lt agree)))
     (All-from_recursion (λ (t : ProgramToken). All (λ (other : ProgramToken). IsLike other t) (tokens ++ token ∷ [])) (token ∷ []) (longer token (λ same. refl) like, tt))
+
+-- the program of a token that is held is answered again
+pub answered_again : (hello : Option Version) (old : Station) (sizes : Sizes) (bytes : List ℕ) (token : ProgramToken) → Admits hello sizes bytes (program_of token) → IsHeld old.tokens token
+    → CrewAnswersRegister hello old sizes bytes (tell.Registered (token_number token) ∷ []) old
+answered_again hello old sizes bytes token admits held = inr (inl (token, admits, held, (refl, refl)))
+
+-- a program that isn't registered leaves all as it was
+pub register_refused : (hello : Option Version) (old : Station) (sizes : Sizes) (bytes : List ℕ) (response : Response) → IsRefusal hello sizes bytes response
+    → CrewAnswersRegister hello old sizes bytes (response ∷ []) old
+register_refused hello old sizes bytes response (inl refuses) = inr (inr (inl (response, refuses, (refl, refl))))
+register_refused hello old sizes bytes response (inr is) = inr (inr (inr (ap (λ (r : Response). r ∷ []) is, refl)))
 
 -- a call names a program by the number that its request has
 number_of_call : (request : Request) → IsCall request → number_in request ≡ named request

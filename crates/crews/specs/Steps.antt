@@ -1,6 +1,6 @@
 -- How a crew answers a request, and what its passes then know. The methods are those of Java SE 17's ConcurrentMap; numbers and
 -- refusals are this map's profile.
-use Rattle.std.specs.Prelude.{◌≡◌, ◌⊎◌, ℕ, List, [], ◌∷◌, ◌++◌, Option, Some, IfSome, All}
+use Rattle.std.specs.Prelude.{◌≡◌, ◌⊎◌, ◌<◌, ℕ, List, [], ◌∷◌, ◌++◌, length, Option, Some, IfSome, All, slice_index_or}
 use Rattle.bpf_model.specs.declared.input.Sizes.{Sizes}
 use Rattle.bpf_model.specs.Meaning.{IsSafe}
 use Rattle.stripe_rule.specs.Gains.{Hears}
@@ -29,6 +29,15 @@ IsLike token other = token_number token ≡ token_number other → program_of to
 -- tokens of one number stand for one program
 abbrev pub Agree : List ProgramToken → Type 0
 Agree tokens = All (λ token. All (λ other. IsLike other token) tokens) tokens
+
+-- a token of this one's number is among the tokens, and stands for the same program
+pub record IsHeld (tokens : List ProgramToken) (token : ProgramToken) : Type 0 where
+  pub held : ProgramToken
+  pub place : ℕ
+  pub inside : place < length tokens
+  pub there : held ≡ slice_index_or tokens place held
+  pub number : token_number held ≡ token_number token
+  pub program : program_of held ≡ program_of token
 
 -- what is found under the number: the program of each token that has it; or, if none has it, a safe program or nothing
 pub record Finds (tokens : List ProgramToken) (number : ℕ) (found : Option Checked) : Type 0 where
@@ -82,14 +91,20 @@ pub record CrewAnswersCall (old : Station) (invocation : Invocation) (responses 
   pub made : ((reply : Reply) × Calls old.pass invocation reply new.pass × (responses ≡ response_to reply ∷ []))
       ⊎ (RefusesCall old.pass invocation new.pass × (responses ≡ tell.Refused 9 0 ∷ []))
 
--- the program is registered and its token kept, whose number is answered; or it is refused by the first step that refuses it;
--- or memory is refused
+-- the program is registered and its token kept, whose number is answered; or a token of its number is there already, which stands
+-- for this very program, and nothing changes; or it is refused by the first step that refuses it; or memory is refused
 abbrev pub CrewAnswersRegister : Option Version → Station → Sizes → List ℕ → List Response → Station → Type 0
 CrewAnswersRegister hello old sizes bytes responses new =
     ((token : ProgramToken) × Admits hello sizes bytes (program_of token) × (responses ≡ tell.Registered (token_number token) ∷ [])
     × (new ≡ record { pass = old.pass; team = old.team; tokens = old.tokens ++ token ∷ [] }))
+    ⊎ (((token : ProgramToken) × Admits hello sizes bytes (program_of token) × IsHeld old.tokens token
+    × AnswersOnce old (tell.Registered (token_number token)) responses new)
     ⊎ (((response : Response) × RefusesProgram hello sizes bytes response × AnswersOnce old response responses new)
-    ⊎ TellsNoMemory old responses new)
+    ⊎ TellsNoMemory old responses new))
+
+-- the response to a program that isn't registered: it tells the first step that refuses it, or that memory is refused
+abbrev pub IsRefusal : Option Version → Sizes → List ℕ → Response → Type 0
+IsRefusal hello sizes bytes response = RefusesProgram hello sizes bytes response ⊎ (response ≡ tell.Refused 9 0)
 
 abbrev pub CrewMeets : Option Version → Station → Asked → List Response → Station → Type 0
 CrewMeets hello old (greeting version) responses new = AnswersOnce old (tell.Hello version) responses new

@@ -1,13 +1,14 @@
 //! What answers the requests of a session: the crew's passes, and the programs that the session registered.
-ghost use Rattle.std.specs.Prelude.{◌≡◌, ℕ, List, [], ◌∷◌, All, MatchResult, Option, option_copied};
+ghost use Rattle.std.specs.Prelude.{◌≡◌, ℕ, List, [], ◌∷◌, All, IfOk, IfErr, MatchResult, Option, option_copied};
+ghost use Rattle.std.specs.Bool.{OnTrue};
 ghost use Rattle.bpf_model.specs.Meaning.{IsSafe};
-ghost use Rattle.program_registry.specs.Tokens.{IsOf};
+ghost use Rattle.program_registry.specs.Tokens.{IsOf, program_of};
 ghost use Rattle.client_protocol.specs.declared.limits.Version.{Version as TheVersion};
 ghost use Rattle.client_protocol.specs.Responses.{response_of};
 ghost use Rattle.sessions.specs.Answering.{responses_of, walk_responses};
-ghost use Rattle.sessions.specs.Asking.{asked, walk, replacement, count, IsCall};
+ghost use Rattle.sessions.specs.Asking.{asked, walk, replacement, count, Admits, IsCall};
 ghost use Rattle.client_protocol.specs.declared.response.Response.TheVariants as tell;
-ghost use Rattle.crews.specs.Steps.{IsLike, Agree, CrewMeets, Finds, CrewServes, AsksWithProgram, CrewAnswersRegister};
+ghost use Rattle.crews.specs.Steps.{IsLike, Agree, IsHeld, CrewMeets, Finds, CrewServes, AsksWithProgram, CrewAnswersRegister, IsRefusal};
 
 use crate::team::{heard, told};
 use crate::tokens::Tokens;
@@ -17,10 +18,10 @@ use bin_stripes::{Gate, Pass, Place, StripedMap};
 use bpf_model::{NoMemory, Sizes, Value};
 use bulk_walks::{Walk, mapping_count, replace_all, walk_map};
 use client_protocol::{Request, RequestView, ShortResponse, Version};
-use program_registry::{ProgramToken, Registry};
+use program_registry::{ProgramToken, Registry, SentProgram};
 use sessions::{
-    Answer, Service, answer_to, argument_of, call_of, named_program, no_memory, program_sent,
-    unknown_program,
+    Answer, Service, answer_to, argument_of, call_of, may_be_sent, named_program, no_memory,
+    program_sent, unknown_program,
 };
 use std::marker::Model;
 use std::mem;
@@ -100,6 +101,48 @@ fn show_agrees(registry: &Registry, tokens: &[ProgramToken], token: &ProgramToke
     }
 }
 
+/// Tests whether one of the tokens has the number of one more, and so stands for the same program.
+fn is_held(registry: &Registry, tokens: &[ProgramToken], token: &ProgramToken) -> bool
+    requires mine { All (λ t. IsOf registry.now t) tokens.now × IsOf registry.now token.now }
+    ensures { OnTrue result (IsHeld tokens.now token.now) }
+{
+    for other in tokens {
+        if other.number() == token.number() {
+            registry.agrees(other, token);
+            return true;
+        }
+    }
+    false
+}
+
+/// A token of the program that the bytes spell, which came after this Hello: of the registered one that is the same, or else of
+/// a new one. Else the response that refuses it.
+fn token_sent<H: Wait, G>(
+    worker: &Worker<'_, H, G>,
+    registry: &Registry,
+    hello: Option<Version>,
+    sizes: Sizes,
+    bytes: &[u8],
+) -> Result<ProgramToken, ShortResponse>
+    ensures ok { IfOk result (λ token. IsOf registry.now token × Admits hello sizes bytes.now (program_of token)) }
+    ensures err { IfErr result (λ response. IsRefusal hello sizes bytes.now (response_of response)) }
+{
+    let sent = SentProgram::new(sizes, bytes);
+    if may_be_sent(hello, bytes, sizes) {
+        if let Some(token) = registry.find_same(worker.rt, &sent) {
+            return Ok(token);
+        }
+    }
+    let verified = match program_sent(worker.alloc, hello, bytes, sizes) {
+        Ok(verified) => verified,
+        Err(response) => return Err(response),
+    };
+    match registry.register_sent(worker.rt, &sent, verified) {
+        Ok(token) => Ok(token),
+        Err(_) => Err(no_memory()),
+    }
+}
+
 /// The answer that a walk's reply is.
 fn answer_of(reply: Result<WalkReply, NoMemory>) -> Answer
     ensures { (bytes : List ℕ) → MatchResult reply (λ walked. responses_of result bytes ≡ walk_responses walked) (λ _. responses_of result bytes ≡ tell.Refused 9 0 ∷ []) }
@@ -120,8 +163,9 @@ impl<'a> Serving<'a> {
         mem::swap(&mut self.tokens, &mut tokens.items);
     }
 
-    /// Registers the program that the bytes spell, which came after this Hello, and keeps its token; the room for that comes
-    /// first.
+    /// Answers the number of the program that the bytes spell, which came after this Hello, and keeps its token, unless one of
+    /// that number is there; the room for that comes first.
+    #[tactic(auto, using(crate::proofs::TokenLemmas::answered_again, crate::proofs::TokenLemmas::register_refused))]
     fn register<H: Wait, G>(
         &mut self,
         worker: &Worker<'_, H, G>,
@@ -134,14 +178,14 @@ impl<'a> Serving<'a> {
         let Ok(()) = self.tokens.reserve(1) else {
             return no_memory();
         };
-        let verified = match program_sent(worker.alloc, hello, bytes, sizes) {
-            Ok(verified) => verified,
+        let token = match token_sent(worker, self.registry, hello, sizes, bytes) {
+            Ok(token) => token,
             Err(response) => return response,
         };
-        let Ok(token) = self.registry.register(worker.rt, verified) else {
-            return no_memory();
-        };
         let program = token.number();
+        if is_held(self.registry, &self.tokens, &token) {
+            return ShortResponse::Registered { program };
+        }
         show_agrees(self.registry, &self.tokens, &token);
         self.tokens.push_reserved(token);
         ShortResponse::Registered { program }

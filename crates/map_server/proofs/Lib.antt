@@ -1,2 +1,3 @@
 pub mod ServerWordLemmas
 pub mod ServerRunLemmas
+pub mod ServerLemmas

@@ -1,13 +1,14 @@
 -- What `mapd` prints, put together of what each step prints; and that its passes suffice.
-use Rattle.std.proofs.Common.{◌≡◌, ◌∙◌, ◌+◌, ◌*◌, ◌-◌, ◌<◌, ◌≤◌, ◌++◌, ℕ, zero, suc, List, length, arith, [], Option, Some, None, refl, sym, subst, ap, inl, inr}
+use Rattle.std.proofs.Common.{◌≡◌, ◌∙◌, ◌+◌, ◌*◌, ◌-◌, ◌<◌, ◌≤◌, ◌++◌, ℕ, zero, suc, List, length, arith, [], Option, Some, None, refl, sym, ap, inl, inr}
 use Rattle.std.specs.Io.KnownBytes.{Appends}
-use Rattle.std.proofs.lemmas.List.{append-nil, append_assoc, length-map}
+use Rattle.std.proofs.lemmas.List.{append_assoc, length-map}
 use Rattle.std.proofs.lemmas.Nat.{row_fits}
 use Rattle.atomic_table.specs.Seated.{TableId}
 use Rattle.stripe_rule.specs.Rule.{from_on}
 use Rattle.bin_stripes.specs.Passes.{PassState}
 use Rattle.bin_stripes.specs.Opened.{IsOpened, pass_of}
-use Rattle.devices.specs.Devices.{SinkState, TakesFront}
+use Rattle.devices.specs.Devices.{SinkState}
+use Rattle.map_server.specs.declared.server.Served.{Served}
 use Rattle.map_server.specs.ServerRuns.{EndsServing, PrintsAll}
 
 -- ---- what is printed
@@ -19,17 +20,14 @@ appends_both (Some x) (Some y) None s t h k = absurd k
 appends_both (Some x) (Some y) (Some z) s t h k = k ∙ (ap (λ (l : List ℕ). l ++ t) h ∙ append_assoc x s t)
 
 -- after what was printed before comes how serving ends
-pub serving_behind : (old mid new : SinkState) (before : List ℕ) (status : ℕ) → PrintsAll old mid before → EndsServing mid new [] status → EndsServing old new before status
-serving_behind old mid new before status sends ends = elim ends [
-  | inl served ↦ inl (served.0, served.1, ((appends_both old.held mid.held new.held before served.0 sends.0.0 served.2.0.0, served.2.0.1 ∙ sends.0.1), served.2.1))
+pub serving_after : (served : Served) (old mid new : SinkState) (before : List ℕ) (status : ℕ) → PrintsAll old mid before → EndsServing served mid new [] status
+    → EndsServing served old new before status
+serving_after served old mid new before status sends ends = elim ends [
+  | inl done ↦ inl (done.0, done.1, ((appends_both old.held mid.held new.held before done.0 sends.0.0 done.2.0.0, done.2.0.1 ∙ sends.0.1), done.2.1))
   | inr failed ↦
-      let front = failed.1.1 in
-      inr (failed.0, (failed.1.0, (before ++ front.0, (front.1.0, appends_both old.held mid.held new.held before front.0 sends.0.0 front.1.1, ap (λ (l : List ℕ). before ++ l) front.1.2 ∙ sym (append_assoc before front.0 front.1.0)), front.2 ∙ ap (λ (n : ℕ). n + 1) sends.0.1)))
+      let front = failed.1.3 in
+      inr (failed.0, (failed.1.0, failed.1.1, failed.1.2, (before ++ front.0, (front.1.0, appends_both old.held mid.held new.held before front.0 sends.0.0 front.1.1, ap (λ (l : List ℕ). before ++ l) front.1.2 ∙ sym (append_assoc before front.0 front.1.0)), front.2 ∙ ap (λ (n : ℕ). n + 1) sends.0.1)))
 ]
-
--- or that broke off
-pub serving_cut : (old new : SinkState) (before : List ℕ) (status : ℕ) → TakesFront old new before → status ≡ 3 → EndsServing old new before status
-serving_cut old new before status front is = inr (is, ([], subst (TakesFront old new) (sym (append-nil before)) front))
 
 -- ---- passes
 

@@ -59,7 +59,7 @@ module _ (app : App) (is : app ≡ mapd) (words : List (List ℕ)) where
   pub server_rows : (m : ArgMatches) → HasMatchesOf app words m → rows_of (found_of m) ≡ matches_of mapd words
   server_rows m matches = (matches (ap is_simple is ∙ is_plain)).0 ∙ ap (λ (a : App). matches_of a words) is
 
--- ---- the five options
+-- ---- the options
 
 not_so : (b : Bool) → not b ≡ true → b ≡ false
 not_so true e = sym e
@@ -85,16 +85,19 @@ map_length (x ∷ xs) = ap suc (map_length xs)
 abbrev option_at : ℕ → Rule → Rule
 option_at k other = slice_index_or mapd_options k other
 
-plain_rule : (k : ℕ) (r : Rule) → k < 5 → ((option_at k r).is_simple ≡ true) × ((option_at k r).is_free ≡ true)
+plain_rule : (k : ℕ) (r : Rule) → k < 8 → ((option_at k r).is_simple ≡ true) × ((option_at k r).is_free ≡ true)
 plain_rule zero r lt = (refl, refl)
 plain_rule (suc zero) r lt = (refl, refl)
 plain_rule (suc (suc zero)) r lt = (refl, refl)
 plain_rule (suc (suc (suc zero))) r lt = (refl, refl)
 plain_rule (suc (suc (suc (suc zero)))) r lt = (refl, refl)
-plain_rule (suc (suc (suc (suc (suc k))))) r lt = absurd (omega arith)
+plain_rule (suc (suc (suc (suc (suc zero))))) r lt = (refl, refl)
+plain_rule (suc (suc (suc (suc (suc (suc zero)))))) r lt = (refl, refl)
+plain_rule (suc (suc (suc (suc (suc (suc (suc zero))))))) r lt = (refl, refl)
+plain_rule (suc (suc (suc (suc (suc (suc (suc (suc k)))))))) r lt = absurd (omega arith)
 
 abbrev IsOnly : ℕ → Type 0
-IsOnly k = (j : ℕ) (r s : Rule) → j < 5 → bytes_eq (option_at j r).id (option_at k s).id ≡ true → j ≡ k
+IsOnly k = (j : ℕ) (r s : Rule) → j < 8 → bytes_eq (option_at j r).id (option_at k s).id ≡ true → j ≡ k
 
 only_listen : IsOnly 0
 only_listen zero r s lt same = refl
@@ -102,7 +105,10 @@ only_listen (suc zero) r s lt same = absurd (true≢false (sym same))
 only_listen (suc (suc zero)) r s lt same = absurd (true≢false (sym same))
 only_listen (suc (suc (suc zero))) r s lt same = absurd (true≢false (sym same))
 only_listen (suc (suc (suc (suc zero)))) r s lt same = absurd (true≢false (sym same))
-only_listen (suc (suc (suc (suc (suc j))))) r s lt same = absurd (omega arith)
+only_listen (suc (suc (suc (suc (suc zero))))) r s lt same = absurd (true≢false (sym same))
+only_listen (suc (suc (suc (suc (suc (suc zero)))))) r s lt same = absurd (true≢false (sym same))
+only_listen (suc (suc (suc (suc (suc (suc (suc zero))))))) r s lt same = absurd (true≢false (sym same))
+only_listen (suc (suc (suc (suc (suc (suc (suc (suc j)))))))) r s lt same = absurd (omega arith)
 
 only_workers : IsOnly 2
 only_workers zero r s lt same = absurd (true≢false (sym same))
@@ -110,7 +116,10 @@ only_workers (suc zero) r s lt same = absurd (true≢false (sym same))
 only_workers (suc (suc zero)) r s lt same = refl
 only_workers (suc (suc (suc zero))) r s lt same = absurd (true≢false (sym same))
 only_workers (suc (suc (suc (suc zero)))) r s lt same = absurd (true≢false (sym same))
-only_workers (suc (suc (suc (suc (suc j))))) r s lt same = absurd (omega arith)
+only_workers (suc (suc (suc (suc (suc zero))))) r s lt same = absurd (true≢false (sym same))
+only_workers (suc (suc (suc (suc (suc (suc zero)))))) r s lt same = absurd (true≢false (sym same))
+only_workers (suc (suc (suc (suc (suc (suc (suc zero))))))) r s lt same = absurd (true≢false (sym same))
+only_workers (suc (suc (suc (suc (suc (suc (suc (suc j)))))))) r s lt same = absurd (omega arith)
 
 only_team : IsOnly 3
 only_team zero r s lt same = absurd (true≢false (sym same))
@@ -118,7 +127,21 @@ only_team (suc zero) r s lt same = absurd (true≢false (sym same))
 only_team (suc (suc zero)) r s lt same = absurd (true≢false (sym same))
 only_team (suc (suc (suc zero))) r s lt same = refl
 only_team (suc (suc (suc (suc zero)))) r s lt same = absurd (true≢false (sym same))
-only_team (suc (suc (suc (suc (suc j))))) r s lt same = absurd (omega arith)
+only_team (suc (suc (suc (suc (suc zero))))) r s lt same = absurd (true≢false (sym same))
+only_team (suc (suc (suc (suc (suc (suc zero)))))) r s lt same = absurd (true≢false (sym same))
+only_team (suc (suc (suc (suc (suc (suc (suc zero))))))) r s lt same = absurd (true≢false (sym same))
+only_team (suc (suc (suc (suc (suc (suc (suc (suc j)))))))) r s lt same = absurd (omega arith)
+
+only_clients : IsOnly 5
+only_clients zero r s lt same = absurd (true≢false (sym same))
+only_clients (suc zero) r s lt same = absurd (true≢false (sym same))
+only_clients (suc (suc zero)) r s lt same = absurd (true≢false (sym same))
+only_clients (suc (suc (suc zero))) r s lt same = absurd (true≢false (sym same))
+only_clients (suc (suc (suc (suc zero)))) r s lt same = absurd (true≢false (sym same))
+only_clients (suc (suc (suc (suc (suc zero))))) r s lt same = refl
+only_clients (suc (suc (suc (suc (suc (suc zero)))))) r s lt same = absurd (true≢false (sym same))
+only_clients (suc (suc (suc (suc (suc (suc (suc zero))))))) r s lt same = absurd (true≢false (sym same))
+only_clients (suc (suc (suc (suc (suc (suc (suc (suc j)))))))) r s lt same = absurd (omega arith)
 
 plain_arg : (a : Arg) → is_simple_arg a ≡ true → is_free_arg a ≡ true → IsPlainArg a
 plain_arg a simple free =
@@ -209,17 +232,17 @@ module _ (c : Command) (is : app_of c ≡ mapd) where
   rules_are : map rule_of (args_of c) ≡ mapd_options
   rules_are = ap (λ (a : App). a.top.rules) is
 
-  five : length (args_of c) ≡ 5
-  five = sym (map_length (args_of c)) ∙ ap length rules_are
+  eight : length (args_of c) ≡ 8
+  eight = sym (map_length (args_of c)) ∙ ap length rules_are
 
   rule_is : (k : ℕ) (d : Arg) → rule_of (slice_index_or (args_of c) k d) ≡ option_at k (rule_of d)
   rule_is k d = rule_at (args_of c) k d ∙ ap (λ (rs : List Rule). slice_index_or rs k (rule_of d)) rules_are
 
   simple_is : (k : ℕ) (d : Arg) → k < length (args_of c) → is_simple_arg (slice_index_or (args_of c) k d) ≡ true
-  simple_is k d lt = ap (λ (r : Rule). r.is_simple) (rule_is k d) ∙ (plain_rule k (rule_of d) (subst (λ (n : ℕ). k < n) five lt)).0
+  simple_is k d lt = ap (λ (r : Rule). r.is_simple) (rule_is k d) ∙ (plain_rule k (rule_of d) (subst (λ (n : ℕ). k < n) eight lt)).0
 
   args_plain : All IsPlainArg (args_of c)
-  args_plain = λ k d lt. plain_arg (slice_index_or (args_of c) k d) (simple_is k d lt) (ap (λ (r : Rule). r.is_free) (rule_is k d) ∙ (plain_rule k (rule_of d) (subst (λ (n : ℕ). k < n) five lt)).1)
+  args_plain = λ k d lt. plain_arg (slice_index_or (args_of c) k d) (simple_is k d lt) (ap (λ (r : Rule). r.is_free) (rule_is k d) ∙ (plain_rule k (rule_of d) (subst (λ (n : ℕ). k < n) eight lt)).1)
 
   command_plain : IsPlain c
   command_plain = (args_plain, is_nil _ (both _ _ (ap (λ (a : App). a.top.is_plain) is)).0)
@@ -235,12 +258,12 @@ module _ (c : Command) (is : app_of c ≡ mapd) where
   unique k d only j e lt same =
       let first = ap (λ (r : Rule). r.id) (rule_is j e) in
       let second = ap (λ (r : Rule). r.id) (rule_is k d) in
-      only j (rule_of e) (rule_of d) (subst (λ (n : ℕ). j < n) five lt) (subst (λ (t : List ℕ). bytes_eq (option_at j (rule_of e)).id t ≡ true) second (subst (λ (t : List ℕ). bytes_eq t (slice_index_or (args_of c) k d).id.now ≡ true) first same))
+      only j (rule_of e) (rule_of d) (subst (λ (n : ℕ). j < n) eight lt) (subst (λ (t : List ℕ). bytes_eq (option_at j (rule_of e)).id t ≡ true) second (subst (λ (t : List ℕ). bytes_eq t (slice_index_or (args_of c) k d).id.now ≡ true) first same))
 
   -- the address is there
   pub listen_given : (m : ArgMatches) → IsParsedFrom c m → is_some (first_value (found_of m) (codes "listen")) ≡ true
   listen_given m p =
-      let lt : 0 < length (args_of c) = rw five (omega arith) in
+      let lt : 0 < length (args_of c) = rw eight (omega arith) in
       let d = some_arg (args_of c) lt in
       let a = slice_index_or (args_of c) 0 d in
       let r = rule_is 0 d in
@@ -300,11 +323,11 @@ module _ (c : Command) (is : app_of c ≡ mapd) where
             (subst (λ (a : MatchedArg). All (λ v. IsSignedIn (pos 1) (pos most) v.now) a.vals.items) got.1 (λ i d lt. values _ (all i d lt)))
 
     -- what the option is read as, or its default, lies in the range
-    range_given : (default : ℕ) → 1 ≤ default → default ≤ most → most < 2 ^ 16 → k < 5 → ((r : Rule) → (option_at k r).parser ≡ Some (Signed (pos 1) (pos most)))
+    range_given : (default : ℕ) → 1 ≤ default → default ≤ most → most < 2 ^ 16 → k < 8 → ((r : Rule) → (option_at k r).parser ≡ Some (Signed (pos 1) (pos most)))
         → ((r : Rule) → (option_at k r).id ≡ id) → (id ≡ [] → ⊥) → (id ≡ codes "help" → ⊥) → (id ≡ codes "version" → ⊥)
         → (1 ≤ given_size (rows_of (found_of m)) id default) × (given_size (rows_of (found_of m)) id default ≤ most)
     range_given default low high fits inside parser named some help version =
-        let lt : k < length (args_of c) = rw five inside in
+        let lt : k < length (args_of c) = rw eight inside in
         let d = some_arg (args_of c) (omega arith) in
         let is_named : (arg d).id.now ≡ id = ap (λ (r : Rule). r.id) (rule_is k d) ∙ named (rule_of d) in
         let is_parsed : (arg d).value_parser ≡ Some (Signed (pos 1) (pos most)) = ap (λ (r : Rule). r.parser) (rule_is k d) ∙ parser (rule_of d) in
@@ -318,3 +341,6 @@ module _ (c : Command) (is : app_of c ≡ mapd) where
 
     pub team_given : (1 ≤ given_size (rows_of (found_of m)) (codes "team") 1) × (given_size (rows_of (found_of m)) (codes "team") 1 ≤ 8)
     team_given = range_given m p 3 only_team 8 (codes "team") 1 (omega arith) (omega arith) (omega arith) (omega arith) (λ r. refl) (λ r. refl) (differ _ _ refl) (differ _ _ refl) (differ _ _ refl)
+
+    pub clients_given : (1 ≤ given_size (rows_of (found_of m)) (codes "clients") 1000) × (given_size (rows_of (found_of m)) (codes "clients") 1000 ≤ 65535)
+    clients_given = range_given m p 5 only_clients 65535 (codes "clients") 1000 (omega arith) (omega arith) (omega arith) (omega arith) (λ r. refl) (λ r. refl) (differ _ _ refl) (differ _ _ refl) (differ _ _ refl)

@@ -1,5 +1,5 @@
 -- What a call of `mapd` does: what its words ask for, and what is told of it.
-use Rattle.std.specs.Prelude.{◌≡◌, ◌+◌, ◌*◌, ◌⊎◌, ℕ, false, List, ◌++◌, codes, decimal}
+use Rattle.std.specs.Prelude.{◌≡◌, ◌+◌, ◌*◌, ◌⊎◌, ℕ, false, if◌then◌else◌, List, ◌++◌, codes, decimal, IfOk, IsOk, IsErr}
 use Rattle.clap.specs.Words.{IsAmong, fault_of}
 use Rattle.clap.specs.declared.error.ErrorKind.{ErrorKind}
 use Rattle.bin_stripes.specs.Opened.{IsPassCount}
@@ -11,6 +11,10 @@ use Rattle.map_commands.specs.declared.ending.Ending.TheVariants.{Reported, Refu
 use Rattle.map_server.specs.declared.words.MapdWords.{MapdWords}
 use Rattle.map_commands.specs.Endings.{Outputs, IsHelpOrVersion, PrintsRefusal, TellsEnding}
 use Rattle.map_commands.specs.Executions.{IsBadCount}
+use Rattle.crews.specs.Crews.{AllCarrySame}
+use Rattle.map_server.specs.declared.server.Server.{Server}
+use Rattle.map_server.specs.declared.server.Served.{Served}
+use Rattle.map_server.specs.Servers.{IsAsked}
 use Rattle.map_server.specs.ServerWords.{AsksServer, mapd}
 use Rattle.map_commands.specs.Shown.{IsShown}
 
@@ -54,30 +58,41 @@ TellsOpenFault opening.NoMemory old new status = TellsEnding NoMemory old new st
 abbrev pub PrintsAll : SinkState → SinkState → List ℕ → Type 0
 PrintsAll old new text = TakesBytes old new text × (new.keeps_back ≡ false)
 
--- what is printed when serving has ended, with this status: a number of streams, with 0 or 3; or that memory was refused
-abbrev pub IsLastLine : List ℕ → ℕ → Type 0
-IsLastLine text status =
-    ((streams : ℕ) × (text ≡ codes "served " ++ decimal streams ++ codes "\n") × ((status ≡ 0) ⊎ (status ≡ 3)))
-    ⊎ ((text ≡ codes "refused 9 at 0\n") × (status ≡ 1))
+-- what is printed when serving has ended so, and the status: the number of streams, with 3 if an accept failed, else 0; or that
+-- memory was refused, with 1
+abbrev pub IsLastLine : Served → List ℕ → ℕ → Type 0
+IsLastLine served text status =
+    (IsOk served.crews × (text ≡ codes "served " ++ decimal served.streams ++ codes "\n") × (status ≡ (if served.has_failed then 3 else 0)))
+    ⊎ (IsErr served.crews × (text ≡ codes "refused 9 at 0\n") × (status ≡ 1))
 
 -- that is printed; or a write failed, after a front of it
-abbrev pub EndsServing : SinkState → SinkState → List ℕ → ℕ → Type 0
-EndsServing old new before status =
-    ((text : List ℕ) × IsLastLine text status × PrintsAll old new (before ++ text))
-    ⊎ ((status ≡ 3) × ((text : List ℕ) × TakesFront old new (before ++ text)))
+abbrev pub EndsServing : Served → SinkState → SinkState → List ℕ → ℕ → Type 0
+EndsServing served old new before status =
+    ((text : List ℕ) × IsLastLine served text status × PrintsAll old new (before ++ text))
+    ⊎ ((status ≡ 3) × ((text : List ℕ) × (meant : ℕ) × IsLastLine served text meant × TakesFront old new (before ++ text)))
 
 -- the port could not be bound, of which standard error is told, with why
 abbrev pub FailsToListen : Outputs → Outputs → ℕ → Type 0
 FailsToListen old new status =
     (status ≡ 3) × (new.output ≡ old.output) × ((why : List ℕ) × TakesIfItCan old.errors new.errors (codes "failed listen\n" ++ why))
 
--- the port could not be bound; or it was, `ready` is printed, and then how serving ended
-abbrev pub Listens : Outputs → Outputs → ℕ → Type 0
-Listens old new status = FailsToListen old new status ⊎ EndsServing old.output new.output (codes "ready\n") status
+-- the crews of the server served, and each came back with the numbers that it had; or memory was refused, and nobody was served
+abbrev pub ServedBy : Server → Served → Type 0
+ServedBy server served = IfOk served.crews (λ back. AllCarrySame server.crews.items back.items)
+
+-- `ready` can't be printed; or it is, then a server as it is asked for serves clients, and then how that ended is printed
+abbrev pub ServesClients : MapdWords → SinkState → SinkState → ℕ → Type 0
+ServesClients asked old new status =
+    ((status ≡ 3) × TakesFront old new (codes "ready\n"))
+    ⊎ ((server : Server) × IsAsked asked server × ((served : Served) × ServedBy server served × EndsServing served old new (codes "ready\n") status))
+
+-- the port could not be bound; or it was, and clients are served
+abbrev pub Listens : MapdWords → Outputs → Outputs → ℕ → Type 0
+Listens asked old new status = FailsToListen old new status ⊎ ServesClients asked old.output new.output status
 
 -- what a call does: its words ask for no server; or no map is opened; or it listens
 abbrev pub RunsMapd : List (List ℕ) → Outputs → Outputs → ℕ → Type 0
 RunsMapd words old new status =
     ((ending : Ending) × EndsServerWords words ending × TellsEnding ending old new status)
     ⊎ ((asked : MapdWords) × AsksServer words asked
-    × (((fault : OpenFault) × IsNotOpened asked fault × TellsOpenFault fault old new status) ⊎ (CanOpen asked × Listens old new status)))
+    × (((fault : OpenFault) × IsNotOpened asked fault × TellsOpenFault fault old new status) ⊎ (CanOpen asked × Listens asked old new status)))

@@ -1,8 +1,10 @@
 -- The command line of `mapd`: its options and defaults. How words are read is clap's (clap_builder 4.6).
-use Rattle.std.specs.Prelude.{◌≡◌, ◌≤◌, ℕ, ℤ, true, List, [], ◌∷◌, Some, codes, pos, option_and_then, string_bytes}
+use Rattle.std.specs.Prelude.{◌≡◌, ◌≢◌, ◌≤◌, ℕ, ℤ, true, List, [], ◌∷◌, Some, codes, pos, option_and_then, string_bytes}
 use Rattle.clap.specs.Words.{App, IsAmong, Row, Rule, fault_of, first_of, matches_of, new_rule, one_of}
 use Rattle.clap.specs.Simple.{new_shape}
 use Rattle.clap.specs.Values.{kind_of}
+use Rattle.clap.specs.declared.Error.{Error}
+use Rattle.clap.specs.declared.error.ErrorKind.TheVariants.{OutOfMemory}
 use Rattle.clap.specs.declared.builder.ArgAction.TheVariants.{Set}
 use Rattle.clap.specs.declared.builder.ValueParser.TheVariants.{Signed}
 use Rattle.map_commands.specs.CommandLine.{given_size, size_option, spelled_size}
@@ -25,32 +27,45 @@ mapd_options =
     ∷ range_option (codes "workers") (pos 32)
     ∷ range_option (codes "team") (pos 8)
     ∷ size_option (codes "sessions")
+    ∷ range_option (codes "clients") (pos 65535)
+    ∷ range_option (codes "idle") (pos 65535)
+    ∷ size_option (codes "programs")
     ∷ []
 
 -- a command without subcommands
 abbrev pub mapd : App
 mapd = record { top = record (new_shape (codes "mapd")) { rules = mapd_options; has_version = true }; subs = [] }
 
--- what the options ask for: each is given, or has its default; the number of sessions has none
+-- what the options ask for: each is given, or has its default; the number of sessions and the seconds have none
 pub record AsksFor (rows : List Row) (asked : MapdWords) : Type 0 where
   pub listen : Some (string_bytes asked.listen) ≡ first_of (codes "listen") rows
   pub stripes : asked.stripes ≡ given_size rows (codes "stripes") 16
   pub workers : asked.workers ≡ given_size rows (codes "workers") 4
   pub team : asked.team ≡ given_size rows (codes "team") 1
   pub sessions : asked.sessions ≡ option_and_then spelled_size (one_of (codes "sessions") rows)
+  pub clients : asked.clients ≡ given_size rows (codes "clients") 1000
+  pub idle : asked.idle ≡ option_and_then spelled_size (one_of (codes "idle") rows)
+  pub programs : asked.programs ≡ given_size rows (codes "programs") 65536
 
 -- what the words ask for, of which the first is the program's name: clap finds no fault in them, and they ask for this
 abbrev pub AsksServer : List (List ℕ) → MapdWords → Type 0
 AsksServer words asked = (fault_of mapd words ≡ []) × AsksFor (matches_of mapd words) asked
 
--- there is a worker, and a thread for each of its walks; and there are not too many
+-- there is a worker, a thread for each of its walks, and a client; and there are not too many
 pub record IsInRange (asked : MapdWords) : Type 0 where
   pub some_worker : 1 ≤ asked.workers
   pub workers : asked.workers ≤ 32
   pub some_member : 1 ≤ asked.team
   pub team : asked.team ≤ 8
+  pub some_client : 1 ≤ asked.clients
+  pub clients : asked.clients ≤ 65535
 
 -- the error is of a kind that clap gives these words; want of memory says nothing
 abbrev pub IsWordsFault : List (List ℕ) → WordsFault → Type 0
 IsWordsFault words (fault.Words error) = IsAmong (kind_of error) (fault_of mapd words)
 IsWordsFault words fault.NoMemory = Unit {0}
+
+-- clap's error as a fault: want of memory if it tells that, else the error
+abbrev pub IsFaultOf : Error → WordsFault → Type 0
+IsFaultOf error (fault.Words told) = (told ≡ error) × (kind_of error ≢ OutOfMemory)
+IsFaultOf error fault.NoMemory = kind_of error ≡ OutOfMemory

@@ -1,112 +1,71 @@
 //! The clients of one port, as workers take them.
-ghost use Rattle.std.specs.Prelude.{IfOk};
+ghost use Rattle.std.specs.Prelude.{◌≡◌, IfOk, vec_len};
 ghost use Rattle.devices.specs.Devices.{CanRead, CanWrite};
 
+use crate::arrivals::{Arrivals, Limits, NO_LIMITS, Then};
+use crate::patience::Patience;
+use crate::shared_stream::SharedStream;
+use crate::sockets::{hear_out, set_up};
 use crate::telling::Telling;
 use bpf_model::NoMemory;
+use client_protocol::ShortResponse;
 use crews::Accept;
 use devices::{Sink, Source, StreamSink, StreamSource};
 use sessions::SessionEnd;
-use std::alloc::{AllocError, Global};
-use std::io::{self, BufWriter, ErrorKind, Read};
-use std::net::{Shutdown, TcpListener, TcpStream};
-use std::sync::atomic::{AtomicBool, AtomicU64, Ordering};
-use std::sync::{Mutex, Wait};
-use std::time::Duration;
+use std::alloc::Global;
+use std::io::{self, BufWriter, ErrorKind, Write};
+use std::net::{TcpListener, TcpStream};
+use std::rt::Clock;
+use std::sync::Wait;
+use std::sync::atomic::{AtomicU64, Ordering};
+use std::thread;
 
 /// How many bytes of answers are kept back at most, until the session flushes them.
 const KEPT_BYTES: usize = 16384;
 
-/// How many pieces of what the client sends are read after a refusal.
-const LAST_PIECES: u32 = 64;
-
-/// How long each of them is waited for, in milliseconds.
-const LAST_WAIT_MILLIS: u64 = 500;
-
 /// What a worker reads its client's requests from.
-pub type TcpReader = StreamSource<TcpStream>;
+pub type TcpReader = StreamSource<SharedStream>;
 
 /// What it writes the answers to.
-pub type TcpWriter = StreamSink<BufWriter<TcpStream>>;
+pub type TcpWriter = StreamSink<BufWriter<SharedStream>>;
 
 /// The clients of one port. Each worker takes its next client by itself, until it has served as many as it may. It counts
-/// the clients. A failed accept ends its worker, and standard error is told why.
+/// the clients. If an accept fails of a want that may pass, the worker waits and accepts again, for an hour at most. Any other failed
+/// accept ends its worker. Standard error is told of both.
 #[derive(Drop)]
-pub struct TcpAccept<'a, 'b, H: Wait, E: Sink> {
-    rt: &'a H,
+pub struct TcpAccept<'a, 'b, H: Wait + Clock, E: Sink> {
+    arrivals: Arrivals<'a, 'b, H, E>,
     alloc: Global,
     listener: TcpListener,
     quotas: Quotas,
-    streams: AtomicU64,
-    failed: AtomicBool,
-    errors: Mutex<Telling<'b, E>>,
-}
-
-/// The error tells of one connection alone, or of a signal.
-fn is_passing(kind: ErrorKind) -> bool {
-    matches!(
-        kind,
-        ErrorKind::Interrupted | ErrorKind::ConnectionAborted | ErrorKind::ConnectionReset
-    )
-}
-
-/// The next connection.
-fn accept_again(listener: &TcpListener) -> io::Result<TcpStream> {
-    for _ in 0..u64::MAX {
-        match listener.accept() {
-            Ok((stream, _)) => return Ok(stream),
-            Err(error) => {
-                if !is_passing(error.kind()) {
-                    return Err(error);
-                }
-            }
-        }
-    }
-    Err(io::Error::from(ErrorKind::Interrupted))
 }
 
 /// A writer to the stream, which keeps answers back. If there is no memory for that, it keeps back none.
-fn writer_to(alloc: Global, stream: &TcpStream) -> io::Result<BufWriter<TcpStream>> {
-    match BufWriter::with_capacity(alloc, KEPT_BYTES, stream.try_clone()?) {
+fn writer_to(alloc: Global, stream: &SharedStream) -> io::Result<BufWriter<SharedStream>> {
+    match BufWriter::with_capacity(alloc, KEPT_BYTES, stream.shared()?) {
         Ok(writer) => Ok(writer),
-        Err(_) => BufWriter::with_capacity(alloc, 0, stream.try_clone()?),
+        Err(_) => BufWriter::with_capacity(alloc, 0, stream.shared()?),
     }
 }
 
-/// The next client's reader and writer. If the system refuses the option, answers only take longer.
-fn next_client(alloc: Global, listener: &TcpListener) -> io::Result<(TcpReader, TcpWriter)>
-    ensures reads { IfOk result (λ client. CanRead (⟦<TcpReader as Source>⟧.state client.0)) }
-    ensures writes { IfOk result (λ client. CanWrite (⟦<TcpWriter as Sink>⟧.state client.1)) }
-{
-    let stream = accept_again(listener)?;
-    let _ = stream.set_nodelay(true);
+/// The stream for a reader, and a writer to it. It has one descriptor.
+fn both_ways(
+    alloc: Global,
+    stream: TcpStream,
+) -> io::Result<(SharedStream, BufWriter<SharedStream>)> {
+    let stream = SharedStream::new(alloc, stream)?;
     let writer = writer_to(alloc, &stream)?;
-    Ok((StreamSource::new(stream), StreamSink::new(writer)))
+    Ok((stream, writer))
 }
 
-/// Ends what is written to the client, and reads on for a while: a connection that is closed with bytes unread is reset,
-/// and the client may then miss the last answer.
-fn hear_out(stream: &TcpStream) {
-    if stream.shutdown(Shutdown::Write).is_err() {
-        return;
-    }
-    let wait = Duration::from_millis(LAST_WAIT_MILLIS);
-    if stream.set_read_timeout(Some(wait)).is_err() {
-        return;
-    }
+/// Tells a client that there is no room for it.
+fn turn_away(stream: &TcpStream) {
+    let refusal = ShortResponse::Refused {
+        number: NoMemory::NUMBER,
+        place: 0,
+    };
     let mut stream = stream;
-    let mut piece = [0; KEPT_BYTES];
-    for _ in 0..LAST_PIECES {
-        match stream.read(&mut piece) {
-            Ok(n) if n > 0 => {}
-            _ => return,
-        }
-    }
-}
-
-/// The line that tells of a failed accept.
-fn failure_line(alloc: Global, worker: u32, error: &io::Error) -> Result<String, AllocError> {
-    format!(in alloc; "worker {worker} ended: failed accept: {error}\n")
+    let _ = stream.write_all(refusal.frame().as_slice());
 }
 
 /// How many sessions each worker has begun, and how many it may.
@@ -119,7 +78,10 @@ pub struct Quotas {
 impl Quotas {
     /// Quotas of this number of workers, each of which may serve at most `most` sessions, or any number. `NoMemory` if a
     /// request for memory was refused.
-    pub fn new(alloc: Global, workers: u64, most: Option<u64>) -> Result<Quotas, NoMemory> {
+    pub fn new(alloc: Global, workers: u64, most: Option<u64>) -> Result<Quotas, NoMemory>
+        ensures workers { IfOk result (λ quotas. vec_len quotas.begun ≡ workers) }
+        ensures most { IfOk result (λ quotas. quotas.most ≡ most) }
+    {
         let mut begun = Vec::new(alloc);
         for _ in 0..workers {
             begun.push(AtomicU64::new(0))?;
@@ -139,9 +101,9 @@ impl Quotas {
     }
 }
 
-impl<'a, 'b, H: Wait, E: Sink> TcpAccept<'a, 'b, H, E> {
+impl<'a, 'b, H: Wait + Clock, E: Sink> TcpAccept<'a, 'b, H, E> {
     /// The clients of the port that the listener is bound to, for the workers of these quotas. A failed accept is told in
-    /// a line of standard error.
+    /// a line of standard error. There are no limits.
     pub fn new(
         rt: &'a H,
         alloc: Global,
@@ -149,55 +111,111 @@ impl<'a, 'b, H: Wait, E: Sink> TcpAccept<'a, 'b, H, E> {
         quotas: Quotas,
         errors: Telling<'b, E>,
     ) -> TcpAccept<'a, 'b, H, E> {
+        TcpAccept::within(rt, alloc, listener, quotas, NO_LIMITS, errors)
+    }
+
+    /// The same clients, within these limits.
+    pub fn within(
+        rt: &'a H,
+        alloc: Global,
+        listener: TcpListener,
+        quotas: Quotas,
+        limits: Limits,
+        errors: Telling<'b, E>,
+    ) -> TcpAccept<'a, 'b, H, E> {
         TcpAccept {
-            rt,
+            arrivals: Arrivals::new(rt, alloc, limits, errors),
             alloc,
             listener,
             quotas,
-            streams: AtomicU64::new(0),
-            failed: AtomicBool::new(false),
-            errors: Mutex::new(errors),
         }
     }
 
     /// How many clients were handed out.
     pub fn streams(&self) -> u64 {
-        self.streams.load(Ordering::SeqCst)
+        self.arrivals.streams()
     }
 
     /// An accept failed.
     pub fn has_failed(&self) -> bool {
-        self.failed.load(Ordering::SeqCst)
+        self.arrivals.has_failed()
     }
 
     /// What tells standard error.
     pub(crate) fn into_telling(self) -> Telling<'b, E> {
-        self.errors.into_inner()
+        self.arrivals.into_telling()
     }
 
-    /// An accept failed, which ends the worker.
-    fn tell_failure(&self, worker: u32, error: &io::Error) {
-        self.failed.store(true, Ordering::SeqCst);
-        let mut errors = self.errors.lock(self.rt);
-        match failure_line(self.alloc, worker, error) {
-            Ok(line) => errors.tell(line.as_bytes()),
-            Err(_) => errors.tell(b"failed accept\n"),
+    /// It is worth while to try again, now that as long was waited as is needed.
+    fn waits(&self, patience: &mut Patience, error: &io::Error) -> bool {
+        match self.arrivals.after_fault(patience, error) {
+            Then::Again => true,
+            Then::Never => false,
+            Then::After(wait) => {
+                thread::sleep(self.arrivals.rt, wait);
+                true
+            }
+        }
+    }
+
+    /// The next connection.
+    fn next_stream(&self) -> io::Result<TcpStream> {
+        let mut patience = Patience::new();
+        for _ in 0..u64::MAX {
+            match self.listener.accept() {
+                Ok((stream, _)) => {
+                    self.arrivals.tell_plenty(&mut patience);
+                    return Ok(stream);
+                }
+                Err(error) if self.waits(&mut patience, &error) => {}
+                Err(error) => return Err(error),
+            }
+        }
+        Err(io::Error::from(ErrorKind::Interrupted))
+    }
+
+    /// The next connection for which there is room. The others are told that there is none.
+    fn next_within(&self) -> io::Result<TcpStream> {
+        for _ in 0..u64::MAX {
+            let stream = self.next_stream()?;
+            if self.arrivals.comes() {
+                return Ok(stream);
+            }
+            turn_away(&stream);
+            hear_out(self.arrivals.rt, &stream);
+        }
+        Err(io::Error::from(ErrorKind::Interrupted))
+    }
+
+    /// The next client's reader and writer.
+    fn next_client(&self) -> io::Result<(TcpReader, TcpWriter)>
+        ensures reads { IfOk result (λ client. CanRead (⟦<TcpReader as Source>⟧.state client.0)) }
+        ensures writes { IfOk result (λ client. CanWrite (⟦<TcpWriter as Sink>⟧.state client.1)) }
+    {
+        let stream = self.next_within()?;
+        set_up(&stream, self.arrivals.limits.idle);
+        match both_ways(self.alloc, stream) {
+            Ok((reader, writer)) => {
+                self.arrivals.is_handed_out();
+                Ok((StreamSource::new(reader), StreamSink::new(writer)))
+            }
+            Err(error) => {
+                self.arrivals.leaves();
+                Err(error)
+            }
         }
     }
 }
 
-impl<'a, 'b, H: Wait, E: Sink> Accept<TcpReader, TcpWriter> for TcpAccept<'a, 'b, H, E> {
+impl<'a, 'b, H: Wait + Clock, E: Sink> Accept<TcpReader, TcpWriter> for TcpAccept<'a, 'b, H, E> {
     fn next(&self, worker: u32) -> Option<(TcpReader, TcpWriter)> {
         if !self.quotas.take(worker) {
             return None;
         }
-        match next_client(self.alloc, &self.listener) {
-            Ok(client) => {
-                self.streams.fetch_add(1, Ordering::SeqCst);
-                Some(client)
-            }
+        match self.next_client() {
+            Ok(client) => Some(client),
             Err(error) => {
-                self.tell_failure(worker, &error);
+                self.arrivals.tell_failure(worker, &error);
                 None
             }
         }
@@ -206,8 +224,9 @@ impl<'a, 'b, H: Wait, E: Sink> Accept<TcpReader, TcpWriter> for TcpAccept<'a, 'b
     fn ended(&self, _worker: u32, reader: TcpReader, writer: TcpWriter, end: SessionEnd) {
         let (stream, _) = writer.into_inner().into_parts();
         if matches!(end, SessionEnd::Refused(_) | SessionEnd::NoMemory) {
-            hear_out(&stream);
+            hear_out(self.arrivals.rt, stream.as_stream());
         }
         drop(reader);
+        self.arrivals.leaves();
     }
 }

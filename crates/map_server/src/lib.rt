@@ -7,13 +7,21 @@
 #![tactic(auto)]
 
 mod accept;
+mod arrivals;
 mod opening;
+mod patience;
 mod program;
+mod server;
+mod shared_stream;
+mod sockets;
+mod tcp;
 mod telling;
+mod threads;
 mod words;
 
 pub use accept::{Quotas, TcpAccept, TcpReader, TcpWriter};
 pub use admission::{AdmissionFault, ProgramLimits, admit};
+pub use arrivals::Limits;
 pub use crews::{Accept, Crew, serve, session};
 pub use devices::{
     Failed, ReadAfterFlush, ReadFault, Sink, Source, StreamSink, StreamSource, read_all, write_all,
@@ -23,6 +31,8 @@ pub use map_commands::{
     hex_bytes, parse_words, report_of, tell_unread_words, unit_lines,
 };
 pub use program::mapd_on;
+pub use server::{Served, Server};
 pub use sessions::{Alone, Answer, Service, SessionEnd, run_session, session_alone};
+pub use shared_stream::SharedStream;
 pub use telling::Telling;
 pub use words::{MapdWords, WordsFault, mapd_words};

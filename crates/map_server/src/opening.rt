@@ -1,10 +1,14 @@
-//! What `mapd` serves: a map, its programs, and the crews of its workers.
+//! Opening what `mapd` serves: a map, its programs, and the crews of its workers.
 ghost use Rattle.std.specs.Prelude.{◌≡◌, ◌+◌, ◌*◌, ◌≤◌, All, IfOk, IfErr, vec_len};
 ghost use Rattle.crews.specs.Crews.{IsCrewOf};
+ghost use Rattle.bin_stripes.specs.Passes.{stripes_of};
+ghost use Rattle.map_server.specs.Servers.{AreAsked, IsAsked};
 ghost use Rattle.map_server.specs.ServerRuns.{CanOpen, IsNotOpened};
 ghost use Rattle.map_server.specs.ServerWords.{IsInRange};
 
 use crate::accept::Quotas;
+use crate::arrivals::Limits;
+use crate::server::Server;
 use crate::words::MapdWords;
 use bin_stripes::{OpenFault, Pass, StripedMap};
 use bpf_model::NoMemory;
@@ -12,16 +16,6 @@ use bulk_walks::Team;
 use crews::Crew;
 use program_registry::Registry;
 use std::alloc::Global;
-
-/// What is served, who serves it, and how often.
-#[derive(Drop)]
-pub struct Server {
-    pub map: StripedMap,
-    pub registry: Registry,
-    pub crews: Vec<Crew>,
-    pub quotas: Quotas,
-    ghost serve: { All (λ crew. IsCrewOf map crew) crews.items },
-}
 
 /// The next worker's crew: the last of the passes is its own, and those before it are its team's.
 fn next_crew(
@@ -34,6 +28,8 @@ fn next_crew(
     requires some { 1 ≤ team }
     requires passes { 1 + team ≤ vec_len passes.old }
     ensures crew { IfOk result (λ crew. IsCrewOf map.now crew) }
+    ensures worker { IfOk result (λ crew. crew.worker ≡ worker) }
+    ensures team { IfOk result (λ crew. vec_len crew.team.passes ≡ team) }
     ensures serve { All (λ pass. pass.map ≡ map.now) passes.new.items }
     ensures left { IfOk result (λ _. vec_len passes.new + (1 + team) ≡ vec_len passes.old) }
 {
@@ -60,7 +56,8 @@ fn crews_of(
     requires serve { All (λ pass. pass.map ≡ map.now) passes.items }
     requires some { 1 ≤ team }
     requires passes { workers * (1 + team) ≤ vec_len passes }
-    ensures { IfOk result (λ crews. All (λ crew. IsCrewOf map.now crew) crews.items) }
+    ensures map { IfOk result (λ crews. All (λ crew. IsCrewOf map.now crew) crews.items) }
+    ensures asked { IfOk result (λ crews. AreAsked workers team crews.items) }
 {
     let mut passes = passes;
     let mut crews = Vec::new(alloc);
@@ -80,8 +77,10 @@ fn server_of(
     requires range { IsInRange asked.now }
     requires serve { All (λ pass. pass.map ≡ map) passes.items }
     requires passes { asked.now.workers * (1 + asked.now.team) ≤ vec_len passes }
+    requires stripes { stripes_of map ≡ asked.now.stripes }
+    ensures { IfOk result (λ server. IsAsked asked.now server) }
 {
-    let registry = Registry::new(alloc)?;
+    let registry = Registry::bounded(alloc, asked.programs as usize)?;
     let crews = crews_of(
         alloc,
         &map,
@@ -90,11 +89,16 @@ fn server_of(
         asked.team as usize,
     )?;
     let quotas = Quotas::new(alloc, asked.workers, asked.sessions)?;
+    let limits = Limits {
+        clients: asked.clients,
+        idle: asked.idle,
+    };
     Ok(Server {
         map,
         registry,
         crews,
         quotas,
+        limits,
     })
 }
 
@@ -102,6 +106,7 @@ fn server_of(
 pub fn open_server(alloc: Global, asked: &MapdWords) -> Result<Server, OpenFault>
     requires { IsInRange asked.now }
     ensures ok { IfOk result (λ _. CanOpen asked.now) }
+    ensures asked { IfOk result (λ server. IsAsked asked.now server) }
     ensures err { IfErr result (λ fault. IsNotOpened asked.now fault) }
 {
     let passes = asked.workers * (1 + asked.team);

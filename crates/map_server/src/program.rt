@@ -4,17 +4,19 @@ ghost use Rattle.clap.specs.Walk.{texts};
 ghost use Rattle.clap.specs.Words.{fault_of, HasKind};
 ghost use Rattle.devices.specs.Devices.{CanWrite, TakesFront, TakesIfItCan};
 ghost use Rattle.map_commands.specs.Endings.{outputs};
-ghost use Rattle.map_server.specs.ServerRuns.{EndsServerWords, EndsServing, IsLastLine, Listens, RunsMapd, PrintsAll, TellsOpenFault};
-ghost use Rattle.map_server.specs.ServerWords.{mapd};
+ghost use Rattle.map_server.specs.Servers.{IsAsked};
+ghost use Rattle.map_server.specs.ServerRuns.{EndsServerWords, EndsServing, IsLastLine, Listens, PrintsAll, RunsMapd, ServesClients, TellsOpenFault};
+ghost use Rattle.map_server.specs.ServerWords.{mapd, IsWordsFault};
 
-use crate::accept::TcpAccept;
-use crate::opening::{Server, open_server};
+use crate::opening::open_server;
+use crate::server::{Served, Server};
+use crate::tcp::{Port, bind, serve_port};
 use crate::telling::Telling;
+use crate::threads::tell_running;
 use crate::words::{MapdWords, WordsFault, mapd_words};
-use bin_stripes::{OpenFault, OpenGate};
+use bin_stripes::OpenFault;
 use bpf_model::NoMemory;
 use clap::error::ErrorKind;
-use crews::{Crew, serve};
 use devices::{Failed, Sink, write_all};
 use itoa::Buffer;
 use map_commands::{
@@ -23,6 +25,7 @@ use map_commands::{
 use std::alloc::{AllocError, Global};
 use std::io;
 use std::net::{Net, TcpListener, TcpStream};
+use std::rt::Clock;
 use std::sync::Wait;
 use std::thread::Threads;
 
@@ -85,23 +88,6 @@ fn tell_failed_listen<E: Sink>(alloc: Global, error: &io::Error, errors: &mut E)
     }
 }
 
-/// The line that tells the address that was bound.
-fn address_line(alloc: Global, listener: &TcpListener) -> io::Result<String> {
-    let address = listener.local_addr()?;
-    Ok(format!(in alloc; "listening on {address}\n")?)
-}
-
-/// The port that is asked for, bound, and the line that tells its address.
-fn bind<H: Net<Listener = TcpListener, Stream = TcpStream>>(
-    rt: &H,
-    alloc: Global,
-    address: &str,
-) -> io::Result<(TcpListener, String)> {
-    let listener = TcpListener::bind(rt, address)?;
-    let line = address_line(alloc, &listener)?;
-    Ok((listener, line))
-}
-
 /// Prints the text, and flushes it.
 fn print_at_once<W: Sink>(writer: &mut W, text: &[u8]) -> Result<(), Failed>
     requires { CanWrite (W.state writer.old) }
@@ -123,84 +109,94 @@ fn served_line(streams: u64) -> Line
     line
 }
 
-/// What is printed when serving has ended, and the status.
-fn last_line<H: Wait, E: Sink>(
-    served: &Result<Vec<Crew>, NoMemory>,
-    accept: &TcpAccept<'_, '_, H, E>,
-) -> (Line, u8)
-    ensures { IsLastLine result.0.items result.1 }
+/// What is printed when serving has ended so, and the status.
+fn last_line(served: &Served) -> (Line, u8)
+    ensures { IsLastLine served.now result.0.items result.1 }
 {
-    match served {
-        Ok(_) if accept.has_failed() => (served_line(accept.streams()), FAILED_DEVICE),
-        Ok(_) => (served_line(accept.streams()), 0),
+    match served.crews {
+        Ok(_) if served.has_failed => (served_line(served.streams), FAILED_DEVICE),
+        Ok(_) => (served_line(served.streams), 0),
         Err(NoMemory) => (text_line(b"refused 9 at 0\n"), REFUSED),
     }
 }
 
 /// Prints how serving has ended, and answers the status.
-fn finish<H: Wait, W: Sink, E: Sink>(
-    served: &Result<Vec<Crew>, NoMemory>,
-    accept: TcpAccept<'_, '_, H, E>,
-    writer: &mut W,
-) -> u8
+fn finish<W: Sink, E: Sink>(served: &Served, writer: &mut W, errors: &mut Telling<'_, E>) -> u8
     requires { CanWrite (W.state writer.old) }
-    ensures { EndsServing (W.state writer.old) (W.state writer.new) [] result }
+    ensures { EndsServing served.now (W.state writer.old) (W.state writer.new) [] result }
 {
-    let (line, status) = last_line(served, &accept);
+    let (line, status) = last_line(served);
     match print_at_once(writer, line.as_slice()) {
         Ok(()) => status,
-        Err(Failed) => {
-            accept.into_telling().tell(b"failed write\n");
-            FAILED_DEVICE
-        }
+        Err(Failed) => tell_failed_write(errors),
     }
 }
 
+/// Tells standard error that standard output can't be written, and answers the status.
+fn tell_failed_write<E: Sink>(errors: &mut Telling<'_, E>) -> u8
+    ensures { result ≡ 3 }
+{
+    errors.tell(b"failed write\n");
+    FAILED_DEVICE
+}
+
 /// Tells the address that was bound, prints `ready`, serves clients until each worker has ended, and answers the status.
-fn serve_bound<H: Threads + Wait + Sync, W: Sink, E: Sink + Send>(
+fn serve_bound<
+    H: Threads + Wait + Clock + Net<Listener = TcpListener, Stream = TcpStream> + Sync,
+    W: Sink,
+    E: Sink + Send,
+>(
     rt: &H,
     alloc: Global,
-    server: Server,
-    bound: (TcpListener, String),
+    asked: &MapdWords,
+    bound: (Port, Server),
     writer: &mut W,
     errors: &mut E,
 ) -> u8
     requires writes { CanWrite (W.state writer.old) }
     requires warns { CanWrite (E.state errors.old) }
-    ensures { EndsServing (W.state writer.old) (W.state writer.new) (codes "ready\n") result }
+    requires asked { IsAsked asked.now bound.1 }
+    ensures { ServesClients asked.now (W.state writer.old) (W.state writer.new) result }
 {
-    let (listener, line) = bound;
-    let Server {
-        map,
-        registry,
-        crews,
-        quotas,
-    } = server;
+    // For the proof alone: the clauses name what is asked for.
+    let _ = asked;
+    let (port, server) = bound;
     let mut telling = Telling::new(errors);
-    telling.tell(line.as_bytes());
+    telling.tell(port.line.as_bytes());
+    tell_running(rt, alloc, server.crews.len() as u64, &mut telling);
     if let Err(Failed) = print_at_once(writer, b"ready\n") {
-        telling.tell(b"failed write\n");
-        return FAILED_DEVICE;
+        return tell_failed_write(&mut telling);
     }
-    let accept = TcpAccept::new(rt, alloc, listener, quotas, telling);
-    let served = serve(rt, alloc, &accept, &map, &registry, crews, &OpenGate);
-    finish(&served, accept, writer)
+    let (served, mut telling) = serve_port(rt, alloc, port, server, telling);
+    finish(&served, writer, &mut telling)
 }
 
 /// Listens and serves, and answers the status.
 fn listen<
-    H: Threads + Wait + Net<Listener = TcpListener, Stream = TcpStream> + Sync,
+    H: Threads + Wait + Clock + Net<Listener = TcpListener, Stream = TcpStream> + Sync,
     W: Sink,
     E: Sink + Send,
 >(rt: &H, alloc: Global, asked: &MapdWords, server: Server, writer: &mut W, errors: &mut E) -> u8
     requires writes { CanWrite (W.state writer.old) }
     requires warns { CanWrite (E.state errors.old) }
-    ensures { Listens (outputs (W.state writer.old) (E.state errors.old))
+    requires asked { IsAsked asked.now server }
+    ensures { Listens asked.now (outputs (W.state writer.old) (E.state errors.old))
         (outputs (W.state writer.new) (E.state errors.new)) result }
 {
     match bind(rt, alloc, asked.listen.as_str()) {
-        Ok(bound) => serve_bound(rt, alloc, server, bound, writer, errors),
+        Ok(port) => serve_bound(rt, alloc, asked, (port, server), writer, errors),
         Err(error) => tell_failed_listen(alloc, &error, errors),
+    }
+}
+
+/// What a fault of the words comes to.
+fn ending_of_fault(alloc: Global, fault: &WordsFault, words: &[&str]) -> Ending
+    requires { IsWordsFault (texts words.now) fault.now }
+    ensures { EndsServerWords (texts words.now) result }
+{
+    match fault {
+        WordsFault::NoMemory => Ending::NoMemory,
+        WordsFault::Words(error) => ending_of_error(alloc, error, words),
     }
 }
 
@@ -208,7 +204,7 @@ fn listen<
 /// many sessions as it was asked for, 1 for a refusal, 2 for a fault of the words, of which standard error is told in clap's
 /// text, and 3 for a failed listen, accept or write, of which it is told in a line. Waits for clients.
 pub fn mapd_on<
-    H: Threads + Wait + Net<Listener = TcpListener, Stream = TcpStream> + Sync,
+    H: Threads + Wait + Clock + Net<Listener = TcpListener, Stream = TcpStream> + Sync,
     W: Sink,
     E: Sink + Send,
 >(rt: &H, alloc: Global, words: &[&str], writer: &mut W, errors: &mut E) -> u8
@@ -219,10 +215,7 @@ pub fn mapd_on<
 {
     let asked = match mapd_words(alloc, words) {
         Ok(asked) => asked,
-        Err(WordsFault::NoMemory) => return Ending::NoMemory.tell(writer, errors),
-        Err(WordsFault::Words(error)) => {
-            return ending_of_error(alloc, &error, words).tell(writer, errors);
-        }
+        Err(fault) => return ending_of_fault(alloc, &fault, words).tell(writer, errors),
     };
     match open_server(alloc, &asked) {
         Ok(server) => listen(rt, alloc, &asked, server, writer, errors),

@@ -3,7 +3,7 @@ ghost use Rattle.std.specs.Prelude.{◌≡◌, true, false, Some, IfOk, IfErr, c
 ghost use Rattle.clap.specs.Words.{app_of, fault_of, first_value, found_of, one_of, rows_of, rule_of, HasKind};
 ghost use Rattle.clap.specs.Walk.{texts};
 ghost use Rattle.map_commands.specs.CommandLine.{size_option, spelled_size};
-ghost use Rattle.map_server.specs.ServerWords.{listen_option, mapd, AsksFor, AsksServer, IsInRange, IsWordsFault};
+ghost use Rattle.map_server.specs.ServerWords.{listen_option, mapd, AsksFor, AsksServer, IsFaultOf, IsInRange, IsWordsFault};
 
 use bpf_model::NoMemory;
 use clap::builder::ValueParser;
@@ -27,6 +27,12 @@ pub struct MapdWords {
     pub team: u64,
     /// How many sessions each worker serves; none: without end.
     pub sessions: Option<u64>,
+    /// How many clients are served at once, over all workers; one more is refused.
+    pub clients: u64,
+    /// After how many seconds in which nothing comes from a client, or it takes nothing, it is let go; none: never.
+    pub idle: Option<u64>,
+    /// How many different programs clients may register.
+    pub programs: u64,
 }
 
 /// Why words ask for no server.
@@ -80,23 +86,35 @@ const WORKERS_DEFAULT: u16 = 4;
 /// The number of threads of each worker's walks, if none is given.
 const TEAM_DEFAULT: u16 = 1;
 
+/// The number of clients, if none is given.
+const CLIENTS_DEFAULT: u16 = 1000;
+
+/// The number of different programs, if none is given.
+const PROGRAMS_DEFAULT: u64 = 65_536;
+
 /// What the options cost.
 const COSTS: &str = "\
 Threads: one for each worker, and one more where there are several; while a worker walks with a team of several, so
 many more. Passes of the map: workers * (1 + team), at most 64.
 Memory: for each client that is served 20 KB, and up to 2 MB while it sends many short requests at once, beside its
-threads' stacks, what its walks answer, and the map.
+threads' stacks, what its walks answer, and the map. A registered program stays.
 A worker serves one client at a time, and further clients wait until one is free.
 Status: 0 all sessions were served, 1 refused, 2 a fault of the words, 3 a failed listen, accept or write.";
 
-/// An option that takes a number in a range.
-fn range_option<'a>(alloc: Global, name: &'a str, range: ValueParser<'a>, help: &'a str) -> Arg<'a>
+/// An option that takes a number in a range, in this unit.
+fn range_option<'a>(
+    alloc: Global,
+    name: &'a str,
+    unit: &'a str,
+    range: ValueParser<'a>,
+    help: &'a str,
+) -> Arg<'a>
     ensures rule { rule_of result ≡ record (size_option name.entry.now) { parser = Some range.entry } }
     ensures local { result.global ≡ false }
 {
     Arg::new(alloc, name)
         .long(name)
-        .value_name("NUMBER")
+        .value_name(unit)
         .help(help)
         .value_parser(range)
 }
@@ -132,12 +150,14 @@ fn mapd_command<'a>(alloc: Global) -> Result<clap::Command<'a>, AllocError>
         .arg(range_option(
             alloc,
             "workers",
+            "NUMBER",
             value_parser!(u16).range(1..=32),
             "Clients served at once, 1 to 32, each by a thread of its own [default: 4]",
         ))?
         .arg(range_option(
             alloc,
             "team",
+            "NUMBER",
             value_parser!(u16).range(1..=8),
             "Threads of each worker's walks, 1 to 8 [default: 1]",
         ))?
@@ -146,6 +166,26 @@ fn mapd_command<'a>(alloc: Global) -> Result<clap::Command<'a>, AllocError>
             "sessions",
             "NUMBER",
             "Sessions that each worker serves before it ends, 0 to 65535 [default: without end]",
+        ))?
+        .arg(range_option(
+            alloc,
+            "clients",
+            "NUMBER",
+            value_parser!(u16).range(1..=65535),
+            "Clients connected at once, 1 to 65535; one more is refused with 9 [default: 1000]",
+        ))?
+        .arg(range_option(
+            alloc,
+            "idle",
+            "SECONDS",
+            value_parser!(u16).range(1..=65535),
+            "Seconds after which a client is let go that sends nothing, or takes nothing, 1 to 65535 [default: never]",
+        ))?
+        .arg(size_option(
+            alloc,
+            "programs",
+            "NUMBER",
+            "Different programs that clients may register, 0 to 65535 [default: 65536]",
         ))
 }
 
@@ -177,13 +217,17 @@ fn words_of(alloc: Global, matches: &ArgMatches<'_>) -> Result<MapdWords, NoMemo
         workers: u64::from(given_size(matches, "workers", WORKERS_DEFAULT)),
         team: u64::from(given_size(matches, "team", TEAM_DEFAULT)),
         sessions: widened(given_number(matches, "sessions")),
+        clients: u64::from(given_size(matches, "clients", CLIENTS_DEFAULT)),
+        idle: widened(given_number(matches, "idle")),
+        programs: widened(given_number(matches, "programs")).unwrap_or(PROGRAMS_DEFAULT),
     })
 }
 
 /// Returns clap's error as a fault of the words, or as a refusal of memory.
 fn fault_of_error(error: clap::Error, words: &[&str]) -> WordsFault
     requires { HasKind (fault_of mapd (texts words.now)) error }
-    ensures { IsWordsFault (texts words.now) result }
+    ensures kind { IsWordsFault (texts words.now) result }
+    ensures exact { IsFaultOf error result }
 {
     if error.kind() == ErrorKind::OutOfMemory {
         return WordsFault::NoMemory;

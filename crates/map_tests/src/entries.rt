@@ -2,7 +2,7 @@
 ghost use Rattle.std.specs.Prelude.{◌≤◌, ◌<◌};
 
 use crate::expectations::expect;
-use bins::{Bins, EntryList, HashedBins, HashedKey, ListBins, SortedEntries, hash_of};
+use bins::{Bins, EntryList, HashedBins, HashedKey, ListBins, Seed, SortedEntries, hash_of};
 use bpf_model::{Key, NoMemory, Value};
 use lengths::fit_each_length;
 use replaced::are_replaced;
@@ -232,7 +232,7 @@ fn has<B: Bins>(bins: &B, key: &Key, number: u8) -> bool {
 
 /// Puts the keys of a crowd among others, removes every third, and finds just those that are left; whether it went so.
 fn stand_apart<B: Bins + Drop>(alloc: Global, crowd: Crowd) -> Result<bool, Fail> {
-    let mut bins = B::open(alloc, 1)?;
+    let mut bins = B::open_seeded(alloc, 1, weak_seed())?;
     let mut apart = put_crowd(&mut bins, Crowd::Apart)? && put_crowd(&mut bins, crowd)?;
     apart &= remove_thirds(&mut bins, crowd)?;
     for number in 0..200u8 {
@@ -336,11 +336,16 @@ fn bins_double_with_the_key_that_crowds_them(rt: HostRuntime) -> Result<(), Fail
     Ok(())
 }
 
-/// Opens, and once more where that was refused.
+/// By this seed a hash is the xor of a key's words and its length, so that keys which end alike come into one chain.
+fn weak_seed() -> Seed {
+    Seed::new(0, 1)
+}
+
+/// Opens by the weak seed, and once more where that was refused.
 fn opened<B: Bins>(alloc: Global) -> Result<B, NoMemory> {
-    match B::open(alloc, 1) {
+    match B::open_seeded(alloc, 1, weak_seed()) {
         Ok(bins) => Ok(bins),
-        Err(NoMemory) => B::open(alloc, 1),
+        Err(NoMemory) => B::open_seeded(alloc, 1, weak_seed()),
     }
 }
 
@@ -384,23 +389,28 @@ fn a_refused_put_leaves_the_list(rt: HostRuntime) -> Result<(), Fail> {
     Ok(())
 }
 
+/// Opens by the seed that is always the same, and once more where that was refused.
+fn opened_fixed(alloc: Global) -> Result<HashedBins, NoMemory> {
+    match HashedBins::open(alloc, 1) {
+        Ok(bins) => Ok(bins),
+        Err(NoMemory) => HashedBins::open(alloc, 1),
+    }
+}
+
 /// The 17th entry makes 16 bins of 8, the 33rd 32 and the 65th 64. Also where one request for memory is refused: a put
-/// leaves the entries, and the next one enters; a doubling leaves the bins, is no refusal, and comes with the next key.
+/// leaves the entries, and the next one enters; a bin that is not added is no refusal.
 #[test]
 fn a_refused_put_leaves_the_bins(rt: HostRuntime) -> Result<(), Fail> {
-    let mut bins = opened::<HashedBins>(rt.alloc())?;
-    let mut late = 0u64;
+    let mut bins = opened_fixed(rt.alloc())?;
     for number in 0..70u8 {
         assert!(rt; enters(&mut bins, Crowd::Apart, number)?);
-        if bins.bins() != wanted_bins(number + 1) {
-            late = late.wrapping_add(1);
-        }
+        assert!(rt; bins.bins() == wanted_bins(number + 1));
     }
-    assert!(rt; late <= 1 && bins.bins() == 64);
     Ok(())
 }
 
-/// Also where one request for memory is refused, for the index, for the tree that takes its place, or for a node of it.
+/// Also where one request for memory is refused, for the index, for the tree that takes its place, for a node of it, or for the
+/// index that comes again when there are twice as many keys.
 #[test]
 fn a_refused_put_leaves_the_tree(rt: HostRuntime) -> Result<(), Fail> {
     let mut bins = opened::<HashedBins>(rt.alloc())?;

@@ -4,11 +4,12 @@
 use map_server::{StreamSink, mapd_on, tell_unread_words};
 use std::net::{Net, TcpListener, TcpStream};
 use std::process::ExitCode;
+use std::rt::Clock;
 use std::sync::Wait;
 use std::thread::Threads;
 use std::{env, io};
 
-fn status<H: Threads + Wait + Net<Listener = TcpListener, Stream = TcpStream> + Sync>(
+fn status<H: Threads + Wait + Clock + Net<Listener = TcpListener, Stream = TcpStream> + Sync>(
     rt: &HostRuntime,
     serving: &H,
 ) -> io::Result<u8> {

@@ -5,6 +5,7 @@ use crate::bpfmap::memory::{ROOM, Room};
 use map_server::{MapdWords, StreamSink, WordsFault, mapd_on, mapd_words};
 use std::alloc::{AllocError, Global};
 use std::net::{Net, TcpListener, TcpStream};
+use std::rt::Clock;
 use std::sync::Wait;
 use std::test::Fail;
 use std::thread::Threads;
@@ -18,11 +19,14 @@ struct Outcome {
 }
 
 /// Makes one call, with this room in standard output.
-fn call<R: AllocGlobal + Threads + Wait + Net<Listener = TcpListener, Stream = TcpStream> + Sync>(
-    rt: &R,
-    words: &[&str],
-    output_room: usize,
-) -> Outcome {
+fn call<
+    R: AllocGlobal
+        + Clock
+        + Threads
+        + Wait
+        + Net<Listener = TcpListener, Stream = TcpStream>
+        + Sync,
+>(rt: &R, words: &[&str], output_room: usize) -> Outcome {
     let alloc = rt.alloc();
     let mut writer = StreamSink::new(Room::new(alloc, output_room));
     let mut errors = StreamSink::new(Room::new(alloc, ROOM));
@@ -37,7 +41,8 @@ fn call<R: AllocGlobal + Threads + Wait + Net<Listener = TcpListener, Stream = T
 /// The address that rows listen on.
 const ANY_PORT: &str = "127.0.0.1:0";
 
-/// Makes the words for this address, these numbers of stripes, workers and passes of a team, and so many sessions.
+/// Makes the words for this address, these numbers of stripes, workers and passes of a team, so many sessions, and the limits that are
+/// there if none is given.
 fn asked(
     alloc: Global,
     listen: &str,
@@ -50,6 +55,9 @@ fn asked(
         workers: sizes.1,
         team: sizes.2,
         sessions,
+        clients: 1000,
+        idle: None,
+        programs: 65_536,
     })
 }
 
@@ -62,7 +70,7 @@ fn words_have_defaults(rt: HostRuntime) -> Result<(), Fail> {
 }
 
 /// Each word of `mapd` once.
-const ALL_WORDS: [&str; 10] = [
+const ALL_WORDS: [&str; 14] = [
     "mapd",
     "--listen",
     "[::1]:7",
@@ -73,12 +81,19 @@ const ALL_WORDS: [&str; 10] = [
     "8",
     "--sessions",
     "65535",
+    "--clients=65535",
+    "--idle",
+    "60",
+    "--programs=100",
 ];
 
 #[test]
 fn words_are_taken(rt: HostRuntime) -> Result<(), Fail> {
     let words = mapd_words(rt.alloc(), &ALL_WORDS)?;
-    let wanted = asked(rt.alloc(), "[::1]:7", (2, 32, 8), Some(65535))?;
+    let mut wanted = asked(rt.alloc(), "[::1]:7", (2, 32, 8), Some(65535))?;
+    wanted.clients = 65535;
+    wanted.idle = Some(60);
+    wanted.programs = 100;
     assert!(rt; words == wanted, "{words:?}");
     Ok(())
 }
@@ -90,13 +105,16 @@ impl Outcome {
     }
 }
 
-const BAD_WORDS: [&str; 9] = [
+const BAD_WORDS: [&str; 12] = [
     "--workers=0",
     "--workers=33",
     "--team=0",
     "--team=9",
     "--stripes=65536",
     "--sessions=65536",
+    "--clients=0",
+    "--clients=65536",
+    "--idle=0",
     "--team",
     "--size=1",
     "other",
@@ -129,7 +147,12 @@ fn help_and_version_are_shown(rt: HostRuntime) {
 
 /// Calls for a map of these sizes, with a team of 2 and no address to listen on.
 fn call_of_sizes<
-    R: AllocGlobal + Threads + Wait + Net<Listener = TcpListener, Stream = TcpStream> + Sync,
+    R: AllocGlobal
+        + Clock
+        + Threads
+        + Wait
+        + Net<Listener = TcpListener, Stream = TcpStream>
+        + Sync,
 >(rt: &R, stripes: &str, workers: &str) -> Outcome {
     let words = [
         "mapd",
@@ -175,7 +198,12 @@ const NOBODY: &[u8] = b"ready\nserved 0\n";
 
 /// Calls for no session, with this room in standard output.
 fn serve_nobody<
-    R: AllocGlobal + Threads + Wait + Net<Listener = TcpListener, Stream = TcpStream> + Sync,
+    R: AllocGlobal
+        + Clock
+        + Threads
+        + Wait
+        + Net<Listener = TcpListener, Stream = TcpStream>
+        + Sync,
 >(rt: &R, room: usize) -> Outcome {
     let words = ["mapd", "--listen", ANY_PORT, "--sessions", "0"];
     call(rt, &words, room)

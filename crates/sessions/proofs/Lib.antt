@@ -3,4 +3,3 @@ pub mod ConversationLemmas
 pub mod SessionLemmas
 pub mod SendingLemmas
 pub mod RequestLemmas
-pub mod LimitLemmas

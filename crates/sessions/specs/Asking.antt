@@ -13,9 +13,8 @@ use Rattle.client_protocol.specs.Requests.Request.{Hello, Register, Get, Put, Pu
 use Rattle.client_protocol.specs.declared.response.Response.{Response}
 use Rattle.client_protocol.specs.declared.response.Response.TheVariants as tell
 use Rattle.client_protocol.specs.Bodies.{limits_after}
-use Rattle.admission.specs.Admissions.{admission_fault_number, admission_fault_unit, IsAdmitted, IsNotAdmitted, HasManyUnits, HasLargeWindow}
+use Rattle.admission.specs.Admissions.{Allowance, admission_fault_number, admission_fault_unit, IsAdmitted, IsNotAdmitted, HasManyUnits, HasLargeWindow}
 use Rattle.admission.specs.declared.fault.AdmissionFault.{AdmissionFault}
-use Rattle.admission.specs.declared.limits.ProgramLimits.{ProgramLimits}
 
 -- what is asked for, with the program in place of its number
 pub data Asked : Type 0 where
@@ -92,7 +91,7 @@ response_to (replied.Done done) = tell.Done done
 response_to (replied.Unfit part) = tell.Unfit part
 
 -- the limits of a program that is sent after this Hello: those of the version
-abbrev pub program_limits : Option Version → ProgramLimits
+abbrev pub program_limits : Option Version → Allowance
 program_limits hello = let limits = limits_after hello in record { units = limits.units; window = limits.value }
 
 -- the bytes, sent behind this Hello, spell this program, which is safe with these sizes; they are within their limits

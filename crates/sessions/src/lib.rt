@@ -13,7 +13,7 @@ mod session;
 
 pub use alone::{Alone, session_alone};
 pub use calls::{argument_of, call_of, named_program};
-pub use responses::{answer_to, no_memory, program_sent, unknown_program};
+pub use responses::{answer_to, may_be_sent, no_memory, program_sent, unknown_program};
 pub use session::send::{refuse, send};
 pub use session::{
     Answer, Conversation, ConversationEnd, Service, SessionEnd, exchanges_join, pieces_join,

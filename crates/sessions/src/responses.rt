@@ -1,6 +1,6 @@
 //! Responses that whatever answers requests may give.
-ghost use Rattle.std.specs.Prelude.{◌≡◌, ◌<◌, ◌^◌, ℕ, List, [], ◌∷◌, IfOk, IfErr};
-ghost use Rattle.admission.specs.Admissions.{admission_fault_number, admission_fault_unit};
+ghost use Rattle.std.specs.Prelude.{◌≡◌, ◌<◌, ◌^◌, ◌↔◌, ℕ, List, [], ◌∷◌, IfOk, IfErr, IsTrue};
+ghost use Rattle.admission.specs.Admissions.{admission_fault_number, admission_fault_unit, HasManyUnits, HasLargeWindow};
 ghost use Rattle.atomic_methods.specs.Plans.{reply_by};
 ghost use Rattle.client_protocol.specs.Responses.{response_of};
 ghost use Rattle.sessions.specs.Answering.{responses_of};
@@ -58,6 +58,13 @@ fn program_limits(hello: Option<Version>) -> ProgramLimits
         units: limits.units,
         window: limits.value,
     }
+}
+
+/// Tests whether these bytes and sizes may be sent after this Hello: whether they are within its limits. Takes no memory.
+pub fn may_be_sent(hello: Option<Version>, bytes: &[u8], sizes: Sizes) -> bool
+    ensures { IsTrue result ↔ ((HasManyUnits (program_limits hello) bytes.now → ⊥) × (HasLargeWindow (program_limits hello) sizes → ⊥)) }
+{
+    program_limits(hello).allows(bytes, sizes)
 }
 
 /// The response that tells this fault, and the unit that has it.

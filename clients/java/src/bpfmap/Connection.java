@@ -41,7 +41,7 @@ public final class Connection implements AutoCloseable {
      * @throws RefusedException if the server does not know the version
      */
     public static Connection open(String host, int port, Settings settings) throws IOException {
-        return over(SocketTransport.connect(host, port, settings), host + ":" + port, settings.version());
+        return over(SocketTransport.connect(host, port, settings), SocketTransport.named(host, port), settings.version());
     }
 
     /** Says Hello over a transport, which is closed if that fails. */

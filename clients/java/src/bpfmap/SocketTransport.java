@@ -38,7 +38,7 @@ final class SocketTransport implements Transport {
     static SocketTransport connect(String host, int port, Settings settings) throws IOException {
         InetSocketAddress address = new InetSocketAddress(host, port);
         if (address.isUnresolved()) {
-            throw new UnknownHostException(host + ":" + port + ": there is no host of this name");
+            throw new UnknownHostException(named(host, port) + ": there is no host of this name");
         }
         int answerTimeout = Settings.milliseconds(settings.answerTimeout());
         SocketTransport transport = open(answerTimeout);
@@ -47,11 +47,16 @@ final class SocketTransport implements Transport {
             return transport;
         } catch (IOException e) {
             transport.close();
-            throw naming(host + ":" + port, e);
+            throw naming(named(host, port), e);
         } catch (RuntimeException | Error e) {
             transport.close();
             throw e;
         }
+    }
+
+    /** Host and port, as messages have them: an IPv6 address stands in brackets. */
+    static String named(String host, int port) {
+        return (host.indexOf(':') < 0 ? host : "[" + host + "]") + ":" + port;
     }
 
     private static SocketTransport open(int answerTimeout) throws IOException {

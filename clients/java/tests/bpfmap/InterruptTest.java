@@ -208,6 +208,7 @@ final class InterruptTest {
         UncheckedIOException unchecked = Check.raises("no server", UncheckedIOException.class,
                 () -> RemoteMap.open(Mapd.HOST, port, Codec.strings(), Codec.longs()));
         Check.that(unchecked.getMessage(), unchecked.getMessage().contains(Mapd.HOST + ":" + port));
+        Check.equal("an IPv6 address", "[::1]:7070", SocketTransport.named("::1", 7070));
         return "is named by host and port";
     }
 }

@@ -4,7 +4,9 @@ use super::*;
 
 const KEY_LENGTHS: [usize; 4] = [0, 18, 19, 64];
 
-const VALUE_LENGTHS: [usize; 6] = [0, 18, 19, 64, 65, 1_024];
+const VALUE_LENGTHS: [usize; 14] = [
+    0, 18, 19, 32, 33, 64, 65, 128, 129, 312, 313, 912, 913, 1_024,
+];
 
 /// Makes a value of so many bytes.
 fn value_of(byte: u8, length: usize) -> Result<Value, Fail> {

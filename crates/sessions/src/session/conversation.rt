@@ -1,5 +1,5 @@
 //! A session between two of its reads, and how the next piece that is read is answered.
-ghost use Rattle.std.specs.Prelude.{◌≡◌, ℕ, ◌++◌, List, [], None, Some, OnOk, OnErr, flat_map};
+ghost use Rattle.std.specs.Prelude.{◌≡◌, ◌≢◌, ℕ, ◌++◌, List, [], None, Some, IsSome, OnOk, OnErr, flat_map};
 ghost use Rattle.client_protocol.specs.declared.fault.ProtocolFault.{ProtocolFault as TheFault};
 ghost use Rattle.client_protocol.specs.Requests.{Request as TheRequest};
 ghost use Rattle.client_protocol.specs.Frames.{Held, Frames, held_fault, is_inside};
@@ -100,6 +100,8 @@ impl Conversation {
             × AnswersPiece S.answers self.old state.old piece.now written self.new state.new) }
         ensures memory { result ≡ Err ConversationEnd.NoMemory
             → (self.new ≡ self.old) × (state.new ≡ state.old) × (W.state sink.new ≡ W.state sink.old) }
+        // A conversation with a fault asks for no memory.
+        ensures still { IsSome (held_fault self.old) → result ≢ Err ConversationEnd.NoMemory }
         // One request was made whose answer is not wholly written, and none after it.
         ensures write { result ≡ Err ConversationEnd.WriteFailed → ((written : List ℕ)
             × TakesThenFails (W.state sink.old) (W.state sink.new) written

@@ -15,7 +15,7 @@ slot_mut-requires g c = let held = c.requires.held in
 
 pub let_go-requires-clause-made : goal.let_go-requires-clause-made
 let_go-requires-clause-made g c = let v = c.args.seat.now.me.0 in let n = c.args.table.now.table_id.slots in let k = c.args.stripe in
-    let program = c.args.by.0.now in let arg = c.args.by.1.now in let counts = c.replace_each-counts.result in let new = g.B.Bins.table c.replace_each-counts.new.bins in
+    let program = c.args.by.program.now in let arg = c.args.by.arg.now in let counts = c.replace_each-counts.result in let new = g.B.Bins.table c.replace_each-counts.new.bins in
     let found = found_is g.B.Bins.table c.args.table.now.table_id.slots c.args.stripe c.args.seat.now.me c.in-Some.bins (rest c.args.seat.now.me.1) c.requires.held (c.slot_mut.ensures.value ∙ ap (λ s. (c.args.stripe, s) ∷ rest c.args.seat.now.me.1) c.in-Some.is) in (
       c.replace_each-counts.new.bins,
       (
@@ -34,7 +34,7 @@ returns-clause-made g c = let n = c.args.table.now.table_id.slots in let k = c.a
   (
     found_is g.B.Bins.table c.args.table.now.table_id.slots c.args.stripe c.args.seat.now.me c.in-Some.bins (rest c.args.seat.now.me.1) c.requires.held (c.slot_mut.ensures.value ∙ ap (λ s. (c.args.stripe, s) ∷ rest c.args.seat.now.me.1) c.in-Some.is),
     lets_as n k _ _ c.args.seat.now.me c.let_go.new.seat.me
-        (λ actions a. subst (λ (b : g.row.B.Denot). AreReplacements c.args.by.0.now c.args.by.1.now (map.entries (g.B.Bins.table b)) actions c.replace_each-counts.result) c.of-before.ensures a)
+        (λ actions a. subst (λ (b : g.row.B.Denot). AreReplacements c.args.by.program.now c.args.by.arg.now (map.entries (g.B.Bins.table b)) actions c.replace_each-counts.result) c.of-before.ensures a)
         (lets_from n k _ c.args.seat.now.me _ c.let_go.new.seat.me (rest c.args.seat.now.me.1) (Some c.in-Some.bins) (Some c.replace_each-counts.new.bins) refl (c.slot_mut.ensures.value ∙ ap (λ s. (c.args.stripe, s) ∷ rest c.args.seat.now.me.1) c.in-Some.is) refl c.let_go.ensures.made),
   ),
 )

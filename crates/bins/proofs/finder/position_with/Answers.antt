@@ -10,9 +10,9 @@ never e = cc
 pub loop-next-init : goal.loop-next-init
 loop-next-init c = record {
   end = length c.args.index.now.hashes;
-  bound = omega (arith, as_many _ _ c.requires.index);
+  bound = omega (arith, as_many _ _ _ c.requires.index);
   last = c.last-next.ensures.value;
-  behind = λ j d low high. absurd (omega (arith, low, high, as_many _ _ c.requires.index));
+  behind = λ j d low high. absurd (omega (arith, low, high, as_many _ _ _ c.requires.index));
 }
 
 -- the position is that of a key
@@ -32,7 +32,7 @@ returns-then-is_at c =
 pub before-next-requires : goal.before-next-requires
 before-next-requires c =
     let last = rw c.in-Some.is at c.loop-next.invariant.last in
-    record { range = omega (arith, last.0, c.loop-next.invariant.bound, as_many _ _ c.requires.index); same = last.1 }
+    record { range = omega (arith, last.0, c.loop-next.invariant.bound, as_many _ _ _ c.requires.index); same = last.1 }
 
 -- it is another key, and so are those behind it
 pub loop-next-preserved : goal.loop-next-preserved
@@ -45,11 +45,11 @@ loop-next-preserved c =
       end = c.in-Some.position;
       bound = omega (arith, inside);
       last = c.before-next.ensures.value;
-      behind = past _ _ c.requires.index c.args.key.now c.args.hash c.requires.hash c.loop-next.invariant.end c.in-Some.position c.loop-next.invariant.behind last other;
+      behind = past _ _ _ c.requires.index c.args.key.now c.args.hash c.requires.hash c.loop-next.invariant.end c.in-Some.position c.loop-next.invariant.behind last other;
     }
 
 -- no position is left
 pub returns-clause-absent : goal.returns-clause-absent
 returns-clause-absent c =
     let none = rw c.in_default.is at c.loop-next.invariant.last in
-    past_all _ _ c.requires.index c.args.key.now c.args.hash c.requires.hash c.loop-next.invariant.end c.loop-next.invariant.behind none
+    past_all _ _ _ c.requires.index c.args.key.now c.args.hash c.requires.hash c.loop-next.invariant.end c.loop-next.invariant.behind none

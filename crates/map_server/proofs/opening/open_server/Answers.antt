@@ -3,3 +3,6 @@ use Rattle.map_server.proofs.opening.open_server.Goals as goal
 
 pub server_of-requires-clause-passes : goal.server_of-requires-clause-passes
 server_of-requires-clause-passes c = enough_passes _ _ _ _ _ c.in_ok-map.ensures.ok c.in_ok-map.passes.ok.0
+
+pub server_of-requires-clause-stripes : goal.server_of-requires-clause-stripes
+server_of-requires-clause-stripes c = c.in_ok-map.ensures.ok.stripes_are

@@ -16,6 +16,9 @@ returns c =
     let stripes = c.in_ok-arg-2.ensures.shape c.size_option.ensures.local ∙ ap₂ with_rule listen c.size_option.ensures.rule in
     let workers = c.in_ok-arg-3.ensures.shape c.range_option.ensures.local ∙ ap₂ with_rule stripes (c.range_option.ensures.rule ∙ ap (λ p. record (size_option (codes "workers")) { parser = Some p }) (narrowed _ _ _ _ 32 c.value_parser.ensures c.new-2.ensures.start c.new-2.ensures.end refl c.range.ensures)) in
     let team = c.in_ok-arg-4.ensures.shape c.range_option-2.ensures.local ∙ ap₂ with_rule workers (c.range_option-2.ensures.rule ∙ ap (λ p. record (size_option (codes "team")) { parser = Some p }) (narrowed _ _ _ _ 8 c.value_parser-2.ensures c.new-3.ensures.start c.new-3.ensures.end refl c.range-2.ensures)) in
-    IfOk-weaker c.arg-5.result _ _
-    (λ r h. h.shape c.size_option-2.ensures.local ∙ ap₂ with_rule team c.size_option-2.ensures.rule)
-    c.arg-5.ensures
+    let sessions = c.in_ok-arg-5.ensures.shape c.size_option-2.ensures.local ∙ ap₂ with_rule team c.size_option-2.ensures.rule in
+    let clients = c.in_ok-arg-6.ensures.shape c.range_option-3.ensures.local ∙ ap₂ with_rule sessions (c.range_option-3.ensures.rule ∙ ap (λ p. record (size_option (codes "clients")) { parser = Some p }) (narrowed _ _ _ _ 65535 c.value_parser-3.ensures c.new-4.ensures.start c.new-4.ensures.end refl c.range-3.ensures)) in
+    let idle = c.in_ok-arg-7.ensures.shape c.range_option-4.ensures.local ∙ ap₂ with_rule clients (c.range_option-4.ensures.rule ∙ ap (λ p. record (size_option (codes "idle")) { parser = Some p }) (narrowed _ _ _ _ 65535 c.value_parser-4.ensures c.new-5.ensures.start c.new-5.ensures.end refl c.range-4.ensures)) in
+    IfOk-weaker c.arg-8.result _ _
+    (λ r h. h.shape c.size_option-3.ensures.local ∙ ap₂ with_rule idle c.size_option-3.ensures.rule)
+    c.arg-8.ensures

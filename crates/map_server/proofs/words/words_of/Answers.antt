@@ -1,4 +1,5 @@
 use Rattle.std.proofs.Common.{◌∙◌, ap, Some}
+use Rattle.std.specs.Prelude.{unwrap_or}
 use Rattle.clap.specs.Words.{found_of}
 use Rattle.clap.proofs.WalkLemmas.{first_value-rows}
 use Rattle.map_server.proofs.words.words_of.Goals as goal
@@ -10,4 +11,7 @@ returns c = record {
   workers = c.from-2.ensures ∙ c.given_size-2.ensures;
   team = c.from-3.ensures ∙ c.given_size-3.ensures;
   sessions = c.widened.ensures ∙ c.given_number.ensures;
+  clients = c.from-4.ensures ∙ c.given_size-4.ensures;
+  idle = c.widened-2.ensures ∙ c.given_number-2.ensures;
+  programs = c.unwrap_or.ensures ∙ ap (λ number. unwrap_or number 65536) (c.widened-3.ensures ∙ c.given_number-3.ensures);
 }

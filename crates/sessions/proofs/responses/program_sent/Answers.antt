@@ -1,10 +1,6 @@
 use Rattle.admission.proofs.AdmissionLemmas.{refused_unit}
 use Rattle.sessions.specs.Asking.{program_limits}
-use Rattle.sessions.proofs.LimitLemmas.{window_fits}
 use Rattle.sessions.proofs.responses.program_sent.Goals as goal
-
-pub admit-requires : goal.admit-requires
-admit-requires c = record { within = rw c.program_limits.ensures (window_fits c.args.hello) }
 
 pub refusal_of-requires : goal.refusal_of-requires
 refusal_of-requires c =

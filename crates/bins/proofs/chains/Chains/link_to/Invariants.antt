@@ -4,13 +4,13 @@ use Rattle.bins.proofs.ChainMoves.{Reaches}
 use Rattle.bins.proofs.chains.Chains.link_to.Given as goal
 
 -- this link leads on, and was reached from the bin's head
-abbrev pub invariant-loop-at : goal.invariant-loop-at
-invariant-loop-at l = record {
-  leads : l.at ≡ follow l.self.heads.items l.self.nexts.items l.link;
+abbrev pub invariant-loop-link : goal.invariant-loop-link
+invariant-loop-link l = record {
+  leads : l.at ≡ follow l.self.heads.items l.self.records.nexts l.link;
   is_link : IsLink l.self l.link;
-  reached : (bins : ℕ → ℕ) → Links bins (length l.self.nexts.items) l.self.heads.items l.self.nexts.items
-      → Reaches bins (length l.self.nexts.items) l.bin l.position l.link;
+  reached : (bins : ℕ → ℕ) → Links bins (length l.self.records.nexts) l.self.heads.items l.self.records.nexts
+      → Reaches bins (length l.self.records.nexts) l.bin l.position l.link;
 }
 
-abbrev pub decreases-loop-at : goal.decreases-loop-at
-decreases-loop-at l = l.at
+abbrev pub decreases-loop-link : goal.decreases-loop-link
+decreases-loop-link l = l.at

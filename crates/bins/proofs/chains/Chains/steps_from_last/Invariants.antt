@@ -3,7 +3,7 @@ use Rattle.bins.proofs.chains.Chains.steps_from_last.Given as goal
 
 -- the positions that were counted are behind those to come
 abbrev pub invariant-loop-at : goal.invariant-loop-at
-invariant-loop-at l = l.steps + l.at ≤ length l.self.hashes.items
+invariant-loop-at l = l.steps + l.at ≤ length l.self.records.hashes
 
 abbrev pub decreases-loop-at : goal.decreases-loop-at
 decreases-loop-at l = l.at

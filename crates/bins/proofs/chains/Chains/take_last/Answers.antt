@@ -1,33 +1,39 @@
-use Rattle.std.proofs.Common.{◌≡◌, ◌<◌, ◌+◌, ◌-◌, ◌^◌, ◌++◌, ◌∷◌, [], ℕ, List, length, set, slice_index, sym, ap, subst, ◌∙◌, arith}
-use Rattle.std.proofs.lemmas.List.{get_or_read, length-set, length-take-le}
-use Rattle.bins.specs.Chains.{IsBinCount, bin_of}
+use Rattle.std.proofs.Common.{◌≡◌, ◌<◌, ◌+◌, ◌-◌, ◌++◌, ◌∷◌, [], ℕ, List, length, set, take, slice_index, sym, ap, subst, ◌∙◌, arith}
+use Rattle.std.proofs.lemmas.List.{length-set, length-take-le}
+use Rattle.bins.specs.Chains.{AreSpread, bin_of}
 use Rattle.bins.proofs.ChainEdits.{links_taken, split_last}
 use Rattle.bins.proofs.chains.Chains.take_last.Goals as goal
+use Rattle.bins.proofs.chains.Chains.take_last.Goals.{After-remove_last}
+
+-- where the last position stands
+count : (c : After-remove_last) → c.len-position.result - 1 + 1 ≡ length c.args.self.now.records.hashes
+count c = omega (arith, c.len-position.ensures.hashes, c.requires.some)
+
+hashes_cut : (c : After-remove_last) → c.remove_last.new.self.hashes ≡ take (c.len-position.result - 1) c.args.self.now.records.hashes
+hashes_cut c = c.remove_last.ensures.hashes ∙ ap (λ (n : ℕ). take (n - 1) c.args.self.now.records.hashes) (sym c.len-position.ensures.hashes)
+
+nexts_cut : (c : After-remove_last) → c.remove_last.new.self.nexts ≡ take (c.len-position.result - 1) c.args.self.now.records.nexts
+nexts_cut c = c.remove_last.ensures.nexts ∙ ap (λ (n : ℕ). take (n - 1) c.args.self.now.records.nexts) (sym c.len-position.ensures.nexts)
 
 pub returns-clause-chained : goal.returns-clause-chained
 returns-clause-chained c =
     let before = c.requires.chained in
-    let count : c.len-position.result - 1 + 1 ≡ length c.args.self.now.hashes.items = omega (arith, c.len-position.ensures, c.args.self.now.hashes.ok.0, c.requires.some) in
-    let hash = get_or_read c.args.self.now.hashes.items (c.len-position.result - 1) c.index-hash.result.now (omega (arith, count)) c.index-hash.ensures 0 in
-    let next = get_or_read c.args.self.now.nexts.items (c.len-position.result - 1) c.index.result.now (omega (arith, count, before.long)) c.index.ensures 0 in
+    let many = count c in
     let bins : c.len.result ≡ length c.args.self.now.heads.items = c.len.ensures ∙ c.args.self.now.heads.ok.0 in
-    let bin : c.bin_of-bin.result ≡ bin_of (2 ^ c.args.self.now.shift) (length c.args.self.now.heads.items) (slice_index c.args.self.now.hashes.items (c.len-position.result - 1)) =
-    c.bin_of-bin.ensures.value ∙ ap (λ (n : ℕ). bin_of (2 ^ c.args.self.now.shift) n c.index-hash.result.now) bins
-    ∙ ap (bin_of (2 ^ c.args.self.now.shift) (length c.args.self.now.heads.items)) hash in
+    let bin : c.bin_of-bin.result ≡ bin_of c.args.self.now.half (length c.args.self.now.heads.items) (slice_index c.args.self.now.records.hashes (c.len-position.result - 1)) =
+    c.bin_of-bin.ensures.value ∙ ap (λ (n : ℕ). bin_of c.args.self.now.half n c.hash-hash.result) bins
+    ∙ ap (bin_of c.args.self.now.half (length c.args.self.now.heads.items)) c.hash-hash.ensures in
     let range : c.bin_of-bin.result < length c.args.self.now.heads.items = subst (λ (n : ℕ). c.bin_of-bin.result < n) bins c.bin_of-bin.ensures.range in
     record {
-      shift = before.shift;
-      bins = subst (λ (n : ℕ). IsBinCount n) (sym (length-set c.args.self.now.heads.items c.bin_of-bin.result c.index.result.now)) before.bins;
-      long = ap length c.truncate-2.ensures.items ∙ length-take-le (c.len-position.result - 1) c.args.self.now.nexts.items (omega (arith, count, before.long))
-          ∙ sym (ap length c.truncate.ensures.items ∙ length-take-le (c.len-position.result - 1) c.args.self.now.hashes.items (omega (arith, count)));
-      links = links_taken (2 ^ c.args.self.now.shift) c.bin_of-bin.result (c.len-position.result - 1) c.args.self.now.heads.items c.args.self.now.hashes.items c.args.self.now.nexts.items
-          c.truncate.new.self.items c.truncate-2.new.self.items (set c.args.self.now.heads.items c.bin_of-bin.result c.index.result.now)
-          before.links before.long count bin range c.truncate.ensures.items c.truncate-2.ensures.items (ap (set c.args.self.now.heads.items c.bin_of-bin.result) next);
+      spread = subst (AreSpread c.args.self.now.half) (sym (length-set c.args.self.now.heads.items c.bin_of-bin.result c.next.result)) before.spread;
+      long = ap length (nexts_cut c) ∙ length-take-le (c.len-position.result - 1) c.args.self.now.records.nexts (omega (arith, many, before.long))
+          ∙ sym (ap length (hashes_cut c) ∙ length-take-le (c.len-position.result - 1) c.args.self.now.records.hashes (omega (arith, many)));
+      links = links_taken c.args.self.now.half c.bin_of-bin.result (c.len-position.result - 1) c.args.self.now.heads.items c.args.self.now.records.hashes c.args.self.now.records.nexts
+          c.remove_last.new.self.hashes c.remove_last.new.self.nexts (set c.args.self.now.heads.items c.bin_of-bin.result c.next.result)
+          before.links before.long many bin range (hashes_cut c) (nexts_cut c) (ap (set c.args.self.now.heads.items c.bin_of-bin.result) c.next.ensures);
     }
 
 pub returns-clause-hashes : goal.returns-clause-hashes
 returns-clause-hashes c =
-    let count : c.len-position.result - 1 + 1 ≡ length c.args.self.now.hashes.items = omega (arith, c.len-position.ensures, c.args.self.now.hashes.ok.0, c.requires.some) in
-    let hash = get_or_read c.args.self.now.hashes.items (c.len-position.result - 1) c.index-hash.result.now (omega (arith, count)) c.index-hash.ensures 0 in
-    split_last c.args.self.now.hashes.items (c.len-position.result - 1) c.index-hash.result.now count hash
-    ∙ ap (λ (xs : List ℕ). xs ++ c.index-hash.result.now ∷ []) (sym c.truncate.ensures.items)
+    split_last c.args.self.now.records.hashes (c.len-position.result - 1) c.hash-hash.result (count c) c.hash-hash.ensures
+    ∙ ap (λ (xs : List ℕ). xs ++ c.hash-hash.result ∷ []) (sym (hashes_cut c))

@@ -24,8 +24,6 @@ loop-position-preserved c =
       keys = c.push_from.ensures.keys ∙ one_more (keys_in c.args.self.now) (keys_in other) p _ keys_below before.keys;
       values = c.push_from.ensures.values ∙ one_more (values_in c.args.self.now) (values_in other) p _ values_below before.values;
       counted = omega (arith, before.counted, c.push_from.ensures.many);
-      locations = c.push_from.ensures.room.locations ∙ before.locations;
-      shorts = c.push_from.ensures.room.shorts ∙ before.shorts;
-      middles = c.push_from.ensures.room.middles ∙ before.middles;
-      longs = c.push_from.ensures.room.longs ∙ before.longs;
+      room = c.push_from.ensures.room;
+      same = c.push_from.ensures.same ∙ before.same;
     }

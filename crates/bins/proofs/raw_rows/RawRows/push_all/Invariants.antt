@@ -1,5 +1,5 @@
-use Rattle.std.proofs.Common.{◌≡◌, ◌+◌, ◌++◌, length, take, vec_capacity}
-use Rattle.bins.specs.Rows.{AreIn, keys_in, values_in}
+use Rattle.std.proofs.Common.{◌≡◌, ◌+◌, ◌++◌, length, take}
+use Rattle.bins.specs.Rows.{AreIn, IsRoomy, keys_in, values_in}
 use Rattle.bins.proofs.raw_rows.RawRows.push_all.Given as goal
 
 -- the strings so far were added, and there is as much room as there was
@@ -9,8 +9,6 @@ invariant-loop-position l = record {
   keys : keys_in l.self ≡ keys_in l.fn.self ++ take l.position (keys_in l.other);
   values : values_in l.self ≡ values_in l.fn.self ++ take l.position (values_in l.other);
   counted : length l.self.locations.items ≡ length l.fn.self.locations.items + l.position;
-  locations : vec_capacity l.self.locations ≡ vec_capacity l.fn.self.locations;
-  shorts : vec_capacity l.self.shorts ≡ vec_capacity l.fn.self.shorts;
-  middles : vec_capacity l.self.middles ≡ vec_capacity l.fn.self.middles;
-  longs : vec_capacity l.self.longs ≡ vec_capacity l.fn.self.longs;
+  room : IsRoomy l.self;
+  same : l.self.room ≡ l.fn.self.room;
 }

@@ -1,9 +1,10 @@
-use Rattle.std.proofs.Common.{rules, ◌≡◌, ◌-◌, ◌<◌, length, arith, sym, ap, ◌∙◌}
+use Rattle.std.proofs.Common.{rules, ◌≡◌, ◌-◌, ◌<◌, ◌≤◌, length, arith, refl, sym, ap, ◌∙◌}
 use Rattle.std.specs.List.{swap_remove}
 use Rattle.bins.specs.KeptRows.{location_at}
-use Rattle.bins.specs.Rows.{lists_in}
-use Rattle.bins.specs.declared.row.Location.{Location}
+use Rattle.bins.specs.Rows.{IsRoomy, lists_in}
+use Rattle.bins.specs.declared.location.Location.{Location}
 use Rattle.bins.proofs.RowLemmas.{read_location}
+use Rattle.bins.proofs.RoomLemmas.{roomy_as}
 use Rattle.bins.proofs.RowSteps.{Taken, taken_as, taken_in, taken_vacant}
 use Rattle.bins.proofs.raw_rows.RawRows.take_vacant.Goals as goal
 use Rattle.bins.proofs.raw_rows.RawRows.take_vacant.Goals.{in-In, in_default}
@@ -34,4 +35,9 @@ returns c =
     ] in
     let locations : c.swap_remove.new.self.items ≡ swap_remove after.locations.items p removed = c.swap_remove.ensures.items in
     let moved : Taken ps.items lists p c.swap_remove.new.self.items (lists_in after) = rw locations taken in
-    record { rows = moved.rows; keys = moved.keys; values = moved.values; many = search rules; room = search rules }
+    let still : IsRoomy after = elim c.match-get.branch [
+      | in-In w ↦ rw w.self-is w.move_in.ensures.room
+      | in_default w ↦ rw w.self-is c.requires.room
+    ] in
+    let less : length c.swap_remove.new.self.items ≤ after.room = omega (arith, c.swap_remove.ensures.len, c.swap_remove.new.self.ok.0, after.locations.ok.0, still.inside) in
+    record { rows = moved.rows; keys = moved.keys; values = moved.values; many = search rules; room = roomy_as after _ refl refl refl c.swap_remove.ensures.capacity less still }

@@ -1,15 +1,16 @@
 use Rattle.std.proofs.Common.{rules, ◌≡◌, ◌<◌, [], length, set, sym, ap, refl, arith, ◌∙◌, get_or-set_same}
 use Rattle.std.proofs.lemmas.List.{length-set}
-use Rattle.bins.specs.declared.row.Location.TheVariants.{Vacant, In}
+use Rattle.bins.specs.declared.location.Location.TheVariants.{Vacant, In}
 use Rattle.bins.specs.KeptRows.{KeptRow, nobody, location_at}
 use Rattle.bins.specs.Rows.{keys_in, lists_in, values_in}
 use Rattle.bins.proofs.RowLemmas.{inside, no_more, read_location, vacant_read}
 use Rattle.bins.proofs.RowSteps.{Changed, changed_as, vacated, written_same}
+use Rattle.bins.proofs.RoomLemmas.{few_widths, roomy_as}
 use Rattle.bins.proofs.raw_rows.RawRows.vacate.Goals as goal
 
 -- the location names a row that there is
-pub remove_in-owner-requires : goal.remove_in-owner-requires
-remove_in-owner-requires c =
+pub remove_in-owner-requires-clause-range : goal.remove_in-owner-requires-clause-range
+remove_in-owner-requires-clause-range c =
     let named = read_location c.args.self.now.locations.items c.args.position c.index-word.result.now _ c.requires.range c.index-word.ensures (sym c.get.ensures.value ∙ c.in-In.is) in
     ((c.requires.rows.matched c.in-In.width).named _ _ named).0
 
@@ -17,7 +18,10 @@ pub new-requires : goal.new-requires
 new-requires c =
     let named = read_location c.args.self.now.locations.items c.args.position c.index-word.result.now _ c.requires.range c.index-word.ensures (sym c.get.ensures.value ∙ c.in-In.is) in
     let matched = c.requires.rows.matched c.in-In.width in
-    omega (arith, (matched.named _ _ named).0, no_more c.in-In.width _ _ matched, c.requires.rows.few)
+    let there = (matched.named _ _ named).0 in (
+      few_widths c.args.self.now c.requires.room c.in-In.width.step c.in-In.at there,
+      omega (arith, there, no_more c.in-In.width _ _ matched, c.requires.rows.few),
+    )
 
 -- the last row took the gap, and its position was told
 pub returns-in-In : goal.returns-in-In
@@ -42,7 +46,8 @@ returns-in-In c =
       values = left.values;
       vacant = get_or-set_same (set after.locations.items owner c.new.result) p c.new-in-In.result Vacant told ∙ c.new-in-In.ensures;
       many = search rules;
-      room = search rules;
+      room = roomy_as after _ refl refl refl refl (omega (arith, length-set (set after.locations.items owner c.new.result) p c.new-in-In.result, length-set after.locations.items owner c.new.result, c.remove_in-owner.ensures.room.inside)) c.remove_in-owner.ensures.room;
+      same = c.remove_in-owner.ensures.same;
     }
 
 -- the strings of a vacant position are empty already

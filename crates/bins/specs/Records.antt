@@ -1,0 +1,7 @@
+-- What an index keeps of each position, in their order.
+use Rattle.std.specs.Prelude.{ℕ, List}
+
+-- the hash of each position, and the next of each in its chain
+pub record Recorded : Type 0 where
+  pub hashes : List ℕ
+  pub nexts : List ℕ

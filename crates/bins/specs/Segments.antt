@@ -1,0 +1,79 @@
+-- The rows of one width in segments.
+use Rattle.std.specs.Prelude.{◌≡◌, ℕ, ◌+◌, ◌-◌, ◌*◌, ◌/◌, ◌^◌, ◌<◌, ◌≤◌, ◌⊎◌, List, [], length, map, take, drop, slice_index_or}
+use Rattle.std.specs.List.{range_with_len}
+use Rattle.bins.specs.declared.row.TheConstants.{HEAD_BYTES}
+use Rattle.bins.specs.declared.segment.TheConstants.{SEGMENT_BYTES}
+use Rattle.bins.specs.KeptRows.{HoldsRow, KeptRow, row_in}
+
+-- the rows of a width, the most bytes that a key and its value have in one, how many segments they lie in, and how many rows
+-- the list of these has room for
+pub record KeptWidth : Type 0 where
+  pub rows : List KeptRow
+  pub most : ℕ
+  pub segments : ℕ
+  pub limit : ℕ
+
+-- that of no rows
+abbrev pub no_width : KeptWidth
+no_width = record { rows = []; most = 0; segments = 0; limit = 0 }
+
+-- the bytes of a row, where a segment has so many rows of so many bytes
+abbrev pub slot : List (List ℕ) → ℕ → ℕ → ℕ → List ℕ
+slot segments each stride i = take stride (drop ((i - i / each * each) * stride) (slice_index_or segments (i / each) []))
+
+-- the first rows
+abbrev pub rows_from : List (List ℕ) → ℕ → ℕ → ℕ → List KeptRow
+rows_from segments each stride many = map (λ i. row_in (slot segments each stride i)) (range_with_len 0 many)
+
+-- a row lies in a slot
+pub record HoldsSlot (bytes : List ℕ) (stride : ℕ) : Type 0 where
+  pub holds : HoldsRow bytes
+  pub wide : length bytes ≡ stride
+
+-- and in each of them
+abbrev pub HoldRows : List (List ℕ) → ℕ → ℕ → ℕ → Type 0
+HoldRows segments each stride many = (i : ℕ) → i < many → HoldsSlot (slot segments each stride i) stride
+
+-- so many bytes from a place on
+abbrev pub part : List ℕ → ℕ → ℕ → List ℕ
+part bytes start many = take many (drop start bytes)
+
+-- bytes beside a part are as they were
+abbrev pub KeepsOthers : ℕ → ℕ → List ℕ → List ℕ → Type 0
+KeepsOthers start stride old new = (at many : ℕ) → length (part old at many) ≡ many → (at + many ≤ start) ⊎ (start + stride ≤ at) → part new at many ≡ part old at many
+
+-- all bytes that there were are as they were
+abbrev pub KeepsAll : List ℕ → List ℕ → Type 0
+KeepsAll old new = (at many : ℕ) → length (part old at many) ≡ many → part new at many ≡ part old at many
+
+-- rows lie one after the other, and there is a row in the last segment
+pub record AreSegments (segments : List (List ℕ)) (shift most stride many : ℕ) : Type 0 where
+  pub stride_is : stride ≡ HEAD_BYTES + most
+  pub small : 8 ≤ shift
+  pub bounded : shift < 64
+  pub shape : 2 ^ shift * stride ≤ SEGMENT_BYTES
+  pub enough : many ≤ length segments * 2 ^ shift
+  pub needed : length segments * 2 ^ shift < many + 2 ^ shift
+  pub rows : HoldRows segments (2 ^ shift) stride many
+
+-- a segment holds 256 rows or more, but for the last, which holds one or more
+pub record AreFew (width : KeptWidth) : Type 0 where
+  pub each : width.segments * 256 < length width.rows + 256
+
+-- only the rows may differ
+pub record IsSameBut (old new : KeptWidth) : Type 0 where
+  pub most : new.most ≡ old.most
+  pub segments : new.segments ≡ old.segments
+  pub limit : new.limit ≡ old.limit
+
+-- there is a segment for one more row, and the rows are as before
+pub record IsOpened (old new : List (List ℕ)) (each many : ℕ) : Type 0 where
+  pub room : many < length new * each
+  pub needed : length new * each ≤ many + each
+  pub slots : (stride i : ℕ) → i < many → slot new each stride i ≡ slot old each stride i
+
+-- no segment is there for nothing, and the rows are as before
+pub record IsClosed (old new : List (List ℕ)) (each many : ℕ) : Type 0 where
+  pub enough : many ≤ length new * each
+  pub needed : length new * each < many + each
+  pub slots : (stride i : ℕ) → i < many → slot new each stride i ≡ slot old each stride i

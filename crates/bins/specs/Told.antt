@@ -1,0 +1,12 @@
+-- The size that is told of an index. What number of bins is told is our profile.
+use Rattle.std.specs.Prelude.{ℕ, ◌≤◌}
+use Rattle.std.specs.Int.{IsPowerOfTwo}
+use Rattle.bins.specs.declared.told_size.TheConstants.{FIRST_BINS, MOST_BINS}
+
+-- there may be so many bins
+abbrev pub IsBinCount : ℕ → Type 0
+IsBinCount bins = IsPowerOfTwo bins × (FIRST_BINS ≤ bins) × (bins ≤ MOST_BINS)
+
+pub record ToldNumbers : Type 0 where
+  pub bins : ℕ
+  pub stripes : ℕ

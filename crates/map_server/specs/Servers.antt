@@ -1,0 +1,22 @@
+-- What `mapd` serves, as its words ask for it.
+use Rattle.std.specs.Prelude.{◌≡◌, ℕ, List, All, map, vec_len}
+use Rattle.stripe_rule.specs.Rule.{from_on}
+use Rattle.bin_stripes.specs.Passes.{stripes_of}
+use Rattle.crews.specs.declared.crew.Crew.{Crew}
+use Rattle.map_server.specs.declared.server.Server.{Server}
+use Rattle.map_server.specs.declared.words.MapdWords.{MapdWords}
+
+-- so many crews, whose workers are numbered from 0 on, each with a team of so many
+pub record AreAsked (workers team : ℕ) (crews : List Crew) : Type 0 where
+  pub numbered : map (λ crew. crew.worker) crews ≡ from_on 0 workers
+  pub teams : All (λ crew. vec_len crew.team.passes ≡ team) crews
+
+-- the map has the stripes that are asked for; the crews are those that are asked for; and each of them may serve as many
+-- sessions as are asked for, within the limits that are
+pub record IsAsked (asked : MapdWords) (server : Server) : Type 0 where
+  pub stripes : stripes_of server.map ≡ asked.stripes
+  pub crews : AreAsked asked.workers asked.team server.crews.items
+  pub workers : vec_len server.quotas.begun ≡ asked.workers
+  pub sessions : server.quotas.most ≡ asked.sessions
+  pub clients : server.limits.clients ≡ asked.clients
+  pub idle : server.limits.idle ≡ asked.idle

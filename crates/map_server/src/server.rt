@@ -1,0 +1,32 @@
+//! What `mapd` serves, and how serving ended.
+ghost use Rattle.std.specs.Prelude.{All};
+ghost use Rattle.crews.specs.Crews.{IsCrewOf};
+
+use crate::accept::Quotas;
+use crate::arrivals::Limits;
+use bin_stripes::StripedMap;
+use bpf_model::NoMemory;
+use crews::Crew;
+use program_registry::Registry;
+
+/// What is served, who serves it, how often, and to how many.
+#[derive(Drop)]
+pub struct Server {
+    pub map: StripedMap,
+    pub registry: Registry,
+    pub crews: Vec<Crew>,
+    pub quotas: Quotas,
+    pub limits: Limits,
+    ghost serve: { All (λ crew. IsCrewOf map crew) crews.items },
+}
+
+/// How serving ended.
+#[derive(Drop)]
+pub struct Served {
+    /// The crews; or `NoMemory` if a request for the lists of workers was refused.
+    pub crews: Result<Vec<Crew>, NoMemory>,
+    /// How many clients were handed out.
+    pub streams: u64,
+    /// An accept failed.
+    pub has_failed: bool,
+}

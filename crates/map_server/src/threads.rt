@@ -1,0 +1,59 @@
+//! How many workers run at once.
+ghost use Rattle.std.specs.Prelude.{◌≤◌};
+
+use crate::telling::Telling;
+use devices::Sink;
+use std::alloc::{AllocError, Global};
+use std::sync::{Mutex, Wait};
+use std::thread;
+use std::thread::Threads;
+
+/// How many of so many threads the system makes at once. Each waits until all have been asked for, and ends.
+fn threads_made<H: Threads + Wait + Sync>(rt: &H, wanted: u64) -> u64 {
+    let gate = Mutex::new(());
+    let gate = &gate;
+    thread::scope(thread::scope_env(), rt, |scope| {
+        let held = gate.lock(rt);
+        let mut made = 0u64;
+        for _ in 0..wanted {
+            if scope.spawn(move || drop(gate.lock(rt))).is_err() {
+                break;
+            }
+            made = made.saturating_add(1);
+        }
+        drop(held);
+        made
+    })
+}
+
+/// How many of so many workers can run at once: one takes the calling thread if no further one can be made.
+fn running_workers<H: Threads + Wait + Sync>(rt: &H, workers: u64) -> u64
+    ensures { result ≤ workers }
+{
+    if workers < 2 {
+        return workers;
+    }
+    threads_made(rt, workers).saturating_add(1).min(workers)
+}
+
+/// The line that tells how many workers run.
+fn running_line(alloc: Global, running: u64, workers: u64) -> Result<String, AllocError> {
+    format!(in alloc; "{running} of {workers} workers run: no further thread could be made\n")
+}
+
+/// Tells standard error if not all of the workers can run at once. The others begin when one has ended.
+pub fn tell_running<H: Threads + Wait + Sync, E: Sink>(
+    rt: &H,
+    alloc: Global,
+    workers: u64,
+    errors: &mut Telling<'_, E>,
+) {
+    let running = running_workers(rt, workers);
+    if running == workers {
+        return;
+    }
+    match running_line(alloc, running, workers) {
+        Ok(line) => errors.tell(line.as_bytes()),
+        Err(_) => errors.tell(b"not all workers run\n"),
+    }
+}
