@@ -194,13 +194,13 @@ pub fn attend<
     P: Clients<C>,
     G: Gate + Sync,
 >(
-    rt: &H,
+    rt: &'a H,
     alloc: Global,
     clients: &mut P,
     map: &'a StripedMap,
     registry: &'a Registry,
     crew: Crew,
-    gate: &G,
+    gate: &'a G,
 ) -> Crew
     requires { IsCrewOf map.now crew }
     ensures life { (turns : List Turn) × (came : ℕ)
@@ -241,7 +241,9 @@ pub fn attend<
     };
     attendant.attend_all(&worker, clients);
     attendant.drop_all(clients);
-    let Serving { pass, team, .. } = attendant.room.serving;
+    let Attendant { room, .. } = attendant;
+    let Room { serving, .. } = room;
+    let Serving { pass, team, .. } = serving;
     let Ok(team) = Team::new(team) else {
         unreachable!()
     };
