@@ -2,6 +2,7 @@
 use Rattle.std.proofs.Common.{◌≡◌, ◌≢◌, ◌==◌, if◌then◌else◌, ℕ, ◌<◌, ◌≤◌, List, [], ◌∷◌, ◌++◌, length, map, Bool, true, false, Option, Some, None, flat_map, refl, sym, ap, subst, ◌∙◌, append-nil, append_assoc, eq-eqb, ne_eqb, inl, inr}
 use Rattle.std.proofs.lemmas.List.{map-append}
 use Rattle.std.proofs.lemmas.List.Concat.{flat_map-append}
+use Rattle.bin_stripes.specs.Passes.{PassState}
 use Rattle.client_protocol.specs.Frames.{Held}
 use Rattle.program_registry.specs.declared.registry.ProgramToken.{ProgramToken}
 use Rattle.sessions.specs.Conversations.{AnswersPiece, Exchange, Converses}
@@ -26,6 +27,12 @@ numbers_stay a = record { map_is = refl; pass = refl; team = refl }
 
 pub numbers_go_on : (a b c : Known) → KeepsNumbers a b → KeepsNumbers b c → KeepsNumbers a c
 numbers_go_on a b c one more = record { map_is = more.map_is ∙ one.map_is; pass = more.pass ∙ one.pass; team = more.team ∙ one.team }
+
+abbrev known_of : PassState → List PassState → Known
+known_of pass team = record { pass = pass; team = team }
+
+pub known_same : (a b : Known) → a.pass ≡ b.pass → a.team ≡ b.team → a ≡ b
+known_same a b pass team = ap (λ (p : PassState). known_of p a.team) pass ∙ ap (λ (t : List PassState). known_of b.pass t) team
 
 -- ---- the turns of one client
 

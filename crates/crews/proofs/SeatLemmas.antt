@@ -262,6 +262,9 @@ module _ {C : Type 0} (state : C → ChannelState) (gave : C → Type 0) where
     nothing : (i : ℕ) → get seats i ≡ None
     nothing i = ap (λ (slots : List (Option (Client C))). slice_index_or slots i None) empty
 
+  pub begins : (start first : Known) → start ≡ first → (seats : Slab (Client C)) → seats.slots ≡ [] → IsAttended state gave start [] first 0 seats
+  begins start first same seats empty = subst (λ (k : Known). IsAttended state gave start [] k 0 seats) same (none_came start seats empty)
+
   -- no turn, and turns after turns
   pub no_more : (old : Known) (turns : List Turn) (new : Known) (n : ℕ) (seats : Slab (Client C)) → IsAttended state gave old turns new n seats
       → (more : List Turn) × IsAttended state gave old (turns ++ more) new n seats

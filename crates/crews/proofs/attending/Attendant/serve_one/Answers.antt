@@ -3,13 +3,13 @@ use Rattle.crews.specs.Lives.{known}
 use Rattle.crews.proofs.SeatLemmas.{client_in, client_unfailed, has_turn, no_more, seat_left}
 use Rattle.crews.proofs.attending.Attendant.serve_one.Goals as goal
 
-pub turn-standing-requires : goal.turn-standing-requires
-turn-standing-requires g c =
+pub turn-standing-requires-clause-unfailed : goal.turn-standing-requires-clause-unfailed
+turn-standing-requires-clause-unfailed g c κs within =
     let state = g.C.Channel.state in
     let gave = g.P.Clients.gave in
     let s = c.args.self.now in
     let (old, turns, attended) = c.requires.attended in
-    record { unfailed = client_unfailed state gave turns s.came c.in-Some.client (client_in state gave old turns (known s.room.serving) s.came s.seats c.args.seat c.in-Some.client attended c.in-Some.ensures.value) }
+    client_unfailed state gave turns s.came c.in-Some.client (client_in state gave old turns (known s.room.serving) s.came s.seats c.args.seat c.in-Some.client attended c.in-Some.ensures.value)
 
 pub go_on-requires-clause-client : goal.go_on-requires-clause-client
 go_on-requires-clause-client g c =
