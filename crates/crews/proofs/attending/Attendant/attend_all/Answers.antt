@@ -32,7 +32,7 @@ loop-preserved-in-Ready g c old turns attended =
     let s = c.serve_one.new.self in
     and_more g.C.Channel.state g.P.Clients.gave old turns more last (known s.room.serving) s.came s.seats then
 
-pub loop-preserved-in-LetGo : goal.loop-preserved-in-LetGo
-loop-preserved-in-LetGo g c old turns attended =
+pub loop-preserved : goal.loop-preserved
+loop-preserved g c old turns attended =
     let (more, now) = c.loop.invariant old turns attended in
     (more, c.let_go.ensures old (turns ++ more) now)
