@@ -74,9 +74,15 @@ module _ {C : Type 0} (state : C → ChannelState) (gave : C → Type 0) where
       → Seated state gave (turns ++ turns_of k xs) n seats
   seated_on turns n k xs seats seated none = record {
     stands = λ i client is.
-        let (low, (came, given, stands)) = seated.stands i client is in
-        (low, (came, given, subst (λ (es : List (Exchange Station)). Stands state came client.channel es client.tokens client.feeder client.owed client.leaving)
-            (sym (exchanges_stay k client.number turns xs (λ same. none i client is (sym same)))) stands));
+        let (low, (came, given, stands)) = seated.stands i client is in (
+          low,
+          (
+            came,
+            given,
+            subst (λ (es : List (Exchange Station)). Stands state came client.channel es client.tokens client.feeder client.owed client.leaving)
+                (sym (exchanges_stay k client.number turns xs (λ same. none i client is (sym same)))) stands,
+          ),
+        );
     apart = seated.apart;
   }
 
@@ -173,8 +179,7 @@ module _ {C : Type 0} (state : C → ChannelState) (gave : C → Type 0) where
       let t = goes came (exchanges_of k turns) stands in
       let none : HasNone state gave out k = none_left turns n seats out seat was seated (sym here) updates in
       let more = turns_of k t.more in
-      let grown = subst (λ (es : List (Exchange Station)). Stands state came is.channel es is.tokens is.feeder is.owed is.leaving) (sym (exchanges_grow k turns t.more)) t.stands in
-      (
+      let grown = subst (λ (es : List (Exchange Station)). Stands state came is.channel es is.tokens is.feeder is.owed is.leaving) (sym (exchanges_grow k turns t.more)) t.stands in (
         more,
         (
           lives_on old turns mid new n k came is.channel is.tokens is.feeder is.owed is.leaving life low given t,
@@ -193,16 +198,18 @@ module _ {C : Type 0} (state : C → ChannelState) (gave : C → Type 0) where
       → room ≡ record seats { capacity = room.capacity } → Updates room after seat (Some client)
       → IsAttended state gave old turns new n seats → IsAttended state gave old turns new (n + 1) after
   one_comes old turns new n seats room after seat came now client given same is grown updates (life, seated) = (
-      one_more_lives old turns new n came now life given same,
-      takes_seat turns (n + 1) seats after seat client (more_seated turns n seats seated) none stands (record {
-        changed = updates.changed;
-        others = λ other differ. updates.others other differ ∙ ap (λ (s : Slab (Client C)). get s other) grown;
-      }),
-    ) where
+    one_more_lives old turns new n came now life given same,
+    takes_seat turns (n + 1) seats after seat client (more_seated turns n seats seated) none stands (record {
+      changed = updates.changed;
+      others = λ other differ. updates.others other differ ∙ ap (λ (s : Slab (Client C)). get s other) grown;
+    }),
+  ) where
     none : HasNone state gave seats client.number
     none = subst (λ (c : Client C). HasNone state gave seats c.number) (sym is) (none_yet turns n seats seated)
+
     first : Stands state came now (exchanges_of n turns) [] (open_at None []) (record { rest = []; failures = 0 }) None
     first = subst (λ (es : List (Exchange Station)). Stands state came now es [] (open_at None []) (record { rest = []; failures = 0 }) None) (sym (life.no_other n (omega arith))) (new_stands came now same)
+
     stands : IsClient state gave turns (n + 1) client
     stands = subst (λ (c : Client C). IsClient state gave turns (n + 1) c) (sym is) (omega arith, (came, given, first))
 
@@ -243,22 +250,25 @@ module _ {C : Type 0} (state : C → ChannelState) (gave : C → Type 0) where
   -- there is more room
   pub room_made : (old : Known) (turns : List Turn) (new : Known) (n : ℕ) (seats room : Slab (Client C)) → room ≡ record seats { capacity = room.capacity }
       → IsAttended state gave old turns new n seats → IsAttended state gave old turns new n room
-  room_made old turns new n seats room grown (life, seated) = (life, record {
+  room_made old turns new n seats room grown (life, seated) = (
+    life,
+    record {
       stands = λ i client is. seated.stands i client (before i ∙ is);
       apart = λ i j client more is also same. seated.apart i j client more (before i ∙ is) (before j ∙ also) same;
-    }) where
+    },
+  ) where
     before : (i : ℕ) → get seats i ≡ get room i
     before i = sym (ap (λ (s : Slab (Client C)). get s i) grown)
 
   -- nobody came yet
   pub none_came : (start : Known) (seats : Slab (Client C)) → seats.slots ≡ [] → IsAttended state gave start [] start 0 seats
   none_came start seats empty = (
-      record { moves = refl; each = λ i below. absurd (omega (arith, below)); no_other = λ i above. refl; numbers = numbers_stay start },
-      record {
-        stands = λ i client is. absurd (none_some (get seats i) client (nothing i) is);
-        apart = λ i j client more is also same. absurd (none_some (get seats i) client (nothing i) is);
-      },
-    ) where
+    record { moves = refl; each = λ i below. absurd (omega (arith, below)); no_other = λ i above. refl; numbers = numbers_stay start },
+    record {
+      stands = λ i client is. absurd (none_some (get seats i) client (nothing i) is);
+      apart = λ i j client more is also same. absurd (none_some (get seats i) client (nothing i) is);
+    },
+  ) where
     nothing : (i : ℕ) → get seats i ≡ None
     nothing i = ap (λ (slots : List (Option (Client C))). slice_index_or slots i None) empty
 

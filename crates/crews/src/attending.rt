@@ -187,13 +187,7 @@ impl<'a, C: Channel + Drop> Attendant<'a, C> {
 /// in each of its turns, and answered by the crew with the tokens of that client. Gives the crew back. What moved it is the turns of
 /// the clients alone, in one chain. Each client's turns are one conversation, as `session` has it: its requests are those that it sent,
 /// in order, each answered once, and what is written to it are their answers. Waits as `clients` does, and for stripes that others hold.
-pub fn attend<
-    'a,
-    H: Threads + Wait + Sync,
-    C: Channel + Drop,
-    P: Clients<C>,
-    G: Gate + Sync,
->(
+pub fn attend<'a, H: Threads + Wait + Sync, C: Channel + Drop, P: Clients<C>, G: Gate + Sync>(
     rt: &'a H,
     alloc: Global,
     clients: &mut P,

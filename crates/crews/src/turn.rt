@@ -90,8 +90,14 @@ fn parting_of(leaving: Option<Parting>, owed: usize) -> Parting
 impl<'a, C: Channel> Client<'a, C> {
     /// A client that came with this connection. Takes no memory.
     pub fn new(alloc: Global, number: u64, registry: &'a Registry, channel: C) -> Client<'a, C>
-        ensures { result ≡ record { number = number; channel = channel; feeder = open_at None []; tokens = [];
-            owed = record { rest = []; failures = 0 }; leaving = None } }
+        ensures { result ≡ record {
+          number = number;
+          channel = channel;
+          feeder = open_at None [];
+          tokens = [];
+          owed = record { rest = []; failures = 0 };
+          leaving = None;
+        } }
     {
         Client {
             number,

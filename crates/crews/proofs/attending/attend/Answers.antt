@@ -36,9 +36,12 @@ returns-clause-life g c =
     let begun = begins state gave start (record { pass = crew.pass; team = c.into_passes.result.items }) (known_same start (record { pass = crew.pass; team = c.into_passes.result.items }) refl (sym (ap (λ ps. ps.items) c.into_passes.ensures))) c.new-3.result c.new-3.ensures.empty in
     let (more, now) = c.attend_all.ensures start [] begun in
     let (life, seated) = c.drop_all.ensures start more now in
-    let end = c.drop_all.new.self in
-    (more, end.came, subst (λ (k : Known). Life state gave start more k end.came) (sym (known_same (record { pass = c.serving.inside.pass; team = c.in-Ok.team.passes.items }) (known end.room.serving)
-        (ap (λ (t : Station). t.pass) c.serving.view_is) (ap (λ ps. ps.items) c.in-Ok.ensures.team ∙ ap (λ (t : Station). t.team) c.serving.view_is))) life)
+    let end = c.drop_all.new.self in (
+      more,
+      end.came,
+      subst (λ (k : Known). Life state gave start more k end.came) (sym (known_same (record { pass = c.serving.inside.pass; team = c.in-Ok.team.passes.items }) (known end.room.serving)
+          (ap (λ (t : Station). t.pass) c.serving.view_is) (ap (λ ps. ps.items) c.in-Ok.ensures.team ∙ ap (λ (t : Station). t.team) c.serving.view_is))) life,
+    )
 
 pub returns-clause-crew : goal.returns-clause-crew
 returns-clause-crew g c =

@@ -15,9 +15,11 @@ go_on-requires-clause-client g c =
     let state = g.C.Channel.state in
     let gave = g.P.Clients.gave in
     let s = c.args.self.now in
-    let (old, turns, attended) = c.requires.attended in
-    (turns, client_still state gave turns s.came c.in-Some.client c.let_go.new.self c.let_go.ensures.number c.let_go.ensures.stands
-        (client_in state gave old turns (known s.room.serving) s.came s.seats c.args.seat c.in-Some.client attended c.in-Some.ensures.value))
+    let (old, turns, attended) = c.requires.attended in (
+      turns,
+      client_still state gave turns s.came c.in-Some.client c.let_go.new.self c.let_go.ensures.number c.let_go.ensures.stands
+          (client_in state gave old turns (known s.room.serving) s.came s.seats c.args.seat c.in-Some.client attended c.in-Some.ensures.value),
+    )
 
 pub returns-then-is_some : goal.returns-then-is_some
 returns-then-is_some g c old turns attended =

@@ -17,7 +17,7 @@ go_on-requires-clause-client g c =
     let t = c.turn-standing.new in
     let (old, turns, attended) = c.requires.attended in
     let (more, out, none, is) = has_turn g.C.Channel.state g.P.Clients.gave old turns (known s.room.serving) (known t.room.serving) s.came s.seats c.try_remove.new.self c.args.seat c.in-Some.client t.self
-        c.in-Some.ensures.value c.in-Some.ensures.updates c.turn-standing.ensures.number c.turn-standing.ensures.turns attended in
+    c.in-Some.ensures.value c.in-Some.ensures.updates c.turn-standing.ensures.number c.turn-standing.ensures.turns attended in
     (turns ++ more, is)
 
 pub returns-in_default : goal.returns-in_default
@@ -30,5 +30,5 @@ returns g c old turns attended =
     let s = c.args.self.now in
     let t = c.turn-standing.new in
     let (more, out, none, is) = has_turn g.C.Channel.state g.P.Clients.gave old turns (known s.room.serving) (known t.room.serving) s.came s.seats c.try_remove.new.self c.args.seat c.in-Some.client t.self
-        c.in-Some.ensures.value c.in-Some.ensures.updates c.turn-standing.ensures.number c.turn-standing.ensures.turns attended in
+    c.in-Some.ensures.value c.in-Some.ensures.updates c.turn-standing.ensures.number c.turn-standing.ensures.turns attended in
     (more, c.go_on.ensures old (turns ++ more) out none is)
