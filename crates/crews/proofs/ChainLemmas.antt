@@ -18,7 +18,7 @@ module _ {S X : Type 0} (Answers : Option Version → S → Request → List Res
     (stays : (s : S) → Leads s [] s) (goes_on : (a b c : S) (xs ys : List X) → Leads a xs b → Leads b ys c → Leads a (xs ++ ys) c)
     (step : (hello : Option Version) (old : S) (request : Request) (responses : List Response) (new : S) (one : Answers hello old request responses new)
     → Leads old (of_step hello old request responses new one) new) where
-  order : (hello : Option Version) (old new : S) (responses : List Response) (requests : List Request) (chain : AnswersInOrder Answers hello old requests responses new)
+  pub order : (hello : Option Version) (old new : S) (responses : List Response) (requests : List Request) (chain : AnswersInOrder Answers hello old requests responses new)
       → Leads old (in_order Answers of_step hello old new responses requests chain) new
   order hello old new responses [] (none, is) = subst (λ (s : S). Leads old [] s) (sym is) (stays old)
   order hello old new responses (request ∷ requests) (first, later, next, one, more, is) =

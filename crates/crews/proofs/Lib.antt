@@ -5,3 +5,6 @@ pub mod StepLemmas
 pub mod SharedLemmas
 pub mod ServeLemmas
 pub mod TokenLemmas
+pub mod LifeLemmas
+pub mod SeatLemmas
+pub mod TurnLemmas

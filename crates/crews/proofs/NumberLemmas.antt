@@ -13,11 +13,14 @@ use Rattle.client_protocol.specs.declared.response.Response.{Response}
 use Rattle.client_protocol.specs.declared.response.Response.TheVariants as tell
 use Rattle.sessions.specs.Asking.{Asked, asked, greeting, registration, call, walk, replacement, count, unknown, response_to, AnswersOnce}
 use Rattle.sessions.specs.declared.session.SessionEnd.{SessionEnd}
+use Rattle.client_protocol.specs.Frames.{Held, held_hello}
+use Rattle.sessions.specs.Answering.{hello_behind, AnswersInOrder}
+use Rattle.sessions.specs.Conversations.{AnswersPiece, BreaksPiece}
 use Rattle.sessions.specs.Sessions.{Ended}
 use Rattle.crews.specs.Crews.{team_numbers}
 use Rattle.crews.specs.Stations.{Station}
 use Rattle.crews.specs.Steps.{IsToldBy, Pairwise, HearsEach, TeamWalks, CrewMeets, CrewServes}
-use Rattle.crews.proofs.ChainLemmas.{session_leads}
+use Rattle.crews.proofs.ChainLemmas.{order, session_leads}
 
 no_numbers : List ℕ
 no_numbers = []
@@ -105,3 +108,16 @@ step hello old request responses new serves = meets hello old (asked (λ _. serv
 pub ended_same : (old : Station) (end : SessionEnd) (read : List ℕ) (last : ℕ) (written : List ℕ) (new : Station) → Ended CrewServes old end read last written new → SameNumbers old new
 ended_same old end read last written new ended =
     session_leads CrewServes (λ _ _ _ _ _ _. no_numbers) (λ a _ b. SameNumbers a b) stays (λ a b c _ _ one more. goes_on a b c one more) step old new read written last end ended
+
+in_order_same : (hello : Option Version) (old new : Station) (responses : List Response) (requests : List Request) → AnswersInOrder CrewServes hello old requests responses new → SameNumbers old new
+in_order_same hello old new responses requests chain =
+    order CrewServes (λ _ _ _ _ _ _. no_numbers) (λ a _ b. SameNumbers a b) stays (λ a b c _ _ one more. goes_on a b c one more) step hello old new responses requests chain
+
+-- nor do they change in an exchange
+pub piece_same : (held next : Held) (old new : Station) (piece written : List ℕ) → AnswersPiece CrewServes held old piece written next new → SameNumbers old new
+piece_same held next old new piece written (requests, feeds, (responses, chain, is)) = in_order_same (held_hello held) old new responses requests chain
+
+pub broken_same : (held next : Held) (old new : Station) (piece written : List ℕ) → BreaksPiece CrewServes held old piece written next new → SameNumbers old new
+broken_same held next old new piece written (requests, feeds, b) =
+    goes_on old b.mid new (in_order_same (held_hello held) old b.mid b.answered.0 b.done b.answered.1)
+    (step (hello_behind (held_hello held) b.done) b.mid b.request b.responses new b.made)

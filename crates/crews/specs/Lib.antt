@@ -3,4 +3,8 @@ pub mod Steps
 pub mod Crews
 pub mod Served
 pub mod Collected
+pub mod Partings
+pub mod Lives
+pub mod Turns
+pub mod Seats
 pub mod Shared

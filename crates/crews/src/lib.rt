@@ -6,16 +6,22 @@
 #![tactic(auto)]
 
 mod accept;
+mod attending;
 mod client;
+mod clients;
 mod crew;
 mod server;
 mod serving;
 mod shared;
 mod team;
+mod tokens;
+mod turn;
 mod worker;
 
 pub use accept::Accept;
+pub use attending::attend;
 pub use client::session;
+pub use clients::{Clients, Event, Parting, Standing};
 pub use crew::Crew;
 pub use server::serve;
 pub use shared::join_sessions;

@@ -11,6 +11,7 @@ ghost use Rattle.client_protocol.specs.declared.response.Response.TheVariants as
 ghost use Rattle.crews.specs.Steps.{IsLike, Agree, IsHeld, CrewMeets, Finds, CrewServes, AsksWithProgram, CrewAnswersRegister, IsRefusal};
 
 use crate::team::{heard, told};
+use crate::tokens::Tokens;
 use crate::worker::Worker;
 use atomic_methods::{WalkKind, WalkReply};
 use bin_stripes::{Gate, Pass, Place, StripedMap};
@@ -153,6 +154,15 @@ fn answer_of(reply: Result<WalkReply, NoMemory>) -> Answer
 }
 
 impl<'a> Serving<'a> {
+    /// Goes on with these tokens, and leaves there those that it had.
+    pub fn lend(&mut self, tokens: &mut Tokens<'a>)
+        ensures here { self.new ≡ record { pass = self.old.pass; team = self.old.team; tokens = tokens.old } }
+        ensures there { tokens.new ≡ self.old.tokens }
+    {
+        mem::swap(&mut self.registry, &mut tokens.registry);
+        mem::swap(&mut self.tokens, &mut tokens.items);
+    }
+
     /// Answers the number of the program that the bytes spell, which came after this Hello, and keeps its token, unless one of
     /// that number is there; the room for that comes first.
     #[tactic(auto, using(crate::proofs::TokenLemmas::answered_again, crate::proofs::TokenLemmas::register_refused))]

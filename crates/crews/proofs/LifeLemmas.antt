@@ -1,0 +1,82 @@
+-- Turns one after the other.
+use Rattle.std.proofs.Common.{◌≡◌, ◌≢◌, ◌==◌, if◌then◌else◌, ℕ, ◌<◌, ◌≤◌, List, [], ◌∷◌, ◌++◌, length, map, Bool, true, false, Option, Some, None, flat_map, refl, sym, ap, subst, ◌∙◌, append-nil, append_assoc, eq-eqb, ne_eqb, inl, inr}
+use Rattle.std.proofs.lemmas.List.{map-append}
+use Rattle.std.proofs.lemmas.List.Concat.{flat_map-append}
+use Rattle.bin_stripes.specs.Passes.{PassState}
+use Rattle.client_protocol.specs.Frames.{Held}
+use Rattle.program_registry.specs.declared.registry.ProgramToken.{ProgramToken}
+use Rattle.sessions.specs.Conversations.{AnswersPiece, Exchange, Converses}
+use Rattle.crews.specs.Stations.{Station}
+use Rattle.crews.specs.Steps.{CrewServes}
+use Rattle.crews.specs.Lives.{Known, known, Moves, KeepsTokens, KeepsNumbers, Turn, all_exchanges, exchanges_of}
+
+pub moves_on : (a b c : Known) (xs ys : List (Exchange Station)) → Moves a xs b → Moves b ys c → Moves a (xs ++ ys) c
+moves_on a b c [] ys one more = subst (λ (k : Known). Moves k ys c) one more
+moves_on a b c (x ∷ xs) ys (begins, one) more = (begins, moves_on (known x.new) b c xs ys one more)
+
+pub tokens_go_on : (a b c : List ProgramToken) (xs ys : List (Exchange Station)) → KeepsTokens a xs b → KeepsTokens b ys c → KeepsTokens a (xs ++ ys) c
+tokens_go_on a b c [] ys one more = subst (λ (k : List ProgramToken). KeepsTokens k ys c) one more
+tokens_go_on a b c (x ∷ xs) ys (begins, one) more = (begins, tokens_go_on x.new.tokens b c xs ys one more)
+
+pub converses_on : (a b c : Held) (xs ys : List (Exchange Station)) → Converses CrewServes a xs b → Converses CrewServes b ys c → Converses CrewServes a (xs ++ ys) c
+converses_on a b c [] ys one more = subst (λ (k : Held). Converses CrewServes k ys c) one more
+converses_on a b c (x ∷ xs) ys (mid, first, one) more = (mid, first, converses_on mid b c xs ys one more)
+
+pub numbers_stay : (a : Known) → KeepsNumbers a a
+numbers_stay a = record { map_is = refl; pass = refl; team = refl }
+
+pub numbers_go_on : (a b c : Known) → KeepsNumbers a b → KeepsNumbers b c → KeepsNumbers a c
+numbers_go_on a b c one more = record { map_is = more.map_is ∙ one.map_is; pass = more.pass ∙ one.pass; team = more.team ∙ one.team }
+
+abbrev known_of : PassState → List PassState → Known
+known_of pass team = record { pass = pass; team = team }
+
+pub known_same : (a b : Known) → a.pass ≡ b.pass → a.team ≡ b.team → a ≡ b
+known_same a b pass team = ap (λ (p : PassState). known_of p a.team) pass ∙ ap (λ (t : List PassState). known_of b.pass t) team
+
+-- ---- the turns of one client
+
+-- these exchanges are turns of this client
+abbrev pub turns_of : ℕ → List (Exchange Station) → List Turn
+turns_of client [] = []
+turns_of client (x ∷ xs) = record { client = client; exchange = x } ∷ turns_of client xs
+
+pub all_both : (xs ys : List Turn) → all_exchanges (xs ++ ys) ≡ all_exchanges xs ++ all_exchanges ys
+all_both xs ys = map-append (λ (turn : Turn). turn.exchange) xs ys
+
+pub all_of_turns : (client : ℕ) (xs : List (Exchange Station)) → all_exchanges (turns_of client xs) ≡ xs
+all_of_turns client [] = refl
+all_of_turns client (x ∷ xs) = ap (λ ys. x ∷ ys) (all_of_turns client xs)
+
+pub exchanges_both : (client : ℕ) (xs ys : List Turn) → exchanges_of client (xs ++ ys) ≡ exchanges_of client xs ++ exchanges_of client ys
+exchanges_both client [] ys = refl
+exchanges_both client (x ∷ xs) ys =
+    let one = if x.client == client then x.exchange ∷ [] else [] in
+    ap (λ (es : List (Exchange Station)). one ++ es) (exchanges_both client xs ys) ∙ sym (append_assoc one (exchanges_of client xs) (exchanges_of client ys))
+
+chosen : (b : Bool) (xs : List (Exchange Station)) → b ≡ true → (if b then xs else []) ≡ xs
+chosen b xs is = rw is refl
+
+not_chosen : (b : Bool) (xs : List (Exchange Station)) → b ≡ false → (if b then xs else []) ≡ []
+not_chosen b xs is = rw is refl
+
+own_turns : (client : ℕ) (xs : List (Exchange Station)) → exchanges_of client (turns_of client xs) ≡ xs
+own_turns client [] = refl
+own_turns client (x ∷ xs) =
+    let here = chosen (client == client) (x ∷ []) (eq-eqb client client refl) in
+    ap (λ (es : List (Exchange Station)). es ++ exchanges_of client (turns_of client xs)) here ∙ ap (λ (es : List (Exchange Station)). x ∷ es) (own_turns client xs)
+
+other_turns : (client other : ℕ) (xs : List (Exchange Station)) → client ≢ other → exchanges_of other (turns_of client xs) ≡ []
+other_turns client other [] differ = refl
+other_turns client other (x ∷ xs) differ =
+    let here = not_chosen (client == other) (x ∷ []) (ne_eqb client other differ) in
+    ap (λ (es : List (Exchange Station)). es ++ exchanges_of other (turns_of client xs)) here ∙ other_turns client other xs differ
+
+-- the client's exchanges are more by those
+pub exchanges_grow : (client : ℕ) (turns : List Turn) (xs : List (Exchange Station)) → exchanges_of client (turns ++ turns_of client xs) ≡ exchanges_of client turns ++ xs
+exchanges_grow client turns xs = exchanges_both client turns (turns_of client xs) ∙ ap (λ (es : List (Exchange Station)). exchanges_of client turns ++ es) (own_turns client xs)
+
+-- another's stay
+pub exchanges_stay : (client other : ℕ) (turns : List Turn) (xs : List (Exchange Station)) → client ≢ other → exchanges_of other (turns ++ turns_of client xs) ≡ exchanges_of other turns
+exchanges_stay client other turns xs differ =
+    exchanges_both other turns (turns_of client xs) ∙ ap (λ (es : List (Exchange Station)). exchanges_of other turns ++ es) (other_turns client other xs differ) ∙ append-nil (exchanges_of other turns)

@@ -1,0 +1,12 @@
+-- the life goes on by turns of the clients
+use Rattle.std.proofs.Common.{List, ◌++◌}
+use Rattle.crews.specs.Lives.{Known, known, Turn}
+use Rattle.crews.specs.Seats.{IsAttended}
+use Rattle.crews.proofs.attending.Attendant.attend_all.Given as goal
+
+abbrev pub invariant-loop : goal.invariant-loop
+invariant-loop g l =
+    (old : Known) (turns : List Turn)
+    → IsAttended g.C.Channel.state g.P.Clients.gave old turns (known l.fn.self.room.serving) l.fn.self.came l.fn.self.seats
+    → (more : List Turn)
+    × IsAttended g.C.Channel.state g.P.Clients.gave old (turns ++ more) (known l.self.room.serving) l.self.came l.self.seats

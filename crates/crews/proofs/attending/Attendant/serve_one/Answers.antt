@@ -1,0 +1,34 @@
+use Rattle.std.proofs.Common.{◌++◌}
+use Rattle.crews.specs.Lives.{known}
+use Rattle.crews.proofs.SeatLemmas.{client_in, client_unfailed, has_turn, no_more, seat_left}
+use Rattle.crews.proofs.attending.Attendant.serve_one.Goals as goal
+
+pub turn-standing-requires-clause-unfailed : goal.turn-standing-requires-clause-unfailed
+turn-standing-requires-clause-unfailed g c κs within =
+    let state = g.C.Channel.state in
+    let gave = g.P.Clients.gave in
+    let s = c.args.self.now in
+    let (old, turns, attended) = c.requires.attended in
+    client_unfailed state gave turns s.came c.in-Some.client (client_in state gave old turns (known s.room.serving) s.came s.seats c.args.seat c.in-Some.client attended c.in-Some.ensures.value)
+
+pub go_on-requires-clause-client : goal.go_on-requires-clause-client
+go_on-requires-clause-client g c =
+    let s = c.args.self.now in
+    let t = c.turn-standing.new in
+    let (old, turns, attended) = c.requires.attended in
+    let (more, out, none, is) = has_turn g.C.Channel.state g.P.Clients.gave old turns (known s.room.serving) (known t.room.serving) s.came s.seats c.try_remove.new.self c.args.seat c.in-Some.client t.self
+    c.in-Some.ensures.value c.in-Some.ensures.updates c.turn-standing.ensures.number c.turn-standing.ensures.turns attended in
+    (turns ++ more, is)
+
+pub returns-in_default : goal.returns-in_default
+returns-in_default g c old turns attended =
+    let s = c.args.self.now in
+    no_more g.C.Channel.state g.P.Clients.gave old turns (known s.room.serving) s.came c.try_remove.new.self (seat_left g.C.Channel.state g.P.Clients.gave old turns (known s.room.serving) s.came s.seats c.try_remove.new.self c.args.seat c.try_remove.ensures.updates attended)
+
+pub returns : goal.returns
+returns g c old turns attended =
+    let s = c.args.self.now in
+    let t = c.turn-standing.new in
+    let (more, out, none, is) = has_turn g.C.Channel.state g.P.Clients.gave old turns (known s.room.serving) (known t.room.serving) s.came s.seats c.try_remove.new.self c.args.seat c.in-Some.client t.self
+    c.in-Some.ensures.value c.in-Some.ensures.updates c.turn-standing.ensures.number c.turn-standing.ensures.turns attended in
+    (more, c.go_on.ensures old (turns ++ more) out none is)

@@ -1,0 +1,76 @@
+use Rattle.std.proofs.Common.{◌≡◌, ◌∙◌, [], refl, sym, ap, subst, All}
+use Rattle.atomic_table.specs.Seated.{TableId}
+use Rattle.bin_stripes.specs.declared.pass.Pass.{Pass}
+use Rattle.crews.specs.Crews.{station, team_numbers}
+use Rattle.crews.specs.Lives.{Known, known, Life}
+use Rattle.crews.specs.Stations.{Station}
+use Rattle.crews.proofs.LifeLemmas.{known_same}
+use Rattle.crews.proofs.SeatLemmas.{begins}
+use Rattle.crews.proofs.attending.attend.Goals as goal
+
+pub attend_all-requires-clause-attended : goal.attend_all-requires-clause-attended
+attend_all-requires-clause-attended g c κs within =
+    let state = g.C.Channel.state in
+    let gave = g.P.Clients.gave in
+    let crew = c.args.crew in
+    let start = known (station crew []) in
+    let begun = begins state gave start (record { pass = crew.pass; team = c.into_passes.result.items }) (known_same start (record { pass = crew.pass; team = c.into_passes.result.items }) refl (sym (ap (λ ps. ps.items) c.into_passes.ensures))) c.new-3.result c.new-3.ensures.empty in
+    (start, [], begun)
+
+pub drop_all-requires : goal.drop_all-requires
+drop_all-requires g c =
+    let state = g.C.Channel.state in
+    let gave = g.P.Clients.gave in
+    let crew = c.args.crew in
+    let start = known (station crew []) in
+    let begun = begins state gave start (record { pass = crew.pass; team = c.into_passes.result.items }) (known_same start (record { pass = crew.pass; team = c.into_passes.result.items }) refl (sym (ap (λ ps. ps.items) c.into_passes.ensures))) c.new-3.result c.new-3.ensures.empty in
+    let (more, now) = c.attend_all.ensures start [] begun in
+    record { attended = (start, more, now) }
+
+pub returns-clause-life : goal.returns-clause-life
+returns-clause-life g c =
+    let state = g.C.Channel.state in
+    let gave = g.P.Clients.gave in
+    let crew = c.args.crew in
+    let start = known (station crew []) in
+    let begun = begins state gave start (record { pass = crew.pass; team = c.into_passes.result.items }) (known_same start (record { pass = crew.pass; team = c.into_passes.result.items }) refl (sym (ap (λ ps. ps.items) c.into_passes.ensures))) c.new-3.result c.new-3.ensures.empty in
+    let (more, now) = c.attend_all.ensures start [] begun in
+    let (life, seated) = c.drop_all.ensures start more now in
+    let end = c.drop_all.new.self in (
+      more,
+      end.came,
+      subst (λ (k : Known). Life state gave start more k end.came) (sym (known_same (record { pass = c.serving.inside.pass; team = c.in-Ok.team.passes.items }) (known end.room.serving)
+          (ap (λ (t : Station). t.pass) c.serving.view_is) (ap (λ ps. ps.items) c.in-Ok.ensures.team ∙ ap (λ (t : Station). t.team) c.serving.view_is))) life,
+    )
+
+pub returns-clause-crew : goal.returns-clause-crew
+returns-clause-crew g c =
+    let state = g.C.Channel.state in
+    let gave = g.P.Clients.gave in
+    let crew = c.args.crew in
+    let start = known (station crew []) in
+    let begun = begins state gave start (record { pass = crew.pass; team = c.into_passes.result.items }) (known_same start (record { pass = crew.pass; team = c.into_passes.result.items }) refl (sym (ap (λ ps. ps.items) c.into_passes.ensures))) c.new-3.result c.new-3.ensures.empty in
+    let (more, now) = c.attend_all.ensures start [] begun in
+    let (life, seated) = c.drop_all.ensures start more now in
+    let pass = ap (λ (t : Station). t.pass.map) c.serving.view_is ∙ life.numbers.map_is ∙ c.requires.pass in
+    let here : c.serving.inside.map.now ≡ c.args.map.now = sym c.serving.invariant.0 ∙ pass in
+    record {
+      pass = pass;
+      team = subst (λ ps. All (λ (member : Pass). member.map ≡ c.args.map.now) ps.items) (sym c.in-Ok.ensures.team)
+          (subst (λ (id : TableId). All (λ (member : Pass). member.map ≡ id) c.serving.inside.team.items) here c.serving.invariant.1);
+    }
+
+pub returns-clause-same : goal.returns-clause-same
+returns-clause-same g c =
+    let state = g.C.Channel.state in
+    let gave = g.P.Clients.gave in
+    let crew = c.args.crew in
+    let start = known (station crew []) in
+    let begun = begins state gave start (record { pass = crew.pass; team = c.into_passes.result.items }) (known_same start (record { pass = crew.pass; team = c.into_passes.result.items }) refl (sym (ap (λ ps. ps.items) c.into_passes.ensures))) c.new-3.result c.new-3.ensures.empty in
+    let (more, now) = c.attend_all.ensures start [] begun in
+    let (life, seated) = c.drop_all.ensures start more now in
+    record {
+      worker = refl;
+      pass = ap (λ (t : Station). t.pass.view.numbers) c.serving.view_is ∙ life.numbers.pass;
+      team = ap (λ ps. team_numbers ps.items) c.in-Ok.ensures.team ∙ ap (λ (t : Station). team_numbers t.team) c.serving.view_is ∙ life.numbers.team;
+    }

@@ -1,0 +1,89 @@
+-- A worker's whole life: the turns of all its clients in one chain, and of each client what was read of it and written to it.
+use Rattle.std.specs.Prelude.{◌≡◌, ◌==◌, ℕ, ◌<◌, ◌≤◌, List, [], ◌∷◌, ◌++◌, map, Option, None, if◌then◌else◌}
+use Rattle.std.specs.Io.KnownBytes.{Appends, Consumes}
+use Rattle.bin_stripes.specs.Passes.{PassState}
+use Rattle.client_protocol.specs.Frames.{Held}
+use Rattle.program_registry.specs.declared.registry.ProgramToken.{ProgramToken}
+use Rattle.devices.specs.Channels.{ChannelState, OwedState}
+use Rattle.sessions.specs.Conversations.{Exchange}
+use Rattle.crews.specs.declared.clients.Parting.{Parting}
+use Rattle.crews.specs.Crews.{team_numbers}
+use Rattle.crews.specs.Stations.{Station}
+use Rattle.crews.specs.Partings.{PartsSo, SaysSo}
+
+-- what a crew's passes know
+pub record Known : Type 0 where
+  pub pass : PassState
+  pub team : List PassState
+
+abbrev pub known : Station → Known
+known station = record { pass = station.pass; team = station.team }
+
+-- the exchanges lead from what the passes knew to what they know, each from where the one before it ended; nothing else does
+abbrev pub Moves : Known → List (Exchange Station) → Known → Type 0
+Moves old [] new = new ≡ old
+Moves old (exchange ∷ exchanges) new = (known exchange.old ≡ old) × Moves (known exchange.new) exchanges new
+
+-- each exchange begins with the tokens that the one before it left
+abbrev pub KeepsTokens : List ProgramToken → List (Exchange Station) → List ProgramToken → Type 0
+KeepsTokens old [] new = new ≡ old
+KeepsTokens old (exchange ∷ exchanges) new = (exchange.old.tokens ≡ old) × KeepsTokens exchange.new.tokens exchanges new
+
+-- the passes carry the numbers that they carried, and are of the map that they were of
+pub record KeepsNumbers (old new : Known) : Type 0 where
+  pub map_is : new.pass.map ≡ old.pass.map
+  pub pass : new.pass.view.numbers ≡ old.pass.view.numbers
+  pub team : team_numbers new.team ≡ team_numbers old.team
+
+-- a turn: an exchange with the client of this number
+pub record Turn : Type 0 where
+  pub client : ℕ
+  pub exchange : Exchange Station
+
+-- the exchanges of all turns
+abbrev pub all_exchanges : List Turn → List (Exchange Station)
+all_exchanges turns = map (λ turn. turn.exchange) turns
+
+-- those with one client
+abbrev pub exchanges_of : ℕ → List Turn → List (Exchange Station)
+exchanges_of client [] = []
+exchanges_of client (turn ∷ turns) = (if turn.client == client then turn.exchange ∷ [] else []) ++ exchanges_of client turns
+
+-- over what connections tell
+module _ {C : Type 0} (state : C → ChannelState) where
+  -- a client that came with one connection: what was read of it is answered in these exchanges, each with the tokens of the one
+  -- before it, and what was written to it, with what is owed, are the answers
+  pub record Stands (came now : C) (exchanges : List (Exchange Station)) (tokens : List ProgramToken) (held : Held) (owed : OwedState) (leaving : Option Parting) : Type 0 where
+    pub read : List ℕ
+    pub written : List ℕ
+    pub consumed : Consumes (state came).left (state now).left read
+    pub appended : Appends (state came).held (state now).held written
+    pub keeps : KeepsTokens [] exchanges tokens
+    pub says : SaysSo leaving held exchanges read (written ++ owed.rest)
+    pub unfailed : leaving ≡ None → owed.failures ≡ 0
+
+-- and over which of them were given to the worker
+module _ {C : Type 0} (state : C → ChannelState) (gave : C → Type 0) where
+  -- a client that came with one connection left so, and this is its connection now
+  pub record HasParted (now : C) (parting : Parting) : Type 0 where
+    pub came : C
+    pub given : gave came
+    pub exchanges : List (Exchange Station)
+    pub read : List ℕ
+    pub written : List ℕ
+    pub consumed : Consumes (state came).left (state now).left read
+    pub appended : Appends (state came).held (state now).held written
+    pub parts : PartsSo parting exchanges read written
+
+  -- the exchanges are those of one client
+  abbrev pub IsOfClient : List (Exchange Station) → Type 0
+  IsOfClient exchanges =
+      (came : C) × (now : C) × (tokens : List ProgramToken) × (held : Held) × (owed : OwedState) × (leaving : Option Parting)
+      × gave came × Stands state came now exchanges tokens held owed leaving
+
+  -- the turns of so many clients lead from what the passes knew to what they know
+  pub record Life (old : Known) (turns : List Turn) (new : Known) (clients : ℕ) : Type 0 where
+    pub moves : Moves old (all_exchanges turns) new
+    pub each : (client : ℕ) → client < clients → IsOfClient (exchanges_of client turns)
+    pub no_other : (client : ℕ) → clients ≤ client → exchanges_of client turns ≡ []
+    pub numbers : KeepsNumbers old new

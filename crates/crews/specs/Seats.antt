@@ -1,0 +1,26 @@
+-- Where a worker's clients stand between their turns. No public contract cites this.
+use Rattle.std.specs.Prelude.{◌≡◌, ◌≢◌, ℕ, ◌<◌, List, Option, Some}
+use Rattle.slab.specs.Slab.{Slab, get}
+use Rattle.devices.specs.Channels.{ChannelState}
+use Rattle.crews.specs.declared.turn.Client.{Client}
+use Rattle.crews.specs.Lives.{Known, Turn, exchanges_of, Life, Stands}
+
+module _ {C : Type 0} (state : C → ChannelState) (gave : C → Type 0) where
+  -- this is how the client of these turns stands
+  abbrev pub IsClient : List Turn → ℕ → Client C → Type 0
+  IsClient turns clients client =
+      (client.number < clients)
+      × ((came : C) × gave came × Stands state came client.channel (exchanges_of client.number turns) client.tokens client.feeder client.owed client.leaving)
+
+  -- each seat has a client of the life, no two the same
+  pub record Seated (turns : List Turn) (clients : ℕ) (seats : Slab (Client C)) : Type 0 where
+    pub stands : (seat : ℕ) (client : Client C) → get seats seat ≡ Some client → IsClient turns clients client
+    pub apart : (seat other : ℕ) (client more : Client C) → get seats seat ≡ Some client → get seats other ≡ Some more → client.number ≡ more.number → seat ≡ other
+
+  -- none of them has this number
+  abbrev pub HasNone : Slab (Client C) → ℕ → Type 0
+  HasNone seats number = (seat : ℕ) (client : Client C) → get seats seat ≡ Some client → client.number ≢ number
+
+  -- the life so far, and its clients in their seats
+  abbrev pub IsAttended : Known → List Turn → Known → ℕ → Slab (Client C) → Type 0
+  IsAttended old turns new clients seats = Life state gave old turns new clients × Seated turns clients seats

@@ -1,0 +1,249 @@
+//! A worker's whole life, with any number of clients.
+ghost use Rattle.std.specs.Prelude.{◌≡◌, ◌++◌, ℕ, List, []};
+ghost use Rattle.slab.specs.Slab.{HasRoomFor};
+ghost use Rattle.crews.specs.Crews.{IsCrewOf, CarriesSame, station};
+ghost use Rattle.crews.specs.Lives.{Known, known, Turn, Life};
+ghost use Rattle.crews.specs.Seats.{HasNone, IsAttended, IsClient};
+
+use crate::clients::{Clients, Event, Parting, Standing};
+use crate::crew::Crew;
+use crate::serving::Serving;
+use crate::turn::{Client, PIECE_BYTES, Room};
+use crate::worker::Worker;
+use bin_stripes::{Gate, StripedMap};
+use bpf_model::NoMemory;
+use bulk_walks::Team;
+use client_protocol::ShortResponse;
+use devices::Channel;
+use program_registry::Registry;
+use sessions::Conversation;
+use slab::Slab;
+use std::alloc::Global;
+use std::sync::Wait;
+use std::thread::Threads;
+
+/// What a worker has at hand: the registry of programs, the room of all turns, the clients in their seats, and how many
+/// came.
+#[derive(Drop)]
+struct Attendant<'a, C> {
+    alloc: Global,
+    registry: &'a Registry,
+    room: Room<'a>,
+    seats: Slab<Client<'a, C>>,
+    came: u64,
+}
+
+/// A client that came can't be kept: it is told 9, as far as its connection takes that at once, and given up.
+fn turn_away<C: Channel, P: Clients<C>>(clients: &mut P, worker: u32, channel: C)
+    requires { (came : C) × P.gave came × (C.state channel ≡ C.state came) }
+{
+    let mut channel = channel;
+    let number = NoMemory::NUMBER;
+    let frame = ShortResponse::Refused { number, place: 0 }.frame();
+    let _ = channel.send(frame.as_slice());
+    clients.ended(worker, None, channel, Parting::NotKept);
+}
+
+impl<'a, C: Channel + Drop> Attendant<'a, C> {
+    /// A client came with this connection, and takes a seat.
+    fn take_in<P: Clients<C>>(&mut self, clients: &mut P, channel: C)
+        requires { P.gave channel }
+        ensures { (old : Known) (turns : List Turn)
+            → IsAttended C.state P.gave old turns (known self.old.room.serving) self.old.came self.old.seats
+            → IsAttended C.state P.gave old turns (known self.new.room.serving) self.new.came self.new.seats }
+    {
+        let mut channel = channel;
+        let Some(came) = self.came.checked_add(1) else {
+            return turn_away(clients, self.room.number, channel);
+        };
+        let Ok(()) = self.seats.reserve(1) else {
+            return turn_away(clients, self.room.number, channel);
+        };
+        let seat = self.seats.vacant_key();
+        let Ok(()) = clients.watch(seat, &mut channel) else {
+            return turn_away(clients, self.room.number, channel);
+        };
+        let client = Client::new(self.alloc, self.came, self.registry, channel);
+        let _ = self.seats.insert_reserved(client);
+        self.came = came;
+    }
+
+    /// The client, which has left its seat for a turn, takes it again, or is gone.
+    fn go_on<P: Clients<C>>(
+        &mut self,
+        clients: &mut P,
+        seat: usize,
+        client: Client<'a, C>,
+        standing: Standing,
+    )
+        requires room { HasRoomFor self.old.seats 1 }
+        requires client { (turns : List Turn) × IsClient C.state P.gave turns self.old.came client }
+        ensures { (old : Known) (turns : List Turn)
+            → IsAttended C.state P.gave old turns (known self.old.room.serving) self.old.came self.old.seats
+            → HasNone C.state P.gave self.old.seats client.entry.number → IsClient C.state P.gave turns self.old.came client.entry
+            → IsAttended C.state P.gave old turns (known self.new.room.serving) self.new.came self.new.seats }
+    {
+        if client.has_left() {
+            client.part(clients, self.room.number, seat);
+            return;
+        }
+        let _ = self.seats.insert_reserved(client);
+        clients.served(seat, standing);
+    }
+
+    /// The client of this seat has a turn, if there is one.
+    fn serve_one<P: Clients<C>, H: Threads + Wait + Sync, G: Gate + Sync>(
+        &mut self,
+        worker: &Worker<'_, H, G>,
+        clients: &mut P,
+        seat: usize,
+    )
+        requires attended { (old : Known) × (turns : List Turn)
+            × IsAttended C.state P.gave old turns (known self.old.room.serving) self.old.came self.old.seats }
+        ensures { (old : Known) (turns : List Turn)
+            → IsAttended C.state P.gave old turns (known self.old.room.serving) self.old.came self.old.seats
+            → (more : List Turn)
+            × IsAttended C.state P.gave old (turns ++ more) (known self.new.room.serving) self.new.came self.new.seats }
+    {
+        let Some(mut client) = self.seats.try_remove(seat) else {
+            return;
+        };
+        let standing = client.turn(worker, &mut self.room);
+        self.go_on(clients, seat, client, standing);
+    }
+
+    /// The client of this seat is let go, if there is one: at once if it was leaving already.
+    fn let_go<P: Clients<C>>(&mut self, clients: &mut P, seat: usize)
+        requires attended { (old : Known) × (turns : List Turn)
+            × IsAttended C.state P.gave old turns (known self.old.room.serving) self.old.came self.old.seats }
+        ensures { (old : Known) (turns : List Turn)
+            → IsAttended C.state P.gave old turns (known self.old.room.serving) self.old.came self.old.seats
+            → IsAttended C.state P.gave old turns (known self.new.room.serving) self.new.came self.new.seats }
+    {
+        let Some(mut client) = self.seats.try_remove(seat) else {
+            return;
+        };
+        if client.leaving.is_some() {
+            client.part(clients, self.room.number, seat);
+            return;
+        }
+        client.let_go(self.alloc);
+        self.go_on(clients, seat, client, Standing::Waits);
+    }
+
+    /// The client of this seat, if there is one, is let go at once.
+    fn drop_one<P: Clients<C>>(&mut self, clients: &mut P, seat: usize)
+        requires attended { (old : Known) × (turns : List Turn)
+            × IsAttended C.state P.gave old turns (known self.old.room.serving) self.old.came self.old.seats }
+        ensures { (old : Known) (turns : List Turn)
+            → IsAttended C.state P.gave old turns (known self.old.room.serving) self.old.came self.old.seats
+            → IsAttended C.state P.gave old turns (known self.new.room.serving) self.new.came self.new.seats }
+    {
+        let Some(client) = self.seats.try_remove(seat) else {
+            return;
+        };
+        client.part(clients, self.room.number, seat);
+    }
+
+    /// All clients are let go at once.
+    fn drop_all<P: Clients<C>>(&mut self, clients: &mut P)
+        requires attended { (old : Known) × (turns : List Turn)
+            × IsAttended C.state P.gave old turns (known self.old.room.serving) self.old.came self.old.seats }
+        ensures { (old : Known) (turns : List Turn)
+            → IsAttended C.state P.gave old turns (known self.old.room.serving) self.old.came self.old.seats
+            → IsAttended C.state P.gave old turns (known self.new.room.serving) self.new.came self.new.seats }
+    {
+        for seat in 0..self.seats.capacity() {
+            self.drop_one(clients, seat);
+        }
+    }
+
+    /// Does what is told, until it is over.
+    fn attend_all<P: Clients<C>, H: Threads + Wait + Sync, G: Gate + Sync>(
+        &mut self,
+        worker: &Worker<'_, H, G>,
+        clients: &mut P,
+    )
+        requires attended { (old : Known) × (turns : List Turn)
+            × IsAttended C.state P.gave old turns (known self.old.room.serving) self.old.came self.old.seats }
+        ensures { (old : Known) (turns : List Turn)
+            → IsAttended C.state P.gave old turns (known self.old.room.serving) self.old.came self.old.seats
+            → (more : List Turn)
+            × IsAttended C.state P.gave old (turns ++ more) (known self.new.room.serving) self.new.came self.new.seats }
+    {
+        for _ in worker.rt.forever() {
+            match clients.next() {
+                Event::Came(channel) => self.take_in(clients, channel),
+                Event::Ready(seat) => self.serve_one(worker, clients, seat),
+                Event::LetGo(seat) => self.let_go(clients, seat),
+                Event::Over => return,
+            }
+        }
+        unreachable!()
+    }
+}
+
+/// Serves a worker's clients until it is told that this is over, any number of them at once: what each sends is read in pieces, one
+/// in each of its turns, and answered by the crew with the tokens of that client. Gives the crew back. What moved it is the turns of
+/// the clients alone, in one chain. Each client's turns are one conversation, as `session` has it: its requests are those that it sent,
+/// in order, each answered once, and what is written to it are their answers. Waits as `clients` does, and for stripes that others hold.
+pub fn attend<'a, H: Threads + Wait + Sync, C: Channel + Drop, P: Clients<C>, G: Gate + Sync>(
+    rt: &'a H,
+    alloc: Global,
+    clients: &mut P,
+    map: &'a StripedMap,
+    registry: &'a Registry,
+    crew: Crew,
+    gate: &'a G,
+) -> Crew
+    requires { IsCrewOf map.now crew }
+    ensures life { (turns : List Turn) × (came : ℕ)
+        × Life C.state P.gave (known (station crew [])) turns (known (station result [])) came }
+    ensures crew { IsCrewOf map.now result }
+    ensures same { CarriesSame crew result }
+{
+    let Crew {
+        worker: number,
+        pass,
+        team,
+    } = crew;
+    let worker = Worker {
+        rt,
+        alloc,
+        gate,
+        map,
+        registry,
+    };
+    let serving = Serving {
+        map,
+        registry,
+        pass,
+        team: team.into_passes(),
+        tokens: Vec::new(alloc),
+    };
+    let mut attendant = Attendant {
+        alloc,
+        registry,
+        room: Room {
+            number,
+            serving,
+            conversation: Conversation::new(alloc),
+            piece: [0; PIECE_BYTES],
+        },
+        seats: Slab::new(alloc),
+        came: 0,
+    };
+    attendant.attend_all(&worker, clients);
+    attendant.drop_all(clients);
+    let Attendant { room, .. } = attendant;
+    let Room { serving, .. } = room;
+    let Serving { pass, team, .. } = serving;
+    let Ok(team) = Team::new(team) else {
+        unreachable!()
+    };
+    Crew {
+        worker: number,
+        pass,
+        team,
+    }
+}

@@ -1,0 +1,65 @@
+//! Where the clients of one worker come from, and what tells of them.
+ghost use Rattle.std.specs.Prelude.{◌≡◌};
+
+use bpf_model::NoMemory;
+use devices::Channel;
+use sessions::SessionEnd;
+
+/// What a worker does next.
+#[derive(Drop)]
+pub enum Event<C> {
+    /// A client came with this connection.
+    Came(C),
+    /// The client of this seat has a turn.
+    Ready(usize),
+    /// The client of this seat is let go. It is not read any more, and is gone when it has taken what it is owed; at once if it
+    /// was leaving already.
+    LetGo(usize),
+    /// The worker ends. Clients that are there are let go at once.
+    Over,
+}
+
+/// How a client stands after its turn.
+#[derive(Clone, Copy, Debug, PartialEq, Eq)]
+pub enum Standing {
+    /// More may be there to read now: it wants a turn soon, whether or not the system tells of it.
+    Again,
+    /// It waits until its connection can be read or written.
+    Waits,
+}
+
+/// How a client left.
+#[derive(Clone, Copy, Debug, PartialEq, Eq)]
+pub enum Parting {
+    /// Its session ended so. All that it was owed is written then, unless a write failed.
+    Ended(SessionEnd),
+    /// It was let go.
+    LetGo,
+    /// It came and could not be kept. It was told 9, as far as its connection took that at once.
+    NotKept,
+}
+
+/// Where the clients of one worker come from, and what tells of them. Whatever it tells, only time depends on it: a seat that has
+/// no client is passed over.
+pub trait Clients<C: Channel> {
+    ghost use Rattle.crews.specs.Lives.{HasParted};
+
+    /// The worker was given this connection, as it was then. Nothing but `next` tells it.
+    ghost gave: { C → Type 0 } = { λ _. Unit {0} };
+
+    /// The next thing to do. It may wait.
+    fn next(&mut self) -> Event<C>
+        ensures { (channel : C) → result ≡ Event.Came channel → gave channel };
+
+    /// The client that came last is in this seat from now on. `NoMemory` if it can't be kept.
+    fn watch(&mut self, seat: usize, channel: &mut C) -> Result<(), NoMemory>
+        ensures { C.state channel.new ≡ C.state channel.old };
+
+    /// The client of this seat had a turn.
+    fn served(&mut self, seat: usize, standing: Standing);
+
+    /// The client left so, which this worker was given with this connection, and had this seat if it was kept. What was read of it
+    /// is answered, and what was written to it are the answers, as its parting says. The connection is given up.
+    fn ended(&mut self, worker: u32, seat: Option<usize>, channel: C, parting: Parting)
+        requires { HasParted C.state gave channel parting };
+}
