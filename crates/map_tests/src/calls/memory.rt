@@ -72,7 +72,8 @@ fn try_rows<T: Tried + Drop>(rt: &impl Abort, alloc: Global, rows: &[Row]) -> Re
     Ok(())
 }
 
-/// Also where each request between two marks is refused: one each, to six calls on each kind of table.
+/// Also where each request between two marks is refused, of six calls on each kind of table: one of a list, and three of hashed
+/// bins, which try a growth with less.
 #[test]
 fn a_call_that_adds_no_key_asks_for_no_memory(rt: HostRuntime) -> Result<(), Fail> {
     for rows in [PLAIN.as_slice(), &COMPUTING] {
