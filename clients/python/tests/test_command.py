@@ -78,7 +78,7 @@ class CommandTest(MapdTest):
         counter = str(ROOT / "examples/c/counter.c")
         self._prints("41\n", "--as", "number", "merge", "hits", "41", counter)
         self._prints("42\n", "--as", "number", "merge", "hits", "1", counter)
-        self._prints("2\n", "register", counter)
+        self._prints("0\n", "register", counter)  # it has the number of its first use
         status, out, errors = self._run("register", counter, "--sizes", "64", "8", "8", "7")
         self.assertEqual((status, out), (1, ""))
         self.assertIn("refused 43 OutOfWindow at unit 3: declare the size greater", errors)
