@@ -7,17 +7,16 @@ By hand, after `rt run` in crates/mapd: python3 tests/known_programs.py [--mapd 
 from __future__ import annotations
 
 import argparse
-import contextlib
 import hashlib
 import sys
 import time
-from collections.abc import Iterator
 from concurrent.futures import ThreadPoolExecutor
 from pathlib import Path
 
 sys.path.insert(0, str(Path(__file__).resolve().parent))
 sys.dont_write_bytecode = True
 import wire  # noqa: E402
+from wire import Wrong, same, started  # noqa: E402
 
 DOCUMENT = Path(__file__).resolve().parent.parent / "docs/PROTOCOL.md"
 SIZES = (64, 256, 256, 256)
@@ -27,16 +26,6 @@ DIFFERENT = 3_000
 # What may come on top, whatever is registered: pages that the process touches for the first time.
 SLACK_KIB = 512
 EXIT = bytes.fromhex("9500000000000000")
-
-
-class Wrong(Exception):
-    """An answer that must not be."""
-
-
-def same(what: str, found: object, wanted: object) -> None:
-    """Fails if the two differ."""
-    if found != wanted:
-        raise Wrong(f"{what} is {found!r:.200}, not {wanted!r:.200}")
 
 
 def constant(number: int, units: int = 2) -> bytes:
@@ -56,17 +45,6 @@ def registered(number: int) -> bytes:
     return b"\x81" + wire.number_field(number)
 
 
-@contextlib.contextmanager
-def server(mapd: Path, *options: str) -> Iterator[wire.Server]:
-    """A server that is ended afterwards."""
-    started = wire.Server(mapd, list(options))
-    try:
-        yield started
-    finally:
-        started.process.kill()
-        started.process.communicate()
-
-
 def resident_kib(process: int) -> int:
     """The memory that the process uses."""
     lines = Path(f"/proc/{process}/status").read_text().splitlines()
@@ -83,17 +61,17 @@ def register_often(client: wire.Client, body: bytes, answer: bytes, count: int) 
 def one_program(mapd: Path, registers: int) -> str:
     """One program has one number, and is kept once."""
     longest = wire.register((64, 1024, 1024, 1024), constant(7, 4096))
-    with server(mapd, "--workers", "2") as started, wire.opened(started.address) as client, wire.opened(started.address, 2) as other:
+    with started(mapd, "--workers", "2") as server, wire.opened(server.address) as client, wire.opened(server.address, 2) as other:
         register_often(client, program(1), registered(0), BATCH)
         same("the longest program", other.ask(longest), registered(1))
-        before = resident_kib(started.process.pid)
+        before = resident_kib(server.process.pid)
         begun = time.monotonic()
         register_often(client, program(1), registered(0), registers)
         each = (time.monotonic() - begun) / registers
         register_often(other, longest, registered(1), BATCH)
         same("the number on another connection", other.ask(program(1)), registered(0))
         same("a new program's number", other.ask(program(2)), registered(2))
-        grown = resident_kib(started.process.pid) - before
+        grown = resident_kib(server.process.pid) - before
         same("memory grew by little", grown <= SLACK_KIB, True)
     return f"{registers} Registers of one program have one number, {each * 1e6:.1f} us each with the client; memory grew by {grown} KiB"
 
@@ -108,8 +86,8 @@ def numbers_of(address: str, order: list[int]) -> dict[int, bytes]:
 def at_once(mapd: Path) -> str:
     """Four clients register the same new programs at once: each has one number."""
     orders = [list(range(300)), list(range(300)), list(reversed(range(300))), list(reversed(range(300)))]
-    with server(mapd, "--workers", "4") as started, ThreadPoolExecutor(4) as pool:
-        first, *others = pool.map(lambda order: numbers_of(started.address, order), orders)
+    with started(mapd, "--workers", "4") as server, ThreadPoolExecutor(4) as pool:
+        first, *others = pool.map(lambda order: numbers_of(server.address, order), orders)
         for answers in others:
             same("the numbers of another client", answers, first)
         same("all numbers", sorted(first.values()), [registered(number) for number in range(300)])
@@ -118,9 +96,9 @@ def at_once(mapd: Path) -> str:
 
 def past_the_bound(mapd: Path) -> str:
     """Past --programs a Register is refused with 9; sessions go on, and programs that are known keep their numbers."""
-    with server(mapd, "--workers", "3", "--programs", str(BOUND)) as started, wire.opened(started.address) as beside:
+    with started(mapd, "--workers", "3", "--programs", str(BOUND)) as server, wire.opened(server.address) as beside:
         same("a Put", beside.ask(wire.put(b"key", b"1")), wire.NOTHING)
-        with wire.opened(started.address) as client:
+        with wire.opened(server.address) as client:
             client.send(*map(program, range(DIFFERENT)))
             answers = [client.answer() for _ in range(DIFFERENT)]
             same("what is taken", answers[:BOUND], [registered(number) for number in range(BOUND)])
@@ -130,7 +108,7 @@ def past_the_bound(mapd: Path) -> str:
             same("the last number", client.ask(wire.compute(b"none", BOUND - 1, None)), wire.NOTHING)
             same("a number that was never given", client.ask(wire.compute(b"none", BOUND, None)), wire.refused(66))
         same("another session", beside.ask(wire.compute(b"none", 0, None)), wire.NOTHING)
-        with wire.opened(started.address) as late:
+        with wire.opened(server.address) as late:
             same("a new client", late.ask(program(5)), registered(5))
     return f"of {DIFFERENT} programs {BOUND} are taken and the others refused with 9, and sessions go on"
 
@@ -139,10 +117,10 @@ def by_its_limits(mapd: Path) -> str:
     """What a version may not send it may not register, though the server knows the program."""
     large = wire.register((64, 1024, 256, 256), constant(1, 3))
     long = wire.register(SIZES, constant(2, 513))
-    with server(mapd, "--workers", "2") as started, wire.opened(started.address, 2) as client:
+    with started(mapd, "--workers", "2") as server, wire.opened(server.address, 2) as client:
         same("a window of 1,024 bytes", client.ask(large), registered(0))
         same("a program of 513 units", client.ask(long), registered(1))
-        with wire.opened(started.address) as first:
+        with wire.opened(server.address) as first:
             same("the window by version 1", first.ask(large)[:2], b"\x85\x2f")
             same("the units by version 1", first.ask(long)[:2], b"\x85\x0c")
             same("other sizes are another program", first.ask(wire.register((64, 255, 256, 256), constant(1, 3))), registered(2))
@@ -156,7 +134,7 @@ def shown_digest(mapd: Path) -> str:
     shown = next(line for line in lines if line.startswith("| digest |"))
     _, _, body, digest, _ = (cell.strip().strip("`") for cell in shown.split("|"))
     same("the digest", hashlib.sha1(bytes.fromhex(body)[1:]).hexdigest(), digest)
-    with server(mapd) as started, wire.opened(started.address) as client:
+    with started(mapd) as server, wire.opened(server.address) as client:
         same("its Register", client.ask(bytes.fromhex(body)), registered(0))
     return "the digest of docs/PROTOCOL.md"
 

@@ -16,20 +16,11 @@ sys.dont_write_bytecode = True
 import one_hash  # noqa: E402
 import sequential as model  # noqa: E402
 import wire  # noqa: E402
+from wire import Wrong, same  # noqa: E402
 
 ADD = model.PROGRAMS[model.ADD]
 ONE = model.spelled(1)
 DEPTH = 64
-
-
-class Wrong(Exception):
-    """An answer that must not be."""
-
-
-def same(what: str, found: object, wanted: object) -> None:
-    """Fails where the two differ."""
-    if found != wanted:
-        raise Wrong(f"{what} is {found!r:.200}, not {wanted!r:.200}")
 
 
 def number(count: int) -> bytes:

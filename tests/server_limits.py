@@ -17,37 +17,17 @@ import subprocess
 import sys
 import tempfile
 import time
-from collections.abc import Callable, Iterator
+from collections.abc import Callable
 from pathlib import Path
 
 sys.path.insert(0, str(Path(__file__).resolve().parent))
 sys.dont_write_bytecode = True
 import wire  # noqa: E402
+from wire import Wrong, same, started  # noqa: E402
 
 NOBODY = 65534
 PIDFD_OPEN, PIDFD_GETFD = 434, 438
 SOON = 5.0
-
-
-class Wrong(Exception):
-    """What must not be."""
-
-
-def same(what: str, found: object, wanted: object) -> None:
-    """Fails where the two differ."""
-    if found != wanted:
-        raise Wrong(f"{what} is {found!r:.200}, not {wanted!r:.200}")
-
-
-@contextlib.contextmanager
-def started(program: Path, *options: str) -> Iterator[wire.Server]:
-    """A server with these options, which is ended with the block."""
-    server = wire.Server(program, list(options))
-    try:
-        yield server
-    finally:
-        server.process.kill()
-        server.process.communicate()
 
 
 def told_line(server: wire.Server, seconds: float = SOON) -> str:

@@ -231,6 +231,16 @@ def opened(address: str, version: int = 1) -> Client:
     return Client(address).hello(version)
 
 
+class Wrong(Exception):
+    """What must not be."""
+
+
+def same(what: str, found: object, wanted: object) -> None:
+    """Fails if the two differ."""
+    if found != wanted:
+        raise Wrong(f"{what} is {found!r:.200}, not {wanted!r:.200}")
+
+
 def bound(kib: int) -> Callable[[], None]:
     """What bounds the memory of the process that calls it."""
     return lambda: resource.setrlimit(resource.RLIMIT_AS, (kib * 1024, kib * 1024))
@@ -274,6 +284,17 @@ class Server:
         """Ends it at once, and gives its status."""
         self.process.terminate()
         return self.finish()
+
+
+@contextlib.contextmanager
+def started(program: Path, *options: str) -> Iterator[Server]:
+    """A server with these options, which is ended with the block."""
+    server = Server(program, list(options))
+    try:
+        yield server
+    finally:
+        server.process.kill()
+        server.process.communicate()
 
 
 class Failed(Exception):
