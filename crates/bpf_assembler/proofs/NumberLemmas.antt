@@ -31,7 +31,7 @@ value_from-end ds k v total h before =
     let here : value_from v (drop k ds) ≡ v = rw (drop_all k ds h) refl in
     sym here ∙ before
 
--- where the next step passes a bound, so does the number
+-- if the next step passes a bound, so does the number
 pub value_from-passes : (ds : List ℕ) (k d v total : ℕ) → k < length ds → value_from v (drop k ds) ≡ total → v * 10 + (get_or ds k d - 48) ≤ total
 value_from-passes ds k d v total h before =
     let next = value_from-next ds k d v total h before in
@@ -48,7 +48,7 @@ digit_range c e = (grind (arith, nat_tests), grind (arith, nat_tests))
 range_digit : (c : ℕ) → 48 ≤ c → c ≤ 57 → is_digit c ≡ true
 range_digit c l h = grind (arith, nat_tests)
 
--- a run of digits has digits alone
+-- a run of digits has only digits
 pub AreDigits-run : (xs : List ℕ) → AreDigits (take (run is_digit xs) xs)
 unfolding run
 AreDigits-run [] = tt

@@ -104,7 +104,7 @@ operands_again Exit rest h stops = refl
 
 -- ---- lines
 
--- behind a name stands a blank, or at once the newline
+-- after a name comes a blank, or at once the newline
 operands_after_name : (i : Insn) (rest : List ℕ) → run is_name_byte (operands_of i ++ 10 ∷ rest) ≡ 0
 unfolding run operands_of
 operands_after_name (Alu op width dst src) rest = refl
@@ -153,7 +153,7 @@ line-first i j a b hi hj e =
     rest_in d (Ok x) = x.1
     rest_in d (Err e) = d
 
--- a line has its newline at least
+-- a line has at least its newline
 pub line_some : (i : Insn) → 0 < length (line_of i)
 unfolding line_of
 line_some i = omega (arith, length-append (name_of (mnemonic_of i) ++ operands_of i) (codes "\n"))

@@ -144,7 +144,7 @@ operands-fields_of (Branch test w dst (Register r) distance) h = record { dst = 
 operands-fields_of (Branch test w dst (Immediate imm) distance) h = record { dst = h.0; src = refl; offset = tt; imm = tt }
 operands-fields_of Exit h = record { dst = refl; src = refl; offset = refl; imm = refl }
 
--- the bits of an extension are a width of moves, and those of a change of byte order a width of such
+-- the bits of an extension are a valid width of moves, and those of a byte order a valid width of byte orders
 extension_bits-move : (e : SignExtension) → is_move (extension_width e) (pos (extension_bits e)) ≡ true
 extension_bits-move From8To32 = refl
 extension_bits-move From16To32 = refl
@@ -183,7 +183,7 @@ width-fields_of (JumpLong distance) = refl
 width-fields_of (Branch test w dst src distance) = no_width_of_jump (fields_of (Branch test w dst src distance)) w (class_in-jump (test_code test) (source_bit src) w (source_of-bounded src))
 width-fields_of Exit = refl
 
--- fields that are operands have no fault but of their width
+-- fields that are operands have no fault but a bad width
 pub operands_have_no_fault : (used : UsedFields) (f : Fields) → AreOperands used f → (has_bad_register used f ≡ false) × (has_unused_not_zero used f ≡ false)
 operands_have_no_fault used f h =
     let dst = register_tests used.dst f.dst h.dst in

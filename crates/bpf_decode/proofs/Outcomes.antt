@@ -13,7 +13,7 @@ pub IfErr-passed : {A E : Type 0} (P : E → Type 0) (e : E) (result : Result A 
 IfErr-passed P e (Ok x) passed h = absurd passed
 IfErr-passed P e (Err x) passed h = rw passed h
 
--- what is so where a call succeeded, once it has
+-- a fact that holds if the call succeeded, once it has
 pub where_ok : {A E B : Type 0} (result : Result A E) (x : A) (y z : B) → result ≡ Ok x → (if is_ok result then y else z) ≡ y
 where_ok (Ok w) x y z e = refl
 where_ok (Err w) x y z e = absurd cc

@@ -1,4 +1,4 @@
--- Bytes that are compared with an instruction's spelling, and with a program's.
+-- Comparing bytes with an instruction's spelling, and with a program's.
 use Rattle.std.proofs.Common.{◌≡◌, ◌≢◌, ◌∙◌, ℕ, ◌<◌, suc, List, ◌∷◌, ◌++◌, length, take, drop, get_or, Option, Some, None, IfSome, IfNone, Bor, sym, ap, subst, ◌+◌, true≢false}
 use Rattle.std.specs.Prelude.{MatchOption, true, false, nat_eq, IsTrue}
 use Rattle.std.specs.Cmp.Lexicographic.{pointwise}
@@ -43,7 +43,7 @@ pub stripped : (front text bytes : List ℕ) (result : Option (Bor (List ℕ))) 
     → CutsOff text bytes result
 stripped front text bytes result e cases = subst (λ (t : List ℕ). CutsOff t bytes result) e (strip_prefix_is Decides-eqb bytes front result cases)
 
--- bytes that go on otherwise than with the program's next instruction don't spell it
+-- bytes that don't go on with the program's next instruction don't spell it
 pub spelled_otherwise : (bytes rest : List ℕ) (is program : List Insn) (k : ℕ) (i : Insn) → is ≡ program → k < length is → i ≡ get_or is k i → bytes ≡ spelling_of_all (take k is) ++ rest
     → ((next : List ℕ) → rest ≢ spelling i ++ next) → (IsTrue false → Spells bytes program) × (Spells bytes program → IsTrue false)
 spelled_otherwise bytes rest is program k i same lt at spelled lacks =

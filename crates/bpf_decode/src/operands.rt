@@ -12,7 +12,7 @@ use crate::unit::Fields;
 use bpf_model::{AccessSize, AluOp, Insn, JumpOp, Operand, Reg, SignExtension, SwapWidth, Width};
 
 impl Opcode {
-    /// Its instruction with the operands that these fields have; none where a width among them is none.
+    /// Returns its instruction with the operands in these fields, or `None` if a width among them is invalid.
     pub(crate) fn with_operands(self, fields: Fields) -> Option<Insn>
         requires opcode { fields.opcode ≡ opcode_byte self }
         requires one_unit { self ≢ Wide }

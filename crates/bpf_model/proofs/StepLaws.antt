@@ -27,7 +27,7 @@ is_read_only Arg = true
 is_read_only Result = false
 is_read_only Stack = false
 
--- bytes of a window may be written where it may not only be read
+-- bytes may be written if the window isn't read-only
 pub writable : (sizes : Sizes) → AreWithinLimits sizes → (window : Window) (a n : ℕ) → lies_in_window sizes window a n ≡ true → can_write sizes a n ≡ not (is_read_only window)
 writable sizes limits Key a n h = let k = limits.key in grind (arith, nat_tests)
 writable sizes limits Old a n h = let k = limits.old in grind (arith, nat_tests)
@@ -47,7 +47,7 @@ one_writable sizes a n q h from below =
       | inr e ↦ or_right _ _ (one_of_many 0x50000 STACK_BYTES a n q e from below)
     ]
 
--- bytes that are written where they may be written leave each other byte
+-- a write where writing is allowed leaves every other byte
 other_kept : (sizes : Sizes) (m : Partial) (a n v q : ℕ) → can_write sizes a n ≡ true → can_write sizes q 1 ≡ false → with_bytes m a (bytes_of n v) q ≡ m q
 other_kept sizes m a n v q writes not_q =
     elim (cases_Bool (nat_le a q && nat_lt q (a + length (bytes_of n v)))) [
@@ -67,7 +67,7 @@ set_kept s t units dst v q e = ap (λ (u : State). u.memory q) (sym (sets_is s t
 jump_kept : (s t : State) (distance : ℤ) (q : ℕ) → jumps s distance ≡ Some t → t.memory q ≡ s.memory q
 jump_kept s t distance q e = ap (λ (u : State). u.memory q) (sym (jumps_is s t distance e).2)
 
--- a step leaves each byte that may not be written
+-- a step leaves each byte that can't be written
 pub unwritable_kept : (sizes : Sizes) (i : Insn) (s t : State) (q : ℕ) → act sizes i s ≡ Some t → can_write sizes q 1 ≡ false → t.memory q ≡ s.memory q
 unwritable_kept sizes (Alu op width dst src) s t q e h =
     let x = alu_acts sizes s t op width dst src e in

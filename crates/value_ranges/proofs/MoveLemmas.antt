@@ -49,7 +49,7 @@ pub extended_below : (e : SignExtension) (width : Width) (x : ℕ) → extension
 unfolding extended
 extended_below e width x is = rw (← is) (wrapped_below (modulus (extension_width e)) (low_signed e x) (modulus_some (extension_width e)))
 
--- the low bits read as a number of so many bits
+-- the low bits read as a number of this many bits
 pub read_fits : (w : IntWidth) (x : ℕ) → mag (cast_signed w (x % 2 ^ bits w)) < 2 ^ hbits w
 read_fits w x = let fits : FitsSigned w (cast_signed w (x % 2 ^ bits w)) = sfits_to_z (record { fits = mod_below x (2 ^ bits w) (pow_pos (bits w)) }) in fits.sfits
 
