@@ -1,4 +1,4 @@
--- Two lists of entries, one behind the other, in which no key stands twice.
+-- Two lists of entries, one after the other, without a repeated key.
 use Rattle.std.proofs.Common.{◌≡◌, ℕ, Bool, true, false, cond, List, [], ◌∷◌, ◌++◌, Option, Some, None, refl, ap, ◌∙◌}
 use Rattle.std.specs.Ordering.{eq_by_cmp}
 use Rattle.std.specs.Cmp.{tied_itself}
@@ -7,7 +7,7 @@ use Rattle.bins.specs.Table.{Entry, by_bytes}
 use Rattle.bins.specs.Entries.{Distinct}
 use Rattle.bins.proofs.MapEdits.{total}
 
--- the first that there is
+-- the first that exists
 abbrev pub first_some : Option (List ℕ) → Option (List ℕ) → Option (List ℕ)
 first_some (Some value) other = Some value
 first_some None other = other
