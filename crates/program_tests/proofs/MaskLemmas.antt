@@ -1,4 +1,4 @@
--- An access through a masked register: plain where each place that the mask leaves lies inside the window, and else not.
+-- An access through a masked register: plain exactly if each place that the mask leaves is inside the window.
 use Rattle.std.proofs.Common.{◌≡◌, ◌≢◌, ℕ, suc, ◌<◌, ◌⊎◌, true, [], ◌∷◌, Some, refl, sym, ap, subst, inl, inr, arith, pos}
 use Rattle.bpf_model.specs.declared.window.Window.{Window}
 use Rattle.bpf_model.specs.declared.window.Window.TheVariants.{Key, Old, Arg, Result, Stack}
@@ -47,7 +47,7 @@ to_seven = refl
 bases : AtEach masked_byte 0 (λ u i. (w : Window) → written_by i ≢ Some (base_of w))
 bases = (nine_apart, (five_apart, (nine_apart, (five_apart, (zero_apart, (none_apart, (zero_apart, (none_apart, tt))))))))
 
--- a register is written from the instruction behind the one that writes it
+-- a register is written from the instruction after the one that writes it
 written_before : (v s r : ℕ) → v ≢ 0 → sources masked_byte 0 v ≡ (s ∷ []) → WritesRegister masked_byte r s → OnEveryPath masked_byte v (WasWritten masked_byte r)
 written_before v s r later only writes = after_one masked_byte v s (WasWritten masked_byte r) later only (λ before comes. inl writes)
 
@@ -215,7 +215,7 @@ five_is_none Arg e = absurd cc
 five_is_none Result e = absurd cc
 five_is_none Stack e = absurd cc
 
--- of the register that the mask copied
+-- for the register that the mask copied
 copied_is_old : (w : Window) → instruction_at masked_byte 1 ≡ Some (copy_of 5 w) → w ≡ Old
 unfolding instruction_at
 copied_is_old Key e = absurd cc
