@@ -22,7 +22,7 @@ impl Model for ProgramLimits {
 
     ghost view = { λ limits. record { units = limits.units; window = limits.window } };
 
-    // No limit is higher than that of any program.
+    // No limit is higher than in `GREATEST`.
     ghost invariant = { λ limits. limits.window ≤ VALUE_BYTES };
 
     ghost inverse = { λ allowance. record { units = allowance.units; window = allowance.window } };

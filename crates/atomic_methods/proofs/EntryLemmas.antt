@@ -16,7 +16,7 @@ either_way : (b : Bool) (x : List ℕ) (y z : Option (List ℕ)) → cond b (Som
 either_way true x y z = refl
 either_way false x y z = refl
 
--- a key is looked for in the first list, then in the second
+-- a key is searched in the first list, then in the second
 pub find-append : (q : List ℕ) (es fs : List Entry) → find by_bytes q (es ++ fs) ≡ first_some (find by_bytes q es) (find by_bytes q fs)
 find-append q [] fs = refl
 find-append q (e ∷ es) fs = ap (cond (eq_by_cmp by_bytes q e.0) (Some e.1)) (find-append q es fs) ∙ either_way (eq_by_cmp by_bytes q e.0) e.1 (find by_bytes q es) (find by_bytes q fs)

@@ -11,7 +11,7 @@ use Rattle.atomic_methods.specs.Invocations.{Invocation}
 use Rattle.atomic_methods.specs.Methods.{rule_of, runs, Answers, RunsTo, WouldAdd}
 use Rattle.atomic_methods.proofs.TableLemmas.{keeps}
 
--- a call runs the program that its rule names, on what the key has
+-- a call runs the program that its rule names, on the key's value
 pub runs_to : (table : Table) (invocation : Invocation) (old : Option (List ℕ)) (program : Checked) (arg : Option (List ℕ)) (outcome : Outcome) → old ≡ map.get table invocation.key → runs program arg ≡ rule_of invocation.method old → ComesTo program (record { key = invocation.key; old = old; arg = arg }) outcome → RunsTo table invocation outcome
 runs_to table invocation old program arg outcome found rule comes = rw (← found) (program, (arg, (sym rule, comes)))
 

@@ -39,7 +39,7 @@ chosen-nil : (kind : WalkKind) → chosen kind [] ≡ []
 chosen-nil Search = refl
 chosen-nil ForEach = refl
 
--- what a walk of this kind keeps after the program's runs on the first entries
+-- the state of a walk of this kind after the program's runs on the first entries
 pub record Walked (kind : WalkKind) (checked : Checked) (arg : Option (List ℕ)) (entries items : List Entry) (position unfit : ℕ) : Type 0 where
   pub outcomes : List Outcome
   pub one_each : length outcomes ≡ position

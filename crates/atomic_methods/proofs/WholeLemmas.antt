@@ -103,7 +103,7 @@ module _ (ts : List Table) (is : AreStripes ts) where
       apart = λ j q away. apart_later j q (rw same at away);
     }
 
-    -- the edit of the stripe is that of the whole
+    -- editing the stripe edits the whole
     pub whole-set : whole later ≡ with_value (whole ts) k v
     whole-set = same_map total antisymmetric (whole later) (with_value (whole ts) k v) (λ q.
         get-from_entries total (all_entries later) q ∙ found_at q later (stripe_of (length ts) q) (λ j other. apart_later j q other)

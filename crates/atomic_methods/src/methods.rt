@@ -154,8 +154,8 @@ pub fn scan<B: Bins>(alloc: Global, bins: &B) -> Result<Vec<(Key, Value)>, NoMem
     bins.entries(alloc)
 }
 
-/// Replaces the value of each key once by the program's answer on the key, its value and the argument. An answer of
-/// nothing keeps the entry, and so does one that is too long for a window. Takes no memory. Never waits.
+/// Replaces the value of each key once by the program's answer on the key, its value and the argument. If the answer is
+/// nothing, or the entry is too long for a window, the entry stays. Takes no memory. Never waits.
 pub fn replace_each<B: Bins>(bins: &mut B, program: &Verified, arg: &Option<Value>) -> Counts
     ensures each { ReplacesEach program.now arg.now (B.table bins.old) (B.table bins.new) result }
     ensures bounded { result.scanned < 2 ^ 57 }

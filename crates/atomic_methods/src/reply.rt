@@ -4,7 +4,7 @@ ghost use Rattle.atomic_methods.specs.Plans.{reply_by};
 
 use bpf_model::{InputPart, Value};
 
-/// What a call replies.
+/// A call's reply.
 #[derive(Debug, PartialEq, Eq, Drop)]
 pub enum Reply {
     /// A value, or none.

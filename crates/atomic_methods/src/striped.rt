@@ -152,8 +152,8 @@ impl Striped {
         count_all(&self.stripes)
     }
 
-    /// Replaces the value of each key of the table once by the program's answer on the key, its value and the argument. An
-    /// answer of nothing keeps the entry, and so does one that is too long for a window. Takes no memory. Never waits.
+    /// Replaces the value of each key of the table once by the program's answer on the key, its value and the argument. If
+    /// the answer is nothing, or the entry is too long for a window, the entry stays. Takes no memory. Never waits.
     pub fn replace_each(&mut self, program: &Verified, arg: &Option<Value>) -> Counts
         ensures each { ReplacesEach program.now arg.now self.old self.new result }
     {

@@ -1,4 +1,4 @@
-//! Where calls are made.
+//! The workspace of calls.
 use bpf_machine::Machine;
 
 /// The machine that programs run in. You make it once and lend it to each call, so that no call clears it. What earlier

@@ -19,7 +19,7 @@ const SIZES: Sizes = Sizes {
     result: 64,
 };
 
-/// A number is loaded, stored or answered at one of the first 57 bytes of a window, so that 8 bytes fit.
+/// Numbers are loaded, stored or answered at one of the first 57 bytes of a window, so that 8 bytes fit.
 const PLACES: u64 = 57;
 
 const OPS: [AluOp; 13] = [

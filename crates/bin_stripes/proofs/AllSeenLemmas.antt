@@ -17,7 +17,7 @@ below_under passes numbers [] all below = All-nil (IsUnder numbers)
 below_under passes numbers (e ∷ es) all below =
     All-cons (IsUnder numbers) e es (all e.by (All-head (IsBelow passes) e es below)) (below_under passes numbers es all (All-tail (IsBelow passes) e es below))
 
--- with a number that it carries there is what it made, and with another nothing
+-- with a number that it carries it has the events that it made, and with another none
 pub sees_just_mine : (n : ℕ) (v : View GhostAction) → Sound n v → CarriesAll v → SeesJustMine v
 sees_just_mine n v sound all k q = ⊎_elim (λ carried. sound.own k q carried)
     (λ not. under_none v.numbers q (seen_of v k) not (below_under v.passes v.numbers (seen_of v k) all (sound.below k))

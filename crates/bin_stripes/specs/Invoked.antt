@@ -55,7 +55,7 @@ pub record CopiesStripe (old : PassState) (k : ℕ) (before after : List Entry) 
   pub entries : List Entry
   pub scans : Scans old k entries new
   pub are : AreOf (stripes_of old.map) k entries
-  -- an entry takes more than 2^6 bytes, and there are fewer than 2^63
+  -- an entry takes more than 2^6 bytes, and memory has fewer than 2^63
   pub bounded : length entries < 2 ^ 57
   pub copies : List Entry
   pub same : WeighSame copies entries

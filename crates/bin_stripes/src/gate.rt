@@ -1,6 +1,6 @@
 //! Points at which a test may hold a worker.
 
-/// Where a worker is.
+/// A worker's place.
 #[derive(Clone, Copy, Debug, PartialEq, Eq)]
 pub enum Place {
     /// Before the first stripe of a walk.

@@ -243,8 +243,8 @@ impl StripedMap {
     }
 
     /// Replaces the value of each key of one stripe, which is below `stripes()`, once by the program's answer on the key, its
-    /// value and the argument. An answer of nothing keeps the entry, and so does an input that does not fit. This worker
-    /// passes the gate once at `Held`, while the stripe is held. Takes no memory. Waits until the stripe is free.
+    /// value and the argument. If the answer is nothing, or the entry does not fit, the entry stays. This worker passes the
+    /// gate once at `Held`, while the stripe is held. Takes no memory. Waits until the stripe is free.
     pub fn replace_stripe<R: Wait, G: Gate>(
         &self,
         rt: &R,

@@ -138,7 +138,7 @@ only_fault text fault (Err e) h first = elim h.first_fault [
 
 -- ---- the line that is refused
 
--- what can't be read begins with no line
+-- if a line can't be read, the text begins with no line
 pub no_line : (rest : List ℕ) (fault : LineFault) (i : Insn) (more : List ℕ) → line_at rest ≡ Err fault → IsInstruction i → rest ≡ line_of i ++ more → ⊥
 no_line rest fault i more unread h e =
     let read : line_at rest ≡ Ok (i, more) = ap line_at e ∙ line_again i more h in

@@ -8,7 +8,7 @@ use Rattle.bpf_assembler.specs.declared.mnemonic.Mnemonic.{Mnemonic}
 use Rattle.bpf_assembler.specs.Names.{stem_word}
 use Rattle.bpf_assembler.specs.Reading.{rest_after, suffixed_at, mnemonic_at}
 
--- what one stem makes of a name
+-- the instruction that one stem makes of a name
 abbrev pub with_stem : Stem → List ℕ → Option Mnemonic
 with_stem s name = option_and_then (suffixed_at s) (rest_after (stem_word s) name)
 

@@ -1,4 +1,4 @@
--- The operands of each instruction are read again, and so are lines.
+-- The operands of each instruction are read back, and so are lines.
 use Rattle.std.proofs.Common.{◌≡◌, ℕ, ◌^◌, ◌-◌, List, ◌∷◌, ◌++◌, length, ◌<◌, refl, ap, sym, ◌∙◌, arith, length-append, Result, Ok, Err, append_assoc}
 use Rattle.std.specs.Prelude.{decimal, codes}
 use Rattle.std.proofs.lemmas.List.{take_at, drop_at}
@@ -120,7 +120,7 @@ newline_again : (rest : List ℕ) → newline_at (10 ∷ rest) ≡ Ok (tt, rest)
 unfolding newline_at
 newline_again rest = refl
 
--- a line is read again, whatever follows it
+-- a line is read back, whatever follows it
 pub line_again : (i : Insn) (rest : List ℕ) → IsInstruction i → line_at (line_of i ++ rest) ≡ Ok (i, rest)
 unfolding line_at line_of
 line_again i rest h =

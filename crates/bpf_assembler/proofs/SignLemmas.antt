@@ -1,4 +1,4 @@
--- What `{:+}` writes.
+-- The text that `{:+}` writes.
 use Rattle.std.proofs.Common.{◌≡◌, ℕ, suc, ◌-◌, List, [], ◌∷◌, length, ap, arith, true, false, ltb}
 use Rattle.std.specs.Prelude.{ℤ, pos, negsuc, decimal}
 use Rattle.std.specs.Fmt.{format_spec, styled_signed_decimal, padded_integral, char_count}

@@ -17,7 +17,7 @@ abbrev pub immediate : ℤ → List ℕ
 immediate (pos n) = decimal n
 immediate (negsuc n) = codes "-" ++ decimal (suc n)
 
--- an offset or a distance: decimal, with its sign always
+-- an offset or a distance: decimal, always with a sign
 abbrev pub offset : ℤ → List ℕ
 offset (pos n) = codes "+" ++ decimal n
 offset (negsuc n) = codes "-" ++ decimal (suc n)

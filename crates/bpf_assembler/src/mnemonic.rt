@@ -9,7 +9,7 @@ use bpf_model::{
     AccessSize, AluOp, ByteOrder, Insn, JumpOp, LoadKind, Operand, SignExtension, SwapWidth, Width,
 };
 
-/// What an instruction does, without its width, size or kind.
+/// An operation, without its width, size or kind.
 #[derive(Clone, Copy, Debug, PartialEq, Eq)]
 pub(crate) enum Stem {
     Alu(AluOp),

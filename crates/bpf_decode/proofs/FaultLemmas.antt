@@ -29,11 +29,11 @@ is_a_unit f xs e =
     let none : 0 ≡ length (unit_bytes f ++ xs) = ap length e in
     omega (arith, none, length-append (unit_bytes f) xs, length-unit_bytes f)
 
--- a value that is there and not there
+-- a value that is both present and absent
 is_both : {A : Type 0} (o : Option A) (x : A) → o ≡ None → o ≡ Some x → ⊥
 is_both o x n s = cc
 
--- what comes after a wide instruction's first half is its second, which has no fault
+-- after a wide instruction's first half comes its second, which has no fault
 second_is_faultless : (value : ℕ) (xs ys : List ℕ) (fault : UnitFault) → IsWord value → HasSecondFault ys fault → unit_bytes (second_unit value) ++ xs ≡ ys → ⊥
 second_is_faultless value xs ys fault word (inl (cut, none)) e = is_a_unit (second_unit value) xs (sym none ∙ sym e)
 second_is_faultless value xs ys fault word (inr (unused, more)) e =

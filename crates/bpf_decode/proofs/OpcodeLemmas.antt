@@ -76,7 +76,7 @@ pub mode_of-bounded : (kind : LoadKind) → mode_of kind < 8
 mode_of-bounded LoadByte = omega arith
 mode_of-bounded kind = omega arith
 
--- what holds of each operation's code and offset
+-- facts about each operation's code and offset
 pub record AluFacts (op : AluOp) : Type 0 where
   pub bounded : code_of op < 16
   pub listed : is_alu_code (code_of op) ≡ true
@@ -93,7 +93,7 @@ alu_facts Mod = record { bounded = omega arith; listed = refl; no_negation = ref
 alu_facts SMod = record { bounded = omega arith; listed = refl; no_negation = refl; no_move = refl; no_order = refl; sign = tt; signed = refl }
 alu_facts op = record { bounded = omega arith; listed = refl; no_negation = refl; no_move = refl; no_order = refl; sign = refl; signed = refl }
 
--- what holds of each test's code
+-- facts about each test's code
 pub test_code-bounded : (test : JumpOp) → test_code test < 16
 test_code-bounded Eq = omega arith
 test_code-bounded test = omega arith
@@ -188,7 +188,7 @@ good_sign f op source w h e sign =
     no_case true = refl
     no_case false = refl
 
--- a move of the whole or of a width
+-- a move of the whole or of a valid width
 pub good_move : (f : Fields) (source : ℕ) (w : Width) → source < 2 → f.opcode ≡ opcode mov_code source (alu_class w) → is_move w f.offset ≡ true → has_bad_width f ≡ false
 good_move f source w h e move =
     has_bad_width-alu f mov_code source w h e ∙ rw move (no_case (nat_eq source source_x))
@@ -197,7 +197,7 @@ good_move f source w h e move =
     no_case true = refl
     no_case false = refl
 
--- a change of byte order of a width
+-- a change of byte order of a valid width
 pub good_order : (f : Fields) (source : ℕ) (w : Width) → source < 2 → f.opcode ≡ opcode end_code source (alu_class w) → is_swap f.imm ≡ true → has_bad_width f ≡ false
 good_order f source w h e swap = has_bad_width-alu f end_code source w h e ∙ rw swap refl
 

@@ -3,12 +3,12 @@ use Rattle.std.proofs.Common.{◌≡◌, Option, Some, None, Result, Ok, Err, re
 use Rattle.std.specs.Prelude.{IfNone, IfErr, IsErrAnd, if◌then◌else◌}
 use Rattle.std.specs.Result.{is_ok}
 
--- what holds anyway holds where there is none
+-- a fact that always holds also holds if there is none
 pub IfNone-anyway : {A P : Type 0} (o : Option A) → P → IfNone o P
 IfNone-anyway None h = h
 IfNone-anyway (Some x) h = tt
 
--- an error that was passed on has what it had
+-- a fact about an error stays after the error is passed on
 pub IfErr-passed : {A E : Type 0} (P : E → Type 0) (e : E) (result : Result A E) → IsErrAnd result (λ x. x ≡ e) → P e → IfErr result P
 IfErr-passed P e (Ok x) passed h = absurd passed
 IfErr-passed P e (Err x) passed h = rw passed h

@@ -12,7 +12,7 @@ use Rattle.bpf_model.specs.declared.instruction.Insn.{Insn}
 use Rattle.bpf_model.specs.Spelling.{unit_bytes, fields_of, second_bytes, spelling, spelling_of_all, Spells}
 use Rattle.bpf_decode.proofs.SpellingLemmas.{spelling-first_unit}
 
--- these bytes are cut off the front of others, or the others don't begin with them
+-- the rest of the bytes after these, or the bytes don't begin with them
 abbrev pub CutsOff : List ℕ → List ℕ → Option (Bor (List ℕ)) → Type 0
 CutsOff front bytes result = MatchOption result ((rest : List ℕ) → bytes ≢ front ++ rest) (λ rest. bytes ≡ front ++ rest.now)
 
@@ -37,7 +37,7 @@ module _ (i : Insn) (bytes : List ℕ) where
   second_missing after None first cuts = no_second_unit after first cuts
   second_missing after (Some rest) first cuts = tt
 
--- what std's `strip_prefix` says of bytes
+-- the meaning of std's `strip_prefix` for bytes
 pub stripped : (front text bytes : List ℕ) (result : Option (Bor (List ℕ))) → front ≡ text
     → MatchOption result (pointwise nat_eq (take (length front) bytes) front ≡ false) (λ x. (pointwise nat_eq (take (length front) bytes) front ≡ true) × (x.now ≡ drop (length front) bytes) × (length x.now + length front ≡ length bytes))
     → CutsOff text bytes result

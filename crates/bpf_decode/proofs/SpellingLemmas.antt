@@ -22,7 +22,7 @@ spelling-first_unit i xs = append_assoc (unit_bytes (fields_of i)) (second_bytes
 pub spelling_of_all-cons : (i : Insn) (is : List Insn) (xs : List ℕ) → spelling_of_all (i ∷ is) ++ xs ≡ spelling i ++ (spelling_of_all is ++ xs)
 spelling_of_all-cons i is xs = ap (λ (x : List ℕ). x ++ xs) (flat_map-cons spelling i is) ∙ append_assoc (spelling i) (spelling_of_all is) xs
 
--- how many units stand before the rest
+-- how many units come before the rest
 pub units_before : (bytes rest : List ℕ) (is : List Insn) → bytes ≡ spelling_of_all is ++ rest → (length bytes - length rest) / 8 ≡ unit_count is
 units_before bytes rest is e =
     let len : length bytes ≡ length (spelling_of_all is) + length rest = ap length e ∙ length-append (spelling_of_all is) rest in

@@ -1,4 +1,4 @@
--- Which fault of bytes is the first. Our profile of RFC 9669.
+-- Which fault of the bytes comes first. Our profile of RFC 9669.
 use Rattle.std.specs.Prelude.{◌≡◌, ℕ, ◌/◌, ◌%◌, not, ◌⊎◌, List, ◌++◌, length, Option, Some, None, nat_eq, nat_lt, if◌then◌else◌}
 use Rattle.bpf_model.specs.declared.limits.TheConstants.{PROGRAM_UNITS}
 use Rattle.bpf_model.specs.declared.instruction.Insn.{Insn}
@@ -40,7 +40,7 @@ decode_fault_at unit UnusedNotZero = at.UnusedNotZero unit
 decode_fault_at unit BadWidth = at.BadWidth unit
 decode_fault_at unit CutWide = at.CutWide unit
 
--- the fault of the number of bytes
+-- the fault in the number of bytes
 abbrev pub length_fault : List ℕ → Option DecodeFault
 length_fault bytes =
     if nat_eq (length bytes) 0 then Some Empty

@@ -10,7 +10,7 @@ use Rattle.bpf_decode.specs.declared.fault.UnitFault.TheVariants.{UnknownOpcode,
 use Rattle.bpf_decode.specs.declared.unit.UsedFields.{UsedFields}
 use Rattle.bpf_decode.specs.Opcodes.{class_in, source_in, code_in, is_division, wide_opcode, used_fields}
 
--- the fields have the bits of a unit, as those of any eight bytes do
+-- the fields fit a unit, as those of any eight bytes do
 pub record FitUnit (f : Fields) : Type 0 where
   pub opcode : f.opcode < 2 ^ 8
   pub dst : f.dst < 2 ^ 4
@@ -32,7 +32,7 @@ has_unused_not_zero used f =
 abbrev pub is_sign : ℤ → Bool
 is_sign offset = int_eq offset (pos 0) || int_eq offset (pos 1)
 
--- the offset of a move at a width: the whole, or how many bits have their sign extended
+-- the offset of a move at a width: the whole, or how many bits are sign-extended
 abbrev pub is_move : Width → ℤ → Bool
 is_move W32 offset = int_eq offset (pos 0) || (int_eq offset (pos 8) || int_eq offset (pos 16))
 is_move W64 offset = int_eq offset (pos 0) || (int_eq offset (pos 8) || (int_eq offset (pos 16) || int_eq offset (pos 32)))
@@ -75,7 +75,7 @@ pub record IsFirstHalf (f : Fields) : Type 0 where
 abbrev pub has_imm_alone : Fields → Bool
 has_imm_alone f = nat_eq f.opcode 0 && (nat_eq f.dst 0 && (nat_eq f.src 0 && int_eq f.offset (pos 0)))
 
--- the bytes begin with a unit that has more
+-- the bytes begin with a unit, and more follow
 pub record BeginsWithMore (bytes : List ℕ) : Type 0 where
   pub fields : Fields
   pub rest : List ℕ

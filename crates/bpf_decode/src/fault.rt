@@ -24,8 +24,8 @@ pub enum DecodeFault {
     UnknownOpcode(usize),
     /// A register field is used and above 10: number 14, at this unit.
     BadRegister(usize),
-    /// A field is not used and not zero: number 15, at this unit. If it is in a wide instruction's second half, at its
-    /// first.
+    /// A field is not used and not zero: number 15, at this unit. For a wide instruction's second half this is its
+    /// first half's unit.
     UnusedNotZero(usize),
     /// The offset of a quotient or remainder is not 0 or 1, the offset of a move isn't a width, or the imm of a byte
     /// order isn't one: number 16, at this unit.

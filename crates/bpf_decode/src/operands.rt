@@ -139,7 +139,7 @@ fn read_branch(test: JumpOp, source: Source, width: Width, fields: Fields) -> In
     }
 }
 
-/// the operation with the sign that the offset says
+/// the operation, signed or not as the offset says
 fn with_sign(op: AluOp, offset: i16) -> Option<AluOp>
     requires { IsZeroUnlessUsed (is_division (code_of op)) offset }
     ensures code { IfSome result (λ signed. code_of signed ≡ code_of op) }

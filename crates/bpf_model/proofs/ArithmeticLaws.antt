@@ -75,13 +75,13 @@ extended_low From8To64 x = ap (λ l. wrapped (2 ^ 64) (cast_signed w8 l)) (omega
 extended_low From16To64 x = ap (λ l. wrapped (2 ^ 64) (cast_signed w16 l)) (omega arith)
 extended_low From32To64 x = ap (λ l. wrapped (2 ^ 64) (cast_signed w32 l)) (omega arith)
 
--- what stands for a number modulo a power of two reads as the number wrapped round
+-- the number that stands for an integer modulo a power of two reads as the integer wrapped round
 wrapped_reads : (w : IntWidth) (z : ℤ) → cast_signed w (wrapped (2 ^ bits w) z) ≡ int_wrap w z
 unfolding int_wrap
 wrapped_reads w (pos n) = refl
 wrapped_reads w (negsuc n) = refl
 
--- a signed number stands in its own bits
+-- a signed number fits its own bits
 cast_wrapped : (w : IntWidth) (z : ℤ) → FitsSigned w z → cast_unsigned w z ≡ wrapped (2 ^ bits w) z
 cast_wrapped w (pos n) f = sym (mod-eq_of_lt (omega (arith, f.sfits, pow-bits w)))
 cast_wrapped w (negsuc n) f = let small : n % 2 ^ bits w ≡ n = mod-eq_of_lt (omega (arith, f.sfits, pow-bits w)) in omega (arith, small)

@@ -27,7 +27,7 @@ reversed_again S16 n h = ap (λ (bytes : List ℕ). from_be_bytes w16 (reverse b
 reversed_again S32 n h = ap (λ (bytes : List ℕ). from_be_bytes w32 (reverse bytes)) (be_bytes_4 (to_le_bytes w32 n) (swap_bytes w32 n) refl (small_4 n) refl) ∙ from_be_bytes-to_be_bytes_4 n h
 reversed_again S64 n h = ap (λ (bytes : List ℕ). from_be_bytes w64 (reverse bytes)) (be_bytes_8 (to_le_bytes w64 n) (swap_bytes w64 n) refl (small_8 n) refl) ∙ from_be_bytes-to_be_bytes_8 n h
 
--- what is reversed is a number of its width
+-- a reversed number is a number of its width
 reversed_below : (size : SwapWidth) (n : ℕ) → reversed size n < swap_modulus size
 unfolding reversed
 reversed_below S16 n = omega (arith, small_2 n 0, small_2 n 1)

@@ -96,7 +96,7 @@ unfoldable pub upper_half : Insn → ℕ
 upper_half (Wide dst value) = value / 2 ^ 32
 upper_half i = 0
 
--- ---- each instruction is that of its fields
+-- ---- each instruction is the one with its fields
 
 pub opcode_parts : (code source class : ℕ) → source ≤ 1 → class < 8 → (opcode code source class % 8 ≡ class) × (opcode code source class / 16 ≡ code) × (opcode code source class / 8 % 2 ≡ source)
 opcode_parts code source class h k = (omega (arith, h, k), omega (arith, h, k), omega (arith, h, k))

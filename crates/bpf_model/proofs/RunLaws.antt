@@ -13,7 +13,7 @@ use Rattle.bpf_model.specs.Step.{act, ends_in}
 use Rattle.bpf_model.specs.Meaning.{step, ending, after, Means}
 use Rattle.bpf_model.proofs.Options.{chain_some, some_is}
 
--- what ends a run does not act
+-- an instruction that ends a run does not act
 ends_or_acts : (sizes : Sizes) (i : Insn) (s : State) (a : Answer) → ends_in sizes i s ≡ Some a → act sizes i s ≡ None
 ends_or_acts sizes Exit s a e = refl
 ends_or_acts sizes i s a e = absurd cc

@@ -93,7 +93,7 @@ not_both i j wide narrow e =
 fit-second_unit : (value : ℕ) → IsWord value → FitFields (second_unit value)
 fit-second_unit value h = record { dst = omega arith; offset = zero_offset; imm = half_fits (value / 2 ^ 32) (omega (arith, h)) }
 
--- a second unit tells the upper half
+-- a second unit determines the upper half
 second_unit-first : (v w : ℕ) (xs ys : List ℕ) → IsWord v → IsWord w → unit_bytes (second_unit v) ++ xs ≡ unit_bytes (second_unit w) ++ ys → (v / 2 ^ 32 ≡ w / 2 ^ 32) × (xs ≡ ys)
 second_unit-first v w xs ys is-v is-w e =
     let first = unit_bytes-first (second_unit v) (second_unit w) xs ys (fit-second_unit v is-v) (fit-second_unit w is-w) e in

@@ -9,7 +9,7 @@ use Rattle.bpf_model.specs.Spelling.{spelling, IsInstruction}
 use Rattle.bpf_model.specs.State.{State}
 use Rattle.bpf_model.specs.Step.{act}
 
--- a word's low part as a two's complement number
+-- a word's low part, read as two's complement
 abbrev pub signed_low : Width → ℕ → ℤ
 signed_low width x = signed_at width (mov_value width x)
 

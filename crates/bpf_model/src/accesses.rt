@@ -1,8 +1,8 @@
-//! What loads and stores move.
+//! The data that loads and stores move.
 ghost use Rattle.std.specs.Prelude.{◌≡◌, ◌≤◌};
 ghost use Rattle.bpf_model.specs.Accesses.{byte_count, loaded_size};
 
-/// How many bytes a load or a store moves.
+/// The number of bytes that a load or a store moves.
 #[derive(Clone, Copy, Debug, PartialEq, Eq)]
 pub enum AccessSize {
     /// 1 byte.

@@ -16,7 +16,7 @@ impl Width {
         }
     }
 
-    /// Returns what a move gives: the low part of a word.
+    /// Returns the low part of a word, as a move gives it.
     pub fn low(self, n: u64) -> u64
         ensures value { result ≡ mov_value self n }
         ensures below { result < modulus self }
@@ -38,7 +38,7 @@ impl Width {
         }
     }
 
-    /// Returns what NEG gives.
+    /// Returns the negation, as NEG gives it.
     pub fn negate(self, n: u64) -> u64
         ensures { result ≡ negated self n }
     {

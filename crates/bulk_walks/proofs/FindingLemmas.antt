@@ -80,6 +80,6 @@ pub finds_at : (all n workers worker : ℕ) (v : View GhostAction) (p q : PassSt
 finds_at all n workers worker v p q es fs f same list =
     subst (λ (p : PassState). WorkerFinds all n workers worker v p.view fs) (sym same) (subst (λ (es : List Entry). WorkerFinds all n workers worker v p.view es) (sym list) f)
 
--- moved, the found list has the same sums
+-- a list that was moved has the same sums
 pub finds_moved : (all n workers worker : ℕ) (v w : View GhostAction) (es fs : List Entry) → WorkerFinds all n workers worker v w es → IsPermutation es fs → WorkerFinds all n workers worker v w fs
 finds_moved all n workers worker v w es fs f moved = record { scans = f.scans; walked = f.walked; stripes = f.stripes; bounded = f.bounded; sum = λ h. sum_by-IsPermutation h es fs moved ∙ f.sum h }

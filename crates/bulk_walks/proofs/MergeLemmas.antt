@@ -222,7 +222,7 @@ module _ (rests : List (List Entry)) (position : ℕ) (inside : position < lengt
   pub taken : (e : Entry) (behind : List Entry) → get_or rests position [] ≡ e ∷ behind → TakesFirst rests e (set rests position behind)
   taken e behind is = record { position = position; behind = behind; inside = inside; was = is; least = least_at (e ∷ behind) is; now = refl }
 
-  -- it has none: then no list has
+  -- it has none: then no list has one
   pub all_empty : get_or rests position [] ≡ [] → All (λ es. es ≡ []) rests
   all_empty is = λ k x low. none (get_or rests k x) (least_at [] is k x low)
     where
@@ -230,7 +230,7 @@ module _ (rests : List (List Entry)) (position : ℕ) (inside : position < lengt
       none [] h = refl
       none (e ∷ es) h = absurd (false≢true (sym h))
 
--- an entry is taken from what is left of the list at the position
+-- an entry is taken from the rest of the list at the position
 module _ (rests : List Remains) (which : ℕ) (inside : which < length rests) (old new : Remains) (was : get_or rests which old ≡ old) (list : new.list ≡ old.list) where
   at_which : {X : Type 0} → (f : Remains → X) → (d : X) → get_or (map f rests) which d ≡ f old
   at_which f d = get_or-map f rests which old d inside ∙ ap f was

@@ -60,12 +60,12 @@ sum_by-in_order h (p ∷ ps) =
     let other = sum_by-cons h p ps in
     omega (arith, rest, one, other)
 
--- the first of the entries does not come before this one
+-- the first of these entries does not come before this one
 abbrev NotBefore : Entry → List Entry → Type 0
 NotBefore e [] = ⊤
 NotBefore e (f ∷ es) = is_lt (by_bytes f.0 e.0) ≡ false
 
--- no entry comes before the one in front of it
+-- no entry comes before its predecessor
 abbrev pub Ordered : List Entry → Type 0
 Ordered [] = ⊤
 Ordered (e ∷ es) = NotBefore e es × Ordered es

@@ -99,7 +99,7 @@ walked_as workers worker Made Also v n w p also = record {
 pub own_again : (u v : View GhostAction) (actions : List Action) → u.numbers ≡ v.numbers → own_events u actions ≡ own_events v actions
 own_again u v actions same = ap (λ (ns : List ℕ). own_events (record v { numbers = ns }) actions) same
 
--- events that are such by one more
+-- the same events, if the function gets one more value
 pub walked_with : {X : Type 0} (Of : ℕ → X → View GhostAction → Events → Events → Type 0) (workers worker : ℕ) (xs : ℕ → X) (v : View GhostAction) (n : ℕ) (u : View GhostAction) (x : X)
     → Walked n workers worker (Each Of xs) v u → Walked n workers worker (Each Of (with_at xs n x)) v u
 walked_with Of workers worker xs v n u x p =

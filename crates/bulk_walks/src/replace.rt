@@ -77,10 +77,10 @@ fn sum_of(answers: &[Counts]) -> Counts
     total
 }
 
-/// Replaces the value of each key once, stripe by stripe, by the program's answer on the key, its value and the argument. An
-/// answer of nothing keeps the entry, and so does an input that does not fit. The reply has no items: its count `given` is the
-/// number of values that were entered. Returns `NoMemory` if a request for memory is refused; then nothing was replaced. Waits
-/// until each stripe is free.
+/// Replaces the value of each key once, stripe by stripe, by the program's answer on the key, its value and the argument. If
+/// the answer is nothing, or the entry does not fit, the entry stays. The reply has no items: its count `given` is the number
+/// of values that were entered. Returns `NoMemory` if a request for memory is refused; then nothing was replaced. Waits until
+/// each stripe is free.
 pub fn replace_all<R: Threads + Wait + Sync, G: Gate + Sync>(
     rt: &R,
     alloc: Global,

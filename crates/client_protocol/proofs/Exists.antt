@@ -19,7 +19,7 @@ use Rattle.client_protocol.proofs.BodyLaws.{bad_fields, trailing, misplaced}
 use Rattle.client_protocol.proofs.Unique.{request_of, request_again}
 use Rattle.client_protocol.proofs.HeldLaws.{frames_first, frames_begun, frames_failed}
 
--- ---- what can be told apart
+-- ---- cases that can be told apart
 
 le_or : (m n : ℕ) → (m ≤ n) ⊎ (n < m)
 le_or zero n = inl (omega arith)

@@ -60,7 +60,7 @@ begun_short hello bytes n part begun small e = let (allowed, short) = begun_body
 pub lacks_rest : (hello : Option Version) (bytes : List ℕ) (n : ℕ) (part : List ℕ) → IsBeginning hello bytes → n < 2 ^ 32 → bytes ≡ length_bytes n ++ part → Lacks hello bytes (n - length part)
 lacks_rest hello bytes n part begun small e = let (allowed, short) = begun_body hello bytes n part begun small e in lacks_body hello bytes n part allowed e short
 
--- ---- moving the piece's front behind what is held
+-- ---- moving the piece's front to the end of the held bytes
 
 pub all_front : (xs : List ℕ) → take (length xs) xs ≡ xs
 all_front xs = take_all (length xs) xs (omega arith)

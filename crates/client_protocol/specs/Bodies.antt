@@ -201,7 +201,7 @@ pub record HasBadField (limits : Limits) (bytes : List ℕ) : Type 0 where
   pub known : kinds_of tag ≡ Some kinds
   pub bad : (fields : List Field) (tail : List ℕ) → TakesAll limits kinds rest fields tail → ⊥
 
--- there are bytes after the fields where none may be
+-- there are bytes after the fields although none may be there
 pub record HasTrailing (limits : Limits) (bytes : List ℕ) : Type 0 where
   pub body : Body
   pub kinds : List Kind

@@ -35,7 +35,7 @@ pub record OwedState : Type 0 where
   pub rest : List ℕ
   pub failures : ℕ
 
--- the connection took a front of what it was owed
+-- the connection took a front of the bytes owed to it
 pub record TakesOwed (old new : ChannelState) (owed left : OwedState) : Type 0 where
   pub front : List ℕ
   pub parts : owed.rest ≡ front ++ left.rest

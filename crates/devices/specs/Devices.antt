@@ -41,7 +41,7 @@ FailsToRead old new = (new.failures ≡ old.failures + 1) × (new.ends ≡ old.e
 abbrev pub IsAll : Option (List ℕ) → List ℕ → Type 0
 IsAll left bytes = IfSome left (λ all. bytes ≡ all)
 
--- the told bytes grew by a front of these bytes, and not by all of them
+-- the told bytes grew by a front of these bytes, but not by all of them
 abbrev pub AppendsPart : Option (List ℕ) → Option (List ℕ) → List ℕ → Type 0
 AppendsPart before after bytes =
     (front : List ℕ) × ((rest : List ℕ) × Appends before after front × (bytes ≡ front ++ rest) × (1 ≤ length rest))

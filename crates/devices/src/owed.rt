@@ -90,7 +90,7 @@ impl Owed {
         Taking::All
     }
 
-    /// Drops the bytes that were taken, and if nothing is owed, frees the room beyond what is kept for later.
+    /// If nothing is owed, drops the bytes that were taken, and frees the room beyond what is kept for later.
     pub fn settle(&mut self, alloc: Global)
         ensures { self.new ≡ self.old }
     {

@@ -14,7 +14,7 @@ use Rattle.flow_shape.specs.Jumps.{distance_of, falls_through, JumpsBy, target_o
 use Rattle.flow_shape.specs.FlowShape.{JumpsIntoWide, Falls, HasFault, IsWellShaped, Lands, flow_fault_unit, flow_fault_number}
 use Rattle.flow_shape.specs.Layouts.{HasNoFaultAt, IsFirstFaultAt, DoesLand}
 
--- a whole number that is a unit is this one
+-- a whole number that is a unit is equal to it
 pub unit_is : (z : ℤ) (t : ℕ) → unit_of z ≡ Some t → z ≡ pos t
 unit_is (pos u) t e = ap pos (some_is u t e)
 unit_is (negsuc u) t e = absurd cc

@@ -1,4 +1,4 @@
-//! What an instruction means for the flow of a program.
+//! How instructions affect the flow of a program.
 ghost use Rattle.std.specs.Prelude.{◌≡◌, ◌<◌, ◌^◌, ◌<ℤ◌, ◌≤ℤ◌, pos, IfSome, IfNone};
 ghost use Rattle.flow_shape.specs.Jumps.{distance_of, falls_through, target_of};
 

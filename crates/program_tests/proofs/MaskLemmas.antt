@@ -76,7 +76,7 @@ zero_at_seven : OnEveryPath masked_byte 7 (WasWritten masked_byte 0)
 unfolding instruction_at
 zero_at_seven = written_before 7 6 0 (λ e. absurd cc) to_seven (_, (refl, refl))
 
--- a register that is this one was written
+-- a register that equals this one was written
 so_written : (u k r : ℕ) → OnEveryPath masked_byte u (WasWritten masked_byte k) → k ≡ r → OnEveryPath masked_byte u (WasWritten masked_byte r)
 so_written u k r from is = subst (λ (x : ℕ). OnEveryPath masked_byte u (WasWritten masked_byte x)) is from
 
@@ -108,7 +108,7 @@ reading = (
   ),
 )
 
--- the load goes through r5, to which 0 to 7 was added
+-- the load uses r5, to which 0 to 7 was added
 is_masked : IsMasked masked_byte 4 5 Old 7
 unfolding instruction_at
 is_masked = record {

@@ -1,4 +1,4 @@
--- How the pieces that a conversation takes join.
+-- Joining the pieces that a conversation takes.
 use Rattle.std.proofs.Common.{◌≡◌, ℕ, List, [], ◌∷◌, ◌++◌, flat_map, Option, None, refl, sym, subst, ◌∙◌, inl, append_assoc, append-nil, arith}
 use Rattle.client_protocol.specs.declared.limits.Version.{Version}
 use Rattle.client_protocol.specs.Requests.{Request}

@@ -34,7 +34,7 @@ module _ {S : Type 0} (Answers : Option Version → S → Request → List Respo
   AnswersPiece held old piece written next new =
       (requests : List Request) × Feeds held piece requests next × Answered Answers (held_hello held) old requests written new
 
-  -- it took the piece, and the answers to its requests break off
+  -- it took the piece, but the answers to its requests break off
   abbrev pub BreaksPiece : Held → S → List ℕ → List ℕ → Held → S → Type 0
   BreaksPiece held old piece written next new =
       (requests : List Request) × Feeds held piece requests next × BreaksOff Answers (held_hello held) old requests written new

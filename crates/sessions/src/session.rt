@@ -28,7 +28,7 @@ pub enum SessionEnd {
     Closed,
     /// The reader told its end inside a frame.
     Cut,
-    /// What was read has this fault, and the client was told.
+    /// The input has this fault, and the client was told.
     Refused(ProtocolFault),
     /// A read failed.
     ReadFailed,

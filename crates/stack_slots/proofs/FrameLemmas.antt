@@ -215,7 +215,7 @@ bytes_small memory a n bs h e i =
     split : (i n : ℕ) → (i < n) ⊎ (n ≤ i)
     split i n = grind arith
 
--- bytes that a frame has as written can be loaded
+-- bytes that a frame marks as written can be loaded
 load_finds : (f : Frame) (a : Access) (memory : Partial) (distance : ℕ) → DescribesMemory f memory → AreWritten f a → MayBeAt a distance → (bs : List ℕ) × (bytes_at memory (first_address a.window + distance) (byte_count a.size) ≡ Some bs)
 load_finds f a memory distance d written at = bytes_present memory (first_address a.window + distance) (byte_count a.size) (λ i lt.
     let same : first_address a.window + (distance + i) ≡ first_address a.window + distance + i = omega arith in
@@ -254,7 +254,7 @@ load_range f a memory distance r holds small written d at =
       stands = holds (word_of found.0) (word_of-bound (byte_count a.size) found.0 len (bytes_small memory from (byte_count a.size) found.0 small found.1));
     }
 
--- what both sides had in a slot
+-- the values that both sides had in a slot
 record BothHad (x y : Option RegValue) (z : RegValue) : Type 0 where
   first : RegValue
   second : RegValue

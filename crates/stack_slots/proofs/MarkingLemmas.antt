@@ -110,7 +110,7 @@ touched_slots : (a : Access) (end slot : ℕ) → is_stack a.window ≡ true →
 touched_slots a end slot stack is =
     rw (stack, is) (ap (λ (t : Bool). t && nat_lt (8 * slot) (a.greatest + byte_count a.size)) (first_slot a.least slot) ∙ ap (λ (t : Bool). nat_le (a.least / 8) slot && t) (last_slot (a.greatest + byte_count a.size) slot))
 
--- slots in which those that the access may touch are forgotten
+-- the slots, without the values that the access may touch
 abbrev pub Forgets : Frame → Access → Values → ℕ → Type 0
 Forgets f a slots end = (i : ℕ) → slot_in slots i ≡ (if nat_le (a.least / 8) i && nat_lt i end then None else slot_in f.slots i)
 
@@ -155,7 +155,7 @@ pub value_missing : (f : Frame) (a : Access) (s : ℕ) (o : Option RegValue) →
 value_missing f a s None fills e = λ slot all. let here : slot ≡ s = eqb-true slot s (sym (fills slot) ∙ all) in rw here e
 value_missing f a s (Some x) fills e = search rules
 
--- marks that are set after slots were
+-- setting marks after the slots were changed
 pub marks_after : (f g h : Frame) (a : Access) → ((r : Window) (i : ℕ) → is_written g r i ≡ is_written f r i) → Marks g a h → Marks f a h
 marks_after f g h a same marks r i = marks r i ∙ ap (λ (t : Bool). (nat_eq a.least a.greatest && touches a r i) || t) (same r i)
 

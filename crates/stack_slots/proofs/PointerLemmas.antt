@@ -129,7 +129,7 @@ points_within p w low high l h at =
       smax = omega (arith, ints, reads, h, at.greatest);
     }
 
--- what a value stands for is a word
+-- a value stands only for words
 pub stands_word : (v : RegValue) (w : ℕ) → StandsFor v (Some w) → IsWord w
 stands_word Unwritten w stands = stands
 stands_word (Number r) w stands = stands.word

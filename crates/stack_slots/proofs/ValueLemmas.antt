@@ -1,4 +1,4 @@
--- What two values have in common.
+-- The join of two values.
 use Rattle.std.proofs.Common.{◌≡◌, ◌≢◌, ℕ, ◌∙◌, min, max, true, Option, Some, None, refl, sym, ap, subst, arith, inl, inr, ℤ}
 use Rattle.std.specs.Prelude.{◌≤ℤ◌}
 use Rattle.std.specs.Int.{int_min, int_max}
@@ -86,7 +86,7 @@ points_over_second p q t w window is at = record {
   address = at.address ∙ ap (λ (first : ℕ). address_of first at.offset) (sym window) ∙ ap (λ (r : Window). address_of (first_address r) at.offset) (sym is.window_is);
 }
 
--- the join stands for what the first stands for
+-- the join stands for each word of the first
 pub join_first : (a b z : RegValue) (o : Option ℕ) → IsJoin a b z → StandsFor a o → StandsFor z o
 join_first Unwritten b z o j stands = subst (λ (v : RegValue). StandsFor v o) (sym j) stands
 join_first (Number r) Unwritten z o j stands = subst (λ (v : RegValue). StandsFor v o) (sym j) (unwritten_takes (Number r) o stands)
@@ -102,7 +102,7 @@ join_first (PointerInto p) (PointerInto q) z (Some w) j stands =
       | inr two ↦ let any : IsAnyNumber z = when_false (IsPointerOver p q z) (IsAnyNumber z) two j in number_takes (PointerInto p) z (Some w) (λ e. cc) any stands
     ]
 
--- and for what the second stands for
+-- and for each word of the second
 pub join_second : (a b z : RegValue) (o : Option ℕ) → IsJoin a b z → StandsFor b o → StandsFor z o
 join_second Unwritten b z o j stands = subst (λ (v : RegValue). StandsFor v o) (sym j) (unwritten_takes b o stands)
 join_second (Number r) Unwritten z o j stands = subst (λ (v : RegValue). StandsFor v o) (sym j) stands

@@ -47,7 +47,7 @@ touches_slot a slot =
     is_stack a.window
     && (nat_lt a.least (SLOT_BYTES * slot + SLOT_BYTES) && nat_lt (SLOT_BYTES * slot) (a.greatest + byte_count a.size))
 
--- whether the access is to all of the stack's slot and to nothing else
+-- whether the access covers exactly the stack's slot
 abbrev pub fills_slot : Access → ℕ → Bool
 fills_slot a slot =
     is_stack a.window

@@ -16,7 +16,7 @@ use Rattle.stack_slots.specs.Marks.{is_marked}
 use Rattle.stack_slots.specs.Values.{StandsFor, IsJoin}
 use Rattle.stack_slots.specs.Accesses.{MayBeAt, touches, touches_slot, fills_slot, IsLoadRange, HasBytes, ReadsAs}
 
--- whether the frame has the window's byte at this distance as written
+-- whether the frame marks the window's byte at this distance as written
 unfoldable pub is_written : Frame → Window → ℕ → Bool
 is_written f Key i = false
 is_written f Old i = false
@@ -46,15 +46,16 @@ pub record DescribesMemory (f : Frame) (memory : Partial) : Type 0 where
 abbrev pub NoneUnwritten : Frame → Type 0
 NoneUnwritten f = (slot : ℕ) → spilled_in f slot ≢ Some Unwritten
 
--- the frame has each byte that the access may touch as written
+-- the frame marks each byte that the access may touch as written
 abbrev pub AreWritten : Frame → Access → Type 0
 AreWritten f a = (i : ℕ) → a.least ≤ i → i < a.greatest + byte_count a.size → is_written f a.window i ≡ true
 
--- the second frame has as written what the first has
+-- the second frame marks as written whatever the first does
 abbrev pub KeepsMarks : Frame → Frame → Type 0
 KeepsMarks f g = (r : Window) (i : ℕ) → is_written f r i ≡ true → is_written g r i ≡ true
 
--- the second frame has as written what the first has, and if the access has only one place, what it touches
+-- the second frame marks as written whatever the first does, and if the access has only one place, the bytes that it
+-- touches
 abbrev pub Marks : Frame → Access → Frame → Type 0
 Marks f a g =
     (r : Window) (i : ℕ) → is_written g r i ≡ ((nat_eq a.least a.greatest && touches a r i) || is_written f r i)
@@ -83,7 +84,7 @@ FindsLoaded f a x =
 abbrev pub Reloads : Frame → Access → RegValue → Type 0
 Reloads f a x = (slot : ℕ) (y : RegValue) → fills_slot a slot ≡ true → spilled_in f slot ≡ Some y → x ≡ y
 
--- a number of the range of all words that the access may load
+-- a number whose range is that of all words that the access may load
 pub record IsLoadedNumber (a : Access) (x : RegValue) : Type 0 where
   pub range : Range
   pub is : x ≡ Number range
@@ -93,11 +94,11 @@ pub record IsLoadedNumber (a : Access) (x : RegValue) : Type 0 where
 abbrev pub LoadsNumber : Frame → Access → RegValue → Type 0
 LoadsNumber f a x = ((slot : ℕ) → fills_slot a slot ≡ true → spilled_in f slot ≡ None) → IsLoadedNumber a x
 
--- the third frame has as written what both have
+-- the third frame marks as written whatever both do
 abbrev pub MeetsMarks : Frame → Frame → Frame → Type 0
 MeetsMarks f g h = (r : Window) (i : ℕ) → is_written h r i ≡ (is_written f r i && is_written g r i)
 
--- what is left of a slot's value: the join, if both had one
+-- the rest of a slot's value: the join, if both had one
 abbrev pub IsSlotJoin : Option RegValue → Option RegValue → Option RegValue → Type 0
 IsSlotJoin (Some a) (Some b) (Some c) = IsJoin a b c
 IsSlotJoin (Some a) (Some b) None = ⊥

@@ -54,7 +54,7 @@ pub(crate) fn are_marked(words: &[u64], first: usize, end: usize) -> bool
     true
 }
 
-/// Keeps the marks that both have, a word at a time.
+/// Keeps only the marks that both have, a word at a time.
 pub(crate) fn keep_common(words: &mut [u64], other: &[u64])
     requires same { length words.old ≡ length other.now }
     ensures exact { (i : ℕ) → is_marked words.new i

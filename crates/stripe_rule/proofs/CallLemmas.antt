@@ -11,7 +11,7 @@ use Rattle.stripe_rule.specs.Gains.{least, least_of, part_of, seen_of, mine_of, 
 use Rattle.stripe_rule.specs.Steps.{SetsPart, Extends, lengthened, grown}
 use Rattle.stripe_rule.proofs.HistoryLemmas.{IsUnder, IsOther, bool_cases}
 
--- a list that is not empty has its least
+-- a list that is not empty has a least number
 pub least_has : (q : ℕ) (ns : List ℕ) → has q ns ≡ true → has (least ns) ns ≡ true
 least_has q [] c = absurd (true≢false (sym c))
 least_has q (n ∷ ns) c = in_it n ns

@@ -112,7 +112,7 @@ module _ {D T B : Type 0} (does : ℕ → T → D → T → Type 0) (empty : T) 
     );
   }
 
-  -- a view that holds nothing becomes two that hold nothing and carry no more
+  -- a view that holds nothing becomes two that hold nothing and carry no other numbers
   module _ (s : State (Option B) (View D)) (id : ℕ) (v l w : View D) (at : At s.views id v) where
     abbrev both : List (View D)
     both = set s.views id l ++ w ∷ []

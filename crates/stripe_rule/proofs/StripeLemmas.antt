@@ -95,7 +95,7 @@ module _ {D T B : Type 0} (does : ℕ → T → D → T → Type 0) (empty : T) 
     holding = holding_set k r.log word home views id v w at held seen r.holding;
   }
 
-  -- a stripe of which one view knows what it knew before
+  -- a stripe about which the view learns nothing new
   pub stripe_else : (passes k word : ℕ) (home : Home B) (views : List (View D)) (id : ℕ) (v w : View D) → Stripe does empty content passes k word home views → At views id v
       → w.numbers ≡ v.numbers → part_of w k ≡ part_of v k → Stripe does empty content passes k word home (set views id w)
   stripe_else passes k word home views id v w r at numbers part = stripe_set passes k word home views id v w r at (fits_same k r.log v w numbers part (r.fits id v at))

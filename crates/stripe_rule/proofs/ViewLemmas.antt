@@ -35,7 +35,7 @@ module _ {D : Type 0} where
   pub same_view : (views : List (View D)) (id : ℕ) (v w : View D) → At views id v → At views id w → v ≡ w
   same_view views id v w a b = maybe.some-injective v w (sym a ∙ b)
 
-  -- where one view changes and keeps its numbers, each number is still carried once
+  -- if one view changes and keeps its numbers, each number is still carried once
   pub apart_set : (views : List (View D)) (id : ℕ) (v w : View D) → At views id v → w.numbers ≡ v.numbers → AreApart views → AreApart (set views id w)
   apart_set views id v w at same apart i j x y q ex ey cx cy = let a = was i x ex in let b = was j y ey in
       apart i j a.0 b.0 q a.1.0 b.1.0 (ap (has q) a.1.1 ∙ cx) (ap (has q) b.1.1 ∙ cy)

@@ -31,7 +31,7 @@ module _ {D : Type 0} where
   abbrev pub mine_of : View D → ℕ → List (Event D)
   mine_of v k = (part_of v k).mine
 
-  -- the events there that it was told of
+  -- the events there that it was told
   abbrev pub told_of : View D → ℕ → List (Event D)
   told_of v k = (part_of v k).told
 

@@ -7,7 +7,7 @@ use Rattle.std.proofs.Math.Nat.{div-eq_of_lt-le}
 use Rattle.bpf_model.specs.Words.{IsWord}
 use Rattle.value_ranges.specs.In.{IsWithinUnsigned}
 
--- common bits are at most either number
+-- AND is at most either number
 pub and_within : (x y b d : ℕ) → IsWord b → x ≤ b → y ≤ d → IsWithinUnsigned (bit_and x y) 0 (min b d)
 and_within x y b d n p q =
     let first : bit_and x y ≤ x = and_le_l x y in

@@ -71,7 +71,7 @@ between : (z lo hi : ℤ) (h : ℕ) → mag z < h → lo +ℤ pos h ≡ pos 0 �
 between (pos n) lo hi h p e f = (omega (arith, ints), omega (arith, ints))
 between (negsuc n) lo hi h p e f = (omega (arith, ints), omega (arith, ints))
 
--- the word of a number from -h to h - 1 reads so
+-- the word of a number from -h to h - 1 reads as that number
 pub word_within : (z lo hi : ℤ) (h : ℕ) → mag z < h → h ≤ 2 ^ 31 → lo +ℤ pos h ≡ pos 0 → hi +ℤ pos 1 ≡ pos h → IsWithinSigned (wrapped (2 ^ 64) z) lo hi
 word_within z lo hi h p q e f =
     let fits : FitsSigned w64 z = record { sfits = omega (arith, p, q) } in

@@ -4,13 +4,13 @@ use Rattle.bpf_model.specs.Words.{IsWord, signed}
 use Rattle.value_ranges.specs.declared.range.Range.{Range}
 use Rattle.value_ranges.specs.declared.bounds.Bounds.{Bounds}
 
--- a word whose unsigned reading lies within these
+-- a word whose unsigned reading lies within these bounds
 pub record IsWithinUnsigned (w low high : ℕ) : Type 0 where
   pub word : IsWord w
   pub umin : low ≤ w
   pub umax : w ≤ high
 
--- a word whose signed reading lies within these
+-- a word whose signed reading lies within these bounds
 pub record IsWithinSigned (w : ℕ) (low high : ℤ) : Type 0 where
   pub word : IsWord w
   pub smin : low ≤ℤ signed w

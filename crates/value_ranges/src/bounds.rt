@@ -1,4 +1,4 @@
-//! What the bounds of one reading say about the other reading.
+//! Bounds of one reading tighten those of the other.
 ghost use Rattle.std.specs.Prelude.{ℕ};
 ghost use Rattle.value_ranges.specs.In.{IsIn, IsWithin, IsInSome};
 

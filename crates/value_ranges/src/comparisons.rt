@@ -1,4 +1,4 @@
-//! What comparisons of words say about their ranges.
+//! Refines ranges by comparisons of their words.
 ghost use Rattle.std.specs.Prelude.{ℕ, ◌≡◌, ◌<◌, ◌≤◌, ◌≤ℤ◌, ◌<ℤ◌};
 ghost use Rattle.bpf_model.specs.Words.{signed};
 ghost use Rattle.value_ranges.specs.In.{IsIn, IsWithin, IsInSome, AreInSome};

@@ -1,4 +1,4 @@
-//! What a range becomes if its word is not another one.
+//! Refines a range if its word is not another one.
 ghost use Rattle.std.specs.Prelude.{ℕ, ◌≢◌, ◌≤◌, ◌≤ℤ◌};
 ghost use Rattle.bpf_model.specs.Words.{IsWord, signed};
 ghost use Rattle.value_ranges.specs.In.{IsIn, IsInSome, AreInSome};

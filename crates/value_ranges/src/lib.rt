@@ -1,4 +1,4 @@
-//! Ranges of 64-bit words, and what operations, conditions and joins make of them.
+//! Ranges of 64-bit words, and the ranges after operations, conditions and joins.
 //!
 //! The promise to the layers above: the result of an operation on words in its operands' ranges lies in the answered
 //! range (`alu`, `negate`, `mov`, `sign_extend`, `reorder`, clause `holds`). `refine` loses no pair of words for which

@@ -1,4 +1,4 @@
-//! What a condition says about the ranges of its words.
+//! Refines ranges by a condition on their words.
 ghost use Rattle.bpf_model.specs.Words.{signed};
 ghost use Rattle.bpf_model.specs.Conditions.{compare, holds};
 ghost use Rattle.value_ranges.specs.In.{KeepsPairs};

@@ -63,7 +63,7 @@ fn put_all<R: Wait>(rt: &R, map: &StripedMap, pass: &mut Pass) -> Option<()>
     put(rt, map, pass, b"c", &NINE)
 }
 
-/// Opens a map of those three entries, with a pass and a team of this many.
+/// Opens a map of those three entries, with a pass and a team of `workers`. Returns `None` if memory was refused.
 fn filled<R: Wait>(
     rt: &R,
     alloc: Global,

@@ -20,7 +20,7 @@ use std::mem;
 /// Why a conversation ended at a piece.
 #[derive(Clone, Copy, Debug, PartialEq, Eq)]
 pub enum ConversationEnd {
-    /// What was read has this fault. The requests before it are answered.
+    /// The input has this fault. The requests before it are answered.
     Refused(ProtocolFault),
     /// Memory for the piece was refused, and the piece was not taken.
     NoMemory,
