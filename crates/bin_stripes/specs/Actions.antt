@@ -20,8 +20,7 @@ pub data Action : Type 0 where
   -- the value of a key was replaced by the outcome of a program, with an argument
   replaced : List ℕ → Checked → Option (List ℕ) → Outcome → Action
 
--- if the action is done on the table of the stripe k of this many, it leaves the new one, and its outcome is the
--- recorded one
+-- doing the action on the table of the stripe k of this many leaves the new one, and its outcome is the recorded one
 abbrev pub Does : ℕ → ℕ → Table → Action → Table → Type 0
 Does stripes k table (called invocation reply) new =
     (stripe_of stripes invocation.key ≡ k) × Answers table invocation new reply

@@ -13,8 +13,7 @@ use Rattle.bin_stripes.specs.Actions.{Action, Does}
 abbrev pub empty : Table
 empty = finmap.empty
 
--- if the action is done on the table of the stripe k of this many, it leaves the new one, and its outcome is the
--- recorded one
+-- doing the action on the table of the stripe k of this many leaves the new one, and its outcome is the recorded one
 abbrev pub does : ℕ → ℕ → Table → GhostAction → Table → Type 0
 does stripes k table action new = Does stripes k table action.action new
 

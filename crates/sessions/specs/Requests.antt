@@ -61,7 +61,7 @@ Meets hello old (replacement program arg) responses new = AnswersReplaceAll old 
 Meets hello old count responses new = AnswersWalk old (λ entries reply. IsCount (length entries) reply) responses new
 Meets hello old unknown responses new = AnswersOnce old (tell.Refused 66 0) responses new
 
--- a request after this Hello is answered by these responses, and this is the state then; the first program registered has
+-- a request after this Hello is answered by these responses and leaves the last state; the first program registered has
 -- the number 0, the next 1
 abbrev pub Serves : Option Version → Alone → Request → List Response → Alone → Type 0
 Serves hello old request responses new = Meets hello old (asked (λ number. slice_get old.programs number) request) responses new

@@ -76,8 +76,8 @@ module _ {S : Type 0} (Answers : Option Version → S → Request → List Respo
       ((fault : ProtocolFault) × (number ≡ protocol_fault_number fault) × AllAnswered old read (failed fault) written new)
       ⊎ ((number ≡ 9) × RunsOut old read last written new)
 
-  -- a session that ended this way had read and written these bytes, this number of them by the last read, and the last
-  -- state is the one then. A request that was refused memory has an answer like the others, and ends nothing
+  -- a session that ended this way had read and written these bytes, this number of them by the last read, and left the
+  -- last state. A request that was refused memory has an answer like the others, and ends nothing
   abbrev pub Ended : S → SessionEnd → List ℕ → ℕ → List ℕ → S → Type 0
   Ended old Closed read last written new = (hello : Option Version) × AllAnswered old read (open_at hello []) written new
   Ended old Cut read last written new =

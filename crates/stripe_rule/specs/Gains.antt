@@ -82,8 +82,8 @@ module _ {D : Type 0} where
     pub begins : (k : ℕ) → k < stripes → StartsWith (seen_of w k) (seen_of v k)
     pub begins_other : (k : ℕ) → k < stripes → StartsWith (seen_of w k) (seen_of other k)
 
--- `does k table action new`: if the action is done on the table of the stripe k, it leaves the new one, and its answer is the
--- recorded one
+-- `does k table action new`: doing the action on the table of the stripe k leaves the new one, and its answer is the recorded
+-- one
 module _ {D T : Type 0} (does : ℕ → T → D → T → Type 0) (empty : T) where
   -- what always holds of a pass: of each stripe it has seen a legal list of events with numbers of opened passes; those
   -- with its own numbers are, in order, the ones that it made

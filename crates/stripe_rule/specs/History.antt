@@ -29,8 +29,7 @@ module _ {D : Type 0} where
   abbrev pub StartsWith : List (Event D) → List (Event D) → Type 0
   StartsWith es first = (rest : List (Event D)) × (es ≡ first ++ rest)
 
--- `does table action new`: if the action is done on the table, it leaves the new one, and its answer is the recorded
--- one
+-- `does table action new`: doing the action on the table leaves the new one, and its answer is the recorded one
 module _ {D T : Type 0} (does : T → D → T → Type 0) where
   -- the events, made in turn on the table, leave the new one
   abbrev pub Replays : T → List (Event D) → T → Type 0

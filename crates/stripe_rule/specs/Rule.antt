@@ -53,8 +53,8 @@ module _ {D : Type 0} where
     pub under : AreUnder v.numbers (mine_of v k)
     pub heard : StartsWith log (told_of v k)
 
--- `does k table action new`: if the action is done on the table of the stripe k, it leaves the new one, and its answer is the
--- recorded one. `content bins`: the table that the bins hold
+-- `does k table action new`: doing the action on the table of the stripe k leaves the new one, and its answer is the recorded
+-- one. `content bins`: the table that the bins hold
 module _ {D T B : Type 0} (does : ℕ → T → D → T → Type 0) (empty : T) (content : B → T) where
   -- the stripe is free: the word is 0, the bins are at home with the table that the list leaves, and no view holds it
   pub record IsFree (k : ℕ) (log : List (Event D)) (word : ℕ) (home : Home B) (views : List (View D)) : Type 0 where
