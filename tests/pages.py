@@ -1,12 +1,11 @@
 #!/usr/bin/env python3
 """Reads each page (*.md) of the repository, and fails if one breaks a rule. It runs nothing.
 
-Each relative link and anchor of every page must lead somewhere, and so must each path of this repository that stands in backquotes.
-
-The pages that are held to plain English also keep these rules:
+Each relative link and anchor of every page must lead somewhere. The pages that are held to plain English also keep these rules:
+  - A path of this repository in backquotes leads somewhere.
   - No sentence has more than 30 words. A sentence ends at a full stop, a question mark or an exclamation mark; a list item, a heading
     and a cell of a table each begin anew. Blocks of code are no sentences, and inline code is one word.
-  - 'if' comes at least 4 times in 1,000 words, on pages of 300 words and more.
+  - 'if' comes at least 4 times in 1,000 words, and 'where' at most 2 times, on pages of 300 words and more: a condition is an 'if'.
   - None of the phrases of BANNED comes.
   - The README has at most 700 words, with all that is in blocks and tables.
 
@@ -33,15 +32,15 @@ NOT_YET = ("docs/SERVER.md", "docs/C.md", "docs/REFUSALS.md", "clients/", "examp
 WITHOUT_IFS = ("CHANGELOG.md",)
 
 BANNED = {
-    "so many": r"\bso many\b",
-    "of which": r"\bof (which|whom)\b",
-    "behind": r"\bbehind\b",
-    "whence, thereof": r"\b(whence|whither|thereof|wherein|whereby)\b",
-    "what .. is": r"\bwhat (an?|the|each|every|all|no|any|its|their)( [\w'-]+){1,4} (is|are)\b",
-    "Where .. for If": r"(?<![\w,;:] )\bWhere (?![^.|]*\?)",
+    "so many, so much": r"(?i)\bso (many|much)\b",
+    "of which": r"(?i)\bof (which|whom)\b",
+    "behind": r"(?i)\bbehind\b",
+    "whence and its like": r"(?i)\b(whence|whither|thereof|wherein|whereby)\b",
+    "what .. is": r"(?i)\bwhat (an?|the|each|every|all|no|any|its|their)( [\w'-]+){1,4} (is|are)\b",
+    "Where .. for If": r"\bWhere (?![^.|]*\?)",
     "where .. for if": r"\bwhere (there|one|nothing|none|no|both|some|memory|nobody|all|any|either) ",
-    "only .. alone for just": r"\bonly\b[^.]{0,20}\balone\b",
 }
+MOST_WHERES = 2
 
 FENCE = re.compile(r"^\s*(```|~~~)")
 HEADING = re.compile(r"^#{1,6} +(.*)$")
@@ -50,7 +49,7 @@ CODE = re.compile(r"(`+)(.+?)\1")
 LIST_ITEM = re.compile(r"^\s*([-*]|\d+\.) +")
 PATH = re.compile(r"^(?:docs|tests|crates|clients|examples|bench|\.ci)/[\w./-]*[\w/]$")
 WORD = re.compile(r"[A-Za-z0-9][\w'.,:/+-]*|CODE")
-END_OF_SENTENCE = re.compile(r"(?<=[.!?])[\"')*]* +(?=[A-Z0-9`\"'(*\[]|CODE)")
+END_OF_SENTENCE = re.compile(r"(?<=[.!?])[\"')*]* +(?=[A-Z0-9`\"'(*\[]|CODE|r\d)")
 
 
 class Page(NamedTuple):
@@ -105,14 +104,14 @@ def pieces(page: Page) -> Iterator[str]:
     for line in [*page.lines, ""]:
         begins = not line.strip() or HEADING.match(line) or line.lstrip().startswith("|") or LIST_ITEM.match(line)
         if begins and paragraph:
-            yield " ".join(paragraph)
+            yield prose_of(" ".join(paragraph))
             paragraph = []
         if line.lstrip().startswith("|"):
             yield from (cell.strip() for cell in prose_of(line).strip().strip("|").split("|"))
         elif HEADING.match(line):
             yield prose_of(HEADING.match(line).group(1))
         elif line.strip():
-            paragraph.append(prose_of(LIST_ITEM.sub("", line).strip()))
+            paragraph.append(LIST_ITEM.sub("", line).strip())
 
 
 def sentences(page: Page) -> Iterator[str]:
@@ -130,16 +129,19 @@ def faults_of_style(page: Page) -> Iterator[str]:
         for phrase, pattern in BANNED.items():
             if re.search(pattern, sentence):
                 yield f"'{phrase}': {sentence}"
-    if page.words >= LEAST_PAGE and page.name not in WITHOUT_IFS and ifs_of(page) < LEAST_IFS:
-        yield f"{ifs_of(page):.1f} times 'if' in 1,000 words, and at least {LEAST_IFS} are wanted"
+    if page.words >= LEAST_PAGE and page.name not in WITHOUT_IFS:
+        if often(page, "if") < LEAST_IFS:
+            yield f"{often(page, 'if'):.1f} times 'if' in 1,000 words, and at least {LEAST_IFS} are wanted"
+        if often(page, "where") > MOST_WHERES:
+            yield f"{often(page, 'where'):.1f} times 'where' in 1,000 words, and at most {MOST_WHERES} are wanted"
     if page.name == "README.md" and page.words > MOST_OF_README:
         yield f"{page.words} words, and at most {MOST_OF_README} are wanted"
 
 
-def ifs_of(page: Page) -> float:
-    """How often 'if' comes in 1,000 words of prose."""
+def often(page: Page, word: str) -> float:
+    """How often a word comes in 1,000 words of prose."""
     prose = " ".join(pieces(page))
-    return 1000 * len(re.findall(r"\bif\b", prose, re.IGNORECASE)) / max(1, len(prose.split()))
+    return 1000 * len(re.findall(rf"\b{word}\b", prose, re.IGNORECASE)) / max(1, len(prose.split()))
 
 
 def anchor_of(heading: str) -> str:
@@ -153,8 +155,15 @@ def anchors_of(text: str) -> set[str]:
     return {anchor_of(heading.group(1)) for heading in headings if heading}
 
 
+def faults_of_paths(page: Page) -> Iterator[str]:
+    """Paths in backquotes that lead nowhere. What a build makes is in out/, and NAME is any crate's."""
+    for path in (found.group(2) for line in page.lines for found in CODE.finditer(line)):
+        if PATH.match(path) and "/out/" not in path and "NAME" not in path and not (ROOT / path).exists():
+            yield f"a path leads nowhere: {path}"
+
+
 def faults_of_links(page: Page) -> Iterator[str]:
-    """Links and paths that lead nowhere."""
+    """Links that lead nowhere."""
     folder = (ROOT / page.name).parent
     for line in page.lines:
         for target in (found.group(2) for found in LINK.finditer(CODE.sub("CODE", line))):
@@ -166,9 +175,6 @@ def faults_of_links(page: Page) -> Iterator[str]:
                 yield f"a link leads nowhere: {target}"
             elif anchor and anchor not in anchors_of(linked.read_text(encoding="utf-8")):
                 yield f"a link's anchor is no heading: {target}"
-        for path in (found.group(2) for found in CODE.finditer(line)):
-            if PATH.match(path) and "/out/" not in path and "NAME" not in path and not (ROOT / path).exists():
-                yield f"a path leads nowhere: {path}"
 
 
 def main() -> int:
@@ -181,10 +187,13 @@ def main() -> int:
         if given.page and page.name not in given.page:
             continue
         count += 1
-        told = [*faults_of_links(page), *(faults_of_style(page) if page.is_held else [])]
+        told = [*faults_of_links(page)]
+        if page.is_held:
+            told += [*faults_of_paths(page), *faults_of_style(page)]
         faults += len(told)
         if given.count:
-            print(f"{page.words:6} words {ifs_of(page):5.1f} if {'' if page.is_held else ' (not held yet)'} {page.name}")
+            figures = f"{page.words:6} words, {often(page, 'if'):5.1f} if, {often(page, 'where'):4.1f} where"
+            print(f"{figures}, {'held' if page.is_held else 'not yet'}: {page.name}")
         for fault in told:
             print(f"{page.name}: {fault}")
     print(f"pages: {count} read, {faults} faults")
