@@ -27,7 +27,7 @@ LEAST_PAGE = 300
 MOST_OF_README = 700
 
 # Pages that are only looked at for their links: nobody has rewritten them yet.
-NOT_YET = ("docs/SERVER.md", "docs/C.md", "docs/REFUSALS.md", "clients/", "examples/", "crates/")
+NOT_YET = ("docs/SERVER.md", "docs/C.md", "docs/REFUSALS.md", "crates/")
 # A list of dates, and the text of a law.
 WITHOUT_IFS = ("CHANGELOG.md",)
 
