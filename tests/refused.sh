@@ -1,9 +1,11 @@
 #!/usr/bin/env bash
 # Runs tests with each of their requests for memory refused in turn: a refused call must leave what it found, and succeed at
-# the next try. One is run with each request between its marks refused. Behind the gate, which builds the tests; by hand after
-# `rt test` in the crates named below.
+# the next try. One is run with each request between its marks refused. Then `check` and a Register of long programs, which must answer
+# 9 if a request was refused, and only then. After the gate, which builds the tests and bpfmap; by hand after `rt test` in the
+# crates named below and `rt run` in crates/bpfmap.
 set -euo pipefail
 cd "$(dirname "$0")/.."
+bpfmap=${program:-crates/bpfmap/out/bpfmap}
 work=$(mktemp -d)
 trap 'rm -rf "$work"' EXIT
 rows=0
@@ -88,6 +90,103 @@ refuse_each walk_tests walks::refused::a_refused_walk_changes_nothing
 refuse_each session_tests frames::streams::a_refused_piece_can_be_fed_again
 refuse_each session_tests bpfmap::refused_memory::a_refused_request_is_told
 refuse_each session_tests bpfmap::refused_memory::a_refused_request_leaves_the_table
+
+[ -x "$bpfmap" ] || { echo "refused: $bpfmap is not built; run the gate first" >&2; exit 1; }
+
+# Programs of a shape with so many units, in hex: straight code; a ladder of jumps over one unit; far jumps, each to a unit of its own,
+# while each slot of the stack has a spilled value; stores over the result and the stack. The last unit is an EXIT.
+shape() {
+    awk -v shape="$1" -v units="$2" '
+        function unit(opcode, registers, offset, imm) {
+            printf "%02x %02x %02x %02x %02x %02x 00 00\n", opcode, registers, offset % 256, int(offset / 256) % 256, imm % 256, imm / 256
+        }
+        function ladder(at) { if (at % 2) unit(21, 6, 1, at); else unit(183, 9, 0, at) }
+        function far(at) {
+            if (at < 64) unit(123, 106, 65536 - 8 * (at + 1), 0)
+            else if (at < middle) unit(21, 6, middle - 64, at)
+            else unit(183, 9, 0, at)
+        }
+        function store(at) { if (at % 2) unit(115, 100, at % 1024, 0); else unit(123, 106, 65536 - 8 * (at % 64 + 1), 0) }
+        BEGIN {
+            middle = 64 + int((units - 65) / 2)
+            if (units > 1) unit(183, 0, 0, 0)
+            for (at = 1; at < units - 1; at++)
+                if (shape == "straight") unit(7, 0, 0, 0)
+                else if (shape == "ladder") ladder(at)
+                else if (shape == "far") far(at - 1)
+                else store(at)
+            unit(149, 0, 0, 0)
+        }'
+}
+
+# Runs bpfmap once on $work/in, with each request refused in a child: $work/each has what each child printed and its status. A step
+# above 1 refuses each request alone that it divides.
+run_each() {
+    local step=$1
+    shift
+    rm -f "$work/each" "$work/requests"
+    EACH_STEP=$step EACH_FILE=$work/each REQUESTS_FILE=$work/requests LD_PRELOAD=$work/refuse.so \
+        timeout 60 "$bpfmap" "$@" < "$work/in" > "$work/out" 2> "$work/err" || true
+    refused=$(grep -ac '^status ' "$work/each" || true)
+    rows=$((rows + 1))
+    total=$((total + refused))
+}
+
+# Counts a row that holds, or says what failed.
+judge() {
+    local name=$1
+    shift
+    if "$@"; then passed=$((passed + 1)); else fail "$name: $(cat "$work/out" "$work/err")"; fi
+}
+
+# Whether the program itself printed this, each child 9 alone, and there was one at least.
+answers_9() {
+    [ "$(cat "$work/out")" = "$1" ] && [ "$refused" -gt 0 ] &&
+        [ "$(sort -u "$work/each")" = $'refused 9 at 0\nstatus 1' ] && [ "$(grep -c refused "$work/each")" = "$refused" ]
+}
+
+# Whether the program itself registered the program, and no child did.
+registers_none() {
+    LC_ALL=C grep -aq $'\x81' "$work/out" && [ "$refused" -gt 0 ] && ! LC_ALL=C grep -aq $'\x81' "$work/each"
+}
+
+# Bytes in hex, as bytes.
+bytes_of() {
+    local hex
+    hex=$(tr -d ' \n')
+    printf '%b' "$(sed 's/../\\x&/g' <<< "$hex")"
+}
+
+# The frames of a Hello and of a Register of the program in $work/program, whose result has 1,024 bytes.
+register() {
+    printf '0000000200020000%04x01004001000100' $((9 + 8 * $(wc -l < "$work/program")))
+    printf '0400'
+    cat "$work/program"
+}
+
+# A shape, its units, what `check` prints of it, and a step: each request of a check and of a Register is refused.
+refuse_each_of_shape() {
+    local name="$1 of $2 units"
+    shape "$1" "$2" > "$work/program"
+    cp "$work/program" "$work/in"
+    run_each "$4" check --result 1024
+    judge "check, $name" answers_9 "$3"
+    [ "$3" = accepted ] || return 0
+    register | bytes_of > "$work/in"
+    run_each "$4" exec
+    judge "Register, $name" registers_none
+}
+
+total=0
+begun=$SECONDS
+for name in straight ladder far store; do
+    refuse_each_of_shape "$name" 1 "refused 40 at 0" 1
+    for units in 2 64 512; do
+        refuse_each_of_shape "$name" "$units" accepted 1
+    done
+    refuse_each_of_shape "$name" 4096 accepted 7
+done
+echo "refused: $total requests of check and Register, one at a time, in $((SECONDS - begun)) seconds"
 
 echo "refused: $rows tests, $passed passed, $failed failed"
 [ "$failed" = 0 ]
