@@ -1,15 +1,15 @@
 #!/usr/bin/env bash
 # Runs the tests without any proof: those of each test crate by `rt try`, two crates at a time; then the shell scripts here that the
-# gate runs, where their programs are built, but for refused.sh, which takes the tests as `rt test` builds them. For a first look, not
-# for a verdict.
+# gate runs, if their programs are built, but for refused.sh, which takes the tests as `rt test` builds them. This doesn't prove anything;
+# use it while you work.
 set -euo pipefail
 cd "$(dirname "$0")/.."
 work=$(mktemp -d)
 trap 'rm -rf "$work"' EXIT
 
-# Runs the tests of one crate, and says whether they passed.
+# Runs the tests of one crate, and says whether they passed. On a busy machine some take longer than the minute that rt gives them.
 try() {
-    if (cd "crates/$1" && rt try --test) > "$work/$1" 2>&1; then
+    if (cd "crates/$1" && rt try --test --seconds 600) > "$work/$1" 2>&1; then
         echo "$1: passed"
     else
         cat "$work/$1"
@@ -18,7 +18,7 @@ try() {
     fi
 }
 
-# Runs a script where all these programs are built.
+# Runs a script if all these programs are built.
 run_where_built() {
     local script=$1 program
     shift
