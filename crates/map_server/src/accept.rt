@@ -9,7 +9,7 @@ use crate::sockets::{hear_out, set_up};
 use crate::telling::Telling;
 use bpf_model::NoMemory;
 use client_protocol::ShortResponse;
-use crews::Accept;
+use crews::{Accept, Crew};
 use devices::{Sink, Source, StreamSink, StreamSource};
 use sessions::SessionEnd;
 use std::alloc::Global;
@@ -208,20 +208,20 @@ impl<'a, 'b, H: Wait + Clock, E: Sink> TcpAccept<'a, 'b, H, E> {
 }
 
 impl<'a, 'b, H: Wait + Clock, E: Sink> Accept<TcpReader, TcpWriter> for TcpAccept<'a, 'b, H, E> {
-    fn next(&self, worker: u32) -> Option<(TcpReader, TcpWriter)> {
-        if !self.quotas.take(worker) {
+    fn next(&self, crew: &Crew) -> Option<(TcpReader, TcpWriter)> {
+        if !self.quotas.take(crew.worker) {
             return None;
         }
         match self.next_client() {
             Ok(client) => Some(client),
             Err(error) => {
-                self.arrivals.tell_failure(worker, &error);
+                self.arrivals.tell_failure(crew.worker, &error);
                 None
             }
         }
     }
 
-    fn ended(&self, _worker: u32, reader: TcpReader, writer: TcpWriter, end: SessionEnd) {
+    fn ended(&self, _crew: &Crew, reader: TcpReader, writer: TcpWriter, end: SessionEnd) {
         let (stream, _) = writer.into_inner().into_parts();
         if matches!(end, SessionEnd::Refused(_) | SessionEnd::NoMemory) {
             hear_out(self.arrivals.rt, stream.as_stream());
