@@ -5,14 +5,16 @@ ghost use Rattle.client_protocol.specs.Frames.Held.{open_at};
 ghost use Rattle.sessions.specs.Conversations.{Exchange as TheExchange};
 ghost use Rattle.crews.specs.Stations.{Station};
 ghost use Rattle.crews.specs.Partings.{SaysSo, PartsSo};
-ghost use Rattle.crews.specs.Lives.{known, Stands};
+ghost use Rattle.crews.specs.Arrivals.{CountGoes};
+ghost use Rattle.crews.specs.Lives.{Known, known, Turn, Stands};
+ghost use Rattle.crews.specs.Seats.{IsClient};
 ghost use Rattle.crews.specs.Turns.{TellsRefusal, LeavesAt, SaysMore, TurnsTo};
 
 use crate::clients::{Clients, Parting, Standing};
 use crate::serving::Serving;
 use crate::tokens::Tokens;
 use crate::worker::Worker;
-use bin_stripes::Gate;
+use bin_stripes::{Gate, Pass};
 use bpf_model::{NoMemory, Value};
 use client_protocol::{Feeder, Request};
 use devices::{Channel, Owed, Received, Taking};
@@ -236,11 +238,12 @@ impl<'a, C: Channel> Client<'a, C> {
     }
 
     /// Gives the client up, as it stands.
-    pub fn part<P: Clients<C>>(self, clients: &mut P, worker: u32, seat: usize)
-        requires { (came : C) × (exchanges : List (TheExchange Station))
-            × P.gave came × Stands C.state came self.channel exchanges self.tokens self.feeder self.owed self.leaving }
+    pub fn part<P: Clients<C>>(self, clients: &mut P, pass: &Pass, seat: usize)
+        requires { (old : Known) × (turns : List Turn) × (new : Known) × (clients : ℕ)
+            × (new.pass ≡ pass.now) × IsClient C.state P.gave old turns new clients self }
+        ensures { CountGoes P.there clients.old 1 clients.new 0 }
     {
         let parting = parting_of(self.leaving, self.owed.len());
-        clients.ended(worker, Some(seat), self.channel, parting);
+        clients.ended(pass, Some(seat), self.channel, parting);
     }
 }

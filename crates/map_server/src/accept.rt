@@ -8,7 +8,7 @@ use crate::quotas::Quotas;
 use crate::shared_stream::SharedStream;
 use crate::sockets::{hear_out, set_up, tell_no_room};
 use crate::telling::Telling;
-use crews::Accept;
+use crews::{Accept, Crew};
 use devices::{Sink, Source, StreamSink, StreamSource};
 use sessions::SessionEnd;
 use std::alloc::Global;
@@ -164,21 +164,21 @@ impl<'a, 'b, H: Wait + Clock, E: Sink> TcpAccept<'a, 'b, H, E> {
 }
 
 impl<'a, 'b, H: Wait + Clock, E: Sink> Accept<TcpReader, TcpWriter> for TcpAccept<'a, 'b, H, E> {
-    fn next(&self, worker: u32) -> Option<(TcpReader, TcpWriter)> {
-        if !self.quotas.has_left(worker) {
+    fn next(&self, crew: &Crew) -> Option<(TcpReader, TcpWriter)> {
+        if !self.quotas.has_left(crew.worker) {
             return None;
         }
-        self.quotas.begin(worker);
+        self.quotas.begin(crew.worker);
         match self.next_client() {
             Ok(client) => Some(client),
             Err(error) => {
-                self.arrivals.tell_failure(worker, &error);
+                self.arrivals.tell_failure(crew.worker, &error);
                 None
             }
         }
     }
 
-    fn ended(&self, _worker: u32, reader: TcpReader, writer: TcpWriter, end: SessionEnd) {
+    fn ended(&self, _crew: &Crew, reader: TcpReader, writer: TcpWriter, end: SessionEnd) {
         let (stream, _) = writer.into_inner().into_parts();
         if matches!(end, SessionEnd::Refused(_) | SessionEnd::NoMemory) {
             hear_out(self.arrivals.rt, stream.as_stream());

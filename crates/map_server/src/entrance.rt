@@ -60,6 +60,11 @@ impl<'a, 'b, H: Wait + Clock + Net, E: Sink> Entrance<'a, 'b, H, E> {
         }
     }
 
+    /// What tells standard error.
+    pub(crate) fn into_telling(self) -> Telling<'b, E> {
+        self.arrivals.into_telling()
+    }
+
     /// Whether a worker with this number of clients has no more than its share of all clients.
     pub(crate) fn is_turn_of(&self, clients: u64) -> bool {
         clients.saturating_mul(self.quotas.workers()) <= self.arrivals.here()

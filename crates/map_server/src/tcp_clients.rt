@@ -6,6 +6,7 @@ use crate::door::Door;
 use crate::entrance::{Arrival, Entrance};
 use crate::seats::Seats;
 use crate::stopwatch::Stopwatch;
+use bin_stripes::Pass;
 use bpf_model::NoMemory;
 use crews::{Clients, Event, Parting, Standing};
 use devices::Sink;
@@ -196,7 +197,7 @@ fn was_refused(parting: Parting) -> bool {
 }
 
 impl<'a, 'b, 'c, H: Wait + Clock + Net, E: Sink> Clients<Connection> for TcpClients<'a, 'b, 'c, H, E> {
-    fn next(&mut self) -> Event<Connection> {
+    fn next(&mut self, _pass: &Pass) -> Event<Connection> {
         for _ in 0..u64::MAX {
             if let Some(event) = self.event_at_hand() {
                 return event;
@@ -232,7 +233,7 @@ impl<'a, 'b, 'c, H: Wait + Clock + Net, E: Sink> Clients<Connection> for TcpClie
         }
     }
 
-    fn ended(&mut self, _worker: u32, seat: Option<usize>, channel: Connection, parting: Parting) {
+    fn ended(&mut self, _pass: &Pass, seat: Option<usize>, channel: Connection, parting: Parting) {
         if let Some(seat) = seat {
             self.seats.leave(seat);
         }
