@@ -50,6 +50,7 @@ impl Connection {
 }
 
 /// What was read and thrown away.
+#[derive(Clone, Copy, Debug, PartialEq, Eq)]
 pub(crate) enum Discarded {
     /// A piece; more may be there.
     Piece,

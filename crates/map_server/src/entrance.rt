@@ -16,6 +16,7 @@ use std::sync::{Mutex, Wait};
 use std::time::Duration;
 
 /// What a look for the next client gave.
+#[derive(Drop)]
 pub(crate) enum Arrival {
     /// A client.
     Came(Connection),
