@@ -102,10 +102,11 @@ impl Departures {
         let Some(departure) = self.places.get_mut(place) else {
             return;
         };
-        if let Some(kept) = departure
-            && !kept.hear()
-        {
-            *departure = None;
+        let Some(mut heard) = departure.take() else {
+            return;
+        };
+        if heard.hear() {
+            *departure = Some(heard);
         }
     }
 

@@ -71,11 +71,12 @@ impl Door {
 
     /// The worker's clients have had their turns, and it is this time.
     pub(crate) fn begin_round(&mut self, now: Duration) {
-        match self.state {
-            State::Until(time) if time <= now => self.state = State::Left,
-            State::Left if self.looks == 0 => self.state = State::Knocked,
-            _ => {}
-        }
+        let state = self.state;
+        self.state = match state {
+            State::Until(time) if time <= now => State::Left,
+            State::Left if self.looks == 0 => State::Knocked,
+            other => other,
+        };
         self.looks = MOST_LOOKS;
     }
 
