@@ -14,6 +14,7 @@ mod door;
 mod entrance;
 mod opening;
 mod patience;
+mod posts;
 mod program;
 mod quotas;
 mod seats;
