@@ -1,0 +1,1 @@
+use Rattle.crews.proofs.attending.Attendant.drop_all.Goals as goal
