@@ -1,6 +1,6 @@
 -- How many clients are there, and how many seats are taken.
 use Rattle.std.proofs.Common.{◌≡◌, ℕ, zero, suc, ◌+◌, List, [], ◌∷◌, Option, Some, None, is_some, count_by, slice_index_or, ◌<◌, ◌≤◌, length, inl, inr, refl, sym, ap, subst, ◌∙◌, arith}
-use Rattle.std.proofs.lemmas.Bool.{cases_eq}
+use Rattle.std.proofs.lemmas.Bool.{cases_eq, cases_lt}
 use Rattle.slab.specs.Slab.{Slab, get, Updates, slab_len}
 use Rattle.crews.specs.Arrivals.{CountGoes}
 
@@ -32,5 +32,17 @@ still_empty seats after seat other updates empty = elim (cases_eq other seat) [
   | inr apart ↦ updates.others other apart ∙ empty
 ]
 
-pub stays_empty : {T : Type 0} (seats after : Slab T) → after ≡ seats → (other : ℕ) → get seats other ≡ None → get after other ≡ None
-stays_empty {T} seats after same other empty = subst (λ (s : Slab T). get s other ≡ None) (sym same) empty
+-- one seat more is empty
+pub one_more_empty : {T : Type 0} (seats after : Slab T) (i : ℕ) → get after i ≡ None → ((other : ℕ) → get seats other ≡ None → get after other ≡ None)
+    → ((j : ℕ) → j < i → get seats j ≡ None) → (j : ℕ) → j < i + 1 → get after j ≡ None
+one_more_empty seats after i gone others below j low = elim (cases_eq j i) [
+  | inl here ↦ subst (λ (k : ℕ). get after k ≡ None) (sym here) gone
+  | inr apart ↦ others j (below j (omega (arith, low, apart)))
+]
+
+-- all seats are
+pub all_empty : {T : Type 0} (seats : Slab T) (i end : ℕ) → end ≤ i → ((j : ℕ) → j < i → get seats j ≡ None) → ((j : ℕ) → end ≤ j → get seats j ≡ None) → slab_len seats ≡ 0
+all_empty seats i end passed below above = none_taken seats.slots (λ j. elim (cases_lt j i) [
+  | inl low ↦ below j low
+  | inr high ↦ above j (omega (arith, passed, high))
+])

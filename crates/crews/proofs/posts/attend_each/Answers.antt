@@ -16,7 +16,13 @@ work-seats-requires-after_bounds g c = λ κs lives i p low is.
             (subst (λ (all : List (Option (Post _))). p.now ≡ slice_index_or all i p.now) seats is),
         c.requires.serves,
       ),
-      ?,
+      (
+        record { owned = c.type_bounds.send-P.owned; leaving = c.type_bounds.send-P.leaving },
+        record { shared = c.type_bounds.sync-H.shared },
+        record { shared = c.type_bounds.sync-C.shared },
+        record { shared = c.type_bounds.sync-P.shared },
+        record { shared = c.type_bounds.sync-G.shared },
+      ),
     )
 
 -- what the workers did, seat by seat
@@ -39,7 +45,7 @@ attended_some g c None new here = absurd here
 
 pub left_of-requires-clause-some : goal.left_of-requires-clause-some
 left_of-requires-clause-some g c =
-    each_left _ (attended_some g c) (map Some c.args.posts.items) c.work-seats.result.0.items (attended g c)
+    each_left (IsAttendedSeat g.C.Channel.state g.P.Clients.gave g.P.Clients.there c.args.worker.now.map.now) (attended_some g c) (map Some c.args.posts.items) c.work-seats.result.0.items (attended g c)
 
 -- and of those that are back
 back : (g : _) (c : In-Ok g) (left : List (Post _)) → map Some left ≡ c.work-seats.result.0.items
@@ -49,19 +55,19 @@ back g c left is = subst (λ seats. EachSeat (IsAttendedSeat g.C.Channel.state g
 pub returns-clause-same : goal.returns-clause-same
 returns-clause-same g c =
     let c' = (goal.at.returns-clause-same g c).In-Ok in
-    pairwise_of _ (λ old new. CarriesSame old.crew new.crew) (λ old new here. here.same) c.args.posts.items c.left_of.result.items (back g c' c.left_of.result.items c.left_of.ensures)
+    pairwise_of (IsAttendedSeat g.C.Channel.state g.P.Clients.gave g.P.Clients.there c.args.worker.now.map.now) (λ old new. CarriesSame old.crew new.crew) (λ old new here. here.same) c.args.posts.items c.left_of.result.items (back g c' c.left_of.result.items c.left_of.ensures)
 
 pub returns-clause-map : goal.returns-clause-map
 returns-clause-map g c =
     let c' = (goal.at.returns-clause-map g c).In-Ok in
-    all_of _ (λ post. IsCrewOf c.args.worker.now.map.now post.crew) (λ old new here. here.map) c.args.posts.items c.left_of.result.items (back g c' c.left_of.result.items c.left_of.ensures)
+    all_of (IsAttendedSeat g.C.Channel.state g.P.Clients.gave g.P.Clients.there c.args.worker.now.map.now) (λ post. IsCrewOf c.args.worker.now.map.now post.crew) (λ old new here. here.map) c.args.posts.items c.left_of.result.items (back g c' c.left_of.result.items c.left_of.ensures)
 
 pub returns-clause-lived : goal.returns-clause-lived
 returns-clause-lived g c =
     let c' = (goal.at.returns-clause-lived g c).In-Ok in
-    pairwise_of _ (λ old new. HasLived g.C.Channel.state g.P.Clients.gave old.crew new.crew) (λ old new here. here.lived) c.args.posts.items c.left_of.result.items (back g c' c.left_of.result.items c.left_of.ensures)
+    pairwise_of (IsAttendedSeat g.C.Channel.state g.P.Clients.gave g.P.Clients.there c.args.worker.now.map.now) (λ old new. HasLived g.C.Channel.state g.P.Clients.gave old.crew new.crew) (λ old new here. here.lived) c.args.posts.items c.left_of.result.items (back g c' c.left_of.result.items c.left_of.ensures)
 
 pub returns-clause-there : goal.returns-clause-there
 returns-clause-there g c =
     let c' = (goal.at.returns-clause-there g c).In-Ok in
-    pairwise_of _ (λ old new. CountGoes g.P.Clients.there old.clients 0 new.clients 0) (λ old new here. here.count) c.args.posts.items c.left_of.result.items (back g c' c.left_of.result.items c.left_of.ensures)
+    pairwise_of (IsAttendedSeat g.C.Channel.state g.P.Clients.gave g.P.Clients.there c.args.worker.now.map.now) (λ old new. CountGoes g.P.Clients.there old.clients 0 new.clients 0) (λ old new here. here.count) c.args.posts.items c.left_of.result.items (back g c' c.left_of.result.items c.left_of.ensures)

@@ -1,8 +1,8 @@
 use Rattle.std.proofs.Common.{sym, arith}
 use Rattle.slab.specs.Slab.{slab_len}
 use Rattle.crews.specs.Lives.{known}
-use Rattle.crews.proofs.CountLemmas.{counts_by}
-use Rattle.crews.proofs.SeatLemmas.{client_in, seat_left, still_empty}
+use Rattle.crews.proofs.CountLemmas.{counts_by, still_empty}
+use Rattle.crews.proofs.SeatLemmas.{client_in, seat_left}
 use Rattle.crews.proofs.attending.Attendant.drop_one.Goals as goal
 
 pub part-requires : goal.part-requires

@@ -1,7 +1,7 @@
-use Rattle.std.proofs.Common.{◌++◌, ◌+◌, arith, ap}
+use Rattle.std.proofs.Common.{◌++◌, ◌+◌, arith}
 use Rattle.slab.specs.Slab.{slab_len}
 use Rattle.crews.specs.Lives.{known}
-use Rattle.crews.proofs.CountLemmas.{counts_by, counts_stay}
+use Rattle.crews.proofs.CountLemmas.{counts_by}
 use Rattle.crews.proofs.SeatLemmas.{client_in, client_unfailed, has_turn, no_more, seat_left}
 use Rattle.crews.proofs.attending.Attendant.serve_one.Goals as goal
 
@@ -21,10 +21,6 @@ go_on-requires-clause-client g c =
     let (more, out, none, is) = has_turn g.C.Channel.state g.P.Clients.gave old turns (known s.room.serving) (known t.room.serving) s.came s.seats c.try_remove.new.self c.args.seat c.in-Some.client t.self
     c.in-Some.ensures.value c.in-Some.ensures.updates c.turn-standing.ensures.number c.turn-standing.ensures.turns attended in
     (old, turns ++ more, is)
-
-pub returns-in_default-clause-there : goal.returns-in_default-clause-there
-returns-in_default-clause-there g c =
-    counts_stay g.P.Clients.there c.args.clients.now (slab_len c.args.self.now.seats) (slab_len c.try_remove.new.self) (ap slab_len (grind c.in_default.ensures.absent))
 
 pub returns-in_default-clause-attended : goal.returns-in_default-clause-attended
 returns-in_default-clause-attended g c old turns attended =

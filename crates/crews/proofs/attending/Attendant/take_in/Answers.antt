@@ -25,15 +25,15 @@ pub returns-in_default-reserve-clause-there : goal.returns-in_default-reserve-cl
 returns-in_default-reserve-clause-there g c =
     let n = slab_len c.args.self.now.seats in
     let same = ap slab_len c.reserve.ensures.rest_kept in
-    counts_by g.P.Clients.there c.args.clients.now c.turn_away.new.clients 1 0 n (n + 1) (slab_len c.reserve.new.self) (omega arith) (omega (arith, same)) c.turn_away.ensures
+    counts_by g.P.Clients.there c.args.clients.now c.turn_away-in_default-reserve.new.clients 1 0 n (n + 1) (slab_len c.reserve.new.self) (omega arith) (omega (arith, same)) c.turn_away-in_default-reserve.ensures
 
 pub returns-in_default-watch-clause-there : goal.returns-in_default-watch-clause-there
 returns-in_default-watch-clause-there g c =
     let n = slab_len c.args.self.now.seats in
     let same = ap slab_len c.reserve.ensures.rest_kept in
-    counts_on g.P.Clients.there c.args.clients.now c.watch.new.self c.turn_away.new.clients (n + 1) (n + 1) (slab_len c.reserve.new.self)
+    counts_on g.P.Clients.there c.args.clients.now c.watch.new.self c.turn_away-in_default-watch.new.clients (n + 1) (n + 1) (slab_len c.reserve.new.self)
     (counts_by g.P.Clients.there c.args.clients.now c.watch.new.self 0 0 (n + 1) (n + 1) (n + 1) (omega arith) (omega arith) c.watch.ensures.there)
-    (counts_by g.P.Clients.there c.watch.new.self c.turn_away.new.clients 1 0 n (n + 1) (slab_len c.reserve.new.self) (omega arith) (omega (arith, same)) c.turn_away.ensures)
+    (counts_by g.P.Clients.there c.watch.new.self c.turn_away-in_default-watch.new.clients 1 0 n (n + 1) (slab_len c.reserve.new.self) (omega arith) (omega (arith, same)) c.turn_away-in_default-watch.ensures)
 
 pub returns-clause-there : goal.returns-clause-there
 returns-clause-there g c =
