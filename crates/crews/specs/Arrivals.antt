@@ -10,6 +10,6 @@ came_by (Ready seat) = 0
 came_by (LetGo seat) = 0
 came_by Over = 0
 
--- if so many are there besides before, so many are there besides after
+-- beside any others, this number of clients is there before, and that number after
 abbrev pub CountGoes : {P : Type 0} → (P → ℕ → Type 0) → P → ℕ → P → ℕ → Type 0
 CountGoes there old before new after = (others : ℕ) → there old (others + before) → there new (others + after)

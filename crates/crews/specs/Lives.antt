@@ -63,8 +63,8 @@ module _ {C : Type 0} (state : C → ChannelState) where
     pub says : SaysSo leaving held exchanges read (written ++ owed.rest)
     pub unfailed : leaving ≡ None → owed.failures ≡ 0
 
--- and over which of them were given to the worker, when its pass knew what
-module _ {C : Type 0} (state : C → ChannelState) (gave : PassState → C → Type 0) where
+-- over which connections were given to the worker, when its pass knew what
+module _ {C : Type 0} (gave : PassState → C → Type 0) where
   -- the turns lead from what the passes knew to what they know, and the client of this number came among them with this connection:
   -- none of the earlier ones is its own
   pub record HasCome (old : Known) (turns : List Turn) (new : Known) (client : ℕ) (came : C) : Type 0 where
@@ -77,6 +77,8 @@ module _ {C : Type 0} (state : C → ChannelState) (gave : PassState → C → T
     pub given : gave mid.pass came
     pub none : exchanges_of client earlier ≡ []
 
+-- and over what they tell
+module _ {C : Type 0} (state : C → ChannelState) (gave : PassState → C → Type 0) where
   -- a client left so, and this is its connection now: its exchanges are turns among those that led to what the pass knows
   pub record HasParted (pass : PassState) (now : C) (parting : Parting) : Type 0 where
     pub old : Known
@@ -85,7 +87,7 @@ module _ {C : Type 0} (state : C → ChannelState) (gave : PassState → C → T
     pub knows : new.pass ≡ pass
     pub client : ℕ
     pub came : C
-    pub come : HasCome old turns new client came
+    pub come : HasCome gave old turns new client came
     pub read : List ℕ
     pub written : List ℕ
     pub consumed : Consumes (state came).left (state now).left read
@@ -96,7 +98,7 @@ module _ {C : Type 0} (state : C → ChannelState) (gave : PassState → C → T
   abbrev pub IsOfClient : Known → List Turn → Known → ℕ → Type 0
   IsOfClient old turns new client =
       (came : C) × (now : C) × (tokens : List ProgramToken) × (held : Held) × (owed : OwedState) × (leaving : Option Parting)
-      × HasCome old turns new client came × Stands state came now (exchanges_of client turns) tokens held owed leaving
+      × HasCome gave old turns new client came × Stands state came now (exchanges_of client turns) tokens held owed leaving
 
   -- the turns of so many clients lead from what the passes knew to what they know
   pub record Life (old : Known) (turns : List Turn) (new : Known) (clients : ℕ) : Type 0 where

@@ -14,7 +14,7 @@ module _ {C P : Type 0} (state : C → ChannelState) (gave : PassState → C →
     pub map : IsCrewOf id new.crew
     pub same : CarriesSame old.crew new.crew
     pub lived : HasLived state gave old.crew new.crew
-    pub there : CountGoes there old.clients 0 new.clients 0
+    pub count : CountGoes there old.clients 0 new.clients 0
 
   -- the seat of such a post
   abbrev pub IsAttendedSeat : TableId → Option (Post P) → Option (Post P) → Type 0

@@ -11,7 +11,7 @@ module _ {C : Type 0} (state : C → ChannelState) (gave : PassState → C → T
   abbrev pub IsClient : Known → List Turn → Known → ℕ → Client C → Type 0
   IsClient old turns new clients client =
       (client.number < clients)
-      × ((came : C) × HasCome old turns new client.number came
+      × ((came : C) × HasCome gave old turns new client.number came
       × Stands state came client.channel (exchanges_of client.number turns) client.tokens client.feeder client.owed client.leaving)
 
   -- each seat has a client of the life, no two the same

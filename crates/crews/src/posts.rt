@@ -42,8 +42,7 @@ pub fn attend_each<
     let back = Vec::with_capacity(alloc, count)?;
     let seats = seated(posts, seats);
     let call = move |_: usize, seat: &mut Option<Post<P>>|
-        requires crew { IsSomeAnd seat.old (λ post. IsCrewOf worker.now.map.now post.crew) }
-        requires serves { P.serves worker.now.map.now }
+        requires { IsSomeAnd seat.old (λ post. IsCrewOf worker.now.map.now post.crew) × P.serves worker.now.map.now }
         ensures { IsAttendedSeat C.state P.gave P.there worker.entry.now.map.now seat.old seat.new }
     {
         if let Some(post) = seat.take() {

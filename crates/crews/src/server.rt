@@ -83,8 +83,7 @@ pub fn serve<
     let back = Vec::with_capacity(alloc, count)?;
     let seats = seated(crews, seats);
     let call = move |_: usize, seat: &mut Option<Crew>|
-        requires crew { IsSomeAnd seat.old (λ crew. IsCrewOf map.now crew) }
-        requires serves { A.serves map.now }
+        requires { IsSomeAnd seat.old (λ crew. IsCrewOf map.now crew) × A.serves map.now }
         ensures of { IsServed map.entry.now seat.old seat.new }
         ensures served { HasServedClients R.state W.state A.gave seat.old seat.new }
     {

@@ -239,8 +239,8 @@ impl<'a, C: Channel> Client<'a, C> {
 
     /// Gives the client up, as it stands.
     pub fn part<P: Clients<C>>(self, clients: &mut P, pass: &Pass, seat: usize)
-        requires { (old : Known) × (turns : List Turn) × (new : Known) × (clients : ℕ)
-            × (new.pass ≡ pass.now) × IsClient C.state P.gave old turns new clients self }
+        requires { (old : Known) × (turns : List Turn) × (new : Known) × (came : ℕ)
+            × (new.pass ≡ pass.now) × IsClient C.state P.gave old turns new came self }
         ensures { CountGoes P.there clients.old 1 clients.new 0 }
     {
         let parting = parting_of(self.leaving, self.owed.len());
