@@ -159,9 +159,11 @@ class Known:
 
 
 def said(address: str, session: list[Asked]) -> list[bytes]:
-    """The answers to a session that is sent in one piece."""
+    """The whole answers to a session that is sent in one piece."""
     with wire.Client(address) as client:
-        return list(wire.bodies_of(client.exchange(wire.frames([wire.hello(2), *map(body_of, session)]))))
+        sent = client.exchange(wire.frames([wire.hello(2), *map(body_of, session)]))
+    bodies = list(wire.bodies_of(sent))
+    return bodies if wire.frames(bodies) == sent else bodies[:-1]
 
 
 def hear_session(known: Known, session: list[Asked], answers: list[bytes]) -> str:

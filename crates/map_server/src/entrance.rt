@@ -6,11 +6,10 @@ use crate::patience::{Patience, is_of_descriptors};
 use crate::quotas::Quotas;
 use crate::telling::Telling;
 use devices::Sink;
-use mio::Poll;
 use mio::net::TcpListener;
 use std::alloc::Global;
 use std::io::{self, ErrorKind};
-use std::net::Net;
+use std::os::fd::{AsFd, OwnedFd};
 use std::rt::Clock;
 use std::sync::{Mutex, Wait};
 use std::time::Duration;
@@ -35,14 +34,19 @@ pub(crate) enum Arrival {
 /// The listener of a port, which every worker watches; what is counted and told of clients; how many sessions the workers may
 /// begin; and a descriptor in reserve, so that one client more than there are descriptors for can be told.
 #[derive(Drop)]
-pub(crate) struct Entrance<'a, 'b, H: Wait + Clock + Net, E: Sink> {
+pub(crate) struct Entrance<'a, 'b, H: Wait + Clock, E: Sink> {
     pub(crate) arrivals: Arrivals<'a, 'b, H, E>,
     listener: TcpListener,
     quotas: Quotas,
-    spare: Mutex<Option<Poll>>,
+    spare: Mutex<Option<OwnedFd>>,
 }
 
-impl<'a, 'b, H: Wait + Clock + Net, E: Sink> Entrance<'a, 'b, H, E> {
+/// A descriptor in reserve, a second one of the listener; none if the system has none.
+fn spare_of(listener: &TcpListener) -> Option<OwnedFd> {
+    listener.as_fd().try_clone_to_owned().ok()
+}
+
+impl<'a, 'b, H: Wait + Clock, E: Sink> Entrance<'a, 'b, H, E> {
     /// The entrance of the port that the listener is bound to, for the workers of these quotas, within these limits.
     pub(crate) fn new(
         rt: &'a H,
@@ -52,12 +56,12 @@ impl<'a, 'b, H: Wait + Clock + Net, E: Sink> Entrance<'a, 'b, H, E> {
         limits: Limits,
         errors: Telling<'b, E>,
     ) -> Entrance<'a, 'b, H, E> {
+        let spare = Mutex::new(spare_of(&listener));
         Entrance {
             arrivals: Arrivals::new(rt, alloc, limits, errors),
             listener,
             quotas,
-            // A poll that watches nothing takes one descriptor.
-            spare: Mutex::new(Poll::new(rt).ok()),
+            spare,
         }
     }
 
@@ -135,7 +139,7 @@ impl<'a, 'b, H: Wait + Clock + Net, E: Sink> Entrance<'a, 'b, H, E> {
             Err(error) if error.kind() == ErrorKind::WouldBlock => Some(Arrival::Nobody),
             Err(_) => None,
         };
-        *spare = Poll::new(self.arrivals.rt).ok();
+        *spare = spare_of(&self.listener);
         arrival
     }
 
@@ -143,7 +147,7 @@ impl<'a, 'b, H: Wait + Clock + Net, E: Sink> Entrance<'a, 'b, H, E> {
     fn keep_spare(&self) {
         let mut spare = self.spare.lock(self.arrivals.rt);
         if spare.is_none() {
-            *spare = Poll::new(self.arrivals.rt).ok();
+            *spare = spare_of(&self.listener);
         }
     }
 }

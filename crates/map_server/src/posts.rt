@@ -10,14 +10,13 @@ use crews::{Crew, Post, Worker, attend_each};
 use devices::Sink;
 use mio::Poll;
 use std::alloc::Global;
-use std::net::Net;
 use std::rt::Clock;
 use std::sync::Wait;
 use std::thread::Threads;
 
 /// The crews, each with clients of its own that come in by this entrance, of which one of the polls tells. `NoMemory` if a request
 /// for memory was refused.
-fn posts_of<'a, 'b, 'c, H: Wait + Clock + Net, E: Sink>(
+fn posts_of<'a, 'b, 'c, H: Wait + Clock, E: Sink>(
     alloc: Global,
     entrance: &'a Entrance<'b, 'c, H, E>,
     crews: Vec<Crew>,
@@ -53,7 +52,7 @@ fn crews_of<P: Drop>(posts: Vec<Post<P>>, mut crews: Vec<Crew>) -> Vec<Crew>
 /// Has each crew attend clients that come in by this entrance, until they are over. Gives the crews back in their order. `NoMemory`
 /// if a request for memory was refused.
 #[tactic(auto, using(crate::proofs::PostLemmas::crews_carry_same, crate::proofs::PostLemmas::posts_of_map, crate::proofs::PostLemmas::crews_of_map))]
-pub(crate) fn attend_all<H: Threads + Wait + Clock + Net + Sync, E: Sink + Send>(
+pub(crate) fn attend_all<H: Threads + Wait + Clock + Sync, E: Sink + Send>(
     worker: &Worker<'_, H, OpenGate>,
     entrance: &Entrance<'_, '_, H, E>,
     crews: Vec<Crew>,

@@ -78,7 +78,7 @@ pub(crate) fn bind<H: Net>(
 }
 
 /// Serves clients of the port until each worker has ended. Standard error is told what goes wrong meanwhile, and given back.
-pub(crate) fn serve_port<'a, H: Threads + Wait + Clock + Net + Sync, E: Sink + Send>(
+pub(crate) fn serve_port<'a, H: Threads + Wait + Clock + Sync, E: Sink + Send>(
     rt: &H,
     alloc: Global,
     port: Port,

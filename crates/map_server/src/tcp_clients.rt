@@ -14,7 +14,6 @@ use mio::{Events, Interest, Poll, Token};
 use sessions::SessionEnd;
 use std::alloc::Global;
 use std::io;
-use std::net::Net;
 use std::rt::Clock;
 use std::sync::Wait;
 use std::time::Duration;
@@ -31,7 +30,7 @@ const SWEEP_MILLIS: u64 = 500;
 /// The clients of one worker: it takes them from the entrance, tells which has a turn, lets silent ones go, and hears out those
 /// that were refused. What the system tells is no premise of it: a seat that it tells of for no reason has a turn for nothing.
 #[derive(Drop)]
-pub(crate) struct TcpClients<'a, 'b, 'c, H: Wait + Clock + Net, E: Sink> {
+pub(crate) struct TcpClients<'a, 'b, 'c, H: Wait + Clock, E: Sink> {
     entrance: &'a Entrance<'b, 'c, H, E>,
     worker: u32,
     poll: Poll,
@@ -45,7 +44,7 @@ pub(crate) struct TcpClients<'a, 'b, 'c, H: Wait + Clock + Net, E: Sink> {
     next_sweep: Duration,
 }
 
-impl<'a, 'b, 'c, H: Wait + Clock + Net, E: Sink> TcpClients<'a, 'b, 'c, H, E> {
+impl<'a, 'b, 'c, H: Wait + Clock, E: Sink> TcpClients<'a, 'b, 'c, H, E> {
     /// The clients of this worker, which come in by this entrance. The poll watches its listener. `NoMemory` if a request for
     /// memory was refused.
     pub(crate) fn new(
@@ -196,7 +195,7 @@ fn was_refused(parting: Parting) -> bool {
     )
 }
 
-impl<'a, 'b, 'c, H: Wait + Clock + Net, E: Sink> Clients<Connection> for TcpClients<'a, 'b, 'c, H, E> {
+impl<'a, 'b, 'c, H: Wait + Clock, E: Sink> Clients<Connection> for TcpClients<'a, 'b, 'c, H, E> {
     fn next(&mut self, _pass: &Pass) -> Event<Connection> {
         for _ in 0..u64::MAX {
             if let Some(event) = self.event_at_hand() {
