@@ -146,6 +146,20 @@ impl<'a, C: Channel> Client<'a, C> {
         self.leaving = leaving_after(&mut self.owed, taken);
     }
 
+    /// Whether the client is owed so much that it is not read.
+    fn is_held_back(&self) -> bool {
+        self.owed.len() > OWED_BYTES
+    }
+
+    /// How the client stands after a turn in which it was read so. One that was held back and is not any more was not read: what it
+    /// sent meanwhile is there, and the system has told of it.
+    fn standing_after(&self, was_held_back: bool, standing: Standing) -> Standing {
+        if was_held_back && !self.is_held_back() {
+            return Standing::Again;
+        }
+        standing
+    }
+
     /// Reads one piece and answers it, if the client is to be read now.
     fn hear<H: Threads + Wait + Sync, G: Gate + Sync>(
         &mut self,
@@ -159,7 +173,7 @@ impl<'a, C: Channel> Client<'a, C> {
             → TurnsTo C.state (known room.old.serving) (known room.new.serving) came self.new.channel exchanges
             self.new.tokens self.new.feeder self.new.owed self.new.leaving }
     {
-        if self.leaving.is_some() || self.owed.len() > OWED_BYTES {
+        if self.leaving.is_some() || self.is_held_back() {
             return Standing::Waits;
         }
         match self.channel.receive(&mut room.piece) {
@@ -210,9 +224,10 @@ impl<'a, C: Channel> Client<'a, C> {
             → TurnsTo C.state (known room.old.serving) (known room.new.serving) came self.new.channel exchanges
             self.new.tokens self.new.feeder self.new.owed self.new.leaving }
     {
+        let was_held_back = self.is_held_back();
         let standing = self.hear(worker, room);
         self.tell(worker.alloc);
-        standing
+        self.standing_after(was_held_back, standing)
     }
 
     /// The client is not read any more. Sends what it is owed, as far as the connection takes it now.

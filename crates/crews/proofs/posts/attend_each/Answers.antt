@@ -1,5 +1,5 @@
 use Rattle.std.proofs.Common.{◌≡◌, ◌<◌, List, Option, Some, None, IsSome, length, map, refl, sym, subst, slice_index_or}
-use Rattle.crews.specs.declared.post.Post.{Post}
+use Rattle.crews.specs.declared.posts.Post.{Post}
 use Rattle.crews.specs.Arrivals.{CountGoes}
 use Rattle.crews.specs.Crews.{IsCrewOf, CarriesSame}
 use Rattle.crews.specs.Lives.{HasLived}
