@@ -3,7 +3,7 @@ use Rattle.std.specs.Prelude.{ℕ, Option, Some}
 use Rattle.atomic_table.specs.Seated.{TableId}
 use Rattle.bin_stripes.specs.Passes.{PassState}
 use Rattle.devices.specs.Channels.{ChannelState}
-use Rattle.crews.specs.declared.post.Post.{Post}
+use Rattle.crews.specs.declared.posts.Post.{Post}
 use Rattle.crews.specs.Arrivals.{CountGoes}
 use Rattle.crews.specs.Crews.{IsCrewOf, CarriesSame}
 use Rattle.crews.specs.Lives.{HasLived}

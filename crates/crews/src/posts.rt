@@ -9,7 +9,6 @@ ghost use Rattle.crews.specs.Steps.{Pairwise};
 use crate::attending::attend;
 use crate::clients::Clients;
 use crate::crew::Crew;
-use crate::post::Post;
 use crate::seats::{left_of, seated};
 use crate::worker::Worker;
 use bin_stripes::Gate;
@@ -18,6 +17,13 @@ use devices::Channel;
 use std::sync::Wait;
 use std::thread::Threads;
 use workers::work;
+
+/// A crew, and the clients that it attends.
+#[derive(Drop)]
+pub struct Post<P> {
+    pub crew: Crew,
+    pub clients: P,
+}
 
 /// Runs one worker a post, each in a thread of its own if one can be made, and each attending its clients, any number at once, until
 /// they are over. Gives the posts back in their order: each crew is of this map with the numbers that it carried, nothing but turns of

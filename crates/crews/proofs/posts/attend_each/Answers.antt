@@ -1,5 +1,5 @@
-use Rattle.std.proofs.Common.{◌≡◌, ◌<◌, List, Option, Some, None, IsSome, length, map, refl, sym, subst, slice_index_or}
-use Rattle.crews.specs.declared.post.Post.{Post}
+use Rattle.std.proofs.Common.{◌≡◌, ◌<◌, List, Option, Some, None, IsSome, length, map, refl, sym, subst, slice_index_or, rules}
+use Rattle.crews.specs.declared.posts.Post.{Post}
 use Rattle.crews.specs.Arrivals.{CountGoes}
 use Rattle.crews.specs.Crews.{IsCrewOf, CarriesSame}
 use Rattle.crews.specs.Lives.{HasLived}
@@ -17,7 +17,7 @@ work-seats-requires-after_bounds g c = λ κs lives i p low is.
         c.requires.serves,
       ),
       (
-        record { owned = c.type_bounds.send-P.owned; leaving = c.type_bounds.send-P.leaving },
+        search rules,
         record { shared = c.type_bounds.sync-H.shared },
         record { shared = c.type_bounds.sync-C.shared },
         record { shared = c.type_bounds.sync-P.shared },

@@ -2,8 +2,8 @@ use Rattle.std.proofs.Common.{suc}
 use Rattle.crews.proofs.ServeLemmas.{carries_on, is_answered}
 use Rattle.crews.proofs.server.serve_clients.Goals as goal
 
-pub next-2-requires : goal.next-2-requires
-next-2-requires g c = (c.args.worker.now.map.now, c.requires.serves, c.loop.invariant.of)
+pub next-requires-in-loop : goal.next-requires-in-loop
+next-requires-in-loop g c = (c.args.worker.now.map.now, c.requires.serves, c.loop.invariant.of)
 
 pub ended-requires : goal.ended-requires
 ended-requires g c = (

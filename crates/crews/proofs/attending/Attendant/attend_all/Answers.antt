@@ -15,8 +15,8 @@ loop-init g c = record {
   there = counts_stay g.P.Clients.there c.args.clients.now (slab_len c.args.self.now.seats) (slab_len c.args.self.now.seats) refl;
 }
 
-pub next-2-requires : goal.next-2-requires
-next-2-requires g c =
+pub next-requires-in-loop : goal.next-requires-in-loop
+next-requires-in-loop g c =
     let (old, turns, attended) = c.requires.attended in
     let (more, now) = c.loop.invariant.attended old turns attended in
     subst (λ (id : TableId). g.P.Clients.serves id) (attended.0.numbers.map_is ∙ sym now.0.numbers.map_is ∙ sym (ap (λ (p : PassState). p.map) c.pass.ensures)) c.requires.serves
@@ -43,8 +43,8 @@ loop-preserved-in-Came g c = record {
       let there = g.P.Clients.there in
       let n = slab_len c.loop.self.seats in
       counts_on there c.args.clients.now c.loop.clients c.take_in.new.clients (slab_len c.args.self.now.seats) n (slab_len c.take_in.new.self.seats) c.loop.invariant.there
-      (counts_on there c.loop.clients c.next-2.new.self c.take_in.new.clients n (n + 1) (slab_len c.take_in.new.self.seats)
-      (counts_by there c.loop.clients c.next-2.new.self 0 1 n n (n + 1) (omega arith) (omega arith) c.in-Came.ensures.there) c.take_in.ensures.there);
+      (counts_on there c.loop.clients c.next-in-loop.new.self c.take_in.new.clients n (n + 1) (slab_len c.take_in.new.self.seats)
+      (counts_by there c.loop.clients c.next-in-loop.new.self 0 1 n n (n + 1) (omega arith) (omega arith) c.in-Came.ensures.there) c.take_in.ensures.there);
 }
 
 pub loop-preserved-in-Ready : goal.loop-preserved-in-Ready
@@ -58,8 +58,8 @@ loop-preserved-in-Ready g c = record {
       let there = g.P.Clients.there in
       let n = slab_len c.loop.self.seats in
       counts_on there c.args.clients.now c.loop.clients c.serve_one.new.clients (slab_len c.args.self.now.seats) n (slab_len c.serve_one.new.self.seats) c.loop.invariant.there
-      (counts_on there c.loop.clients c.next-2.new.self c.serve_one.new.clients n n (slab_len c.serve_one.new.self.seats)
-      (counts_by there c.loop.clients c.next-2.new.self 0 0 n n n (omega arith) (omega arith) c.in-Ready.ensures.there) c.serve_one.ensures.there);
+      (counts_on there c.loop.clients c.next-in-loop.new.self c.serve_one.new.clients n n (slab_len c.serve_one.new.self.seats)
+      (counts_by there c.loop.clients c.next-in-loop.new.self 0 0 n n n (omega arith) (omega arith) c.in-Ready.ensures.there) c.serve_one.ensures.there);
 }
 
 pub loop-preserved : goal.loop-preserved
@@ -69,13 +69,13 @@ loop-preserved g c = record {
       let there = g.P.Clients.there in
       let n = slab_len c.loop.self.seats in
       counts_on there c.args.clients.now c.loop.clients c.let_go.new.clients (slab_len c.args.self.now.seats) n (slab_len c.let_go.new.self.seats) c.loop.invariant.there
-      (counts_on there c.loop.clients c.next-2.new.self c.let_go.new.clients n n (slab_len c.let_go.new.self.seats)
-      (counts_by there c.loop.clients c.next-2.new.self 0 0 n n n (omega arith) (omega arith) c.in-LetGo.ensures.there) c.let_go.ensures.there);
+      (counts_on there c.loop.clients c.next-in-loop.new.self c.let_go.new.clients n n (slab_len c.let_go.new.self.seats)
+      (counts_by there c.loop.clients c.next-in-loop.new.self 0 0 n n n (omega arith) (omega arith) c.in-LetGo.ensures.there) c.let_go.ensures.there);
 }
 
 pub returns-in-Over-clause-there : goal.returns-in-Over-clause-there
 returns-in-Over-clause-there g c =
     let there = g.P.Clients.there in
     let n = slab_len c.loop.self.seats in
-    counts_on there c.args.clients.now c.loop.clients c.next-2.new.self (slab_len c.args.self.now.seats) n n c.loop.invariant.there
-    (counts_by there c.loop.clients c.next-2.new.self 0 0 n n n (omega arith) (omega arith) c.in-Over.ensures.there)
+    counts_on there c.args.clients.now c.loop.clients c.next-in-loop.new.self (slab_len c.args.self.now.seats) n n c.loop.invariant.there
+    (counts_by there c.loop.clients c.next-in-loop.new.self 0 0 n n n (omega arith) (omega arith) c.in-Over.ensures.there)
