@@ -3,7 +3,7 @@ use Rattle.std.proofs.Common.{◌≡◌, List, [], ◌∷◌, map, All, sym, sub
 use Rattle.std.proofs.lemmas.List.Elements.{All-nil, All-cons, All-head, All-tail, All-map}
 use Rattle.atomic_table.specs.Seated.{TableId}
 use Rattle.crews.specs.declared.crew.Crew.{Crew}
-use Rattle.crews.specs.declared.post.Post.{Post}
+use Rattle.crews.specs.declared.posts.Post.{Post}
 use Rattle.crews.specs.Crews.{IsCrewOf, CarriesSame, AllCarrySame}
 use Rattle.crews.specs.Steps.{Pairwise}
 
