@@ -60,7 +60,9 @@ impl Departure {
 /// Has the poll tell of the connection under this token, whether or not it was watched before. Returns whether it does.
 fn rename(registry: &Registry, connection: &mut Connection, token: Token) -> bool {
     let stream = connection.stream_mut();
-    registry.reregister(stream, token, Interest::READABLE).is_ok()
+    registry
+        .reregister(stream, token, Interest::READABLE)
+        .is_ok()
         || registry.register(stream, token, Interest::READABLE).is_ok()
 }
 

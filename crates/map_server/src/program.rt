@@ -143,11 +143,7 @@ fn tell_failed_write<E: Sink>(errors: &mut Telling<'_, E>) -> u8
 }
 
 /// Tells the address that was bound, prints `ready`, serves clients until each worker has ended, and answers the status.
-fn serve_bound<
-    H: Threads + Wait + Clock + Net + Sync,
-    W: Sink,
-    E: Sink + Send,
->(
+fn serve_bound<H: Threads + Wait + Clock + Sync, W: Sink, E: Sink + Send>(
     rt: &H,
     alloc: Global,
     asked: &MapdWords,
@@ -175,11 +171,14 @@ fn serve_bound<
 }
 
 /// Listens and serves, and answers the status.
-fn listen<
-    H: Threads + Wait + Clock + Net + Sync,
-    W: Sink,
-    E: Sink + Send,
->(rt: &H, alloc: Global, asked: &MapdWords, server: Server, writer: &mut W, errors: &mut E) -> u8
+fn listen<H: Threads + Wait + Clock + Net + Sync, W: Sink, E: Sink + Send>(
+    rt: &H,
+    alloc: Global,
+    asked: &MapdWords,
+    server: Server,
+    writer: &mut W,
+    errors: &mut E,
+) -> u8
     requires writes { CanWrite (W.state writer.old) }
     requires warns { CanWrite (E.state errors.old) }
     requires asked { IsAsked asked.now server }
@@ -215,11 +214,13 @@ fn drawn_seed<R: RandomSource>(rt: &R) -> Seed {
 /// Does what the words ask for, of which the first is the program's name, and returns the status: 0 if it served as
 /// many sessions as it was asked for, 1 for a refusal, 2 for a fault of the words, of which standard error is told in clap's
 /// text, and 3 for a failed listen, accept or write, of which it is told in a line. Waits for clients.
-pub fn mapd_on<
-    H: Threads + Wait + Clock + RandomSource + Net + Sync,
-    W: Sink,
-    E: Sink + Send,
->(rt: &H, alloc: Global, words: &[&str], writer: &mut W, errors: &mut E) -> u8
+pub fn mapd_on<H: Threads + Wait + Clock + RandomSource + Net + Sync, W: Sink, E: Sink + Send>(
+    rt: &H,
+    alloc: Global,
+    words: &[&str],
+    writer: &mut W,
+    errors: &mut E,
+) -> u8
     requires writes { CanWrite (W.state writer.old) }
     requires warns { CanWrite (E.state errors.old) }
     ensures runs { RunsMapd (texts words.now) (outputs (W.state writer.old) (E.state errors.old))

@@ -56,12 +56,7 @@ fn poll_of<H: Net>(rt: &H, listener: &TcpListener) -> io::Result<Poll> {
 }
 
 /// The port that is asked for, bound, and watched by the polls of this number of workers. An error tells why there is none.
-pub(crate) fn bind<H: Net>(
-    rt: &H,
-    alloc: Global,
-    address: &str,
-    workers: usize,
-) -> io::Result<Port>
+pub(crate) fn bind<H: Net>(rt: &H, alloc: Global, address: &str, workers: usize) -> io::Result<Port>
     ensures { IfOk result (λ port. vec_len port.polls ≡ workers) }
 {
     let listener = listen(rt, address)?;
@@ -96,7 +91,11 @@ pub(crate) fn serve_port<'a, H: Threads + Wait + Clock + Sync, E: Sink + Send>(
         quotas,
         limits,
     } = server;
-    let Port { listener, polls, .. } = port;
+    let Port {
+        listener,
+        polls,
+        ..
+    } = port;
     let entrance = Entrance::new(rt, alloc, listener, quotas, limits, errors);
     let worker = Worker {
         rt,

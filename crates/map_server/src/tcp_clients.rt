@@ -140,7 +140,10 @@ impl<'a, 'b, 'c, H: Wait + Clock, E: Sink> TcpClients<'a, 'b, 'c, H, E> {
             Some(_) if self.clients > 0 => Some(self.next_sweep.saturating_sub(now)),
             _ => None,
         };
-        sooner(sooner(self.door.wait(now), self.departures.wait(now)), sweep)
+        sooner(
+            sooner(self.door.wait(now), self.departures.wait(now)),
+            sweep,
+        )
     }
 
     /// Waits until the system tells of a connection, or something is to be done.
@@ -239,7 +242,8 @@ impl<'a, 'b, 'c, H: Wait + Clock, E: Sink> Clients<Connection> for TcpClients<'a
         self.clients = self.clients.saturating_sub(1);
         self.entrance.arrivals.leaves();
         if was_refused(parting) {
-            self.departures.add(self.poll.registry(), channel, self.stopwatch.now());
+            self.departures
+                .add(self.poll.registry(), channel, self.stopwatch.now());
         }
     }
 }

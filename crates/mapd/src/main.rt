@@ -10,7 +10,10 @@ use std::sync::Wait;
 use std::thread::Threads;
 use std::{env, io};
 
-fn status<H: Threads + Wait + Clock + RandomSource + Net + Sync>(rt: &HostRuntime, serving: &H) -> io::Result<u8> {
+fn status<H: Threads + Wait + Clock + RandomSource + Net + Sync>(
+    rt: &HostRuntime,
+    serving: &H,
+) -> io::Result<u8> {
     let alloc = rt.alloc();
     let words: Vec<String> = env::args(rt)?.collect(alloc)?;
     let words: Vec<&str> = words.iter().map(|word| word.as_str()).collect(alloc)?;
