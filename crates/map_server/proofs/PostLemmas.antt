@@ -1,5 +1,5 @@
 -- Crews of posts.
-use Rattle.std.proofs.Common.{◌≡◌, List, [], ◌∷◌, map, All, sym, subst}
+use Rattle.std.proofs.Common.{◌≡◌, suc, List, [], ◌∷◌, length, map, All, refl, ap, sym, subst}
 use Rattle.std.proofs.lemmas.List.Elements.{All-nil, All-cons, All-head, All-tail, All-map}
 use Rattle.atomic_table.specs.Seated.{TableId}
 use Rattle.crews.specs.declared.crew.Crew.{Crew}
@@ -17,6 +17,17 @@ crews_carry_same crews olds news are same = subst (λ (all : List Crew). AllCarr
   carried [] (new ∷ news) same = absurd same
   carried (old ∷ olds) [] same = absurd same
   carried (old ∷ olds) (new ∷ news) same = (same.0, carried olds news same.1)
+
+-- as many came back
+pub as_many : {P : Type 0} (crews : List Crew) (olds news : List (Post P)) → map (λ post. post.crew) olds ≡ crews
+    → Pairwise (λ old new. CarriesSame old.crew new.crew) olds news → length news ≡ length crews
+as_many crews olds news are same = subst (λ (all : List Crew). length news ≡ length all) are (paired olds news same) where
+  paired : {P : Type 0} (olds news : List (Post P)) → Pairwise (λ old new. CarriesSame old.crew new.crew) olds news
+      → length news ≡ length (map (λ post. post.crew) olds)
+  paired [] [] same = refl
+  paired [] (new ∷ news) same = absurd same
+  paired (old ∷ olds) [] same = absurd same
+  paired (old ∷ olds) (new ∷ news) same = ap suc (paired olds news same.1)
 
 -- the posts of crews of this map have crews of it
 pub posts_of_map : {P : Type 0} (id : TableId) (crews : List Crew) (posts : List (Post P)) → map (λ post. post.crew) posts ≡ crews

@@ -32,7 +32,7 @@ fn posts_of<'a, 'b, 'c, H: Wait + Clock, E: Sink>(
             unreachable!()
         };
         let clients = TcpClients::new(alloc, entrance, crew.worker, poll)?;
-        posts.push(Post { crew, clients })?;
+        posts.push_reserved(Post { crew, clients });
     }
     Ok(posts)
 }
@@ -51,7 +51,6 @@ fn crews_of<P: Drop>(posts: Vec<Post<P>>, mut crews: Vec<Crew>) -> Vec<Crew>
 
 /// Has each crew attend clients that come in by this entrance, until they are over. Gives the crews back in their order. `NoMemory`
 /// if a request for memory was refused.
-#[tactic(auto, using(crate::proofs::PostLemmas::crews_carry_same, crate::proofs::PostLemmas::posts_of_map, crate::proofs::PostLemmas::crews_of_map))]
 pub(crate) fn attend_all<H: Threads + Wait + Clock + Sync, E: Sink + Send>(
     worker: &Worker<'_, H, OpenGate>,
     entrance: &Entrance<'_, '_, H, E>,
@@ -65,6 +64,6 @@ pub(crate) fn attend_all<H: Threads + Wait + Clock + Sync, E: Sink + Send>(
 {
     let back = Vec::with_capacity(worker.alloc, crews.len())?;
     let posts = posts_of(worker.alloc, entrance, crews, polls)?;
-    let posts = attend_each(worker, posts)?;
-    Ok(crews_of(posts, back))
+    let attended = attend_each(worker, posts)?;
+    Ok(crews_of(attended, back))
 }
