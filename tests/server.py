@@ -53,7 +53,7 @@ def is_silent(client: wire.Client, seconds: float) -> bool:
 
 
 def crowd(address: str) -> None:
-    """32 clients are served at once, each sees what all have put, and a further one waits until one of them ends."""
+    """32 clients are served at once, more than there are workers, and each sees what all have put."""
     with contextlib.ExitStack() as stack:
         clients = [stack.enter_context(wire.opened(address)) for _ in range(32)]
         for name, client in enumerate(clients):
@@ -62,12 +62,6 @@ def crowd(address: str) -> None:
             client.send(*[wire.get(bytes([name])) for name in range(32)])
         for client in clients:
             same("what all have put", [client.answer() for _ in clients], [number(name) for name in range(32)])
-        late = stack.enter_context(wire.Client(address))
-        late.send(wire.HELLO, wire.get(bytes([31])))
-        same("a client beyond the workers is not answered", is_silent(late, 0.3), True)
-        clients[0].socket.close()
-        same("its Hello", late.answer(), wire.WELCOME)
-        same("its Get", late.answer(), number(31))
 
 
 def sessions(address: str) -> None:
@@ -181,22 +175,21 @@ def fault(address: str) -> None:
         same("a Put behind the fault", client.ask(wire.get(b"behind")), wire.NOTHING)
 
 
-def served_at_once(address: str) -> wire.Client | None:
-    """A client whose session has begun; none where it is not answered soon, or its connection is ended."""
+def served_or_told(address: str) -> wire.Client | None:
+    """A client whose session has begun; none if it was told 9, and its connection ended."""
     client = wire.Client(address)
-    client.socket.settimeout(0.3)
-    try:
-        client.hello()
-    except (TimeoutError, ConnectionError, wire.Ended):
-        client.socket.close()
-        return None
-    client.socket.settimeout(wire.PATIENCE)
-    return client
+    answer = client.ask(wire.HELLO)
+    if answer == wire.WELCOME:
+        return client
+    same("what one more is told", answer + client.rest(), wire.refused(9))
+    client.socket.close()
+    return None
 
 
 def descriptors(address: str) -> None:
-    """More clients come than there are descriptors: those that are served go on, and whoever comes when they ended has what they put."""
-    tried = [served_at_once(address) for _ in range(20)]
+    """More clients come than there are descriptors: one more is told 9, those that are served go on, and whoever comes when they ended
+    has what they put."""
+    tried = [served_or_told(address) for _ in range(20)]
     clients = [client for client in tried if client is not None]
     same("some are served, and some are not", 0 < len(clients) < len(tried), True)
     for name, client in enumerate(clients):

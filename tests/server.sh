@@ -140,13 +140,13 @@ serve_all "a stream that is cut" cut 1
 serve_all "connections that are reset" reset 4
 serve_all "a frame that is refused" fault 2
 serve_all "a client that waits" idle 1
-serve "32 clients at once" crowd --workers 32
+serve "32 clients at once" crowd --workers 4
 serve "keys of one hash" keys_of_one_hash --workers 5 --stripes 4
 serve "deep pipelines" pipelines --workers 5 --stripes 1
 serve "a client that does not read" unread --workers 2
 [ -n "${MAPD_IS_CHECKED:-}" ] || limits="ulimit -s 256" serve "a stack of 256 KiB" longest --workers 4 --team 2
 serve "the longest programs and values" longest --workers 4 --team 8 --stripes 64
-limits="ulimit -n 16" errors="accepts wait:*" serve "no descriptors" descriptors --workers 32
+limits="ulimit -n 16" errors="clients are refused:*" serve "no descriptors" descriptors --workers 4
 kib=65536
 [ -z "${MAPD_IS_CHECKED:-}" ] || kib=1000000
 judge "what is limited or wanting" python3 tests/server_limits.py --program "$program"

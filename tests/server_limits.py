@@ -1,6 +1,7 @@
 #!/usr/bin/env python3
 """Tries the built mapd where something is wanting or limited: descriptors that run out and come back, a listener that fails for good,
-threads that can't be made, clients beyond the limit, silent ones, and one that drips after a refusal.
+threads that can't be made, clients beyond the limit, silent ones and deaf ones, one that drips after a refusal, and sessions that are
+counted.
 
 By hand, after `rt run` in crates/mapd: python3 tests/server_limits.py. Behind the gate, which builds the program."""
 from __future__ import annotations
@@ -186,6 +187,46 @@ def drips_end(program: Path) -> None:
             same("a Put by the next one", next_one.ask(wire.put(b"a", b"1")), wire.NOTHING)
 
 
+def deaf_clients_are_let_go(program: Path) -> None:
+    """A client that takes nothing of its answers for a second is let go, although it goes on to send; one that takes them is not."""
+    with started(program, "--workers", "1", "--idle", "1") as server, wire.opened(server.address, 2) as busy:
+        same("a Put", busy.ask(wire.put(b"long", bytes(1024))), wire.NOTHING)
+        before = len(descriptors_of(server))
+        with wire.opened(server.address, 2) as deaf:
+            deaf.socket.setblocking(False)
+            requests = wire.frames([wire.get(b"long")] * 64)
+            begun = time.monotonic()
+            while time.monotonic() - begun < 8 and (time.monotonic() - begun < 1 or len(descriptors_of(server)) > before):
+                with contextlib.suppress(BlockingIOError, ConnectionError):
+                    deaf.socket.send(requests)
+                same("a Get beside it", busy.ask(wire.get(b"long")), wire.value(bytes(1024)))
+                time.sleep(0.01)
+            same("the deaf one is let go", len(descriptors_of(server)), before)
+
+
+def sessions_are_counted_at_once(program: Path) -> None:
+    """A worker that serves three sessions has three clients at once; a fourth one is not answered, and the server ends with the three."""
+    with started(program, "--workers", "1", "--sessions", "3") as server:
+        with contextlib.ExitStack() as stack:
+            three = [stack.enter_context(wire.opened(server.address)) for _ in range(3)]
+            fourth = stack.enter_context(wire.Client(server.address))
+            fourth.send(wire.HELLO)
+            same("a fourth one is answered", is_answered(fourth, 0.3), False)
+            same("a Put", three[0].ask(wire.put(b"a", b"1")), wire.NOTHING)
+            same("a Get by another", three[1].ask(wire.get(b"a")), wire.value(b"1"))
+        same("the status", server.finish(), 0)
+        same("what is printed", server.printed, b"ready\nserved 3\n")
+
+
+def workers_without_descriptors_are_told(program: Path) -> None:
+    """There is no descriptor for each worker: the server does not begin."""
+    run = subprocess.run(
+        [str(program), "--listen", "127.0.0.1:0", "--workers", "32"], stdin=subprocess.DEVNULL, capture_output=True, timeout=wire.PATIENCE,
+        preexec_fn=lambda: resource.setrlimit(resource.RLIMIT_NOFILE, (16, 16)), check=False)
+    same("the status and what is printed", (run.returncode, run.stdout), (3, b""))
+    same("what is told", run.stderr[:14], b"failed listen\n")
+
+
 def one_worker_answers_each(program: Path) -> None:
     """One worker has two clients, one after the other, of which each is answered what it asks."""
     with started(program, "--workers", "1", "--sessions", "2") as server:
@@ -200,7 +241,8 @@ def one_worker_answers_each(program: Path) -> None:
 
 
 PARTS = (accepts_are_tried_again, failed_accepts_end_the_server, missing_threads_are_told, clients_beyond_the_limit_are_told,
-         silent_clients_are_let_go, drips_end, one_worker_answers_each)
+         silent_clients_are_let_go, deaf_clients_are_let_go, drips_end, one_worker_answers_each, sessions_are_counted_at_once,
+         workers_without_descriptors_are_told)
 
 
 def main() -> None:

@@ -3,8 +3,10 @@ pub mod ChainLemmas
 pub mod NumberLemmas
 pub mod StepLemmas
 pub mod SharedLemmas
+pub mod ThreadLemmas
 pub mod ServeLemmas
 pub mod TokenLemmas
 pub mod LifeLemmas
+pub mod CountLemmas
 pub mod SeatLemmas
 pub mod TurnLemmas

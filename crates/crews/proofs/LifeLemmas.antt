@@ -48,6 +48,13 @@ pub all_of_turns : (client : ℕ) (xs : List (Exchange Station)) → all_exchang
 all_of_turns client [] = refl
 all_of_turns client (x ∷ xs) = ap (λ ys. x ∷ ys) (all_of_turns client xs)
 
+-- the turns lead on by those of one client
+pub moves_by_turns : (old mid new : Known) (turns : List Turn) (k : ℕ) (xs : List (Exchange Station)) → Moves old (all_exchanges turns) mid → Moves mid xs new → Moves old (all_exchanges (turns ++ turns_of k xs)) new
+moves_by_turns old mid new turns k xs one more =
+    subst (λ (es : List (Exchange Station)). Moves old es new)
+    (sym (all_both turns (turns_of k xs) ∙ ap (λ (es : List (Exchange Station)). all_exchanges turns ++ es) (all_of_turns k xs)))
+    (moves_on old mid new (all_exchanges turns) xs one more)
+
 pub exchanges_both : (client : ℕ) (xs ys : List Turn) → exchanges_of client (xs ++ ys) ≡ exchanges_of client xs ++ exchanges_of client ys
 exchanges_both client [] ys = refl
 exchanges_both client (x ∷ xs) ys =

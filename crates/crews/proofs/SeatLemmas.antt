@@ -5,6 +5,7 @@ use Rattle.std.proofs.KnownBytes.{Appends-nil, Appends-kept, Appends-trans, Cons
 use Rattle.std.specs.Io.KnownBytes.{Appends, Consumes, Keeps}
 use Rattle.client_protocol.specs.Frames.{Held}
 use Rattle.client_protocol.specs.Frames.Held.{open_at}
+use Rattle.bin_stripes.specs.Passes.{PassState}
 use Rattle.slab.specs.Slab.{Slab, get, Updates}
 use Rattle.program_registry.specs.declared.registry.ProgramToken.{ProgramToken}
 use Rattle.devices.specs.Channels.{ChannelState, OwedState, Sends}
@@ -16,10 +17,10 @@ use Rattle.crews.specs.declared.clients.Parting.{Parting}
 use Rattle.crews.specs.declared.clients.Parting.TheVariants.{NotKept}
 use Rattle.crews.specs.declared.turn.Client.{Client}
 use Rattle.crews.specs.Stations.{Station}
-use Rattle.crews.specs.Lives.{Known, Moves, KeepsNumbers, Turn, all_exchanges, exchanges_of, Stands, HasParted, IsOfClient, Life}
+use Rattle.crews.specs.Lives.{Known, Moves, KeepsNumbers, Turn, all_exchanges, exchanges_of, Stands, HasCome, HasParted, IsOfClient, Life}
 use Rattle.crews.specs.Turns.{TurnsTo}
 use Rattle.crews.specs.Seats.{IsClient, Seated, HasNone, IsAttended}
-use Rattle.crews.proofs.LifeLemmas.{moves_on, numbers_stay, numbers_go_on, turns_of, all_both, all_of_turns, exchanges_grow, exchanges_stay}
+use Rattle.crews.proofs.LifeLemmas.{moves_by_turns, numbers_stay, numbers_go_on, turns_of, exchanges_grow, exchanges_stay}
 
 some_is : {A : Type 0} (x y : A) → Some x ≡ Some y → x ≡ y
 some_is x y is = cc
@@ -27,10 +28,10 @@ some_is x y is = cc
 none_some : {A : Type 0} (slot : Option A) (x : A) → slot ≡ None → slot ≡ Some x → ⊥
 none_some slot x none some = absurd cc
 
-module _ {C : Type 0} (state : C → ChannelState) (gave : C → Type 0) where
+module _ {C : Type 0} (state : C → ChannelState) (gave : PassState → C → Type 0) where
   -- the client leaves its seat
-  pub stays_out : (turns : List Turn) (n : ℕ) (seats after : Slab (Client C)) (seat : ℕ) → Seated state gave turns n seats → Updates seats after seat None → Seated state gave turns n after
-  stays_out turns n seats after seat seated updates = record {
+  pub stays_out : (old : Known) (turns : List Turn) (new : Known) (n : ℕ) (seats after : Slab (Client C)) (seat : ℕ) → Seated state gave old turns new n seats → Updates seats after seat None → Seated state gave old turns new n after
+  stays_out old turns new n seats after seat seated updates = record {
     stands = λ i client is. seated.stands i client (before i client is);
     apart = λ i j client more is also same. seated.apart i j client more (before i client is) (before j more also) same;
   } where
@@ -40,19 +41,19 @@ module _ {C : Type 0} (state : C → ChannelState) (gave : C → Type 0) where
       | inr other ↦ sym (updates.others i other) ∙ is
     ]
 
-  pub none_left : (turns : List Turn) (n : ℕ) (seats after : Slab (Client C)) (seat : ℕ) (client : Client C) → Seated state gave turns n seats → get seats seat ≡ Some client → Updates seats after seat None
+  pub none_left : (old : Known) (turns : List Turn) (new : Known) (n : ℕ) (seats after : Slab (Client C)) (seat : ℕ) (client : Client C) → Seated state gave old turns new n seats → get seats seat ≡ Some client → Updates seats after seat None
       → HasNone state gave after client.number
-  none_left turns n seats after seat client seated was updates i more is same = elim (cases_eq i seat) [
+  none_left old turns new n seats after seat client seated was updates i more is same = elim (cases_eq i seat) [
     | inl here ↦ none_some (get after i) more (subst (λ (k : ℕ). get after k ≡ None) (sym here) updates.changed) is
     | inr other ↦ other (seated.apart i seat more client (sym (updates.others i other) ∙ is) was same)
   ]
 
   -- the client takes a seat
-  pub takes_seat : (turns : List Turn) (n : ℕ) (seats after : Slab (Client C)) (seat : ℕ) (client : Client C) → Seated state gave turns n seats → HasNone state gave seats client.number
-      → IsClient state gave turns n client → Updates seats after seat (Some client) → Seated state gave turns n after
-  takes_seat turns n seats after seat client seated none stands updates = record {
+  pub takes_seat : (old : Known) (turns : List Turn) (new : Known) (n : ℕ) (seats after : Slab (Client C)) (seat : ℕ) (client : Client C) → Seated state gave old turns new n seats → HasNone state gave seats client.number
+      → IsClient state gave old turns new n client → Updates seats after seat (Some client) → Seated state gave old turns new n after
+  takes_seat old turns new n seats after seat client seated none stands updates = record {
     stands = λ i one is. elim (cases_eq i seat) [
-      | inl here ↦ subst (λ (k : Client C). IsClient state gave turns n k) (at i one here is) stands
+      | inl here ↦ subst (λ (k : Client C). IsClient state gave old turns new n k) (at i one here is) stands
       | inr other ↦ seated.stands i one (sym (updates.others i other) ∙ is)
     ];
     apart = λ i j one more is also same. elim (cases_eq i seat) [
@@ -69,16 +70,32 @@ module _ {C : Type 0} (state : C → ChannelState) (gave : C → Type 0) where
     at : (i : ℕ) (one : Client C) → i ≡ seat → get after i ≡ Some one → client ≡ one
     at i one here is = some_is client one (sym (subst (λ (k : ℕ). get after k ≡ Some client) (sym here) updates.changed) ∙ is)
 
+  -- ---- turns go on
+
+  -- the client came among more turns
+  pub come_on : (old : Known) (turns : List Turn) (mid new : Known) (client k : ℕ) (came : C) (xs : List (Exchange Station)) → HasCome gave old turns mid client came → Moves mid xs new
+      → HasCome gave old (turns ++ turns_of k xs) new client came
+  come_on old turns mid new client k came xs come moves = record {
+    earlier = come.earlier;
+    later = come.later ++ turns_of k xs;
+    order = ap (λ (ts : List Turn). ts ++ turns_of k xs) come.order ∙ append_assoc come.earlier come.later (turns_of k xs);
+    mid = come.mid;
+    before = come.before;
+    since = moves_by_turns come.mid mid new come.later k xs come.since moves;
+    given = come.given;
+    none = come.none;
+  }
+
   -- the client that is out of its seat has a turn
-  pub seated_on : (turns : List Turn) (n k : ℕ) (xs : List (Exchange Station)) (seats : Slab (Client C)) → Seated state gave turns n seats → HasNone state gave seats k
-      → Seated state gave (turns ++ turns_of k xs) n seats
-  seated_on turns n k xs seats seated none = record {
+  pub seated_on : (old : Known) (turns : List Turn) (mid new : Known) (n k : ℕ) (xs : List (Exchange Station)) (seats : Slab (Client C)) → Moves mid xs new
+      → Seated state gave old turns mid n seats → HasNone state gave seats k → Seated state gave old (turns ++ turns_of k xs) new n seats
+  seated_on old turns mid new n k xs seats moves seated none = record {
     stands = λ i client is.
-        let (low, (came, given, stands)) = seated.stands i client is in (
+        let (low, (came, come, stands)) = seated.stands i client is in (
           low,
           (
             came,
-            given,
+            come_on old turns mid new client.number k came xs come moves,
             subst (λ (es : List (Exchange Station)). Stands state came client.channel es client.tokens client.feeder client.owed client.leaving)
                 (sym (exchanges_stay k client.number turns xs (λ same. none i client is (sym same)))) stands,
           ),
@@ -86,23 +103,46 @@ module _ {C : Type 0} (state : C → ChannelState) (gave : C → Type 0) where
     apart = seated.apart;
   }
 
+  -- another client's turns are those that it had
+  others_on : (old : Known) (turns : List Turn) (mid new : Known) (k i : ℕ) (xs : List (Exchange Station)) → Moves mid xs new → k ≢ i
+      → IsOfClient state gave old turns mid i → IsOfClient state gave old (turns ++ turns_of k xs) new i
+  others_on old turns mid new k i xs moves other (came, now, tokens, held, owed, leaving, come, stands) = (
+    came,
+    now,
+    tokens,
+    held,
+    owed,
+    leaving,
+    come_on old turns mid new i k came xs come moves,
+    subst (λ (es : List (Exchange Station)). Stands state came now es tokens held owed leaving) (sym (exchanges_stay k i turns xs other)) stands,
+  )
+
   pub lives_on : (old : Known) (turns : List Turn) (mid new : Known) (n k : ℕ) (came now : C) (tokens : List ProgramToken) (held : Held) (owed : OwedState) (leaving : Option Parting)
-      → Life state gave old turns mid n → k < n → gave came → (t : TurnsTo state mid new came now (exchanges_of k turns) tokens held owed leaving)
+      → Life state gave old turns mid n → k < n → HasCome gave old turns mid k came → (t : TurnsTo state mid new came now (exchanges_of k turns) tokens held owed leaving)
       → Life state gave old (turns ++ turns_of k t.more) new n
-  lives_on old turns mid new n k came now tokens held owed leaving life low given t = record {
-    moves = subst (λ (es : List (Exchange Station)). Moves old es new)
-        (sym (all_both turns (turns_of k t.more) ∙ ap (λ (es : List (Exchange Station)). all_exchanges turns ++ es) (all_of_turns k t.more)))
-        (moves_on old mid new (all_exchanges turns) t.more life.moves t.moves);
+  lives_on old turns mid new n k came now tokens held owed leaving life low come t = record {
+    moves = moves_by_turns old mid new turns k t.more life.moves t.moves;
     each = λ i below. elim (cases_eq k i) [
-      | inl here ↦ subst (λ (j : ℕ). IsOfClient state gave (exchanges_of j (turns ++ turns_of k t.more))) here
-          (subst (λ (es : List (Exchange Station)). IsOfClient state gave es) (sym (exchanges_grow k turns t.more)) (came, now, tokens, held, owed, leaving, given, t.stands))
-      | inr other ↦ subst (λ (es : List (Exchange Station)). IsOfClient state gave es) (sym (exchanges_stay k i turns t.more other)) (life.each i below)
+      | inl here ↦ subst (λ (j : ℕ). IsOfClient state gave old (turns ++ turns_of k t.more) new j) here own
+      | inr other ↦ others_on old turns mid new k i t.more t.moves other (life.each i below)
     ];
     no_other = λ i above. exchanges_stay k i turns t.more (λ same. absurd (omega (arith, same, low, above))) ∙ life.no_other i above;
     numbers = numbers_go_on old mid new life.numbers t.numbers;
-  }
+  } where
+    own : IsOfClient state gave old (turns ++ turns_of k t.more) new k
+    own = (
+      came,
+      now,
+      tokens,
+      held,
+      owed,
+      leaving,
+      come_on old turns mid new k k came t.more come t.moves,
+      subst (λ (es : List (Exchange Station)). Stands state came now es tokens held owed leaving) (sym (exchanges_grow k turns t.more)) t.stands,
+    )
 
-  -- a client more came, and has had no turn
+  -- ---- a client more came, and has had no turn
+
   pub new_stands : (came now : C) → state now ≡ state came → Stands state came now [] [] (open_at None []) (record { rest = []; failures = 0 }) None
   new_stands came now same = record {
     read = [];
@@ -114,114 +154,138 @@ module _ {C : Type 0} (state : C → ChannelState) (gave : C → Type 0) where
     unfailed = λ is. refl;
   }
 
-  pub one_more_lives : (old : Known) (turns : List Turn) (new : Known) (n : ℕ) (came now : C) → Life state gave old turns new n → gave came → state now ≡ state came → Life state gave old turns new (n + 1)
+  -- it came after all turns so far
+  pub comes_now : (old : Known) (turns : List Turn) (new : Known) (n : ℕ) (came : C) → Moves old (all_exchanges turns) new → gave new.pass came → exchanges_of n turns ≡ [] → HasCome gave old turns new n came
+  comes_now old turns new n came moves given none = record {
+    earlier = turns;
+    later = [];
+    order = sym (append-nil turns);
+    mid = new;
+    before = moves;
+    since = refl;
+    given = given;
+    none = none;
+  }
+
+  pub one_more_lives : (old : Known) (turns : List Turn) (new : Known) (n : ℕ) (came now : C) → Life state gave old turns new n → gave new.pass came → state now ≡ state came → Life state gave old turns new (n + 1)
   one_more_lives old turns new n came now life given same = record {
     moves = life.moves;
-    each = λ i below. elim (cases_eq i n) [
-      | inl here ↦ subst (λ (es : List (Exchange Station)). IsOfClient state gave es) (sym (life.no_other i (omega (arith, here)))) (came, now, [], open_at None [], record { rest = []; failures = 0 }, None, given, new_stands came now same)
+    each = λ i below. elim (cases_eq n i) [
+      | inl here ↦ subst (λ (j : ℕ). IsOfClient state gave old turns new j) here own
       | inr other ↦ life.each i (omega (arith, other, below))
     ];
     no_other = λ i above. life.no_other i (omega (arith, above));
     numbers = life.numbers;
-  }
+  } where
+    own : IsOfClient state gave old turns new n
+    own = (
+      came,
+      now,
+      [],
+      open_at None [],
+      record { rest = []; failures = 0 },
+      None,
+      comes_now old turns new n came life.moves given (life.no_other n (omega arith)),
+      subst (λ (es : List (Exchange Station)). Stands state came now es [] (open_at None []) (record { rest = []; failures = 0 }) None) (sym (life.no_other n (omega arith))) (new_stands came now same),
+    )
 
-  pub more_seated : (turns : List Turn) (n : ℕ) (seats : Slab (Client C)) → Seated state gave turns n seats → Seated state gave turns (n + 1) seats
-  more_seated turns n seats seated = record {
+  pub more_seated : (old : Known) (turns : List Turn) (new : Known) (n : ℕ) (seats : Slab (Client C)) → Seated state gave old turns new n seats → Seated state gave old turns new (n + 1) seats
+  more_seated old turns new n seats seated = record {
     stands = λ i client is. let (low, stands) = seated.stands i client is in (omega (arith, low), stands);
     apart = seated.apart;
   }
 
-  pub none_yet : (turns : List Turn) (n : ℕ) (seats : Slab (Client C)) → Seated state gave turns n seats → HasNone state gave seats n
-  none_yet turns n seats seated i client is same = let (low, stands) = seated.stands i client is in absurd (omega (arith, low, same))
+  pub none_yet : (old : Known) (turns : List Turn) (new : Known) (n : ℕ) (seats : Slab (Client C)) → Seated state gave old turns new n seats → HasNone state gave seats n
+  none_yet old turns new n seats seated i client is same = let (low, stands) = seated.stands i client is in absurd (omega (arith, low, same))
 
   -- ---- the life, and its clients in their seats
 
   pub client_in : (old : Known) (turns : List Turn) (new : Known) (n : ℕ) (seats : Slab (Client C)) (seat : ℕ) (client : Client C) → IsAttended state gave old turns new n seats → Some client ≡ get seats seat
-      → IsClient state gave turns n client
+      → IsClient state gave old turns new n client
   client_in old turns new n seats seat client (life, seated) is = seated.stands seat client (sym is)
 
-  -- what a client that is given up owes to its connection
-  pub client_parts : (turns : List Turn) (n : ℕ) (client : Client C) → IsClient state gave turns n client
-      → (came : C) × (exchanges : List (Exchange Station)) × gave came × Stands state came client.channel exchanges client.tokens client.feeder client.owed client.leaving
-  client_parts turns n client (low, (came, given, stands)) = (came, exchanges_of client.number turns, given, stands)
-
-  pub client_unfailed : (turns : List Turn) (n : ℕ) (client : Client C) → IsClient state gave turns n client → client.leaving ≡ None → client.owed.failures ≡ 0
-  client_unfailed turns n client (low, (came, given, stands)) = stands.unfailed
+  pub client_unfailed : (old : Known) (turns : List Turn) (new : Known) (n : ℕ) (client : Client C) → IsClient state gave old turns new n client → client.leaving ≡ None → client.owed.failures ≡ 0
+  client_unfailed old turns new n client (low, (came, come, stands)) = stands.unfailed
 
   -- it stands otherwise, with no exchange
-  pub client_still : (turns : List Turn) (n : ℕ) (was is : Client C) → is.number ≡ was.number
+  pub client_still : (old : Known) (turns : List Turn) (new : Known) (n : ℕ) (was is : Client C) → is.number ≡ was.number
       → ((came : C) (exchanges : List (Exchange Station)) → Stands state came was.channel exchanges was.tokens was.feeder was.owed was.leaving → Stands state came is.channel exchanges is.tokens is.feeder is.owed is.leaving)
-      → IsClient state gave turns n was → IsClient state gave turns n is
-  client_still turns n was is same goes (low, (came, given, stands)) =
-      (subst (λ (k : ℕ). k < n) (sym same) low, (came, given, subst (λ (k : ℕ). Stands state came is.channel (exchanges_of k turns) is.tokens is.feeder is.owed is.leaving) (sym same) (goes came (exchanges_of was.number turns) stands)))
+      → IsClient state gave old turns new n was → IsClient state gave old turns new n is
+  client_still old turns new n was is same goes (low, (came, come, stands)) =
+      (subst (λ (k : ℕ). k < n) (sym same) low, (came, subst (λ (k : ℕ). HasCome gave old turns new k came) (sym same) come, subst (λ (k : ℕ). Stands state came is.channel (exchanges_of k turns) is.tokens is.feeder is.owed is.leaving) (sym same) (goes came (exchanges_of was.number turns) stands)))
 
   pub seat_left : (old : Known) (turns : List Turn) (new : Known) (n : ℕ) (seats after : Slab (Client C)) (seat : ℕ) → Updates seats after seat None → IsAttended state gave old turns new n seats → IsAttended state gave old turns new n after
-  seat_left old turns new n seats after seat updates (life, seated) = (life, stays_out turns n seats after seat seated updates)
+  seat_left old turns new n seats after seat updates (life, seated) = (life, stays_out old turns new n seats after seat seated updates)
 
   pub seat_none : (old : Known) (turns : List Turn) (new : Known) (n : ℕ) (seats after : Slab (Client C)) (seat : ℕ) (was is : Client C) → Some was ≡ get seats seat → Updates seats after seat None → is.number ≡ was.number
       → IsAttended state gave old turns new n seats → HasNone state gave after is.number
   seat_none old turns new n seats after seat was is here updates same (life, seated) =
-      subst (λ (k : ℕ). HasNone state gave after k) (sym same) (none_left turns n seats after seat was seated (sym here) updates)
+      subst (λ (k : ℕ). HasNone state gave after k) (sym same) (none_left old turns new n seats after seat was seated (sym here) updates)
 
   pub seat_taken : (old : Known) (turns : List Turn) (new : Known) (n : ℕ) (seats after : Slab (Client C)) (seat : ℕ) (client : Client C) → Updates seats after seat (Some client)
-      → IsAttended state gave old turns new n seats → HasNone state gave seats client.number → IsClient state gave turns n client → IsAttended state gave old turns new n after
-  seat_taken old turns new n seats after seat client updates (life, seated) none stands = (life, takes_seat turns n seats after seat client seated none stands updates)
+      → IsAttended state gave old turns new n seats → HasNone state gave seats client.number → IsClient state gave old turns new n client → IsAttended state gave old turns new n after
+  seat_taken old turns new n seats after seat client updates (life, seated) none stands = (life, takes_seat old turns new n seats after seat client seated none stands updates)
 
   -- the client, which is out of its seat, has had a turn
   pub has_turn : (old : Known) (turns : List Turn) (mid new : Known) (n : ℕ) (seats out : Slab (Client C)) (seat : ℕ) (was is : Client C)
       → Some was ≡ get seats seat → Updates seats out seat None → is.number ≡ was.number
       → ((came : C) (exchanges : List (Exchange Station)) → Stands state came was.channel exchanges was.tokens was.feeder was.owed was.leaving → TurnsTo state mid new came is.channel exchanges is.tokens is.feeder is.owed is.leaving)
       → IsAttended state gave old turns mid n seats
-      → (more : List Turn) × IsAttended state gave old (turns ++ more) new n out × HasNone state gave out is.number × IsClient state gave (turns ++ more) n is
+      → (more : List Turn) × IsAttended state gave old (turns ++ more) new n out × HasNone state gave out is.number × IsClient state gave old (turns ++ more) new n is
   has_turn old turns mid new n seats out seat was is here updates same goes (life, seated) =
       let k = was.number in
-      let (low, (came, given, stands)) = seated.stands seat was (sym here) in
+      let (low, (came, come, stands)) = seated.stands seat was (sym here) in
       let t = goes came (exchanges_of k turns) stands in
-      let none : HasNone state gave out k = none_left turns n seats out seat was seated (sym here) updates in
+      let none : HasNone state gave out k = none_left old turns mid n seats out seat was seated (sym here) updates in
       let more = turns_of k t.more in
       let grown = subst (λ (es : List (Exchange Station)). Stands state came is.channel es is.tokens is.feeder is.owed is.leaving) (sym (exchanges_grow k turns t.more)) t.stands in (
         more,
         (
-          lives_on old turns mid new n k came is.channel is.tokens is.feeder is.owed is.leaving life low given t,
-          seated_on turns n k t.more out (stays_out turns n seats out seat seated updates) none,
+          lives_on old turns mid new n k came is.channel is.tokens is.feeder is.owed is.leaving life low come t,
+          seated_on old turns mid new n k t.more out t.moves (stays_out old turns mid n seats out seat seated updates) none,
         ),
         subst (λ (j : ℕ). HasNone state gave out j) (sym same) none,
         (
           subst (λ (j : ℕ). j < n) (sym same) low,
-          (came, given, subst (λ (j : ℕ). Stands state came is.channel (exchanges_of j (turns ++ more)) is.tokens is.feeder is.owed is.leaving) (sym same) grown),
+          (came, subst (λ (j : ℕ). HasCome gave old (turns ++ more) new j came) (sym same) (come_on old turns mid new k k came t.more come t.moves), subst (λ (j : ℕ). Stands state came is.channel (exchanges_of j (turns ++ more)) is.tokens is.feeder is.owed is.leaving) (sym same) grown),
         ),
       )
 
   -- a client comes, and takes a seat
-  pub one_comes : (old : Known) (turns : List Turn) (new : Known) (n : ℕ) (seats room after : Slab (Client C)) (seat : ℕ) (came now : C) (client : Client C) → gave came → state now ≡ state came
+  pub one_comes : (old : Known) (turns : List Turn) (new : Known) (n : ℕ) (seats room after : Slab (Client C)) (seat : ℕ) (came now : C) (client : Client C) → gave new.pass came → state now ≡ state came
       → client ≡ record { number = n; channel = now; feeder = open_at None []; tokens = []; owed = record { rest = []; failures = 0 }; leaving = None }
       → room ≡ record seats { capacity = room.capacity } → Updates room after seat (Some client)
       → IsAttended state gave old turns new n seats → IsAttended state gave old turns new (n + 1) after
   one_comes old turns new n seats room after seat came now client given same is grown updates (life, seated) = (
     one_more_lives old turns new n came now life given same,
-    takes_seat turns (n + 1) seats after seat client (more_seated turns n seats seated) none stands (record {
+    takes_seat old turns new (n + 1) seats after seat client (more_seated old turns new n seats seated) none stands (record {
       changed = updates.changed;
       others = λ other differ. updates.others other differ ∙ ap (λ (s : Slab (Client C)). get s other) grown;
     }),
   ) where
     none : HasNone state gave seats client.number
-    none = subst (λ (c : Client C). HasNone state gave seats c.number) (sym is) (none_yet turns n seats seated)
+    none = subst (λ (c : Client C). HasNone state gave seats c.number) (sym is) (none_yet old turns new n seats seated)
 
     first : Stands state came now (exchanges_of n turns) [] (open_at None []) (record { rest = []; failures = 0 }) None
     first = subst (λ (es : List (Exchange Station)). Stands state came now es [] (open_at None []) (record { rest = []; failures = 0 }) None) (sym (life.no_other n (omega arith))) (new_stands came now same)
 
-    stands : IsClient state gave turns (n + 1) client
-    stands = subst (λ (c : Client C). IsClient state gave turns (n + 1) c) (sym is) (omega arith, (came, given, first))
+    stands : IsClient state gave old turns new (n + 1) client
+    stands = subst (λ (c : Client C). IsClient state gave old turns new (n + 1) c) (sym is) (omega arith, (came, comes_now old turns new n came life.moves given (life.no_other n (omega arith)), first))
 
   -- nothing was told to it
-  told_none : (came now next : C) → gave came → state now ≡ state came → Keeps (state now).left (state next).left → Keeps (state now).held (state next).held → HasParted state gave next NotKept
+  told_none : (pass : PassState) (came now next : C) → gave pass came → state now ≡ state came → Keeps (state now).left (state next).left → Keeps (state now).held (state next).held → HasParted state gave pass next NotKept
   unfolding new_stands
-  told_none came now next given same unread untold =
+  told_none pass came now next given same unread untold =
       let stands = new_stands came now same in
+      let here : Known = record { pass = pass; team = [] } in
       record {
+        old = here;
+        turns = [];
+        new = here;
+        knows = refl;
+        client = 0;
         came = came;
-        given = given;
-        exchanges = [];
+        come = comes_now here [] here 0 came refl given refl;
         read = [];
         written = [];
         consumed = Consumes-kept (state came).left (state now).left (state next).left [] stands.consumed unread;
@@ -230,22 +294,27 @@ module _ {C : Type 0} (state : C → ChannelState) (gave : C → Type 0) where
       }
 
   -- a client that came can't be kept
-  pub turned_away : (came now next : C) (sent : Sent) (bytes : List ℕ) → gave came → state now ≡ state came → bytes ≡ refusal 9 → Sends (state now) (state next) sent bytes → HasParted state gave next NotKept
+  pub turned_away : (pass : PassState) (came now next : C) (sent : Sent) (bytes : List ℕ) → gave pass came → state now ≡ state came → bytes ≡ refusal 9 → Sends (state now) (state next) sent bytes → HasParted state gave pass next NotKept
   unfolding new_stands
-  turned_away came now next (Took n) bytes given same frame (some, within, kept, taken) =
+  turned_away pass came now next (Took n) bytes given same frame (some, within, kept, taken) =
       let stands = new_stands came now same in
+      let here : Known = record { pass = pass; team = [] } in
       record {
+        old = here;
+        turns = [];
+        new = here;
+        knows = refl;
+        client = 0;
         came = came;
-        given = given;
-        exchanges = [];
+        come = comes_now here [] here 0 came refl given refl;
         read = [];
         written = take n bytes;
         consumed = Consumes-kept (state came).left (state now).left (state next).left [] stands.consumed kept;
         appended = Appends-trans (state came).held (state now).held (state next).held [] (take n bytes) stands.appended taken;
         parts = (refl, refl, (drop n bytes, sym frame ∙ sym (take-append-drop n bytes)));
       }
-  turned_away came now next NotNow bytes given same frame kept = told_none came now next given same kept.0 kept.1
-  turned_away came now next Failed bytes given same frame kept = told_none came now next given same kept.0 kept.1
+  turned_away pass came now next NotNow bytes given same frame kept = told_none pass came now next given same kept.0 kept.1
+  turned_away pass came now next Failed bytes given same frame kept = told_none pass came now next given same kept.0 kept.1
 
   -- there is more room
   pub room_made : (old : Known) (turns : List Turn) (new : Known) (n : ℕ) (seats room : Slab (Client C)) → room ≡ record seats { capacity = room.capacity }

@@ -5,6 +5,8 @@ pub mod Served
 pub mod Collected
 pub mod Partings
 pub mod Lives
+pub mod Arrivals
 pub mod Turns
 pub mod Seats
+pub mod Posts
 pub mod Shared

@@ -7,7 +7,8 @@ use Rattle.program_registry.specs.declared.registry.ProgramToken.{ProgramToken}
 use Rattle.devices.specs.Channels.{ChannelState, OwedState}
 use Rattle.sessions.specs.Conversations.{Exchange}
 use Rattle.crews.specs.declared.clients.Parting.{Parting}
-use Rattle.crews.specs.Crews.{team_numbers}
+use Rattle.crews.specs.declared.crew.Crew.{Crew}
+use Rattle.crews.specs.Crews.{station, team_numbers}
 use Rattle.crews.specs.Stations.{Station}
 use Rattle.crews.specs.Partings.{PartsSo, SaysSo}
 
@@ -62,28 +63,50 @@ module _ {C : Type 0} (state : C → ChannelState) where
     pub says : SaysSo leaving held exchanges read (written ++ owed.rest)
     pub unfailed : leaving ≡ None → owed.failures ≡ 0
 
--- and over which of them were given to the worker
-module _ {C : Type 0} (state : C → ChannelState) (gave : C → Type 0) where
-  -- a client that came with one connection left so, and this is its connection now
-  pub record HasParted (now : C) (parting : Parting) : Type 0 where
+-- over which connections were given to the worker, when its pass knew what
+module _ {C : Type 0} (gave : PassState → C → Type 0) where
+  -- the turns lead from what the passes knew to what they know, and the client of this number came among them with this connection:
+  -- none of the earlier ones is its own
+  pub record HasCome (old : Known) (turns : List Turn) (new : Known) (client : ℕ) (came : C) : Type 0 where
+    pub earlier : List Turn
+    pub later : List Turn
+    pub order : turns ≡ earlier ++ later
+    pub mid : Known
+    pub before : Moves old (all_exchanges earlier) mid
+    pub since : Moves mid (all_exchanges later) new
+    pub given : gave mid.pass came
+    pub none : exchanges_of client earlier ≡ []
+
+-- and over what they tell
+module _ {C : Type 0} (state : C → ChannelState) (gave : PassState → C → Type 0) where
+  -- a client left so, and this is its connection now: its exchanges are turns among those that led to what the pass knows
+  pub record HasParted (pass : PassState) (now : C) (parting : Parting) : Type 0 where
+    pub old : Known
+    pub turns : List Turn
+    pub new : Known
+    pub knows : new.pass ≡ pass
+    pub client : ℕ
     pub came : C
-    pub given : gave came
-    pub exchanges : List (Exchange Station)
+    pub come : HasCome gave old turns new client came
     pub read : List ℕ
     pub written : List ℕ
     pub consumed : Consumes (state came).left (state now).left read
     pub appended : Appends (state came).held (state now).held written
-    pub parts : PartsSo parting exchanges read written
+    pub parts : PartsSo parting (exchanges_of client turns) read written
 
-  -- the exchanges are those of one client
-  abbrev pub IsOfClient : List (Exchange Station) → Type 0
-  IsOfClient exchanges =
+  -- a client came and has had its turns among these
+  abbrev pub IsOfClient : Known → List Turn → Known → ℕ → Type 0
+  IsOfClient old turns new client =
       (came : C) × (now : C) × (tokens : List ProgramToken) × (held : Held) × (owed : OwedState) × (leaving : Option Parting)
-      × gave came × Stands state came now exchanges tokens held owed leaving
+      × HasCome gave old turns new client came × Stands state came now (exchanges_of client turns) tokens held owed leaving
 
   -- the turns of so many clients lead from what the passes knew to what they know
   pub record Life (old : Known) (turns : List Turn) (new : Known) (clients : ℕ) : Type 0 where
     pub moves : Moves old (all_exchanges turns) new
-    pub each : (client : ℕ) → client < clients → IsOfClient (exchanges_of client turns)
+    pub each : (client : ℕ) → client < clients → IsOfClient old turns new client
     pub no_other : (client : ℕ) → clients ≤ client → exchanges_of client turns ≡ []
     pub numbers : KeepsNumbers old new
+
+  -- turns of its clients, and nothing else, moved the crew
+  abbrev pub HasLived : Crew → Crew → Type 0
+  HasLived old new = (turns : List Turn) × (clients : ℕ) × Life (known (station old [])) turns (known (station new [])) clients

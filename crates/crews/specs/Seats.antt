@@ -3,18 +3,20 @@ use Rattle.std.specs.Prelude.{◌≡◌, ◌≢◌, ℕ, ◌<◌, List, Option, 
 use Rattle.slab.specs.Slab.{Slab, get}
 use Rattle.devices.specs.Channels.{ChannelState}
 use Rattle.crews.specs.declared.turn.Client.{Client}
-use Rattle.crews.specs.Lives.{Known, Turn, exchanges_of, Life, Stands}
+use Rattle.bin_stripes.specs.Passes.{PassState}
+use Rattle.crews.specs.Lives.{Known, Turn, exchanges_of, HasCome, Life, Stands}
 
-module _ {C : Type 0} (state : C → ChannelState) (gave : C → Type 0) where
+module _ {C : Type 0} (state : C → ChannelState) (gave : PassState → C → Type 0) where
   -- this is how the client of these turns stands
-  abbrev pub IsClient : List Turn → ℕ → Client C → Type 0
-  IsClient turns clients client =
+  abbrev pub IsClient : Known → List Turn → Known → ℕ → Client C → Type 0
+  IsClient old turns new clients client =
       (client.number < clients)
-      × ((came : C) × gave came × Stands state came client.channel (exchanges_of client.number turns) client.tokens client.feeder client.owed client.leaving)
+      × ((came : C) × HasCome gave old turns new client.number came
+      × Stands state came client.channel (exchanges_of client.number turns) client.tokens client.feeder client.owed client.leaving)
 
   -- each seat has a client of the life, no two the same
-  pub record Seated (turns : List Turn) (clients : ℕ) (seats : Slab (Client C)) : Type 0 where
-    pub stands : (seat : ℕ) (client : Client C) → get seats seat ≡ Some client → IsClient turns clients client
+  pub record Seated (old : Known) (turns : List Turn) (new : Known) (clients : ℕ) (seats : Slab (Client C)) : Type 0 where
+    pub stands : (seat : ℕ) (client : Client C) → get seats seat ≡ Some client → IsClient old turns new clients client
     pub apart : (seat other : ℕ) (client more : Client C) → get seats seat ≡ Some client → get seats other ≡ Some more → client.number ≡ more.number → seat ≡ other
 
   -- none of them has this number
@@ -23,4 +25,4 @@ module _ {C : Type 0} (state : C → ChannelState) (gave : C → Type 0) where
 
   -- the life so far, and its clients in their seats
   abbrev pub IsAttended : Known → List Turn → Known → ℕ → Slab (Client C) → Type 0
-  IsAttended old turns new clients seats = Life state gave old turns new clients × Seated turns clients seats
+  IsAttended old turns new clients seats = Life state gave old turns new clients × Seated old turns new clients seats

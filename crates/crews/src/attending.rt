@@ -1,8 +1,10 @@
 //! A worker's whole life, with any number of clients.
-ghost use Rattle.std.specs.Prelude.{◌≡◌, ◌++◌, ℕ, List, []};
-ghost use Rattle.slab.specs.Slab.{HasRoomFor};
+ghost use Rattle.std.specs.Prelude.{◌≡◌, ◌+◌, ◌++◌, ℕ, List, [], None};
+ghost use Rattle.bin_stripes.specs.Passes.{PassState};
+ghost use Rattle.slab.specs.Slab.{get, slab_len, HasRoomFor};
+ghost use Rattle.crews.specs.Arrivals.{CountGoes};
 ghost use Rattle.crews.specs.Crews.{IsCrewOf, CarriesSame, station};
-ghost use Rattle.crews.specs.Lives.{Known, known, Turn, Life};
+ghost use Rattle.crews.specs.Lives.{Known, known, Turn, HasLived};
 ghost use Rattle.crews.specs.Seats.{HasNone, IsAttended, IsClient};
 
 use crate::clients::{Clients, Event, Parting, Standing};
@@ -10,7 +12,7 @@ use crate::crew::Crew;
 use crate::serving::Serving;
 use crate::turn::{Client, PIECE_BYTES, Room};
 use crate::worker::Worker;
-use bin_stripes::{Gate, StripedMap};
+use bin_stripes::{Gate, Pass};
 use bpf_model::NoMemory;
 use bulk_walks::Team;
 use client_protocol::ShortResponse;
@@ -34,34 +36,36 @@ struct Attendant<'a, C> {
 }
 
 /// A client that came can't be kept: it is told 9, as far as its connection takes that at once, and given up.
-fn turn_away<C: Channel, P: Clients<C>>(clients: &mut P, worker: u32, channel: C)
-    requires { (came : C) × P.gave came × (C.state channel ≡ C.state came) }
+fn turn_away<C: Channel, P: Clients<C>>(clients: &mut P, pass: &Pass, channel: C)
+    requires { (came : C) × P.gave pass.now came × (C.state channel ≡ C.state came) }
+    ensures { CountGoes P.there clients.old 1 clients.new 0 }
 {
     let mut channel = channel;
     let number = NoMemory::NUMBER;
     let frame = ShortResponse::Refused { number, place: 0 }.frame();
     let _ = channel.send(frame.as_slice());
-    clients.ended(worker, None, channel, Parting::NotKept);
+    clients.ended(pass, None, channel, Parting::NotKept);
 }
 
 impl<'a, C: Channel + Drop> Attendant<'a, C> {
     /// A client came with this connection, and takes a seat.
     fn take_in<P: Clients<C>>(&mut self, clients: &mut P, channel: C)
-        requires { P.gave channel }
-        ensures { (old : Known) (turns : List Turn)
+        requires { P.gave self.old.room.serving.pass channel }
+        ensures there { CountGoes P.there clients.old (slab_len self.old.seats + 1) clients.new (slab_len self.new.seats) }
+        ensures attended { (old : Known) (turns : List Turn)
             → IsAttended C.state P.gave old turns (known self.old.room.serving) self.old.came self.old.seats
             → IsAttended C.state P.gave old turns (known self.new.room.serving) self.new.came self.new.seats }
     {
         let mut channel = channel;
         let Some(came) = self.came.checked_add(1) else {
-            return turn_away(clients, self.room.number, channel);
+            return turn_away(clients, self.room.serving.pass(), channel);
         };
         let Ok(()) = self.seats.reserve(1) else {
-            return turn_away(clients, self.room.number, channel);
+            return turn_away(clients, self.room.serving.pass(), channel);
         };
         let seat = self.seats.vacant_key();
         let Ok(()) = clients.watch(seat, &mut channel) else {
-            return turn_away(clients, self.room.number, channel);
+            return turn_away(clients, self.room.serving.pass(), channel);
         };
         let client = Client::new(self.alloc, self.came, self.registry, channel);
         let _ = self.seats.insert_reserved(client);
@@ -77,14 +81,17 @@ impl<'a, C: Channel + Drop> Attendant<'a, C> {
         standing: Standing,
     )
         requires room { HasRoomFor self.old.seats 1 }
-        requires client { (turns : List Turn) × IsClient C.state P.gave turns self.old.came client }
-        ensures { (old : Known) (turns : List Turn)
+        requires client { (old : Known) × (turns : List Turn)
+            × IsClient C.state P.gave old turns (known self.old.room.serving) self.old.came client }
+        ensures there { CountGoes P.there clients.old (slab_len self.old.seats + 1) clients.new (slab_len self.new.seats) }
+        ensures attended { (old : Known) (turns : List Turn)
             → IsAttended C.state P.gave old turns (known self.old.room.serving) self.old.came self.old.seats
-            → HasNone C.state P.gave self.old.seats client.entry.number → IsClient C.state P.gave turns self.old.came client.entry
+            → HasNone C.state P.gave self.old.seats client.entry.number
+            → IsClient C.state P.gave old turns (known self.old.room.serving) self.old.came client.entry
             → IsAttended C.state P.gave old turns (known self.new.room.serving) self.new.came self.new.seats }
     {
         if client.has_left() {
-            client.part(clients, self.room.number, seat);
+            client.part(clients, self.room.serving.pass(), seat);
             return;
         }
         let _ = self.seats.insert_reserved(client);
@@ -100,7 +107,8 @@ impl<'a, C: Channel + Drop> Attendant<'a, C> {
     )
         requires attended { (old : Known) × (turns : List Turn)
             × IsAttended C.state P.gave old turns (known self.old.room.serving) self.old.came self.old.seats }
-        ensures { (old : Known) (turns : List Turn)
+        ensures there { CountGoes P.there clients.old (slab_len self.old.seats) clients.new (slab_len self.new.seats) }
+        ensures attended { (old : Known) (turns : List Turn)
             → IsAttended C.state P.gave old turns (known self.old.room.serving) self.old.came self.old.seats
             → (more : List Turn)
             × IsAttended C.state P.gave old (turns ++ more) (known self.new.room.serving) self.new.came self.new.seats }
@@ -116,7 +124,8 @@ impl<'a, C: Channel + Drop> Attendant<'a, C> {
     fn let_go<P: Clients<C>>(&mut self, clients: &mut P, seat: usize)
         requires attended { (old : Known) × (turns : List Turn)
             × IsAttended C.state P.gave old turns (known self.old.room.serving) self.old.came self.old.seats }
-        ensures { (old : Known) (turns : List Turn)
+        ensures there { CountGoes P.there clients.old (slab_len self.old.seats) clients.new (slab_len self.new.seats) }
+        ensures attended { (old : Known) (turns : List Turn)
             → IsAttended C.state P.gave old turns (known self.old.room.serving) self.old.came self.old.seats
             → IsAttended C.state P.gave old turns (known self.new.room.serving) self.new.came self.new.seats }
     {
@@ -124,7 +133,7 @@ impl<'a, C: Channel + Drop> Attendant<'a, C> {
             return;
         };
         if client.leaving.is_some() {
-            client.part(clients, self.room.number, seat);
+            client.part(clients, self.room.serving.pass(), seat);
             return;
         }
         client.let_go(self.alloc);
@@ -135,21 +144,26 @@ impl<'a, C: Channel + Drop> Attendant<'a, C> {
     fn drop_one<P: Clients<C>>(&mut self, clients: &mut P, seat: usize)
         requires attended { (old : Known) × (turns : List Turn)
             × IsAttended C.state P.gave old turns (known self.old.room.serving) self.old.came self.old.seats }
-        ensures { (old : Known) (turns : List Turn)
+        ensures gone { get self.new.seats seat ≡ None }
+        ensures others { (other : ℕ) → get self.old.seats other ≡ None → get self.new.seats other ≡ None }
+        ensures there { CountGoes P.there clients.old (slab_len self.old.seats) clients.new (slab_len self.new.seats) }
+        ensures attended { (old : Known) (turns : List Turn)
             → IsAttended C.state P.gave old turns (known self.old.room.serving) self.old.came self.old.seats
             → IsAttended C.state P.gave old turns (known self.new.room.serving) self.new.came self.new.seats }
     {
         let Some(client) = self.seats.try_remove(seat) else {
             return;
         };
-        client.part(clients, self.room.number, seat);
+        client.part(clients, self.room.serving.pass(), seat);
     }
 
     /// All clients are let go at once.
     fn drop_all<P: Clients<C>>(&mut self, clients: &mut P)
         requires attended { (old : Known) × (turns : List Turn)
             × IsAttended C.state P.gave old turns (known self.old.room.serving) self.old.came self.old.seats }
-        ensures { (old : Known) (turns : List Turn)
+        ensures empty { slab_len self.new.seats ≡ 0 }
+        ensures there { CountGoes P.there clients.old (slab_len self.old.seats) clients.new (slab_len self.new.seats) }
+        ensures attended { (old : Known) (turns : List Turn)
             → IsAttended C.state P.gave old turns (known self.old.room.serving) self.old.came self.old.seats
             → IsAttended C.state P.gave old turns (known self.new.room.serving) self.new.came self.new.seats }
     {
@@ -166,13 +180,15 @@ impl<'a, C: Channel + Drop> Attendant<'a, C> {
     )
         requires attended { (old : Known) × (turns : List Turn)
             × IsAttended C.state P.gave old turns (known self.old.room.serving) self.old.came self.old.seats }
-        ensures { (old : Known) (turns : List Turn)
+        requires serves { P.serves self.old.room.serving.pass.map }
+        ensures there { CountGoes P.there clients.old (slab_len self.old.seats) clients.new (slab_len self.new.seats) }
+        ensures attended { (old : Known) (turns : List Turn)
             → IsAttended C.state P.gave old turns (known self.old.room.serving) self.old.came self.old.seats
             → (more : List Turn)
             × IsAttended C.state P.gave old (turns ++ more) (known self.new.room.serving) self.new.came self.new.seats }
     {
         for _ in worker.rt.forever() {
-            match clients.next() {
+            match clients.next(self.room.serving.pass()) {
                 Event::Came(channel) => self.take_in(clients, channel),
                 Event::Ready(seat) => self.serve_one(worker, clients, seat),
                 Event::LetGo(seat) => self.let_go(clients, seat),
@@ -186,20 +202,18 @@ impl<'a, C: Channel + Drop> Attendant<'a, C> {
 /// Serves a worker's clients until it is told that this is over, any number of them at once: what each sends is read in pieces, one
 /// in each of its turns, and answered by the crew with the tokens of that client. Gives the crew back. What moved it is the turns of
 /// the clients alone, in one chain. Each client's turns are one conversation, as `session` has it: its requests are those that it sent,
-/// in order, each answered once, and what is written to it are their answers. Waits as `clients` does, and for stripes that others hold.
-pub fn attend<'a, H: Threads + Wait + Sync, C: Channel + Drop, P: Clients<C>, G: Gate + Sync>(
-    rt: &'a H,
-    alloc: Global,
+/// in order, each answered once, and what is written to it are their answers. Each client that came is told to `clients` when it leaves
+/// (`there`). Waits as `clients` does, and for stripes that others hold.
+pub fn attend<H: Threads + Wait + Sync, C: Channel + Drop, P: Clients<C>, G: Gate + Sync>(
+    worker: &Worker<'_, H, G>,
     clients: &mut P,
-    map: &'a StripedMap,
-    registry: &'a Registry,
     crew: Crew,
-    gate: &'a G,
 ) -> Crew
-    requires { IsCrewOf map.now crew }
-    ensures life { (turns : List Turn) × (came : ℕ)
-        × Life C.state P.gave (known (station crew [])) turns (known (station result [])) came }
-    ensures crew { IsCrewOf map.now result }
+    requires crew { IsCrewOf worker.now.map.now crew }
+    requires serves { P.serves worker.now.map.now }
+    ensures life { HasLived C.state P.gave crew result }
+    ensures there { CountGoes P.there clients.old 0 clients.new 0 }
+    ensures crew { IsCrewOf worker.now.map.now result }
     ensures same { CarriesSame crew result }
 {
     let Crew {
@@ -207,33 +221,26 @@ pub fn attend<'a, H: Threads + Wait + Sync, C: Channel + Drop, P: Clients<C>, G:
         pass,
         team,
     } = crew;
-    let worker = Worker {
-        rt,
-        alloc,
-        gate,
-        map,
-        registry,
-    };
     let serving = Serving {
-        map,
-        registry,
+        map: worker.map,
+        registry: worker.registry,
         pass,
         team: team.into_passes(),
-        tokens: Vec::new(alloc),
+        tokens: Vec::new(worker.alloc),
     };
     let mut attendant = Attendant {
-        alloc,
-        registry,
+        alloc: worker.alloc,
+        registry: worker.registry,
         room: Room {
             number,
             serving,
-            conversation: Conversation::new(alloc),
+            conversation: Conversation::new(worker.alloc),
             piece: [0; PIECE_BYTES],
         },
-        seats: Slab::new(alloc),
+        seats: Slab::new(worker.alloc),
         came: 0,
     };
-    attendant.attend_all(&worker, clients);
+    attendant.attend_all(worker, clients);
     attendant.drop_all(clients);
     let Attendant { room, .. } = attendant;
     let Room { serving, .. } = room;

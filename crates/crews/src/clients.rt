@@ -1,6 +1,7 @@
 //! Where the clients of one worker come from, and what tells of them.
 ghost use Rattle.std.specs.Prelude.{◌≡◌};
 
+use bin_stripes::Pass;
 use bpf_model::NoMemory;
 use devices::Channel;
 use sessions::SessionEnd;
@@ -42,24 +43,40 @@ pub enum Parting {
 /// Where the clients of one worker come from, and what tells of them. Whatever it tells, only time depends on it: a seat that has
 /// no client is passed over.
 pub trait Clients<C: Channel> {
+    ghost use Rattle.std.specs.Prelude.{ℕ};
+    ghost use Rattle.atomic_table.specs.Seated.{TableId};
+    ghost use Rattle.bin_stripes.specs.Passes.{PassState};
+    ghost use Rattle.crews.specs.Arrivals.{came_by, CountGoes};
     ghost use Rattle.crews.specs.Lives.{HasParted};
 
-    /// The worker was given this connection, as it was then. Nothing but `next` tells it.
-    ghost gave: { C → Type 0 } = { λ _. Unit {0} };
+    /// The clients are of this map.
+    ghost serves: { TableId → Type 0 } = { λ _. Unit {0} };
 
-    /// The next thing to do. It may wait.
-    fn next(&mut self) -> Event<C>
-        ensures { (channel : C) → result ≡ Event.Came channel → gave channel };
+    /// The worker was given this connection, as it was then, when its pass knew this. Nothing but `next` tells it.
+    ghost gave: { PassState → C → Type 0 } = { λ _ _. Unit {0} };
+
+    /// This number of clients came, and have not ended. Nothing but `next` and `ended` changes it.
+    ghost there: { Self → ℕ → Type 0 } = { λ _ _. Unit {0} };
+
+    /// The next thing to do, for the worker whose pass this is. It may wait.
+    fn next(&mut self, pass: &Pass) -> Event<C>
+        requires { serves pass.now.map }
+        ensures gave { (channel : C) → result ≡ Event.Came channel → gave pass.now channel }
+        ensures there { CountGoes there self.old 0 self.new (came_by result) };
 
     /// The client that came last is in this seat from now on. `NoMemory` if it can't be kept.
     fn watch(&mut self, seat: usize, channel: &mut C) -> Result<(), NoMemory>
-        ensures { C.state channel.new ≡ C.state channel.old };
+        ensures channel { C.state channel.new ≡ C.state channel.old }
+        ensures there { CountGoes there self.old 0 self.new 0 };
 
     /// The client of this seat had a turn.
-    fn served(&mut self, seat: usize, standing: Standing);
+    fn served(&mut self, seat: usize, standing: Standing)
+        ensures { CountGoes there self.old 0 self.new 0 };
 
     /// The client left so, which this worker was given with this connection, and had this seat if it was kept. What was read of it
-    /// is answered, and what was written to it are the answers, as its parting says. The connection is given up.
-    fn ended(&mut self, worker: u32, seat: Option<usize>, channel: C, parting: Parting)
-        requires { HasParted C.state gave channel parting };
+    /// is answered by turns among those that led to what the worker's pass knows, and what was written to it are the answers, as
+    /// its parting says. The connection is given up.
+    fn ended(&mut self, pass: &Pass, seat: Option<usize>, channel: C, parting: Parting)
+        requires { HasParted C.state gave pass.now channel parting }
+        ensures { CountGoes there self.old 1 self.new 0 };
 }

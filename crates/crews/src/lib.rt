@@ -2,7 +2,7 @@
 //!
 //! The promise to the layers above: `session` answers what it reads by a chain of steps on what its crew knows (`CrewServes` of
 //! `specs/Steps.antt`, `Ended` of the crate sessions); `serve` gives its crews back in order, each with the numbers that it
-//! carried. A session waits for its reader and for stripes that others hold; its walks start threads.
+//! carried, and `attend_each` its posts. A session waits for its reader and for stripes that others hold; its walks start threads.
 #![tactic(auto)]
 
 mod accept;
@@ -10,6 +10,8 @@ mod attending;
 mod client;
 mod clients;
 mod crew;
+mod posts;
+mod seats;
 mod server;
 mod serving;
 mod shared;
@@ -23,5 +25,7 @@ pub use attending::attend;
 pub use client::session;
 pub use clients::{Clients, Event, Parting, Standing};
 pub use crew::Crew;
+pub use posts::{Post, attend_each};
 pub use server::serve;
 pub use shared::join_sessions;
+pub use worker::Worker;

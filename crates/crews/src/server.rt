@@ -1,11 +1,12 @@
 //! Crews that serve clients, each in a thread of its own.
-ghost use Rattle.std.specs.Prelude.{◌≡◌, ◌≤◌, ℕ, [], All, IfOk, IsSome, IsSomeAnd, map, Some, vec_len, vec_capacity};
+ghost use Rattle.std.specs.Prelude.{ℕ, All, IfOk, IsSomeAnd};
 ghost use Rattle.crews.specs.Crews.{IsCrewOf, IsServed, CarriesSame, AllCarrySame};
 ghost use Rattle.crews.specs.Served.{ServesClients, AllServeClients, HasServedClients};
 
 use crate::accept::Accept;
 use crate::client::session;
 use crate::crew::Crew;
+use crate::seats::{left_of, seated};
 use crate::worker::Worker;
 use bin_stripes::{Gate, StripedMap};
 use bpf_model::NoMemory;
@@ -20,20 +21,20 @@ use workers::work;
 #[tactic(auto, using(crate::proofs::ServeLemmas::carries_same, crate::proofs::ServeLemmas::carries_on))]
 fn serve_clients<
     H: Threads + Wait + Sync,
-    R: Source + Drop + Sync,
-    W: Sink + Drop + Sync,
+    R: Source + Sync,
+    W: Sink + Sync,
     A: Accept<R, W>,
     G: Gate + Sync,
 >(worker: &Worker<'_, H, G>, accept: &A, crew: Crew) -> Crew
-    requires { IsCrewOf worker.now.map.now crew }
+    requires crew { IsCrewOf worker.now.map.now crew }
+    requires serves { A.serves worker.now.map.now }
     ensures of { IsCrewOf worker.now.map.now result }
     ensures same { CarriesSame crew result }
     ensures served { (n : ℕ) × ServesClients R.state W.state A.gave n crew result }
 {
     let mut crew = crew;
     for _ in worker.rt.forever() {
-        let number = crew.worker;
-        let Some((mut reader, mut writer)) = accept.next(number) else {
+        let Some((mut reader, mut writer)) = accept.next(&crew) else {
             return crew;
         };
         let (back, end) = session(
@@ -46,7 +47,7 @@ fn serve_clients<
             crew,
             worker.gate,
         );
-        accept.ended(number, reader, writer, end);
+        accept.ended(&back, reader, writer, end);
         crew = back;
     }
     unreachable!()
@@ -58,8 +59,8 @@ fn serve_clients<
 /// if a request for the lists of workers was refused: nobody is served then, and the crews are given up. Waits for clients.
 pub fn serve<
     H: Threads + Wait + Sync,
-    R: Source + Drop + Sync,
-    W: Sink + Drop + Sync,
+    R: Source + Sync,
+    W: Sink + Sync,
     A: Accept<R, W> + Sync,
     G: Gate + Sync,
 >(
@@ -71,7 +72,8 @@ pub fn serve<
     crews: Vec<Crew>,
     gate: &G,
 ) -> Result<Vec<Crew>, NoMemory>
-    requires { All (λ crew. IsCrewOf map.now crew) crews.items }
+    requires crews { All (λ crew. IsCrewOf map.now crew) crews.items }
+    requires serves { A.serves map.now }
     ensures same { IfOk result (λ back. AllCarrySame crews.items back.items) }
     ensures map { IfOk result (λ back. All (λ crew. IsCrewOf map.now crew) back.items) }
     ensures served { IfOk result (λ back. AllServeClients R.state W.state A.gave crews.items back.items) }
@@ -81,7 +83,7 @@ pub fn serve<
     let back = Vec::with_capacity(alloc, count)?;
     let seats = seated(crews, seats);
     let call = move |_: usize, seat: &mut Option<Crew>|
-        requires { IsSomeAnd seat.old (λ crew. IsCrewOf map.now crew) }
+        requires { IsSomeAnd seat.old (λ crew. IsCrewOf map.now crew) × A.serves map.now }
         ensures of { IsServed map.entry.now seat.old seat.new }
         ensures served { HasServedClients R.state W.state A.gave seat.old seat.new }
     {
@@ -101,30 +103,4 @@ pub fn serve<
         return Err(NoMemory);
     };
     Ok(left_of(seats, back))
-}
-
-/// A seat for each crew, in the room that is there.
-fn seated(crews: Vec<Crew>, mut seats: Vec<Option<Crew>>) -> Vec<Option<Crew>>
-    requires empty { seats.items ≡ [] }
-    requires room { vec_len crews ≤ vec_capacity seats }
-    ensures { result.items ≡ map Some crews.items }
-{
-    for crew in crews {
-        seats.push_reserved(Some(crew));
-    }
-    seats
-}
-
-/// The crews in the seats, in the room that is there.
-fn left_of(seats: Vec<Option<Crew>>, mut crews: Vec<Crew>) -> Vec<Crew>
-    requires empty { crews.items ≡ [] }
-    requires room { vec_len seats ≤ vec_capacity crews }
-    requires all { All (λ seat. IsSome seat) seats.items }
-    ensures { map Some result.items ≡ seats.items }
-{
-    for seat in seats {
-        let Some(crew) = seat else { unreachable!() };
-        crews.push_reserved(crew);
-    }
-    crews
 }

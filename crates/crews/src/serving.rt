@@ -154,6 +154,13 @@ fn answer_of(reply: Result<WalkReply, NoMemory>) -> Answer
 }
 
 impl<'a> Serving<'a> {
+    /// The pass of the calls.
+    pub fn pass(&self) -> &Pass
+        ensures { result.now ≡ self.now.pass }
+    {
+        &self.pass
+    }
+
     /// Goes on with these tokens, and leaves there those that it had.
     pub fn lend(&mut self, tokens: &mut Tokens<'a>)
         ensures here { self.new ≡ record { pass = self.old.pass; team = self.old.team; tokens = tokens.old } }

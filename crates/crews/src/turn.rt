@@ -5,14 +5,16 @@ ghost use Rattle.client_protocol.specs.Frames.Held.{open_at};
 ghost use Rattle.sessions.specs.Conversations.{Exchange as TheExchange};
 ghost use Rattle.crews.specs.Stations.{Station};
 ghost use Rattle.crews.specs.Partings.{SaysSo, PartsSo};
-ghost use Rattle.crews.specs.Lives.{known, Stands};
+ghost use Rattle.crews.specs.Arrivals.{CountGoes};
+ghost use Rattle.crews.specs.Lives.{Known, known, Turn, Stands};
+ghost use Rattle.crews.specs.Seats.{IsClient};
 ghost use Rattle.crews.specs.Turns.{TellsRefusal, LeavesAt, SaysMore, TurnsTo};
 
 use crate::clients::{Clients, Parting, Standing};
 use crate::serving::Serving;
 use crate::tokens::Tokens;
 use crate::worker::Worker;
-use bin_stripes::Gate;
+use bin_stripes::{Gate, Pass};
 use bpf_model::{NoMemory, Value};
 use client_protocol::{Feeder, Request};
 use devices::{Channel, Owed, Received, Taking};
@@ -144,6 +146,20 @@ impl<'a, C: Channel> Client<'a, C> {
         self.leaving = leaving_after(&mut self.owed, taken);
     }
 
+    /// Whether the client is owed so much that it is not read.
+    fn is_held_back(&self) -> bool {
+        self.owed.len() > OWED_BYTES
+    }
+
+    /// How the client stands after a turn in which it was read so. One that was held back and is not any more was not read: what it
+    /// sent meanwhile is there, and the system has told of it.
+    fn standing_after(&self, was_held_back: bool, standing: Standing) -> Standing {
+        if was_held_back && !self.is_held_back() {
+            return Standing::Again;
+        }
+        standing
+    }
+
     /// Reads one piece and answers it, if the client is to be read now.
     fn hear<H: Threads + Wait + Sync, G: Gate + Sync>(
         &mut self,
@@ -157,7 +173,7 @@ impl<'a, C: Channel> Client<'a, C> {
             → TurnsTo C.state (known room.old.serving) (known room.new.serving) came self.new.channel exchanges
             self.new.tokens self.new.feeder self.new.owed self.new.leaving }
     {
-        if self.leaving.is_some() || self.owed.len() > OWED_BYTES {
+        if self.leaving.is_some() || self.is_held_back() {
             return Standing::Waits;
         }
         match self.channel.receive(&mut room.piece) {
@@ -208,9 +224,10 @@ impl<'a, C: Channel> Client<'a, C> {
             → TurnsTo C.state (known room.old.serving) (known room.new.serving) came self.new.channel exchanges
             self.new.tokens self.new.feeder self.new.owed self.new.leaving }
     {
+        let was_held_back = self.is_held_back();
         let standing = self.hear(worker, room);
         self.tell(worker.alloc);
-        standing
+        self.standing_after(was_held_back, standing)
     }
 
     /// The client is not read any more. Sends what it is owed, as far as the connection takes it now.
@@ -236,11 +253,12 @@ impl<'a, C: Channel> Client<'a, C> {
     }
 
     /// Gives the client up, as it stands.
-    pub fn part<P: Clients<C>>(self, clients: &mut P, worker: u32, seat: usize)
-        requires { (came : C) × (exchanges : List (TheExchange Station))
-            × P.gave came × Stands C.state came self.channel exchanges self.tokens self.feeder self.owed self.leaving }
+    pub fn part<P: Clients<C>>(self, clients: &mut P, pass: &Pass, seat: usize)
+        requires { (old : Known) × (turns : List Turn) × (new : Known) × (came : ℕ)
+            × (new.pass ≡ pass.now) × IsClient C.state P.gave old turns new came self }
+        ensures { CountGoes P.there clients.old 1 clients.new 0 }
     {
         let parting = parting_of(self.leaving, self.owed.len());
-        clients.ended(worker, Some(seat), self.channel, parting);
+        clients.ended(pass, Some(seat), self.channel, parting);
     }
 }

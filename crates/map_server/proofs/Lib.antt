@@ -1,3 +1,4 @@
 pub mod ServerWordLemmas
 pub mod ServerRunLemmas
 pub mod ServerLemmas
+pub mod PostLemmas

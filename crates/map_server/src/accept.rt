@@ -1,23 +1,21 @@
 //! The clients of one port, as workers take them.
-ghost use Rattle.std.specs.Prelude.{◌≡◌, IfOk, vec_len};
+ghost use Rattle.std.specs.Prelude.{IfOk};
 ghost use Rattle.devices.specs.Devices.{CanRead, CanWrite};
 
 use crate::arrivals::{Arrivals, Limits, NO_LIMITS, Then};
 use crate::patience::Patience;
+use crate::quotas::Quotas;
 use crate::shared_stream::SharedStream;
-use crate::sockets::{hear_out, set_up};
+use crate::sockets::{hear_out, set_up, tell_no_room};
 use crate::telling::Telling;
-use bpf_model::NoMemory;
-use client_protocol::ShortResponse;
-use crews::Accept;
+use crews::{Accept, Crew};
 use devices::{Sink, Source, StreamSink, StreamSource};
 use sessions::SessionEnd;
 use std::alloc::Global;
-use std::io::{self, BufWriter, ErrorKind, Write};
+use std::io::{self, BufWriter, ErrorKind};
 use std::net::{TcpListener, TcpStream};
 use std::rt::Clock;
 use std::sync::Wait;
-use std::sync::atomic::{AtomicU64, Ordering};
 use std::thread;
 
 /// How many bytes of answers are kept back at most, until the session flushes them.
@@ -56,49 +54,6 @@ fn both_ways(
     let stream = SharedStream::new(alloc, stream)?;
     let writer = writer_to(alloc, &stream)?;
     Ok((stream, writer))
-}
-
-/// Tells a client that there is no room for it.
-fn turn_away(stream: &TcpStream) {
-    let refusal = ShortResponse::Refused {
-        number: NoMemory::NUMBER,
-        place: 0,
-    };
-    let mut stream = stream;
-    let _ = stream.write_all(refusal.frame().as_slice());
-}
-
-/// How many sessions each worker has begun, and how many it may.
-#[derive(Drop)]
-pub struct Quotas {
-    begun: Vec<AtomicU64>,
-    most: Option<u64>,
-}
-
-impl Quotas {
-    /// Quotas of this number of workers, each of which may serve at most `most` sessions, or any number. `NoMemory` if a
-    /// request for memory was refused.
-    pub fn new(alloc: Global, workers: u64, most: Option<u64>) -> Result<Quotas, NoMemory>
-        ensures workers { IfOk result (λ quotas. vec_len quotas.begun ≡ workers) }
-        ensures most { IfOk result (λ quotas. quotas.most ≡ most) }
-    {
-        let mut begun = Vec::new(alloc);
-        for _ in 0..workers {
-            begun.push(AtomicU64::new(0))?;
-        }
-        Ok(Quotas { begun, most })
-    }
-
-    /// The worker may begin one more session, which is counted.
-    fn take(&self, worker: u32) -> bool {
-        let Some(most) = self.most else {
-            return true;
-        };
-        match self.begun.get(worker as usize) {
-            Some(begun) => begun.fetch_add(1, Ordering::SeqCst) < most,
-            None => false,
-        }
-    }
 }
 
 impl<'a, 'b, H: Wait + Clock, E: Sink> TcpAccept<'a, 'b, H, E> {
@@ -181,7 +136,8 @@ impl<'a, 'b, H: Wait + Clock, E: Sink> TcpAccept<'a, 'b, H, E> {
             if self.arrivals.comes() {
                 return Ok(stream);
             }
-            turn_away(&stream);
+            let mut told = &stream;
+            tell_no_room(&mut told);
             hear_out(self.arrivals.rt, &stream);
         }
         Err(io::Error::from(ErrorKind::Interrupted))
@@ -208,20 +164,21 @@ impl<'a, 'b, H: Wait + Clock, E: Sink> TcpAccept<'a, 'b, H, E> {
 }
 
 impl<'a, 'b, H: Wait + Clock, E: Sink> Accept<TcpReader, TcpWriter> for TcpAccept<'a, 'b, H, E> {
-    fn next(&self, worker: u32) -> Option<(TcpReader, TcpWriter)> {
-        if !self.quotas.take(worker) {
+    fn next(&self, crew: &Crew) -> Option<(TcpReader, TcpWriter)> {
+        if !self.quotas.has_left(crew.worker) {
             return None;
         }
+        self.quotas.begin(crew.worker);
         match self.next_client() {
             Ok(client) => Some(client),
             Err(error) => {
-                self.arrivals.tell_failure(worker, &error);
+                self.arrivals.tell_failure(crew.worker, &error);
                 None
             }
         }
     }
 
-    fn ended(&self, _worker: u32, reader: TcpReader, writer: TcpWriter, end: SessionEnd) {
+    fn ended(&self, _crew: &Crew, reader: TcpReader, writer: TcpWriter, end: SessionEnd) {
         let (stream, _) = writer.into_inner().into_parts();
         if matches!(end, SessionEnd::Refused(_) | SessionEnd::NoMemory) {
             hear_out(self.arrivals.rt, stream.as_stream());

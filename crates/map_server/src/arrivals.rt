@@ -45,12 +45,18 @@ pub(crate) struct Arrivals<'a, 'b, H: Wait + Clock, E: Sink> {
     here: AtomicU64,
     wanting: AtomicU64,
     failed: AtomicBool,
+    refused: AtomicBool,
     errors: Mutex<Telling<'b, E>>,
 }
 
 /// The line that tells of a failed accept.
 fn failure_line(alloc: Global, worker: u32, error: &io::Error) -> Result<String, AllocError> {
     format!(in alloc; "worker {worker} ended: failed accept: {error}\n")
+}
+
+/// The line that tells that clients are refused, and why.
+fn refusing_line(alloc: Global, error: &io::Error) -> Result<String, AllocError> {
+    format!(in alloc; "clients are refused: {error}\n")
 }
 
 /// The line that tells that accepts wait, and why.
@@ -74,6 +80,7 @@ impl<'a, 'b, H: Wait + Clock, E: Sink> Arrivals<'a, 'b, H, E> {
             here: AtomicU64::new(0),
             wanting: AtomicU64::new(0),
             failed: AtomicBool::new(false),
+            refused: AtomicBool::new(false),
             errors: Mutex::new(errors),
         }
     }
@@ -102,6 +109,11 @@ impl<'a, 'b, H: Wait + Clock, E: Sink> Arrivals<'a, 'b, H, E> {
         false
     }
 
+    /// How many clients are there, over all workers.
+    pub(crate) fn here(&self) -> u64 {
+        self.here.load(Ordering::SeqCst)
+    }
+
     /// A client that came is handed out.
     pub(crate) fn is_handed_out(&self) {
         self.streams.fetch_add(1, Ordering::SeqCst);
@@ -119,6 +131,18 @@ impl<'a, 'b, H: Wait + Clock, E: Sink> Arrivals<'a, 'b, H, E> {
         match failure_line(self.alloc, worker, error) {
             Ok(line) => errors.tell(line.as_bytes()),
             Err(_) => errors.tell(b"failed accept\n"),
+        }
+    }
+
+    /// A client was refused since there is no descriptor for it. Standard error is told once.
+    pub(crate) fn tell_refused(&self, error: &io::Error) {
+        if self.refused.swap(true, Ordering::SeqCst) {
+            return;
+        }
+        let mut errors = self.errors.lock(self.rt);
+        match refusing_line(self.alloc, error) {
+            Ok(line) => errors.tell(line.as_bytes()),
+            Err(_) => errors.tell(b"clients are refused\n"),
         }
     }
 

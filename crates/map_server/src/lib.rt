@@ -8,18 +8,27 @@
 
 mod accept;
 mod arrivals;
+mod connection;
+mod departures;
+mod door;
+mod entrance;
 mod opening;
 mod patience;
+mod posts;
 mod program;
+mod quotas;
+mod seats;
 mod server;
 mod shared_stream;
 mod sockets;
+mod stopwatch;
 mod tcp;
+mod tcp_clients;
 mod telling;
 mod threads;
 mod words;
 
-pub use accept::{Quotas, TcpAccept, TcpReader, TcpWriter};
+pub use accept::{TcpAccept, TcpReader, TcpWriter};
 pub use admission::{AdmissionFault, ProgramLimits, admit};
 pub use arrivals::Limits;
 pub use crews::{Accept, Crew, serve, session};
@@ -31,6 +40,7 @@ pub use map_commands::{
     hex_bytes, parse_words, report_of, tell_unread_words, unit_lines,
 };
 pub use program::mapd_on;
+pub use quotas::Quotas;
 pub use server::{Served, Server};
 pub use sessions::{Alone, Answer, Service, SessionEnd, run_session, session_alone};
 pub use shared_stream::SharedStream;

@@ -6,8 +6,8 @@ ghost use Rattle.map_server.specs.Servers.{AreAsked, IsAsked};
 ghost use Rattle.map_server.specs.ServerRuns.{CanOpen, IsNotOpened};
 ghost use Rattle.map_server.specs.ServerWords.{IsInRange};
 
-use crate::accept::Quotas;
 use crate::arrivals::Limits;
+use crate::quotas::Quotas;
 use crate::server::Server;
 use crate::words::MapdWords;
 use bin_stripes::{OpenFault, Pass, StripedMap};

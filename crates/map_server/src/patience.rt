@@ -43,6 +43,11 @@ fn is_of_want(number: i32) -> bool {
     matches!(number, EMFILE | ENFILE | ENOBUFS | ENOMEM | EPERM)
 }
 
+/// There is no descriptor for a further connection.
+pub(crate) fn is_of_descriptors(error: &io::Error) -> bool {
+    matches!(error.raw_os_error(), Some(EMFILE | ENFILE))
+}
+
 /// What the error of an accept tells.
 pub fn accept_fault(error: &io::Error) -> AcceptFault {
     match error.kind() {

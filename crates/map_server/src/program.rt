@@ -1,5 +1,5 @@
 //! The program `mapd`, over two devices and the network: it does what the words ask for, prints, and gives the status.
-ghost use Rattle.std.specs.Prelude.{◌≡◌, ◌++◌, [], ℕ, List, codes, decimal, IfOk, OnOk, OnErr};
+ghost use Rattle.std.specs.Prelude.{◌≡◌, ◌++◌, [], ℕ, List, codes, decimal, IfOk, OnOk, OnErr, vec_len};
 ghost use Rattle.clap.specs.Walk.{texts};
 ghost use Rattle.clap.specs.Words.{fault_of, HasKind};
 ghost use Rattle.devices.specs.Devices.{CanWrite, TakesFront, TakesIfItCan};
@@ -25,7 +25,7 @@ use map_commands::{
 };
 use std::alloc::{AllocError, Global};
 use std::io;
-use std::net::{Net, TcpListener, TcpStream};
+use std::net::Net;
 use std::random::RandomSource;
 use std::rt::Clock;
 use std::sync::Wait;
@@ -143,11 +143,7 @@ fn tell_failed_write<E: Sink>(errors: &mut Telling<'_, E>) -> u8
 }
 
 /// Tells the address that was bound, prints `ready`, serves clients until each worker has ended, and answers the status.
-fn serve_bound<
-    H: Threads + Wait + Clock + Net<Listener = TcpListener, Stream = TcpStream> + Sync,
-    W: Sink,
-    E: Sink + Send,
->(
+fn serve_bound<H: Threads + Wait + Clock + Sync, W: Sink, E: Sink + Send>(
     rt: &H,
     alloc: Global,
     asked: &MapdWords,
@@ -158,6 +154,7 @@ fn serve_bound<
     requires writes { CanWrite (W.state writer.old) }
     requires warns { CanWrite (E.state errors.old) }
     requires asked { IsAsked asked.now bound.1 }
+    requires polls { vec_len bound.0.polls ≡ vec_len bound.1.crews }
     ensures { ServesClients asked.now (W.state writer.old) (W.state writer.new) result }
 {
     // For the proof alone: the clauses name what is asked for.
@@ -174,18 +171,21 @@ fn serve_bound<
 }
 
 /// Listens and serves, and answers the status.
-fn listen<
-    H: Threads + Wait + Clock + Net<Listener = TcpListener, Stream = TcpStream> + Sync,
-    W: Sink,
-    E: Sink + Send,
->(rt: &H, alloc: Global, asked: &MapdWords, server: Server, writer: &mut W, errors: &mut E) -> u8
+fn listen<H: Threads + Wait + Clock + Net + Sync, W: Sink, E: Sink + Send>(
+    rt: &H,
+    alloc: Global,
+    asked: &MapdWords,
+    server: Server,
+    writer: &mut W,
+    errors: &mut E,
+) -> u8
     requires writes { CanWrite (W.state writer.old) }
     requires warns { CanWrite (E.state errors.old) }
     requires asked { IsAsked asked.now server }
     ensures { Listens asked.now (outputs (W.state writer.old) (E.state errors.old))
         (outputs (W.state writer.new) (E.state errors.new)) result }
 {
-    match bind(rt, alloc, asked.listen.as_str()) {
+    match bind(rt, alloc, asked.listen.as_str(), server.crews.len()) {
         Ok(port) => serve_bound(rt, alloc, asked, (port, server), writer, errors),
         Err(error) => tell_failed_listen(alloc, &error, errors),
     }
@@ -214,16 +214,13 @@ fn drawn_seed<R: RandomSource>(rt: &R) -> Seed {
 /// Does what the words ask for, of which the first is the program's name, and returns the status: 0 if it served as
 /// many sessions as it was asked for, 1 for a refusal, 2 for a fault of the words, of which standard error is told in clap's
 /// text, and 3 for a failed listen, accept or write, of which it is told in a line. Waits for clients.
-pub fn mapd_on<
-    H: Threads
-        + Wait
-        + Clock
-        + RandomSource
-        + Net<Listener = TcpListener, Stream = TcpStream>
-        + Sync,
-    W: Sink,
-    E: Sink + Send,
->(rt: &H, alloc: Global, words: &[&str], writer: &mut W, errors: &mut E) -> u8
+pub fn mapd_on<H: Threads + Wait + Clock + RandomSource + Net + Sync, W: Sink, E: Sink + Send>(
+    rt: &H,
+    alloc: Global,
+    words: &[&str],
+    writer: &mut W,
+    errors: &mut E,
+) -> u8
     requires writes { CanWrite (W.state writer.old) }
     requires warns { CanWrite (E.state errors.old) }
     ensures runs { RunsMapd (texts words.now) (outputs (W.state writer.old) (E.state errors.old))

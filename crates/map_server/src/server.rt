@@ -2,8 +2,8 @@
 ghost use Rattle.std.specs.Prelude.{All};
 ghost use Rattle.crews.specs.Crews.{IsCrewOf};
 
-use crate::accept::Quotas;
 use crate::arrivals::Limits;
+use crate::quotas::Quotas;
 use bin_stripes::StripedMap;
 use bpf_model::NoMemory;
 use crews::Crew;

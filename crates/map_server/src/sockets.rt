@@ -1,7 +1,9 @@
 //! What is set of a client's connection, and its end.
 
+use bpf_model::NoMemory;
+use client_protocol::ShortResponse;
 use libc::net::{IPPROTO_TCP, SO_KEEPALIVE, SOL_SOCKET, TCP_KEEPIDLE, setsockopt};
-use std::io::Read;
+use std::io::{self, Read, Write};
 use std::net::{Shutdown, TcpStream};
 use std::os::fd::{AsRawFd, RawFd};
 use std::rt::Clock;
@@ -14,10 +16,10 @@ const KEEPALIVE_SECONDS: i32 = 60;
 const LAST_BYTES: usize = 16384;
 
 /// How many pieces of what the client sends are read after a refusal.
-const LAST_PIECES: u32 = 64;
+pub(crate) const LAST_PIECES: u32 = 64;
 
 /// How long they are waited for in all, in milliseconds.
-const LAST_WAIT_MILLIS: u64 = 500;
+pub(crate) const LAST_WAIT_MILLIS: u64 = 500;
 
 /// The bytes of an option's value.
 fn option_value(value: i32) -> [u8; 16] {
@@ -57,10 +59,22 @@ fn time_left<H: Clock>(rt: &H, start: Instant) -> Option<Duration> {
     if left.is_zero() { None } else { Some(left) }
 }
 
+/// Tells a client that there is no room for it.
+pub(crate) fn tell_no_room<W: Write>(stream: &mut W) {
+    let number = NoMemory::NUMBER;
+    let refusal = ShortResponse::Refused { number, place: 0 };
+    let _ = stream.write_all(refusal.frame().as_slice());
+}
+
+/// Reads a piece, and throws it away. Returns the number of its bytes.
+pub(crate) fn discard_piece<R: Read>(stream: &mut R) -> io::Result<usize> {
+    let mut piece = [0; LAST_BYTES];
+    stream.read(&mut piece)
+}
+
 /// Reads a piece, and throws it away. There was one in time.
 fn hears_piece(mut stream: &TcpStream, left: Duration) -> bool {
-    let mut piece = [0; LAST_BYTES];
-    stream.set_read_timeout(Some(left)).is_ok() && stream.read(&mut piece).is_ok_and(|n| n > 0)
+    stream.set_read_timeout(Some(left)).is_ok() && discard_piece(&mut stream).is_ok_and(|n| n > 0)
 }
 
 /// Ends what is written to the client, and reads on for half a second at most: a connection that is closed with bytes unread is

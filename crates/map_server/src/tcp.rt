@@ -1,24 +1,31 @@
 //! The port that `mapd` listens on, and its clients.
-ghost use Rattle.std.specs.Prelude.{IfOk, All};
+ghost use Rattle.std.specs.Prelude.{◌≡◌, IfOk, All, vec_len};
 ghost use Rattle.crews.specs.Crews.{AllCarrySame, IsCrewOf};
 
-use crate::accept::TcpAccept;
+use crate::entrance::Entrance;
+use crate::posts::attend_all;
 use crate::server::{Served, Server};
+use crate::tcp_clients::LISTENER;
 use crate::telling::Telling;
 use bin_stripes::OpenGate;
-use crews::serve;
+use crews::Worker;
 use devices::Sink;
+use mio::net::TcpListener;
+use mio::unix::SourceFd;
+use mio::{Interest, Poll};
 use std::alloc::{AllocError, Global};
-use std::io;
-use std::net::{Net, SocketAddr, TcpListener, TcpStream};
+use std::io::{self, ErrorKind};
+use std::net::{Net, SocketAddr, ToSocketAddrs};
+use std::os::fd::AsRawFd;
 use std::rt::Clock;
 use std::sync::Wait;
 use std::thread::Threads;
 
-/// A port that is bound, and the line that tells its address.
+/// A port that is bound, the polls that watch its listener, one for each worker, and the line that tells its address.
 #[derive(Drop)]
 pub(crate) struct Port {
     pub(crate) listener: TcpListener,
+    pub(crate) polls: Vec<Poll>,
     pub(crate) line: String,
 }
 
@@ -27,15 +34,42 @@ fn address_line(alloc: Global, address: SocketAddr) -> Result<String, AllocError
     format!(in alloc; "listening on {address}\n")
 }
 
-/// The port that is asked for, bound. An error tells why there is none.
-pub(crate) fn bind<H: Net<Listener = TcpListener, Stream = TcpStream>>(
-    rt: &H,
-    alloc: Global,
-    address: &str,
-) -> io::Result<Port> {
-    let listener = TcpListener::bind(rt, address)?;
+/// A listener at the first of the name's addresses that can be bound.
+fn listen<H: Net>(rt: &H, address: &str) -> io::Result<TcpListener> {
+    let mut last = io::Error::from(ErrorKind::InvalidInput);
+    for address in address.to_socket_addrs(rt)? {
+        match TcpListener::bind(rt, address) {
+            Ok(listener) => return Ok(listener),
+            Err(error) => last = error,
+        }
+    }
+    Err(last)
+}
+
+/// A poll that watches the listener.
+fn poll_of<H: Net>(rt: &H, listener: &TcpListener) -> io::Result<Poll> {
+    let poll = Poll::new(rt)?;
+    let descriptor = listener.as_raw_fd();
+    poll.registry()
+        .register(&mut SourceFd(&descriptor), LISTENER, Interest::READABLE)?;
+    Ok(poll)
+}
+
+/// The port that is asked for, bound, and watched by the polls of this number of workers. An error tells why there is none.
+pub(crate) fn bind<H: Net>(rt: &H, alloc: Global, address: &str, workers: usize) -> io::Result<Port>
+    ensures { IfOk result (λ port. vec_len port.polls ≡ workers) }
+{
+    let listener = listen(rt, address)?;
+    let mut polls = Vec::new(alloc);
+    for _ in 0..workers {
+        polls.push(poll_of(rt, &listener)?)?;
+    }
     let line = address_line(alloc, listener.local_addr()?)?;
-    Ok(Port { listener, line })
+    Ok(Port {
+        listener,
+        polls,
+        line,
+    })
 }
 
 /// Serves clients of the port until each worker has ended. Standard error is told what goes wrong meanwhile, and given back.
@@ -46,6 +80,7 @@ pub(crate) fn serve_port<'a, H: Threads + Wait + Clock + Sync, E: Sink + Send>(
     server: Server,
     errors: Telling<'a, E>,
 ) -> (Served, Telling<'a, E>)
+    requires { vec_len port.polls ≡ vec_len server.crews }
     ensures { IfOk result.0.crews (λ back.
         AllCarrySame server.crews.items back.items × All (λ crew. IsCrewOf server.map crew) back.items) }
 {
@@ -56,12 +91,24 @@ pub(crate) fn serve_port<'a, H: Threads + Wait + Clock + Sync, E: Sink + Send>(
         quotas,
         limits,
     } = server;
-    let accept = TcpAccept::within(rt, alloc, port.listener, quotas, limits, errors);
-    let crews = serve(rt, alloc, &accept, &map, &registry, crews, &OpenGate);
+    let Port {
+        listener,
+        polls,
+        ..
+    } = port;
+    let entrance = Entrance::new(rt, alloc, listener, quotas, limits, errors);
+    let worker = Worker {
+        rt,
+        alloc,
+        gate: &OpenGate,
+        map: &map,
+        registry: &registry,
+    };
+    let crews = attend_all(&worker, &entrance, crews, polls);
     let served = Served {
         crews,
-        streams: accept.streams(),
-        has_failed: accept.has_failed(),
+        streams: entrance.arrivals.streams(),
+        has_failed: entrance.arrivals.has_failed(),
     };
-    (served, accept.into_telling())
+    (served, entrance.into_telling())
 }

@@ -21,9 +21,9 @@ pub struct MapdWords {
     pub listen: String,
     /// The number of stripes: the map is divided into this many parts.
     pub stripes: u64,
-    /// How many clients are served at once.
+    /// How many threads serve clients.
     pub workers: u64,
-    /// How many threads walk for each of them.
+    /// How many threads walk for each worker.
     pub team: u64,
     /// How many sessions each worker serves; none: without end.
     pub sessions: Option<u64>,
@@ -94,11 +94,11 @@ const PROGRAMS_DEFAULT: u64 = 65_536;
 
 /// What the options cost.
 const COSTS: &str = "\
-Threads: one for each worker, and one more where there are several; while a worker walks with a team of several, so
-many more. Passes of the map: workers * (1 + team), at most 64.
-Memory: for each client that is served 20 KB, and up to 2 MB while it sends many short requests at once, beside its
-threads' stacks, what its walks answer, and the map. A registered program stays.
-A worker serves one client at a time, and further clients wait until one is free.
+Each worker serves any number of clients at once, and waits for none of them.
+Threads: one for each worker, and one more if there are several; while a worker walks with a team of several, as
+many more. Passes of the map: workers * (1 + team), at most 64. Descriptors: 5, one a worker and one a client.
+Memory: 2 KB for each client, and up to 7 MB for each worker, beside the threads' stacks, answers that are not read
+yet, what walks answer, and the map. A registered program stays.
 Status: 0 all sessions were served, 1 refused, 2 a fault of the words, 3 a failed listen, accept or write.";
 
 /// An option that takes a number in a range, in this unit.
@@ -152,7 +152,7 @@ fn mapd_command<'a>(alloc: Global) -> Result<clap::Command<'a>, AllocError>
             "workers",
             "NUMBER",
             value_parser!(u16).range(1..=32),
-            "Clients served at once, 1 to 32, each by a thread of its own [default: 4]",
+            "Threads that serve clients, 1 to 32 [default: 4]",
         ))?
         .arg(range_option(
             alloc,
@@ -165,7 +165,7 @@ fn mapd_command<'a>(alloc: Global) -> Result<clap::Command<'a>, AllocError>
             alloc,
             "sessions",
             "NUMBER",
-            "Sessions that each worker serves before it ends, 0 to 65535 [default: without end]",
+            "Clients that each worker takes before it ends, 0 to 65535 [default: without end]",
         ))?
         .arg(range_option(
             alloc,

@@ -2,7 +2,7 @@
 #![tactic(auto)]
 
 use map_server::{StreamSink, mapd_on, tell_unread_words};
-use std::net::{Net, TcpListener, TcpStream};
+use std::net::Net;
 use std::process::ExitCode;
 use std::random::RandomSource;
 use std::rt::Clock;
@@ -10,14 +10,10 @@ use std::sync::Wait;
 use std::thread::Threads;
 use std::{env, io};
 
-fn status<
-    H: Threads
-        + Wait
-        + Clock
-        + RandomSource
-        + Net<Listener = TcpListener, Stream = TcpStream>
-        + Sync,
->(rt: &HostRuntime, serving: &H) -> io::Result<u8> {
+fn status<H: Threads + Wait + Clock + RandomSource + Net + Sync>(
+    rt: &HostRuntime,
+    serving: &H,
+) -> io::Result<u8> {
     let alloc = rt.alloc();
     let words: Vec<String> = env::args(rt)?.collect(alloc)?;
     let words: Vec<&str> = words.iter().map(|word| word.as_str()).collect(alloc)?;

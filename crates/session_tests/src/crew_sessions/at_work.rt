@@ -40,8 +40,8 @@ struct Clients {
 }
 
 impl Accept<StreamSource<Pieces<'static>>, StreamSink<Room>> for Clients {
-    fn next(&self, worker: u32) -> Option<(StreamSource<Pieces<'static>>, StreamSink<Room>)> {
-        let bit = 1 << worker.min(2);
+    fn next(&self, crew: &Crew) -> Option<(StreamSource<Pieces<'static>>, StreamSink<Room>)> {
+        let bit = 1 << crew.worker.min(2);
         if self.given.fetch_or(bit, Ordering::SeqCst) & bit != 0 {
             return None;
         }
@@ -55,7 +55,7 @@ impl Accept<StreamSource<Pieces<'static>>, StreamSink<Room>> for Clients {
 
     fn ended(
         &self,
-        _worker: u32,
+        _crew: &Crew,
         _reader: StreamSource<Pieces<'static>>,
         writer: StreamSink<Room>,
         end: SessionEnd,

@@ -78,14 +78,16 @@ fn serve_beside<
     crews: Vec<Crew>,
     address: &str,
 ) -> (Result<Vec<Crew>, NoMemory>, io::Result<bool>)
-    requires { All (λ crew. IsCrewOf map.now crew) crews.items }
+    requires crews { All (λ crew. IsCrewOf map.now crew) crews.items }
+    requires serves { A.serves map.now }
     ensures { IfOk result.0 (λ back. All (λ crew. IsCrewOf map.now crew) back.items) }
 {
     let alloc = rt.alloc();
     thread::join(
         rt,
         move || -> Result<Vec<Crew>, NoMemory>
-            requires { All (λ crew. IsCrewOf map.now crew) crews.items }
+            requires crews { All (λ crew. IsCrewOf map.now crew) crews.items }
+            requires serves { A.serves map.now }
             ensures { IfOk result (λ back. All (λ crew. IsCrewOf map.entry.now crew) back.items) }
         { serve(rt, alloc, accept, map, registry, crews, &OpenGate) },
         move || merge_twice(rt, address),
@@ -119,7 +121,8 @@ fn serve_two<
     crews: Vec<Crew>,
     address: &str,
 ) -> Result<bool, Fail>
-    requires { All (λ crew. IsCrewOf map.now crew) crews.items }
+    requires crews { All (λ crew. IsCrewOf map.now crew) crews.items }
+    requires serves { A.serves map.now }
 {
     let (back, merged) = serve_beside(rt, accept, map, registry, crews, address);
     let merged = merged?;

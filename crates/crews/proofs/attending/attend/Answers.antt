@@ -1,9 +1,11 @@
-use Rattle.std.proofs.Common.{◌≡◌, ◌∙◌, [], refl, sym, ap, subst, All}
+use Rattle.std.proofs.Common.{◌≡◌, ◌∙◌, [], refl, sym, ap, subst, All, count_by, is_some, arith}
 use Rattle.atomic_table.specs.Seated.{TableId}
 use Rattle.bin_stripes.specs.declared.pass.Pass.{Pass}
 use Rattle.crews.specs.Crews.{station, team_numbers}
 use Rattle.crews.specs.Lives.{Known, known, Life}
 use Rattle.crews.specs.Stations.{Station}
+use Rattle.slab.specs.Slab.{slab_len}
+use Rattle.crews.proofs.CountLemmas.{counts_by, counts_on}
 use Rattle.crews.proofs.LifeLemmas.{known_same}
 use Rattle.crews.proofs.SeatLemmas.{begins}
 use Rattle.crews.proofs.attending.attend.Goals as goal
@@ -24,7 +26,7 @@ drop_all-requires g c =
     let crew = c.args.crew in
     let start = known (station crew []) in
     let begun = begins state gave start (record { pass = crew.pass; team = c.into_passes.result.items }) (known_same start (record { pass = crew.pass; team = c.into_passes.result.items }) refl (sym (ap (λ ps. ps.items) c.into_passes.ensures))) c.new-3.result c.new-3.ensures.empty in
-    let (more, now) = c.attend_all.ensures start [] begun in
+    let (more, now) = c.attend_all.ensures.attended start [] begun in
     record { attended = (start, more, now) }
 
 pub returns-clause-life : goal.returns-clause-life
@@ -34,8 +36,8 @@ returns-clause-life g c =
     let crew = c.args.crew in
     let start = known (station crew []) in
     let begun = begins state gave start (record { pass = crew.pass; team = c.into_passes.result.items }) (known_same start (record { pass = crew.pass; team = c.into_passes.result.items }) refl (sym (ap (λ ps. ps.items) c.into_passes.ensures))) c.new-3.result c.new-3.ensures.empty in
-    let (more, now) = c.attend_all.ensures start [] begun in
-    let (life, seated) = c.drop_all.ensures start more now in
+    let (more, now) = c.attend_all.ensures.attended start [] begun in
+    let (life, seated) = c.drop_all.ensures.attended start more now in
     let end = c.drop_all.new.self in (
       more,
       end.came,
@@ -50,13 +52,13 @@ returns-clause-crew g c =
     let crew = c.args.crew in
     let start = known (station crew []) in
     let begun = begins state gave start (record { pass = crew.pass; team = c.into_passes.result.items }) (known_same start (record { pass = crew.pass; team = c.into_passes.result.items }) refl (sym (ap (λ ps. ps.items) c.into_passes.ensures))) c.new-3.result c.new-3.ensures.empty in
-    let (more, now) = c.attend_all.ensures start [] begun in
-    let (life, seated) = c.drop_all.ensures start more now in
-    let pass = ap (λ (t : Station). t.pass.map) c.serving.view_is ∙ life.numbers.map_is ∙ c.requires.pass in
-    let here : c.serving.inside.map.now ≡ c.args.map.now = sym c.serving.invariant.0 ∙ pass in
+    let (more, now) = c.attend_all.ensures.attended start [] begun in
+    let (life, seated) = c.drop_all.ensures.attended start more now in
+    let pass = ap (λ (t : Station). t.pass.map) c.serving.view_is ∙ life.numbers.map_is ∙ c.requires.crew.pass in
+    let here : c.serving.inside.map.now ≡ c.args.worker.now.map.now = sym c.serving.invariant.0 ∙ pass in
     record {
       pass = pass;
-      team = subst (λ ps. All (λ (member : Pass). member.map ≡ c.args.map.now) ps.items) (sym c.in-Ok.ensures.team)
+      team = subst (λ ps. All (λ (member : Pass). member.map ≡ c.args.worker.now.map.now) ps.items) (sym c.in-Ok.ensures.team)
           (subst (λ (id : TableId). All (λ (member : Pass). member.map ≡ id) c.serving.inside.team.items) here c.serving.invariant.1);
     }
 
@@ -67,10 +69,19 @@ returns-clause-same g c =
     let crew = c.args.crew in
     let start = known (station crew []) in
     let begun = begins state gave start (record { pass = crew.pass; team = c.into_passes.result.items }) (known_same start (record { pass = crew.pass; team = c.into_passes.result.items }) refl (sym (ap (λ ps. ps.items) c.into_passes.ensures))) c.new-3.result c.new-3.ensures.empty in
-    let (more, now) = c.attend_all.ensures start [] begun in
-    let (life, seated) = c.drop_all.ensures start more now in
+    let (more, now) = c.attend_all.ensures.attended start [] begun in
+    let (life, seated) = c.drop_all.ensures.attended start more now in
     record {
       worker = refl;
       pass = ap (λ (t : Station). t.pass.view.numbers) c.serving.view_is ∙ life.numbers.pass;
       team = ap (λ ps. team_numbers ps.items) c.in-Ok.ensures.team ∙ ap (λ (t : Station). team_numbers t.team) c.serving.view_is ∙ life.numbers.team;
     }
+
+pub returns-clause-there : goal.returns-clause-there
+returns-clause-there g c =
+    let there = g.P.Clients.there in
+    let mid = slab_len c.attend_all.new.self.seats in
+    let end = slab_len c.drop_all.new.self.seats in
+    let none = ap (count_by is_some) c.new-3.ensures.empty in
+    counts_by there c.args.clients.now c.drop_all.new.clients (slab_len c.new-3.result) end 0 0 0 (omega (arith, none)) (omega (arith, c.drop_all.ensures.empty))
+    (counts_on there c.args.clients.now c.attend_all.new.clients c.drop_all.new.clients (slab_len c.new-3.result) mid end c.attend_all.ensures.there c.drop_all.ensures.there)

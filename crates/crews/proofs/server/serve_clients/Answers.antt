@@ -1,11 +1,20 @@
 use Rattle.std.proofs.Common.{suc}
-use Rattle.crews.proofs.ServeLemmas.{carries_on}
+use Rattle.crews.proofs.ServeLemmas.{carries_on, is_answered}
 use Rattle.crews.proofs.server.serve_clients.Goals as goal
+
+pub next-requires-in-loop : goal.next-requires-in-loop
+next-requires-in-loop g c = (c.args.worker.now.map.now, c.requires.serves, c.loop.invariant.of)
+
+pub ended-requires : goal.ended-requires
+ended-requires g c = (
+  c.loop.crew,
+  is_answered g.R.Source.state g.W.Sink.state g.A.Accept.gave c.loop.crew c.in-Some-next.reader c.in-Some-next.writer c.session-back.result.1 c.session-back.new.reader c.session-back.new.writer c.session-back.result.0
+      c.session-back.ensures.same c.in-Some-next.ensures.gave c.session-back.ensures.ended,
+)
 
 pub loop-preserved : goal.loop-preserved
 loop-preserved g c =
     let (n, so_far) = c.loop.invariant.served in
-    let (read, (written, (tokens, (consumed, (appended, ended))))) = c.session-back.ensures.ended in
     let back = c.session-back.result.0 in
     record {
       of = c.session-back.ensures.crew;
@@ -19,17 +28,8 @@ loop-preserved g c =
             end = c.session-back.result.1;
             reader = c.session-back.new.reader;
             writer = c.session-back.new.writer;
-            tokens = tokens;
-            session = record {
-              came = c.in-Some-next.reader;
-              came_writer = c.in-Some-next.writer;
-              given = c.in-Some-next.ensures.gave;
-              read = read;
-              written = written;
-              consumed = consumed;
-              appended = appended;
-              ended = ended;
-            };
+            session = is_answered g.R.Source.state g.W.Sink.state g.A.Accept.gave c.loop.crew c.in-Some-next.reader c.in-Some-next.writer c.session-back.result.1 c.session-back.new.reader c.session-back.new.writer back
+                c.session-back.ensures.same c.in-Some-next.ensures.gave c.session-back.ensures.ended;
           },
         ),
       );

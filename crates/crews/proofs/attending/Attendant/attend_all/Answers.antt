@@ -1,38 +1,81 @@
-use Rattle.std.proofs.Common.{◌++◌}
+use Rattle.std.proofs.Common.{◌++◌, ◌+◌, sym, ap, subst, ◌∙◌, refl, arith}
+use Rattle.atomic_table.specs.Seated.{TableId}
+use Rattle.bin_stripes.specs.Passes.{PassState}
+use Rattle.slab.specs.Slab.{slab_len}
 use Rattle.crews.specs.Lives.{known}
+use Rattle.crews.proofs.CountLemmas.{counts_by, counts_on, counts_stay}
 use Rattle.crews.proofs.SeatLemmas.{no_more, and_more}
 use Rattle.crews.proofs.attending.Attendant.attend_all.Goals as goal
 
 pub loop-init : goal.loop-init
-loop-init g c old turns attended =
-    let s = c.args.self.now in
-    no_more g.C.Channel.state g.P.Clients.gave old turns (known s.room.serving) s.came s.seats attended
+loop-init g c = record {
+  attended = λ old turns attended.
+      let s = c.args.self.now in
+      no_more g.C.Channel.state g.P.Clients.gave old turns (known s.room.serving) s.came s.seats attended;
+  there = counts_stay g.P.Clients.there c.args.clients.now (slab_len c.args.self.now.seats) (slab_len c.args.self.now.seats) refl;
+}
+
+pub next-requires-in-loop : goal.next-requires-in-loop
+next-requires-in-loop g c =
+    let (old, turns, attended) = c.requires.attended in
+    let (more, now) = c.loop.invariant.attended old turns attended in
+    subst (λ (id : TableId). g.P.Clients.serves id) (attended.0.numbers.map_is ∙ sym now.0.numbers.map_is ∙ sym (ap (λ (p : PassState). p.map) c.pass.ensures)) c.requires.serves
+
+pub take_in-requires : goal.take_in-requires
+take_in-requires g c = subst (λ (p : PassState). g.P.Clients.gave p c.in-Came.channel) c.pass.ensures (c.in-Came.ensures.gave c.in-Came.channel refl)
 
 pub serve_one-requires-clause-attended : goal.serve_one-requires-clause-attended
 serve_one-requires-clause-attended g c κs within =
     let (old, turns, attended) = c.requires.attended in
-    let (more, now) = c.loop.invariant old turns attended in
+    let (more, now) = c.loop.invariant.attended old turns attended in
     (old, turns ++ more, now)
 
 pub let_go-requires : goal.let_go-requires
 let_go-requires g c =
     let (old, turns, attended) = c.requires.attended in
-    let (more, now) = c.loop.invariant old turns attended in
+    let (more, now) = c.loop.invariant.attended old turns attended in
     record { attended = (old, turns ++ more, now) }
 
 pub loop-preserved-in-Came : goal.loop-preserved-in-Came
-loop-preserved-in-Came g c old turns attended =
-    let (more, now) = c.loop.invariant old turns attended in
-    (more, c.take_in.ensures old (turns ++ more) now)
+loop-preserved-in-Came g c = record {
+  attended = λ old turns attended. let (more, now) = c.loop.invariant.attended old turns attended in (more, c.take_in.ensures.attended old (turns ++ more) now);
+  there =
+      let there = g.P.Clients.there in
+      let n = slab_len c.loop.self.seats in
+      counts_on there c.args.clients.now c.loop.clients c.take_in.new.clients (slab_len c.args.self.now.seats) n (slab_len c.take_in.new.self.seats) c.loop.invariant.there
+      (counts_on there c.loop.clients c.next-in-loop.new.self c.take_in.new.clients n (n + 1) (slab_len c.take_in.new.self.seats)
+      (counts_by there c.loop.clients c.next-in-loop.new.self 0 1 n n (n + 1) (omega arith) (omega arith) c.in-Came.ensures.there) c.take_in.ensures.there);
+}
 
 pub loop-preserved-in-Ready : goal.loop-preserved-in-Ready
-loop-preserved-in-Ready g c old turns attended =
-    let (more, now) = c.loop.invariant old turns attended in
-    let (last, then) = c.serve_one.ensures old (turns ++ more) now in
-    let s = c.serve_one.new.self in
-    and_more g.C.Channel.state g.P.Clients.gave old turns more last (known s.room.serving) s.came s.seats then
+loop-preserved-in-Ready g c = record {
+  attended = λ old turns attended.
+      let (more, now) = c.loop.invariant.attended old turns attended in
+      let (last, then) = c.serve_one.ensures.attended old (turns ++ more) now in
+      let s = c.serve_one.new.self in
+      and_more g.C.Channel.state g.P.Clients.gave old turns more last (known s.room.serving) s.came s.seats then;
+  there =
+      let there = g.P.Clients.there in
+      let n = slab_len c.loop.self.seats in
+      counts_on there c.args.clients.now c.loop.clients c.serve_one.new.clients (slab_len c.args.self.now.seats) n (slab_len c.serve_one.new.self.seats) c.loop.invariant.there
+      (counts_on there c.loop.clients c.next-in-loop.new.self c.serve_one.new.clients n n (slab_len c.serve_one.new.self.seats)
+      (counts_by there c.loop.clients c.next-in-loop.new.self 0 0 n n n (omega arith) (omega arith) c.in-Ready.ensures.there) c.serve_one.ensures.there);
+}
 
 pub loop-preserved : goal.loop-preserved
-loop-preserved g c old turns attended =
-    let (more, now) = c.loop.invariant old turns attended in
-    (more, c.let_go.ensures old (turns ++ more) now)
+loop-preserved g c = record {
+  attended = λ old turns attended. let (more, now) = c.loop.invariant.attended old turns attended in (more, c.let_go.ensures.attended old (turns ++ more) now);
+  there =
+      let there = g.P.Clients.there in
+      let n = slab_len c.loop.self.seats in
+      counts_on there c.args.clients.now c.loop.clients c.let_go.new.clients (slab_len c.args.self.now.seats) n (slab_len c.let_go.new.self.seats) c.loop.invariant.there
+      (counts_on there c.loop.clients c.next-in-loop.new.self c.let_go.new.clients n n (slab_len c.let_go.new.self.seats)
+      (counts_by there c.loop.clients c.next-in-loop.new.self 0 0 n n n (omega arith) (omega arith) c.in-LetGo.ensures.there) c.let_go.ensures.there);
+}
+
+pub returns-in-Over-clause-there : goal.returns-in-Over-clause-there
+returns-in-Over-clause-there g c =
+    let there = g.P.Clients.there in
+    let n = slab_len c.loop.self.seats in
+    counts_on there c.args.clients.now c.loop.clients c.next-in-loop.new.self (slab_len c.args.self.now.seats) n n c.loop.invariant.there
+    (counts_by there c.loop.clients c.next-in-loop.new.self 0 0 n n n (omega arith) (omega arith) c.in-Over.ensures.there)

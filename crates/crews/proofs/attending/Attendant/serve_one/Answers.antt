@@ -1,5 +1,7 @@
-use Rattle.std.proofs.Common.{◌++◌}
+use Rattle.std.proofs.Common.{◌++◌, ◌+◌, arith}
+use Rattle.slab.specs.Slab.{slab_len}
 use Rattle.crews.specs.Lives.{known}
+use Rattle.crews.proofs.CountLemmas.{counts_by}
 use Rattle.crews.proofs.SeatLemmas.{client_in, client_unfailed, has_turn, no_more, seat_left}
 use Rattle.crews.proofs.attending.Attendant.serve_one.Goals as goal
 
@@ -9,7 +11,7 @@ turn-standing-requires-clause-unfailed g c κs within =
     let gave = g.P.Clients.gave in
     let s = c.args.self.now in
     let (old, turns, attended) = c.requires.attended in
-    client_unfailed state gave turns s.came c.in-Some.client (client_in state gave old turns (known s.room.serving) s.came s.seats c.args.seat c.in-Some.client attended c.in-Some.ensures.value)
+    client_unfailed state gave old turns (known s.room.serving) s.came c.in-Some.client (client_in state gave old turns (known s.room.serving) s.came s.seats c.args.seat c.in-Some.client attended c.in-Some.ensures.value)
 
 pub go_on-requires-clause-client : goal.go_on-requires-clause-client
 go_on-requires-clause-client g c =
@@ -18,17 +20,22 @@ go_on-requires-clause-client g c =
     let (old, turns, attended) = c.requires.attended in
     let (more, out, none, is) = has_turn g.C.Channel.state g.P.Clients.gave old turns (known s.room.serving) (known t.room.serving) s.came s.seats c.try_remove.new.self c.args.seat c.in-Some.client t.self
     c.in-Some.ensures.value c.in-Some.ensures.updates c.turn-standing.ensures.number c.turn-standing.ensures.turns attended in
-    (turns ++ more, is)
+    (old, turns ++ more, is)
 
-pub returns-in_default : goal.returns-in_default
-returns-in_default g c old turns attended =
+pub returns-in_default-clause-attended : goal.returns-in_default-clause-attended
+returns-in_default-clause-attended g c old turns attended =
     let s = c.args.self.now in
     no_more g.C.Channel.state g.P.Clients.gave old turns (known s.room.serving) s.came c.try_remove.new.self (seat_left g.C.Channel.state g.P.Clients.gave old turns (known s.room.serving) s.came s.seats c.try_remove.new.self c.args.seat c.try_remove.ensures.updates attended)
 
-pub returns : goal.returns
-returns g c old turns attended =
+pub returns-clause-there : goal.returns-clause-there
+returns-clause-there g c =
+    let n = slab_len c.try_remove.new.self in
+    counts_by g.P.Clients.there c.args.clients.now c.go_on.new.clients (n + 1) (slab_len c.go_on.new.self.seats) 0 (slab_len c.args.self.now.seats) (slab_len c.go_on.new.self.seats) (omega (arith, c.in-Some.ensures.len)) (omega arith) c.go_on.ensures.there
+
+pub returns-clause-attended : goal.returns-clause-attended
+returns-clause-attended g c old turns attended =
     let s = c.args.self.now in
     let t = c.turn-standing.new in
     let (more, out, none, is) = has_turn g.C.Channel.state g.P.Clients.gave old turns (known s.room.serving) (known t.room.serving) s.came s.seats c.try_remove.new.self c.args.seat c.in-Some.client t.self
     c.in-Some.ensures.value c.in-Some.ensures.updates c.turn-standing.ensures.number c.turn-standing.ensures.turns attended in
-    (more, c.go_on.ensures old (turns ++ more) out none is)
+    (more, c.go_on.ensures.attended old (turns ++ more) out none is)

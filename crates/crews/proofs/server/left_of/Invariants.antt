@@ -1,8 +1,0 @@
-use Rattle.std.proofs.Common.{◌≡◌, ◌≤◌, map, vec_len, vec_capacity, Some}
-use Rattle.crews.proofs.server.left_of.Given as goal
-
-abbrev pub invariant-loop-seat : goal.invariant-loop-seat
-invariant-loop-seat l = record {
-  left : map Some l.crews.items ≡ l.yielded;
-  room : vec_len l.fn.seats ≤ vec_capacity l.crews;
-}

@@ -1,0 +1,22 @@
+use Rattle.std.proofs.Common.{sym}
+use Rattle.crews.specs.Lives.{exchanges_of}
+use Rattle.crews.proofs.turn.Client.part.Goals as goal
+
+pub ended-requires : goal.ended-requires
+ended-requires g c =
+    let (old, turns, new, n, knows, (low, (came, come, stands))) = c.requires in
+    let s = c.args.self in
+    record {
+      old = old;
+      turns = turns;
+      new = new;
+      knows = knows;
+      client = s.number;
+      came = came;
+      come = come;
+      read = stands.read;
+      written = stands.written;
+      consumed = stands.consumed;
+      appended = stands.appended;
+      parts = c.parting_of-parting.ensures s.feeder (exchanges_of s.number turns) stands.read stands.written s.owed.rest (sym c.len.ensures) stands.says;
+    }

@@ -1,0 +1,97 @@
+//! A client's connection, which never blocks.
+
+use crate::sockets::{discard_piece, keep_alive, tell_no_room};
+use devices::{Channel, Received, Sent};
+use mio::net::TcpStream;
+use std::io::{ErrorKind, Read, Write};
+use std::net::Shutdown;
+use std::os::fd::AsRawFd;
+
+/// A client's connection. A call that a signal interrupts is made again. It tells none of its bytes.
+#[derive(Drop)]
+pub struct Connection {
+    stream: TcpStream,
+}
+
+impl Connection {
+    /// The connection of a client that came. If the system refuses an option, answers only take longer, or a client stays longer.
+    pub(crate) fn new(stream: TcpStream) -> Connection {
+        let _ = stream.set_nodelay(true);
+        keep_alive(stream.as_raw_fd());
+        Connection { stream }
+    }
+
+    /// The stream, for the poll that watches it.
+    pub(crate) fn stream_mut(&mut self) -> &mut TcpStream {
+        &mut self.stream
+    }
+
+    /// Tells the client that there is no room for it.
+    pub(crate) fn refuse(&self) {
+        let mut stream = &self.stream;
+        tell_no_room(&mut stream);
+    }
+
+    /// Ends what is written to the client. Returns whether the system did.
+    pub(crate) fn end_writing(&self) -> bool {
+        self.stream.shutdown(Shutdown::Write).is_ok()
+    }
+
+    /// Reads a piece of at most 16 KiB, and throws it away.
+    pub(crate) fn discard(&self) -> Discarded {
+        let mut stream = &self.stream;
+        match discard_piece(&mut stream) {
+            Ok(0) => Discarded::Ended,
+            Ok(_) => Discarded::Piece,
+            Err(error) if error.kind() == ErrorKind::WouldBlock => Discarded::NotNow,
+            Err(_) => Discarded::Ended,
+        }
+    }
+}
+
+/// What was read and thrown away.
+#[derive(Clone, Copy, Debug, PartialEq, Eq)]
+pub(crate) enum Discarded {
+    /// A piece; more may be there.
+    Piece,
+    /// Nothing is there now.
+    NotNow,
+    /// The client sends no more, or the connection failed.
+    Ended,
+}
+
+impl Channel for Connection {
+    ghost use Rattle.std.specs.Prelude.{None};
+
+    ghost state = { λ _. record { left = None; held = None } };
+
+    fn receive(&mut self, room: &mut [u8]) -> Received {
+        for _ in 0..u64::MAX {
+            match self.stream.read(room) {
+                Ok(0) => return Received::Ended,
+                Ok(count) => return Received::Bytes(count),
+                Err(error) => match error.kind() {
+                    ErrorKind::WouldBlock => return Received::NotNow,
+                    ErrorKind::Interrupted => {}
+                    _ => return Received::Failed,
+                },
+            }
+        }
+        Received::Failed
+    }
+
+    fn send(&mut self, bytes: &[u8]) -> Sent {
+        for _ in 0..u64::MAX {
+            match self.stream.write(bytes) {
+                Ok(0) => return Sent::Failed,
+                Ok(count) => return Sent::Took(count),
+                Err(error) => match error.kind() {
+                    ErrorKind::WouldBlock => return Sent::NotNow,
+                    ErrorKind::Interrupted => {}
+                    _ => return Sent::Failed,
+                },
+            }
+        }
+        Sent::Failed
+    }
+}

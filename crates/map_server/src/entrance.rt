@@ -1,0 +1,153 @@
+//! What the workers of a port share: its listener, and what is counted and told of those who come.
+
+use crate::arrivals::{Arrivals, Limits, Then};
+use crate::connection::Connection;
+use crate::patience::{Patience, is_of_descriptors};
+use crate::quotas::Quotas;
+use crate::telling::Telling;
+use devices::Sink;
+use mio::net::TcpListener;
+use std::alloc::Global;
+use std::io::{self, ErrorKind};
+use std::os::fd::{AsFd, OwnedFd};
+use std::rt::Clock;
+use std::sync::{Mutex, Wait};
+use std::time::Duration;
+
+/// What a look for the next client gave.
+#[derive(Drop)]
+pub(crate) enum Arrival {
+    /// A client.
+    Came(Connection),
+    /// One for which there is no room. It was told so.
+    Refused(Connection),
+    /// Nobody, but the next look can be made at once.
+    Again,
+    /// Nobody, and the next look can be made after this time.
+    After(Duration),
+    /// Nobody waits.
+    Nobody,
+    /// The worker takes no further client.
+    Never,
+}
+
+/// The listener of a port, which every worker watches; what is counted and told of clients; how many sessions the workers may
+/// begin; and a descriptor in reserve, so that one client more than there are descriptors for can be told.
+#[derive(Drop)]
+pub(crate) struct Entrance<'a, 'b, H: Wait + Clock, E: Sink> {
+    pub(crate) arrivals: Arrivals<'a, 'b, H, E>,
+    listener: TcpListener,
+    quotas: Quotas,
+    spare: Mutex<Option<OwnedFd>>,
+}
+
+/// A descriptor in reserve, a second one of the listener; none if the system has none.
+fn spare_of(listener: &TcpListener) -> Option<OwnedFd> {
+    listener.as_fd().try_clone_to_owned().ok()
+}
+
+impl<'a, 'b, H: Wait + Clock, E: Sink> Entrance<'a, 'b, H, E> {
+    /// The entrance of the port that the listener is bound to, for the workers of these quotas, within these limits.
+    pub(crate) fn new(
+        rt: &'a H,
+        alloc: Global,
+        listener: TcpListener,
+        quotas: Quotas,
+        limits: Limits,
+        errors: Telling<'b, E>,
+    ) -> Entrance<'a, 'b, H, E> {
+        let spare = Mutex::new(spare_of(&listener));
+        Entrance {
+            arrivals: Arrivals::new(rt, alloc, limits, errors),
+            listener,
+            quotas,
+            spare,
+        }
+    }
+
+    /// What tells standard error.
+    pub(crate) fn into_telling(self) -> Telling<'b, E> {
+        self.arrivals.into_telling()
+    }
+
+    /// Whether a worker with this number of clients has no more than its share of all clients.
+    pub(crate) fn is_turn_of(&self, clients: u64) -> bool {
+        clients.saturating_mul(self.quotas.workers()) <= self.arrivals.here()
+    }
+
+    /// Looks for the worker's next client.
+    pub(crate) fn next(&self, worker: u32, patience: &mut Patience) -> Arrival {
+        if !self.quotas.has_left(worker) {
+            return Arrival::Never;
+        }
+        match self.listener.accept() {
+            Ok((stream, _)) => {
+                self.arrivals.tell_plenty(patience);
+                self.keep_spare();
+                self.received(worker, Connection::new(stream))
+            }
+            Err(error) if error.kind() == ErrorKind::WouldBlock => {
+                self.arrivals.tell_plenty(patience);
+                Arrival::Nobody
+            }
+            Err(error) => self.after_fault(worker, patience, &error),
+        }
+    }
+
+    /// A client came. It is counted, if there is room for it.
+    fn received(&self, worker: u32, connection: Connection) -> Arrival {
+        if !self.arrivals.comes() {
+            connection.refuse();
+            return Arrival::Refused(connection);
+        }
+        self.quotas.begin(worker);
+        self.arrivals.is_handed_out();
+        Arrival::Came(connection)
+    }
+
+    /// What follows from the error of an accept.
+    fn after_fault(&self, worker: u32, patience: &mut Patience, error: &io::Error) -> Arrival {
+        if is_of_descriptors(error)
+            && let Some(arrival) = self.refuse_one(error)
+        {
+            return arrival;
+        }
+        match self.arrivals.after_fault(patience, error) {
+            Then::Again => Arrival::Again,
+            Then::After(wait) => Arrival::After(wait),
+            Then::Never => {
+                self.arrivals.tell_failure(worker, error);
+                Arrival::Never
+            }
+        }
+    }
+
+    /// Takes the descriptor in reserve to tell one client that there is none for it, and closes its connection. None if that can't
+    /// be done.
+    fn refuse_one(&self, error: &io::Error) -> Option<Arrival> {
+        let mut spare = self.spare.lock(self.arrivals.rt);
+        let descriptor = spare.take()?;
+        drop(descriptor);
+        let arrival = match self.listener.accept() {
+            Ok((stream, _)) => {
+                let connection = Connection::new(stream);
+                connection.refuse();
+                let _ = connection.discard();
+                self.arrivals.tell_refused(error);
+                Some(Arrival::Again)
+            }
+            Err(error) if error.kind() == ErrorKind::WouldBlock => Some(Arrival::Nobody),
+            Err(_) => None,
+        };
+        *spare = spare_of(&self.listener);
+        arrival
+    }
+
+    /// Takes a descriptor in reserve again, if it was lost.
+    fn keep_spare(&self) {
+        let mut spare = self.spare.lock(self.arrivals.rt);
+        if spare.is_none() {
+            *spare = spare_of(&self.listener);
+        }
+    }
+}

@@ -1,0 +1,69 @@
+//! The workers of a port, each with clients of its own.
+ghost use Rattle.std.specs.Prelude.{◌≡◌, ◌≤◌, [], IfOk, All, map, vec_len, vec_capacity};
+ghost use Rattle.crews.specs.Crews.{AllCarrySame, IsCrewOf};
+
+use crate::entrance::Entrance;
+use crate::tcp_clients::TcpClients;
+use bin_stripes::OpenGate;
+use bpf_model::NoMemory;
+use crews::{Crew, Post, Worker, attend_each};
+use devices::Sink;
+use mio::Poll;
+use std::alloc::Global;
+use std::rt::Clock;
+use std::sync::Wait;
+use std::thread::Threads;
+
+/// The crews, each with clients of its own that come in by this entrance, of which one of the polls tells. `NoMemory` if a request
+/// for memory was refused.
+fn posts_of<'a, 'b, 'c, H: Wait + Clock, E: Sink>(
+    alloc: Global,
+    entrance: &'a Entrance<'b, 'c, H, E>,
+    crews: Vec<Crew>,
+    polls: Vec<Poll>,
+) -> Result<Vec<Post<TcpClients<'a, 'b, 'c, H, E>>>, NoMemory>
+    requires { vec_len polls ≡ vec_len crews }
+    ensures { IfOk result (λ posts. map (λ post. post.crew) posts.items ≡ crews.items) }
+{
+    let mut polls = polls;
+    let mut posts = Vec::with_capacity(alloc, crews.len())?;
+    for crew in crews {
+        let Some(poll) = polls.pop() else {
+            unreachable!()
+        };
+        let clients = TcpClients::new(alloc, entrance, crew.worker, poll)?;
+        posts.push_reserved(Post { crew, clients });
+    }
+    Ok(posts)
+}
+
+/// The crews of the posts, in the room that is there.
+fn crews_of<P: Drop>(posts: Vec<Post<P>>, mut crews: Vec<Crew>) -> Vec<Crew>
+    requires empty { crews.items ≡ [] }
+    requires room { vec_len posts ≤ vec_capacity crews }
+    ensures { result.items ≡ map (λ post. post.crew) posts.items }
+{
+    for post in posts {
+        crews.push_reserved(post.crew);
+    }
+    crews
+}
+
+/// Has each crew attend clients that come in by this entrance, until they are over. Gives the crews back in their order. `NoMemory`
+/// if a request for memory was refused.
+pub(crate) fn attend_all<H: Threads + Wait + Clock + Sync, E: Sink + Send>(
+    worker: &Worker<'_, H, OpenGate>,
+    entrance: &Entrance<'_, '_, H, E>,
+    crews: Vec<Crew>,
+    polls: Vec<Poll>,
+) -> Result<Vec<Crew>, NoMemory>
+    requires crews { All (λ crew. IsCrewOf worker.now.map.now crew) crews.items }
+    requires polls { vec_len polls ≡ vec_len crews }
+    ensures same { IfOk result (λ back. AllCarrySame crews.items back.items) }
+    ensures map { IfOk result (λ back. All (λ crew. IsCrewOf worker.now.map.now crew) back.items) }
+{
+    let back = Vec::with_capacity(worker.alloc, crews.len())?;
+    let posts = posts_of(worker.alloc, entrance, crews, polls)?;
+    let attended = attend_each(worker, posts)?;
+    Ok(crews_of(attended, back))
+}

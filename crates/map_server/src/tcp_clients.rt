@@ -1,0 +1,249 @@
+//! The clients of one worker, over the system's epoll.
+
+use crate::connection::Connection;
+use crate::departures::{Departures, is_departure};
+use crate::door::Door;
+use crate::entrance::{Arrival, Entrance};
+use crate::seats::Seats;
+use crate::stopwatch::Stopwatch;
+use bin_stripes::Pass;
+use bpf_model::NoMemory;
+use crews::{Clients, Event, Parting, Standing};
+use devices::Sink;
+use mio::{Events, Interest, Poll, Token};
+use sessions::SessionEnd;
+use std::alloc::Global;
+use std::io;
+use std::rt::Clock;
+use std::sync::Wait;
+use std::time::Duration;
+
+/// The token of the listener, which is no seat and no departure's.
+pub(crate) const LISTENER: Token = Token(usize::MAX >> 1);
+
+/// At most this many connections are told of at once.
+const MOST_EVENTS: usize = 256;
+
+/// How long it is between two looks for silent clients, in milliseconds.
+const SWEEP_MILLIS: u64 = 500;
+
+/// The clients of one worker: it takes them from the entrance, tells which has a turn, lets silent ones go, and hears out those
+/// that were refused. What the system tells is no premise of it: a seat that it tells of for no reason has a turn for nothing.
+#[derive(Drop)]
+pub(crate) struct TcpClients<'a, 'b, 'c, H: Wait + Clock, E: Sink> {
+    entrance: &'a Entrance<'b, 'c, H, E>,
+    worker: u32,
+    poll: Poll,
+    events: Events,
+    stopwatch: Stopwatch<'b, H>,
+    seats: Seats,
+    clients: u64,
+    turns: usize,
+    door: Door,
+    departures: Departures,
+    next_sweep: Duration,
+}
+
+impl<'a, 'b, 'c, H: Wait + Clock, E: Sink> TcpClients<'a, 'b, 'c, H, E> {
+    /// The clients of this worker, which come in by this entrance. The poll watches its listener. `NoMemory` if a request for
+    /// memory was refused.
+    pub(crate) fn new(
+        alloc: Global,
+        entrance: &'a Entrance<'b, 'c, H, E>,
+        worker: u32,
+        poll: Poll,
+    ) -> Result<TcpClients<'a, 'b, 'c, H, E>, NoMemory> {
+        Ok(TcpClients {
+            entrance,
+            worker,
+            poll,
+            events: Events::with_capacity(alloc, MOST_EVENTS)?,
+            stopwatch: Stopwatch::new(entrance.arrivals.rt),
+            seats: Seats::new(alloc),
+            clients: 0,
+            turns: 0,
+            door: Door::new(),
+            departures: Departures::new(alloc),
+            next_sweep: Duration::ZERO,
+        })
+    }
+
+    /// How long a client may be silent; none: for ever.
+    fn idle(&self) -> Option<Duration> {
+        let seconds = self.entrance.arrivals.limits.idle?;
+        Some(Duration::from_secs(seconds))
+    }
+
+    /// The seat of the next client that was silent for too long.
+    fn next_silent(&mut self) -> Option<usize> {
+        let idle = self.idle()?;
+        let before = self.stopwatch.now().saturating_sub(idle);
+        self.seats.next_silent(before)
+    }
+
+    /// The seat that has the next turn, if it is had before the system is asked again.
+    fn next_turn(&mut self) -> Option<usize> {
+        self.turns = self.turns.checked_sub(1)?;
+        self.seats.next_turn()
+    }
+
+    /// The next client that comes in, if one is looked for now.
+    fn next_client(&mut self) -> Option<Connection> {
+        let now = self.stopwatch.now();
+        for _ in 0..u64::MAX {
+            if !self.door.looks(self.entrance.is_turn_of(self.clients), now) {
+                return None;
+            }
+            match self.entrance.next(self.worker, &mut self.door.patience) {
+                Arrival::Came(connection) => {
+                    self.clients = self.clients.saturating_add(1);
+                    return Some(connection);
+                }
+                Arrival::Refused(connection) => {
+                    self.departures.add(self.poll.registry(), connection, now)
+                }
+                Arrival::Again => {}
+                Arrival::After(wait) => self.door.close_until(now.saturating_add(wait)),
+                Arrival::Nobody => self.door.quiet(),
+                Arrival::Never => self.door.shut(),
+            }
+        }
+        None
+    }
+
+    /// What is to be done now; none if the system is to be asked.
+    fn event_at_hand(&mut self) -> Option<Event<Connection>> {
+        if let Some(seat) = self.next_silent() {
+            return Some(Event::LetGo(seat));
+        }
+        if let Some(connection) = self.next_client() {
+            return Some(Event::Came(connection));
+        }
+        if let Some(seat) = self.next_turn() {
+            return Some(Event::Ready(seat));
+        }
+        None
+    }
+
+    /// No client is there, and none will come.
+    fn is_over(&self) -> bool {
+        self.door.is_shut() && self.clients == 0 && self.departures.is_empty()
+    }
+
+    /// How long the system may be waited for; none: for ever.
+    fn timeout(&self) -> Option<Duration> {
+        if self.seats.queued() > 0 {
+            return Some(Duration::ZERO);
+        }
+        let now = self.stopwatch.now();
+        let sweep = match self.entrance.arrivals.limits.idle {
+            Some(_) if self.clients > 0 => Some(self.next_sweep.saturating_sub(now)),
+            _ => None,
+        };
+        sooner(
+            sooner(self.door.wait(now), self.departures.wait(now)),
+            sweep,
+        )
+    }
+
+    /// Waits until the system tells of a connection, or something is to be done.
+    fn wait(&mut self) -> io::Result<()> {
+        let timeout = self.timeout();
+        self.poll.poll(&mut self.events, timeout)?;
+        self.stopwatch.look();
+        let now = self.stopwatch.now();
+        for event in self.events.iter() {
+            let token = event.token();
+            if token == LISTENER {
+                self.door.knock();
+            } else if is_departure(token.0) {
+                self.departures.hear(token.0);
+            } else {
+                self.seats.stir(token.0, event.is_writable(), now);
+            }
+        }
+        Ok(())
+    }
+
+    /// Begins a round: everything that the system told of has its turn in it.
+    fn begin_round(&mut self) {
+        let now = self.stopwatch.now();
+        self.departures.close_overdue(now);
+        self.door.begin_round(now);
+        // What a client sent is often all of it, and then a second turn tells so: no need to ask the system between them.
+        self.turns = self.seats.queued().saturating_mul(2);
+        // If it may not have told of all, somebody may seem silent who is not.
+        let has_told_all = self.events.iter().len() < MOST_EVENTS;
+        if has_told_all && self.next_sweep <= now {
+            self.seats.look_again();
+            self.next_sweep = now.saturating_add(Duration::from_millis(SWEEP_MILLIS));
+        }
+    }
+}
+
+/// The shorter of two times, of which none is for ever.
+fn sooner(one: Option<Duration>, other: Option<Duration>) -> Option<Duration> {
+    match (one, other) {
+        (Some(one), Some(other)) => Some(one.min(other)),
+        (one, None) => one,
+        (None, other) => other,
+    }
+}
+
+/// Whether a client that left so is heard out: it was told a refusal last.
+fn was_refused(parting: Parting) -> bool {
+    matches!(
+        parting,
+        Parting::NotKept | Parting::Ended(SessionEnd::Refused(_) | SessionEnd::NoMemory)
+    )
+}
+
+impl<'a, 'b, 'c, H: Wait + Clock, E: Sink> Clients<Connection> for TcpClients<'a, 'b, 'c, H, E> {
+    fn next(&mut self, _pass: &Pass) -> Event<Connection> {
+        for _ in 0..u64::MAX {
+            if let Some(event) = self.event_at_hand() {
+                return event;
+            }
+            if self.is_over() {
+                return Event::Over;
+            }
+            if let Err(error) = self.wait() {
+                self.entrance.arrivals.tell_failure(self.worker, &error);
+                return Event::Over;
+            }
+            self.begin_round();
+        }
+        Event::Over
+    }
+
+    fn watch(&mut self, seat: usize, channel: &mut Connection) -> Result<(), NoMemory> {
+        self.seats.take(seat, self.stopwatch.now())?;
+        let interest = Interest::READABLE | Interest::WRITABLE;
+        let stream = channel.stream_mut();
+        match self.poll.registry().register(stream, Token(seat), interest) {
+            Ok(()) => Ok(()),
+            Err(_) => {
+                self.seats.leave(seat);
+                Err(NoMemory)
+            }
+        }
+    }
+
+    fn served(&mut self, seat: usize, standing: Standing) {
+        if standing == Standing::Again {
+            self.seats.go_on(seat, self.stopwatch.now());
+        }
+    }
+
+    fn ended(&mut self, _pass: &Pass, seat: Option<usize>, channel: Connection, parting: Parting) {
+        if let Some(seat) = seat {
+            self.seats.leave(seat);
+        }
+        self.clients = self.clients.saturating_sub(1);
+        self.entrance.arrivals.leaves();
+        if was_refused(parting) {
+            self.departures
+                .add(self.poll.registry(), channel, self.stopwatch.now());
+        }
+    }
+}
