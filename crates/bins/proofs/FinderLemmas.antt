@@ -12,7 +12,7 @@ use Rattle.bins.proofs.DistinctEntries.{HasKey, find_here}
 use Rattle.bins.proofs.PairedEntries.{paired-at, paired-length}
 use Rattle.bins.proofs.TreeLemmas.{not_there, same_inside, locates_more}
 
--- a list of functions of elements loses the one at a position with the element there
+-- if you remove an element and then map the list, you may map it first
 pub map-swap_remove : {X Y : Type 0} (f : X → Y) (xs : List X) (p : ℕ) (d : X) (e : Y) → p < length xs → swap_remove (map f xs) p e ≡ map f (swap_remove xs p d)
 map-swap_remove f xs p d e lt =
     let last : get_or (map f xs) (length xs - 1) e ≡ f (get_or xs (length xs - 1) d) = get_or-map f xs (length xs - 1) d e (omega (arith, lt)) in

@@ -41,7 +41,7 @@ unfolding total
 total_zero zero f none = refl
 total_zero (suc n) f none = let rest = total_zero n f none in let here = none n in omega (arith, rest, here)
 
--- one of the numbers differs, and it is among the first
+-- the sum of the first n numbers, if one number differs: one after them, or one among them
 pub total_beyond : (n k : ℕ) (f g : ℕ → ℕ) → n ≤ k → ((i : ℕ) → i ≢ k → g i ≡ f i) → total n g ≡ total n f
 unfolding total
 total_beyond zero k f g beyond same = refl

@@ -36,7 +36,7 @@ module _ (e w : ℕ) (some : 0 < e) where
         ]
       ]
 
-  -- the row is in another segment now
+  -- the segment of a row is replaced
   module _ (segments : List (List ℕ)) (at : ℕ) (new : List ℕ) (inside : at / e < length segments) where
     pub slot_here : slot (set segments (at / e) new) e w at ≡ part new (place e w at) w
     slot_here = ap (λ (xs : List ℕ). part xs (place e w at) w) (get_or-set_same segments (at / e) new [] inside)

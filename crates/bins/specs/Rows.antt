@@ -29,7 +29,7 @@ keys_in raw = keys_of raw.locations.items (lists_in raw)
 abbrev pub values_in : RawRows → List (List ℕ)
 values_in raw = values_of raw.locations.items (lists_in raw)
 
--- the sum of the first numbers, this many
+-- the sum of the first n numbers
 unfoldable pub total : ℕ → (ℕ → ℕ) → ℕ
 total zero f = 0
 total (suc n) f = total n f + f n

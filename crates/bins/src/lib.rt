@@ -6,8 +6,8 @@
 //! many widths (`specs/KeptRows.antt`), in no order, with an index by the hashes of the keys (`hash_of`,
 //! `specs/Hashes.antt`). So a search visits only the entries of one hash.
 //!
-//! A new key, `open`, `copy_into` and `entries` take memory; no other call of theirs does. If it is refused, the entries are
-//! unchanged. No call waits.
+//! A new key, `open`, `copy_into` and `entries` take memory; no other call of theirs does. If memory is refused, the
+//! entries are unchanged. No call waits.
 //!
 //! Copies go into an `EntryList`. `SortedEntries` reads such a list in key order, and `MergedEntries` reads one list or
 //! several as one.

@@ -28,8 +28,7 @@ enum Source {
     Several(Vec<EntryList>, Vec<EntryPosition>),
 }
 
-/// Entries in an order. If they are of several lists they are not moved: their positions are kept in that order, 16 bytes
-/// for each.
+/// Entries in an order. Entries of several lists are not moved: their positions are kept in that order, 16 bytes for each.
 #[derive(Drop)]
 pub struct MergedEntries {
     source: Source,

@@ -1,5 +1,5 @@
 //! Rows in segments, and for each position the location of its row. A row names its position too. So when a row goes, the
-//! last one of its width takes the gap, and its position gets the new location.
+//! last one of its width takes the gap, and the position of that last one gets the new location.
 ghost use Rattle.std.specs.Prelude.{◌≡◌, ℕ, ◌+◌, ◌-◌, ◌*◌, ◌<◌, ◌≤◌, ◌^◌, ◌++◌, [], ◌∷◌, length, set, IfOk, IsTrue, OnOk, OnErr, vec_capacity};
 ghost use Rattle.std.specs.List.{swap_remove};
 ghost use Rattle.bins.specs.KeptRows.{kept, nobody, location_at, row_at, string_at, with_rows};
@@ -53,8 +53,8 @@ fn open_widths(alloc: Global) -> Result<Vec<WidthRows>, NoMemory>
     Ok(widths)
 }
 
-/// Returns the least number of segments if there is room for this many positions. Rows of one width leave less than a
-/// segment unused, and a segment holds 256 rows or more, so any mix of widths fits.
+/// Returns how many segments there are at least if this many positions have room. Rows of one width leave less than a segment
+/// unused, and a segment holds 256 rows or more, so any mix of widths fits.
 fn wanted_for(positions: usize) -> usize
     ensures value { result ≡ segments_for positions }
 {

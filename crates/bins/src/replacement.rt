@@ -60,7 +60,7 @@ pub fn replace_values(
     }
 }
 
-/// Returns the number of entries.
+/// Returns the number of entries. Takes no memory.
 pub fn count_of(entries: &[(Key, Value)]) -> u64
     ensures value { result ≡ length entries.now }
     ensures bounded { result < 2 ^ 57 }

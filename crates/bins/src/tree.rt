@@ -17,7 +17,7 @@ use bpf_model::{Key, NoMemory};
 use std::alloc::Global;
 use std::collections::BTreeMap;
 
-/// The position of each key, and the size and the seed of an index of these keys.
+/// The position of each key, and the size that an index of these keys would report and the seed that it would be made by.
 #[derive(Drop)]
 pub(crate) struct Tree {
     positions: BTreeMap<Key, usize>,
