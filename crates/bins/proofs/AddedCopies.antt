@@ -1,4 +1,4 @@
--- Copies that were added to a list are those of a table: in a list of no order, and in a sorted one.
+-- Copies that were added to a list are those of a table, both in an unsorted list and in a sorted one.
 use Rattle.std.proofs.Common.{◌≡◌, List, ◌++◌, T, length, sum_by, sym, ap, ◌∙◌}
 use Rattle.std.specs.FinMap as map
 use Rattle.std.specs.FinMap.{len-entries, entries-from_sorted}

@@ -1,4 +1,4 @@
--- Which bin a hash goes to, and what a further bin changes of it.
+-- The bin that a hash goes to, and how one more bin changes it.
 use Rattle.std.proofs.Common.{◌≡◌, ◌≢◌, ℕ, zero, suc, ◌+◌, ◌-◌, ◌*◌, ◌/◌, ◌%◌, ◌^◌, ◌<◌, ◌≤◌, cond, sym, ap, ◌∙◌, arith, inl, inr}
 use Rattle.std.specs.Prelude.{nat_lt, bit_and}
 use Rattle.std.specs.Int.{IsPowerOfTwo}
@@ -8,7 +8,7 @@ use Rattle.std.proofs.lemmas.Nat.{pow-add, mod-pow-add}
 use Rattle.bins.specs.Chains.{AreSpread, bin_of}
 use Rattle.bins.proofs.PowersOfTwo.{masked}
 
--- the bin that a remainder tells
+-- the bin that a remainder gives
 abbrev bin_at : ℕ → ℕ → ℕ → ℕ
 bin_at half bins rest = cond (nat_lt rest bins) rest (rest - half)
 
@@ -42,7 +42,7 @@ pub bin_high : (half bins hash rest : ℕ) → rest ≡ hash % (2 * half) → bi
 unfolding bin_of
 bin_high half bins hash rest e le = ap (λ (n : ℕ). n - half) e ∙ sym (at_high half bins (hash % (2 * half)) (omega (arith, e, le)))
 
--- a bin more: only one bin has hashes that go to it
+-- one more bin: only one bin has hashes that go to it
 module _ (half bins : ℕ) (is : AreSpread half bins) (few : bins < 2 * half) where
   pub bin_same : (hash : ℕ) → bin_of half bins hash ≢ bins - half → bin_of half (bins + 1) hash ≡ bin_of half bins hash
   unfolding bin_of
@@ -68,7 +68,7 @@ module _ (half bins : ℕ) (is : AreSpread half bins) (few : bins < 2 * half) wh
         ]
       ]
 
--- a remainder by twice as much has one bit more
+-- a remainder by twice the number has one more bit
 joined : (bit low high half bins : ℕ) → high ≡ bit * (2 * half) + low → bins ≡ 2 * half → low < 2 * half → bit < 2 → low ≡ bin_at bins bins high
 joined zero low high half bins split e below one = let same : high ≡ low = omega (arith, split) in same_of low high bins same (omega (arith, below, e))
   where
@@ -77,7 +77,7 @@ joined zero low high half bins split e below one = let same : high ≡ low = ome
 joined (suc zero) low high half bins split e below one = let more : bins ≤ high = omega (arith, split, e) in let less : low ≡ high - bins = omega (arith, split, e) in less ∙ sym (at_high bins bins high more)
 joined (suc (suc bit)) low high half bins split e below one = absurd (omega (arith, one))
 
--- twice the half says the same of as many bins
+-- twice the half gives the same for as many bins
 pub bin_doubled : (half bins hash : ℕ) → IsPowerOfTwo half → 0 < half → bins ≡ 2 * half → bin_of half bins hash ≡ bin_of bins bins hash
 unfolding bin_of
 bin_doubled half bins hash is pos e =

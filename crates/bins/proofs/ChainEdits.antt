@@ -1,4 +1,4 @@
--- Lists of hashes and the links of their positions: a hash added, the last one taken out, one replaced.
+-- Lists of hashes and the links of their positions: a hash is added, the last one is removed, or one is replaced.
 use Rattle.std.proofs.Common.{◌≡◌, ◌≢◌, ℕ, ◌+◌, ◌-◌, ◌<◌, ◌≤◌, cond, List, [], ◌∷◌, ◌++◌, length, set, take, slice_index, refl, sym, ap, subst, ◌∙◌, arith}
 use Rattle.std.specs.Prelude.{nat_eq}
 use Rattle.std.specs.List.{swap_remove}
@@ -10,14 +10,14 @@ use Rattle.bins.specs.Chains.{Links, IsLinkTo, follow, heads_relinked, nexts_rel
 use Rattle.bins.proofs.ChainLemmas.{last_at, last_here, last_more, last_fewer, last_alike, links_more, links_fewer, links_hidden, links_alike}
 use Rattle.bins.proofs.ChainMoves.{links_relinked, last_upto}
 
--- the same fact of equal numbers and lists
+-- the same fact for equal numbers and lists
 links_at : (s m n k l : ℕ) (hs heads others nexts : List ℕ) → m ≡ n → k ≡ l → heads ≡ others → Links (bins_of s m hs) k heads nexts → Links (bins_of s n hs) l others nexts
 links_at s m n k l hs heads others nexts bins size same is =
     subst (λ (x : ℕ). Links (bins_of s x hs) l others nexts) bins
     (subst (λ (x : ℕ). Links (bins_of s m hs) x others nexts) size
     (subst (λ (xs : List ℕ). Links (bins_of s m hs) k xs nexts) same is))
 
--- a hash is added behind the others, and its position becomes the head of its bin
+-- a hash is added after the others, and its position becomes the head of its bin
 pub links_added : (s h b : ℕ) (heads hs nexts hashes news others : List ℕ) → Links (bins_of s (length heads) hs) (length hs) heads nexts → length nexts ≡ length hs
     → b ≡ bin_of s (length heads) h → b < length heads → hashes ≡ hs ++ h ∷ [] → news ≡ nexts ++ slice_index heads b ∷ [] → others ≡ set heads b (length news)
     → Links (bins_of s (length others) hashes) (length hashes) others news
@@ -34,7 +34,7 @@ links_added s h b heads hs nexts hashes news others is long e lt pushed next_pus
     (λ j high. ap (λ (xs : List ℕ). slice_index xs j) next_pushed ∙ get_or_append_left nexts (slice_index heads b ∷ []) 0 j (omega (arith, high, long)))
     (ap (λ (xs : List ℕ). slice_index xs (length hs)) next_pushed ∙ get_or_push nexts (slice_index heads b) 0 (length hs) long))
 
--- the last hash is taken out, and the position before it in its bin becomes the head
+-- the last hash is removed, and the position before it in its bin becomes the head
 pub links_taken : (s b n : ℕ) (heads hs nexts hashes news others : List ℕ) → Links (bins_of s (length heads) hs) (length hs) heads nexts → length nexts ≡ length hs
     → n + 1 ≡ length hs → b ≡ bin_of s (length heads) (slice_index hs n) → b < length heads → hashes ≡ take n hs → news ≡ take n nexts → others ≡ set heads b (slice_index nexts n)
     → Links (bins_of s (length others) hashes) (length hashes) others news
@@ -52,7 +52,7 @@ links_taken s b n heads hs nexts hashes news others is long count e lt cut next_
 pub split_last : (hs : List ℕ) (n h : ℕ) → n + 1 ≡ length hs → h ≡ slice_index hs n → hs ≡ take n hs ++ h ∷ []
 split_last hs n h count e = sym (take_all (n + 1) hs (omega (arith, count))) ∙ take_more hs n 0 (omega (arith, count)) ∙ ap (λ (x : ℕ). take n hs ++ x ∷ []) (sym e)
 
--- the last hash takes the place of another, or is the one that is removed
+-- the last hash takes the place of another, or is the removed one
 at_end : (rest : List ℕ) (h i : ℕ) → swap_remove (rest ++ h ∷ []) i 0 ≡ take (length rest) (set (rest ++ h ∷ []) i h)
 at_end rest h i =
     let count : length (rest ++ h ∷ []) - 1 ≡ length rest = omega (arith, length_push rest h) in
@@ -91,7 +91,7 @@ pub length-nexts_relinked : (link : Link) (at : ℕ) (nexts : List ℕ) → leng
 length-nexts_relinked (Head b) at nexts = refl
 length-nexts_relinked (Next p) at nexts = length-set nexts p at
 
--- a position is taken out of its chain: the link that leads to it leads past it
+-- a position is taken out of its chain: the link that led to it now leads past it
 pub links_unlinked : (bin : ℕ → ℕ) (heads nexts : List ℕ) (n i : ℕ) (link : Link) → Links bin n heads nexts → i < n → bin i < length heads → IsLinkTo bin n (bin i) i link
     → Links (hidden bin i (length heads)) n (heads_relinked link (slice_index nexts i) heads) (nexts_relinked link (slice_index nexts i) nexts)
 links_unlinked bin heads nexts n i link is within in_bins to =
@@ -105,7 +105,7 @@ links_unlinked bin heads nexts n i link is within in_bins to =
     (λ j high e. same j (λ eq. omega (arith, eq, high)) ∙ e) (λ j high e. sym (same j (λ eq. omega (arith, eq, high))) ∙ e) (is.at_nexts i within in_bins)))
     (λ in_range. absurd (omega (arith, none, in_range))) link to
 
--- a position that is in no chain is linked in: it leads on to where the link led, and the link leads to it
+-- a position in no chain is linked in: it leads to where the link led, and the link leads to it
 pub links_linked : (bin new : ℕ → ℕ) (heads nexts : List ℕ) (n i : ℕ) (link : Link) → Links bin n heads nexts → i < n → length heads ≤ bin i → new i < length heads
     → ((j : ℕ) → j ≢ i → new j ≡ bin j) → IsLinkTo bin n (new i) i link
     → Links new n (heads_relinked link (i + 1) heads) (nexts_relinked link (i + 1) (set nexts i (follow heads nexts link)))
@@ -123,7 +123,7 @@ links_linked bin new heads nexts n i link is within none in_bins same to =
     (last_alike bin new i (new i) (follow heads nexts link) (λ j high e. same j (λ eq. omega (arith, eq, high)) ∙ e) (λ j high e. sym (same j (λ eq. omega (arith, eq, high))) ∙ e) before))
     link to
 
--- a position taken out of the chain of its bin
+-- a position is taken out of its bin's chain
 pub moved_out : (bin : ℕ → ℕ) (heads nexts others news : List ℕ) (i from at : ℕ) (link : Link) → Links bin (length nexts) heads nexts → i < length nexts → bin i ≡ from → from < length heads
     → at ≡ slice_index nexts i → IsLinkTo bin (length nexts) from i link → others ≡ heads_relinked link at heads → news ≡ nexts_relinked link at nexts
     → Links (hidden bin i (length heads)) (length news) others news
@@ -135,7 +135,7 @@ moved_out bin heads nexts others news i from at link is within e in_bins read to
     (subst (λ (xs : List ℕ). Links (hidden bin i (length heads)) (length nexts) xs news) (ap (λ (x : ℕ). heads_relinked link x heads) (sym read) ∙ sym heads_are)
     (subst (λ (xs : List ℕ). Links (hidden bin i (length heads)) (length nexts) (heads_relinked link (slice_index nexts i) heads) xs) (ap (λ (x : ℕ). nexts_relinked link x nexts) (sym read) ∙ sym nexts_are) out))
 
--- and linked into the chain of another
+-- and linked into another chain
 pub moved_in : (bin new : ℕ → ℕ) (bins : ℕ) (others news heads_after nexts_after : List ℕ) (i into at : ℕ) (link : Link) → Links (hidden bin i bins) (length news) others news → length others ≡ bins → i < length news
     → into < bins → new i ≡ into → ((j : ℕ) → j ≢ i → new j ≡ bin j) → at ≡ follow others news link → IsLinkTo (hidden bin i bins) (length news) into i link
     → heads_after ≡ heads_relinked link (i + 1) others → nexts_after ≡ nexts_relinked link (i + 1) (set news i at) → Links new (length nexts_after) heads_after nexts_after
@@ -148,7 +148,7 @@ moved_in bin new bins others news heads_after nexts_after i into at link is size
     (subst (λ (xs : List ℕ). Links new (length news) xs nexts_after) (sym heads_are)
     (subst (λ (xs : List ℕ). Links new (length news) (heads_relinked link (i + 1) others) xs) (ap (λ (x : ℕ). nexts_relinked link (i + 1) (set news i x)) (sym leads) ∙ sym nexts_are) linked))
 
--- the same fact of equal numbers and lists
+-- the same fact for equal numbers and lists
 pub links_told : (half half_now bins : ℕ) (hs hashes heads nexts news : List ℕ) → half_now ≡ half → length heads ≡ bins → hashes ≡ hs → news ≡ nexts → length nexts ≡ length hashes
     → Links (bins_of half bins hs) (length nexts) heads nexts → Links (bins_of half_now (length heads) hashes) (length hashes) heads news
 links_told half half_now bins hs hashes heads nexts news same count hashes_are nexts_are long is =

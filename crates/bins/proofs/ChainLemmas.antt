@@ -1,10 +1,10 @@
--- Chains of positions: a further position, the last one taken out, and a link that is made to lead elsewhere.
+-- Chains of positions: one more position, the last one taken out, and a link that is made to lead elsewhere.
 use Rattle.std.proofs.Common.{◌≡◌, ◌≢◌, ℕ, ◌+◌, ◌-◌, ◌<◌, ◌≤◌, List, length, set, take, slice_index, sym, ap, subst, ◌∙◌, arith, inl, inr}
 use Rattle.std.proofs.lemmas.Bool.{cases_eq, cases_lt}
 use Rattle.std.proofs.lemmas.List.{length-set, length-take-le, get_or-take, get_or_past, get_or-set_same, get_or-set_other}
 use Rattle.bins.specs.Chains.{IsLast, Links}
 
--- the same fact of equal numbers
+-- the same fact for equal numbers
 pub last_in : (bin : ℕ → ℕ) (n b c p : ℕ) → b ≡ c → IsLast bin n b p → IsLast bin n c p
 last_in bin n b c p e is = subst (λ (x : ℕ). IsLast bin n x p) e is
 
@@ -42,7 +42,7 @@ module _ (bin : ℕ → ℕ) where
   pub last_behind : (n b p j : ℕ) → IsLast bin n b p → j < n → bin j ≡ b → j < p
   last_behind n b p j is high e = elim (cases_lt j p) [ inl lt ↦ lt | inr ge ↦ absurd (is.later j ge high e) ]
 
-  -- a further position is chained
+  -- one more position is chained
   pub links_more : (n b : ℕ) (heads nexts news : List ℕ) → Links bin n heads nexts → b ≡ bin n → b < length heads → n + 1 ≤ length news
       → ((j : ℕ) → j < n → slice_index news j ≡ slice_index nexts j) → slice_index news n ≡ slice_index heads b → Links bin (n + 1) (set heads b (n + 1)) news
   links_more n b heads nexts news is e lt long same here = record {
@@ -115,7 +115,8 @@ links_alike bin new n heads nexts same is = record {
       (is.at_nexts i high (subst (λ (k : ℕ). k < length heads) (same i high) in_range)));
 }
 
--- what a search along a chain has passed: no position from `at` on has the hash, and the one that `at` leads to is in its bin
+-- a search along a chain has passed these: no position from `at` on has the hash, and the one that `at` leads to is in its
+-- bin
 abbrev pub Passed : (ℕ → ℕ) → List ℕ → ℕ → ℕ → ℕ → ℕ → Type 0
 Passed bin hs hash b n at = (at ≤ n) × ((j : ℕ) → at ≤ j → j < n → slice_index hs j ≢ hash) × (0 < at → bin (at - 1) ≡ b)
 
@@ -134,7 +135,7 @@ passed_on bin hs hash b n at p binned pos differs last is = (
   λ more. last.there more ∙ is.2 pos,
 )
 
--- where there is no position, no head leads anywhere
+-- if there is no position, no head leads anywhere
 pub links_none : (bin : ℕ → ℕ) (n : ℕ) (heads nexts : List ℕ) → n ≡ 0 → ((b : ℕ) → slice_index heads b ≡ 0) → Links bin n heads nexts
 links_none bin n heads nexts none zeros = record {
   long = omega (arith, none);

@@ -7,13 +7,13 @@ use Rattle.bins.specs.declared.chains.Link.TheVariants.{Head, Next}
 use Rattle.bins.specs.Chains.{IsLast, Links, IsLinkTo, follow, heads_relinked, nexts_relinked}
 use Rattle.bins.proofs.ChainLemmas.{last_in, last_at, last_more, last_fewer, last_behind, last_alike}
 
--- position i goes from one way to spread positions over bins to another, for which bin b alone matters
+-- position i goes from one way to spread positions over bins to another; only bin b matters for this
 module _ (bin new : ℕ → ℕ) (heads nexts : List ℕ) (n i b v : ℕ) (is : Links bin n heads nexts) (within : i < n) (in_bins : b < length heads)
     (same : (j : ℕ) → j ≢ i → new j ≡ bin j)
     (others : (c : ℕ) → c < length heads → c ≢ b → (bin i ≢ c) × (new i ≢ c))
     (last : IsLast new (i + 1) b v)
     (here : new i < length heads → IsLast new i (new i) (slice_index nexts i)) where
-  -- the last position stands behind i
+  -- the last position is after i
   behind : (m p : ℕ) → i + 1 < p → IsLast bin m b p → IsLast new m b p
   behind m p lt was = record {
     range = was.range;
@@ -21,7 +21,7 @@ module _ (bin new : ℕ → ℕ) (heads nexts : List ℕ) (n i b v : ℕ) (is : 
     there = λ pos. same (p - 1) (λ eq. omega (arith, eq, lt)) ∙ was.there pos;
   }
 
-  -- no position stands between i and m
+  -- no position is between i and m
   upto : (m : ℕ) → i < m → ((j : ℕ) → i < j → j < m → bin j ≢ b) → IsLast new m b v
   upto m lt none = last_more new (i + 1) m b v (omega (arith, lt)) (λ j low high e. none j (omega (arith, low)) high (sym (same j (λ eq. omega (arith, eq, low))) ∙ e)) last
 
@@ -107,18 +107,18 @@ module _ (bin new : ℕ → ℕ) (heads nexts : List ℕ) (n i b v : ℕ) (is : 
   links_relinked (Head c) to = subst (λ (k : ℕ). Links new n (set heads k v) nexts) (sym to.0) (by_head to.1)
   links_relinked (Next p) to = by_next p to.0 to.1 to.2 to.3
 
--- a link of bin b that stands behind position i, or the bin's head
+-- a link of bin b at a position after i, or the bin's head
 abbrev pub Reaches : (ℕ → ℕ) → ℕ → ℕ → ℕ → Link → Type 0
 Reaches bin n b i (Head c) = c ≡ b
 Reaches bin n b i (Next p) = (i < p) × (p < n) × (bin p ≡ b)
 
 module _ (bin : ℕ → ℕ) (heads nexts : List ℕ) (n b i : ℕ) (is : Links bin n heads nexts) (in_bins : b < length heads) where
-  -- how far up a link's chain stands
+  -- how high in its chain a link stands
   abbrev above : Link → ℕ
   above (Head c) = n
   above (Next p) = p
 
-  -- what a link leads to is the last position below it in the bin
+  -- a link leads to the last position below it in the bin
   pub last_of_link : (link : Link) → Reaches bin n b i link → IsLast bin (above link) b (follow heads nexts link)
   last_of_link (Head c) e = subst (λ (k : ℕ). IsLast bin n b (slice_index heads k)) (sym e) (is.at_heads b in_bins)
   last_of_link (Next p) to = last_in bin p (bin p) b _ to.2 (is.at_nexts p to.1 (subst (λ (k : ℕ). k < length heads) (sym to.2) in_bins))
@@ -130,14 +130,14 @@ module _ (bin : ℕ → ℕ) (heads nexts : List ℕ) (n b i : ℕ) (is : Links 
   pub last_at_link : (link : Link) (at : ℕ) → at ≡ follow heads nexts link → Reaches bin n b i link → IsLast bin (above link) b at
   last_at_link link at e to = last_at bin (above link) b _ at (sym e) (last_of_link link to)
 
-  -- one link further, where that is still behind i
+  -- one link further, if that is still after i
   pub reach_on : (link : Link) (at : ℕ) → at ≡ follow heads nexts link → Reaches bin n b i link → i + 1 < at → Reaches bin n b i (Next (at - 1))
   reach_on link at e to lt =
       let last = last_at_link link at e to in
       let within = above_within link to in
       (omega (arith, lt), omega (arith, lt, last.range, within), last.there (omega (arith, lt)))
 
-  -- where it is not, no position of the bin stands between
+  -- if it isn't, no position of the bin is between
   pub reach_end : (link : Link) (at : ℕ) → at ≡ follow heads nexts link → Reaches bin n b i link → at ≤ i + 1 → IsLinkTo bin n b i link
   reach_end (Head c) at e to le = let last = last_at_link (Head c) at e to in (to, λ j low high. last.later j (omega (arith, low, le)) high)
   reach_end (Next p) at e to le = let last = last_at_link (Next p) at e to in (to.0, to.1, to.2, λ j low high. last.later j (omega (arith, low, le)) high)

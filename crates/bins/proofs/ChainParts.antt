@@ -1,4 +1,4 @@
--- A chain whose positions are parted among two bins, from its head on.
+-- A chain whose positions are divided between two bins, from its head on.
 use Rattle.std.proofs.Common.{◌≡◌, ◌≢◌, ℕ, ◌+◌, ◌-◌, ◌<◌, ◌≤◌, cond, List, [], ◌∷◌, ◌++◌, length, slice_index, sym, ap, subst, ◌∙◌, arith, inl, inr}
 use Rattle.std.specs.Prelude.{nat_lt}
 use Rattle.std.proofs.lemmas.Bool.{cases_lt, cases_eq}
@@ -7,7 +7,7 @@ use Rattle.std.proofs.lemmas.List.{length_push, get_or_append_left, get_or_push}
 use Rattle.bins.specs.Chains.{IsLast, Links, Moved}
 use Rattle.bins.proofs.ChainLemmas.{last_at, links_alike}
 
--- the positions from `at` on have been parted
+-- the positions from `at` on have been divided
 abbrev pub between : (ℕ → ℕ) → (ℕ → ℕ) → ℕ → ℕ → ℕ
 between old new at j = cond (nat_lt j at) (old j) (new j)
 
@@ -32,7 +32,7 @@ module _ (old new : ℕ → ℕ) where
     ]) is
 
     module _ (at next : ℕ) (some : 0 < at) (last : IsLast (between old new at) (at - 1) from next) where
-      -- one position more: each other is where it was
+      -- one more position: each other is where it was
       pub others_stay : (j : ℕ) → j ≢ at - 1 → between old new next j ≡ between old new at j
       others_stay j other = elim (cases_lt j next) [
         | inl lt ↦ to_come next j lt ∙ sym (to_come at j (omega (arith, lt, last.range)))
@@ -47,7 +47,7 @@ module _ (old new : ℕ → ℕ) where
       pub one_moved : (into : ℕ) → new (at - 1) ≡ into → Moved (between old new at) (between old new next) (at - 1) into
       one_moved into e = record { here = come next (at - 1) last.range ∙ e; others = others_stay }
 
-      -- where it stays in its bin nothing changes
+      -- if it stays in its bin nothing changes
       pub one_stays : (n : ℕ) (heads nexts : List ℕ) → new (at - 1) ≡ old (at - 1) → Links (between old new at) n heads nexts → Links (between old new next) n heads nexts
       one_stays n heads nexts e is = links_alike (between old new at) (between old new next) n heads nexts (λ j high. elim (cases_eq j (at - 1)) [
         | inl here ↦ subst (λ (k : ℕ). between old new next k ≡ between old new at k) (sym here)
@@ -59,7 +59,7 @@ module _ (old new : ℕ → ℕ) where
       pub next_there : 0 < next → old (next - 1) ≡ from
       next_there more = sym (to_come at (next - 1) (omega (arith, more, last.range, some))) ∙ last.there more
 
--- a further bin, which has no position yet
+-- one more bin, which has no position yet
 pub links_widened : (bin : ℕ → ℕ) (n : ℕ) (heads nexts wider : List ℕ) → Links bin n heads nexts → ((j : ℕ) → bin j < length heads) → wider ≡ heads ++ 0 ∷ [] → Links bin n wider nexts
 links_widened bin n heads nexts wider is within e =
     let count : length wider ≡ length heads + 1 = ap length e ∙ length_push heads 0 in

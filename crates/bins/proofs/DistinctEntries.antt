@@ -1,4 +1,4 @@
--- Entries in no order, no key twice: what a search finds among them, and what a write, a push and a removal leave.
+-- Entries in any order, no key twice: what a search finds among them, and what is left after a write, a push and a removal.
 use Rattle.std.proofs.Common.{◌≡◌, ◌≢◌, ℕ, zero, suc, ◌+◌, ◌-◌, ◌<◌, Bool, true, false, cond, List, [], ◌∷◌, ◌++◌, length, get_or, set, take, Some, None, Option, is_eq, refl, sym, ap, subst, ◌∙◌, arith, HoldsAt, ◌⊎◌, inl, inr}
 use Rattle.std.specs.List.{AllWithin, swap_remove}
 use Rattle.std.specs.Ordering.{eq_by_cmp}
@@ -13,7 +13,7 @@ use Rattle.bins.specs.Entries.{Distinct}
 use Rattle.bins.proofs.SearchLemmas.{is_equal}
 use Rattle.bins.proofs.MapEdits.{total, antisymmetric}
 
--- whether two keys are one
+-- whether two keys are the same
 abbrev pub same_key : List ℕ → List ℕ → Bool
 same_key q k = eq_by_cmp by_bytes q k
 
@@ -36,11 +36,11 @@ differ x y other = by_test (same_key x y) refl
     by_test true e = absurd (other (alike x y e))
     by_test false e = e
 
--- an option that is there, and is not
+-- an option that has a value, and one that has none
 apart : {X : Type 0} (x : X) (o : Option X) → o ≡ Some x → o ≡ None → ⊥
 apart x o some none = cc
 
--- of a test that leads to none, both sides
+-- both sides of a test that leads to none
 pub none_after : {X : Type 0} (b : Bool) (x : X) (o : Option X) → cond b (Some x) o ≡ None → (b ≡ false) × (o ≡ None)
 none_after true x o e = absurd cc
 none_after false x o e = (refl, e)
@@ -49,7 +49,7 @@ pub none_by : {X : Type 0} (b : Bool) (x : X) (o : Option X) → b ≡ false →
 none_by true x o t e = absurd cc
 none_by false x o t e = e
 
--- two tests of which one at most holds may change positions
+-- two tests may change positions if at most one of them holds
 swapped : {X : Type 0} (a b : Bool) (x y z : X) → (a ≡ true → b ≡ true → ⊥) → cond a x (cond b y z) ≡ cond b y (cond a x z)
 swapped true true x y z never = absurd (never refl refl)
 swapped true false x y z never = refl
@@ -81,7 +81,7 @@ find_here (e ∷ es) (suc i) k d h lt at =
     let other : same_key k e.0 ≡ false = differ k e.0 (λ s. apart _ _ later (ap (λ (x : List ℕ). find by_bytes x es) s ∙ h.0)) in
     rw other later
 
--- an entry is written over by one of a key that no other entry has
+-- an entry is replaced by one with a key that no other entry has
 none_over : (es : List Entry) (i : ℕ) (x : Entry) (q : List ℕ) → find by_bytes q es ≡ None → same_key q x.0 ≡ false → find by_bytes q (set es i x) ≡ None
 none_over [] i x q none other = refl
 none_over (e ∷ es) zero x q none other = none_by (same_key q x.0) x.1 _ other (none_after (same_key q e.0) e.1 _ none).1
@@ -120,7 +120,7 @@ find_over (e ∷ es) (suc i) k x q d h lt at none =
     ∙ swapped (same_key q e.0) (same_key q x.0) (Some e.1) (Some x.1) _ (λ a b. not_two q x.0 e.0 rest.0 b a)
     ∙ ap (cond (same_key q x.0) (Some x.1)) (swapped (same_key q e.0) (same_key q k) (Some e.1) None (find by_bytes q es) (λ a b. not_two q k e.0 other b a))
 
--- a new value under the same key
+-- a new value with the same key
 find_write : (es : List Entry) (i : ℕ) (k v q : List ℕ) (d : Entry) → Distinct es → i < length es → HasKey k es i
     → find by_bytes q (set es i ((get_or es i d).0, v)) ≡ cond (same_key q k) (Some v) (find by_bytes q es)
 find_write [] i k v q d h lt at = absurd (omega (arith, lt))
@@ -152,7 +152,7 @@ get_here es i k d h lt at = get-from_entries total es k ∙ find_here es i k d h
 pub get_none : (es : List Entry) (k : List ℕ) → Lacks k es → map.get (table_of es) k ≡ None
 get_none es k h = get-from_entries total es k ∙ find_none es k h
 
--- the value of the entry that was read is written over
+-- the value of the entry that was read is replaced
 module _ (es : List Entry) (i : ℕ) (v : List ℕ) (x : Entry) (is : x ≡ get_or es i x) where
   pub written_distinct : Distinct es → Distinct (set es i (x.0, v))
   written_distinct h = subst (λ (e : Entry). Distinct (set es i (e.0, v))) (sym is) (Distinct-write es i v x h)
@@ -162,7 +162,7 @@ module _ (es : List Entry) (i : ℕ) (v : List ℕ) (x : Entry) (is : x ≡ get_
       ap (λ (e : Entry). table_of (set es i (e.0, v))) is
       ∙ same_map total antisymmetric _ _ (λ q. get-from_entries total _ q ∙ find_write es i k v q x h lt at ∙ ap (cond (same_key q k) (Some v)) (sym (get-from_entries total es q)) ∙ sym (get-insert total (table_of es) k v q))
 
--- an entry of a new key comes to the end
+-- an entry with a new key goes to the end
 module _ (es : List Entry) (k v : List ℕ) where
   pub pushed_table : Lacks k es → table_of (es ++ (k, v) ∷ []) ≡ map.insert (table_of es) k v
   pushed_table h = from_entries_push total antisymmetric es k v (find_none es k h)
@@ -176,7 +176,7 @@ Distinct-push (e ∷ es) k v h none =
 pub pushed_distinct : (es : List Entry) (k v : List ℕ) → Distinct es → Lacks k es → Distinct (es ++ (k, v) ∷ [])
 pushed_distinct es k v h lacks = Distinct-push es k v h (find_none es k lacks)
 
--- the last entry is taken off
+-- the last entry is removed
 Distinct-front : (es : List Entry) (x : Entry) → Distinct (es ++ x ∷ []) → Distinct es × (find by_bytes x.0 es ≡ None)
 Distinct-front [] x h = (tt, refl)
 Distinct-front (e ∷ es) x h =
@@ -190,7 +190,7 @@ take_over (suc n) [] i x lt = refl
 take_over (suc n) (y ∷ ys) zero x lt = refl
 take_over (suc n) (y ∷ ys) (suc i) x lt = ap (λ (zs : List _). y ∷ zs) (take_over n ys i x (omega (arith, lt)))
 
--- the front that is left: the last entry goes to the position, or is the one taken out
+-- the rest at the front: the last entry goes to the position, or is the removed one
 module _ (front : List Entry) (x : Entry) (k : List ℕ) (h : Distinct (front ++ x ∷ [])) where
   found_in : (q : List ℕ) → find by_bytes q (front ++ x ∷ []) ≡ cond (same_key q x.0) (Some x.1) (find by_bytes q front)
   found_in q = find-append by_bytes total front x.0 x.1 q (Distinct-front front x h).1

@@ -1,4 +1,4 @@
--- What entries without a key twice weigh, and how many there are, in a list and in the table that they make.
+-- The weight and the number of entries without a key twice, in a list and in the table that they make.
 use Rattle.std.proofs.Common.{◌≡◌, ℕ, suc, ◌+◌, Bool, true, T, cond, List, [], ◌∷◌, length, Option, Some, None, Ordering, Less, Equal, Greater, is_eq, refl, sym, ap, ◌∙◌, arith}
 use Rattle.std.specs.Prelude.{count_by, sum_by}
 use Rattle.std.specs.FinMap as map
@@ -23,7 +23,7 @@ Distinct-sorted (e ∷ es) h = (find_below e.0 es (both_hold _ _ h).0, Distinct-
 pub from_entries-sorted : (es : List Entry) → T (is_sorted by_bytes es) → from_entries {R = by_bytes} es ≡ from_sorted es
 from_entries-sorted es h = same_map total antisymmetric _ _ (λ q. get-from_entries total es q ∙ sym (get-from_sorted by_bytes es q h))
 
--- what entries weigh, with one more entry of a new key
+-- the weight of the entries, with one more entry of a new key
 weighed_first : (a b n m : ℕ) → n ≡ b + m → a + n ≡ b + (a + m)
 weighed_first a b n m is = omega (arith, is)
 

@@ -1,4 +1,4 @@
--- What finds the keys of a list, by position: the hashes of the keys, and a tree of them.
+-- How the keys of a list are found by position: with the hashes of the keys, and with a tree of them.
 use Rattle.std.proofs.Common.{◌≡◌, ◌≢◌, ℕ, zero, suc, ◌+◌, ◌-◌, ◌<◌, List, [], ◌∷◌, length, get_or, set, take, map, Option, Some, None, IfSome, IfNone, HoldsAt, refl, sym, ap, subst, ◌∙◌, arith}
 use Rattle.std.specs.List.{AllWithin, slice_get, swap_remove}
 use Rattle.std.specs.BTreeMap.{get}
@@ -12,7 +12,7 @@ use Rattle.bins.proofs.DistinctEntries.{HasKey, find_here}
 use Rattle.bins.proofs.PairedEntries.{paired-at, paired-length}
 use Rattle.bins.proofs.TreeLemmas.{not_there, same_inside, locates_more}
 
--- what a list of functions of elements loses with the element at a position
+-- if you remove an element and then map the list, you may map it first
 pub map-swap_remove : {X Y : Type 0} (f : X → Y) (xs : List X) (p : ℕ) (d : X) (e : Y) → p < length xs → swap_remove (map f xs) p e ≡ map f (swap_remove xs p d)
 map-swap_remove f xs p d e lt =
     let last : get_or (map f xs) (length xs - 1) e ≡ f (get_or xs (length xs - 1) d) = get_or-map f xs (length xs - 1) d e (omega (arith, lt)) in
@@ -20,11 +20,11 @@ map-swap_remove f xs p d e lt =
     ∙ ap (take (length xs - 1)) (ap (set (map f xs) p) last ∙ sym (map-set f xs p (get_or xs (length xs - 1) d)))
     ∙ take-map f (length xs - 1) (set xs p (get_or xs (length xs - 1) d))
 
--- of a list that is not empty it does not matter what would be read of an empty one
+-- if a list isn't empty, it doesn't matter what would be read of an empty one
 pub swap_remove_default : {X : Type 0} (xs : List X) (p : ℕ) (d e : X) → p < length xs → swap_remove xs p d ≡ swap_remove xs p e
 swap_remove_default xs p d e lt = ap (λ (x : _). take (length xs - 1) (set xs p x)) (get_or_default xs (length xs - 1) d e (omega (arith, lt)))
 
--- an element at a position, told in two ways
+-- an element at a position, said in two ways
 module _ {X : Type 0} where
   pub stands : (xs : List X) (i : ℕ) (d : X) → i < length xs → slice_get xs i ≡ Some (get_or xs i d)
   stands [] i d lt = absurd (omega (arith, lt))
@@ -38,7 +38,7 @@ module _ {X : Type 0} where
 pub nowhere : (keys : List (List ℕ)) (key : List ℕ) → AllWithin (λ k. k ≢ key) keys 0 (length keys) → (i : ℕ) → slice_get keys i ≢ Some key
 nowhere keys key none i at = none i [] (omega arith) (slice_get_within keys i key at) (read keys i [] key at)
 
--- what the tree has at a key
+-- the tree's position of a key
 module _ (m : Positions) (keys : List (List ℕ)) (key : List ℕ) (locates : Locates m keys) where
   pub bound_by : (place : Option ℕ) → place ≡ get by_bytes m key → IfSome place (λ position. position < length keys)
   bound_by None is = tt
@@ -72,7 +72,7 @@ stand_once ks vs same distinct i j key at there =
     let many = paired-length ks vs same in
     once (entries_in ks vs) i j key distinct (omega (arith, many, slice_get_within ks i key at)) (omega (arith, many, slice_get_within ks j key there)) (has i at) (has j there)
 
--- one key more is located
+-- one more key is located
 pub locates_next : (keys : List (List ℕ)) (i : ℕ) (old new : Positions) → StandOnce keys → i < length keys → Locates old (take i keys) → Sets old new (get_or keys i []) (Some i)
     → Locates new (take (i + 1) keys)
 locates_next keys i old new single lt locates sets =

@@ -1,4 +1,4 @@
--- Of two byte strings, the one with the lesser front comes first.
+-- Of two byte strings, the one with the smaller front comes first.
 use Rattle.std.proofs.Common.{◌≡◌, ℕ, zero, suc, ◌+◌, ◌*◌, ◌<◌, ◌≤◌, List, [], ◌∷◌, inl, inr, refl, sym, ap, ◌∙◌, arith}
 use Rattle.std.specs.declared.cmp.Ordering.{Ordering}
 use Rattle.std.specs.declared.cmp.Ordering.TheVariants.{Less, Equal}
@@ -9,7 +9,7 @@ use Rattle.std.proofs.Math.Nat.{mul_assoc, suc-mul, mul-le-mul_right}
 use Rattle.bins.specs.Fronts.{front, AreBytes}
 use Rattle.bins.specs.Table.{by_bytes}
 
--- what the first of so many bytes and one weighs
+-- the weight of the first of n + 1 bytes
 abbrev weight : ℕ → ℕ
 weight zero = 1
 weight (suc n) = weight n * 256

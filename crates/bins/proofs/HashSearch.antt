@@ -1,4 +1,4 @@
--- A search by hash among keys whose hashes stand beside them.
+-- A search by hash among keys, with their hashes in a list beside them.
 use Rattle.std.proofs.Common.{◌≡◌, ◌≢◌, ℕ, ◌<◌, List, length, get_or, slice_index, map, Some, None, sym, ap, subst, ◌∙◌, arith, inl, inr}
 use Rattle.std.specs.List.{AllWithin}
 use Rattle.std.proofs.lemmas.Bool.{cases_lt}
@@ -17,7 +17,7 @@ module _ (hash : List ℕ → ℕ) (hs : List ℕ) (ks : List (List ℕ)) (are :
     abbrev pub LacksFrom : ℕ → Type 0
     LacksFrom n = AllWithin (λ k. k ≢ key) ks n (length ks)
 
-    -- a key of another hash is another key
+    -- a key with another hash is another key
     by_hash : (j : ℕ) (d : List ℕ) → j < length ks → slice_index hs j ≢ h → get_or ks j d ≢ key
     by_hash j d lt other same = other (hash_at j d lt ∙ ap hash same ∙ sym is)
 

@@ -1,4 +1,4 @@
--- Hashes with several bytes more.
+-- Hashes with several more bytes.
 use Rattle.std.proofs.Common.{◌≡◌, ℕ, ◌+◌, ◌*◌, ◌%◌, ◌^◌, arith}
 use Rattle.bins.specs.Hashes.{hash_more}
 

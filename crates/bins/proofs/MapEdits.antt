@@ -1,4 +1,4 @@
--- A table that is kept as sorted entries: what a read or an edit at a key's position is for the table.
+-- A table kept as sorted entries: how a read or an edit at a key's position reads or edits the table.
 use Rattle.std.proofs.Common.{◌≡◌, ℕ, zero, suc, ◌<◌, ◌≤◌, Bool, true, false, T, cond, not, ◌&&◌, is_lt, List, [], ◌∷◌, length, get_or, set, Some, None, Result, Ok, Err, OnErr, Ordering, Less, Equal, Greater, is_eq, refl, sym, ap, subst, ◌∙◌}
 use Rattle.std.specs.List.{insert, remove}
 use Rattle.std.specs.Ordering.{eq_by_cmp}
@@ -18,7 +18,7 @@ total = nat_list_cmp_total
 pub antisymmetric : IsAntisymmetric by_bytes
 antisymmetric = slice_cmp-IsAntisymmetric nat_cmp-IsAntisymmetric
 
--- what holds anyway holds where there is an error
+-- a fact that holds anyway holds if there is an error
 pub on_err_anyway : {A E P : Type 0} (r : Result A E) → P → OnErr r P
 on_err_anyway (Ok _) p = tt
 on_err_anyway (Err _) p = p
@@ -40,11 +40,11 @@ absent_at m k q Less none e = refl
 absent_at m k q Equal none e = sym none ∙ get_tied total m q k e
 absent_at m k q Greater none e = refl
 
--- to remove a key that has no value changes nothing
+-- if you remove a key that has no value, nothing changes
 pub remove_absent : (m : Table) (k : List ℕ) → map.get m k ≡ None → map.remove m k ≡ m
 remove_absent m k none = same_map total antisymmetric (map.remove m k) m (λ q. get-remove total m k q ∙ absent_at m k q (by_bytes q k) none refl)
 
--- to write over a value leaves the keys, so they stay sorted
+-- if you replace a value the keys are the same, so they stay sorted
 below_all-set : (x : List ℕ) (es : List Entry) (i : ℕ) (v : List ℕ) (d : Entry) → below_all by_bytes x (set es i ((get_or es i d).0, v)) ≡ below_all by_bytes x es
 below_all-set x [] i v d = refl
 below_all-set x (e ∷ es) zero v d = refl
@@ -58,7 +58,7 @@ is_sorted-set (e ∷ es) (suc i) v d = ap (λ (b : Bool). b && is_sorted by_byte
 pub sorted_write : (es : List Entry) (i : ℕ) (e : Entry) (v : List ℕ) → T (is_sorted by_bytes es) → e ≡ get_or es i e → T (is_sorted by_bytes (set es i (e.0, v)))
 sorted_write es i e v h is = subst T (sym (ap (λ (x : Entry). is_sorted by_bytes (set es i (x.0, v))) is ∙ is_sorted-set es i v e)) h
 
--- so do they where an entry is taken out
+-- so do they if an entry is removed
 below_all-remove : (x : List ℕ) (es : List Entry) (i : ℕ) → T (below_all by_bytes x es) → T (below_all by_bytes x (remove es i))
 below_all-remove x [] zero h = tt
 below_all-remove x [] (suc i) h = tt
@@ -93,7 +93,7 @@ module _ (es : List Entry) (h : T (is_sorted by_bytes es)) (k : List ℕ) where
       found q = get-from_sorted by_bytes new q (sorted_without new e) ∙ ap (find by_bytes q) (sym e) ∙ find-where_key by_bytes other q (λ x t. ap (λ r. not (is_eq r)) (sym (alike_right total q x k t))) es
 
   module _ (i : ℕ) (lt : i < length es) (at : IsAt es k i) where
-    -- at the key's position: the value is read, written over, and taken out
+    -- at the key's position: the value is read, replaced, and removed
     pub get_at : (d : Entry) → map.get (table_of es) k ≡ Some (get_or es i d).1
     get_at d = get-from_sorted by_bytes es k h ∙ find_found total es i k d h lt at
 
@@ -110,7 +110,7 @@ module _ (es : List Entry) (h : T (is_sorted by_bytes es)) (k : List ℕ) where
     remove_found = removed _ (without_found total es i k h lt at)
 
   module _ (i : ℕ) (le : i ≤ length es) (gap : IsGapFor es k i) where
-    -- at the gap for the key: there is no value, and an entry goes in
+    -- at the gap for the key: there is no value, and an entry is inserted
     pub get_gap : map.get (table_of es) k ≡ None
     get_gap = get-from_sorted by_bytes es k h ∙ find_gap total es i k le gap
 

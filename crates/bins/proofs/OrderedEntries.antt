@@ -11,7 +11,7 @@ use Rattle.bins.specs.Copies.{comes_before, is_before, positions_of}
 use Rattle.bins.specs.Entries.{entries_at, entries_in, entry_of}
 use Rattle.bins.proofs.PairedEntries.{paired-length}
 
--- one number more
+-- one more number
 pub range_more : (a n j : ℕ) → a + n ≡ j → range_with_len a (n + 1) ≡ range_with_len a n ++ j ∷ []
 range_more a zero j is = ap (λ (x : ℕ). x ∷ []) (omega (arith, is))
 range_more a (suc n) j is = let on : suc n + 1 ≡ suc (n + 1) = omega arith in
@@ -38,13 +38,13 @@ module _ (ks vs : List (List ℕ)) (same : length ks ≡ length vs) where
   abbrev nobody : Entry
   nobody = ([], [])
 
-  -- at all positions stand all entries
+  -- all entries stand at all positions
   all_entries : entries_at es (positions_of ks) ≡ es
   all_entries = ext_get_or nobody _ _ (length-map-range_with_len (entry_of es) 0 (length ks) ∙ sym (paired-length ks vs same)) (λ i below.
       let lt : i < length ks = omega (arith, below, length-map-range_with_len (entry_of es) 0 (length ks)) in
       get_or-map-range_with_len (entry_of es) 0 (length ks) i i nobody lt (omega arith))
 
-  -- in another order of the positions they are the same entries
+  -- they are the same entries if the positions are in another order
   pub moved : (order : List ℕ) → IsPermutation (positions_of ks) order → IsPermutation es (entries_at es order)
   moved order p = subst (λ (xs : List Entry). IsPermutation xs (entries_at es order)) all_entries (IsPermutation-map (entry_of es) _ _ p)
 

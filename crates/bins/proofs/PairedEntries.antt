@@ -1,4 +1,4 @@
--- Entries whose keys stand in one list and whose values stand in another, position by position.
+-- Entries whose keys stand in one list and whose values stand at the same positions of another.
 use Rattle.std.proofs.Common.{◌≡◌, ◌≢◌, ℕ, zero, suc, ◌-◌, ◌<◌, List, [], ◌∷◌, ◌++◌, length, get_or, set, take, refl, sym, ap, subst, ◌∙◌, arith, HoldsAt, Some, None}
 use Rattle.std.specs.List.{AllWithin, swap_remove}
 use Rattle.std.specs.FinMap as map
@@ -53,7 +53,7 @@ module _ (ks vs : List (List ℕ)) (same : length ks ≡ length vs) where
   abbrev nobody : Entry
   nobody = ([], [])
 
-  -- both lists lose what stands at a position
+  -- both lists lose their element at a position
   pub paired-swap_remove : (i : ℕ) → i < length ks → entries_in (swap_remove ks i []) (swap_remove vs i []) ≡ swap_remove es i nobody
   paired-swap_remove i lt =
       let last : (get_or ks (length ks - 1) [], get_or vs (length ks - 1) []) ≡ get_or es (length ks - 1) nobody = sym (paired-at ks vs (length ks - 1) nobody same (omega (arith, lt))) in
@@ -62,7 +62,7 @@ module _ (ks vs : List (List ℕ)) (same : length ks ≡ length vs) where
       ∙ ap (take (length ks - 1)) (paired-set ks vs i _ _ ∙ ap (set es i) last)
       ∙ ap (λ (n : ℕ). take (n - 1) (set es i (get_or es (n - 1) nobody))) (sym (paired-length ks vs same))
 
-  -- what is known of a key is known of the entry that has it
+  -- a fact about a key is one about the entry that has it
   pub entry_found : (k : List ℕ) (i : ℕ) → i < length ks → HoldsAt (λ (x : List ℕ). x ≡ k) ks i → HasKey k es i
   entry_found k i lt at d = ap (λ (e : Entry). e.0) (paired-at ks vs i d same lt) ∙ at d.0
 
@@ -84,7 +84,7 @@ module _ (ks vs : List (List ℕ)) (same : length ks ≡ length vs) where
       let found = found_here k j distinct high at in
       cc
 
-  -- a value is written over
+  -- a value is replaced
   module _ (i : ℕ) (lt : i < length ks) (v : List ℕ) (new : List (List ℕ)) (is : new ≡ set vs i v) where
     inside : i < length es
     inside = omega (arith, lt, paired-length ks vs same)
@@ -104,14 +104,14 @@ module _ (ks vs : List (List ℕ)) (same : length ks ≡ length vs) where
     pub over_length : length ks ≡ length new
     over_length = omega (arith, same, ap length is, length-set vs i v)
 
-  -- an entry comes to the end
+  -- an entry is added at the end
   pub joined : (k v : List ℕ) (keys values : List (List ℕ)) → keys ≡ ks ++ k ∷ [] → values ≡ vs ++ v ∷ [] → entries_in keys values ≡ es ++ (k, v) ∷ []
   joined k v keys values is are = (λ i. entries_in (is i) (are i)) ∙ paired-push ks vs k v same
 
   pub joined_length : (k v : List ℕ) (keys values : List (List ℕ)) → keys ≡ ks ++ k ∷ [] → values ≡ vs ++ v ∷ [] → length keys ≡ length values
   joined_length k v keys values is are = omega (arith, same, ap length is, ap length are, length_push ks k, length_push vs v)
 
-  -- an entry is taken out
+  -- an entry is removed
   module _ (i : ℕ) (lt : i < length ks) (keys values : List (List ℕ)) (is : keys ≡ swap_remove ks i []) (are : values ≡ swap_remove vs i []) where
     pub parted : entries_in keys values ≡ swap_remove es i nobody
     parted = (λ j. entries_in (is j) (are j)) ∙ paired-swap_remove i lt

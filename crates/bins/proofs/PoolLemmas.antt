@@ -41,7 +41,7 @@ unfolding total
 total_zero zero f none = refl
 total_zero (suc n) f none = let rest = total_zero n f none in let here = none n in omega (arith, rest, here)
 
--- one of the numbers is another, and that one is among the first
+-- the sum of the first n numbers, if one number differs: one after them, or one among them
 pub total_beyond : (n k : ℕ) (f g : ℕ → ℕ) → n ≤ k → ((i : ℕ) → i ≢ k → g i ≡ f i) → total n g ≡ total n f
 unfolding total
 total_beyond zero k f g beyond same = refl
@@ -74,7 +74,7 @@ total_part (suc n) k f inside = elim (cases_eq n k) [
   | inr other ↦ let rest = total_part n k f (omega (arith, inside, other)) in omega (arith, rest)
 ]
 
--- a location names a row of one width at most
+-- a location names a row of at most one width
 abbrev is_filled : Location → Bool
 is_filled Vacant = false
 is_filled (In width i) = true

@@ -1,4 +1,4 @@
--- Powers of two: what their masks give, and tests that hold of each number below a bound.
+-- Powers of two: the numbers that their masks give, and tests that hold for each number below a bound.
 use Rattle.std.proofs.Common.{◌≡◌, ℕ, zero, suc, ◌-◌, ◌%◌, ◌<◌, Bool, true, false, T, ◌&&◌, refl, sym, subst, arith, inl, inr}
 use Rattle.std.specs.Prelude.{bit_and}
 use Rattle.std.specs.Int.{IsPowerOfTwo}
@@ -10,7 +10,7 @@ use Rattle.bins.proofs.SearchLemmas.{both_hold}
 pub masked : (n h : ℕ) → IsPowerOfTwo n → bit_and h (n - 1) ≡ h % n
 masked n h is = rw is.1 (and_mask h is.0)
 
--- a test that holds of each number below a bound
+-- a test that holds for each number below a bound
 unfoldable pub all_below : (ℕ → Bool) → ℕ → Bool
 all_below test zero = true
 all_below test (suc n) = test n && all_below test n

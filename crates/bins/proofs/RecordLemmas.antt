@@ -1,4 +1,4 @@
--- Lists of records, of which one number is read.
+-- Lists of records; one number of each is read.
 use Rattle.std.proofs.Common.{◌≡◌, ℕ, List, get_or, set, map, sym, ap, ◌∙◌}
 use Rattle.std.proofs.lemmas.List.{map-set, set-get_or}
 

@@ -1,4 +1,4 @@
--- Entries after outcomes: one more outcome, and what they make of the table.
+-- Entries after outcomes: one more outcome, and the table that they make.
 use Rattle.std.proofs.Common.{◌≡◌, ℕ, suc, ◌+◌, ◌<◌, Bool, true, false, T, cond, ◌&&◌, List, [], ◌∷◌, ◌++◌, length, get_or, set, Option, Some, None, Result, Ok, Err, Ordering, is_eq, is_lt, refl, sym, ap, subst, ◌∙◌, arith}
 use Rattle.std.specs.List.{count_by}
 use Rattle.std.proofs.lemmas.List.Sums.{sum_by-cons, sum_by_push}
@@ -28,7 +28,7 @@ length-entries_after es [] = refl
 length-entries_after [] (o ∷ os) = refl
 length-entries_after (e ∷ es) (o ∷ os) = ap suc (length-entries_after es os)
 
--- the entries behind the outcomes are as they were
+-- the entries after the outcomes are unchanged
 pub entry_at : (es : List Entry) (os : List Outcome) (d : Entry) → get_or (entries_after es os) (length os) d ≡ get_or es (length os) d
 entry_at es [] d = refl
 entry_at [] (o ∷ os) d = refl
@@ -67,7 +67,7 @@ module _ (checked : Checked) (arg : Option (List ℕ)) (es here : List Entry) (o
       ∙ ap (λ (n : ℕ). set (entries_after es os) n ((get_or es (length os) d).0, value_after o (get_or es (length os) d).1)) (sym at)
       ∙ sym (entries_after-push es os o d not_yet)
 
--- the value at a position is replaced, where keys and values stand in two lists
+-- the value at a position is replaced, if keys and values stand in two lists
 module _ (checked : Checked) (arg : Option (List ℕ)) (ks first vs : List (List ℕ)) (os : List Outcome) (is : entries_in ks vs ≡ entries_after (entries_in ks first) os) (i : ℕ) (at : length os ≡ i)
     (same : length ks ≡ length vs) (lt : i < length ks) (new : List (List ℕ)) (told : Result Bool InputPart) (one : Replaces checked (string_at ks i) arg (string_at vs i) (string_at new i) told) where
   abbrev nobody : Entry
@@ -88,7 +88,7 @@ module _ (checked : Checked) (arg : Option (List ℕ)) (ks first vs : List (List
       ap (entries_in ks) others ∙ paired-write ks vs i (string_at new i) nobody
       ∙ entries_grow checked arg (entries_in ks first) (entries_in ks vs) os is i at within nobody one.outcome (string_at new i) (one.entered ∙ ap (λ (e : Entry). value_after one.outcome e.1) (sym here))
 
--- what is told of an outcome tells how it counts
+-- the answer that an outcome gives tells how it counts
 pub told_answer : (o : Outcome) (b : Bool) → Ok b ≡ entered_of o → (is_given o ≡ b) × (is_unfit o ≡ false)
 told_answer (Ok (Bytes new)) b told = ((cc), refl)
 told_answer (Ok Nothing) b told = ((cc), refl)
@@ -99,11 +99,11 @@ told_part (Ok (Bytes new)) part told = cc
 told_part (Ok Nothing) part told = cc
 told_part (Err w) part told = (refl, refl)
 
--- one more counts where it passes
+-- one more counts if it passes
 pub count_one_more : (p : Outcome → Bool) (os : List Outcome) (o : Outcome) (b : Bool) → p o ≡ b → count_by p (os ++ o ∷ []) ≡ count_by p os + cond b 1 0
 count_one_more p os o b is = sum_by_push (λ x. cond (p x) 1 0) os o ∙ ap (λ (c : Bool). count_by p os + cond c 1 0) is
 
--- the keys are as before, so they are sorted
+-- the keys are unchanged, so they are sorted
 below-entries_after : (x : List ℕ) (es : List Entry) (os : List Outcome) → below_all by_bytes x (entries_after es os) ≡ below_all by_bytes x es
 below-entries_after x es [] = refl
 below-entries_after x [] (o ∷ os) = refl
@@ -123,7 +123,7 @@ outcome_at (e ∷ es) (o ∷ os) k = cond (eq_by_cmp by_bytes k e.0) o (outcome_
 inside : (x y : List ℕ) → Some x ≡ Some y → x ≡ y
 inside x y e = ap (λ (o : Option (List ℕ)). unwrap_or o x) e
 
--- it is what the program comes to there
+-- it is the program's outcome there
 pub comes_to_at : (checked : Checked) (arg : Option (List ℕ)) (es : List Entry) (os : List Outcome) (k v : List ℕ) → length os ≡ length es → AreOutcomes checked arg es os
     → find by_bytes k es ≡ Some v → ComesTo checked (input_of k (Some v) arg) (outcome_at es os k)
 unfolding outcome_at
@@ -181,7 +181,7 @@ count_by-outcome_at p (e ∷ es) (o ∷ os) h one_each =
     ∙ ap (λ (r : Ordering). one (p (cond (is_eq r) o (outcome_at es os e.0))) + count_by (λ (f : Entry). p (cond (eq_by_cmp by_bytes f.0 e.0) o (outcome_at es os f.0))) es) (sym (tied_itself total e.0))
     ∙ sym (count_cons (λ (f : Entry). p (cond (eq_by_cmp by_bytes f.0 e.0) o (outcome_at es os f.0))) e es)
 
--- the keys are as before
+-- the keys are unchanged
 Distinct-entries_after : (es : List Entry) (os : List Outcome) → length os ≡ length es → Distinct es → Distinct (entries_after es os)
 Distinct-entries_after es [] one_each h = h
 Distinct-entries_after [] (o ∷ os) one_each h = absurd (omega (arith, one_each))
@@ -189,7 +189,7 @@ Distinct-entries_after (e ∷ es) (o ∷ os) one_each h =
     let later : length os ≡ length es = omega (arith, one_each) in
     (find-entries_after es os e.0 later ∙ ap (option_map (value_after (outcome_at es os e.0))) h.0, Distinct-entries_after es os later h.1)
 
--- what was done to entries without a key twice is done to their table
+-- if no key stands twice, the change of the entries is the change of their table
 pub replaces_entries : (checked : Checked) (arg : Option (List ℕ)) (old new : List Entry) (counts : Counts) → Distinct old → ReplacesList checked arg old new counts
     → Distinct new × ReplacesEach checked arg (from_entries old) (from_entries new) counts
 replaces_entries checked arg old new counts h list =
@@ -206,7 +206,7 @@ replaces_entries checked arg old new counts h list =
       },
     )
 
--- what was done to sorted entries is done to their table
+-- if the entries are sorted, their change is the change of their table
 pub replaces_table : (checked : Checked) (arg : Option (List ℕ)) (old new : List Entry) (counts : Counts) → T (is_sorted by_bytes old) → ReplacesList checked arg old new counts
     → T (is_sorted by_bytes new) × ReplacesEach checked arg (from_sorted old) (from_sorted new) counts
 replaces_table checked arg old new counts h list =

@@ -1,4 +1,4 @@
--- The room that is left where the rows of one width change.
+-- The room that is left after the rows of one width change.
 use Rattle.std.proofs.Common.{◌≡◌, ◌≢◌, ℕ, ◌+◌, ◌-◌, ◌<◌, ◌≤◌, Bool, true, false, cond, List, [], length, get_or, set, refl, sym, ap, subst, ◌∙◌, inl, inr, arith, get_or-set_same, get_or-set_other}
 use Rattle.std.specs.Prelude.{vec_capacity}
 use Rattle.std.proofs.lemmas.Bool.{cases_Bool, cases_eq, cases_lt, eqb-true, eq-eqb}
@@ -45,7 +45,7 @@ module _ (widths : List KeptWidth) (k : ℕ) (w : KeptWidth) (inside : k < lengt
   pub width_else : (step : ℕ) → step ≢ k → width_at now step ≡ width_at widths step
   width_else step other = get_or-set_other widths k step w no_width other
 
-  -- what is so of all is so of all
+  -- if a property holds for the new width and held for each width, it holds for each width now
   pub each_width : (P : KeptWidth → Type 0) → P w → (step : ℕ) → P (width_at widths step) → P (width_at now step)
   each_width P new step old = elim (cases_eq step k) [
     | inl is ↦ subst (λ (n : ℕ). P (width_at now n)) (sym is) (subst P (sym width_here) new)
@@ -62,7 +62,7 @@ module _ (widths : List KeptWidth) (k : ℕ) (w : KeptWidth) (inside : k < lengt
 differ : (b : Bool) → b ≡ true → b ≡ false → ⊥
 differ b one two = cc
 
--- the rows of one width are others
+-- the rows of one width are replaced
 pub lists_set : (widths : List KeptWidth) (k : Width) (w : KeptWidth) (rows : List KeptRow) → k.step < length widths → w.rows ≡ rows → lists_of (set widths k.step w) ≡ with_rows (lists_of widths) k rows
 lists_set widths k w rows inside is =
     let each : (j : Width) → lists_of (set widths k.step w) j ≡ with_rows (lists_of widths) k rows j = λ j. elim (cases_Bool (is_same_width k j)) [
@@ -87,7 +87,7 @@ few_widths raw r step at below =
     let all = (r.ready (omega (arith, inside))).all in
     omega (arith, inside, all)
 
--- the room of rows whose locations are others
+-- the room of rows whose locations are replaced
 pub roomy_as : (old new : RawRows) → new.widths ≡ old.widths → new.free ≡ old.free → new.room ≡ old.room → vec_capacity new.locations ≡ vec_capacity old.locations
     → length new.locations.items ≤ old.room → IsRoomy old → IsRoomy new
 roomy_as old new widths free room wide less r =

@@ -1,4 +1,4 @@
--- What the bytes of a row hold.
+-- The content of a row's bytes.
 use Rattle.std.proofs.Common.{◌≡◌, ℕ, ◌+◌, ◌-◌, ◌<◌, ◌≤◌, ◌^◌, List, [], ◌++◌, length, take, drop, refl, sym, ap, ◌∙◌, arith, append_assoc, length-append, length-drop}
 use Rattle.std.proofs.lemmas.List.{append-nil, drop_at, drop_all, drop-append-le, drop-drop, length-take-le, take_at, take-append-drop, take_rest}
 use Rattle.std.proofs.lemmas.Slice.{drop-append-drop}
@@ -20,7 +20,7 @@ pub number_front : (n : ℕ) (xs ys : List ℕ) → n ≤ length xs → number n
 unfolding number
 number_front n xs ys enough = little_from-append n xs ys enough
 
--- what follows a place of a list, and a write to all of it
+-- the elements after a place of a list, and a write to all of them
 module _ (a : ℕ) (xs front back : List ℕ) (is : xs ≡ front ++ back) (long : length front ≡ a) where
   pub rest_read : take (length xs - a) (drop a xs) ≡ back
   rest_read = take_rest xs a ∙ ap (drop a) is ∙ drop_at front back a long
@@ -57,7 +57,7 @@ strings_written old first key value rest new firsts rests is =
     ∙ ap (λ (ys : List ℕ). front ++ ys) (rests ∙ ap (λ (ys : List ℕ). word_of 4 (length value) ++ (value ++ ys)) after)
     ∙ append_assoc (word_of 2 (length key)) key _
 
--- the row that these bytes are
+-- the row that these bytes hold
 pub record Reads (bytes key value : List ℕ) (owner : ℕ) : Type 0 where
   pub row : row_in bytes ≡ kept key value owner
   pub holds : HoldsRow bytes
@@ -139,7 +139,7 @@ module _ (owner : ℕ) (key value rest : List ℕ) (owner_fits : owner < 2 ^ 64)
       let same : new ≡ all = is ∙ rest_written 8 first b8 (drop 8 old) firsts (length-word 8 owner) strings ∙ ap (λ (ys : List ℕ). b8 ++ ys) are in
       rw same all_reads
 
--- a row that holds a row reads so
+-- bytes that hold a row read as that row
 module _ (old : List ℕ) (holds : HoldsRow old) where
   key_is_long : length (key_in old) ≡ key_length old
   key_is_long = length-take-le (key_length old) (drop 10 old) (omega (arith, length-drop 10 old, holds.range))
@@ -150,7 +150,7 @@ module _ (old : List ℕ) (holds : HoldsRow old) where
   pub key_inside : length (key_in old) ≤ KEY_BYTES
   key_inside = omega (arith, key_is_long, holds.key)
 
-  -- the owner is another
+  -- the owner is replaced
   module _ (owner : ℕ) (owner_fits : owner < 2 ^ 64) where
     abbrev moved : List ℕ
     moved = word_of 8 owner ++ drop 8 old
@@ -173,7 +173,7 @@ module _ (old : List ℕ) (holds : HoldsRow old) where
     pub told_reads : (new : List ℕ) → new ≡ moved → Reads new (key_in old) (value_in old) owner
     told_reads new is = rw is moved_reads
 
-  -- the value is another
+  -- the value is replaced
   module _ (start : ℕ) (at : start ≡ value_place old) (value rest : List ℕ) (value_fits : length value ≤ VALUE_BYTES) where
     abbrev front : List ℕ
     front = take start old

@@ -1,5 +1,5 @@
--- Rows in lists of many widths: what a location reads, and what makes lists of strings equal. `k` is the width that is spoken
--- of, and `f` the key or the value of a row.
+-- Rows in lists of many widths: the strings that a location reads, and when lists of strings are equal. `k` is the width in
+-- question, and `f` the key or the value of a row.
 use Rattle.std.proofs.Common.{◌≡◌, ◌≢◌, ℕ, ◌<◌, ◌≤◌, ◌⊎◌, Bool, true, false, cond, List, [], length, map, get_or, set, refl, sym, ap, subst, ◌∙◌, arith, inl, inr, get_or-set_same, get_or-set_other}
 use Rattle.std.proofs.lemmas.Bool.{cases_Bool, cases_eq, cases_lt, eq-eqb, eqb-true}
 use Rattle.std.proofs.lemmas.List.{length-set, length-map, ext_get_or, get_or-map, get_or_past, get_or_read}
@@ -12,7 +12,7 @@ use Rattle.bins.specs.KeptRows.{KeptRow, Lists, AreMatched, is_in, is_same_width
 abbrev pub weight : Width → Location → ℕ
 weight k location = cond (is_in k location) 1 0
 
--- two widths are one, or are not
+-- two widths are the same, or aren't
 pub widths : (j k : Width) → (j ≡ k) ⊎ (j ≢ k)
 widths j k = elim (cases_eq j.step k.step) [
   | inl is ↦ inl (λ i. record { step = is i })
@@ -49,14 +49,14 @@ pub weight_none : (k : Width) (x : Location) → ((i : ℕ) → x ≡ In k i →
 weight_none k Vacant none = refl
 weight_none k (In j i) none = ap (λ (b : Bool). cond b 1 0) (same_width_false k j (λ is. none i (ap (λ (w : Width). In w i) (sym is))))
 
--- the rows of a width that were given for others, and the rows of the other widths
+-- the rows of one width were replaced by others, and the rows of the other widths
 pub rows_with_same : (lists : Lists) (k : Width) (rows : List KeptRow) → rows_of (with_rows lists k rows) k ≡ rows
 rows_with_same lists k rows = ap (λ (b : Bool). cond b rows (lists k)) (same_width_true k k refl)
 
 pub rows_with_other : (lists : Lists) (k j : Width) (rows : List KeptRow) → j ≢ k → rows_of (with_rows lists k rows) j ≡ rows_of lists j
 rows_with_other lists k j rows other = ap (λ (b : Bool). cond b rows (lists j)) (same_width_false k j (λ is. other (sym is)))
 
--- a location reads the same where the rows of that width do that it may name
+-- a location reads the same if the rows of the width that it may name do
 pub reads_with : (k : Width) (f : KeptRow → List ℕ) (lists : Lists) (rows : List KeptRow) (x : Location)
     → ((i : ℕ) → x ≡ In k i → f (row_at rows i) ≡ f (row_at (rows_of lists k) i)) → f (row_of (with_rows lists k rows) x) ≡ f (row_of lists x)
 reads_with k f lists rows Vacant same = refl
@@ -66,7 +66,7 @@ reads_with k f lists rows (In j i) same = elim (widths j k) [
   | inr other ↦ ap (λ (rs : List KeptRow). f (row_at rs i)) (rows_with_other lists k j rows other)
 ]
 
--- what a location reads that names a row of that width
+-- the string that a location reads if it names a row of that width
 pub read_with : (k : Width) (f : KeptRow → List ℕ) (lists : Lists) (rows : List KeptRow) (x : Location) (i : ℕ) → x ≡ In k i
     → f (row_of (with_rows lists k rows) x) ≡ f (row_at rows i)
 read_with k f lists rows x i named = ap (λ (y : Location). f (row_of (with_rows lists k rows) y)) named ∙ ap (λ (rs : List KeptRow). f (row_at rs i)) (rows_with_same lists k rows)
@@ -90,7 +90,7 @@ read_row ls n i read lt value at = get_or_read ls i read lt value nobody ∙ ap 
 pub no_more : (k : Width) (ps : List Location) (ls : List KeptRow) → AreMatched k ps ls → length ls ≤ length ps
 no_more k ps ls m = omega (arith, count_by-le-length (is_in k) ps, m.counted)
 
--- and fewer where a location is vacant
+-- and fewer if a location is vacant
 pub spare : (k : Width) (ps : List Location) (ls : List KeptRow) (p : ℕ) → AreMatched k ps ls → p < length ps → location_at ps p ≡ Vacant → length ls < length ps
 spare k ps ls p m lt vacant =
     omega (
@@ -107,7 +107,7 @@ spare k ps ls p m lt vacant =
 abbrev pub strings : (KeptRow → List ℕ) → List Location → Lists → List (List ℕ)
 strings f ps lists = map (λ (x : Location). f (row_of lists x)) ps
 
--- one string is another, and all others are as before
+-- one string differs, and all others are unchanged
 module _ (f : KeptRow → List ℕ) (ps qs : List Location) (was now : Lists) (p : ℕ) (b : List ℕ) (long : length qs ≡ length ps) (lt : p < length ps)
     (here : f (row_of now (location_at qs p)) ≡ b)
     (others : (q : ℕ) → q ≢ p → f (row_of now (location_at qs q)) ≡ f (row_of was (location_at ps q))) where
@@ -150,7 +150,7 @@ pub string_read : (k : Width) (f : KeptRow → List ℕ) (ps : List Location) (l
     → get_or (strings f ps lists) p [] ≡ f (row_at (rows_of lists k) i)
 string_read k f ps lists p i lt named = get_or-map (λ (x : Location). f (row_of lists x)) ps p Vacant [] lt ∙ ap (λ (x : Location). f (row_of lists x)) named
 
--- that of a vacant position is empty
+-- the string at a vacant position is empty
 pub vacant_read : (f : KeptRow → List ℕ) (ps : List Location) (lists : Lists) (p : ℕ) → p < length ps → location_at ps p ≡ Vacant
     → f nobody ≡ [] → get_or (strings f ps lists) p [] ≡ []
 vacant_read f ps lists p lt vacant empty = get_or-map (λ (x : Location). f (row_of lists x)) ps p Vacant [] lt ∙ ap (λ (x : Location). f (row_of lists x)) vacant ∙ empty

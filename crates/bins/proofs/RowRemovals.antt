@@ -1,4 +1,4 @@
--- Rows in lists of many widths: what is left where a row or a position is given up.
+-- Rows in lists of many widths: what is left after a row or a position is given up.
 use Rattle.std.proofs.Common.{◌≡◌, ◌≢◌, ℕ, ◌-◌, ◌<◌, List, [], ◌∷◌, length, get_or, set, take, map, refl, sym, ap, subst, ◌∙◌, arith, inl, inr, get_or-set_same, get_or-set_other}
 use Rattle.std.specs.List.{swap_remove}
 use Rattle.std.proofs.lemmas.Bool.{cases_eq, cases_lt}
@@ -11,7 +11,7 @@ use Rattle.bins.specs.KeptRows.{KeptRow, Lists, AreMatched, nobody, location_at,
 use Rattle.bins.proofs.GapLemmas.{kept_else, kept_moved, one_less}
 use Rattle.bins.proofs.RowLemmas.{weight, not_vacant, apart, same_in, weight_in, reads_with, read_with, inside, strings, strings_by, others_matched}
 
--- a row is given up: the last row takes its location, and its owner is told
+-- a row is given up: the last row takes its location, and its owner gets the new location
 module _ (k : Width) (ps : List Location) (ls : List KeptRow) (p at : ℕ) (m : AreMatched k ps ls) (named : location_at ps p ≡ In k at) (d : KeptRow) where
   abbrev last : ℕ
   last = length ls - 1
@@ -49,7 +49,7 @@ module _ (k : Width) (ps : List Location) (ls : List KeptRow) (p at : ℕ) (m : 
   location_else : (q : ℕ) → q ≢ p → q ≢ owner → location_at freed q ≡ location_at ps q
   location_else q one two = get_or-set_other told p q Vacant Vacant one ∙ get_or-set_other ps owner q (In k at) Vacant two
 
-  -- the row given up is the last one exactly where the last one's owner is its position
+  -- the row given up is the last one exactly if the last one's owner is its position
   last_is : owner ≡ p → at ≡ last
   last_is same = same_in k _ _ (sym named ∙ ap (location_at ps) (sym same) ∙ lasts)
 
@@ -59,7 +59,7 @@ module _ (k : Width) (ps : List Location) (ls : List KeptRow) (p at : ℕ) (m : 
   before_last : owner ≢ p → at < last
   before_last other = elim (cases_lt at last) [ inl below ↦ below | inr above ↦ absurd (other (owner_is (omega (arith, above, some)))) ]
 
-  -- what another location names is neither the one given up nor the last
+  -- another location names neither the row given up nor the last one
   others_name : (q i : ℕ) → q ≢ p → q ≢ owner → location_at ps q ≡ In k i → (i < last) × (i ≢ at)
   others_name q i one two e =
       let before = m.named q i e in
@@ -118,7 +118,7 @@ module _ (k : Width) (ps : List Location) (ls : List KeptRow) (p at : ℕ) (m : 
         counted = omega (arith, first, second, ap (weight k) lasts, ap (weight k) location_in_told, weight_in k last, weight_in k at, m.counted, one_less ls at d d some, some);
       }
 
-  -- rows of another width are as before
+  -- rows of another width are unchanged
   pub freed_other : (j : Width) → j ≢ k → (os : List KeptRow) → AreMatched j ps os → AreMatched j freed os
   freed_other j other os n =
       let once = others_matched j ps os owner (In k at) n owner_inside (λ i. apart j k (location_at ps owner) last i other lasts) (λ i. apart j k (In k at) at i other refl) in
@@ -155,7 +155,7 @@ module _ (k : Width) (ps : List Location) (ls : List KeptRow) (p at : ℕ) (m : 
     freed_strings = strings_by f ps freed lists (with_rows lists k left) p [] freed_length (inside k ps p at named)
         (ap new_read location_freed ∙ empty) string_else
 
--- a vacant position is taken out: the last position takes the gap, and a row that it names is told so
+-- a vacant position is removed: the last position takes the gap, and the row that it names, if any, gets the new position
 module _ (k : Width) (ps : List Location) (ls : List KeptRow) (p : ℕ) (m : AreMatched k ps ls) (vacant : location_at ps p ≡ Vacant) (lt : p < length ps) (d : Location) (ms : List KeptRow)
     (long : length ms ≡ length ls)
     (moved : (i : ℕ) → location_at ps (length ps - 1) ≡ In k i → (row_at ms i).owner ≡ p)
@@ -207,7 +207,7 @@ module _ (k : Width) (ps : List Location) (ls : List KeptRow) (p : ℕ) (m : Are
     counted = omega (arith, sum_by-swap_remove (weight k) ps p d lt, ap (weight k) (get_or_default ps p d Vacant lt ∙ vacant), m.counted, long);
   }
 
--- the strings of the positions that are left, where each row reads as before
+-- the strings of the positions that are left, if each row reads as before
 module _ (old new : Location → List ℕ) (ps : List Location) (p : ℕ) (lt : p < length ps) (d : Location) (same : (x : Location) → new x ≡ old x) where
   same_each : (xs : List Location) → map new xs ≡ map old xs
   same_each [] = refl
@@ -220,7 +220,7 @@ module _ (old new : Location → List ℕ) (ps : List Location) (p : ℕ) (lt : 
       ∙ ap (take (length ps - 1)) (map-set old ps p (get_or ps (length ps - 1) d) ∙ ap (set (map old ps) p) (sym (get_or-map old ps (length ps - 1) d [] (omega (arith, lt)))))
       ∙ ap (λ (n : ℕ). take (n - 1) (set (map old ps) p (get_or (map old ps) (n - 1) []))) (sym (length-map ps old))
 
--- a row is told its position
+-- a row gets its position
 module _ (k : Width) (ls : List KeptRow) (last : Location) (at p : ℕ) (is : last ≡ In k at) (lt : at < length ls) where
   abbrev told_row : KeptRow
   told_row = record { key = (row_at ls at).key; value = (row_at ls at).value; owner = p }
@@ -244,7 +244,7 @@ module _ (k : Width) (ls : List KeptRow) (last : Location) (at p : ℕ) (is : la
       let other : i ≢ at = λ same. not_this (is ∙ ap (In k) (sym same)) in
       ap (λ (r : KeptRow). r.owner) (get_or-set_other ls at i told_row nobody other)
 
--- to take out a string is to empty it first
+-- if you remove a string, you may empty it first
 pub emptied_first : (xs : List (List ℕ)) (p : ℕ) (b : List ℕ) → p < length xs → swap_remove (set xs p b) p [] ≡ swap_remove xs p []
 emptied_first xs p b lt =
     ap (λ (n : ℕ). take (n - 1) (set (set xs p b) p (get_or (set xs p b) (n - 1) []))) (length-set xs p b)

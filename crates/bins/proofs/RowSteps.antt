@@ -1,4 +1,4 @@
--- What a step on rows leaves, said of all widths at once: rows again, and their keys and values.
+-- What is left after a step on rows, proved for all widths at once: rows again, and their keys and values.
 use Rattle.std.proofs.Common.{◌≡◌, ◌≢◌, ℕ, ◌-◌, ◌<◌, List, [], ◌∷◌, ◌++◌, length, get_or, set, refl, sym, ap, subst, ◌∙◌, arith, inl, inr}
 use Rattle.std.specs.List.{swap_remove}
 use Rattle.std.proofs.lemmas.List.{length-map, length-set, length_push, set-get_or}
@@ -18,7 +18,7 @@ key r = r.key
 abbrev value : KeptRow → List ℕ
 value r = r.value
 
--- rows again, whose strings are those of others but for one position
+-- rows again, with the same strings except at one position
 pub record Changed (ps : List Location) (was : Lists) (p : ℕ) (k v : List ℕ) (qs : List Location) (now : Lists) : Type 0 where
   pub rows : AreRows qs now
   pub keys : keys_of qs now ≡ set (keys_of ps was) p k
@@ -29,7 +29,7 @@ pub changed_as : (ps : List Location) (was : Lists) (p : ℕ) (k v : List ℕ) (
 changed_as ps was p k v qs rs now then locations lists changed =
     subst (λ (xs : List Location). Changed ps was p k v xs then) (sym locations) (subst (λ (ls : Lists). Changed ps was p k v qs ls) (sym lists) changed)
 
--- a vacant position was taken out
+-- a vacant position was removed
 pub record Taken (ps : List Location) (was : Lists) (p : ℕ) (rest : List Location) (now : Lists) : Type 0 where
   pub rows : AreRows rest now
   pub keys : keys_of rest now ≡ swap_remove (keys_of ps was) p []
@@ -44,7 +44,7 @@ module _ (ps : List Location) (lists : Lists) (m : AreRows ps lists) where
     abbrev rows : List KeptRow
     rows = rows_of lists k
 
-    -- the rows of this width are others, and those of the other widths go on
+    -- the rows of this width are others, and those of the other widths stay
     all_with : (qs : List Location) (ms : List KeptRow) → AreMatched k qs ms → ((j : Width) → j ≢ k → (os : List KeptRow) → AreMatched j ps os → AreMatched j qs os)
         → (j : Width) → AreMatched j qs (rows_of (with_rows lists k ms) j)
     all_with qs ms this others j = elim (widths j k) [
@@ -86,7 +86,7 @@ module _ (ps : List Location) (lists : Lists) (m : AreRows ps lists) where
     abbrev end : Location
     end = location_at ps (length ps - 1)
 
-    -- a width of which the last location names no row
+    -- a width whose rows the last location doesn't name
     untold : (k : Width) (ls : List KeptRow) → AreMatched k ps ls → ((i : ℕ) → end ≡ In k i → ⊥) → AreMatched k (swap_remove ps p d) ls
     untold k ls n none = taken_matched k ps ls p n vacant lt d ls refl (λ i e. absurd (none i e)) (λ i other. refl)
 
@@ -131,11 +131,11 @@ keys_length ps lists = length-map ps (λ (x : Location). (row_of lists x).key)
 pub values_length : (ps : List Location) (lists : Lists) → length (values_of ps lists) ≡ length ps
 values_length ps lists = length-map ps (λ (x : Location). (row_of lists x).value)
 
--- a string written where it stands
+-- a string is replaced in place
 pub written_same : (xs : List (List ℕ)) (p : ℕ) (b : List ℕ) → get_or xs p [] ≡ b → set xs p b ≡ xs
 written_same xs p b is = ap (set xs p) (sym is) ∙ set-get_or xs p []
 
--- a vacant location behind the others
+-- a vacant location is added after the others
 pub pushed_rows : (ps : List Location) (lists : Lists) → AreRows ps lists → length ps < MOST_ROWS → AreRows (ps ++ Vacant ∷ []) lists
 pushed_rows ps lists m few = record {
   matched = λ k. pushed_matched k ps (rows_of lists k) (m.matched k);

@@ -1,4 +1,4 @@
--- Rows in lists of many widths: what a new row, a write over a row and a new position leave.
+-- Rows in lists of many widths: what is left after a new row, a change of a row and a new position.
 use Rattle.std.proofs.Common.{◌≡◌, ◌≢◌, ℕ, ◌<◌, List, [], ◌∷◌, ◌++◌, length, set, refl, sym, ap, subst, ◌∙◌, arith, inl, inr, get_or-set_same, get_or-set_other}
 use Rattle.std.proofs.lemmas.Bool.{cases_eq, cases_lt}
 use Rattle.std.proofs.lemmas.List.{length-set, get_or_append_left, get_or_push, length_push, set_at}
@@ -9,7 +9,7 @@ use Rattle.bins.specs.declared.location.Location.TheVariants.{Vacant, In}
 use Rattle.bins.specs.KeptRows.{KeptRow, Lists, AreMatched, nobody, location_at, row_at, row_of, rows_of, with_rows}
 use Rattle.bins.proofs.RowLemmas.{weight, not_vacant, apart, same_in, weight_in, reads_with, read_with, inside, strings, strings_by, others_matched}
 
--- a row behind the others, for a vacant location
+-- a row is added after the others, for a vacant location
 module _ (k : Width) (ps : List Location) (ls : List KeptRow) (p : ℕ) (m : AreMatched k ps ls) (lt : p < length ps) (vacant : location_at ps p ≡ Vacant) (added : KeptRow) (owns : added.owner ≡ p) where
   abbrev ms : List KeptRow
   ms = ls ++ added ∷ []
@@ -58,7 +58,7 @@ module _ (k : Width) (ps : List Location) (ls : List KeptRow) (p : ℕ) (m : Are
     counted = omega (arith, sum_by-set (weight k) ps p here Vacant lt, ap (weight k) vacant, weight_in k (length ls), m.counted, length_push ls added);
   }
 
-  -- rows of another width are as before
+  -- rows of another width are unchanged
   pub linked_other : (j : Width) → j ≢ k → (os : List KeptRow) → AreMatched j ps os → AreMatched j qs os
   linked_other j other os n = others_matched j ps os p here n lt (λ i. not_vacant j (location_at ps p) i vacant) (λ i. apart j k here (length ls) i other refl)
 
@@ -69,7 +69,7 @@ module _ (k : Width) (ps : List Location) (ls : List KeptRow) (p : ℕ) (m : Are
         (λ q other. ap (λ (x : Location). f (row_of (with_rows lists k ms) x)) (get_or-set_other ps p q here Vacant other)
         ∙ reads_with k f lists ms (location_at ps q) (λ i e. ap f (kept_old i (m.named q i e).0) ∙ ap (λ (rs : List KeptRow). f (row_at rs i)) (sym are)))
 
--- a row is written over
+-- a row is replaced
 module _ (k : Width) (ps : List Location) (ls : List KeptRow) (p at : ℕ) (m : AreMatched k ps ls) (named : location_at ps p ≡ In k at) (new : KeptRow) (owns : new.owner ≡ (row_at ls at).owner) where
   abbrev over : List KeptRow
   over = set ls at new
@@ -100,7 +100,7 @@ module _ (k : Width) (ps : List Location) (ls : List KeptRow) (p at : ℕ) (m : 
         (read_with k f lists over (location_at ps p) at named ∙ ap f (get_or-set_same ls at new nobody within))
         (λ q other. reads_with k f lists over (location_at ps q) (λ i e. ap f (get_or-set_other ls at i new nobody (not_this q i other e)) ∙ ap (λ (rs : List KeptRow). f (row_at rs i)) (sym are)))
 
--- a vacant location behind the others
+-- a vacant location is added after the others
 module _ (k : Width) (ps : List Location) (ls : List KeptRow) (m : AreMatched k ps ls) where
   abbrev further : List Location
   further = ps ++ Vacant ∷ []
@@ -123,6 +123,6 @@ module _ (k : Width) (ps : List Location) (ls : List KeptRow) (m : AreMatched k 
     counted = omega (arith, sum_by_push (weight k) ps Vacant, m.counted);
   }
 
--- a string behind the others
+-- a string is added after the others
 pub pushed_string : (xs ys : List (List ℕ)) (p : ℕ) (b : List ℕ) → ys ≡ xs ++ [] ∷ [] → p ≡ length xs → set ys p b ≡ xs ++ b ∷ []
 pushed_string xs ys p b is at = ap (λ (zs : List (List ℕ)). set zs p b) is ∙ set_at xs [] [] b p (sym at)

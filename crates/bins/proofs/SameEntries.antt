@@ -1,4 +1,4 @@
--- Sorted entries that weigh the same, however they are weighed, are the same.
+-- If sorted entries weigh the same, however you weigh them, they are the same.
 use Rattle.std.proofs.Common.{◌≡◌, ℕ, suc, ◌<◌, ◌≤◌, List, [], ◌∷◌, cond, Bool, true, false, get_or, length, sum_by, refl, sym, ap, ◌∙◌, subst, arith, T, ◌&&◌}
 use Rattle.std.specs.declared.cmp.Ordering.{Ordering}
 use Rattle.std.specs.declared.cmp.Ordering.TheVariants.{Less, Equal, Greater}
@@ -51,7 +51,7 @@ twice e f es p once =
     let b = sum_by-cons (at_key e.0) f es in
     omega (arith, one, two, a, b)
 
--- entries in order, of which none stands twice, rise
+-- entries in order, none twice, rise
 pub rises : (es : List Entry) → ((k : ℕ) (d : Entry) → suc k < length es → is_lt (by_bytes (get_or es (suc k) d).0 (get_or es k d).0) ≡ false) → ((key : List ℕ) → sum_by (at_key key) es ≤ 1) → T (is_sorted by_bytes es)
 rises [] near once = tt
 rises (e ∷ []) near once = tt
@@ -92,7 +92,7 @@ at_entry e x = cond (is_eq (by_bytes e.0 x.0)) (one_if (by_bytes e.1 x.1)) 0
 pub at_itself : (e : Entry) → at_entry e e ≡ 1
 at_itself e = ap (λ r. cond (is_eq r) (one_if (by_bytes e.1 e.1)) 0) (tied_itself nat_list_cmp_total e.0) ∙ ap (λ r. one_if r) (tied_itself nat_list_cmp_total e.1)
 
--- behind a greater key the key does not stand
+-- after a greater key the key doesn't stand
 pub none_above : (key x : List ℕ) (es : List Entry) → by_bytes key x ≡ Less → T (below_all by_bytes x es) → sum_by (at_key key) es ≡ 0
 none_above key x [] p h = refl
 none_above key x (e ∷ es) p h =
@@ -127,7 +127,7 @@ not_less e f es fs order same p =
     let weighed = same (at_key e.0) in
     omega (arith, one, none, rest, had, has, weighed)
 
--- where the first keys tie, the first entry is there once, and so is the first of the other list
+-- if the first keys tie, the first entry is there once, and so is the first of the other list
 first_there : (e f : Entry) (es fs : List Entry) → T (is_sorted by_bytes (f ∷ fs)) → WeighSame (e ∷ es) (f ∷ fs) → by_bytes e.0 f.0 ≡ Equal → 1 ≤ one_if (by_bytes e.1 f.1)
 first_there e f es fs order same p =
     let one = at_itself e in

@@ -1,4 +1,4 @@
--- Entries sorted by key: what a search finds among them, and what an edit at that position does to the map.
+-- Entries sorted by key: what a search finds among them, and how an edit at that position changes the map.
 use Rattle.std.proofs.Common.{◌≡◌, ℕ, zero, suc, ◌<◌, ◌≤◌, Bool, true, false, T, ◌&&◌, not, List, [], ◌∷◌, length, get_or, set, Some, None, Result, Ok, Err, IfOk, IfErr, Ordering, Less, Equal, Greater, is_eq, is_lt, refl, sym, ap, ◌∙◌, arith, inl, inr, HoldsAt}
 use Rattle.std.specs.List.{insert, remove}
 use Rattle.std.specs.List.Sorted.{IsNonDecreasingBy, IsPartitionPoint, IsSearchInRange, IsBinarySearchResult}
@@ -8,17 +8,17 @@ use Rattle.std.specs.FinMap.{find, put, is_sorted}
 use Rattle.std.specs.FinMap.Entries.{where_key, below_all}
 use Rattle.std.proofs.lemmas.Bool.{cases_lt}
 
--- of two tests that both hold, each holds
+-- if two tests hold together, each holds
 pub both_hold : (a b : Bool) → T (a && b) → T a × T b
 both_hold true b h = (tt, h)
 both_hold false b h = absurd h
 
--- and the other way round
+-- and the converse
 pub together : (a b : Bool) → T a → T b → T (a && b)
 together true b p q = q
 together false b p q = absurd p
 
--- what a comparison gave, by the test of it
+-- the outcome of a comparison, by the test of it
 pub is_less : (r : Ordering) → T (is_lt r) → r ≡ Less
 is_less Less h = refl
 is_less Equal h = absurd h
@@ -35,7 +35,7 @@ index_small Equal = omega arith
 index_small Greater = omega arith
 
 module _ {K : Type 0} {R : K → K → Ordering} (o : IsTotalOrder R) where
-  -- a comparison turned round
+  -- a comparison with its sides exchanged
   turned_less : (x y : K) → R x y ≡ Less → R y x ≡ Greater
   turned_less x y h = o.antisymm y x ∙ ap ordering_reverse h
 
@@ -63,7 +63,7 @@ module _ {K X : Type 0} {R : K → K → Ordering} (o : IsTotalOrder R) where
   keys_rise (e ∷ es) (suc i) zero d h lt in_range = absurd (omega (arith, lt))
   keys_rise (e ∷ es) (suc i) (suc j) d h lt in_range = keys_rise es i j d (both_hold _ _ h).1 (omega (arith, lt)) (omega (arith, in_range))
 
-  -- so does what they compare as with one key, as a search that halves the list asks
+  -- so do the outcomes of their comparison with one key, as a search that halves the list asks
   comparisons_rise : (es : List (K × X)) (k : K) → T (is_sorted R es) → IsNonDecreasingBy (λ e. ordering_index (R e.0 k)) es
   comparisons_rise es k h i j d le in_range = elim (cases_lt i j) [
     | inl lt ↦ compares_lower o _ _ k _ (keys_rise es i j d h lt in_range) refl
@@ -84,7 +84,7 @@ module _ {K X : Type 0} {R : K → K → Ordering} (o : IsTotalOrder R) where
   before_found : (e : K × X) (es : List (K × X)) (i : ℕ) (k : K) → T (is_sorted R (e ∷ es)) → i < length es → HoldsAt (λ x. R x.0 k ≡ Equal) es i → R k e.0 ≡ Greater
   before_found e es i k h lt found = turned_less o e.0 k (sym (alike_right o _ k e.0 (found e)) ∙ below_at e.0 es i e (both_hold _ _ h).0 lt)
 
-  -- a position that has the key, or has smaller keys before it and greater ones from it on, seen from one entry further
+  -- a position that has the key, or has smaller keys before it and greater ones from it on, counted without the first entry
   after_first : (e : K × X) (es : List (K × X)) (i : ℕ) (k : K) → IsPartitionPoint (λ x. R x.0 k ≡ Less) (λ x. R x.0 k ≡ Greater) (e ∷ es) (suc i) → IsPartitionPoint (λ x. R x.0 k ≡ Less) (λ x. R x.0 k ≡ Greater) es i
   after_first e es i k gap = (λ j d low high. gap.0 (suc j) d (omega arith) (omega (arith, high)), λ j d low high. gap.1 (suc j) d (omega (arith, low)) (omega (arith, high)))
 
@@ -94,7 +94,7 @@ module _ {K X : Type 0} {R : K → K → Ordering} (o : IsTotalOrder R) where
   find_found (e ∷ es) zero k d h lt found = let is = tied_back o e.0 k (found e) in rw is refl
   find_found (e ∷ es) (suc i) k d h lt found = let is = before_found e es i k h (omega (arith, lt)) found in rw is (find_found es i k d (both_hold _ _ h).1 (omega (arith, lt)) found)
 
-  -- to write over its value is to put the value
+  -- if you replace its value, you put the value
   pub put_found : (es : List (K × X)) (i : ℕ) (k : K) (v : X) (d : K × X) → T (is_sorted R es) → i < length es → HoldsAt (λ x. R x.0 k ≡ Equal) es i → put R k v es ≡ set es i ((get_or es i d).0, v)
   put_found [] i k v d h lt found = absurd (omega (arith, lt))
   put_found (e ∷ es) zero k v d h lt found = let is = tied_back o e.0 k (found e) in rw is refl
@@ -107,7 +107,7 @@ module _ {K X : Type 0} {R : K → K → Ordering} (o : IsTotalOrder R) where
       let is : R k e.0 ≡ Less = o.congr k x e.0 same ∙ is_less _ (both_hold _ _ h).0 in
       rw is (ap (λ (xs : List (K × X)). e ∷ xs) (without_none es x k same (both_hold _ _ h).1))
 
-  -- to take it out is to keep the entries of the other keys
+  -- if you remove it, you keep the entries of the other keys
   pub without_found : (es : List (K × X)) (i : ℕ) (k : K) → T (is_sorted R es) → i < length es → HoldsAt (λ x. R x.0 k ≡ Equal) es i → where_key R (λ y. not (eq_by_cmp R k y)) es ≡ remove es i
   without_found [] i k h lt found = absurd (omega (arith, lt))
   without_found (e ∷ es) zero k h lt found = let is = tied_back o e.0 k (found e) in rw is (without_none es e.0 k is (both_hold _ _ h).0)
@@ -123,7 +123,7 @@ module _ {K X : Type 0} {R : K → K → Ordering} (o : IsTotalOrder R) where
       let is = turned_less o e.0 k (gap.0 0 e (omega arith) (omega arith)) in
       rw is (find_gap es i k (omega (arith, le)) (after_first e es i k gap))
 
-  -- to insert an entry in its gap is to put it
+  -- if you insert an entry in its gap, you put it
   pub put_gap : (es : List (K × X)) (i : ℕ) (k : K) (v : X) → i ≤ length es → IsPartitionPoint (λ x. R x.0 k ≡ Less) (λ x. R x.0 k ≡ Greater) es i → put R k v es ≡ insert es i (k, v)
   put_gap [] zero k v le gap = refl
   put_gap [] (suc i) k v le gap = absurd (omega (arith, le))

@@ -1,4 +1,4 @@
--- What a write to a part of a segment leaves.
+-- What is left after a write to a part of a segment.
 use Rattle.std.proofs.Common.{◌≡◌, ℕ, zero, suc, ◌+◌, ◌-◌, ◌<◌, ◌≤◌, List, ◌++◌, length, take, drop, refl, sym, ap, ◌∙◌, inl, inr, arith, length-append, length-drop}
 use Rattle.std.proofs.lemmas.List.{drop-append-le, drop-take, length-take, take-append-le, take-take, take_at}
 use Rattle.std.proofs.lemmas.Slice.{between-put_mid, drop-put_mid, put_mid-paste, take-put_mid_below}
@@ -14,7 +14,7 @@ inside_part xs at many some long = omega (arith, long, length-take many (drop at
 pub part_long : (xs : List ℕ) (at many : ℕ) → at + many ≤ length xs → length (part xs at many) ≡ many
 part_long xs at many enough = omega (arith, length-take many (drop at xs), length-drop at xs, enough)
 
--- bytes after the others
+-- bytes are added after the others
 pub keeps_all : (old zs : List ℕ) → KeepsAll old (old ++ zs)
 keeps_all old zs at zero long = refl
 keeps_all old zs at (suc many) long =
@@ -32,7 +32,7 @@ module _ (start stride k : ℕ) (xs ys : List ℕ) (range : start + stride ≤ l
       sym (drop-take at many (put_mid start k xs ys)) ∙ ap (drop at) (take-put_mid_below start k xs ys (at + many) below (omega (arith, range))) ∙ drop-take at many xs
   others_kept at many long (inr above) = ap (take many) (drop-put_mid start k xs ys at (omega (arith, above, size)) (omega (arith, range)) (omega (arith, wide, size)))
 
--- one write after the other
+-- two writes in turn
 pub both_kept : (start stride : ℕ) (old mid new : List ℕ) → KeepsAll old mid → KeepsOthers start stride mid new → KeepsOthers start stride old new
 both_kept start stride old mid new all others at many long apart = others at many (ap length (all at many long) ∙ long) apart ∙ all at many long
 
@@ -66,7 +66,7 @@ module _ (start stride k n : ℕ) (was items slice ys : List ℕ) (same : was �
       ∙ others_kept start stride k slice ys (omega (arith, range, ap length read, ap length same)) wide size at many (ap (λ (xs : List ℕ). length (part xs at many)) (read ∙ sym same) ∙ whole) apart
       ∙ ap (λ (xs : List ℕ). part xs at many) (read ∙ sym same)
 
--- the row that was written so
+-- the row that was written in this way
 module _ (start stride k n : ℕ) (was items slice ys : List ℕ) (same : was ≡ items) (read : slice ≡ items) (long : n ≡ length items)
     (range : start + stride ≤ length was) (wide : length ys ≡ stride) (size : k ≡ stride) where
   pub row_through : part (take n (put_mid start k slice ys ++ drop (length (put_mid start k slice ys)) items)) start stride ≡ ys
@@ -74,7 +74,7 @@ module _ (start stride k n : ℕ) (was items slice ys : List ℕ) (same : was �
       ap (λ (xs : List ℕ). part xs start stride) (through start stride k n was items slice ys same read long range wide size)
       ∙ part_written start stride k slice ys (omega (arith, range, ap length read, ap length same)) wide size
 
--- a row copied over another in the same segment
+-- a row is copied over another in the same segment
 module _ (from start stride : ℕ) (was items new : List ℕ) (same : was ≡ items) (is : new ≡ copy_within items from (from + stride) start)
     (range : start + stride ≤ length was) (there : from + stride ≤ length was) where
   abbrev zs : List ℕ

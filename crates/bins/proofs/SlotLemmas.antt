@@ -1,4 +1,4 @@
--- Rows in the slots of segments. `e` is how many a segment has, and `w` how many bytes each takes.
+-- Rows in the slots of segments: a segment has `e` slots, and each takes `w` bytes.
 use Rattle.std.proofs.Common.{◌≡◌, ◌≢◌, ℕ, ◌+◌, ◌-◌, ◌*◌, ◌/◌, ◌<◌, ◌≤◌, ◌⊎◌, List, [], ◌∷◌, ◌++◌, length, get_or, set, take, sym, ap, subst, ◌∙◌, inl, inr, arith, get_or-set_same, get_or-set_other}
 use Rattle.std.specs.List.{swap_remove}
 use Rattle.std.proofs.lemmas.Bool.{cases_eq, cases_lt}
@@ -36,7 +36,7 @@ module _ (e w : ℕ) (some : 0 < e) where
         ]
       ]
 
-  -- the segment of a row is another now
+  -- the segment of a row is replaced
   module _ (segments : List (List ℕ)) (at : ℕ) (new : List ℕ) (inside : at / e < length segments) where
     pub slot_here : slot (set segments (at / e) new) e w at ≡ part new (place e w at) w
     slot_here = ap (λ (xs : List ℕ). part xs (place e w at) w) (get_or-set_same segments (at / e) new [] inside)
@@ -53,7 +53,7 @@ module _ (e w : ℕ) (some : 0 < e) where
         | inr not ↦ ap (λ (xs : List ℕ). part xs (place e w i) w) (get_or-set_other segments (at / e) (i / e) new [] not)
       ]
 
-  -- so many rows need so many segments
+  -- this many rows need this many segments
   pub within : (i many l : ℕ) → i < many → many ≤ l * e → i / e < l
   within i many l less enough = elim (cases_lt (i / e) l) [
     | inl below ↦ below
@@ -82,7 +82,7 @@ module _ (was now : List (List ℕ)) (e w many : ℕ) where
   abbrev old : List KeptRow
   old = rows_from was e w many
 
-  -- one row is another
+  -- one row is replaced
   pub rows_set : (at : ℕ) (r : KeptRow) → at < many → row_in (slot now e w at) ≡ r → ((i : ℕ) → i < many → i ≢ at → slot now e w i ≡ slot was e w i) → rows_from now e w many ≡ set old at r
   rows_set at r inside here others = ext_get_or nobody _ _ (omega (arith, rows_long now e w many, length-set old at r, rows_long was e w many)) (λ i below.
       let within_many : i < many = omega (arith, below, rows_long now e w many) in
@@ -119,7 +119,7 @@ module _ (was now : List (List ℕ)) (e w many : ℕ) where
         | inr other ↦ ap row_in (others i less other) ∙ sym (rows_read was e w many i (omega (arith, less, is))) ∙ sym (kept_else old at nobody nobody inside i (omega (arith, less, ends)) other)
       ])
 
-  -- what slots hold
+  -- the content of slots
   pub hold_others : HoldRows was e w many → (at : ℕ) → HoldsSlot (slot now e w at) w → ((i : ℕ) → i < many → i ≢ at → slot now e w i ≡ slot was e w i) → HoldRows now e w many
   hold_others hold at here others i below = elim (cases_eq i at) [
     | inl is ↦ subst (λ (n : ℕ). HoldsSlot (slot now e w n) w) (sym is) here

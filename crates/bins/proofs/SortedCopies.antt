@@ -10,7 +10,7 @@ use Rattle.bins.specs.Table.{Entry, Table, by_bytes}
 use Rattle.bins.specs.Copies.{AreCopies}
 use Rattle.bins.proofs.SameEntries.{at_key, rises, at_most_once, same_entries}
 
--- whether the one key is smaller
+-- whether one key is smaller than the other
 abbrev pub smaller : Entry → Entry → Bool
 smaller x y = is_lt (by_bytes x.0 y.0)
 
@@ -24,7 +24,7 @@ sorted_copies table before after are moved sorted =
     let once : (key : List ℕ) → sum_by (at_key key) after ≤ 1 = λ key. (let most = at_most_once key (map.entries table) (entries_sorted table) in let is = same (at_key key) in omega (arith, most, is)) in
     same_entries after (map.entries table) (rises after (near after sorted) once) (entries_sorted table) same
 
--- where a call was answered, what follows from what it then ensures
+-- if a call was answered, this follows from what it then ensures
 pub on_ok_with : {A E : Type 0} {P Q : Type 0} (result : Result A E) → OnOk result P → (P → Q) → OnOk result Q
 on_ok_with (Ok a) p f = f p
 on_ok_with (Err e) p f = p

@@ -1,4 +1,4 @@
--- What a tree of positions locates: no keys, one key more, and the keys that are left where one is taken out.
+-- The keys that a tree of positions locates: none, one more, and those that are left after one is removed.
 use Rattle.std.proofs.Common.{◌≡◌, ◌≢◌, ℕ, zero, suc, ◌-◌, ◌<◌, Bool, true, false, cond, List, [], ◌∷◌, ◌++◌, length, get_or, set, take, Option, Some, None, Result, Ok, Err, OnErr, refl, sym, ap, subst, ◌∙◌, arith, ◌⊎◌, inl, inr}
 use Rattle.std.specs.List.{slice_get, swap_remove}
 use Rattle.std.specs.Option.{unwrap_or}
@@ -10,11 +10,11 @@ use Rattle.bins.specs.Table.{by_bytes}
 use Rattle.bins.specs.Trees.{Positions, Locates, Sets}
 use Rattle.bins.proofs.DistinctEntries.{same_key, same_itself, alike, differ}
 
--- of two options that are there, the contents
+-- the contents of two options that have a value
 pub same_inside : {X : Type 0} (x y : X) → Some x ≡ Some y → x ≡ y
 same_inside x y e = ap (λ (o : Option _). unwrap_or o x) e
 
--- what is there is not nothing
+-- an option with a value isn't empty
 pub not_there : {X P : Type 0} (x : X) → None ≡ Some x → P
 not_there x e = absurd cc
 
@@ -35,7 +35,7 @@ passed false x y e = refl
 unequal : (x y : List ℕ) → same_key x y ≡ false → x ≢ y
 unequal x y other same = let itself = same_itself y in let e : same_key y y ≡ false = subst (λ (k : List ℕ). same_key k y ≡ false) same other in absurd cc
 
--- elements by position: with one more at the end, of the first ones, and with one written over
+-- elements by position: with one more at the end, among the first ones, and with one replaced
 module _ {X : Type 0} where
   first_stays : (xs ys : List X) (i : ℕ) (x : X) → slice_get xs i ≡ Some x → slice_get (xs ++ ys) i ≡ Some x
   first_stays [] ys i x at = not_there x at
@@ -89,7 +89,7 @@ locates_none m empty = record {
   only = λ k i is. not_there i (sym (ap (lookup (is_at (by_bytes k))) empty) ∙ is);
 }
 
--- a further key comes to the end
+-- one more key goes to the end
 pub locates_more : (old new : Positions) (keys : List (List ℕ)) (key : List ℕ) (position : ℕ) → Locates old keys → Sets old new key (Some position)
     → ((i : ℕ) → slice_get keys i ≢ Some key) → position ≡ length keys → Locates new (keys ++ key ∷ [])
 locates_more old new keys key position locates sets absent end = record { has = has; only = only }
@@ -112,7 +112,7 @@ locates_more old new keys key position locates sets absent end = record { has = 
       | inr before ↦ first_stays keys (key ∷ []) i k (locates.only k i before.1)
     ]
 
--- a key is taken out, and the last one has its position
+-- a key is removed, and the last one gets its position
 module _ (old mid new : Positions) (keys : List (List ℕ)) (key last : List ℕ) (p : ℕ) (locates : Locates old keys) (at : slice_get keys p ≡ Some key) (at_last : slice_get keys (length keys - 1) ≡ Some last)
     (moves : Sets old mid last (Some p)) (takes : Sets mid new key None) where
   abbrev end : ℕ
@@ -162,7 +162,7 @@ module _ (old mid new : Positions) (keys : List (List ℕ)) (key last : List ℕ
         | inr other ↦ has_elsewhere k i lt other there
       ]
 
-  -- the last key, where it is not the one taken out
+  -- the last key, if it isn't the removed one
   only_here : (k : List ℕ) (i : ℕ) → key ≢ k → last ≡ k → p ≡ i → slice_get left i ≡ Some k
   only_here k i apart is same =
       let moved : p ≢ end = λ e. apart (alone end key k (subst (λ (j : ℕ). slice_get keys j ≡ Some key) e at) (at_last ∙ ap Some is)) in

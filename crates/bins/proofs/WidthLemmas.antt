@@ -1,4 +1,4 @@
--- What a write to a row of one width leaves.
+-- What is left after a write to a row of one width.
 use Rattle.std.proofs.Common.{◌≡◌, ◌≢◌, ℕ, zero, suc, ◌+◌, ◌-◌, ◌*◌, ◌/◌, ◌^◌, ◌<◌, ◌≤◌, List, [], ◌∷◌, ◌++◌, length, get_or, set, take, refl, sym, ap, subst, ◌∙◌, inl, inr, arith}
 use Rattle.std.proofs.lemmas.Bool.{cases_eq, cases_lt}
 use Rattle.std.proofs.lemmas.List.{get_or_append_left, get_or_push, get_or_read, length-set, length_push, length-take-le, set_at, set-append_left}
@@ -31,7 +31,7 @@ module _ (segments : List (List ℕ)) (e w i index start : ℕ) (bytes : List �
   pub bytes_hold : HoldsRow (part bytes start w)
   bytes_hold = subst HoldsRow (sym same_slot) holds.holds
 
--- one row is written over
+-- one row is replaced
 pub record Written (segments : List (List ℕ)) (shift most w many at index : ℕ) (new : List ℕ) (r : KeptRow) : Type 0 where
   pub all : AreSegments (set segments index new) shift most w many
   pub rows : rows_from (set segments index new) (2 ^ shift) w many ≡ set (rows_from segments (2 ^ shift) w many) at r
@@ -162,7 +162,7 @@ module _ (old : List (List ℕ)) (each : ℕ) (positive : 0 < each) where
     slots = λ stride i less. refl;
   }
 
-  -- how many there are where a row was taken from the last
+  -- the number of segments if a row was taken from the last
   pub last_segment : (last : ℕ) → last < l * each → l * each ≤ last + each → l ≡ last / each + 1
   last_segment last enough needed = elim (cases_lt (last / each) l) [
     | inl below ↦ elim (cases_lt (last / each + 1) l) [
@@ -193,7 +193,7 @@ module _ (old : List (List ℕ)) (each : ℕ) (positive : 0 < each) where
         slots = λ stride i less. refl;
       }
 
--- what is left where the last row took a place
+-- what is left after the last row took a place
 pub closed_all : (segments copied left : List (List ℕ)) (shift most w many last at : ℕ) → AreSegments segments shift most w many → last < many
     → slot copied (2 ^ shift) w at ≡ slot segments (2 ^ shift) w last → ((i : ℕ) → i < last → i ≢ at → slot copied (2 ^ shift) w i ≡ slot segments (2 ^ shift) w i)
     → IsClosed copied left (2 ^ shift) last → AreSegments left shift most w last

@@ -1,5 +1,5 @@
--- Chains of positions among a list of hashes: each position leads to the last one before it in the same bin.
--- Which bin a hash goes to, and what number of bins is told, is our profile.
+-- Chains of positions among a list of hashes: each position leads to the last one before it in the same bin. Our profile
+-- decides which bin a hash goes to, and how many bins are reported.
 use Rattle.std.specs.Prelude.{◌≡◌, ◌≢◌, ℕ, ◌-◌, ◌*◌, ◌%◌, ◌<◌, ◌≤◌, ◌⊎◌, List, Option, Some, None, length, set, slice_index, cond, nat_lt}
 use Rattle.std.specs.Int.{IsPowerOfTwo}
 use Rattle.bins.specs.declared.told_size.TheConstants.{MOST_BINS}
@@ -9,12 +9,12 @@ use Rattle.bins.specs.declared.mixing.Seed.{Seed}
 use Rattle.bins.specs.declared.chains.Link.{Link}
 use Rattle.bins.specs.declared.chains.Link.TheVariants.{Head, Next}
 
--- the bin of a hash, where there are `half` bins to twice as many: its remainder by twice the half, or by the half where
--- there is no bin of that number yet
+-- the bin of a hash, if there are at least `half` bins and at most twice as many: its remainder by twice the half, or by the
+-- half if there is no bin with that number yet
 unfoldable pub bin_of : ℕ → ℕ → ℕ → ℕ
 bin_of half bins hash = let rest = hash % (2 * half) in cond (nat_lt rest bins) rest (rest - half)
 
--- hashes may be spread over so many bins by this half
+-- hashes may be spread over this many bins by this half
 pub record AreSpread (half bins : ℕ) : Type 0 where
   pub power : IsPowerOfTwo half
   pub some : FIRST_HEADS ≤ half
@@ -22,25 +22,25 @@ pub record AreSpread (half bins : ℕ) : Type 0 where
   pub most : bins ≤ 2 * half
   pub bounded : half ≤ MOST_HALF
 
--- what stands at positions: the hashes by this seed in their order, and the stripes and bins that are told of them
+-- the hashes at positions, by this seed and in their order, and the stripes and bins that are reported of them
 pub record PlacedHashes : Type 0 where
   pub stripes : ℕ
   pub bins : ℕ
   pub seed : Seed
   pub hashes : List ℕ
 
--- the hashes are more than twice the bins, and there may be more bins
+-- there are more than twice as many hashes as bins, and there may be more bins
 abbrev pub IsCrowded : ℕ → List ℕ → Type 0
 IsCrowded bins hashes = (2 * bins < length hashes) × (bins < MOST_BINS)
 
--- among the first n hashes the last that is this one
+-- the last among the first n hashes that is this one
 abbrev pub IsLastOf : List ℕ → ℕ → ℕ → Option ℕ → Type 0
 IsLastOf hashes n hash None = (j : ℕ) → j < n → slice_index hashes j ≢ hash
 IsLastOf hashes n hash (Some position) =
     (position < n) × (slice_index hashes position ≡ hash)
     × ((j : ℕ) → position < j → j < n → slice_index hashes j ≢ hash)
 
--- p counts from 1, and is the last of the first n positions that are in bin b; 0: none is
+-- p counts from 1, and is the last of the first n positions that are in bin b; 0 if there is none
 pub record IsLast (bin : ℕ → ℕ) (n b p : ℕ) : Type 0 where
   pub range : p ≤ n
   pub later : (j : ℕ) → p ≤ j → j < n → bin j ≢ b
@@ -104,22 +104,22 @@ abbrev pub nexts_relinked : Link → ℕ → List ℕ → List ℕ
 nexts_relinked (Head bin) at nexts = nexts
 nexts_relinked (Next position) at nexts = set nexts position at
 
--- one link leads elsewhere, and nothing else has changed
+-- one link leads elsewhere, and nothing else changed
 pub record Relinked (link : Link) (at : ℕ) (old new : Chains) : Type 0 where
   pub half : new.half ≡ old.half
   pub hashes : new.records.hashes ≡ old.records.hashes
   pub heads : new.heads.items ≡ heads_relinked link at old.heads.items
   pub nexts : new.records.nexts ≡ nexts_relinked link at old.records.nexts
 
--- this position went to a bin, and the others are where they were
+-- this position moved to a bin, and the others are where they were
 pub record Moved (bin new : ℕ → ℕ) (position into : ℕ) : Type 0 where
   pub here : new position ≡ into
   pub others : (j : ℕ) → j ≢ position → new j ≡ bin j
 
--- all positions are chained by some bins, by which this one is in bin b
+-- all positions are chained by some bins, and these put this position in bin b
 abbrev pub AreLinkedAt : ℕ → ℕ → Chains → Type 0
 AreLinkedAt position b chains = (bin : ℕ → ℕ) × AreLinkedBy bin chains × (bin position ≡ b)
 
--- after a further hash as many bins are told as before, or twice as many where they had become crowded
+-- after one more hash as many bins are reported as before, or twice as many if they had become crowded
 abbrev pub MayDouble : PlacedHashes → PlacedHashes → Type 0
 MayDouble old new = (new.bins ≡ old.bins) ⊎ (IsCrowded old.bins new.hashes × (new.bins ≡ 2 * old.bins))

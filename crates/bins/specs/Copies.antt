@@ -6,7 +6,7 @@ use Rattle.std.specs.FinMap as map
 use Rattle.bins.specs.KeptRows.{string_at}
 use Rattle.bins.specs.Table.{Entry, Table, by_bytes}
 
--- one list has each entry as often as the other: however entries are weighed, the sums agree
+-- one list has each entry as often as the other: however you weigh entries, the sums agree
 abbrev pub WeighSame : List Entry → List Entry → Type 0
 WeighSame one other = (weight : Entry → ℕ) → sum_by weight one ≡ sum_by weight other
 
@@ -20,7 +20,7 @@ pub record AddsCopies (table : Table) (old new : List Entry) : Type 0 where
   pub are : AreCopies table copies
   pub added : new ≡ old ++ copies
 
--- the one entry comes before the other, by their keys
+-- one entry comes before the other, by their keys
 abbrev pub comes_before : Entry → Entry → Bool
 comes_before one other = is_lt (by_bytes one.0 other.0)
 
@@ -28,6 +28,6 @@ comes_before one other = is_lt (by_bytes one.0 other.0)
 abbrev pub positions_of : List (List ℕ) → List ℕ
 positions_of keys = range_with_len 0 (length keys)
 
--- the key at the one position comes before that at the other
+-- the key at one position comes before the key at the other
 abbrev pub is_before : List (List ℕ) → ℕ → ℕ → Bool
 is_before keys one other = is_lt (by_bytes (string_at keys one) (string_at keys other))

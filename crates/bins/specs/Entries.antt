@@ -1,14 +1,14 @@
--- Entries in a list of no order.
+-- Entries in a list, in any order.
 use Rattle.std.specs.Prelude.{◌≡◌, ℕ, List, [], ◌∷◌, None, ⊤, map, slice_index_or}
 use Rattle.std.specs.List.{zip}
 use Rattle.std.specs.FinMap.{find}
 use Rattle.bins.specs.Table.{Entry, by_bytes}
 
--- the entries whose keys stand in one list, and whose values stand in another at the same positions
+-- the entries whose keys stand in one list and whose values stand at the same positions of another
 abbrev pub entries_in : List (List ℕ) → List (List ℕ) → List Entry
 entries_in keys values = zip keys values
 
--- the entry at a position of a list; behind the last one no bytes
+-- the entry at a position of a list; no bytes after the last one
 abbrev pub entry_of : List Entry → ℕ → Entry
 entry_of entries p = slice_index_or entries p ([], [])
 

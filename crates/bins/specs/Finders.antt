@@ -1,4 +1,4 @@
--- How the positions of keys in a list are found.
+-- The ways to find the positions of keys in a list.
 use Rattle.std.specs.Prelude.{◌≡◌, ℕ, List, map}
 use Rattle.bins.specs.declared.finder.Finder.{Finder}
 use Rattle.bins.specs.declared.finder.Finder.TheVariants.{Hashes, Keys}

@@ -1,7 +1,7 @@
 -- The first bytes of a string as a number.
 use Rattle.std.specs.Prelude.{ℕ, zero, suc, ◌+◌, ◌*◌, ◌<◌, List, slice_index_or}
 
--- the first n bytes, the first one weighing most; zeros stand for those that are lacking
+-- the first n bytes; the first one weighs most, and zeros stand for those that are missing
 abbrev pub front : ℕ → List ℕ → ℕ
 front zero bytes = 0
 front (suc n) bytes = front n bytes * 256 + slice_index_or bytes n 0

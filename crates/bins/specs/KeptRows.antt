@@ -1,4 +1,4 @@
--- The rows of a table's entries: a key and its value side by side, where the location of their position says.
+-- The rows of a table's entries: a key and its value lie side by side, and the location of their position says where.
 use Rattle.std.specs.Prelude.{◌≡◌, ℕ, ◌+◌, ◌<◌, ◌≤◌, ◌%◌, ◌/◌, Bool, false, cond, nat_eq, List, [], length, map, take, drop, count_by, slice_index_or, ⊤}
 use Rattle.bpf_model.specs.declared.limits.TheConstants.{KEY_BYTES, VALUE_BYTES}
 use Rattle.byteorder.specs.Endian.{little_bytes, little_number}
@@ -7,13 +7,13 @@ use Rattle.bins.specs.declared.location.Width.{Width}
 use Rattle.bins.specs.declared.location.Location.{Location}
 use Rattle.bins.specs.declared.location.Location.TheVariants.{Vacant, In}
 
--- a key and its value, and the position whose location names them
+-- a key and its value, and the position whose location names their row
 pub record KeptRow : Type 0 where
   pub key : List ℕ
   pub value : List ℕ
   pub owner : ℕ
 
--- the keys and their values, at the same positions, and how many there may be before memory is asked for
+-- the keys and their values, at the same positions, and the number of entries that fit before memory is asked for
 pub record KeptEntries : Type 0 where
   pub keys : List (List ℕ)
   pub values : List (List ℕ)
@@ -23,18 +23,18 @@ pub record KeptEntries : Type 0 where
 abbrev pub Lists : Type 0
 Lists = Width → List KeptRow
 
--- those of one width
+-- the rows of one width
 abbrev pub rows_of : Lists → Width → List KeptRow
 rows_of lists width = lists width
 
 abbrev pub is_same_width : Width → Width → Bool
 is_same_width width other = nat_eq width.step other.step
 
--- the same, but for the rows of one width
+-- the same lists, except the rows of one width
 abbrev pub with_rows : Lists → Width → List KeptRow → Lists
 with_rows lists width rows = λ other. cond (is_same_width width other) rows (lists other)
 
--- what stands in no list
+-- stands in no list
 abbrev pub nobody : KeptRow
 nobody = record { key = []; value = []; owner = 0 }
 
@@ -68,13 +68,13 @@ abbrev pub is_in : Width → Location → Bool
 is_in width Vacant = false
 is_in width (In other i) = is_same_width width other
 
--- each location names a row that it owns, each row is named by its owner, and there are no more: of one width
+-- of one width: each location names a row that it owns, each row is named by its owner, and there are no more
 pub record AreMatched (width : Width) (locations : List Location) (rows : List KeptRow) : Type 0 where
   pub named : (p i : ℕ) → location_at locations p ≡ In width i → (i < length rows) × ((row_at rows i).owner ≡ p)
   pub owned : (i : ℕ) → i < length rows → location_at locations (row_at rows i).owner ≡ In width i
   pub counted : count_by (is_in width) locations ≡ length rows
 
--- so it is of each width
+-- the same holds for each width
 pub record AreRows (locations : List Location) (lists : Lists) : Type 0 where
   pub matched : (width : Width) → AreMatched width locations (rows_of lists width)
   pub few : length locations ≤ MOST_ROWS
@@ -92,15 +92,15 @@ IsNear (In width i) = (width.step < VACANT_CODE) × (i < MOST_ROWS)
 abbrev pub kept : List ℕ → List ℕ → ℕ → KeptRow
 kept key value owner = record { key = key; value = value; owner = owner }
 
--- the number in the first bytes, so many, the lowest first
+-- the number in this many first bytes, the lowest byte first
 unfoldable pub number : ℕ → List ℕ → ℕ
 number many bytes = little_number many bytes
 
--- a number in so many bytes
+-- a number in this many bytes
 unfoldable pub word_of : ℕ → ℕ → List ℕ
 word_of many value = little_bytes many value
 
--- a row's bytes are its owner in eight, then its key and then its value
+-- a row's bytes: its owner in eight, then its key and then its value
 abbrev pub owner_in : List ℕ → ℕ
 owner_in bytes = number 8 bytes
 
@@ -110,7 +110,7 @@ key_length bytes = number 2 (drop 8 bytes)
 abbrev pub key_in : List ℕ → List ℕ
 key_in bytes = take (key_length bytes) (drop 10 bytes)
 
--- where the value begins
+-- the place at which the value begins
 abbrev pub value_place : List ℕ → ℕ
 value_place bytes = 10 + key_length bytes
 

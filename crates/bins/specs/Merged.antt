@@ -10,7 +10,7 @@ use Rattle.bins.specs.declared.merged_entries.Source.TheVariants.{One, Several}
 abbrev pub entry_at : List (List Entry) → EntryPosition → Entry
 entry_at lists at = entry_of (slice_index_or lists at.list []) at.position
 
--- the entries of one list as they stand, or those at the positions of several, one after the other
+-- the entries of one list as they stand, or the entries at positions of several lists in turn
 abbrev pub merged_from : Source → List Entry
 merged_from (One list) = list
 merged_from (Several lists positions) = map (entry_at lists.items) positions.items

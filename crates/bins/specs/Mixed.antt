@@ -1,10 +1,11 @@
--- The hash by which an index spreads keys: each word of a key in turn joined to the hash so far, which is multiplied then.
+-- The hash by which an index spreads keys: each word of a key in turn is joined to the hash so far, which is then
+-- multiplied.
 use Rattle.std.specs.Prelude.{ℕ, zero, suc, ◌+◌, ◌-◌, ◌*◌, ◌/◌, List, length, min, drop, bit_xor}
 use Rattle.std.specs.Hash.FoldHasher.{folded_multiply}
 use Rattle.bins.specs.Fronts.{front}
 use Rattle.bins.specs.declared.mixing.Seed.{Seed}
 
--- eight bytes from 8 * n on, or the last eight; zeros stand for those that a shorter key lacks
+-- eight bytes from 8 * n on, or the last eight; zeros stand for those that a shorter key doesn't have
 unfoldable pub word_at : List ℕ → ℕ → ℕ
 word_at key n = front 8 (drop (min (8 * n) (length key - 8)) key)
 

@@ -1,4 +1,4 @@
--- The replacement of one value, and of each value of a list in its order.
+-- The replacement of one value, and of each value of a list in order.
 use Rattle.std.specs.Prelude.{◌≡◌, ℕ, ⊤, Bool, true, false, List, [], ◌∷◌, length, Option, Some, Result, Ok, Err}
 use Rattle.std.specs.Prelude.{count_by}
 use Rattle.bpf_model.specs.declared.input.Answer.TheVariants.{Nothing, Bytes}
@@ -9,13 +9,13 @@ use Rattle.bins.specs.declared.counts.Counts.{Counts}
 use Rattle.bins.specs.Replacements.{Outcome, ComesTo, value_after, is_given, is_unfit}
 use Rattle.bins.specs.Table.{Entry}
 
--- what is told of a replacement: whether a value was entered, or the window
+-- the answer of a replacement: whether a value was entered, or which window was too small
 abbrev pub entered_of : Outcome → Result Bool InputPart
 entered_of (Ok (Bytes new)) = Ok true
 entered_of (Ok Nothing) = Ok false
 entered_of (Err part) = Err part
 
--- one key's value was replaced by what the program comes to on it, and this was told
+-- the program's outcome on one key replaced its value, and this was the answer
 pub record Replaces (checked : Checked) (key : List ℕ) (arg : Option (List ℕ)) (value new : List ℕ)
     (told : Result Bool InputPart) : Type 0 where
   pub outcome : Outcome
@@ -23,7 +23,7 @@ pub record Replaces (checked : Checked) (key : List ℕ) (arg : Option (List ℕ
   pub entered : new ≡ value_after outcome value
   pub is_told : told ≡ entered_of outcome
 
--- each outcome is the program's at the entry in its position; there may be fewer outcomes
+-- each outcome is the program's at the entry with its position; there may be fewer outcomes than entries
 abbrev pub AreOutcomes : Checked → Option (List ℕ) → List Entry → List Outcome → Type 0
 AreOutcomes checked arg entries [] = ⊤
 AreOutcomes checked arg [] (outcome ∷ outcomes) = ⊥
@@ -31,7 +31,7 @@ AreOutcomes checked arg (entry ∷ entries) (outcome ∷ outcomes) =
     ComesTo checked (input_of entry.0 (Some entry.1) arg) outcome
     × AreOutcomes checked arg entries outcomes
 
--- entries after these outcomes of the first of them
+-- the entries after these outcomes of the first ones
 abbrev pub entries_after : List Entry → List Outcome → List Entry
 entries_after entries [] = entries
 entries_after [] (outcome ∷ outcomes) = []

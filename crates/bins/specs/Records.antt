@@ -1,4 +1,4 @@
--- What an index keeps of each position, in their order.
+-- The records of positions in an index, in their order.
 use Rattle.std.specs.Prelude.{ℕ, List}
 
 -- the hash of each position, and the next of each in its chain

@@ -13,23 +13,23 @@ use Rattle.verifier.specs.Checked.{Checked}
 use Rattle.bins.specs.declared.counts.Counts.{Counts}
 use Rattle.bins.specs.Table.{Table}
 
--- what a program comes to: its answer, or the first window that is too small
+-- a program's outcome: its answer, or the first window that is too small
 abbrev pub Outcome : Type 0
 Outcome = Result Answer InputPart
 
--- the program comes to this on the input
+-- the program has this outcome on the input
 abbrev pub ComesTo : Checked → Input → Outcome → Type 0
 ComesTo checked input (Ok answer) =
     (first_unfit input checked.sizes ≡ Ok tt) × Means checked.program checked.sizes input answer
 ComesTo checked input (Err part) = first_unfit input checked.sizes ≡ Err part
 
--- the value after a replacement: bytes are entered; nothing and an unfit input keep it
+-- the value after a replacement: bytes are entered; if the answer is nothing or the input doesn't fit, the value stays
 abbrev pub value_after : Outcome → List ℕ → List ℕ
 value_after (Ok (Bytes new)) value = new
 value_after (Ok Nothing) value = value
 value_after (Err part) value = value
 
--- whether a value was entered, equal to the one before or not
+-- whether a value was entered, whether it equals the one before or not
 abbrev pub is_given : Outcome → Bool
 is_given (Ok (Bytes new)) = true
 is_given (Ok Nothing) = false
@@ -39,9 +39,9 @@ abbrev pub is_unfit : Outcome → Bool
 is_unfit (Ok answer) = false
 is_unfit (Err part) = true
 
--- each key's value was replaced once, by what the program comes to on it
+-- each key's value was replaced once, by the program's outcome on it
 pub record ReplacesEach (checked : Checked) (arg : Option (List ℕ)) (old new : Table) (counts : Counts) : Type 0 where
-  -- what the program came to at each key
+  -- the program's outcome at each key
   pub outcome : List ℕ → Outcome
   pub comes_to : (key value : List ℕ) → map.get old key ≡ Some value
       → ComesTo checked (input_of key (Some value) arg) (outcome key)

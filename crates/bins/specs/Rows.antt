@@ -1,4 +1,4 @@
--- The rows of a table in segments, and the room that is there for more.
+-- The rows of a table in segments, and the room for more of them.
 use Rattle.std.specs.Prelude.{◌≡◌, ℕ, zero, suc, ◌+◌, ◌/◌, ◌<◌, ◌≤◌, ◌-◌, List, [], length, min, slice_index_or, vec_capacity}
 use Rattle.bpf_model.specs.declared.limits.TheConstants.{KEY_BYTES, VALUE_BYTES}
 use Rattle.bins.specs.declared.location.TheConstants.{MOST_ROWS}
@@ -8,7 +8,7 @@ use Rattle.bins.specs.declared.raw_rows.TheConstants.{WIDTHS}
 use Rattle.bins.specs.KeptRows.{AreRows, KeptRow, Lists, keys_of, values_of}
 use Rattle.bins.specs.Segments.{AreFew, KeptWidth, no_width}
 
--- the rows of a width, with what is said of them
+-- the rows of a width, with the facts about them
 abbrev pub width_at : List KeptWidth → ℕ → KeptWidth
 width_at widths step = slice_index_or widths step no_width
 
@@ -16,7 +16,7 @@ width_at widths step = slice_index_or widths step no_width
 abbrev pub lists_in : RawRows → Lists
 lists_in raw = λ width. (width_at raw.widths.items width.step).rows
 
--- those of one width
+-- the rows of one width
 abbrev pub rows_in : RawRows → Width → List KeptRow
 rows_in raw width = (width_at raw.widths.items width.step).rows
 
@@ -29,7 +29,7 @@ keys_in raw = keys_of raw.locations.items (lists_in raw)
 abbrev pub values_in : RawRows → List (List ℕ)
 values_in raw = values_of raw.locations.items (lists_in raw)
 
--- the sum of the first so many numbers
+-- the sum of the first n numbers
 unfoldable pub total : ℕ → (ℕ → ℕ) → ℕ
 total zero f = 0
 total (suc n) f = total n f + f n
@@ -38,21 +38,21 @@ total (suc n) f = total n f + f n
 abbrev pub used : List KeptWidth → ℕ
 used widths = total WIDTHS (λ step. (width_at widths step).segments)
 
--- so many segments are enough for so many rows of any widths
+-- this many segments are enough for this many rows of any widths
 abbrev pub segments_for : ℕ → ℕ
 segments_for positions = min positions (positions / 256 + (WIDTHS + 1))
 
--- there are lists for the rows of each width, the last of which takes any key and any value
+-- there are lists for the rows of each width, and the last width takes any key and any value
 pub record AreWidths (widths : List KeptWidth) : Type 0 where
   pub all : length widths ≡ WIDTHS
   pub widest : KEY_BYTES + VALUE_BYTES ≤ (width_at widths (WIDTHS - 1)).most
 
--- there are no rows in them
+-- the lists have no rows
 pub record AreEmpty (widths : List KeptWidth) : Type 0 where
   pub rows : (step : ℕ) → (width_at widths step).rows ≡ []
   pub segments : (step : ℕ) → (width_at widths step).segments ≡ 0
 
--- nothing has changed but that lists may have more room
+-- nothing changed, except that lists may have more room
 pub record AreWider (old new : List KeptWidth) : Type 0 where
   pub many : length new ≡ length old
   pub rows : (step : ℕ) → (width_at new step).rows ≡ (width_at old step).rows
@@ -60,12 +60,12 @@ pub record AreWider (old new : List KeptWidth) : Type 0 where
   pub segments : (step : ℕ) → (width_at new step).segments ≡ (width_at old step).segments
   pub limit : (step : ℕ) → (width_at old step).limit ≤ (width_at new step).limit
 
--- a row of this width has room for so many bytes of a key and of a value
+-- a row of this width has room for this many bytes of a key and of a value
 pub record FitIn (raw : RawRows) (width : Width) (key value : ℕ) : Type 0 where
   pub both : key + value ≤ (width_at raw.widths.items width.step).most
   pub value_fits : value ≤ VALUE_BYTES
 
--- so many rows of any widths have room, without more memory
+-- this many rows of any widths have room, without more memory
 pub record HasRoom (raw : RawRows) (many : ℕ) : Type 0 where
   pub near : many ≤ MOST_ROWS
   pub locations : many ≤ vec_capacity raw.locations
@@ -73,7 +73,7 @@ pub record HasRoom (raw : RawRows) (many : ℕ) : Type 0 where
   pub limits : (step : ℕ) → step < length raw.widths.items → many ≤ (width_at raw.widths.items step).limit
   pub segments : segments_for many ≤ used raw.widths.items + length raw.free.items
 
--- so it is for the positions that there are, and the list of free segments takes them all
+-- this holds for the positions that there are, and the list of free segments has room for all segments
 pub record IsRoomy (raw : RawRows) : Type 0 where
   pub inside : length raw.locations.items ≤ raw.room
   pub room : HasRoom raw raw.room
@@ -81,7 +81,7 @@ pub record IsRoomy (raw : RawRows) : Type 0 where
   pub few : (step : ℕ) → AreFew (width_at raw.widths.items step)
   pub pool : used raw.widths.items + length raw.free.items ≤ vec_capacity raw.free
 
--- both
+-- both hold
 pub record IsKept (raw : RawRows) : Type 0 where
   pub rows : AreIn raw
   pub room : IsRoomy raw

@@ -5,19 +5,19 @@ use Rattle.bins.specs.declared.row.TheConstants.{HEAD_BYTES}
 use Rattle.bins.specs.declared.segment.TheConstants.{SEGMENT_BYTES}
 use Rattle.bins.specs.KeptRows.{HoldsRow, KeptRow, row_in}
 
--- the rows of a width, the most bytes that a key and its value have in one, how many segments they lie in, and how many rows
--- the list of these has room for
+-- the rows of a width, the most bytes that a key and its value may have in one, the number of segments that they lie in, and
+-- the number of rows that the list of segments has room for
 pub record KeptWidth : Type 0 where
   pub rows : List KeptRow
   pub most : ℕ
   pub segments : ℕ
   pub limit : ℕ
 
--- that of no rows
+-- a width without rows
 abbrev pub no_width : KeptWidth
 no_width = record { rows = []; most = 0; segments = 0; limit = 0 }
 
--- the bytes of a row, where a segment has so many rows of so many bytes
+-- the bytes of a row, if a segment has this many rows of this many bytes
 abbrev pub slot : List (List ℕ) → ℕ → ℕ → ℕ → List ℕ
 slot segments each stride i = take stride (drop ((i - i / each * each) * stride) (slice_index_or segments (i / each) []))
 
@@ -30,19 +30,19 @@ pub record HoldsSlot (bytes : List ℕ) (stride : ℕ) : Type 0 where
   pub holds : HoldsRow bytes
   pub wide : length bytes ≡ stride
 
--- and in each of them
+-- a row lies in each slot
 abbrev pub HoldRows : List (List ℕ) → ℕ → ℕ → ℕ → Type 0
 HoldRows segments each stride many = (i : ℕ) → i < many → HoldsSlot (slot segments each stride i) stride
 
--- so many bytes from a place on
+-- this many bytes from a place on
 abbrev pub part : List ℕ → ℕ → ℕ → List ℕ
 part bytes start many = take many (drop start bytes)
 
--- bytes beside a part are as they were
+-- bytes outside a part are unchanged
 abbrev pub KeepsOthers : ℕ → ℕ → List ℕ → List ℕ → Type 0
 KeepsOthers start stride old new = (at many : ℕ) → length (part old at many) ≡ many → (at + many ≤ start) ⊎ (start + stride ≤ at) → part new at many ≡ part old at many
 
--- all bytes that there were are as they were
+-- all bytes that there were are unchanged
 abbrev pub KeepsAll : List ℕ → List ℕ → Type 0
 KeepsAll old new = (at many : ℕ) → length (part old at many) ≡ many → part new at many ≡ part old at many
 
@@ -56,7 +56,7 @@ pub record AreSegments (segments : List (List ℕ)) (shift most stride many : �
   pub needed : length segments * 2 ^ shift < many + 2 ^ shift
   pub rows : HoldRows segments (2 ^ shift) stride many
 
--- a segment holds 256 rows or more, but for the last, which holds one or more
+-- each segment holds 256 rows or more, but the last holds one or more
 pub record AreFew (width : KeptWidth) : Type 0 where
   pub each : width.segments * 256 < length width.rows + 256
 
@@ -66,13 +66,13 @@ pub record IsSameBut (old new : KeptWidth) : Type 0 where
   pub segments : new.segments ≡ old.segments
   pub limit : new.limit ≡ old.limit
 
--- there is a segment for one more row, and the rows are as before
+-- there is a segment for one more row, and the rows are unchanged
 pub record IsOpened (old new : List (List ℕ)) (each many : ℕ) : Type 0 where
   pub room : many < length new * each
   pub needed : length new * each ≤ many + each
   pub slots : (stride i : ℕ) → i < many → slot new each stride i ≡ slot old each stride i
 
--- no segment is there for nothing, and the rows are as before
+-- no segment is unused, and the rows are unchanged
 pub record IsClosed (old new : List (List ℕ)) (each many : ℕ) : Type 0 where
   pub enough : many ≤ length new * each
   pub needed : length new * each < many + each

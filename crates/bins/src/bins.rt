@@ -1,4 +1,4 @@
-//! What keeps a table: a finite map from keys to values, however it is kept.
+//! A table's storage: a finite map from keys to values, however it is kept.
 ghost use Rattle.std.specs.Prelude.{◌≡◌, ◌<◌, ◌≤◌, ◌^◌, None, length, IfOk, IfSome, OnOk, OnErr, option_copied};
 ghost use Rattle.std.specs.FinMap as map;
 ghost use Rattle.bins.specs.Copies.{AddsCopies};
@@ -14,19 +14,20 @@ use bpf_model::{Key, NoMemory, Value};
 use std::alloc::Global;
 use verifier::Verified;
 
-/// A finite map from keys to values. A call on one key takes the key with its hash, so that whoever calls computes it once.
+/// A finite map from keys to values. A call on one key takes the key with its hash, so the caller computes the hash once.
 pub trait Bins {
     ghost use Rattle.bins.specs.Table.{Table};
 
     /// The entries, as one map.
     ghost table: { Self → Table };
 
-    /// No entries, for one of `stripes` stripes of a table. Returns `NoMemory` if a request for memory is refused.
+    /// Makes bins without entries, for one of a table's `stripes` stripes. Returns `NoMemory` if a request for memory is
+    /// refused.
     fn open(alloc: Global, stripes: u64) -> Result<Self, NoMemory>
         ensures ok { IfOk result (λ bins. table bins ≡ map.empty) };
 
-    /// As `open`, for bins that hash keys by this seed if they hash them at all: nobody who does not know it can choose keys
-    /// that are slow to find. Returns `NoMemory` if a request for memory is refused.
+    /// Does the same as `open`, for bins that hash keys by this seed if they hash them at all. If you don't know the seed,
+    /// you can't choose keys that are slow to find. Returns `NoMemory` if a request for memory is refused.
     fn open_seeded(alloc: Global, stripes: u64, seed: Seed) -> Result<Self, NoMemory>
         ensures ok { IfOk result (λ bins. table bins ≡ map.empty) }
     {
@@ -34,20 +35,20 @@ pub trait Bins {
         Self::open(alloc, stripes)
     }
 
-    /// The bytes of a key's value. Takes no memory.
+    /// Returns the bytes of a key's value. Takes no memory.
     fn find(&self, key: &HashedKey<'_>) -> Option<&[u8]>
         ensures value { option_copied result ≡ map.get (table self.now) key.now }
         ensures fits { IfSome result (λ bytes. length bytes.now ≤ VALUE_BYTES) };
 
-    /// Sets the value of a key. Returns `NoMemory` if the key is new and the room for it is refused; the entries are as
-    /// before. Takes no memory if the key is present.
+    /// Sets the value of a key. Returns `NoMemory` if the key is new and memory for it is refused; the entries are then
+    /// unchanged. Takes no memory if the key is present.
     fn put(&mut self, key: &HashedKey<'_>, value: &Value) -> Result<(), NoMemory>
         ensures ok { OnOk result (table self.new ≡ map.insert (table self.old) key.now value.now) }
         ensures err { OnErr result (table self.new ≡ table self.old) }
         ensures memory { OnErr result (map.get (table self.old) key.now ≡ None) };
 
-    /// Adds a key that is absent, with this value: as `put`, without a search. Returns `NoMemory` if the room for it is refused;
-    /// the entries are as before.
+    /// Adds a key that is absent, with this value, as `put` does but without a search. Returns `NoMemory` if memory for it
+    /// is refused; the entries are then unchanged.
     fn add(&mut self, key: &HashedKey<'_>, value: &Value) -> Result<(), NoMemory>
         requires absent { map.get (table self.old) key.now ≡ None }
         ensures ok { OnOk result (table self.new ≡ map.insert (table self.old) key.now value.now) }
@@ -71,15 +72,15 @@ pub trait Bins {
         Some(value)
     }
 
-    /// Adds copies of all entries to the list, in an order of its own. Asks for memory if the list has no room for them;
-    /// returns `NoMemory` if that is refused, and the list is as before.
+    /// Adds copies of all entries to the list, in any order. Asks for memory if the list has no room for them. Returns
+    /// `NoMemory` if that is refused; the list is then unchanged.
     fn copy_into(&self, list: &mut EntryList) -> Result<(), NoMemory>
         ensures ok { OnOk result (AddsCopies (table self.now) list.old list.new) }
         ensures err { OnErr result (list.new ≡ list.old) }
         // As for `count`.
         ensures bounded { length (map.entries (table self.now)) < 2 ^ 57 };
 
-    /// Copies of all entries, in key order. Returns `NoMemory` if a request for memory is refused.
+    /// Returns copies of all entries, in key order. Returns `NoMemory` if a request for memory is refused.
     fn entries(&self, alloc: Global) -> Result<Vec<(Key, Value)>, NoMemory>
         ensures ok { IfOk result (λ found. found.items ≡ map.entries (table self.now)) }
     {
@@ -89,14 +90,14 @@ pub trait Bins {
         Ok(found)
     }
 
-    /// How many entries there are. Takes no memory.
+    /// Returns the number of entries. Takes no memory.
     fn count(&self) -> u64
         ensures value { result ≡ length (map.entries (table self.now)) }
-        // No memory has room for 2 ^ 57 entries; so the counts of many bins add up.
+        // No memory has room for 2 ^ 57 entries, so the counts of many bins can be added up.
         ensures bounded { result < 2 ^ 57 };
 
-    /// Replaces the value of each key once, in an order of its own, by what the program answers on the key, its value
-    /// and the argument. An answer of nothing keeps the entry, and one that does not fit stays. Takes no memory.
+    /// Replaces the value of each key once, in any order, by the program's answer on the key, its value and the argument. An
+    /// entry stays as it is if the answer is nothing, or if the entry doesn't fit. Takes no memory.
     fn replace_each(&mut self, program: &Verified, arg: &Option<Value>) -> Counts
         ensures each { ReplacesEach program.now arg.now (table self.old) (table self.new) result }
         ensures bounded { result.scanned < 2 ^ 57 };

@@ -1,9 +1,9 @@
-//! Chains of positions, a chain for each bin of hashes.
+//! Chains of positions: one chain for each bin of hashes.
 //!
-//! A bin's head is its last position, and a position's next is the one before it in the same bin; both count from 1, and 0
-//! ends a chain. So a chain falls, and the hashes alone determine the heads and the nexts (`AreChained` of
-//! `specs/Chains.antt`). Bins are added one at a time: a further one takes its positions out of the chain of one bin, and
-//! the others stay as they are. So no call stands still while the bins grow.
+//! A bin's head is its last position, and a position's next is the one before it in the same bin. Both count from 1, and 0
+//! ends a chain. So positions fall along a chain, and the hashes alone determine the heads and the nexts (`AreChained` of
+//! `specs/Chains.antt`). Bins are added one at a time: a new bin takes its positions out of the chain of one bin, and the
+//! other chains stay as they are. So no call is held up while the bins grow.
 ghost use Rattle.std.specs.Prelude.{◌≡◌, ◌<◌, ◌≤◌, ◌+◌, ◌-◌, ◌*◌, ◌↔◌, ℕ, ◌++◌, [], ◌∷◌, length, set, slice_index, IfOk, OnOk, OnErr, IsTrue};
 ghost use Rattle.std.specs.List.{swap_remove};
 ghost use Rattle.bins.specs.Chains.{AreChained, AreLinked, AreLinkedAt, AreLinkedBy, AreSpread, IsLast, IsLastOf, IsLink, IsLinkTo, Moved, Relinked, bin_in, bin_of, bins_of, follow, position_bin};
@@ -13,14 +13,15 @@ use crate::records::Records;
 use bpf_model::NoMemory;
 use std::alloc::Global;
 
-/// The first number of bins.
+/// The number of bins at first.
 pub const FIRST_HEADS: usize = 8;
-/// Where the bins are no more than these, their room is kept when the last position goes.
+/// If there are at most this many bins, their memory is kept when the last position goes.
 const KEPT_HEADS: usize = 1_024;
-/// From here on no bins are added: no memory has room for so many.
+/// From this number on no bins are added: no memory has room for that many.
 pub const MOST_HALF: usize = 1 << 60;
 
-/// The hashes in the order of their positions, and the links of their chains. There are `half` bins to twice as many.
+/// The hashes in the order of their positions, and the links of their chains. There are at least `half` bins, and at most
+/// twice as many.
 #[derive(Drop)]
 pub struct Chains {
     half: usize,
@@ -37,7 +38,7 @@ pub enum Link {
     Next(usize),
 }
 
-/// The bin of a hash.
+/// Returns the bin of a hash.
 #[inline(always)]
 fn bin_of(half: usize, bins: usize, hash: u64) -> usize
     requires { AreSpread half bins }
@@ -48,7 +49,8 @@ fn bin_of(half: usize, bins: usize, hash: u64) -> usize
     if rest < bins { rest } else { rest - half }
 }
 
-/// The half by which a further bin may be added to these: as many bins as there are once they are twice the half.
+/// Returns the half with which one more bin may be added: the number of bins if that is twice the half, and otherwise the
+/// half itself.
 fn half_for(half: usize, bins: usize) -> usize
     requires spread { AreSpread half bins }
     requires few { bins < MOST_HALF }
@@ -60,7 +62,7 @@ fn half_for(half: usize, bins: usize) -> usize
 }
 
 impl Chains {
-    /// No positions, in 8 bins. Returns `NoMemory` if a request for memory is refused.
+    /// Makes chains without positions, in 8 bins. Returns `NoMemory` if a request for memory is refused.
     pub fn open(alloc: Global) -> Result<Chains, NoMemory>
         ensures chained { IfOk result AreChained }
         ensures empty { IfOk result (λ chains. chains.records.hashes ≡ []) }
@@ -74,12 +76,12 @@ impl Chains {
         })
     }
 
-    /// Where memory for the chains comes from.
+    /// Returns the allocator that memory for the chains comes from.
     pub fn alloc(&self) -> Global {
         *self.heads.allocator()
     }
 
-    /// The number of positions. Takes no memory.
+    /// Returns the number of positions. Takes no memory.
     #[inline(always)]
     pub fn len(&self) -> usize
         ensures value { result ≡ length self.now.records.hashes }
@@ -87,7 +89,7 @@ impl Chains {
         self.records.len()
     }
 
-    /// How many positions the chain of the last one has. Takes no memory.
+    /// Returns how many positions the chain of the last one has. Takes no memory.
     #[inline(always)]
     pub fn steps_from_last(&self) -> usize
         requires chained { AreChained self.now }
@@ -102,7 +104,7 @@ impl Chains {
         steps
     }
 
-    /// The first position with this hash along a chain.
+    /// Returns the first position with this hash along a chain.
     #[inline(always)]
     fn find_from(&self, first: usize, hash: u64) -> Option<usize>
         requires chained { AreChained self.now }
@@ -122,7 +124,7 @@ impl Chains {
         None
     }
 
-    /// The last position of a hash. Takes no memory.
+    /// Returns the last position of a hash. Takes no memory.
     #[inline(always)]
     pub fn last(&self, hash: u64) -> Option<usize>
         requires chained { AreChained self.now }
@@ -132,7 +134,7 @@ impl Chains {
         self.find_from(self.heads[bin], hash)
     }
 
-    /// The last position before this one that has the same hash. Takes no memory.
+    /// Returns the last position before this one that has the same hash. Takes no memory.
     #[inline(always)]
     pub fn before(&self, position: usize, hash: u64) -> Option<usize>
         requires chained { AreChained self.now }
@@ -143,7 +145,7 @@ impl Chains {
         self.find_from(self.records.next(position), hash)
     }
 
-    /// A further position, for this hash.
+    /// Adds a position for this hash.
     fn add(&mut self, hash: u64) -> Result<(), NoMemory>
         requires chained { AreChained self.old }
         ensures chained { AreChained self.new }
@@ -156,7 +158,7 @@ impl Chains {
         Ok(())
     }
 
-    /// The link of a bin that leads, or would lead, to a position.
+    /// Returns the link of a bin that leads, or would lead, to a position.
     fn link_to(&self, bin: usize, position: usize) -> Link
         requires linked { AreLinked self.now }
         requires bin { bin < length self.now.heads.items }
@@ -174,7 +176,7 @@ impl Chains {
         link
     }
 
-    /// The position that a link leads to, counted from 1.
+    /// Returns the position that a link leads to, counted from 1.
     fn follow(&self, link: Link) -> usize
         requires { IsLink self.now link }
         ensures value { result ≡ follow self.now.heads.items self.now.records.nexts link }
@@ -196,7 +198,7 @@ impl Chains {
         }
     }
 
-    /// Takes a position, counted from 1, out of the chain of one bin, and links it in that of another.
+    /// Takes a position, counted from 1, out of one bin's chain and links it into another's.
     fn move_to(&mut self, at: usize, from: usize, into: usize)
         requires linked { AreLinkedAt (at - 1) from self.old }
         requires some { 0 < at }
@@ -220,7 +222,7 @@ impl Chains {
         self.relink(new_link, at);
     }
 
-    /// Gives a position, counted from 1, another hash: takes it out of the one's chain, and links it in the other's.
+    /// Gives a position, counted from 1, another hash: takes it out of the old hash's chain and links it into the new one's.
     fn rehash(&mut self, at: usize, hash: u64)
         requires chained { AreChained self.old }
         requires some { 0 < at }
@@ -235,7 +237,7 @@ impl Chains {
         self.records.set_hash(at - 1, hash);
     }
 
-    /// Parts the positions of one bin: those that go to the last bin, which has none yet, are taken there.
+    /// Divides the positions of one bin: those that go to the last bin, which has none yet, are moved there.
     fn part(&mut self, into: usize)
         requires spread { AreSpread self.old.half into }
         requires few { into < 2 * self.old.half }
@@ -260,7 +262,7 @@ impl Chains {
         }
     }
 
-    /// One bin more, if there is memory for it: the positions of one other bin are parted among the two.
+    /// Adds one bin if there is memory for it. The positions of one other bin are divided between the two.
     fn add_bin(&mut self) -> Result<(), NoMemory>
         requires chained { AreChained self.old }
         requires few { length self.old.heads.items < MOST_HALF }
@@ -275,15 +277,15 @@ impl Chains {
         Ok(())
     }
 
-    /// Whether there are more positions than bins, and there may be more bins.
+    /// Returns whether there are more positions than bins, and there may be more bins.
     fn is_crowded(&self) -> bool
         ensures few { IsTrue result → length self.now.heads.items < MOST_HALF }
     {
         self.records.len() > self.heads.len() && self.heads.len() < MOST_HALF
     }
 
-    /// Adds bins while there are more positions than bins, as far as memory for them is granted: two at most, so that what was
-    /// refused is made up for.
+    /// Adds bins while there are more positions than bins and memory for them is granted. Adds two at most, so that it makes
+    /// up for refused ones.
     fn spread(&mut self)
         requires chained { AreChained self.old }
         ensures chained { AreChained self.new }
@@ -296,8 +298,8 @@ impl Chains {
         }
     }
 
-    /// Adds a hash, at the position after the others, and bins where there are fewer than positions then and the memory for it
-    /// is granted. Returns `NoMemory` if the room for the hash is refused.
+    /// Adds a hash, at the position after the others. If there are then fewer bins than positions, adds bins too if memory
+    /// for them is granted. Returns `NoMemory` if memory for the hash is refused.
     pub fn push(&mut self, hash: u64) -> Result<(), NoMemory>
         requires chained { AreChained self.old }
         ensures chained { AreChained self.new }
@@ -309,7 +311,7 @@ impl Chains {
         Ok(())
     }
 
-    /// Takes the last position out of its chain, of which it is the head, and gives its hash.
+    /// Takes the last position out of its chain, which it is the head of, and returns its hash.
     fn take_last(&mut self) -> u64
         requires chained { AreChained self.old }
         requires some { 0 < length self.old.records.hashes }
@@ -340,7 +342,7 @@ impl Chains {
         }
     }
 
-    /// Gives the room of all positions and of most bins back, once there is no position.
+    /// Gives back the memory of all positions and of most bins once there is no position.
     #[cold]
     fn give_back(&mut self)
         requires chained { AreChained self.old }

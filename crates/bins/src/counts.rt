@@ -1,12 +1,12 @@
-//! What a pass over entries counts.
+//! The counts of a pass over entries.
 
-/// How many entries a pass came to, and what became of them.
+/// The number of entries that a pass visited, and what became of them.
 #[derive(Clone, Copy, Debug, PartialEq, Eq)]
 pub struct Counts {
     /// All entries.
     pub scanned: u64,
-    /// The values that a replacement entered, equal to the old ones or not; of a walk, the items that it gives.
+    /// The values that a replacement entered, whether they equal the old ones or not. In a walk, the items that it returns.
     pub given: u64,
-    /// The entries that are too long for a declared size; their program did not run.
+    /// The entries that are too long for a declared size; their program didn't run.
     pub unfit: u64,
 }

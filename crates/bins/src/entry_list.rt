@@ -15,8 +15,8 @@ use std::alloc::Global;
 use std::cmp::Ordering;
 use std::marker::Model;
 
-/// A list of entries in rows, each a key and its value. Room for the longest
-/// is reserved, and not touched before it is needed.
+/// A list of entries in rows, each a key and its value. Room for the longest is reserved, and not touched before it is
+/// needed.
 #[derive(Drop)]
 pub struct EntryList {
     rows: Rows,
@@ -35,7 +35,7 @@ impl Model for EntryList {
 }
 
 impl EntryList {
-    /// No entries. Takes no memory.
+    /// Makes a list without entries. Takes no memory.
     pub fn new(alloc: Global) -> EntryList
         ensures { result ≡ [] }
     {
@@ -44,7 +44,7 @@ impl EntryList {
         }
     }
 
-    /// How many entries there are. Takes no memory.
+    /// Returns the number of entries. Takes no memory.
     #[inline(always)]
     pub fn len(&self) -> usize
         ensures value { result ≡ length self.now }
@@ -52,14 +52,14 @@ impl EntryList {
         self.rows.len()
     }
 
-    /// Whether there is no entry. Takes no memory.
+    /// Returns whether there is no entry. Takes no memory.
     pub fn is_empty(&self) -> bool
         ensures exact { IsTrue result ↔ (length self.now ≡ 0) }
     {
         self.len() == 0
     }
 
-    /// The key and the value at a position. Takes no memory.
+    /// Returns the key and the value at a position. Takes no memory.
     #[inline(always)]
     pub fn get(&self, position: usize) -> (&[u8], &[u8])
         requires { position < length self.now }
@@ -70,7 +70,7 @@ impl EntryList {
         self.get_any(position)
     }
 
-    /// The key and the value at a position; no bytes after the last one. Takes no memory.
+    /// Returns the key and the value at a position; no bytes if it is after the last one. Takes no memory.
     #[inline(always)]
     pub(crate) fn get_any(&self, position: usize) -> (&[u8], &[u8])
         ensures entry { ◌≡◌ {A = Entry} (result.0.now, result.1.now) (entry_of self.now position) }
@@ -80,7 +80,7 @@ impl EntryList {
         self.rows.get_any(position)
     }
 
-    /// The key at a position; no bytes after the last one. Takes no memory.
+    /// Returns the key at a position; no bytes if it is after the last one. Takes no memory.
     #[inline(always)]
     pub fn key(&self, position: usize) -> &[u8]
         ensures value { result.now ≡ (entry_of self.now position).0 }
@@ -89,8 +89,8 @@ impl EntryList {
         self.get_any(position).0
     }
 
-    /// The first eight bytes of the key at a position, as a number: if it is less than another key's, the key comes before
-    /// that one. Takes no memory.
+    /// Returns the first eight bytes of the key at a position, as a number. If it is less than another key's, the key comes
+    /// before that one. Takes no memory.
     #[inline(always)]
     pub fn front(&self, position: usize) -> u64
         ensures value { result ≡ front 8 (entry_of self.now position).0 }
@@ -99,7 +99,7 @@ impl EntryList {
         front_of(self.key(position))
     }
 
-    /// Asks for memory for this many more entries. Returns `NoMemory` if that is refused; the entries are as before.
+    /// Asks for memory for this many more entries. Returns `NoMemory` if that is refused; the entries are then unchanged.
     pub fn reserve(&mut self, more: usize) -> Result<(), NoMemory>
         ensures same { self.new ≡ self.old }
     {
@@ -107,8 +107,8 @@ impl EntryList {
         Ok(())
     }
 
-    /// Adds an entry after the others. Asks for memory if there is no room for it; returns `NoMemory` if that is refused, and
-    /// the entries are as before.
+    /// Adds an entry after the others. Asks for memory if there is no room for it. Returns `NoMemory` if that is refused;
+    /// the entries are then unchanged.
     #[inline(always)]
     pub fn push(&mut self, key: &[u8], value: &[u8]) -> Result<(), NoMemory>
         requires key { length key.now ≤ KEY_BYTES }
@@ -146,7 +146,7 @@ impl EntryList {
         Ok(())
     }
 
-    /// All positions, in the order of the keys at them. Asks for memory for them, and once more for as many.
+    /// Returns all positions, in the order of the keys at them. Asks for memory for them, and then for as much again.
     pub(crate) fn order(&self, alloc: Global) -> Result<Vec<usize>, NoMemory>
         ensures moved { IfOk result (λ order. IsPermutation self.now (entries_at self.now order.items)) }
         ensures order { IfOk result (λ order. IsSortedBy comes_before (entries_at self.now order.items)) }
@@ -156,7 +156,7 @@ impl EntryList {
     }
 }
 
-/// Adds copies of these entries to the rows, in the room that is there.
+/// Adds copies of these entries to the rows, which have room for them.
 fn push_entries(rows: &mut Rows, entries: &[(Key, Value)])
     requires room { length rows.old.keys + length entries.now ≤ rows.old.room }
     ensures keys { rows.new.keys ≡ rows.old.keys ++ map (λ entry. entry.0) entries.now }
@@ -167,7 +167,7 @@ fn push_entries(rows: &mut Rows, entries: &[(Key, Value)])
     }
 }
 
-/// How the keys at two positions compare.
+/// Compares the keys at two positions.
 #[inline(always)]
 fn compare_at(rows: &Rows, one: usize, other: usize) -> Ordering
     ensures { result ≡ by_bytes (string_at rows.now.keys one) (string_at rows.now.keys other) }
@@ -175,8 +175,8 @@ fn compare_at(rows: &Rows, one: usize, other: usize) -> Ordering
     rows.get_any(one).0.cmp(rows.get_any(other).0)
 }
 
-/// All positions, sorted by the first bytes of the keys at them. That is nearly the order of the keys, and quick, since
-/// numbers are compared: but for keys that begin alike it leaves nothing to do.
+/// Returns all positions, sorted by the first bytes of the keys at them. That is quick, since numbers are compared, and
+/// nearly the order of the keys: only keys that begin alike are left to sort.
 fn nearly_ordered(alloc: Global, rows: &Rows) -> Result<Vec<usize>, NoMemory>
     ensures moved { IfOk result (λ order. IsPermutation (positions_of rows.now.keys) order.items) }
 {
@@ -193,7 +193,7 @@ fn nearly_ordered(alloc: Global, rows: &Rows) -> Result<Vec<usize>, NoMemory>
     Ok(order)
 }
 
-/// All positions, in the order of the keys at them.
+/// Returns all positions, in the order of the keys at them.
 fn order_of(alloc: Global, rows: &Rows) -> Result<Vec<usize>, NoMemory>
     ensures moved { IfOk result (λ order. IsPermutation (positions_of rows.now.keys) order.items) }
     ensures order { IfOk result (λ order. IsSortedBy (is_before rows.now.keys) order.items) }

@@ -17,16 +17,16 @@ use crate::tree::Tree;
 use bpf_model::{Key, NoMemory};
 use std::alloc::Global;
 
-/// How the keys of rows are found.
+/// The way in which the keys of rows are found.
 #[derive(Drop)]
 pub(crate) enum Finder {
-    /// By chains of hashes: where hashes spread, the quickest.
+    /// By chains of hashes: the quickest, if hashes spread.
     Hashes(Index),
-    /// By a tree of keys, once chains had become long: a call takes O(log n), whatever keys are there.
+    /// By a tree of keys, once chains had become long: a call takes O(log n), whichever keys are there.
     Keys(Tree),
 }
 
-/// The word of eight bytes; none of another number of them.
+/// Returns the word of eight bytes; none if there are more or fewer.
 #[inline(always)]
 fn word_of(bytes: &[u8]) -> Option<u64>
     ensures word { IfSome result (λ word. word ≡ from_le_bytes w64 bytes.now) }
@@ -38,7 +38,7 @@ fn word_of(bytes: &[u8]) -> Option<u64>
     }
 }
 
-/// Whether these are the same bytes. Eight are compared as one word, without a call.
+/// Returns whether these are the same bytes. Eight are compared as one word, without a call.
 #[inline(always)]
 fn are_same(one: &[u8], other: &[u8]) -> bool
     ensures { IsTrue result ↔ (one.now ≡ other.now) }
@@ -49,7 +49,7 @@ fn are_same(one: &[u8], other: &[u8]) -> bool
     }
 }
 
-/// Whether the key at a position is these bytes.
+/// Returns whether the key at a position is these bytes.
 #[inline(always)]
 fn is_at(rows: &Rows, position: usize, bytes: &[u8]) -> bool
     requires { position < length rows.now.keys }
@@ -78,8 +78,8 @@ fn position_with(index: &Index, rows: &Rows, key: &Key, hash: u64) -> Option<usi
 }
 
 impl Finder {
-    /// For no keys, of one of `stripes` stripes of a table, which are hashed by this seed. Returns `NoMemory` if a request for
-    /// memory is refused.
+    /// Makes a finder of no keys, for one of a table's `stripes` stripes; it hashes keys by this seed. Returns `NoMemory` if
+    /// a request for memory is refused.
     pub(crate) fn open(alloc: Global, stripes: u64, seed: Seed) -> Result<Finder, NoMemory>
         ensures ok { IfOk result (λ finder. Finds finder []) }
     {
@@ -87,7 +87,7 @@ impl Finder {
         Ok(Finder::Hashes(index))
     }
 
-    /// The number of bins that is told, whatever finds the keys. Takes no memory.
+    /// Returns the reported number of bins, whichever way the keys are found. Takes no memory.
     pub(crate) fn bins(&self) -> u64
         ensures count { IsBinCount result }
     {
@@ -97,7 +97,7 @@ impl Finder {
         }
     }
 
-    /// The number of stripes of the table. Takes no memory.
+    /// Returns the number of stripes of the table. Takes no memory.
     pub(crate) fn stripes(&self) -> u64
         ensures power { IsPowerOfTwo result }
     {
@@ -169,8 +169,8 @@ impl Finder {
         }
     }
 
-    /// Whether another way to find the keys is due: chains have become long, or there are far fewer or more keys than when the
-    /// tree was made.
+    /// Returns whether it is time for the other way to find the keys: chains have become long, or there are far fewer or
+    /// more keys than when the tree was made.
     #[inline(always)]
     fn is_due(&mut self, rows: &Rows) -> bool
         requires finds { Finds self.old rows.now.keys }
@@ -182,7 +182,7 @@ impl Finder {
         }
     }
 
-    /// The other way to find the keys. Returns `NoMemory` if a request for memory is refused.
+    /// Returns the other way to find the keys. Returns `NoMemory` if a request for memory is refused.
     fn other(&self, rows: &Rows) -> Result<Finder, NoMemory>
         requires finds { Finds self.now rows.now.keys }
         requires once { StandOnce rows.now.keys }
@@ -206,8 +206,9 @@ impl Finder {
         }
     }
 
-    /// Looks at the chain that the last key came into, and takes a tree instead of the index once chains have become long, or an
-    /// index by another seed instead of the tree once there are far fewer or more keys, if memory for it is granted.
+    /// Looks at the chain that the last key was added to. Once chains have become long, takes a tree instead of the index;
+    /// once there are far fewer or more keys, an index by another seed instead of the tree. Does so if memory for it is
+    /// granted.
     #[inline(always)]
     pub(crate) fn settle(&mut self, rows: &Rows)
         requires finds { Finds self.old rows.now.keys }

@@ -1,8 +1,8 @@
-//! The first bytes of a key as a number, by which most keys are compared.
+//! The first bytes of a key as a number; most keys are compared by it.
 ghost use Rattle.std.specs.Prelude.{◌≡◌, ◌<◌, ◌≤◌, length, slice_index_or};
 ghost use Rattle.bins.specs.Fronts.{front, AreBytes};
 
-/// The byte at a position; zero after the last one.
+/// Returns the byte at a position; zero after the last one.
 #[inline(always)]
 fn byte_at(bytes: &[u8], position: usize) -> u64
     ensures value { result ≡ slice_index_or bytes.now position 0 }
@@ -14,7 +14,7 @@ fn byte_at(bytes: &[u8], position: usize) -> u64
     0
 }
 
-/// Eight bytes as a number, the first one weighing most.
+/// Returns eight bytes as a number; the first one weighs most.
 #[inline(always)]
 fn number_of(bytes: &[u8]) -> u64
     ensures value { result ≡ front 8 bytes.now }
@@ -29,7 +29,7 @@ fn number_of(bytes: &[u8]) -> u64
     number * 256 + byte_at(bytes, 7)
 }
 
-/// The same, if all of them are there: they are read as one word.
+/// Does the same if all of them are there: they are read as one word.
 #[inline(always)]
 fn front_word(bytes: &[u8]) -> u64
     requires { 8 ≤ length bytes.now }
@@ -40,8 +40,8 @@ fn front_word(bytes: &[u8]) -> u64
     ])
 }
 
-/// The first eight bytes as a number; zeros stand for those that are lacking. Where one string's number is less than
-/// another's it comes first.
+/// Returns the first eight bytes as a number, with zeros for those that are missing. If one string's number is less than
+/// another's, it comes first.
 #[inline(always)]
 pub(crate) fn front_of(bytes: &[u8]) -> u64
     ensures value { result ≡ front 8 bytes.now }

@@ -3,10 +3,11 @@ ghost use Rattle.std.specs.Prelude.{◌≡◌, ◌<◌, OnOk, vec_len, vec_capac
 
 use bpf_model::NoMemory;
 
-/// Where a list can't double it grows by this part of its length, if that is granted.
+/// A list that can't double grows by this part of its length, if that is granted.
 const PARTS: usize = 16;
 
-/// Makes room where there is none: twice as much, or if that is refused a little more, or if that is refused room for one.
+/// Makes room in a full list. Asks for twice as much; if that is refused, for a little more; and if that is refused, for one
+/// element.
 #[cold]
 fn grow<T: Drop>(list: &mut Vec<T>) -> Result<(), NoMemory>
     ensures ok { OnOk result (vec_len list.new < vec_capacity list.new) }
@@ -22,7 +23,7 @@ fn grow<T: Drop>(list: &mut Vec<T>) -> Result<(), NoMemory>
     Ok(())
 }
 
-/// Room for one more element. Returns `NoMemory` if the request for it is refused, and so are requests for less.
+/// Makes room for one more element. Returns `NoMemory` if the request for it is refused, and the requests for less are too.
 #[inline(always)]
 pub(crate) fn make_room<T: Drop>(list: &mut Vec<T>) -> Result<(), NoMemory>
     ensures ok { OnOk result (vec_len list.new < vec_capacity list.new) }

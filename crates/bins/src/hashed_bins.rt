@@ -15,13 +15,13 @@ use std::alloc::Global;
 use std::marker::Model;
 use verifier::Verified;
 
-/// The keys and their values in rows, in no order, and beside them what finds a key's position. A new key goes to the end
-/// of the rows, and a removal moves the last entry into the gap.
+/// The keys and their values in rows, in no order, and a finder of a key's position. A new key goes to the end of the rows,
+/// and a removal moves the last entry into the gap.
 #[derive(Drop)]
 pub struct HashedBins {
     finder: Finder,
     rows: Rows,
-    // A line of the cache that nothing writes, so that bins side by side share none.
+    // A cache line that nothing writes, so neighbouring bins share none.
     _gap: [u64; 8],
 }
 
@@ -44,15 +44,15 @@ impl Model for HashedBins {
 }
 
 impl HashedBins {
-    /// How many bins are told: a power of two from 8 to 65,536, which doubles where a new key makes the entries more than
-    /// twice as many. Takes no memory.
+    /// Returns the reported number of bins: a power of two from 8 to 65,536. It doubles if a new key makes the entries more
+    /// than twice as many. Takes no memory.
     pub fn bins(&self) -> u64
         ensures count { IsBinCount result }
     {
         self.finder.bins()
     }
 
-    /// For how many stripes it was opened. Takes no memory.
+    /// Returns the number of stripes that it was opened for. Takes no memory.
     pub fn stripes(&self) -> u64
         ensures power { IsPowerOfTwo result }
     {

@@ -6,7 +6,7 @@ use bpf_model::Key;
 use std::cell::Cell;
 use std::marker::Model;
 
-/// A hash with four bytes more: it is multiplied once, by 31 to the fourth.
+/// Adds four bytes to a hash: multiplies it once, by 31 to the fourth.
 #[inline(always)]
 fn with_four(hash: u32, a: u8, b: u8, c: u8, d: u8) -> u32
     ensures { result ≡ fold hash_more hash (a ∷ b ∷ c ∷ d ∷ []) }
@@ -15,7 +15,7 @@ fn with_four(hash: u32, a: u8, b: u8, c: u8, d: u8) -> u32
     hash.wrapping_mul(923_521).wrapping_add(added)
 }
 
-/// The hash of all bytes but three at most, and these.
+/// Returns the hash of all bytes but the last three at most, and these last ones.
 #[inline(always)]
 fn hash_fours(bytes: &[u8]) -> (u32, &[u8])
     ensures { fold hash_more result.0 result.1.now ≡ fold hash_more 1 bytes.now }
@@ -29,7 +29,8 @@ fn hash_fours(bytes: &[u8]) -> (u32, &[u8])
     (hash, rest)
 }
 
-/// The hash of a key: from 1, each byte in turn, the hash times 31 and the byte, modulo 2^32. Takes no memory.
+/// Returns the hash of a key: it starts at 1, and each byte in turn makes it 31 times the hash plus the byte, modulo 2^32.
+/// Takes no memory.
 pub fn hash_of(key: &Key) -> u32
     ensures value { result ≡ hash_is key.now }
 {
@@ -40,13 +41,13 @@ pub fn hash_of(key: &Key) -> u32
     hash
 }
 
-/// A key beside its hash, so that whoever calls computes it once, and the position where it was found last, so that a
-/// change of what was found makes no second search.
+/// A key with its hash, so the caller computes the hash once. It also has the position where the key was found last, so you
+/// can change what you found without a second search.
 #[derive(Drop)]
 pub struct HashedKey<'a> {
     key: &'a Key,
     hash: u32,
-    // A guess: the key may stand elsewhere by now, or in other bins.
+    // A guess: by now the key may stand elsewhere, or in other bins.
     guess: Cell<usize>,
 }
 
@@ -62,7 +63,7 @@ impl<'a> Model for HashedKey<'a> {
 }
 
 impl<'a> HashedKey<'a> {
-    /// The key with its hash, which is computed here. Takes no memory.
+    /// Computes the hash of a key and keeps it with the key. Takes no memory.
     pub fn new(key: &'a Key) -> HashedKey<'a>
         ensures key { result ≡ key.now }
     {
@@ -73,7 +74,7 @@ impl<'a> HashedKey<'a> {
         }
     }
 
-    /// The key.
+    /// Returns the key.
     #[inline(always)]
     pub fn key(&self) -> &'a Key
         ensures value { result.now ≡ self.now }
@@ -81,7 +82,7 @@ impl<'a> HashedKey<'a> {
         self.key
     }
 
-    /// The hash.
+    /// Returns the hash.
     #[inline(always)]
     pub fn hash(&self) -> u32
         ensures value { result ≡ hash_is self.now }
@@ -89,13 +90,13 @@ impl<'a> HashedKey<'a> {
         self.hash
     }
 
-    /// Where the key may stand. Nothing is known of it.
+    /// Returns a guess at the key's position. Nothing is known of it.
     #[inline(always)]
     pub(crate) fn guess(&self) -> usize {
         self.guess.get()
     }
 
-    /// Remembers where the key stands.
+    /// Remembers the position of the key.
     #[inline(always)]
     pub(crate) fn remember(&self, position: usize) {
         self.guess.set(position);

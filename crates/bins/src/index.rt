@@ -13,18 +13,18 @@ use bpf_model::NoMemory;
 use std::alloc::Global;
 use std::marker::Model;
 
-/// So many positions of a chain are few.
+/// If a chain has at most this many positions, they are few.
 const FEW_STEPS: usize = 16;
 
-/// A list of hashes, each found again by the chain of its bin. A position in the list is that of an entry, which stands
-/// elsewhere. 16 bytes a hash, and 8 bytes a bin, of which there are as many as hashes.
+/// A list of hashes; the chain of its bin finds each again. A hash has the position of its entry, which is kept elsewhere.
+/// Takes 16 bytes a hash and 8 bytes a bin; there are as many bins as hashes.
 #[derive(Drop)]
 pub struct Index {
     chains: Chains,
     told: ToldSize,
-    // By which keys are hashed.
+    // The seed by which keys are hashed.
     seed: Seed,
-    // The steps beyond a few that walks along chains took.
+    // The steps that walks along chains took, beyond a few each.
     excess: u64,
 }
 
@@ -44,7 +44,8 @@ impl Model for Index {
 }
 
 impl Index {
-    /// No hashes, by this seed, of which this size is told. Returns `NoMemory` if a request for memory is refused.
+    /// Makes an index without hashes, by this seed, which reports this size. Returns `NoMemory` if a request for memory is
+    /// refused.
     pub fn open(alloc: Global, told: ToldSize, seed: Seed) -> Result<Index, NoMemory>
         ensures hashes { IfOk result (λ index. index.hashes ≡ []) }
         ensures bins { IfOk result (λ index. index.bins ≡ told.bins) }
@@ -59,7 +60,7 @@ impl Index {
         })
     }
 
-    /// The size that is told. Takes no memory.
+    /// Returns the reported size. Takes no memory.
     pub fn told(&self) -> ToldSize
         ensures bins { result.bins ≡ self.now.bins }
         ensures stripes { result.stripes ≡ self.now.stripes }
@@ -67,7 +68,7 @@ impl Index {
         self.told.copied()
     }
 
-    /// For how many stripes it was opened. Takes no memory.
+    /// Returns the number of stripes that it was opened for. Takes no memory.
     pub fn stripes(&self) -> u64
         ensures value { result ≡ self.now.stripes }
         ensures power { IsPowerOfTwo result }
@@ -75,19 +76,19 @@ impl Index {
         self.told.stripes()
     }
 
-    /// Where memory for the index comes from.
+    /// Returns the allocator that memory for the index comes from.
     pub fn alloc(&self) -> Global {
         self.chains.alloc()
     }
 
-    /// The seed by which keys are hashed.
+    /// Returns the seed by which keys are hashed.
     pub fn seed(&self) -> Seed
         ensures { result ≡ self.now.seed }
     {
         self.seed
     }
 
-    /// The number of bins that is told. Takes no memory.
+    /// Returns the reported number of bins. Takes no memory.
     pub fn bins(&self) -> u64
         ensures value { result ≡ self.now.bins }
         ensures count { IsBinCount result }
@@ -95,7 +96,7 @@ impl Index {
         self.told.bins()
     }
 
-    /// The hash of a key's bytes. Takes no memory.
+    /// Returns the hash of a key's bytes. Takes no memory.
     #[inline(always)]
     pub fn hash_of(&self, key: &[u8]) -> u64
         ensures value { result ≡ mixed self.now.seed key.now }
@@ -103,7 +104,7 @@ impl Index {
         mixed_hash(&self.seed, key)
     }
 
-    /// The last position of a hash. Takes no memory.
+    /// Returns the last position of a hash. Takes no memory.
     #[inline(always)]
     pub fn last(&self, hash: u64) -> Option<usize>
         ensures value { IsLastOf self.now.hashes (length self.now.hashes) hash result }
@@ -111,7 +112,7 @@ impl Index {
         self.chains.last(hash)
     }
 
-    /// The last position before this one that has the same hash. Takes no memory.
+    /// Returns the last position before this one that has the same hash. Takes no memory.
     #[inline(always)]
     pub fn before(&self, position: usize, hash: u64) -> Option<usize>
         requires range { position < length self.now.hashes }
@@ -121,8 +122,8 @@ impl Index {
         self.chains.before(position, hash)
     }
 
-    /// Adds a hash, at the position after the others; twice the bins are told if the hashes are more than twice as many then.
-    /// Returns `NoMemory` if the room for the hash is refused: all is as before.
+    /// Adds a hash, at the position after the others. If the hashes are then more than twice as many as the reported bins,
+    /// it reports twice the bins. Returns `NoMemory` if memory for the hash is refused; nothing changes then.
     pub fn push(&mut self, hash: u64) -> Result<(), NoMemory>
         ensures ok { OnOk result (self.new.hashes ≡ self.old.hashes ++ hash ∷ []) }
         ensures err { OnErr result (self.new ≡ self.old) }
@@ -147,8 +148,8 @@ impl Index {
         self.chains.swap_remove(position);
     }
 
-    /// Looks at the chain that the last hash came into. Its positions beyond a few are added to a sum; whether the sum is
-    /// more than the hashes, and then it begins anew. Takes no memory.
+    /// Walks the chain that the last hash was added to, and adds its positions beyond a few to a sum. Returns whether the
+    /// sum is more than the number of hashes; if it is, the sum starts again from zero. Takes no memory.
     #[inline(always)]
     pub fn is_slow(&mut self) -> bool
         ensures same { self.new ≡ self.old }
@@ -157,7 +158,8 @@ impl Index {
         steps > FEW_STEPS && self.count_steps(steps)
     }
 
-    /// Adds steps beyond a few to the sum; whether the sum is more than the hashes, and then it begins anew.
+    /// Adds steps beyond a few to the sum. Returns whether the sum is more than the number of hashes; if it is, the sum
+    /// starts again from zero.
     #[cold]
     fn count_steps(&mut self, steps: usize) -> bool
         ensures same { self.new ≡ self.old }

@@ -1,16 +1,16 @@
-//! What keeps the entries of a table.
+//! The storage for a table's entries.
 //!
-//! The promise to the layers above is the contract of the trait `Bins`: its content is a finite map from keys to
-//! values, and each call is said by what it does to that map (`specs/Table.antt`). What a program makes of each entry:
-//! `specs/Replacements.antt`. `ListBins` keeps the entries in one list, sorted by key. `HashedBins` keeps keys
-//! and values in rows of many widths (`specs/KeptRows.antt`), in no order, beside an index by the hashes of the keys
-//! (`hash_of`, `specs/Hashes.antt`), so that a search comes to the entries of one hash alone.
+//! The contract of the trait `Bins` is the promise to the layers above: its content is a finite map from keys to values, and
+//! each clause says what a call does to that map (`specs/Table.antt`). `specs/Replacements.antt` says what a program makes
+//! of each entry. `ListBins` keeps the entries in one list, sorted by key. `HashedBins` keeps keys and values in rows of
+//! many widths (`specs/KeptRows.antt`), in no order, with an index by the hashes of the keys (`hash_of`,
+//! `specs/Hashes.antt`). So a search visits only the entries of one hash.
 //!
-//! A new key, `open`, `copy_into` and `entries` take memory, and no other call of theirs does; if it is refused, the
-//! entries are as before. No call waits.
+//! A new key, `open`, `copy_into` and `entries` take memory; no other call of theirs does. If memory is refused, the
+//! entries are unchanged. No call waits.
 //!
-//! Copies go into an `EntryList`. `SortedEntries` is such a list read in key order, and `MergedEntries` one list or several
-//! read as one.
+//! Copies go into an `EntryList`. `SortedEntries` reads such a list in key order, and `MergedEntries` reads one list or
+//! several as one.
 #![tactic(auto)]
 
 mod bins;

@@ -35,7 +35,7 @@ impl Model for ListBins {
     ghost invariant = { λ b. T (map.is_sorted by_bytes b.entries.items) };
 }
 
-/// The position of this key, or the one that it would get.
+/// Returns the position of this key, or the one that it would get.
 fn position_with(entries: &[(Key, Value)], key: &Key) -> Result<usize, usize>
     requires { T (is_sorted by_bytes entries.now) }
     ensures bound { IsSearchInRange result (length entries.now) }
@@ -45,7 +45,7 @@ fn position_with(entries: &[(Key, Value)], key: &Key) -> Result<usize, usize>
     entries.binary_search_by(|entry| entry.0.cmp(key))
 }
 
-/// The position of the key, or the one that it would get.
+/// Returns the position of the key, or the one that it would get.
 fn position_of(entries: &[(Key, Value)], key: &HashedKey<'_>) -> Result<usize, usize>
     requires { T (is_sorted by_bytes entries.now) }
     ensures bound { IsSearchInRange result (length entries.now) }
@@ -55,7 +55,7 @@ fn position_of(entries: &[(Key, Value)], key: &HashedKey<'_>) -> Result<usize, u
     position_with(entries, key.key())
 }
 
-/// An entry with copies of this key and this value.
+/// Returns an entry with copies of this key and this value.
 #[inline(always)]
 fn new_entry(key: &HashedKey<'_>, value: &Value) -> (Key, Value)
     ensures { result ≡ (key.now, value.now) }
@@ -63,7 +63,7 @@ fn new_entry(key: &HashedKey<'_>, value: &Value) -> (Key, Value)
     (key.key().copied(), value.copied())
 }
 
-/// Adds an entry at a position; the ones from there on move.
+/// Adds an entry at a position; the entries from there on move.
 #[inline(always)]
 fn add_entry(
     entries: &mut Vec<(Key, Value)>,

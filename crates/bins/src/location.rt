@@ -1,29 +1,29 @@
-//! Where the row of a position lies.
+//! The location of a position's row.
 ghost use Rattle.std.specs.Prelude.{◌≡◌};
 ghost use Rattle.bins.specs.KeptRows.{IsNear};
 
 use std::marker::Model;
 
-/// How many positions there may be at most: more than any memory has room for.
+/// The most positions that there may be: more than any memory has room for.
 pub const MOST_ROWS: usize = 1 << 56;
-/// How many widths a location can tell apart.
+/// The number of widths that a location can tell apart.
 pub const WIDTH_CODES: u64 = 32;
-/// What stands in a location in place of a width where there is no row.
+/// Stands in a location instead of a width if there is no row.
 pub const VACANT_CODE: u64 = 31;
 
-/// How wide a row is: the place of its width among all, the narrowest first.
+/// The width of a row: its place among all widths, the narrowest first.
 #[derive(Clone, Copy, PartialEq, Eq)]
 pub struct Width {
     /// The place.
     pub step: usize,
 }
 
-/// Where the row of a position lies.
+/// The location of a position's row.
 #[derive(Clone, Copy)]
 pub enum Location {
-    /// There is none.
+    /// There is no row.
     Vacant,
-    /// At this position of the rows of this width.
+    /// The row is at this position among the rows of this width.
     In(Width, usize),
 }
 
@@ -43,7 +43,7 @@ impl Model for LocationWord {
 }
 
 impl LocationWord {
-    /// The word of a location.
+    /// Returns the word of a location.
     #[inline(always)]
     pub(crate) fn new(location: Location) -> LocationWord
         requires { IsNear location }
@@ -56,7 +56,7 @@ impl LocationWord {
         LocationWord { word }
     }
 
-    /// The location.
+    /// Returns the location.
     #[inline(always)]
     pub(crate) fn get(&self) -> Location
         ensures value { result ≡ self.now }

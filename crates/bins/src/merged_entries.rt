@@ -10,25 +10,25 @@ use bpf_model::limits::{KEY_BYTES, VALUE_BYTES};
 use std::alloc::Global;
 use std::marker::Model;
 
-/// Where an entry stands in several lists.
+/// The place of an entry in several lists.
 #[derive(Clone, Copy, Debug, PartialEq, Eq)]
 pub struct EntryPosition {
-    /// In which of them, from 0.
+    /// The list, from 0.
     pub list: usize,
-    /// At which position of it, from 0.
+    /// The position in that list, from 0.
     pub position: usize,
 }
 
-/// What the entries are read from.
+/// The source of the entries.
 #[derive(Drop)]
 enum Source {
     // One list, from its front to its end.
     One(EntryList),
-    // Several lists, at these positions one after the other.
+    // Several lists, at these positions in turn.
     Several(Vec<EntryList>, Vec<EntryPosition>),
 }
 
-/// Entries in an order. Those of several lists are not moved: their positions are kept in that order, 16 bytes for each.
+/// Entries in an order. Entries of several lists are not moved: their positions are kept in that order, 16 bytes for each.
 #[derive(Drop)]
 pub struct MergedEntries {
     source: Source,
@@ -45,14 +45,14 @@ impl Model for MergedEntries {
 }
 
 impl MergedEntries {
-    /// No entries. Takes no memory.
+    /// Makes a list without entries. Takes no memory.
     pub fn new(alloc: Global) -> MergedEntries
         ensures { result ≡ [] }
     {
         MergedEntries::of_one(EntryList::new(alloc))
     }
 
-    /// The entries of one list, as they stand. Takes no memory.
+    /// Makes a list of the entries of one list, as they stand. Takes no memory.
     pub fn of_one(list: EntryList) -> MergedEntries
         ensures { result ≡ list }
     {
@@ -61,7 +61,7 @@ impl MergedEntries {
         }
     }
 
-    /// The entries at these positions of several lists. Takes no memory.
+    /// Makes a list of the entries at these positions of several lists. Takes no memory.
     pub fn of_several(lists: Vec<EntryList>, positions: Vec<EntryPosition>) -> MergedEntries
         ensures { result ≡ map (entry_at lists.items) positions.items }
     {
@@ -70,7 +70,7 @@ impl MergedEntries {
         }
     }
 
-    /// How many entries there are. Takes no memory.
+    /// Returns the number of entries. Takes no memory.
     pub fn len(&self) -> usize
         ensures value { result ≡ length self.now }
     {
@@ -80,7 +80,7 @@ impl MergedEntries {
         }
     }
 
-    /// The key and the value at a position. Takes no memory.
+    /// Returns the key and the value at a position. Takes no memory.
     #[inline(always)]
     pub fn get(&self, position: usize) -> (&[u8], &[u8])
         requires { position < length self.now }
@@ -94,7 +94,7 @@ impl MergedEntries {
         }
     }
 
-    /// Whether these are the same entries in the same order. Takes no memory.
+    /// Returns whether these are the same entries in the same order. Takes no memory.
     pub fn is_same(&self, other: &MergedEntries) -> bool
         ensures exact { IsTrue result ↔ (self.now ≡ other.now) }
     {
@@ -110,7 +110,7 @@ impl MergedEntries {
         true
     }
 
-    /// Whether the entry at a position has this key and this value.
+    /// Returns whether the entry at a position has this key and this value.
     fn is_at(&self, position: usize, key: &[u8], value: &[u8]) -> bool
         requires { position < length self.now }
         ensures exact { IsTrue result ↔ (entry_of self.now position ≡ (key.now, value.now)) }
@@ -119,7 +119,7 @@ impl MergedEntries {
         entry.0 == key && entry.1 == value
     }
 
-    /// Copies of the entries in one list. Asks for memory for them; returns `NoMemory` if that is refused.
+    /// Copies the entries into one list. Asks for memory for them. Returns `NoMemory` if that is refused.
     pub fn copied(&self, alloc: Global) -> Result<EntryList, NoMemory>
         ensures { IfOk result (λ copies. copies ≡ self.now) }
     {
@@ -132,7 +132,7 @@ impl MergedEntries {
     }
 }
 
-/// The key and the value at a position of several lists; no bytes if no entry stands there.
+/// Returns the key and the value at a position of several lists; no bytes if no entry stands there.
 #[inline(always)]
 fn get_at(lists: &[EntryList], at: EntryPosition) -> (&[u8], &[u8])
     ensures entry { ◌≡◌ {A = Entry} (result.0.now, result.1.now) (entry_at lists.now at) }

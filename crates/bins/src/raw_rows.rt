@@ -1,5 +1,5 @@
-//! Rows in segments, and for each position the location of its row. A row names the position in turn, so that when one goes,
-//! the last one of its width takes the gap and its position is told.
+//! Rows in segments, and for each position the location of its row. A row names its position too. So when a row goes, the
+//! last one of its width takes the gap, and the position of that last one gets the new location.
 ghost use Rattle.std.specs.Prelude.{◌≡◌, ℕ, ◌+◌, ◌-◌, ◌*◌, ◌<◌, ◌≤◌, ◌^◌, ◌++◌, [], ◌∷◌, length, set, IfOk, IsTrue, OnOk, OnErr, vec_capacity};
 ghost use Rattle.std.specs.List.{swap_remove};
 ghost use Rattle.bins.specs.KeptRows.{kept, nobody, location_at, row_at, string_at, with_rows};
@@ -13,7 +13,7 @@ use bpf_model::limits::{KEY_BYTES, VALUE_BYTES};
 use bpf_model::{Key, NoMemory};
 use std::alloc::Global;
 
-/// How many widths there are.
+/// The number of widths.
 pub const WIDTHS: usize = 17;
 
 /// The locations of rows, and the rows.
@@ -25,8 +25,9 @@ pub(crate) struct RawRows {
     room: usize,
 }
 
-/// Lists for the rows of each width. A row has room for so many bytes of a key and a value together, and a segment for two to
-/// the power of the last number of such rows. Returns `NoMemory` if the request for the list's memory is refused.
+/// Makes lists for the rows of each width. The numbers are the fewest and the most bytes of a key and a value together; a
+/// segment holds two to the power of the last number of such rows. Returns `NoMemory` if the request for the list's memory
+/// is refused.
 fn open_widths(alloc: Global) -> Result<Vec<WidthRows>, NoMemory>
     ensures widths { IfOk result (λ widths. AreWidths widths.items) }
     ensures empty { IfOk result (λ widths. AreEmpty widths.items) }
@@ -52,15 +53,15 @@ fn open_widths(alloc: Global) -> Result<Vec<WidthRows>, NoMemory>
     Ok(widths)
 }
 
-/// How many segments there are at least where so many positions have room. Rows of one width leave less than a segment unused,
-/// and a segment holds 256 rows or more: so any mix of widths fits.
+/// Returns how many segments there are at least if this many positions have room. Rows of one width leave less than a segment
+/// unused, and a segment holds 256 rows or more, so any mix of widths fits.
 fn wanted_for(positions: usize) -> usize
     ensures value { result ≡ segments_for positions }
 {
     positions.min(positions / 256 + (WIDTHS + 1))
 }
 
-/// How many segments hold rows of a width.
+/// Returns how many segments hold rows of a width.
 #[inline(always)]
 fn segments_at(widths: &Vec<WidthRows>, step: usize) -> usize
     ensures value { result ≡ (width_at widths.now.items step).segments }
@@ -72,7 +73,7 @@ fn segments_at(widths: &Vec<WidthRows>, step: usize) -> usize
     0
 }
 
-/// How many segments hold rows.
+/// Returns how many segments hold rows.
 fn count_used(widths: &Vec<WidthRows>) -> usize
     requires bounded { used widths.now.items < 2 ^ 64 }
     ensures value { result ≡ used widths.now.items }
@@ -84,7 +85,7 @@ fn count_used(widths: &Vec<WidthRows>) -> usize
     many
 }
 
-/// Room in each list for the segments of so many rows. Returns `NoMemory` if a request for it is refused.
+/// Makes room in each list for the segments of this many rows. Returns `NoMemory` if a request for it is refused.
 fn widen(widths: &mut Vec<WidthRows>, many: usize) -> Result<(), NoMemory>
     requires few { many ≤ MOST_ROWS }
     ensures wider { AreWider widths.old.items widths.new.items }
@@ -97,7 +98,8 @@ fn widen(widths: &mut Vec<WidthRows>, many: usize) -> Result<(), NoMemory>
     Ok(())
 }
 
-/// Asks for free segments until there are so many beside those that hold rows. Returns `NoMemory` if a request is refused.
+/// Asks for free segments until there are `wanted` of them together with those that hold rows. Returns `NoMemory` if a
+/// request is refused.
 fn add_segments(free: &mut Vec<Segment>, used: usize, wanted: usize) -> Result<(), NoMemory>
     requires bounded { wanted ≤ MOST_ROWS }
     requires pool { used + length free.old.items ≤ vec_capacity free.old }
@@ -117,7 +119,7 @@ fn add_segments(free: &mut Vec<Segment>, used: usize, wanted: usize) -> Result<(
 }
 
 impl RawRows {
-    /// No rows.
+    /// Makes a list without rows.
     pub(crate) fn new(alloc: Global) -> RawRows
         ensures kept { IsKept result }
         ensures keys { keys_in result ≡ [] }
@@ -131,7 +133,7 @@ impl RawRows {
         }
     }
 
-    /// How many positions there are.
+    /// Returns the number of positions.
     #[inline(always)]
     pub(crate) fn len(&self) -> usize
         ensures value { result ≡ length self.now.locations.items }
@@ -139,7 +141,7 @@ impl RawRows {
         self.locations.len()
     }
 
-    /// The key and the value of a row.
+    /// Returns the key and the value of a row.
     #[inline(always)]
     fn entry_in(&self, width: Width, at: usize) -> (&[u8], &[u8])
         requires { at < length (rows_in self.now width) }
@@ -168,7 +170,7 @@ impl RawRows {
         rows.set_value(at, value);
     }
 
-    /// Tells a row which position's location names it.
+    /// Writes into a row which position's location names it.
     #[inline(always)]
     fn move_in(&mut self, width: Width, at: usize, owner: usize)
         requires room { IsRoomy self.old }
@@ -202,7 +204,7 @@ impl RawRows {
         rows.push(&mut self.free, owner, key, value);
     }
 
-    /// Removes a row; the last one of its width takes the gap. Whose the last one is.
+    /// Removes a row; the last one of its width takes the gap. Returns the owner of the last one.
     #[inline(always)]
     fn remove_in(&mut self, width: Width, at: usize) -> usize
         requires room { IsRoomy self.old }
@@ -217,7 +219,7 @@ impl RawRows {
         rows.swap_remove(&mut self.free, at)
     }
 
-    /// How many rows of a width there are.
+    /// Returns the number of rows of a width.
     #[inline(always)]
     fn len_in(&self, width: Width) -> usize
         requires { width.step < length self.now.widths.items }
@@ -227,7 +229,7 @@ impl RawRows {
         rows.len()
     }
 
-    /// The key and the value at a position.
+    /// Returns the key and the value at a position.
     #[inline(always)]
     pub(crate) fn entry(&self, position: usize) -> (&[u8], &[u8])
         requires rows { AreIn self.now }
@@ -265,7 +267,7 @@ impl RawRows {
         }
     }
 
-    /// The narrowest width in which so many bytes have room.
+    /// Returns the narrowest width that has room for this many bytes.
     #[inline(always)]
     fn width_of(&self, bytes: usize) -> Width
         requires widths { AreWidths self.now.widths.items }
@@ -282,7 +284,7 @@ impl RawRows {
         Width { step: WIDTHS - 1 }
     }
 
-    /// Writes a key and a value into a new row of a vacant position: the narrowest in which they have room.
+    /// Writes a key and a value into a new row of a vacant position, in the narrowest width that has room for them.
     #[inline(always)]
     fn fill(&mut self, position: usize, key: &[u8], value: &[u8])
         requires rows { AreIn self.old }
@@ -323,7 +325,7 @@ impl RawRows {
         self.fill(position, key.as_slice(), bytes);
     }
 
-    /// Whether a row is of the narrowest width with this value too.
+    /// Returns whether a row's width is the narrowest with this value too.
     #[inline(always)]
     fn stays(&self, width: Width, at: usize, bytes: &[u8]) -> bool
         requires range { at < length (rows_in self.now width) }
@@ -334,7 +336,7 @@ impl RawRows {
         rows.suits(rows.entry(at).0.len() + bytes.len())
     }
 
-    /// Sets the value of a position. A row that stays as wide is written where it lies.
+    /// Sets the value of a position. If its row stays as wide, the value is written in place.
     #[inline(always)]
     pub(crate) fn set_value(&mut self, position: usize, bytes: &[u8])
         requires rows { AreIn self.old }
@@ -430,7 +432,7 @@ impl RawRows {
         }
     }
 
-    /// Takes out a vacant position; the last position takes the gap.
+    /// Removes a vacant position; the last position takes the gap.
     fn take_vacant(&mut self, position: usize)
         requires rows { AreIn self.old }
         requires range { position < length self.old.locations.items }
@@ -449,8 +451,8 @@ impl RawRows {
         self.locations.swap_remove(position);
     }
 
-    /// Takes out a position with its row; the last position takes the gap. What is no longer needed goes back to the
-    /// allocator.
+    /// Removes a position with its row; the last position takes the gap. Gives back to the allocator what is no longer
+    /// needed.
     pub(crate) fn swap_remove(&mut self, position: usize)
         requires rows { AreIn self.old }
         requires range { position < length self.old.locations.items }
@@ -466,7 +468,7 @@ impl RawRows {
         self.give_back();
     }
 
-    /// Room for this many more positions. Returns `NoMemory` if a request for it is refused.
+    /// Makes room for this many more positions. Returns `NoMemory` if a request for it is refused.
     #[inline(always)]
     pub(crate) fn reserve(&mut self, more: usize) -> Result<(), NoMemory>
         requires room { IsRoomy self.old }
@@ -483,7 +485,7 @@ impl RawRows {
         self.grow_for(many)
     }
 
-    /// Room for so many positions, and if it is granted for an eighth more.
+    /// Makes room for this many positions, and for an eighth more if that is granted.
     #[inline(never)]
     fn grow_for(&mut self, many: usize) -> Result<(), NoMemory>
         requires room { IsRoomy self.old }
@@ -501,7 +503,7 @@ impl RawRows {
         }
     }
 
-    /// Room for so many positions. Returns `NoMemory` if a request for it is refused.
+    /// Makes room for this many positions. Returns `NoMemory` if a request for it is refused.
     fn grow(&mut self, many: usize) -> Result<(), NoMemory>
         requires room { IsRoomy self.old }
         requires more { self.old.room < many }
@@ -521,7 +523,7 @@ impl RawRows {
         Ok(())
     }
 
-    /// Lists for the rows of each width, if there are none yet. Returns `NoMemory` if a request for them is refused.
+    /// Makes lists for the rows of each width, if there are none yet. Returns `NoMemory` if a request for them is refused.
     fn open(&mut self) -> Result<(), NoMemory>
         requires room { IsRoomy self.old }
         ensures ok { OnOk result (AreWidths self.new.widths.items) }

@@ -1,4 +1,4 @@
-//! The hash of each position and its next in a chain, side by side: a search finds both in one line of the cache.
+//! The hash of each position and its next in a chain, side by side, so a search finds both in one cache line.
 ghost use Rattle.std.specs.Prelude.{◌≡◌, ◌-◌, ◌<◌, ◌++◌, [], ◌∷◌, length, set, slice_index, take, OnOk, OnErr};
 
 use crate::growth::make_room;
@@ -6,7 +6,7 @@ use bpf_model::NoMemory;
 use std::alloc::Global;
 use std::marker::Model;
 
-/// What is kept of one position.
+/// The record of one position.
 #[derive(Clone, Copy)]
 struct Record {
     hash: u64,
@@ -34,7 +34,7 @@ impl Model for Records {
 }
 
 impl Records {
-    /// No positions. Takes no memory.
+    /// Makes a list without positions. Takes no memory.
     pub fn new(alloc: Global) -> Records
         ensures hashes { result.hashes ≡ [] }
         ensures nexts { result.nexts ≡ [] }
@@ -44,7 +44,7 @@ impl Records {
         }
     }
 
-    /// The number of positions. Takes no memory.
+    /// Returns the number of positions. Takes no memory.
     #[inline(always)]
     pub fn len(&self) -> usize
         ensures hashes { result ≡ length self.now.hashes }
@@ -53,7 +53,7 @@ impl Records {
         self.list.len()
     }
 
-    /// The hash of a position. Takes no memory.
+    /// Returns the hash of a position. Takes no memory.
     #[inline(always)]
     pub fn hash(&self, position: usize) -> u64
         requires { position < length self.now.hashes }
@@ -62,7 +62,7 @@ impl Records {
         self.list[position].hash
     }
 
-    /// The next of a position. Takes no memory.
+    /// Returns the next of a position. Takes no memory.
     #[inline(always)]
     pub fn next(&self, position: usize) -> usize
         requires { position < length self.now.nexts }
@@ -89,7 +89,7 @@ impl Records {
         self.list[position].next = next;
     }
 
-    /// Adds a position after the others. Returns `NoMemory` if the room for it is refused: all is as before.
+    /// Adds a position after the others. Returns `NoMemory` if memory for it is refused; nothing changes then.
     pub fn push(&mut self, hash: u64, next: usize) -> Result<(), NoMemory>
         ensures ok_hashes { OnOk result (self.new.hashes ≡ self.old.hashes ++ hash ∷ []) }
         ensures ok_nexts { OnOk result (self.new.nexts ≡ self.old.nexts ++ next ∷ []) }
@@ -108,7 +108,7 @@ impl Records {
         self.list.truncate(self.list.len().saturating_sub(1));
     }
 
-    /// Gives the room of all positions back, if there is none.
+    /// Gives back the memory of all positions if there is none.
     pub fn give_back(&mut self)
         ensures same { self.new ≡ self.old }
     {

@@ -1,4 +1,4 @@
-//! The replacement of values by what a program answers.
+//! The replacement of values by a program's answers.
 ghost use Rattle.std.specs.Prelude.{◌≡◌, ◌<◌, ◌^◌, length, set};
 ghost use Rattle.bins.specs.KeptRows.{string_at};
 ghost use Rattle.bins.specs.Entries.{entries_in};
@@ -10,9 +10,9 @@ use bpf_machine::{Machine, run_into};
 use bpf_model::{InputPart, Key, Value, fits_parts, value_bytes};
 use verifier::Verified;
 
-/// Enters what the program answers on the key, its value and the argument; whether it answered bytes. The value stays
-/// where it answers nothing, and where a window is too small, whose name is then the error. Works in `machine` and
-/// `answer`; what these hold before makes no difference, and what they hold then is not said. Takes no memory.
+/// Runs the program on the key, its value and the argument, and enters its answer. Returns whether it answered bytes. The
+/// value stays if the answer is nothing, or if a window is too small; the error names that window. Works in `machine` and
+/// `answer`: their content before makes no difference, and their content after is not said. Takes no memory.
 pub fn replace_value(
     program: &Verified,
     key: &Key,
@@ -60,7 +60,7 @@ pub fn replace_values(
     }
 }
 
-/// How many entries there are. Takes no memory.
+/// Returns the number of entries. Takes no memory.
 pub fn count_of(entries: &[(Key, Value)]) -> u64
     ensures value { result ≡ length entries.now }
     ensures bounded { result < 2 ^ 57 }
@@ -68,7 +68,7 @@ pub fn count_of(entries: &[(Key, Value)]) -> u64
     entries.len() as u64
 }
 
-/// Where programs run that replace one value after the other. What it holds makes no difference.
+/// Programs that replace one value after the other run in it. Its content makes no difference.
 #[derive(Drop)]
 struct Workbench {
     machine: Machine,

@@ -5,11 +5,11 @@ ghost use Rattle.bins.specs.KeptRows.{HoldsRow, kept, key_in, number, row_in, va
 use bpf_model::limits::{KEY_BYTES, VALUE_BYTES};
 use byteorder::{ByteOrder, LittleEndian};
 
-/// How many bytes a row takes beside its key and its value: eight for its owner, two for the key's length and four for the
+/// The bytes that a row takes beside its key and its value: eight for its owner, two for the key's length and four for the
 /// value's.
 pub const HEAD_BYTES: usize = 14;
 
-/// The length of a key, in two bytes.
+/// Returns the length of a key, read from two bytes.
 #[inline(always)]
 #[tactic(auto, unfolding(crate::specs::KeptRows::number, crate::specs::KeptRows::word_of))]
 fn key_length(bytes: &[u8]) -> usize
@@ -30,7 +30,7 @@ fn put_key_length(bytes: &mut [u8], many: usize)
     LittleEndian::write_u16(bytes, many as u16);
 }
 
-/// The length of a value, in four bytes.
+/// Returns the length of a value, read from four bytes.
 #[inline(always)]
 #[tactic(auto, unfolding(crate::specs::KeptRows::number, crate::specs::KeptRows::word_of))]
 fn value_length(bytes: &[u8]) -> usize
@@ -51,7 +51,7 @@ fn put_value_length(bytes: &mut [u8], many: usize)
     LittleEndian::write_u32(bytes, many as u32);
 }
 
-/// The owner of a row, in eight bytes.
+/// Returns the owner of a row, read from eight bytes.
 #[inline(always)]
 #[tactic(auto, unfolding(crate::specs::KeptRows::number, crate::specs::KeptRows::word_of))]
 fn owner_at(bytes: &[u8]) -> usize
@@ -71,7 +71,7 @@ fn put_owner(bytes: &mut [u8], owner: usize)
     LittleEndian::write_u64(bytes, owner as u64);
 }
 
-/// The key of a row.
+/// Returns the key of a row.
 #[inline(always)]
 pub(crate) fn key_of(row: &[u8]) -> &[u8]
     requires { HoldsRow row.now }
@@ -82,7 +82,7 @@ pub(crate) fn key_of(row: &[u8]) -> &[u8]
     &row[10..10 + len]
 }
 
-/// The value of a row.
+/// Returns the value of a row.
 #[inline(always)]
 pub(crate) fn value_of(row: &[u8]) -> &[u8]
     requires { HoldsRow row.now }
@@ -94,7 +94,7 @@ pub(crate) fn value_of(row: &[u8]) -> &[u8]
     &row[start + 4..start + 4 + len]
 }
 
-/// The position whose location names the row.
+/// Returns the position whose location names the row.
 #[inline(always)]
 pub(crate) fn owner_of(row: &[u8]) -> usize
     requires { HoldsRow row.now }
@@ -103,7 +103,7 @@ pub(crate) fn owner_of(row: &[u8]) -> usize
     owner_at(row)
 }
 
-/// Tells a row which position's location names it.
+/// Writes into a row which position's location names it.
 #[inline(always)]
 pub(crate) fn set_owner(row: &mut [u8], owner: usize)
     requires { HoldsRow row.old }
@@ -114,7 +114,7 @@ pub(crate) fn set_owner(row: &mut [u8], owner: usize)
     put_owner(row, owner);
 }
 
-/// Writes a string at the start of these bytes; one of eight bytes, which a number has, as one word.
+/// Writes a string at the start of these bytes. If it has eight bytes, as a number has, they are written as one word.
 #[inline(always)]
 fn put_bytes(rest: &mut [u8], bytes: &[u8])
     requires { length bytes.now ≤ length rest.old }

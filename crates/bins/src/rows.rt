@@ -10,9 +10,9 @@ use bpf_model::limits::{KEY_BYTES, VALUE_BYTES};
 use std::alloc::Global;
 use std::marker::Model;
 
-/// Keys and their values, at the same positions. A position takes eight bytes, and the row that it names so many as the
-/// narrowest width for its key and its value. There are free segments enough for rows of any widths; they are not touched before
-/// they are needed.
+/// Keys and their values, at the same positions. A position takes eight bytes, and its row takes as many as the narrowest
+/// width for its key and its value. There are enough free segments for rows of any widths; they are not touched before they
+/// are needed.
 #[derive(Drop)]
 pub(crate) struct Rows {
     raw: RawRows,
@@ -30,7 +30,7 @@ impl Model for Rows {
 }
 
 impl Rows {
-    /// No entries. Takes no memory.
+    /// Makes rows without entries. Takes no memory.
     pub(crate) fn new(alloc: Global) -> Rows
         ensures keys { result.keys ≡ [] }
         ensures values { result.values ≡ [] }
@@ -40,7 +40,7 @@ impl Rows {
         }
     }
 
-    /// How many entries there are. Takes no memory.
+    /// Returns the number of entries. Takes no memory.
     #[inline(always)]
     pub(crate) fn len(&self) -> usize
         ensures value { result ≡ length self.now.keys }
@@ -49,7 +49,7 @@ impl Rows {
         self.raw.len()
     }
 
-    /// The key at a position. Takes no memory.
+    /// Returns the key at a position. Takes no memory.
     #[inline(always)]
     pub(crate) fn key(&self, position: usize) -> &[u8]
         requires { position < length self.now.keys }
@@ -59,7 +59,7 @@ impl Rows {
         self.raw.entry(position).0
     }
 
-    /// The value at a position. Takes no memory.
+    /// Returns the value at a position. Takes no memory.
     #[inline(always)]
     pub(crate) fn value(&self, position: usize) -> &[u8]
         requires { position < length self.now.keys }
@@ -83,8 +83,8 @@ impl Rows {
         (&[], &[])
     }
 
-    /// Room for this many more entries. Returns `NoMemory` if a request for it is refused, or if there would be more than
-    /// `MOST_ROWS`; the entries are as before.
+    /// Makes room for this many more entries. Returns `NoMemory` if a request for it is refused, or if there would be more
+    /// than `MOST_ROWS`; the entries are then unchanged.
     pub(crate) fn reserve(&mut self, more: usize) -> Result<(), NoMemory>
         ensures ok { OnOk result (length self.new.keys + more ≤ self.new.room) }
         ensures keys { self.new.keys ≡ self.old.keys }
@@ -129,7 +129,7 @@ impl Rows {
         self.raw.push_all(&other.raw);
     }
 
-    /// Takes out the entry at a position; the last one takes the gap. Takes no memory.
+    /// Removes the entry at a position; the last one takes the gap. Takes no memory.
     pub(crate) fn swap_remove(&mut self, position: usize)
         requires { position < length self.old.keys }
         ensures keys { self.new.keys ≡ swap_remove self.old.keys position [] }

@@ -9,10 +9,10 @@ use bpf_model::limits::{KEY_BYTES, VALUE_BYTES};
 use std::alloc::Global;
 use std::marker::Model;
 
-/// How many bytes a segment has: 256 of the longest rows.
+/// The number of bytes of a segment: 256 of the longest rows.
 pub const SEGMENT_BYTES: usize = 282_112;
 
-/// Bytes with room for `SEGMENT_BYTES`. Only as many are there, and so touched, as rows needed so far.
+/// Bytes with room for `SEGMENT_BYTES`. It is only as long as rows needed so far, so nothing beyond is touched.
 #[derive(Drop)]
 pub struct Segment {
     bytes: Vec<u8>,
@@ -30,13 +30,13 @@ impl Model for Segment {
 }
 
 impl Segment {
-    /// An empty one. Returns `NoMemory` if the request for its memory is refused.
+    /// Makes an empty segment. Returns `NoMemory` if the request for its memory is refused.
     pub(crate) fn new(alloc: Global) -> Result<Segment, NoMemory> {
         let bytes = Vec::with_capacity(alloc, SEGMENT_BYTES)?;
         Ok(Segment { bytes })
     }
 
-    /// Some of its bytes.
+    /// Returns some of its bytes.
     #[inline(always)]
     pub(crate) fn row(&self, start: usize, stride: usize) -> &[u8]
         requires { start + stride ≤ length self.now }
@@ -46,7 +46,7 @@ impl Segment {
         &self.bytes[start..start + stride]
     }
 
-    /// Has at least so many bytes from now on; new ones are zero.
+    /// Makes it at least this many bytes long; new bytes are zero.
     #[inline(always)]
     fn reach(&mut self, end: usize)
         requires { end ≤ SEGMENT_BYTES }
@@ -59,7 +59,7 @@ impl Segment {
         }
     }
 
-    /// Writes a row of so many bytes.
+    /// Writes a row of this many bytes.
     #[inline(always)]
     pub(crate) fn write(
         &mut self,
@@ -96,7 +96,7 @@ impl Segment {
         set_value(&mut self.bytes[start..start + stride], value);
     }
 
-    /// Tells a row which position's location names it.
+    /// Writes into a row which position's location names it.
     #[inline(always)]
     pub(crate) fn set_owner(&mut self, start: usize, stride: usize, owner: usize)
         requires range { start + stride ≤ length self.old }
@@ -119,7 +119,7 @@ impl Segment {
         self.bytes[start..start + row.len()].copy_from_slice(row);
     }
 
-    /// Copies a row of its own over another.
+    /// Copies one of its own rows over another.
     #[inline(always)]
     pub(crate) fn copy_within(&mut self, from: usize, start: usize, stride: usize)
         requires range { start + stride ≤ length self.old }

@@ -1,4 +1,4 @@
-//! A list of entries in key order, which lie as they came.
+//! A list of entries in key order; the entries lie as they came.
 ghost use Rattle.std.specs.Prelude.{◌≡◌, ◌<◌, ◌≤◌, length, IfOk};
 ghost use Rattle.std.specs.FinMap as map;
 ghost use Rattle.std.specs.List.Sorted.{IsPermutation, IsSortedBy};
@@ -12,7 +12,7 @@ use bpf_model::{Key, NoMemory, Value};
 use std::alloc::Global;
 use std::marker::Model;
 
-/// A list of entries and the order of their keys: 8 bytes more for each entry. No entry is moved.
+/// A list of entries and the order of their keys. Takes 8 bytes more for each entry; no entry is moved.
 #[derive(Drop)]
 pub struct SortedEntries {
     list: EntryList,
@@ -30,8 +30,8 @@ impl Model for SortedEntries {
 }
 
 impl SortedEntries {
-    /// The entries of this list in key order. Asks for memory for the order of their positions; returns `NoMemory` if that is
-    /// refused, and the entries are given up.
+    /// Puts the entries of this list in key order. Asks for memory for the order of their positions. Returns `NoMemory` if
+    /// that is refused; the entries are gone then.
     pub fn new(alloc: Global, list: EntryList) -> Result<SortedEntries, NoMemory>
         ensures moved { IfOk result (λ sorted. IsPermutation list sorted) }
         ensures order { IfOk result (λ sorted. IsSortedBy comes_before sorted) }
@@ -40,14 +40,14 @@ impl SortedEntries {
         Ok(SortedEntries { list, order })
     }
 
-    /// How many entries there are. Takes no memory.
+    /// Returns the number of entries. Takes no memory.
     pub fn len(&self) -> usize
         ensures value { result ≡ length self.now }
     {
         self.order.len()
     }
 
-    /// The key and the value at a position in key order. Takes no memory.
+    /// Returns the key and the value at a position in key order. Takes no memory.
     #[inline(always)]
     pub fn get(&self, position: usize) -> (&[u8], &[u8])
         requires { position < length self.now }
@@ -58,7 +58,8 @@ impl SortedEntries {
         self.list.get_any(self.order[position])
     }
 
-    /// Copies of the entries in key order, each in room for the longest. Returns `NoMemory` if a request for memory is refused.
+    /// Returns copies of the entries in key order, each in room for the longest. Returns `NoMemory` if a request for memory
+    /// is refused.
     pub fn copied(&self, alloc: Global) -> Result<Vec<(Key, Value)>, NoMemory>
         ensures { IfOk result (λ copies. copies.items ≡ self.now) }
     {
@@ -71,7 +72,7 @@ impl SortedEntries {
     }
 }
 
-/// An entry with copies of this key and this value.
+/// Returns an entry with copies of this key and this value.
 fn entry_with(key: &[u8], value: &[u8]) -> (Key, Value)
     requires key { length key.now ≤ KEY_BYTES }
     requires value { length value.now ≤ VALUE_BYTES }
@@ -82,8 +83,8 @@ fn entry_with(key: &[u8], value: &[u8]) -> (Key, Value)
     (key.unwrap(), value.unwrap())
 }
 
-/// Copies of the entries of this list, in key order. Returns `NoMemory` if a request for memory is refused; the list is given
-/// up in either case.
+/// Returns copies of the entries of this list, in key order. Returns `NoMemory` if a request for memory is refused. The list
+/// is gone in either case.
 pub fn sorted_copies(alloc: Global, list: EntryList) -> Result<Vec<(Key, Value)>, NoMemory>
     ensures order { IfOk result (λ copies. (table : Table) → AreCopies table list → copies.items ≡ map.entries table) }
 {

@@ -1,16 +1,17 @@
-//! The size that is told of an index: how many bins a table of this many entries has by its rule, and of how many stripes it is.
+//! The size that an index reports: the number of bins that a table of this many entries has by its rule, and the number of
+//! stripes.
 ghost use Rattle.std.specs.Prelude.{◌≡◌, ◌⊎◌, ◌*◌, ◌<◌, ◌^◌, ◌↔◌, IsTrue};
 ghost use Rattle.std.specs.Int.{IsPowerOfTwo};
 ghost use Rattle.bins.specs.Told.{IsBinCount};
 
 use std::marker::Model;
 
-/// The first number of bins.
+/// The number of bins at first.
 pub const FIRST_BINS: u64 = 8;
 /// The greatest number of bins.
 pub const MOST_BINS: u64 = 65_536;
 
-/// How many bins are told, and how many stripes the table has.
+/// The reported number of bins, and the number of stripes of the table.
 #[derive(Drop)]
 pub struct ToldSize {
     bins: u64,
@@ -28,7 +29,7 @@ impl Model for ToldSize {
     ghost invariant = { λ size. IsBinCount size.bins × IsPowerOfTwo size.stripes };
 }
 
-/// Whether these entries are more than twice the bins, and more bins may be told.
+/// Returns whether there are more than twice as many of these entries as bins, and more bins may be reported.
 fn is_crowded(bins: u64, entries: usize) -> bool
     requires { IsBinCount bins }
     ensures exact { IsTrue result ↔ ((2 * bins < entries) × (bins < MOST_BINS)) }
@@ -36,7 +37,7 @@ fn is_crowded(bins: u64, entries: usize) -> bool
     entries as u64 > 2 * bins && bins < MOST_BINS
 }
 
-/// The power of two at the low end of a number of stripes.
+/// Returns the power of two at the low end of a number of stripes.
 fn power_of(stripes: u64) -> u64
     ensures power { IsPowerOfTwo result }
     ensures value { IsPowerOfTwo stripes → stripes < 2 ^ 32 → result ≡ stripes }
@@ -45,7 +46,7 @@ fn power_of(stripes: u64) -> u64
 }
 
 impl ToldSize {
-    /// That of no entries, in one of `stripes` stripes of a table.
+    /// Returns the size of no entries, in one of a table's `stripes` stripes.
     pub fn new(stripes: u64) -> ToldSize
         ensures bins { result.bins ≡ 8 }
         ensures stripes { IsPowerOfTwo stripes → stripes < 2 ^ 32 → result.stripes ≡ stripes }
@@ -56,7 +57,7 @@ impl ToldSize {
         }
     }
 
-    /// The same size.
+    /// Returns the same size.
     pub fn copied(&self) -> ToldSize
         ensures { result ≡ self.now }
     {
@@ -66,7 +67,7 @@ impl ToldSize {
         }
     }
 
-    /// How many bins.
+    /// Returns the number of bins.
     pub fn bins(&self) -> u64
         ensures value { result ≡ self.now.bins }
         ensures count { IsBinCount result }
@@ -74,7 +75,7 @@ impl ToldSize {
         self.bins
     }
 
-    /// How many stripes.
+    /// Returns the number of stripes.
     pub fn stripes(&self) -> u64
         ensures value { result ≡ self.now.stripes }
         ensures power { IsPowerOfTwo result }
@@ -82,7 +83,7 @@ impl ToldSize {
         self.stripes
     }
 
-    /// The bins double if these entries are more than twice the bins.
+    /// Doubles the bins if these entries are more than twice as many.
     pub fn count_entries(&mut self, entries: usize)
         ensures may { (self.new.bins ≡ self.old.bins)
             ⊎ ((2 * self.old.bins < entries) × (self.old.bins < MOST_BINS) × (self.new.bins ≡ 2 * self.old.bins)) }

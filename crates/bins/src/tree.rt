@@ -1,4 +1,4 @@
-//! The positions of the keys of rows, by a tree of the keys.
+//! The positions of the keys of rows, in a tree of the keys.
 ghost use Rattle.std.specs.Prelude.{◌≡◌, ◌≢◌, ◌<◌, ◌++◌, [], ◌∷◌, Some, length, map, IfOk, IsSome, OnOk, OnErr};
 ghost use Rattle.std.specs.List.{AllWithin, swap_remove};
 ghost use Rattle.std.specs.Int.{IsPowerOfTwo};
@@ -17,14 +17,14 @@ use bpf_model::{Key, NoMemory};
 use std::alloc::Global;
 use std::collections::BTreeMap;
 
-/// The position of each key, and what an index of these keys would tell and be made by.
+/// The position of each key, and the size that an index of these keys would report and the seed that it would be made by.
 #[derive(Drop)]
 pub(crate) struct Tree {
     positions: BTreeMap<Key, usize>,
     alloc: Global,
     told: ToldSize,
     seed: Seed,
-    // With so many keys it was made, or an index was to stand for it last.
+    // The number of keys when the tree was made, or when an index was last to take its place.
     made_with: usize,
 }
 
@@ -41,7 +41,7 @@ fn add_position(
     Ok(())
 }
 
-/// A copy of the key at a position.
+/// Returns a copy of the key at a position.
 fn key_at(rows: &Rows, position: usize) -> Key
     requires { position < length rows.now.keys }
     ensures { result ≡ string_at rows.now.keys position }
@@ -50,7 +50,7 @@ fn key_at(rows: &Rows, position: usize) -> Key
     key.unwrap()
 }
 
-/// The position of each key. Returns `NoMemory` if a request for memory is refused.
+/// Returns the position of each key. Returns `NoMemory` if a request for memory is refused.
 fn positions_by_key(alloc: Global, rows: &Rows) -> Result<BTreeMap<Key, usize>, NoMemory>
     requires { StandOnce rows.now.keys }
     ensures { IfOk result (λ positions. Locates positions rows.now.keys) }
@@ -62,7 +62,7 @@ fn positions_by_key(alloc: Global, rows: &Rows) -> Result<BTreeMap<Key, usize>, 
     Ok(positions)
 }
 
-/// Gives a key that has a position another one.
+/// Gives another position to a key that has one.
 fn move_position(positions: &mut BTreeMap<Key, usize>, key: &Key, position: usize)
     ensures { IsSome (get by_bytes positions.old key.now) → Sets positions.old positions.new key.now (Some position) }
 {
@@ -71,13 +71,13 @@ fn move_position(positions: &mut BTreeMap<Key, usize>, key: &Key, position: usiz
     }
 }
 
-/// How many keys leave a tree of this many: half of them, or twice as many.
+/// Returns whether a tree of `made_with` keys is to be left: there are half as many keys now, or twice as many.
 fn is_far_from(made_with: usize, keys: usize) -> bool {
     keys <= made_with / 2 || keys / 2 >= made_with
 }
 
 impl Tree {
-    /// The tree of these keys, which an index had found. Returns `NoMemory` if a request for memory is refused.
+    /// Makes the tree of these keys, which an index had found. Returns `NoMemory` if a request for memory is refused.
     pub(crate) fn of(index: &Index, rows: &Rows) -> Result<Tree, NoMemory>
         requires { StandOnce rows.now.keys }
         ensures locates { IfOk result (λ tree. Locates tree.positions rows.now.keys) }
@@ -92,7 +92,7 @@ impl Tree {
         })
     }
 
-    /// How many bins an index would tell. Takes no memory.
+    /// Returns how many bins an index would report. Takes no memory.
     pub(crate) fn bins(&self) -> u64
         ensures value { result ≡ self.now.told.bins }
         ensures count { IsBinCount result }
@@ -100,7 +100,7 @@ impl Tree {
         self.told.bins()
     }
 
-    /// The number of stripes of the table. Takes no memory.
+    /// Returns the number of stripes of the table. Takes no memory.
     pub(crate) fn stripes(&self) -> u64
         ensures value { result ≡ self.now.told.stripes }
         ensures power { IsPowerOfTwo result }
@@ -108,7 +108,7 @@ impl Tree {
         self.told.stripes()
     }
 
-    /// The position of a key. Takes no memory.
+    /// Returns the position of a key. Takes no memory.
     #[cold]
     pub(crate) fn position(&self, key: &Key) -> Option<usize>
         ensures value { result ≡ get by_bytes self.now.positions key.now }
@@ -145,8 +145,8 @@ impl Tree {
         self.positions.remove(&key);
     }
 
-    /// Whether it has half as many keys as when it was made, or twice as many: its index is to be tried again then. Where that
-    /// is refused, it is tried after as much again.
+    /// Returns whether it has half as many keys as when it was made, or twice as many: then try its index again. If that is
+    /// refused, it is tried after as much again.
     pub(crate) fn is_outlived(&mut self, rows: &Rows) -> bool
         ensures positions { self.new.positions ≡ self.old.positions }
         ensures stripes { self.new.told.stripes ≡ self.old.told.stripes }
@@ -159,7 +159,8 @@ impl Tree {
         far
     }
 
-    /// An index of these keys, by another seed than the one before. Returns `NoMemory` if a request for memory is refused.
+    /// Makes an index of these keys, by another seed than the one before. Returns `NoMemory` if a request for memory is
+    /// refused.
     pub(crate) fn index(&self, rows: &Rows) -> Result<Index, NoMemory>
         ensures hashes { IfOk result (λ index. index.hashes ≡ map (mixed index.seed) rows.now.keys) }
         ensures stripes { IfOk result (λ index. index.stripes ≡ self.now.told.stripes) }

@@ -1,4 +1,4 @@
-//! The rows of one width, side by side in segments: all of these are full but the last.
+//! The rows of one width, side by side in segments. All segments but the last are full.
 ghost use Rattle.std.specs.Prelude.{◌≡◌, ◌≢◌, ℕ, ◌+◌, ◌-◌, ◌*◌, ◌/◌, ◌<◌, ◌≤◌, ◌^◌, ◌++◌, ◌∷◌, [], length, set, IsTrue, OnOk, vec_capacity};
 ghost use Rattle.std.specs.List.{swap_remove};
 ghost use Rattle.bins.specs.KeptRows.{kept, nobody, row_at};
@@ -11,7 +11,7 @@ use bpf_model::limits::{KEY_BYTES, VALUE_BYTES};
 use std::alloc::Global;
 use std::marker::Model;
 
-/// The segment of a row and the place of its bytes there.
+/// Returns the segment of a row and the place of its bytes there.
 #[inline(always)]
 fn place_of(at: usize, shift: u32, stride: usize) -> (usize, usize)
     requires bounded { shift < 64 }
@@ -24,7 +24,7 @@ fn place_of(at: usize, shift: u32, stride: usize) -> (usize, usize)
     (index, (at - (index << shift)) * stride)
 }
 
-/// The bytes of a row.
+/// Returns the bytes of a row.
 #[inline(always)]
 fn slot_of(segments: &Vec<Segment>, at: usize, shift: u32, stride: usize) -> &[u8]
     requires bounded { shift < 64 }
@@ -64,7 +64,7 @@ fn copy_row(segments: &mut Vec<Segment>, last: usize, at: usize, shape: (u32, us
     }
 }
 
-/// Makes sure that there is a segment for one more row: a free one, if the others are full.
+/// Makes sure that there is a segment for one more row: takes a free one if the others are full.
 #[inline(always)]
 fn open_slot(segments: &mut Vec<Segment>, free: &mut Vec<Segment>, many: usize, shift: u32)
     requires bounded { shift < 64 }
@@ -131,8 +131,8 @@ impl Model for WidthRows {
 }
 
 impl WidthRows {
-    /// No rows, for keys and values that take between so many bytes together, of which a segment holds two to the power of
-    /// `shift`.
+    /// Makes a list without rows, for keys and values that together take from `least` to `most` bytes. A segment holds two
+    /// to the power of `shift` of these rows.
     pub(crate) fn new(alloc: Global, least: usize, most: usize, shift: u32) -> WidthRows
         requires small { 8 ≤ shift }
         requires bounded { shift < 64 }
@@ -151,7 +151,7 @@ impl WidthRows {
         }
     }
 
-    /// How many rows there are.
+    /// Returns the number of rows.
     #[inline(always)]
     pub(crate) fn len(&self) -> usize
         ensures value { result ≡ length self.now.rows }
@@ -159,7 +159,7 @@ impl WidthRows {
         self.many
     }
 
-    /// How many segments they lie in.
+    /// Returns the number of segments that they lie in.
     #[inline(always)]
     pub(crate) fn segments(&self) -> usize
         ensures value { result ≡ self.now.segments }
@@ -167,7 +167,7 @@ impl WidthRows {
         self.segments.len()
     }
 
-    /// Whether so many bytes have room in a row.
+    /// Returns whether a row has room for this many bytes.
     #[inline(always)]
     pub(crate) fn holds(&self, bytes: usize) -> bool
         ensures fit { IsTrue result → bytes ≤ self.now.most }
@@ -175,7 +175,7 @@ impl WidthRows {
         bytes <= self.most
     }
 
-    /// Whether it is the narrowest width for so many bytes.
+    /// Returns whether it is the narrowest width for this many bytes.
     #[inline(always)]
     pub(crate) fn suits(&self, bytes: usize) -> bool
         ensures fit { IsTrue result → bytes ≤ self.now.most }
@@ -183,7 +183,7 @@ impl WidthRows {
         self.least <= bytes && bytes <= self.most
     }
 
-    /// The key and the value of a row.
+    /// Returns the key and the value of a row.
     #[inline(always)]
     pub(crate) fn entry(&self, at: usize) -> (&[u8], &[u8])
         requires { at < length self.now.rows }
@@ -211,7 +211,7 @@ impl WidthRows {
         segment.set_value(start, self.stride, value);
     }
 
-    /// Tells a row which position's location names it.
+    /// Writes into a row which position's location names it.
     #[inline(always)]
     pub(crate) fn set_owner(&mut self, at: usize, owner: usize)
         requires range { at < length self.old.rows }
@@ -224,7 +224,7 @@ impl WidthRows {
         segment.set_owner(start, self.stride, owner);
     }
 
-    /// Adds a row after the others. If the segments are full a free one is taken.
+    /// Adds a row after the others. If the segments are full, takes a free one.
     #[inline(always)]
     pub(crate) fn push(&mut self, free: &mut Vec<Segment>, owner: usize, key: &[u8], value: &[u8])
         requires spare { 0 < length free.old.items }
@@ -247,7 +247,8 @@ impl WidthRows {
         self.many += 1;
     }
 
-    /// Removes a row; the last one takes the gap. Whose the last one is. A segment in which no row is left is free.
+    /// Removes a row; the last one takes the gap. Returns the owner of the last one. If no row is left in a segment, it is
+    /// free.
     pub(crate) fn swap_remove(&mut self, free: &mut Vec<Segment>, at: usize) -> usize
         requires range { at < length self.old.rows }
         requires list { self.old.segments + length free.old.items ≤ vec_capacity free.old }
@@ -267,7 +268,7 @@ impl WidthRows {
         owner
     }
 
-    /// Room in the list for the segments of so many rows. Returns `NoMemory` if the request for it is refused.
+    /// Makes room in the list for the segments of this many rows. Returns `NoMemory` if the request for it is refused.
     pub(crate) fn reserve(&mut self, rows: usize) -> Result<(), NoMemory>
         requires { rows ≤ 2 ^ 56 }
         ensures rows { self.new.rows ≡ self.old.rows }

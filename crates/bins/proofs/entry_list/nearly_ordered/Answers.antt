@@ -7,7 +7,7 @@ use Rattle.bins.specs.Copies.{positions_of}
 use Rattle.bins.proofs.OrderedEntries.{range_more}
 use Rattle.bins.proofs.entry_list.nearly_ordered.Goals as goal
 
--- one position more, beside its key's front
+-- one more position, beside its key's front
 pub loop-position-preserved : goal.loop-position-preserved
 loop-position-preserved c =
     let before = c.loop-position.invariant in

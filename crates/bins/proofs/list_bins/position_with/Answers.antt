@@ -5,7 +5,7 @@ use Rattle.bins.proofs.MapEdits.{total}
 use Rattle.bins.proofs.SearchLemmas.{searched}
 use Rattle.bins.proofs.list_bins.position_with.Goals as goal
 
--- the closure compares an entry's key with the one that is searched
+-- the closure compares an entry's key with the wanted one
 pub returns : goal.returns
 returns c =
     let facts = c.binary_search_by.ensures in

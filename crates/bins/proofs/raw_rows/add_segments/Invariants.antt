@@ -1,7 +1,7 @@
 use Rattle.std.proofs.Common.{◌≡◌, ◌+◌, ◌≤◌, length, vec_capacity}
 use Rattle.bins.proofs.raw_rows.add_segments.Given as goal
 
--- so many segments are there, and the list has room for all that are wanted
+-- this many segments are there, and the list has room for all wanted ones
 abbrev pub invariant-loop-count : goal.invariant-loop-count
 invariant-loop-count l = record {
   counted : l.used + length l.free.items ≡ l._count;

@@ -14,7 +14,7 @@ replace_at-requires c =
     let many = c.len-many.ensures.value in
     record { key = omega (arith, many, ap length c.loop-position.invariant.keys); value = omega (arith, many, c.loop-position.invariant.paired) }
 
--- this value was replaced too, and counted by what was told
+-- this value was replaced too, and counted by the answer
 pub loop-position-preserved : goal.loop-position-preserved
 loop-position-preserved c =
     let before = c.loop-position.invariant in
@@ -46,7 +46,7 @@ loop-position-preserved c =
       bounded_unfit = elim c.match-replace_at.branch [ in-Ok-true w ↦ omega arith | in-Ok-false w ↦ omega arith | in-Err w ↦ omega arith ];
     }
 
--- what was replaced is all of the list
+-- all of the list was replaced
 pub returns-clause-each : goal.returns-clause-each
 returns-clause-each c =
     let done = c.loop-position.invariant in

@@ -5,7 +5,7 @@ use Rattle.bins.proofs.ReplacementLemmas.{outcomes_grow, entries_grow, told_answ
 use Rattle.bins.proofs.replacement.replace_values.Goals as goal
 use Rattle.bins.proofs.replacement.replace_values.Goals.{in-Ok-true, in-Ok-false, in-Err}
 
--- this entry was replaced too, and counted by what was told
+-- this entry was replaced too, and counted by the answer
 pub loop-entry-preserved : goal.loop-entry-preserved
 loop-entry-preserved c =
     let before = c.loop-entry.invariant in
@@ -32,7 +32,7 @@ loop-entry-preserved c =
       bounded_unfit = elim c.match-replace_value.branch [ in-Ok-true w ↦ omega arith | in-Ok-false w ↦ omega arith | in-Err w ↦ omega arith ];
     }
 
--- what was replaced is all of the list
+-- all of the list was replaced
 pub returns-clause-each : goal.returns-clause-each
 returns-clause-each c =
     let done = c.loop-entry.invariant in

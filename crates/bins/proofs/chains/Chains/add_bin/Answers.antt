@@ -5,7 +5,7 @@ use Rattle.bins.proofs.ChainLemmas.{links_alike}
 use Rattle.bins.proofs.ChainParts.{links_widened}
 use Rattle.bins.proofs.chains.Chains.add_bin.Goals as goal
 
--- the further bin has no position yet
+-- the new bin has no position yet
 pub part-requires-clause-linked : goal.part-requires-clause-linked
 part-requires-clause-linked c =
     let before = c.requires.chained in

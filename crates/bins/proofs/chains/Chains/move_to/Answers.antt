@@ -19,7 +19,7 @@ link_to-new_link-requires-clause-linked c = (
   taken_out (goal.at.link_to-new_link-requires-clause-linked c).After-relink c.requires.linked.0 c.requires.linked.1 c.requires.linked.2,
 )
 
--- and linked in where it goes
+-- and linked in at its new place
 pub returns-clause-linked : goal.returns-clause-linked
 returns-clause-linked c = λ bin new is e moved.
     let heads_out : length c.relink.new.self.heads.items ≡ length c.args.self.now.heads.items =

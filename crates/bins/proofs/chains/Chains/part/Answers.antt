@@ -31,7 +31,7 @@ loop-at-init c =
 some : (c : After-bin_of) → 0 < c.loop-at.at
 some c = elim (cases_lt 0 c.loop-at.at) [ inl lt ↦ lt | inr ge ↦ absurd (c.loop-at-test.true (omega (arith, ge))) ]
 
--- what the position leads to is the last one before it in the bin
+-- the position leads to the last one before it in the bin
 next_last : (c : After-bin_of) → IsLast (between (bins_of c.args.self.now.half c.args.into c.args.self.now.records.hashes) (bins_of c.args.self.now.half (c.args.into + 1) c.args.self.now.records.hashes) c.loop-at.at)
     (c.loop-at.at - 1) (c.args.into - c.args.self.now.half) c.next-at.result
 next_last c =

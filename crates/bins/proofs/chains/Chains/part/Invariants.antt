@@ -3,7 +3,7 @@ use Rattle.bins.specs.Chains.{AreLinkedBy, bins_of}
 use Rattle.bins.proofs.ChainParts.{between}
 use Rattle.bins.proofs.chains.Chains.part.Given as goal
 
--- the positions from `at` on have been parted
+-- the positions from `at` on have been divided
 abbrev pub invariant-loop-at : goal.invariant-loop-at
 invariant-loop-at l = record {
   half : l.self.half ≡ l.fn.self.half;

@@ -5,7 +5,7 @@ use Rattle.bins.proofs.ChainEdits.{links_taken, split_last}
 use Rattle.bins.proofs.chains.Chains.take_last.Goals as goal
 use Rattle.bins.proofs.chains.Chains.take_last.Goals.{After-remove_last}
 
--- where the last position stands
+-- the place of the last position
 count : (c : After-remove_last) → c.len-position.result - 1 + 1 ≡ length c.args.self.now.records.hashes
 count c = omega (arith, c.len-position.ensures.hashes, c.requires.some)
 

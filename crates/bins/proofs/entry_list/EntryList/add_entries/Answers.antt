@@ -4,7 +4,7 @@ use Rattle.bins.specs.Entries.{entries_in}
 use Rattle.bins.proofs.OrderedEntries.{paired-append, entries_apart}
 use Rattle.bins.proofs.entry_list.EntryList.add_entries.Goals as goal
 
--- the rows go on with the keys and the values of the entries
+-- the keys and the values of the entries come after those of the rows
 pub returns-clause-ok : goal.returns-clause-ok
 returns-clause-ok c =
     let es = c.args.entries.now in

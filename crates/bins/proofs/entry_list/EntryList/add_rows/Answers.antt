@@ -4,7 +4,7 @@ use Rattle.bins.specs.Entries.{entries_in}
 use Rattle.bins.proofs.OrderedEntries.{paired-append}
 use Rattle.bins.proofs.entry_list.EntryList.add_rows.Goals as goal
 
--- the keys and the values go on with those of the others
+-- the keys and the values of the others come after these
 pub returns-clause-ok : goal.returns-clause-ok
 returns-clause-ok c =
     let keys = c.push_all.ensures.keys ∙ ap (λ (xs : List (List ℕ)). xs ++ c.args.rows.now.keys) c.reserve.ensures.keys in

@@ -3,7 +3,7 @@ use Rattle.bins.specs.Table.{Entry}
 use Rattle.bins.proofs.PairedEntries.{joined}
 use Rattle.bins.proofs.entry_list.EntryList.push.Goals as goal
 
--- there is one key more, and its value
+-- there is one more key, and its value
 pub returns-clause-ok : goal.returns-clause-ok
 returns-clause-ok c =
     let key = c.args.key.now in

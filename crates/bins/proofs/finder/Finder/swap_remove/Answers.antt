@@ -7,7 +7,7 @@ use Rattle.bins.specs.declared.finder.Finder.{Finder}
 use Rattle.bins.proofs.FinderLemmas.{map-swap_remove}
 use Rattle.bins.proofs.finder.Finder.swap_remove.Goals as goal
 
--- the hash of the key goes with it
+-- the hash of the key is removed with it
 pub returns-in-Hashes : goal.returns-in-Hashes
 returns-in-Hashes c =
     let hashes = subst (λ (f : Finder). Finds f c.args.rows.now.keys) c.in-Hashes.is c.requires.finds in

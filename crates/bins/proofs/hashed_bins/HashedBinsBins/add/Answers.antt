@@ -11,7 +11,7 @@ use Rattle.bins.proofs.hashed_bins.HashedBinsBins.add.Goals as goal
 pub push-requires-clause-new : goal.push-requires-clause-new
 push-requires-clause-new c = rw c.reserve.ensures.keys (none_within _ _ c.self.invariant.2 _ c.self.invariant.1 (ap (λ (table : Table). map.get table c.args.key.now) c.self.view_is ∙ c.requires.absent))
 
--- the entry comes to the end
+-- the entry goes to the end
 pub settle-requires-clause-once : goal.settle-requires-clause-once
 settle-requires-clause-once c =
     let ks = c.self.inside.rows.keys in

@@ -5,7 +5,7 @@ use Rattle.bins.proofs.AddedCopies.{distinct_added, distinct_many}
 use Rattle.bins.proofs.PairedEntries.{paired-length}
 use Rattle.bins.proofs.hashed_bins.HashedBinsBins.copy_into.Goals as goal
 
--- the entries, which the table has
+-- the entries of the table
 pub returns-clause-ok : goal.returns-clause-ok
 returns-clause-ok c = on_ok_with {Q = AddsCopies c.args.self.now c.args.list.now c.add_rows.new.self} _ c.add_rows.ensures.ok (distinct_added _ c.self.invariant.1 _ c.self.view_is _ _)
 

@@ -6,7 +6,7 @@ use Rattle.bins.proofs.DistinctEntries.{table_of, get_none, removed_distinct, re
 use Rattle.bins.proofs.PairedEntries.{paired-length, entry_found, entry_lacks, parted, parted_length}
 use Rattle.bins.proofs.hashed_bins.HashedBinsBins.discard.Goals as goal
 
--- the entry at the key's position is taken out
+-- the entry at the key's position is removed
 pub invariant_of-self : goal.invariant_of-self
 invariant_of-self c =
     let ks = c.self.inside.rows.keys in

@@ -2,7 +2,7 @@ use Rattle.std.proofs.Common.{rules, sym}
 use Rattle.bins.proofs.MapEdits.{sorted_remove, remove_found, get_gap, remove_absent}
 use Rattle.bins.proofs.list_bins.ListBinsBins.discard.Goals as goal
 
--- the entry at the key's position is taken out
+-- the entry at the key's position is removed
 pub invariant_of-self : goal.invariant_of-self
 invariant_of-self c = search (rules, sorted_remove, c.self.invariant, c.remove.ensures.items)
 

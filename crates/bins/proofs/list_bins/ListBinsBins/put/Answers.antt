@@ -4,7 +4,7 @@ use Rattle.bins.specs.Table.{Table}
 use Rattle.bins.proofs.MapEdits.{on_err_anyway, sorted_write, insert_at, get_gap, sorted_insert, insert_gap}
 use Rattle.bins.proofs.list_bins.ListBinsBins.put.Goals as goal
 
--- the key was there, and its value is written over
+-- the key was there, and its value is replaced
 pub invariant_of-self : goal.invariant_of-self
 invariant_of-self c = search (rules, sorted_write, c.self.invariant, c.index_mut.ensures.value)
 
@@ -28,7 +28,7 @@ returns-in_ok-add_entry-in-Err-clause-ok c =
     let absent = rw c.deref.ensures.value at c.in-Err.ensures.absent in
     rw (c.in_ok-add_entry-in-Err.ensures.ok, c.new_entry.ensures, ← c.self.view_is) (insert_gap _ c.self.invariant _ _ bound absent _)
 
--- memory fails only for a key that was not there
+-- memory fails only if the key was absent
 pub returns-in_err-add_entry-in-Err-clause-memory : goal.returns-in_err-add_entry-in-Err-clause-memory
 returns-in_err-add_entry-in-Err-clause-memory c =
     let bound = rw c.deref.ensures.value at c.in-Err.ensures.bound in

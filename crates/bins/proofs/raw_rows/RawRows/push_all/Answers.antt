@@ -4,7 +4,7 @@ use Rattle.bins.specs.Rows.{keys_in, lists_in, values_in}
 use Rattle.bins.proofs.RowSteps.{keys_length, values_length}
 use Rattle.bins.proofs.raw_rows.RawRows.push_all.Goals as goal
 
--- so many strings, and one more
+-- this many strings, and one more
 one_more : (start xs : List (List ℕ)) (p : ℕ) (now : List (List ℕ)) → p < length xs → now ≡ start ++ take p xs
     → now ++ slice_index_or xs p [] ∷ [] ≡ start ++ take (p + 1) xs
 one_more start xs p now within is =

@@ -6,13 +6,13 @@ use Rattle.bins.proofs.RowLemmas.{read_location, string_read}
 use Rattle.bins.proofs.RowSteps.{Changed, changed_as, overwritten, written_same}
 use Rattle.bins.proofs.raw_rows.RawRows.set_value.Goals as goal
 
--- a location names a row that there is
+-- a location names an existing row
 pub stays-requires-clause-range : goal.stays-requires-clause-range
 stays-requires-clause-range c =
     let named = read_location c.args.self.now.locations.items c.args.position c.index-word.result.now _ c.requires.range c.index-word.ensures (sym c.get.ensures.value ∙ c.in-In.is) in
     ((c.requires.rows.matched c.in-In.width).named _ _ named).0
 
--- the row's value is written over
+-- the row's value is replaced
 pub returns-in-In : goal.returns-in-In
 returns-in-In c =
     let raw = c.args.self.now in

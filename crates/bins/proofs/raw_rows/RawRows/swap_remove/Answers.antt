@@ -14,7 +14,7 @@ returns-clause-rows c =
     subst (λ (ps : List Location). AreRows ps (lists_in less)) (sym c.give_back.ensures.locations)
     (subst (λ (ls : Lists). AreRows taken.locations.items ls) (sym c.give_back.ensures.rows) c.take_vacant.ensures.rows)
 
--- what the vacated position held does not matter
+-- the strings of the vacated position don't matter
 pub returns-clause-keys : goal.returns-clause-keys
 returns-clause-keys c =
     let raw = c.args.self.now in

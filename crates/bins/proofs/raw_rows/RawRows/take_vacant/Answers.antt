@@ -16,7 +16,7 @@ move_in-requires-clause-range c =
     let named = read_location ps.items (c.len.result - 1) c.index-last.result.now _ (omega (arith, at, c.requires.range)) c.index-last.ensures (sym c.get.ensures.value ∙ c.in-In.is) in
     ((c.requires.rows.matched c.in-In.width).named _ _ named).0
 
--- the last position takes the gap, and a row that it names is told so
+-- the last position takes the gap, and the row that it names, if any, gets the new position
 pub returns : goal.returns
 returns c =
     let raw = c.args.self.now in

@@ -8,7 +8,7 @@ use Rattle.bins.proofs.RowSteps.{Changed, changed_as, vacated, written_same}
 use Rattle.bins.proofs.RoomLemmas.{few_widths, roomy_as}
 use Rattle.bins.proofs.raw_rows.RawRows.vacate.Goals as goal
 
--- the location names a row that there is
+-- the location names an existing row
 pub remove_in-owner-requires-clause-range : goal.remove_in-owner-requires-clause-range
 remove_in-owner-requires-clause-range c =
     let named = read_location c.args.self.now.locations.items c.args.position c.index-word.result.now _ c.requires.range c.index-word.ensures (sym c.get.ensures.value ∙ c.in-In.is) in
@@ -23,7 +23,7 @@ new-requires c =
       omega (arith, there, no_more c.in-In.width _ _ matched, c.requires.rows.few),
     )
 
--- the last row took the gap, and its position was told
+-- the last row took the gap, and its position got the new location
 pub returns-in-In : goal.returns-in-In
 returns-in-In c =
     let raw = c.args.self.now in

@@ -2,7 +2,7 @@ use Rattle.std.proofs.Common.{◌+◌, ◌-◌, length, sym, ap, ◌∙◌, arit
 use Rattle.bins.proofs.SegmentLemmas.{kept_through, row_through}
 use Rattle.bins.proofs.segment.Segment.copy_from.Goals as goal
 
--- the bytes beside the row are as they were
+-- the bytes outside the row are unchanged
 pub returns-clause-others : goal.returns-clause-others
 returns-clause-others c =
     let bytes = c.self.inside.bytes in

@@ -3,7 +3,7 @@ use Rattle.std.proofs.lemmas.List.{length-take}
 use Rattle.bins.proofs.SegmentLemmas.{kept_through}
 use Rattle.bins.proofs.segment.Segment.set_value.Goals as goal
 
--- the bytes beside the row are as they were
+-- the bytes outside the row are unchanged
 pub returns-clause-others : goal.returns-clause-others
 returns-clause-others c =
     let bytes = c.self.inside.bytes in

@@ -4,7 +4,7 @@ use Rattle.bins.proofs.TreeLemmas.{locates_more}
 use Rattle.bins.proofs.FinderLemmas.{nowhere}
 use Rattle.bins.proofs.tree.Tree.push.Goals as goal
 
--- the key comes behind the others
+-- the key goes after the others
 pub returns-clause-ok : goal.returns-clause-ok
 returns-clause-ok c =
     let sets = subst (λ (key : List ℕ). Sets c.args.self.now.positions c.add_position.new.positions key (Some c.len-position.result)) c.copied.ensures c.in_ok-add_position.ensures.ok in

@@ -5,7 +5,7 @@ use Rattle.bins.proofs.TreeLemmas.{locates_left}
 use Rattle.bins.proofs.FinderLemmas.{stands, swap_remove_default}
 use Rattle.bins.proofs.tree.Tree.swap_remove.Goals as goal
 
--- the last key was moved, and then the key was taken out
+-- the last key was moved, and then the key was removed
 pub returns-clause-locates : goal.returns-clause-locates
 returns-clause-locates c =
     let keys : List (List ℕ) = c.args.rows.now.keys in
