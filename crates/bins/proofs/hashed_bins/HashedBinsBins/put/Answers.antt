@@ -1,6 +1,5 @@
 use Rattle.std.proofs.Common.{◌≡◌, List, ℕ, length, sym, ap, subst, ◌∙◌}
 use Rattle.std.specs.FinMap as map
-use Rattle.bins.specs.Table.{Table}
 use Rattle.bins.specs.Entries.{Distinct, entries_in}
 use Rattle.bins.specs.Finders.{Finds}
 use Rattle.bins.proofs.DistinctEntries.{table_of}
