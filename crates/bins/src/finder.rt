@@ -1,12 +1,12 @@
 //! Where the keys of rows stand: found by chains of their hashes, or by a tree once chains have become long.
-ghost use Rattle.std.specs.Prelude.{◌≡◌, ◌≢◌, ◌<◌, ◌++◌, ◌↔◌, [], ◌∷◌, length, map, HoldsAt, IfOk, IfSome, IfNone, IsTrue, OnOk, OnErr};
+ghost use Rattle.std.specs.Prelude.{◌≡◌, ◌≢◌, ◌<◌, ◌≤◌, ◌++◌, ◌↔◌, [], ◌∷◌, length, map, HoldsAt, IfOk, IfSome, IfNone, IsTrue, OnOk, OnErr};
 ghost use Rattle.std.specs.List.{AllWithin, swap_remove};
 ghost use Rattle.std.specs.Int.{IsPowerOfTwo, from_le_bytes, to_le_bytes, w64};
 ghost use Rattle.bins.specs.Mixed.{mixed};
 ghost use Rattle.bins.specs.Told.{IsBinCount};
 ghost use Rattle.bins.specs.KeptRows.{string_at};
 ghost use Rattle.bins.specs.Finders.{Finds};
-ghost use Rattle.bins.specs.Trees.{StandOnce};
+ghost use Rattle.bins.specs.Trees.{Locates, StandOnce};
 
 use crate::hashes::HashedKey;
 use crate::index::Index;
@@ -14,6 +14,7 @@ use crate::mixing::Seed;
 use crate::rows::Rows;
 use crate::told_size::ToldSize;
 use crate::tree::Tree;
+use bpf_model::limits::VALUE_BYTES;
 use bpf_model::{Key, NoMemory};
 use std::alloc::Global;
 
@@ -43,10 +44,22 @@ fn word_of(bytes: &[u8]) -> Option<u64>
 fn are_same(one: &[u8], other: &[u8]) -> bool
     ensures { IsTrue result ↔ (one.now ≡ other.now) }
 {
-    match (word_of(one), word_of(other)) {
-        (Some(word), Some(another)) => word == another,
-        _ => one == other,
-    }
+    let Some(word) = word_of(one) else {
+        return one == other;
+    };
+    let Some(another) = word_of(other) else {
+        return one == other;
+    };
+    word == another
+}
+
+/// Where a key was found, and its value there.
+#[derive(Clone, Copy)]
+pub(crate) struct Found<'a> {
+    /// The position of the key.
+    pub position: usize,
+    /// The bytes of its value.
+    pub value: &'a [u8],
 }
 
 /// Returns whether the key at a position is these bytes.
@@ -58,23 +71,57 @@ fn is_at(rows: &Rows, position: usize, bytes: &[u8]) -> bool
     are_same(rows.key(position), bytes)
 }
 
-/// The position of the key with this hash.
+/// The position at which a key was found before, if it stands there as it did then. Takes no memory.
 #[inline(always)]
-fn position_with(index: &Index, rows: &Rows, key: &Key, hash: u64) -> Option<usize>
-    requires index { index.now.hashes ≡ map (mixed index.now.seed) rows.now.keys }
-    requires hash { hash ≡ mixed index.now.seed key.now }
+pub(crate) fn remembered(rows: &Rows, key: &HashedKey<'_>) -> Option<usize>
     ensures bound { IfSome result (λ position. position < length rows.now.keys) }
     ensures found { IfSome result (HoldsAt (λ k. k ≡ key.now) rows.now.keys) }
+{
+    let guess = key.guess();
+    if guess < rows.len() && is_at(rows, guess, key.key().as_slice()) {
+        return Some(guess);
+    }
+    None
+}
+
+/// Where the key with this hash is found.
+#[inline(always)]
+fn found_with<'a>(index: &Index, rows: &'a Rows, key: &Key, hash: u64) -> Option<Found<'a>>
+    requires index { index.now.hashes ≡ map (mixed index.now.seed) rows.now.keys }
+    requires hash { hash ≡ mixed index.now.seed key.now }
+    ensures bound { IfSome result (λ found. found.position < length rows.now.keys) }
+    ensures found { IfSome result (λ found. HoldsAt (λ k. k ≡ key.now) rows.now.keys found.position) }
+    ensures value { IfSome result (λ found. found.value.now ≡ string_at rows.now.values found.position) }
+    ensures fits { IfSome result (λ found. length found.value.now ≤ VALUE_BYTES) }
     ensures absent { IfNone result (AllWithin (λ k. k ≢ key.now) rows.now.keys 0 (length rows.now.keys)) }
 {
     let mut next = index.last(hash);
     while let Some(position) = next {
-        if is_at(rows, position, key.as_slice()) {
-            return Some(position);
+        let (stored, value) = rows.entry(position);
+        if are_same(stored, key.as_slice()) {
+            return Some(Found { position, value });
         }
         next = index.before(position, hash);
     }
     None
+}
+
+/// Where the tree finds a key.
+fn found_by<'a>(tree: &Tree, rows: &'a Rows, key: &Key) -> Option<Found<'a>>
+    requires locates { Locates tree.now.positions rows.now.keys }
+    ensures bound { IfSome result (λ found. found.position < length rows.now.keys) }
+    ensures found { IfSome result (λ found. HoldsAt (λ k. k ≡ key.now) rows.now.keys found.position) }
+    ensures value { IfSome result (λ found. found.value.now ≡ string_at rows.now.values found.position) }
+    ensures fits { IfSome result (λ found. length found.value.now ≤ VALUE_BYTES) }
+    ensures absent { IfNone result (AllWithin (λ k. k ≢ key.now) rows.now.keys 0 (length rows.now.keys)) }
+{
+    match tree.position(key) {
+        Some(position) => Some(Found {
+            position,
+            value: rows.value(position),
+        }),
+        None => None,
+    }
 }
 
 impl Finder {
@@ -107,24 +154,40 @@ impl Finder {
         }
     }
 
-    /// The position of a key. Takes no memory.
+    /// Where a key is found: one reading of its row compares the key and gives the value. Takes no memory.
     #[inline(always)]
+    pub(crate) fn found<'a>(&self, rows: &'a Rows, key: &HashedKey<'_>) -> Option<Found<'a>>
+        requires finds { Finds self.now rows.now.keys }
+        ensures bound { IfSome result (λ found. found.position < length rows.now.keys) }
+        ensures found { IfSome result (λ found. HoldsAt (λ k. k ≡ key.now) rows.now.keys found.position) }
+        ensures value { IfSome result (λ found. found.value.now ≡ string_at rows.now.values found.position) }
+        ensures fits { IfSome result (λ found. length found.value.now ≤ VALUE_BYTES) }
+        ensures absent { IfNone result (AllWithin (λ k. k ≢ key.now) rows.now.keys 0 (length rows.now.keys)) }
+    {
+        match self {
+            Finder::Hashes(index) => {
+                let hash = index.hash_of(key.key().as_slice());
+                found_with(index, rows, key.key(), hash)
+            }
+            Finder::Keys(tree) => found_by(tree, rows, key.key()),
+        }
+    }
+
+    /// The position of a key. Takes no memory.
+    #[inline(never)]
     pub(crate) fn position(&self, rows: &Rows, key: &HashedKey<'_>) -> Option<usize>
         requires finds { Finds self.now rows.now.keys }
         ensures bound { IfSome result (λ position. position < length rows.now.keys) }
         ensures found { IfSome result (HoldsAt (λ k. k ≡ key.now) rows.now.keys) }
         ensures absent { IfNone result (AllWithin (λ k. k ≢ key.now) rows.now.keys 0 (length rows.now.keys)) }
     {
-        match self {
-            Finder::Hashes(index) => {
-                let hash = index.hash_of(key.key().as_slice());
-                position_with(index, rows, key.key(), hash)
-            }
-            Finder::Keys(tree) => tree.position(key.key()),
+        match self.found(rows, key) {
+            Some(found) => Some(found.position),
+            None => None,
         }
     }
 
-    /// The position of a key that was perhaps found before: where it stands as it did then, no search is made. Takes no memory.
+    /// The position of a key: if it stands where it was found before, no search is made. Takes no memory.
     #[inline(always)]
     pub(crate) fn position_again(&self, rows: &Rows, key: &HashedKey<'_>) -> Option<usize>
         requires finds { Finds self.now rows.now.keys }
@@ -132,11 +195,10 @@ impl Finder {
         ensures found { IfSome result (HoldsAt (λ k. k ≡ key.now) rows.now.keys) }
         ensures absent { IfNone result (AllWithin (λ k. k ≢ key.now) rows.now.keys 0 (length rows.now.keys)) }
     {
-        let guess = key.guess();
-        if guess < rows.len() && is_at(rows, guess, key.key().as_slice()) {
-            return Some(guess);
+        match remembered(rows, key) {
+            Some(position) => Some(position),
+            None => self.position(rows, key),
         }
-        self.position(rows, key)
     }
 
     /// Adds a key, at the position after these. Returns `NoMemory` if a request for memory is refused.

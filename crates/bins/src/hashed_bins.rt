@@ -1,11 +1,13 @@
 //! Entries found by the hashes of their keys, in rows of many widths.
+ghost use Rattle.std.specs.Prelude.{◌≡◌, None, OnOk, OnErr};
+ghost use Rattle.std.specs.FinMap as map;
 ghost use Rattle.std.specs.Int.{IsPowerOfTwo};
 ghost use Rattle.bins.specs.Told.{IsBinCount};
 
 use crate::bins::Bins;
 use crate::counts::Counts;
 use crate::entry_list::EntryList;
-use crate::finder::Finder;
+use crate::finder::{Finder, remembered};
 use crate::hashes::HashedKey;
 use crate::mixing::Seed;
 use crate::replacement::replace_rows;
@@ -58,6 +60,22 @@ impl HashedBins {
     {
         self.finder.stripes()
     }
+
+    /// Sets the value of a key that does not stand where it was found before, if it was.
+    #[inline(never)]
+    fn put_searched(&mut self, key: &HashedKey<'_>, value: &Value) -> Result<(), NoMemory>
+        ensures ok { OnOk result (self.new ≡ map.insert self.old key.now value.now) }
+        ensures err { OnErr result (self.new ≡ self.old) }
+        ensures memory { OnErr result (map.get self.old key.now ≡ None) }
+    {
+        match self.finder.position(&self.rows, key) {
+            Some(position) => {
+                self.rows.set_value(position, value.as_slice());
+                Ok(())
+            }
+            None => self.add(key, value),
+        }
+    }
 }
 
 impl Bins for HashedBins {
@@ -77,10 +95,10 @@ impl Bins for HashedBins {
 
     #[inline(always)]
     fn find(&self, key: &HashedKey<'_>) -> Option<&[u8]> {
-        match self.finder.position(&self.rows, key) {
-            Some(position) => {
-                key.remember(position);
-                Some(self.rows.value(position))
+        match self.finder.found(&self.rows, key) {
+            Some(found) => {
+                key.remember(found.position);
+                Some(found.value)
             }
             None => None,
         }
@@ -88,12 +106,12 @@ impl Bins for HashedBins {
 
     #[inline(always)]
     fn put(&mut self, key: &HashedKey<'_>, value: &Value) -> Result<(), NoMemory> {
-        match self.finder.position_again(&self.rows, key) {
+        match remembered(&self.rows, key) {
             Some(position) => {
                 self.rows.set_value(position, value.as_slice());
                 Ok(())
             }
-            None => self.add(key, value),
+            None => self.put_searched(key, value),
         }
     }
 

@@ -538,7 +538,7 @@ impl RawRows {
         Ok(())
     }
 
-    /// Gives free segments back to the allocator if there are few entries beside those that have room.
+    /// Gives memory back to the allocator if there are few entries beside those that have room, or none.
     #[inline(always)]
     fn give_back(&mut self)
         requires room { IsRoomy self.old }
@@ -546,12 +546,13 @@ impl RawRows {
         ensures rows { lists_in self.new ≡ lists_in self.old }
         ensures room { IsRoomy self.new }
     {
-        if self.room >= 64 && self.locations.len() < self.room / 4 {
+        let few = self.locations.len();
+        if (self.room >= 64 && few < self.room / 4) || (self.room >= 16 && few == 0) {
             self.shrink();
         }
     }
 
-    /// Gives free segments back to the allocator that no position may come to need.
+    /// Gives back to the allocator what no position may come to need: free segments, and the end of the list of locations.
     #[inline(never)]
     fn shrink(&mut self)
         requires room { IsRoomy self.old }
@@ -563,6 +564,7 @@ impl RawRows {
         let room = (few + few / 8).min(self.room);
         let used = count_used(&self.widths);
         self.free.truncate(wanted_for(room).saturating_sub(used));
+        self.locations.shrink_to(room);
         self.room = room;
     }
 }

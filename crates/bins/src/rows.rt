@@ -69,6 +69,17 @@ impl Rows {
         self.raw.entry(position).1
     }
 
+    /// The key and the value at a position. Takes no memory.
+    #[inline(always)]
+    pub(crate) fn entry(&self, position: usize) -> (&[u8], &[u8])
+        requires { position < length self.now.keys }
+        ensures key { result.0.now ≡ string_at self.now.keys position }
+        ensures value { result.1.now ≡ string_at self.now.values position }
+        ensures fits { length result.1.now ≤ VALUE_BYTES }
+    {
+        self.raw.entry(position)
+    }
+
     /// The key and the value at a position; no bytes after the last one. Takes no memory.
     #[inline(always)]
     pub(crate) fn get_any(&self, position: usize) -> (&[u8], &[u8])

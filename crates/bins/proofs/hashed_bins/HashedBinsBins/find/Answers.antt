@@ -7,7 +7,7 @@ use Rattle.bins.proofs.hashed_bins.HashedBinsBins.find.Goals as goal
 pub returns-in-Some : goal.returns-in-Some
 returns-in-Some c =
     let value = found_here _ _ c.self.invariant.2 _ _ c.self.invariant.1 c.in-Some.ensures.bound c.in-Some.ensures.found in
-    record { value = rw (← c.self.view_is) (cc (c.value.ensures.value, value)); fits = c.value.ensures.fits }
+    record { value = rw (← c.self.view_is) (cc (c.in-Some.ensures.value, value)); fits = c.in-Some.ensures.fits }
 
 -- the key has no value
 pub returns-in-None : goal.returns-in-None

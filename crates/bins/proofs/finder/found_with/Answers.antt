@@ -1,7 +1,7 @@
 use Rattle.std.proofs.Common.{◌≡◌, ◌≢◌, ◌<◌, ℕ, List, [], true, false, length, refl, get_or, sym, ◌∙◌, arith}
 use Rattle.std.proofs.lemmas.List.{get_or_default}
 use Rattle.bins.proofs.HashSearch.{as_many, past, past_all}
-use Rattle.bins.proofs.finder.position_with.Goals as goal
+use Rattle.bins.proofs.finder.found_with.Goals as goal
 
 never : false ≡ true → ⊥
 never e = cc
@@ -16,16 +16,18 @@ loop-next-init c = record {
 }
 
 -- the position is that of a key
-pub is_at-requires : goal.is_at-requires
-is_at-requires c = let last = rw c.in-Some.is at c.loop-next.invariant.last in omega (arith, last.0, c.loop-next.invariant.bound)
+pub entry-requires : goal.entry-requires
+entry-requires c = let last = rw c.in-Some.is at c.loop-next.invariant.last in omega (arith, last.0, c.loop-next.invariant.bound)
 
-pub returns-then-is_at : goal.returns-then-is_at
-returns-then-is_at c =
+pub returns-then-are_same : goal.returns-then-are_same
+returns-then-are_same c =
     let last = rw c.in-Some.is at c.loop-next.invariant.last in
     let inside : c.in-Some.position < length c.args.rows.now.keys = omega (arith, last.0, c.loop-next.invariant.bound) in
     record {
       bound = inside;
-      found = λ d. get_or_default c.args.rows.now.keys c.in-Some.position d [] inside ∙ c.if-is_at.ensures.exact.0 refl ∙ c.as_slice.ensures.value;
+      found = λ d. get_or_default c.args.rows.now.keys c.in-Some.position d [] inside ∙ sym c.entry.ensures.key ∙ c.if-are_same.ensures.0 refl ∙ c.as_slice.ensures.value;
+      value = c.entry.ensures.value;
+      fits = c.entry.ensures.fits;
       absent = tt;
     }
 
@@ -40,7 +42,7 @@ loop-next-preserved c =
     let last = rw c.in-Some.is at c.loop-next.invariant.last in
     let inside : c.in-Some.position < length c.args.rows.now.keys = omega (arith, last.0, c.loop-next.invariant.bound) in
     let other : (d : List ℕ) → get_or c.args.rows.now.keys c.in-Some.position d ≢ c.args.key.now = λ d same.
-    never (c.if-is_at.ensures.exact.1 (get_or_default c.args.rows.now.keys c.in-Some.position [] d inside ∙ same ∙ sym c.as_slice.ensures.value)) in
+    never (c.if-are_same.ensures.1 (c.entry.ensures.key ∙ get_or_default c.args.rows.now.keys c.in-Some.position [] d inside ∙ same ∙ sym c.as_slice.ensures.value)) in
     record {
       end = c.in-Some.position;
       bound = omega (arith, inside);
