@@ -115,13 +115,9 @@ fn found_by<'a>(tree: &Tree, rows: &'a Rows, key: &Key) -> Option<Found<'a>>
     ensures fits { IfSome result (λ found. length found.value.now ≤ VALUE_BYTES) }
     ensures absent { IfNone result (AllWithin (λ k. k ≢ key.now) rows.now.keys 0 (length rows.now.keys)) }
 {
-    match tree.position(key) {
-        Some(position) => Some(Found {
-            position,
-            value: rows.value(position),
-        }),
-        None => None,
-    }
+    let position = tree.position(key)?;
+    let value = rows.value(position);
+    Some(Found { position, value })
 }
 
 impl Finder {
@@ -181,10 +177,8 @@ impl Finder {
         ensures found { IfSome result (HoldsAt (λ k. k ≡ key.now) rows.now.keys) }
         ensures absent { IfNone result (AllWithin (λ k. k ≢ key.now) rows.now.keys 0 (length rows.now.keys)) }
     {
-        match self.found(rows, key) {
-            Some(found) => Some(found.position),
-            None => None,
-        }
+        let found = self.found(rows, key)?;
+        Some(found.position)
     }
 
     /// The position of a key: if it stands where it was found before, no search is made. Takes no memory.
