@@ -183,6 +183,10 @@ class Client:
     def walk(self, body: bytes) -> list[bytes]:
         """Sends the request of a walk and reads its items and what ends them."""
         self.send(body)
+        return self.walked()
+
+    def walked(self) -> list[bytes]:
+        """Reads the items of a walk and what ends them."""
         answers = [self.answer()]
         while answers[-1][0] == ITEM:
             answers.append(self.answer())
