@@ -38,11 +38,12 @@ BATCH = 100
 PATIENCE = 60
 # Of so many programs one is changed from a plain one, whose verdict is mostly good.
 FRESH = 40
+WORTH_OF_A_VERDICT = 20
 MODEL = frozenset(str(HERE / name) for name in ("model.py", "model_verifier.py"))
 KEY = b"a key"
 REGISTERED, VALUE, UNFIT, REFUSED = 0x81, 0x82, 0x84, 0x85
 
-Ways = set[Hashable]
+Ways = set[tuple[Hashable, ...]]
 
 
 class Case(NamedTuple):
@@ -213,7 +214,7 @@ class Search:
 
     def __init__(self, dice: random.Random) -> None:
         self.dice = dice
-        self.kept: list[tuple[Case, frozenset[Hashable]]] = []
+        self.kept: list[tuple[Case, frozenset[tuple[Hashable, ...]]]] = []
         self.ways: Ways = set()
         self.tried = 0
 
@@ -245,12 +246,15 @@ class Search:
         return Case(sizes, changes.code_of(units))
 
     def least(self) -> list[Case]:
-        """Few programs that take all ways, as many as there is room for: in turn the one with the most new ways for its length."""
+        """Few programs that take all ways, as many as there is room for: in turn the one with the most new ways for its length. A verdict
+        on an opcode counts for several."""
         left, chosen, room = set(self.ways), [], MOST_BYTES
 
         def worth(at: int) -> float:
             case, ways = self.kept[at]
-            return len(ways & left) / (len(case.code) + 16)
+            new = ways & left
+            verdicts = sum(way[0] == "verdict" for way in new)
+            return (len(new) + WORTH_OF_A_VERDICT * verdicts) / (len(case.code) + 16)
 
         # A program's worth only falls, so the first whose worth is still as it was is the best.
         waiting = [(-worth(at), at) for at in range(len(self.kept))]
