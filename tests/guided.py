@@ -39,7 +39,8 @@ PATIENCE = 60
 # Of so many programs one is changed from a plain one, whose verdict is mostly good.
 FRESH = 40
 WORTH_OF_A_VERDICT = 20
-MODEL = frozenset(str(HERE / name) for name in ("model.py", "model_verifier.py"))
+# The files whose lines are noted, those of one as numbers below 0.
+MODEL = {str(HERE / "model.py"): -1, str(HERE / "model_verifier.py"): 1}
 KEY = b"a key"
 REGISTERED, VALUE, UNFIT, REFUSED = 0x81, 0x82, 0x84, 0x85
 
@@ -95,10 +96,11 @@ class Watched(Verifier):
         self.lines: set[int] = set()
 
     def note_line(self, frame: FrameType, event: str, _: Any) -> Any:
-        if frame.f_code.co_filename not in MODEL:
+        sign = MODEL.get(frame.f_code.co_filename)
+        if sign is None:
             return None
         if event == "line":
-            self.lines.add(frame.f_lineno)
+            self.lines.add(sign * frame.f_lineno)
         return self.note_line
 
     def sent(self, state: State, insn: Insn, sizes: Sizes) -> list[tuple[int, State]]:
