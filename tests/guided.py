@@ -38,7 +38,11 @@ BATCH = 100
 PATIENCE = 60
 # Of so many programs one is changed from a plain one, whose verdict is mostly good.
 FRESH = 40
-WORTH_OF_A_VERDICT = 20
+# What a new verdict on an opcode counts in the choice of programs, beside any other way, and how much more accepted programs count, since
+# they are run too.
+WORTH_OF_A_VERDICT = 4
+WORTH_OF_ACCEPTED = 4
+ACCEPTED = ("verdict", "", b"")
 # The files whose lines are noted, those of one as numbers below 0.
 MODEL = {str(HERE / "model.py"): -1, str(HERE / "model_verifier.py"): 1}
 KEY = b"a key"
@@ -248,15 +252,15 @@ class Search:
         return Case(sizes, changes.code_of(units))
 
     def least(self) -> list[Case]:
-        """Few programs that take all ways, as many as there is room for: in turn the one with the most new ways for its length. A verdict
-        on an opcode counts for several."""
+        """Few programs that take all ways, as many as there is room for: in turn the one with the most new ways for its length."""
         left, chosen, room = set(self.ways), [], MOST_BYTES
 
         def worth(at: int) -> float:
             case, ways = self.kept[at]
             new = ways & left
             verdicts = sum(way[0] == "verdict" for way in new)
-            return (len(new) + WORTH_OF_A_VERDICT * verdicts) / (len(case.code) + 16)
+            factor = WORTH_OF_ACCEPTED if ACCEPTED in ways else 1
+            return factor * (len(new) + WORTH_OF_A_VERDICT * verdicts) / (len(case.code) + 16)
 
         # A program's worth only falls, so the first whose worth is still as it was is the best.
         waiting = [(-worth(at), at) for at in range(len(self.kept))]
