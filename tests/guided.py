@@ -12,6 +12,7 @@ written to tests/guided.txt, a program a line: its four sizes and its bytes. By 
 from __future__ import annotations
 
 import argparse
+import heapq
 import random
 import subprocess
 import sys
@@ -37,11 +38,17 @@ BATCH = 100
 PATIENCE = 60
 # Of so many programs one is changed from a plain one, whose verdict is mostly good.
 FRESH = 40
-MODEL = frozenset(str(HERE / name) for name in ("model.py", "model_verifier.py"))
+# What a new verdict on an opcode counts in the choice of programs, beside any other way, and how much more accepted programs count, since
+# they are run too.
+WORTH_OF_A_VERDICT = 4
+WORTH_OF_ACCEPTED = 4
+ACCEPTED = ("verdict", "", b"")
+# The files whose lines are noted, those of one as numbers below 0.
+MODEL = {str(HERE / "model.py"): -1, str(HERE / "model_verifier.py"): 1}
 KEY = b"a key"
 REGISTERED, VALUE, UNFIT, REFUSED = 0x81, 0x82, 0x84, 0x85
 
-Ways = set[Hashable]
+Ways = set[tuple[Hashable, ...]]
 
 
 class Case(NamedTuple):
@@ -93,10 +100,11 @@ class Watched(Verifier):
         self.lines: set[int] = set()
 
     def note_line(self, frame: FrameType, event: str, _: Any) -> Any:
-        if frame.f_code.co_filename not in MODEL:
+        sign = MODEL.get(frame.f_code.co_filename)
+        if sign is None:
             return None
         if event == "line":
-            self.lines.add(frame.f_lineno)
+            self.lines.add(sign * frame.f_lineno)
         return self.note_line
 
     def sent(self, state: State, insn: Insn, sizes: Sizes) -> list[tuple[int, State]]:
@@ -116,16 +124,18 @@ class Watched(Verifier):
         return super().join_values(a, b)
 
 
-def judged(case: Case) -> tuple[str, Ways]:
-    """What the second implementation says of a program, and the ways that it took."""
+def verdict_of(case: Case, by: Verifier) -> str:
+    """What the second implementation says of a program."""
     fault = changes.fault_of(case.code)
-    if fault:
-        return "refused {} at {}".format(*fault), {("fault", fault[0], case.code[8 * fault[1]:8 * fault[1] + 1])}
-    rules_now = Watched()
-    verdict = checked(rules_now, case.code, case.declared())
-    refused = [case.code[8 * int(verdict.split()[-1])]] if verdict != "accepted" else []
-    rules_now.ways.add((verdict.split(" at ")[0], *refused))
-    return verdict, rules_now.ways
+    return "refused {} at {}".format(*fault) if fault else checked(by, case.code, case.declared())
+
+
+def judged(case: Case) -> tuple[str, Ways]:
+    """The verdict, and the ways that were taken to it: with the opcode that is refused."""
+    watched = Watched()
+    verdict = verdict_of(case, watched)
+    _, number, _, unit = verdict.split() if verdict != "accepted" else ("", "", "", "0")
+    return verdict, watched.ways | {("verdict", number, case.code[8 * int(unit):][:1] if number else b"")}
 
 
 # ---- the built program
@@ -210,7 +220,7 @@ class Search:
 
     def __init__(self, dice: random.Random) -> None:
         self.dice = dice
-        self.kept: list[tuple[Case, frozenset[Hashable]]] = []
+        self.kept: list[tuple[Case, frozenset[tuple[Hashable, ...]]]] = []
         self.ways: Ways = set()
         self.tried = 0
 
@@ -242,18 +252,29 @@ class Search:
         return Case(sizes, changes.code_of(units))
 
     def least(self) -> list[Case]:
-        """Few programs that take all ways, the shortest for its ways first, as many as there is room for."""
+        """Few programs that take all ways, as many as there is room for: in turn the one with the most new ways for its length."""
         left, chosen, room = set(self.ways), [], MOST_BYTES
-        waiting = sorted(self.kept, key=lambda kept: len(kept[0].code))
-        while waiting and left:
-            best = max(waiting, key=lambda kept: len(kept[1] & left) / (len(kept[0].code) + 16))
-            waiting = [kept for kept in waiting if kept is not best and kept[1] & left]
-            left -= best[1]
-            room -= len(best[0].line()) + 1
-            if room < 0:
-                break
-            chosen.append(best[0])
-        return chosen
+
+        def worth(at: int) -> float:
+            case, ways = self.kept[at]
+            new = ways & left
+            verdicts = sum(way[0] == "verdict" for way in new)
+            factor = WORTH_OF_ACCEPTED if ACCEPTED in ways else 1
+            return factor * (len(new) + WORTH_OF_A_VERDICT * verdicts) / (len(case.code) + 16)
+
+        # A program's worth only falls, so the first whose worth is still as it was is the best.
+        waiting = [(-worth(at), at) for at in range(len(self.kept))]
+        heapq.heapify(waiting)
+        while waiting and left and room > 0:
+            worth_before, at = heapq.heappop(waiting)
+            worth_now = worth(at)
+            if worth_now == -worth_before and worth_now:
+                left -= self.kept[at][1]
+                room -= len(self.kept[at][0].line()) + 1
+                chosen.append(self.kept[at][0])
+            elif worth_now:
+                heapq.heappush(waiting, (-worth_now, at))
+        return chosen[:-1] if room < 0 else chosen
 
 
 def batches(cases: Iterable[Case]) -> Iterable[list[Case]]:
@@ -271,7 +292,7 @@ def replayed(program: Path, cases: list[Case]) -> int:
     """Compares each program; how many are accepted."""
     accepted = 0
     for batch in batches(cases):
-        told = [(case, judged(case)[0]) for case in batch]
+        told = [(case, verdict_of(case, Verifier())) for case in batch]
         compare(program, told)
         accepted += sum(verdict == "accepted" for _, verdict in told)
     return accepted

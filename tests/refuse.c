@@ -3,10 +3,9 @@
    the fourth, and so on. Each refused request adds a byte to the file that REFUSED_FILE names. At the end the file that
    REQUESTS_FILE names is told how many requests there were; a program that ends by _exit tells nothing.
 
-   If EACH_FILE names a file, each request is refused in a child of its own, which runs to its end while the program waits, and then
-   the program goes on with the memory. So one run refuses each request in turn. The file gets what each child prints and then a
-   line with its status; EACH_STEP names a number if only each request whose number it divides is to be refused. The program must have
-   one thread, and a standard input that can be read again. */
+   If EACH_FILE names a file, each request is refused in a child of its own, which runs to its end while the program waits; then the
+   program gets the memory and goes on. So one run refuses each request in turn. The file gets what each child prints, and a line with
+   its status. The program must have one thread, and a standard input that can be read again. */
 #include <errno.h>
 #include <fcntl.h>
 #include <stddef.h>
@@ -59,12 +58,16 @@ static void begin_child(int file)
     close(file);
 }
 
-/* Waits for the child, tells its status (256 and above: the signal that ended it), and reads the input again from this place. */
+/* Waits for the child, tells its status (256 and above: the signal that ended it), and reads the input again from this place. It makes
+   no request for memory, which dprintf would. */
 static void end_child(pid_t child, int file, off_t place)
 {
+    char line[32];
     int status = 0;
     waitpid(child, &status, 0);
-    dprintf(file, "status %d\n", WIFEXITED(status) ? WEXITSTATUS(status) : 256 + WTERMSIG(status));
+    int length = snprintf(line, sizeof line, "status %d\n", WIFEXITED(status) ? WEXITSTATUS(status) : 256 + WTERMSIG(status));
+    if (write(file, line, length) != length)
+        abort();
     close(file);
     lseek(STDIN_FILENO, place, SEEK_SET);
 }
@@ -88,9 +91,8 @@ static int is_refused(size_t size)
 {
     unsigned long request = __atomic_add_fetch(&requests, 1, __ATOMIC_RELAXED);
     const char *each = getenv("EACH_FILE");
-    unsigned long step = each ? number_of("EACH_STEP") : 0;
     if (each)
-        return !is_child && request % (step ? step : 1) == 0 && is_refused_in_child(each);
+        return !is_child && is_refused_in_child(each);
     if (request != number_of("REFUSED_REQUEST") && !is_between_marks(size))
         return 0;
     tell_refused();

@@ -119,14 +119,10 @@ shape() {
         }'
 }
 
-# Runs bpfmap once on $work/in, with each request refused in a child: $work/each has what each child printed and its status. A step
-# above 1 refuses each request alone that it divides.
+# Runs bpfmap once on $work/in, with each request refused in a child: $work/each has what each child printed and its status.
 run_each() {
-    local step=$1
-    shift
-    rm -f "$work/each" "$work/requests"
-    EACH_STEP=$step EACH_FILE=$work/each REQUESTS_FILE=$work/requests LD_PRELOAD=$work/refuse.so \
-        timeout 60 "$bpfmap" "$@" < "$work/in" > "$work/out" 2> "$work/err" || true
+    rm -f "$work/each"
+    timeout 60 env LD_PRELOAD="$work/refuse.so" EACH_FILE="$work/each" "$bpfmap" "$@" < "$work/in" > "$work/out" 2> "$work/err" || true
     refused=$(grep -ac '^status ' "$work/each" || true)
     rows=$((rows + 1))
     total=$((total + refused))
@@ -139,15 +135,22 @@ judge() {
     if "$@"; then passed=$((passed + 1)); else fail "$name: $(cat "$work/out" "$work/err")"; fi
 }
 
-# Whether the program itself printed this, each child 9 alone, and there was one at least.
+# The requests for the two lists of the command line's words: std's `collect` makes them again with less, so they are refused
+# without a trace. They are made before anything of the input is read.
+retried=2
+
+# Whether the program itself printed this with this status, each child 9 alone, but for those two, and there were more.
 answers_9() {
-    [ "$(cat "$work/out")" = "$1" ] && [ "$refused" -gt 0 ] &&
-        [ "$(sort -u "$work/each")" = $'refused 9 at 0\nstatus 1' ] && [ "$(grep -c refused "$work/each")" = "$refused" ]
+    local others
+    others=$(paste -sd ' \n' "$work/each" | grep -vx 'refused 9 at 0 status 1' || true)
+    [ "$(cat "$work/out")" = "$1" ] && [ "$refused" -gt "$retried" ] &&
+        [ "$(uniq -c <<< "$others" | tr -s ' ')" = " $retried $1 status $2" ]
 }
 
-# Whether the program itself registered the program, and no child did.
+# Whether the program itself registered the program, and no child but those two.
 registers_none() {
-    LC_ALL=C grep -aq $'\x81' "$work/out" && [ "$refused" -gt 0 ] && ! LC_ALL=C grep -aq $'\x81' "$work/each"
+    [ "$(LC_ALL=C grep -aoc $'\x81' "$work/out")" = 1 ] && [ "$refused" -gt "$retried" ] &&
+        [ "$(LC_ALL=C grep -ao $'\x81' "$work/each" | wc -l)" = "$retried" ]
 }
 
 # Bytes in hex, as bytes.
@@ -164,16 +167,17 @@ register() {
     cat "$work/program"
 }
 
-# A shape, its units, what `check` prints of it, and a step: each request of a check and of a Register is refused.
+# A shape, its units, and what `check` prints of it with which status: each request of a check is refused, and if the program is
+# accepted, of a Register.
 refuse_each_of_shape() {
     local name="$1 of $2 units"
     shape "$1" "$2" > "$work/program"
     cp "$work/program" "$work/in"
-    run_each "$4" check --result 1024
-    judge "check, $name" answers_9 "$3"
-    [ "$3" = accepted ] || return 0
+    run_each check --result 1024
+    judge "check, $name" answers_9 "$3" "$4"
+    [ "$4" = 0 ] || return 0
     register | bytes_of > "$work/in"
-    run_each "$4" exec
+    run_each exec
     judge "Register, $name" registers_none
 }
 
@@ -181,10 +185,9 @@ total=0
 begun=$SECONDS
 for name in straight ladder far store; do
     refuse_each_of_shape "$name" 1 "refused 40 at 0" 1
-    for units in 2 64 512; do
-        refuse_each_of_shape "$name" "$units" accepted 1
+    for units in 2 8 64 66 128 512 1024 4096; do
+        refuse_each_of_shape "$name" "$units" accepted 0
     done
-    refuse_each_of_shape "$name" 4096 accepted 7
 done
 echo "refused: $total requests of check and Register, one at a time, in $((SECONDS - begun)) seconds"
 

@@ -96,7 +96,8 @@ DEFINE_ACCESS(64)
 
 /* ---- what keeps the compiler from taking away what the verifier has to see */
 
-/* The value is used here, and may be any from here on: what the compiler knew of it is forgotten. */
+/* The value is used here, and may be any from here on: what the compiler knew of it is forgotten. An array whose address goes through
+ * this before it is filled stays on the stack, even if all its contents are constants. */
 #define OPAQUE(value) asm volatile("" : "+r"(value))
 
 /* BOUND and MASK take a variable of 64 bits and a constant from 0 to 0x7fffffff, or do not compile, neither for BPF nor for the
@@ -124,7 +125,8 @@ DEFINE_ACCESS(64)
     } while (0)
 #endif
 
-/* Keeps the bits of a variable that this constant has, even where the compiler knows that there are no others. */
+/* Keeps the bits of a variable that this constant has, even if the compiler knows that there are no others. The compiler doesn't know
+ * the bound, so it adds such a place to an array's address, and doesn't join the two by `or`. */
 #ifdef __bpf__
 #define MASK(value, bits)                                                                                              \
     do {                                                                                                               \
