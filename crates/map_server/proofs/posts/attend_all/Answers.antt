@@ -5,7 +5,7 @@ use Rattle.map_server.proofs.PostLemmas.{crews_carry_same, as_many, posts_of_map
 use Rattle.map_server.proofs.posts.attend_all.Goals as goal
 
 pub attend_each-requires-clause-crews : goal.attend_each-requires-clause-crews
-attend_each-requires-clause-crews g c = posts_of_map c.args.worker.now.map.now c.args.crews.items c.in_ok-posts.posts.items c.in_ok-posts.ensures c.requires.crews
+attend_each-requires-clause-crews g c = λ κs lives. posts_of_map c.args.worker.now.map.now c.args.crews.items c.in_ok-posts.posts.items c.in_ok-posts.ensures c.requires.crews
 
 pub crews_of-requires-clause-room : goal.crews_of-requires-clause-room
 crews_of-requires-clause-room g c =
