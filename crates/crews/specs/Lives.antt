@@ -63,7 +63,7 @@ module _ {C : Type 0} (state : C → ChannelState) where
     pub says : SaysSo leaving held exchanges read (written ++ owed.rest)
     pub unfailed : leaving ≡ None → owed.failures ≡ 0
 
--- over which connections were given to the worker, when its pass knew what
+-- over which connections were given to the worker, and what its pass knew then
 module _ {C : Type 0} (gave : PassState → C → Type 0) where
   -- the turns lead from what the passes knew to what they know, and the client of this number came among them with this connection:
   -- none of the earlier ones is its own
@@ -100,7 +100,7 @@ module _ {C : Type 0} (state : C → ChannelState) (gave : PassState → C → T
       (came : C) × (now : C) × (tokens : List ProgramToken) × (held : Held) × (owed : OwedState) × (leaving : Option Parting)
       × HasCome gave old turns new client came × Stands state came now (exchanges_of client turns) tokens held owed leaving
 
-  -- the turns of so many clients lead from what the passes knew to what they know
+  -- the turns of this number of clients lead from what the passes knew to what they know
   pub record Life (old : Known) (turns : List Turn) (new : Known) (clients : ℕ) : Type 0 where
     pub moves : Moves old (all_exchanges turns) new
     pub each : (client : ℕ) → client < clients → IsOfClient old turns new client

@@ -1,4 +1,4 @@
-//! Where clients come from.
+//! The source of clients.
 ghost use Rattle.std.specs.Prelude.{IfSome};
 ghost use Rattle.devices.specs.Devices.{CanRead, CanWrite};
 
@@ -26,7 +26,7 @@ pub trait Accept<R: Source, W: Sink> {
         ensures able { IfSome result (λ client. CanRead (R.state client.0) × CanWrite (W.state client.1)) }
         ensures gave { IfSome result (λ client. gave crew.now client.0 client.1) };
 
-    /// The session of the crew's client ended so, and its streams are given up: a pair that this crew was given, of which what was
+    /// The session of the crew's client ended so, and its streams are given up: a pair that this crew was given. What was
     /// read is answered by what was written. The session led from how the crew stood then to how it stands now.
     fn ended(&self, crew: &Crew, reader: R, writer: W, end: SessionEnd)
         requires { (old : Crew) × IsAnswered R.state W.state gave old end reader writer crew.now };

@@ -22,7 +22,8 @@ use std::sync::Wait;
 use std::thread::Threads;
 
 /// Answers the requests that are read, each before the next one is looked at, as `session_alone` does, over a map and programs that
-/// other sessions share. A walk is the crew's team's, which is told what the crew's pass knows, and of which that pass is told.
+/// other sessions share. The crew's team makes the walks. It is told what the crew's pass knows, and
+/// then the pass is told what the team saw.
 /// The gate is passed at `Request` before each answer. Programs of this session are always found; a program of another may
 /// be unknown. Waits for the reader, and for stripes that others hold.
 pub fn session<'a, H: Threads + Wait + Sync, R: ReadAfterFlush<W>, W: Sink, G: Gate + Sync>(

@@ -1,4 +1,4 @@
-//! Where the clients of one worker come from, and what tells of them.
+//! The source of one worker's clients, and of what happens to them.
 ghost use Rattle.std.specs.Prelude.{◌≡◌};
 
 use bin_stripes::Pass;
@@ -40,7 +40,7 @@ pub enum Parting {
     NotKept,
 }
 
-/// Where the clients of one worker come from, and what tells of them. Whatever it tells, only time depends on it: a seat that has
+/// The source of one worker's clients, and of what happens to them. Whatever it tells, only time depends on it: a seat that has
 /// no client is passed over.
 pub trait Clients<C: Channel> {
     ghost use Rattle.std.specs.Prelude.{ℕ};

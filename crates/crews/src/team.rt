@@ -30,7 +30,7 @@ fn hear_each(map: &StripedMap, pass: &mut Pass, team: &[Pass])
     }
 }
 
-/// The team of these passes, each of which was told what the pass knows. Takes no memory. Never waits.
+/// The team of these passes, after each was told what the pass knows. Takes no memory. Never waits.
 pub fn told(map: &StripedMap, pass: &Pass, team: Vec<Pass>) -> Team
     requires pass { pass.now.map ≡ map.now }
     requires team { All (λ member. member.map ≡ map.now) team.items }
@@ -46,7 +46,7 @@ pub fn told(map: &StripedMap, pass: &Pass, team: Vec<Pass>) -> Team
     team
 }
 
-/// The passes of the team, in their order, each of which the pass was told of. Takes no memory. Never waits.
+/// The passes of the team, in their order, after the pass was told of each. Takes no memory. Never waits.
 pub fn heard(map: &StripedMap, pass: &mut Pass, team: Team) -> Vec<Pass>
     requires pass { pass.old.map ≡ map.now }
     requires team { All (λ member. member.map ≡ map.now) team.passes.items }

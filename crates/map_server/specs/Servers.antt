@@ -6,7 +6,7 @@ use Rattle.crews.specs.declared.crew.Crew.{Crew}
 use Rattle.map_server.specs.declared.server.Server.{Server}
 use Rattle.map_server.specs.declared.words.MapdWords.{MapdWords}
 
--- so many crews, whose workers are numbered from 0 on, each with a team of so many
+-- this number of crews, whose workers are numbered from 0 on, each with a team of this number of passes
 pub record AreAsked (workers team : ℕ) (crews : List Crew) : Type 0 where
   pub numbered : map (λ crew. crew.worker) crews ≡ from_on 0 workers
   pub teams : All (λ crew. vec_len crew.team.passes ≡ team) crews

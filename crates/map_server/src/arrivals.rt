@@ -15,7 +15,7 @@ use std::time::Duration;
 pub struct Limits {
     /// So many clients at once, over all workers; one more is told that there is no room.
     pub clients: u64,
-    /// After so many seconds in which nothing comes from a client, or it takes nothing, it is let go; none: never.
+    /// The number of seconds after which a client is let go if nothing comes from it, or it takes nothing; none: never.
     pub idle: Option<u64>,
 }
 

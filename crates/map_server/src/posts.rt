@@ -14,8 +14,8 @@ use std::rt::Clock;
 use std::sync::Wait;
 use std::thread::Threads;
 
-/// The crews, each with clients of its own that come in by this entrance, of which one of the polls tells. `NoMemory` if a request
-/// for memory was refused.
+/// The crews, each with clients of its own that come in by this entrance, and with one of the polls. `NoMemory` if a request for
+/// memory was refused.
 fn posts_of<'a, 'b, 'c, H: Wait + Clock, E: Sink>(
     alloc: Global,
     entrance: &'a Entrance<'b, 'c, H, E>,

@@ -211,9 +211,9 @@ fn drawn_seed<R: RandomSource>(rt: &R) -> Seed {
     Seed::new(u64::from_le_bytes(start), u64::from_le_bytes(factor))
 }
 
-/// Does what the words ask for, of which the first is the program's name, and returns the status: 0 if it served as
-/// many sessions as it was asked for, 1 for a refusal, 2 for a fault of the words, of which standard error is told in clap's
-/// text, and 3 for a failed listen, accept or write, of which it is told in a line. Waits for clients.
+/// Does what the words ask for (the first is the program's name), and returns the status: 0 if it served as many sessions
+/// as it was asked for, 1 for a refusal, 2 for a fault of the words, which standard error is told in clap's text, and 3 for
+/// a failed listen, accept or write, which it is told in a line. Waits for clients.
 pub fn mapd_on<H: Threads + Wait + Clock + RandomSource + Net + Sync, W: Sink, E: Sink + Send>(
     rt: &H,
     alloc: Global,

@@ -13,7 +13,7 @@ pub struct Quotas {
 }
 
 impl Quotas {
-    /// Quotas of this number of workers, each of which may serve at most `most` sessions, or any number. `NoMemory` if a
+    /// Quotas of this number of workers. Each may serve at most `most` sessions, or any number. `NoMemory` if a
     /// request for memory was refused.
     pub fn new(alloc: Global, workers: u64, most: Option<u64>) -> Result<Quotas, NoMemory>
         ensures workers { IfOk result (λ quotas. vec_len quotas.begun ≡ workers) }

@@ -9,7 +9,7 @@ use std::os::fd::{AsRawFd, RawFd};
 use std::rt::Clock;
 use std::time::{Duration, Instant};
 
-/// After so many seconds of silence the system asks whether the client's machine is still there.
+/// The number of seconds of silence after which the system asks whether the client's machine is still there.
 const KEEPALIVE_SECONDS: i32 = 60;
 
 /// How many bytes are read at once after a refusal, and how often.

@@ -181,7 +181,7 @@ impl<'a, 'b, 'c, H: Wait + Clock, E: Sink> TcpClients<'a, 'b, 'c, H, E> {
     }
 }
 
-/// The shorter of two times, of which none is for ever.
+/// The shorter of two times; none is for ever.
 fn sooner(one: Option<Duration>, other: Option<Duration>) -> Option<Duration> {
     match (one, other) {
         (Some(one), Some(other)) => Some(one.min(other)),

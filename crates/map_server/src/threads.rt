@@ -8,7 +8,7 @@ use std::sync::{Mutex, Wait};
 use std::thread;
 use std::thread::Threads;
 
-/// How many of so many threads the system makes at once. Each waits until all have been asked for, and ends.
+/// How many threads the system makes at once, `wanted` at most. Each waits until all have been asked for, and ends.
 fn threads_made<H: Threads + Wait + Sync>(rt: &H, wanted: u64) -> u64 {
     let gate = Mutex::new(());
     let gate = &gate;
@@ -26,7 +26,7 @@ fn threads_made<H: Threads + Wait + Sync>(rt: &H, wanted: u64) -> u64 {
     })
 }
 
-/// How many of so many workers can run at once: one takes the calling thread if no further one can be made.
+/// How many of the workers can run at once: one takes the calling thread if no further one can be made.
 fn running_workers<H: Threads + Wait + Sync>(rt: &H, workers: u64) -> u64
     ensures { result ≤ workers }
 {

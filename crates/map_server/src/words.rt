@@ -235,7 +235,7 @@ fn fault_of_error(error: clap::Error, words: &[&str]) -> WordsFault
     WordsFault::Words(error)
 }
 
-/// What the words ask for, of which the first is the program's name.
+/// Reads what the words ask for. The first word is the program's name.
 pub fn mapd_words<'a>(alloc: Global, words: &'a [&'a str]) -> Result<MapdWords, WordsFault>
     ensures ok { IfOk result (λ asked. AsksServer (texts words.entry.now) asked) }
     ensures range { IfOk result IsInRange }
