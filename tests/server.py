@@ -305,6 +305,31 @@ def longest(address: str) -> None:
         list(pool.map(lambda name: use_longest(address, (nothing, take), name), range(4)))
 
 
+def segments_in(client: wire.Client) -> int:
+    """How many segments with data have come to this client, by its system: at least one for each write of the server."""
+    info = client.socket.getsockopt(socket.IPPROTO_TCP, socket.TCP_INFO, 256)
+    return int.from_bytes(info[152:156], sys.byteorder)
+
+
+def few_writes(address: str) -> None:
+    """A pipeline's answers come together, and those of short exchanges at once: the server neither writes each by itself nor waits
+    with a short one for the client's system to say that the one before came (40 ms)."""
+    with wire.opened(address, 2) as client:
+        before = segments_in(client)
+        for _ in range(20):
+            client.send(*[wire.get(b"k")] * 100)
+            same("answers", {client.answer() for _ in range(100)}, {wire.NOTHING})
+        same("20 pipelines of 100 are answered by at most 60 segments", segments_in(client) - before <= 60, True)
+        times = []
+        for _ in range(51):
+            begun = time.monotonic()
+            client.send(wire.get(b"k"))
+            client.send(wire.get(b"k"))
+            same("two answers", [client.answer(), client.answer()], [wire.NOTHING] * 2)
+            times.append(time.monotonic() - begun)
+        same("two short answers come in less than 35 ms, mostly", sorted(times)[25] < 0.035, True)
+
+
 def idle(address: str) -> None:
     """A session that says nothing for a while, and then is answered."""
     with wire.Client(address) as client:
@@ -313,7 +338,7 @@ def idle(address: str) -> None:
 
 
 PARTS = {part.__name__: part for part in (
-    crowd, sessions, pipelines, reset, cut, unread, at_once, byte_by_byte, fault, descriptors, memory, keys_of_one_hash,
+    crowd, sessions, pipelines, few_writes, reset, cut, unread, at_once, byte_by_byte, fault, descriptors, memory, keys_of_one_hash,
     idle, longest)}
 
 

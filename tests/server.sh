@@ -143,6 +143,7 @@ serve_all "a client that waits" idle 1
 serve "32 clients at once" crowd --workers 4
 serve "keys of one hash" keys_of_one_hash --workers 5 --stripes 4
 serve "deep pipelines" pipelines --workers 5 --stripes 1
+serve "few writes" few_writes --workers 2
 serve "a client that does not read" unread --workers 2
 [ -n "${MAPD_IS_CHECKED:-}" ] || limits="ulimit -s 256" serve "a stack of 256 KiB" longest --workers 4 --team 2
 serve "the longest programs and values" longest --workers 4 --team 8 --stripes 64
