@@ -242,7 +242,7 @@ class SilentTest(unittest.TestCase):
                 Client(HOST, port, timeout=0.2)
 
     def test_open_that_is_cancelled(self) -> None:
-        """No worker is free for the Hello. The connection is closed, though the client is still there."""
+        """The Hello is not answered. The connection is closed, though the client is still there."""
         with socket.create_server((HOST, 0)) as listener:
             self.assertEqual(asyncio.run(self._cancel_open(listener)), _HELLO)
 

@@ -6,9 +6,8 @@ import java.util.Objects;
 /**
  * How a map reaches its server.
  *
- * @param connections how many connections at most calls have at once. Each open walk has one of its own beside these. Each
- *     connection takes a worker of the server for as long as it is open, so all clients together may have as many as the server has
- *     workers.
+ * @param connections how many connections at most calls have at once. Each open walk has one of its own beside these. The server
+ *     bounds the connections of all clients together (`--clients`).
  * @param connectTimeout how long a connection may take to come up
  * @param answerTimeout how long an answer may take to come on, counted from its last byte
  * @param version the version of the protocol; no other one is tried if the server refuses it
