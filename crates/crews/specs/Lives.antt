@@ -63,7 +63,7 @@ module _ {C : Type 0} (state : C → ChannelState) where
     pub says : SaysSo leaving held exchanges read (written ++ owed.rest)
     pub unfailed : leaving ≡ None → owed.failures ≡ 0
 
--- over which connections were given to the worker, when its pass knew what
+-- over which connections were given to the worker, and what its pass knew then
 module _ {C : Type 0} (gave : PassState → C → Type 0) where
   -- the turns lead from what the passes knew to what they know, and the client of this number came among them with this connection:
   -- none of the earlier ones is its own

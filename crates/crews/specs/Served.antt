@@ -9,7 +9,7 @@ use Rattle.crews.specs.declared.crew.Crew.{Crew}
 use Rattle.crews.specs.Crews.{station}
 use Rattle.crews.specs.Steps.{CrewServes, Pairwise}
 
--- over what readers and writers tell, and which pairs of them were given to a crew, when it stood how
+-- over what readers and writers tell, and which pairs of them were given to which crew, as it was then
 module _ {R W : Type 0} (source : R → SourceState) (sink : W → SinkState) (gave : Crew → R → W → Type 0) where
   -- a session ended so, and left its client's reader and writer so: they were given to the old crew as one pair, what was read of
   -- the one is answered by what was written to the other, and the session led from the old crew, with no token, to the new one

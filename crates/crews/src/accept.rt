@@ -16,7 +16,7 @@ pub trait Accept<R: Source, W: Sink> {
     /// The clients are of this map.
     ghost serves: { TableId → Type 0 } = { λ _. Unit {0} };
 
-    /// The crew was given this reader and this writer, as one pair, when it stood so. Nothing but `next` tells it.
+    /// The crew, as it was then, was given this reader and this writer as one pair. Nothing but `next` tells it.
     ghost gave: { Crew → R → W → Type 0 } = { λ _ _ _. Unit {0} };
 
     /// The reader and the writer of the crew's next client; or none, and its worker ends. Each has failed fewer than
