@@ -26,7 +26,7 @@ ADD = model.PROGRAMS[model.ADD]
 ONE = model.spelled(1)
 ROUNDS = 3
 # What a silent client may cost at most, in bytes of the server's memory.
-MOST_BYTES = 4096
+MOST_BYTES = 2048
 # What a client that never reads is sent, and how many bytes it asks for.
 LONG = bytes(1024)
 UNREAD = 2000
