@@ -25,7 +25,8 @@ pub enum Event<C> {
 pub enum Standing {
     /// More may be there to read now: it wants a turn soon, whether or not the system tells of it.
     Again,
-    /// It waits until its connection can be read or written.
+    /// It waits until its connection can be read or written. What was there to read is read, unless it is held back: if a piece
+    /// doesn't fill its room, no more was there.
     Waits,
 }
 

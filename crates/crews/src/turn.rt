@@ -77,6 +77,15 @@ fn leaving_after(owed: &mut Owed, taken: Result<(), ConversationEnd>) -> Option<
     }
 }
 
+/// How a client stands after a piece of this many bytes. If the piece fills its room, more may be there.
+fn standing_after_piece(count: usize) -> Standing {
+    if count < PIECE_BYTES {
+        Standing::Waits
+    } else {
+        Standing::Again
+    }
+}
+
 /// How a client left that is given up now, when it is still owed this number of bytes.
 fn parting_of(leaving: Option<Parting>, owed: usize) -> Parting
     ensures { (held : Held) (exchanges : List (TheExchange Station)) (read written rest : List ℕ) → length rest ≡ owed
@@ -179,7 +188,7 @@ impl<'a, C: Channel> Client<'a, C> {
         match self.channel.receive(&mut room.piece) {
             Received::Bytes(count) => {
                 self.answer_piece(worker, room, count);
-                Standing::Again
+                standing_after_piece(count)
             }
             Received::NotNow => Standing::Waits,
             Received::Ended if self.feeder.is_inside() => {

@@ -3,16 +3,25 @@
 use bpf_model::NoMemory;
 use std::alloc::Global;
 use std::collections::VecDeque;
+use std::mem;
 use std::time::Duration;
 
-/// A seat: when its client last sent or took something, whether somebody has it, whether it is to have a turn, and whether its
-/// client takes nothing now.
+/// A seat: when its client last sent or took something, whether somebody has it, whether it is to have a turn, whether its client
+/// takes nothing now, and whether the client's end has come and may not be read yet.
 #[derive(Clone, Copy, Debug, PartialEq, Eq)]
 struct Seat {
     heard: Duration,
     is_taken: bool,
     is_queued: bool,
     is_stuck: bool,
+    is_ending: bool,
+}
+
+/// What the system tells of a connection: whether it can be written, and whether the client's end has come.
+#[derive(Clone, Copy, Debug, PartialEq, Eq)]
+pub(crate) struct Stirring {
+    pub(crate) is_writable: bool,
+    pub(crate) is_ending: bool,
 }
 
 /// A seat that nobody had.
@@ -21,6 +30,7 @@ const NEW_SEAT: Seat = Seat {
     is_taken: false,
     is_queued: false,
     is_stuck: false,
+    is_ending: false,
 };
 
 /// The seats of one worker's clients. Those that are to have a turn are queued, each once.
@@ -57,6 +67,7 @@ impl Seats {
             taken.heard = now;
             taken.is_taken = true;
             taken.is_stuck = false;
+            taken.is_ending = false;
         }
         Ok(())
     }
@@ -81,12 +92,23 @@ impl Seats {
         }
     }
 
-    /// The system tells of the seat's connection, which can be written or not.
-    pub(crate) fn stir(&mut self, seat: usize, is_writable: bool, now: Duration) {
+    /// The system tells this of the seat's connection.
+    pub(crate) fn stir(&mut self, seat: usize, stirring: Stirring, now: Duration) {
         if let Some(stirred) = self.seats.get_mut(seat) {
-            stirred.is_stuck = !is_writable;
+            stirred.is_stuck = !stirring.is_writable;
+            stirred.is_ending |= stirring.is_ending;
         }
         self.queue(seat, now);
+    }
+
+    /// The seat's client waits. If its end has come, one more turn reads it: the system doesn't tell of it again.
+    pub(crate) fn rest(&mut self, seat: usize, now: Duration) {
+        let Some(resting) = self.seats.get_mut(seat) else {
+            return;
+        };
+        if mem::take(&mut resting.is_ending) {
+            self.queue(seat, now);
+        }
     }
 
     /// The seat's client sent something, and more may be there.

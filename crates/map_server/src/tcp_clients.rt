@@ -4,7 +4,7 @@ use crate::connection::Connection;
 use crate::departures::{Departures, is_departure};
 use crate::door::Door;
 use crate::entrance::{Arrival, Entrance};
-use crate::seats::Seats;
+use crate::seats::{Seats, Stirring};
 use crate::stopwatch::Stopwatch;
 use bin_stripes::Pass;
 use bpf_model::NoMemory;
@@ -159,7 +159,11 @@ impl<'a, 'b, 'c, H: Wait + Clock, E: Sink> TcpClients<'a, 'b, 'c, H, E> {
             } else if is_departure(token.0) {
                 self.departures.hear(token.0);
             } else {
-                self.seats.stir(token.0, event.is_writable(), now);
+                let stirring = Stirring {
+                    is_writable: event.is_writable(),
+                    is_ending: event.is_read_closed(),
+                };
+                self.seats.stir(token.0, stirring, now);
             }
         }
         Ok(())
@@ -170,7 +174,7 @@ impl<'a, 'b, 'c, H: Wait + Clock, E: Sink> TcpClients<'a, 'b, 'c, H, E> {
         let now = self.stopwatch.now();
         self.departures.close_overdue(now);
         self.door.begin_round(now);
-        // What a client sent is often all of it, and then a second turn tells so: no need to ask the system between them.
+        // A client whose piece filled the room, or whose end has come, has a second turn: no need to ask the system between them.
         self.turns = self.seats.queued().saturating_mul(2);
         // If it may not have told of all, somebody may seem silent who is not.
         let has_told_all = self.events.iter().len() < MOST_EVENTS;
@@ -230,8 +234,9 @@ impl<'a, 'b, 'c, H: Wait + Clock, E: Sink> Clients<Connection> for TcpClients<'a
     }
 
     fn served(&mut self, seat: usize, standing: Standing) {
-        if standing == Standing::Again {
-            self.seats.go_on(seat, self.stopwatch.now());
+        match standing {
+            Standing::Again => self.seats.go_on(seat, self.stopwatch.now()),
+            Standing::Waits => self.seats.rest(seat, self.stopwatch.now()),
         }
     }
 
