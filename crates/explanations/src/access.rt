@@ -1,12 +1,12 @@
 //! What is known of a load or store that is refused, in words.
-ghost use Rattle.std.specs.Prelude.{◌≡◌, ◌<◌, ◌≤◌, ◌++◌, OnOk, ◌+ℤ◌, string_bytes};
+ghost use Rattle.std.specs.Prelude.{◌≡◌, ◌<◌, ◌≤◌, ◌++◌, IfSome, OnOk, ◌+ℤ◌, string_bytes};
 ghost use Rattle.bpf_model.specs.Accesses.{byte_count};
 ghost use Rattle.stack_slots.specs.Kept.{kept_bytes};
 ghost use Rattle.explanations.specs.Accesses.{touch_of, count_text, span_text, reach_text, extent_text, access_text, read_only_text, opens, closes, unwritten_byte, unwritten_below, read_text, between_text, unwritten_text};
 
 use crate::known::{is_written, window_name, write_pointer};
 use bpf_model::limits::{STACK_BYTES, VALUE_BYTES};
-use bpf_model::{AccessSize, Insn, Reg, Sizes, Window};
+use bpf_model::{AccessSize, Insn, Sizes, Window};
 use stack_slots::{Frame, Pointer, RegValue};
 use std::alloc::AllocError;
 use std::fmt::Write;
@@ -14,7 +14,7 @@ use std::fmt::Write;
 /// A load or store: the register with its address, the offset, and the number of bytes.
 #[derive(Clone, Copy)]
 pub struct Touch {
-    pub register: Reg,
+    pub register: u8,
     pub offset: i16,
     pub size: AccessSize,
 }
@@ -22,7 +22,8 @@ pub struct Touch {
 impl Touch {
     /// The load or store of an instruction.
     pub fn of(insn: Insn) -> Option<Touch>
-        ensures { result ≡ touch_of insn }
+        ensures value { result ≡ touch_of insn }
+        ensures register { IfSome result (λ touch. touch.register ≤ 10) }
     {
         match insn {
             Insn::Load {
@@ -31,7 +32,7 @@ impl Touch {
                 offset,
                 ..
             } => Some(Touch {
-                register: src,
+                register: src.number(),
                 offset,
                 size: kind.size(),
             }),
@@ -41,7 +42,7 @@ impl Touch {
                 offset,
                 ..
             } => Some(Touch {
-                register: dst,
+                register: dst.number(),
                 offset,
                 size,
             }),
@@ -184,12 +185,7 @@ fn closes(frame: &Frame, bytes: Bytes, byte: usize) -> bool
 }
 
 /// Writes the byte's number if it is the first of some that were perhaps not written, and if it is the last.
-fn write_byte(
-    text: &mut String,
-    frame: &Frame,
-    bytes: Bytes,
-    byte: usize,
-) -> Result<(), AllocError>
+fn write_byte(text: &mut String, frame: &Frame, bytes: Bytes, byte: usize) -> Result<(), AllocError>
     requires from { bytes.first ≤ byte }
     requires inside { byte < bytes.end }
     requires kept { bytes.end ≤ kept_bytes bytes.window }

@@ -32,8 +32,8 @@ fn write_was(text: &mut String, register: usize, value: RegValue) -> Result<(), 
 }
 
 /// Tells whether an operand is this register.
-fn operand_reads(operand: Operand, register: usize) -> bool
-    ensures { result ≡ operand_reads operand register }
+fn operand_reads(operand: &Operand, register: usize) -> bool
+    ensures { result ≡ operand_reads operand.now register }
 {
     match operand {
         Operand::Register(src) => usize::from(src.number()) == register,
@@ -42,15 +42,12 @@ fn operand_reads(operand: Operand, register: usize) -> bool
 }
 
 /// Tells whether the instruction reads the register.
-fn reads(insn: Insn, register: usize) -> bool
-    ensures { result ≡ reads insn register }
+fn reads(insn: &Insn, register: usize) -> bool
+    ensures { result ≡ reads insn.now register }
 {
     match insn {
-        Insn::Alu { dst, src, .. }
-        | Insn::Store { dst, src, .. }
-        | Insn::Branch { dst, src, .. } => {
-            usize::from(dst.number()) == register || operand_reads(src, register)
-        }
+        Insn::Alu { dst, src, .. } | Insn::Store { dst, src, .. } | Insn::Branch { dst, src, .. } =>
+            { usize::from(dst.number()) == register || operand_reads(src, register) }
         Insn::Negate { dst, .. } | Insn::Reorder { dst, .. } => {
             usize::from(dst.number()) == register
         }
@@ -64,8 +61,8 @@ fn reads(insn: Insn, register: usize) -> bool
 }
 
 /// The register that the instruction writes.
-fn written_by(insn: Insn) -> Option<Reg>
-    ensures { result ≡ written_by insn }
+fn written_by(insn: &Insn) -> Option<Reg>
+    ensures { result ≡ written_by insn.now }
 {
     match insn {
         Insn::Alu { dst, .. }
@@ -74,14 +71,14 @@ fn written_by(insn: Insn) -> Option<Reg>
         | Insn::SignExtend { dst, .. }
         | Insn::Reorder { dst, .. }
         | Insn::Wide { dst, .. }
-        | Insn::Load { dst, .. } => Some(dst),
+        | Insn::Load { dst, .. } => Some(*dst),
         _ => None,
     }
 }
 
 /// Tells whether the instruction writes the register.
-fn writes(insn: Insn, register: usize) -> bool
-    ensures { result ≡ writes insn register }
+fn writes(insn: &Insn, register: usize) -> bool
+    ensures { result ≡ writes insn.now register }
 {
     match written_by(insn) {
         Some(dst) => usize::from(dst.number()) == register,
@@ -90,26 +87,18 @@ fn writes(insn: Insn, register: usize) -> bool
 }
 
 /// Tells whether the instruction writes the register, and some run may come to it.
-fn is_write(
-    insn: Option<&Insn>,
-    known: Option<&Option<AbstractState>>,
-    register: usize,
-) -> bool
+fn is_write(insn: Option<&Insn>, known: Option<&Option<AbstractState>>, register: usize) -> bool
     ensures { result ≡ is_write (option_map (λ i. i.now) insn.entry)
         (option_map (λ k. k.now) known.entry) register }
 {
     match (insn, known) {
-        (Some(insn), Some(Some(_))) => writes(*insn, register),
+        (Some(insn), Some(Some(_))) => writes(insn, register),
         _ => false,
     }
 }
 
 /// The index of the last of these instructions that writes the register.
-fn last_write(
-    before: &[Insn],
-    states: &[Option<AbstractState>],
-    register: usize,
-) -> Option<usize>
+fn last_write(before: &[Insn], states: &[Option<AbstractState>], register: usize) -> Option<usize>
     ensures value { result ≡ last_write before.now states.now register (length before.now) }
     ensures inside { IfSome result (λ index. index < length before.now) }
 {
@@ -125,13 +114,13 @@ fn last_write(
 /// Writes what was known of the register, if the instruction reads it.
 fn write_operand(
     text: &mut String,
-    insn: Insn,
+    insn: &Insn,
     state: &AbstractState,
     register: usize,
 ) -> Result<(), AllocError>
     requires { register < 11 }
     ensures { OnOk result (string_bytes text.new
-        ≡ string_bytes text.old ++ operand_text insn state.now register) }
+        ≡ string_bytes text.old ++ operand_text insn.now state.now register) }
 {
     if !reads(insn, register) {
         return Ok(());
@@ -140,9 +129,9 @@ fn write_operand(
 }
 
 /// Writes what was known of each register that the instruction reads.
-fn write_operands(text: &mut String, insn: Insn, state: &AbstractState) -> Result<(), AllocError>
+fn write_operands(text: &mut String, insn: &Insn, state: &AbstractState) -> Result<(), AllocError>
     ensures { OnOk result (string_bytes text.new
-        ≡ string_bytes text.old ++ operands_below insn state.now 11) }
+        ≡ string_bytes text.old ++ operands_below insn.now state.now 11) }
 {
     for register in 0..11 {
         write_operand(text, insn, state, register)?;
@@ -166,7 +155,7 @@ fn write_write(
     };
     let instruction = instruction_text(alloc, insn)?;
     write!(text, "; unit {unit} wrote it last: {instruction}")?;
-    write_operands(text, *insn, state)?;
+    write_operands(text, insn, state)?;
     Ok(())
 }
 
@@ -271,8 +260,8 @@ fn is_unwritten(value: RegValue) -> bool
 }
 
 /// A register that the instruction reads and that was perhaps not written, the last one.
-pub fn unwritten_read(insn: Insn, state: &AbstractState) -> Option<usize>
-    ensures value { result ≡ unwritten_read insn state.now 11 }
+pub fn unwritten_read(insn: &Insn, state: &AbstractState) -> Option<usize>
+    ensures value { result ≡ unwritten_read insn.now state.now 11 }
     ensures inside { IfSome result (λ register. register < 11) }
 {
     let values = state.registers();

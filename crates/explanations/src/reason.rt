@@ -31,7 +31,7 @@ fn address_reason(
     let Some(touch) = Touch::of(insn) else {
         return Ok(text);
     };
-    let register = touch.register.number() as usize;
+    let register = usize::from(touch.register);
     let value = state.registers()[register];
     write_register(alloc, &mut text, before, states, register, value)?;
     Ok(text)
@@ -50,7 +50,7 @@ fn unwritten_reason(
         ≡ unwritten_reason before.now states.now state.now (unwritten_register insn state.now 11)) }
 {
     let mut text = String::new(alloc);
-    let Some(register) = unwritten_read(insn, state) else {
+    let Some(register) = unwritten_read(&insn, state) else {
         return Ok(text);
     };
     let value = state.registers()[register];
@@ -80,13 +80,14 @@ fn write_touch(
     state: &AbstractState,
     touch: Touch,
 ) -> Result<(), AllocError>
+    requires register { touch.register ≤ 10 }
     ensures { OnOk result (string_bytes text.new
         ≡ string_bytes text.old ++ touch_text sizes fault state.now touch) }
 {
-    let value = state.registers()[touch.register.number() as usize];
+    let value = state.registers()[usize::from(touch.register)];
     match fault {
         VerifyFault::OutOfWindow(_) => write_access(text, sizes, value, touch.offset, touch.size),
-        VerifyFault::ReadOnly(_) => write_read_only(text, touch.register.number(), value),
+        VerifyFault::ReadOnly(_) => write_read_only(text, touch.register, value),
         VerifyFault::UnwrittenBytes(_) => {
             write_unread(text, state.frame(), value, touch.offset, touch.size)
         }

@@ -17,7 +17,7 @@ use Rattle.verifier.specs.declared.abstract_state.AbstractState.{AbstractState}
 use Rattle.verifier.specs.Instructions.{Touch, IsAboveLeastOffset}
 use Rattle.verifier.specs.Changes.{CanTouch, Suffices}
 use Rattle.verifier.specs.Paths.{base_offset, IsNextUnit, IsTarget, IsPathTo, OnEveryPath, EndsIn}
-use Rattle.verifier.specs.Plain.{copy_of, mask_of, addition_of, constant_of, LiesPlainly, IsPlain, IsPlainInVersionOne}
+use Rattle.verifier.specs.Plain.{copy_of, mask_of, addition_of, constant_of, LiesPlainly, IsPlain}
 use Rattle.verifier.specs.Grants.{PointsPast, Grants}
 
 -- a unit to which no jump leads is entered from the instruction before it alone
@@ -123,8 +123,3 @@ plain_suffices program sizes unit i a plain at g = record {
         ];
       };
 }
-
--- the sizes of version 1 are within the limits still
-pub sizes_still : (program : List Insn) (sizes : Sizes) → IsPlainInVersionOne program sizes → AreWithinLimits sizes
-sizes_still program sizes before =
-    record { key = omega (arith, before.key); old = omega (arith, before.old); arg = omega (arith, before.arg); result = omega (arith, before.result) }

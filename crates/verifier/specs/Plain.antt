@@ -87,12 +87,10 @@ pub record IsPlain (program : List Insn) (sizes : Sizes) : Type 0 where
   pub storing : (u : ℕ) (i : Insn) (t : Touch) → instruction_at program u ≡ Some i → store_of i ≡ Some t → StoresPlainly program sizes u t
   pub exiting : (u : ℕ) → instruction_at program u ≡ Some Exit → ExitsPlainly program u
 
--- a program that was plain by the limits of version 1: at most 512 units, a key of at most 64 bytes, other windows of at most
--- 256. Whatever the limits are now, all else makes it plain
+-- a program that was plain by the limits of version 1: at most 512 units, and windows of at most 256 bytes
 pub record IsPlainInVersionOne (program : List Insn) (sizes : Sizes) : Type 0 where
+  pub plain : IsPlain program sizes
   pub units : unit_count program ≤ 512
-  pub key : sizes.key ≤ 64
   pub old : sizes.old ≤ 256
   pub arg : sizes.arg ≤ 256
   pub result : sizes.result ≤ 256
-  pub plain : AreWithinLimits sizes → IsPlain program sizes
