@@ -1,4 +1,4 @@
-"""What the pages print: each block of README.md, and the programs of examples/clients."""
+"""What the pages print: each block of README.md, the client on the repository's front page, and the programs of examples/clients."""
 
 import os
 import re
@@ -43,6 +43,14 @@ class PagesTest(MapdTest):
                 self.assertEqual(self._run_python(block), printed)
                 for line in printed.splitlines():
                     self.assertIn(line, self.page.split(block)[1])
+
+    def test_front_page(self) -> None:
+        """The client of the repository's own README prints what stands below it, and counts up with each run."""
+        page = (ROOT / "README.md").read_text()
+        block = re.findall(r"```python\n(.*?)```", page, re.DOTALL)[0]
+        first = self._run_python(block)
+        self.assertIn(f"`{first.strip()}`", page.split(block)[1])
+        self.assertEqual(self._run_python(block), first.replace("\\x01", "\\x02"))
 
     def _empty(self) -> None:
         with Client(HOST, self.port) as client:

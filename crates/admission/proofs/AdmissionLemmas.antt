@@ -1,4 +1,4 @@
--- A refused program's faulty unit is one of few.
+-- The faulty unit of a refused program is below a bound.
 use Rattle.std.proofs.Common.{◌≡◌, ℕ, ◌+◌, ◌*◌, ◌<◌, ◌≤◌, ◌^◌, ◌/◌, ◌%◌, inl, inr, Bool, true, false, List, ◌++◌, length, Some, None, sym, ap, ◌∙◌, arith, ℤ}
 use Rattle.std.specs.Prelude.{nat_eq, nat_lt, not, cond}
 use Rattle.std.proofs.lemmas.Bool.Decides.{nat_tests}
@@ -32,7 +32,7 @@ length_unit false true c fault e = ap decode.decode_fault_unit (sym (some_is Not
 length_unit false false true fault e = ap decode.decode_fault_unit (sym (some_is TooManyUnits fault e))
 length_unit false false false fault e = absurd cc
 
--- where the length has no fault there are few units
+-- if the length has no fault, the number of units is bounded
 bounded_units : (a b : Bool) (n : ℕ) → cond a (Some Empty) (cond b (Some NotWholeUnits) (cond (nat_lt PROGRAM_UNITS n) (Some TooManyUnits) None)) ≡ None → n ≤ PROGRAM_UNITS
 bounded_units true b n e = absurd cc
 bounded_units false true n e = absurd cc

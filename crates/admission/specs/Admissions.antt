@@ -1,4 +1,4 @@
--- Which bytes are admitted as a program by which limits, and why others are refused. Our profile of RFC 9669.
+-- Which bytes are admitted as a program under which limits, and why others are refused. Our profile of RFC 9669.
 use Rattle.std.specs.Prelude.{◌≡◌, ◌↔◌, ◌⊎◌, ◌<◌, ◌/◌, ◌%◌, ℕ, List, length}
 use Rattle.bpf_model.specs.declared.limits.TheConstants.{KEY_BYTES, PROGRAM_UNITS, VALUE_BYTES}
 use Rattle.bpf_model.specs.declared.input.Sizes.{Sizes}
@@ -28,7 +28,7 @@ admission_fault_unit (Decode fault) = decode.decode_fault_unit fault
 admission_fault_unit (Flow fault) = flow.flow_fault_unit fault
 admission_fault_unit (Verify fault) = verify.verify_fault_unit fault
 
--- what a fault is displayed as
+-- the text of a fault
 abbrev pub fault_message : AdmissionFault → List ℕ
 fault_message (Decode fault) = decode_messages.decode_fault_message fault
 fault_message (Flow fault) = flow_messages.flow_fault_message fault
@@ -57,8 +57,8 @@ abbrev pub HasLargeWindow : Allowance → Sizes → Type 0
 HasLargeWindow limits sizes =
     (KEY_BYTES < sizes.key) ⊎ ((limits.window < sizes.old) ⊎ ((limits.window < sizes.arg) ⊎ (limits.window < sizes.result)))
 
--- why the bytes are not admitted: the first step that refuses. The number of units is looked at before any of them, and the
--- sizes before the verifier walks, which refuses no plain program unless memory runs out
+-- why the bytes are not admitted: the first step that refuses. The number of units is tested before any unit, and the sizes
+-- before the verifier walks. The verifier refuses no plain program unless memory runs out
 abbrev pub IsNotAdmitted : Allowance → List ℕ → Sizes → AdmissionFault → Type 0
 IsNotAdmitted limits bytes sizes (Decode fault) =
     (HasManyUnits limits bytes × (fault ≡ TooManyUnits))

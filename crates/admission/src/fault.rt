@@ -8,19 +8,19 @@ use std::error::Error;
 use std::fmt;
 use verifier::VerifyFault;
 
-/// Why no program is admitted.
+/// Why a program isn't admitted.
 #[derive(Clone, Copy, Debug, PartialEq, Eq)]
 pub enum AdmissionFault {
     /// The bytes are no program: numbers 9 to 17.
     Decode(DecodeFault),
-    /// A jump goes where none may, or the program may go past its end: numbers 30 to 33.
+    /// A jump has a bad target, or the program may go past its end: numbers 30 to 33.
     Flow(FlowFault),
     /// The program was not found safe: numbers 9 and 40 to 47.
     Verify(VerifyFault),
 }
 
 impl AdmissionFault {
-    /// The number under which the fault is printed and sent.
+    /// Returns the number with which the fault is printed and sent.
     pub fn number(&self) -> u8
         ensures { result ≡ admission_fault_number self.now }
     {
@@ -31,7 +31,7 @@ impl AdmissionFault {
         }
     }
 
-    /// The faulty unit, counted from 0; 0 where the fault is of no unit.
+    /// Returns the faulty unit, counted from 0; 0 if the fault belongs to no unit.
     pub fn unit(&self) -> usize
         ensures { result ≡ admission_fault_unit self.now }
     {

@@ -12,7 +12,7 @@ use verifier::{Verified, VerifyFault, verify};
 
 /// Returns the program that the bytes spell, verified with these sizes, if it is within the limits. The steps come in this
 /// order, and the first that refuses gives the fault: too many units by these limits, before any unit is looked at; the
-/// decoder, which `NoMemory` may come from too; the flow; a size above its limit; the verifier.
+/// decoder, which may also return `NoMemory`; the flow; a size above its limit; the verifier.
 pub fn admit(
     alloc: Global,
     limits: ProgramLimits,

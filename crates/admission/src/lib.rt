@@ -1,8 +1,8 @@
-//! How a program comes in: from its bytes to a `Verified`.
+//! Admits a program: from its bytes to a `Verified`.
 //!
-//! The promise to the layers above: `admit` gives a program that the bytes spell and that is safe with its sizes, within the
-//! limits that it is given, or the first fault (`IsAdmitted` and `IsNotAdmitted` of `specs/Admissions.antt`). It knows no
-//! text, no client and no map, so whatever takes programs can stand on it. It takes memory, and never waits.
+//! The promise to the layers above: `admit` returns a program that the bytes spell and that is safe with its sizes, within
+//! the given limits, or the first fault (`IsAdmitted` and `IsNotAdmitted` of `specs/Admissions.antt`). It knows no text, no
+//! client and no map, so anything that takes programs can use it. It takes memory, and never waits.
 #![tactic(auto)]
 
 mod fault;

@@ -1,4 +1,4 @@
-//! What a program may have at most.
+//! The limits of a program.
 ghost use Rattle.std.specs.Prelude.{◌≡◌, ◌↔◌, IsTrue};
 ghost use Rattle.admission.specs.Admissions.{HasManyUnits, HasLargeWindow};
 
@@ -22,13 +22,13 @@ impl Model for ProgramLimits {
 
     ghost view = { λ limits. record { units = limits.units; window = limits.window } };
 
-    // No limit allows what no program may have.
+    // No limit is higher than in `GREATEST`.
     ghost invariant = { λ limits. limits.window ≤ VALUE_BYTES };
 
     ghost inverse = { λ allowance. record { units = allowance.units; window = allowance.window } };
 }
 
-/// The bytes of a unit.
+/// A unit has this many bytes.
 const UNIT_BYTES: usize = 8;
 
 impl ProgramLimits {
@@ -45,7 +45,7 @@ impl ProgramLimits {
         bytes.len() % UNIT_BYTES == 0 && bytes.len() / UNIT_BYTES > self.units
     }
 
-    /// Tests whether a declared size is above its limit, which for a key is that of any key.
+    /// Tests whether a declared size is above its limit; for a key that is the limit of any key.
     pub(crate) fn has_large_window(self, sizes: Sizes) -> bool
         ensures { IsTrue result ↔ HasLargeWindow self sizes }
     {
@@ -54,7 +54,8 @@ impl ProgramLimits {
             || usize::from(sizes.arg) > self.window
             || usize::from(sizes.result) > self.window
     }
-    /// Tests whether the bytes and sizes are within the limits. Of what the bytes spell it says nothing. Takes no memory.
+    /// Tests whether the bytes and sizes are within the limits. It doesn't look at the program in the bytes. Takes no
+    /// memory.
     pub fn allows(self, bytes: &[u8], sizes: Sizes) -> bool
         ensures { IsTrue result ↔ ((HasManyUnits self bytes.now → ⊥) × (HasLargeWindow self sizes → ⊥)) }
     {

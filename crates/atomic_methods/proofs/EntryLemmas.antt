@@ -1,4 +1,4 @@
--- Two lists of entries, one behind the other, in which no key stands twice.
+-- Two lists of entries, one after the other, without a repeated key.
 use Rattle.std.proofs.Common.{◌≡◌, ℕ, Bool, true, false, cond, List, [], ◌∷◌, ◌++◌, Option, Some, None, refl, ap, ◌∙◌}
 use Rattle.std.specs.Ordering.{eq_by_cmp}
 use Rattle.std.specs.Cmp.{tied_itself}
@@ -7,7 +7,7 @@ use Rattle.bins.specs.Table.{Entry, by_bytes}
 use Rattle.bins.specs.Entries.{Distinct}
 use Rattle.bins.proofs.MapEdits.{total}
 
--- the first that there is
+-- the first that exists
 abbrev pub first_some : Option (List ℕ) → Option (List ℕ) → Option (List ℕ)
 first_some (Some value) other = Some value
 first_some None other = other
@@ -16,7 +16,7 @@ either_way : (b : Bool) (x : List ℕ) (y z : Option (List ℕ)) → cond b (Som
 either_way true x y z = refl
 either_way false x y z = refl
 
--- a key is looked for in the first list, then in the second
+-- a key is searched in the first list, then in the second
 pub find-append : (q : List ℕ) (es fs : List Entry) → find by_bytes q (es ++ fs) ≡ first_some (find by_bytes q es) (find by_bytes q fs)
 find-append q [] fs = refl
 find-append q (e ∷ es) fs = ap (cond (eq_by_cmp by_bytes q e.0) (Some e.1)) (find-append q es fs) ∙ either_way (eq_by_cmp by_bytes q e.0) e.1 (find by_bytes q es) (find by_bytes q fs)

@@ -1,4 +1,4 @@
--- The entries of a walk fix its reply: a program comes to one outcome on one input.
+-- The entries of a walk fix its reply: a program has one outcome on one input.
 use Rattle.std.proofs.Common.{◌≡◌, ℕ, List, [], ◌∷◌, length, Option, Some, Result, Ok, Err, IsOk, refl, sym, ap, subst, ◌∙◌, arith}
 use Rattle.std.specs.List.{count_by}
 use Rattle.std.proofs.lemmas.Bool.{false≢true}

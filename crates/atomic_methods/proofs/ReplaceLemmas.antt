@@ -20,12 +20,12 @@ use Rattle.atomic_methods.specs.Whole.{all_entries, whole, stripe_at, AreStripes
 use Rattle.atomic_methods.proofs.EntryLemmas.{first_some, find-append}
 use Rattle.atomic_methods.proofs.WholeLemmas.{none_anywhere, some_of_none, Apart, Distinct_all}
 
--- the outcome of a key that the first stripe has, or else another one
+-- the outcome of a key in the first stripe, or else another one
 abbrev in_first : Option (List ℕ) → Outcome → Outcome → Outcome
 in_first (Some value) here rest = here
 in_first None here rest = rest
 
--- a key is looked for in the first stripe, then in the others
+-- a key is searched in the first stripe, then in the others
 get-cons : (t : Table) (ts : List Table) (q : List ℕ) → map.get (whole (t ∷ ts)) q ≡ first_some (map.get t q) (map.get (whole ts) q)
 get-cons t ts q =
     get-from_entries total (map.entries t ++ all_entries ts) q ∙ find-append q (map.entries t) (all_entries ts)
@@ -40,7 +40,7 @@ values_by : (o w : Option (List ℕ)) (a b : Outcome) → first_some (option_map
 values_by (Some x) w a b = refl
 values_by None w a b = refl
 
--- two tests that agree on the keys of the entries count alike
+-- two tests that agree on the keys of the entries give the same count
 either_key : (p r : List ℕ → Bool) (e : Entry) (es : List Entry) → ((q v : List ℕ) → find by_bytes q (e ∷ es) ≡ Some v → p q ≡ r q)
     → (q v : List ℕ) → find by_bytes q es ≡ Some v → (b : Bool) → eq_by_cmp by_bytes q e.0 ≡ b → p q ≡ r q
 either_key p r e es alike q v found true same = alike q e.1 (rw same refl)
@@ -68,7 +68,7 @@ module _ (t : Table) (ts : List Table) (apart : Apart (t ∷ ts)) where
   rest_apart : Apart ts
   rest_apart q v i j other found = apart q v (suc i) (suc j) (λ e. other (omega (arith, e))) found
 
-  -- what is counted in the whole is counted in the first stripe and in the others
+  -- a count over the whole is the count over the first stripe plus that over the others
   counted_apart : (test : Entry → Bool) → count_by test (map.entries (whole (t ∷ ts))) ≡ count_by test (map.entries t) + count_by test (map.entries (whole ts))
   counted_apart test =
       counted_in_table test (all_entries (t ∷ ts)) (Distinct_all (t ∷ ts) apart) ∙ sum_by-append _ (map.entries t) (all_entries ts)
@@ -94,7 +94,7 @@ module _ (t : Table) (ts : List Table) (apart : Apart (t ∷ ts)) where
         ∙ ap (λ (n : ℕ). count_by (λ (e : Entry). flag (a e.0)) (map.entries t) + n) rest
 
 module _ (checked : Checked) (arg : Option (List ℕ)) where
-  -- what was done stripe by stripe was done to the whole
+  -- a change made stripe by stripe is made to the whole
   pub replaces_whole : (olds news : List Table) (sum : Counts) → Apart olds → ReplacesStripes checked arg olds news sum → ReplacesEach checked arg (whole olds) (whole news) sum
   replaces_whole [] [] sum apart none = record {
     outcome = λ q. Ok Nothing;
@@ -174,7 +174,7 @@ module _ (checked : Checked) (arg : Option (List ℕ)) where
         ),
       )
 
-  -- what is given or unfit was scanned
+  -- entries that are given or unfit were scanned
   pub bounded_counts : (old new : Table) (counts : Counts) → ReplacesEach checked arg old new counts → (counts.given ≤ counts.scanned) × (counts.unfit ≤ counts.scanned)
   bounded_counts old new counts each = (
     omega (arith, each.given, each.scanned, len-entries old, count_by-le-length (λ (e : Entry). is_given (each.outcome e.0)) (map.entries old)),

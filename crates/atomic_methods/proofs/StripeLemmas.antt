@@ -1,4 +1,4 @@
--- Numbers of stripes: what the test of a bit finds.
+-- Numbers of stripes and the test for a power of two.
 use Rattle.std.proofs.Common.{◌≡◌, ℕ, ◌-◌, ◌%◌, ◌^◌, ◌≤◌, Bool, true, false, T, cond, ap, ◌∙◌, arith, inl, inr}
 use Rattle.std.specs.Prelude.{bit_and, nat_lt, nat_eq}
 use Rattle.std.specs.Int.{is_power_of_two}
@@ -22,7 +22,7 @@ equal_then : (a : Bool) (x y : ℕ) → a ≡ true → T (cond a (nat_eq x y) tr
 equal_then true x y e h = eqb-true x y (is_true _ h)
 equal_then false x y e h = absurd cc
 
--- what the test finds is a power of two
+-- a number that passes the test is a power of two
 pub counted : (n : ℕ) → n ≤ 64 → is_power_of_two n ≡ true → IsStripeCount n
 unfolding agrees
 counted n le is = ((log n, equal_then (is_power_of_two n) n (2 ^ log n) is (below agrees 65 n agreed (omega (arith, le)))), le)
@@ -34,7 +34,7 @@ passed : T (all_below passes 7)
 unfolding all_below passes lib.Count.ones
 passed = tt
 
--- and it finds each
+-- and each power of two passes
 pub found : (n : ℕ) → IsStripeCount n → is_power_of_two n ≡ true
 unfolding passes
 found n is = elim (cases_lt is.0.0 7) [
@@ -44,7 +44,7 @@ found n is = elim (cases_lt is.0.0 7) [
       let large : 2 ^ 7 ≤ 2 ^ is.0.0 = pow-le-pow_right {n = 2} (omega arith) {i = 7} {j = is.0.0} ge in absurd (omega (arith, large, is.0.1, bounded))
 ]
 
--- there is at least one
+-- there is at least one stripe
 pub some_stripe : (n : ℕ) → IsStripeCount n → 1 ≤ n
 some_stripe n is = let le : 1 ≤ 2 ^ is.0.0 = one-le-pow is.0.0 2 (omega arith) in omega (arith, is.0.1)
 

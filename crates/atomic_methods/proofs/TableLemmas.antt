@@ -11,7 +11,7 @@ twice : {A : Type 0} (b : Bool) (x y z : A) → cond b x (cond b y z) ≡ cond b
 twice true x y z = refl
 twice false x y z = refl
 
--- to remove a key that was just entered is to remove it
+-- removing a key that was just entered is the same as removing it
 pub remove-insert : (table : Table) (key value : List ℕ) → map.remove (map.insert table key value) key ≡ map.remove table key
 remove-insert table key value = same_map total antisymmetric _ _ (λ q.
     get-remove total (map.insert table key value) key q
@@ -24,11 +24,11 @@ present_at table key value q Less found e = refl
 present_at table key value q Equal found e = sym found ∙ get_tied total table q key e
 present_at table key value q Greater found e = refl
 
--- to enter the value that a key has changes nothing
+-- entering the value that a key has changes nothing
 pub insert-same : (table : Table) (key value : List ℕ) → map.get table key ≡ Some value → map.insert table key value ≡ table
 insert-same table key value found = same_map total antisymmetric _ _ (λ q. get-insert total table key value q ∙ present_at table key value q (by_bytes q key) found refl)
 
--- a key keeps what it has
+-- a key keeps its value
 pub keeps : (table : Table) (key : List ℕ) (value : Option (List ℕ)) → map.get table key ≡ value → table ≡ with_value table key value
 keeps table key (Some value) is = sym (insert-same table key value is)
 keeps table key None is = sym (remove_absent table key is)

@@ -1,4 +1,4 @@
--- A walk over entries: one entry more.
+-- A walk over entries: one more entry.
 use Rattle.std.proofs.Common.{◌≡◌, ℕ, ◌+◌, ◌<◌, List, [], ◌∷◌, ◌++◌, length, length-append, get_or, Option, Some, Bool, false, cond, Ok, Err, refl, sym, ap, subst, ◌∙◌, arith}
 use Rattle.std.specs.List.{count_by}
 use Rattle.std.proofs.lemmas.List.{append-nil}
@@ -14,7 +14,7 @@ use Rattle.atomic_methods.specs.declared.walk_reply.WalkKind.{WalkKind}
 use Rattle.atomic_methods.specs.declared.walk_reply.WalkKind.TheVariants.{Search, ForEach}
 use Rattle.atomic_methods.specs.Replies.{present, chosen}
 
--- the answer at a key, where it is present, with the key
+-- the answer at a key, if it is present, with the key
 abbrev pub given_at : List ℕ → Outcome → List Entry
 given_at key (Ok (Bytes answer)) = (key, answer) ∷ []
 given_at key (Ok Nothing) = []
@@ -24,7 +24,7 @@ present-nil : (es : List Entry) → present es [] ≡ []
 present-nil [] = refl
 present-nil (e ∷ es) = refl
 
--- one outcome more, at the entry in its turn
+-- one more outcome, at the entry whose turn it is
 present-push : (es : List Entry) (os : List Outcome) (o : Outcome) (d : Entry) → length os < length es → present es (os ++ o ∷ []) ≡ present es os ++ given_at (get_or es (length os) d).0 o
 present-push [] os o d lt = absurd (omega (arith, lt))
 present-push (e ∷ es) [] (Ok (Bytes answer)) d lt = ap (λ (xs : List Entry). (e.0, answer) ∷ xs) (present-nil es)
@@ -34,12 +34,12 @@ present-push (e ∷ es) (Ok (Bytes answer) ∷ os) o d lt = ap (λ (xs : List En
 present-push (e ∷ es) (Ok Nothing ∷ os) o d lt = present-push es os o d (omega (arith, lt))
 present-push (e ∷ es) (Err part ∷ os) o d lt = present-push es os o d (omega (arith, lt))
 
--- of no answer none is chosen
+-- none is chosen from no answers
 chosen-nil : (kind : WalkKind) → chosen kind [] ≡ []
 chosen-nil Search = refl
 chosen-nil ForEach = refl
 
--- what a walk of this kind keeps after the program's runs on the first entries
+-- the state of a walk of this kind after the program's runs on the first entries
 pub record Walked (kind : WalkKind) (checked : Checked) (arg : Option (List ℕ)) (entries items : List Entry) (position unfit : ℕ) : Type 0 where
   pub outcomes : List Outcome
   pub one_each : length outcomes ≡ position

@@ -1,4 +1,4 @@
--- A table in stripes: where a key is found, and what an edit of one stripe is to the whole.
+-- A table in stripes: where a key is found, and what an edit of one stripe means for the whole.
 use Rattle.std.proofs.Common.{◌≡◌, ◌≢◌, ℕ, zero, suc, ◌<◌, Bool, true, false, cond, List, [], ◌∷◌, ◌++◌, length, get_or, set, take, ◌+◌, Option, Some, None, Result, Ok, Err, IfOk, OnErr, refl, sym, ap, subst, ◌∙◌, arith, inl, inr}
 use Rattle.std.specs.Ordering.{eq_by_cmp}
 use Rattle.std.specs.FinMap as map
@@ -62,7 +62,7 @@ not_tied q k true x y e other = absurd (other (alike q k e))
 not_tied q k false x y e other = refl
 
 module _ (ts : List Table) (is : AreStripes ts) where
-  -- a key is in its stripe alone
+  -- a key is only in its stripe
   pub get-whole : (q : List ℕ) → map.get (whole ts) q ≡ map.get (stripe_at ts (stripe_of (length ts) q)) q
   get-whole q = get-from_entries total (all_entries ts) q ∙ found_at q ts (stripe_of (length ts) q) (λ j other. is.apart j q other)
 
@@ -79,7 +79,7 @@ module _ (ts : List Table) (is : AreStripes ts) where
     abbrev later : List Table
     later = set ts i new
 
-    -- what a stripe has then
+    -- the stripe's contents after the edit
     get_later : (j : ℕ) (q : List ℕ) → j ≡ stripe_of (length ts) q → map.get (stripe_at later j) q ≡ cond (eq_by_cmp by_bytes q k) v (map.get (stripe_at ts j) q)
     get_later j q here = elim (cases_eq j i) [
       | inl same ↦ ap (λ (n : ℕ). map.get (stripe_at later n) q) same ∙ ap (λ (t : Table). map.get t q) (get_or-set_same ts i new map.empty lt ∙ edit) ∙ get-with_value (stripe_at ts i) k q v
@@ -103,7 +103,7 @@ module _ (ts : List Table) (is : AreStripes ts) where
       apart = λ j q away. apart_later j q (rw same at away);
     }
 
-    -- the edit of the stripe is that of the whole
+    -- editing the stripe edits the whole
     pub whole-set : whole later ≡ with_value (whole ts) k v
     whole-set = same_map total antisymmetric (whole later) (with_value (whole ts) k v) (λ q.
         get-from_entries total (all_entries later) q ∙ found_at q later (stripe_of (length ts) q) (λ j other. apart_later j q other)
@@ -118,7 +118,7 @@ module _ (ts : List Table) (is : AreStripes ts) where
     leaves_whole : (v : Option (List ℕ)) (reply : Reply) → LeavesAtKey (stripe_at ts i) invocation v reply → LeavesAtKey (whole ts) invocation v reply
     leaves_whole v reply leaves = subst (λ (old : Option (List ℕ)). Follows (rule_of invocation.method old) invocation.key old v reply) same_value leaves
 
-    -- a call on its key's stripe is a call on the whole
+    -- a call on the stripe of its key is a call on the whole
     pub answers_whole : (new : Table) (reply : Reply) → i < length ts → Answers (stripe_at ts i) invocation new reply
         → record { stripes : AreStripes (set ts i new); answers : Answers (whole ts) invocation (whole (set ts i new)) reply }
     answers_whole new reply lt (v, (leaves, edit)) = record {
@@ -137,7 +137,7 @@ pub whole-empty : (ts : List Table) → ((j : ℕ) → stripe_at ts j ≡ map.em
 whole-empty ts none = same_map total antisymmetric (whole ts) map.empty (λ q.
     get-from_entries total (all_entries ts) q ∙ none_anywhere q ts (λ j. ap (λ (t : Table). map.get t q) (none j) ∙ get-empty by_bytes q) ∙ sym (get-empty by_bytes q))
 
--- what a call on its key's stripe, done or refused, is on the whole
+-- a call on the stripe of its key, done or refused, is the same on the whole
 pub applied : {K : Type 0} (say : K → Reply) (ts : List Table) (is : AreStripes ts) (i : ℕ) (invocation : Invocation) → i ≡ stripe_of (length ts) invocation.key → i < length ts → (old new : Table) → old ≡ get_or ts i old
     → (r : Result K NoMemory) → IfOk r (λ k. Answers old invocation new (say k)) → OnErr r (new ≡ old) → OnErr r (WouldAdd old invocation)
     → record { stripes : AreStripes (set ts i new); answers : IfOk r (λ k. Answers (whole ts) invocation (whole (set ts i new)) (say k)); adds : OnErr r (WouldAdd (whole ts) invocation) }
@@ -150,12 +150,12 @@ applied say ts is i invocation at lt old new read (Err e) answers stays adds =
     let same : set ts i new ≡ ts = ap (set ts i) (stays ∙ here) ∙ set-get_or ts i map.empty in
     record { stripes = rw same is; answers = tt; adds = adds_whole ts is i invocation at (subst (λ (t : Table). WouldAdd t invocation) here adds) }
 
--- the entries of one stripe more
+-- the entries of one more stripe
 pub all_entries-more : (ts : List Table) (n : ℕ) (t : Table) → n < length ts → t ≡ get_or ts n t → all_entries (take (n + 1) ts) ≡ all_entries (take n ts) ++ map.entries t
 all_entries-more ts n t lt is =
     ap all_entries (take_more ts n t lt ∙ ap (λ (x : Table). take n ts ++ x ∷ []) (sym is)) ∙ flat_map-append map.entries (take n ts) (t ∷ [])
     ∙ ap (λ (es : List (List ℕ × List ℕ)). all_entries (take n ts) ++ es) (append-nil (map.entries t))
 
--- lists that weigh the same still do with copies of one stripe's entries more
+-- lists of equal weight still have equal weight after adding copies of one stripe's entries
 pub weigh_more : (found before copies more : List Entry) → WeighSame found before → WeighSame copies more → WeighSame (found ++ copies) (before ++ more)
 weigh_more found before copies more same are = λ weight. sum_by-append weight found copies ∙ (λ i. same weight i + are weight i) ∙ sym (sum_by-append weight before more)

@@ -1,10 +1,10 @@
--- A call as a value: a method with what it is made with, on one key. The methods are those of Java SE 17's ConcurrentMap.
+-- A call as a value: a method with its arguments, on one key. The methods are those of Java SE 17's ConcurrentMap.
 use Rattle.std.specs.Prelude.{ℕ, List, Option, option_copied}
 use Rattle.verifier.specs.Checked.{Checked}
 use Rattle.atomic_methods.specs.declared.call.Call.{Call}
 use Rattle.atomic_methods.specs.declared.call.Call.TheVariants.{Get, Put, PutIfAbsent, Remove, RemoveIf, Replace, ReplaceIf, Compute, ComputeIfAbsent, ComputeIfPresent, Merge}
 
--- a method with the values, the program and the argument that it is given
+-- a method with its values, program and argument
 pub data Method : Type 0 where
   get : Method
   put : List ℕ → Method
@@ -26,7 +26,7 @@ pub record Invocation : Type 0 where
 abbrev pub on_key : List ℕ → Method → Invocation
 on_key k m = record { key = k; method = m }
 
--- the invocation that a call makes; its key, values and program are lent
+-- the invocation of a call, which borrows its key, values and program
 abbrev pub invocation_of : Call → Invocation
 invocation_of (Get key) = on_key key.now get
 invocation_of (Put key value) = on_key key.now (put value.now)

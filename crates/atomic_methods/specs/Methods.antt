@@ -1,5 +1,5 @@
--- What each method does to its key and what it replies. Java SE 17: Map and ConcurrentMap, whose functions are programs
--- here; its null is no value. That a program runs on fitting inputs alone is our profile.
+-- What each method does to its key, and its reply. Java SE 17: Map and ConcurrentMap, but the functions are programs
+-- here; null means no value. Our profile: a program runs only on inputs that fit.
 use Rattle.std.specs.Prelude.{◌≡◌, ℕ, true, false, List, Option, Some, None, Result, Ok, Err, if◌then◌else◌}
 use Rattle.std.specs.Str.{bytes_eq}
 use Rattle.std.specs.FinMap as map
@@ -13,16 +13,16 @@ use Rattle.atomic_methods.specs.declared.reply.Reply.{Reply}
 use Rattle.atomic_methods.specs.declared.reply.Reply.TheVariants.{Value, Done, Unfit}
 use Rattle.atomic_methods.specs.Invocations.{Method, get, put, put_if_absent, remove, remove_if, replace, replace_if, compute, compute_if_absent, compute_if_present, merge, Invocation}
 
--- what becomes of a key: the value that it has then, or none, and the reply; or what a program makes of it
+-- the outcome at a key: its new value, or none, and the reply; or the program to run
 pub data Rule : Type 0 where
   leaves : Option (List ℕ) → Reply → Rule
   runs : Checked → Option (List ℕ) → Rule
 
--- where the value is the expected one
+-- if the value is the expected one
 abbrev where_same : List ℕ → List ℕ → Rule → Rule → Rule
 where_same value expected same other = if bytes_eq value expected then same else other
 
--- what a method makes of a key that has this value, or none
+-- what a method does to a key that has this value, or none
 abbrev pub rule_of : Method → Option (List ℕ) → Rule
 rule_of get old = leaves old (Value old)
 rule_of (put new) old = leaves (Some new) (Value old)
@@ -45,13 +45,13 @@ rule_of (compute_if_present program arg) None = leaves None (Value None)
 rule_of (merge given program) (Some value) = runs program (Some given)
 rule_of (merge given program) None = leaves (Some given) (Value (Some given))
 
--- what the program comes to becomes the key's value and is the reply; nothing is no value, and unfit keeps the old one
+-- the program's answer becomes the key's value and is the reply; nothing means no value, and unfit keeps the old one
 abbrev pub Enters : Result Answer InputPart → Option (List ℕ) → Option (List ℕ) → Reply → Type 0
 Enters (Ok (Bytes value)) old new reply = (new ≡ Some value) × (reply ≡ Value (Some value))
 Enters (Ok Nothing) old new reply = (new ≡ None) × (reply ≡ Value None)
 Enters (Err part) old new reply = (new ≡ old) × (reply ≡ Unfit part)
 
--- by the rule, a key with the old value has the new one then, and the reply is this
+-- by the rule, a key with the old value then has the new one, and this is the reply
 abbrev pub Follows : Rule → List ℕ → Option (List ℕ) → Option (List ℕ) → Reply → Type 0
 Follows (leaves value told) key old new reply = (new ≡ value) × (reply ≡ told)
 Follows (runs program arg) key old new reply =
@@ -79,7 +79,7 @@ WouldAdd table invocation =
     (map.get table invocation.key ≡ None)
     × ((value : List ℕ) × ((reply : Reply) × LeavesAtKey table invocation (Some value) reply))
 
--- the invocation, made on the table, runs a program that comes to this
+-- the invocation, made on the table, runs a program with this result
 abbrev pub RunsTo : Table → Invocation → Result Answer InputPart → Type 0
 RunsTo table invocation outcome =
     let old = map.get table invocation.key in

@@ -1,4 +1,4 @@
--- What plans, kinds of replies and answers in a value of the caller's stand for.
+-- The meaning of plans, kinds of replies, and answers in a value of the caller's.
 use Rattle.std.specs.Prelude.{ℕ, Bool, true, false, List, Option, Some, None, Result, Ok, Err, option_copied}
 use Rattle.bpf_model.specs.declared.input.Answer.{Answer}
 use Rattle.bpf_model.specs.declared.input.Answer.TheVariants.{Nothing, Bytes}
@@ -21,7 +21,7 @@ changed Keep old = old
 changed Remove old = None
 changed (Enter value) old = Some value.now
 
--- the reply, where the key had the old value
+-- the reply, if the key had the old value
 abbrev pub reply_planned : PlannedReply → Option (List ℕ) → Reply
 reply_planned Old old = Value old
 reply_planned (Tells done) old = Done done
@@ -31,20 +31,20 @@ rule_by (Apply change told) old = leaves (changed change old) (reply_planned tol
 rule_by (Give value) old = leaves (Some value.now) (Value (Some value.now))
 rule_by (Run program arg) old = runs program.now (option_copied arg)
 
--- what a program came to, where an answer of bytes was left here
+-- a program's outcome, if an answer of bytes was left here
 abbrev pub outcome_by : Result Bool InputPart → List ℕ → Result Answer InputPart
 outcome_by (Ok true) bytes = Ok (Bytes bytes)
 outcome_by (Ok false) bytes = Ok Nothing
 outcome_by (Err part) bytes = Err part
 
--- the reply, where the bytes of its value were left here
+-- the reply, if the bytes of its value were left here
 abbrev pub reply_by : ReplyKind → List ℕ → Reply
 reply_by NoValue bytes = Value None
 reply_by SomeValue bytes = Value (Some bytes)
 reply_by (IsDone done) bytes = Done done
 reply_by (IsUnfit part) bytes = Unfit part
 
--- the value, where there is one
+-- the value, if there is one
 abbrev pub where_true : Bool → List ℕ → Option (List ℕ)
 where_true true value = Some value
 where_true false value = None

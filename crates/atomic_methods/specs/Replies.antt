@@ -1,6 +1,6 @@
--- What a walk answers for the entries that it found. Java SE 17: ConcurrentHashMap.search, forEach and mappingCount, whose
--- function is a program here. That search answers for the least key, that forEach gives its answers back, and that entries
--- which do not fit are counted, is this map's profile.
+-- The reply of a walk over the entries that it found. Java SE 17: ConcurrentHashMap.search, forEach and mappingCount, but
+-- the function is a program here. This map's profile adds three rules: search answers for the least key, forEach gives its
+-- answers back, and entries which do not fit are counted.
 use Rattle.std.specs.Prelude.{◌≡◌, ℕ, List, [], ◌∷◌, length, take, Option, Ok, Err, count_by}
 use Rattle.bpf_model.specs.declared.input.Answer.TheVariants.{Nothing, Bytes}
 use Rattle.verifier.specs.Checked.{Checked}
@@ -19,15 +19,15 @@ present (entry ∷ entries) (Ok (Bytes answer) ∷ outcomes) = (entry.0, answer)
 present (entry ∷ entries) (Ok Nothing ∷ outcomes) = present entries outcomes
 present (entry ∷ entries) (Err part ∷ outcomes) = present entries outcomes
 
--- which of them a walk gives: search the first alone
+-- which of them a walk gives: search gives only the first
 abbrev pub chosen : WalkKind → List Entry → List Entry
 chosen Search items = take 1 items
 chosen ForEach items = items
 
--- the reply to a walk over these entries, which stand in key order
+-- the reply to a walk over these entries, in key order
 pub record IsReply (kind : WalkKind) (checked : Checked) (arg : Option (List ℕ)) (entries : List Entry)
     (reply : WalkReply) : Type 0 where
-  -- what the program comes to at each entry, at the entry's position
+  -- the program's outcome at each entry, at the entry's position
   pub outcomes : List Outcome
   pub one_each : length outcomes ≡ length entries
   pub are_outcomes : AreOutcomes checked arg entries outcomes
@@ -36,7 +36,7 @@ pub record IsReply (kind : WalkKind) (checked : Checked) (arg : Option (List ℕ
   pub given : reply.counts.given ≡ length reply.items
   pub unfit : reply.counts.unfit ≡ count_by is_unfit outcomes
 
--- the reply to a count of so many entries
+-- the reply to a count of this many entries
 pub record IsCount (entries : ℕ) (reply : WalkReply) : Type 0 where
   pub items : reply.items ≡ []
   pub scanned : reply.counts.scanned ≡ entries

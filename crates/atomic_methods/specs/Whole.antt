@@ -1,4 +1,4 @@
--- A table that is kept in stripes: each key's entry lies in the stripe of its hash. Our profile.
+-- A table kept in stripes: each key's entry is in the stripe of its hash. Our profile.
 use Rattle.std.specs.Prelude.{◌≡◌, ◌≢◌, ℕ, ◌+◌, List, [], ◌∷◌, Option, None, length, flat_map, slice_index_or}
 use Rattle.std.specs.FinMap as map
 use Rattle.verifier.specs.Checked.{Checked}
@@ -19,12 +19,12 @@ whole stripes = map.from_entries (all_entries stripes)
 abbrev pub stripe_at : List Table → ℕ → Table
 stripe_at stripes i = slice_index_or stripes i map.empty
 
--- the stripes are as many as there may be, and no stripe has a key of another
+-- there may be this many stripes, and no stripe has a key of another
 pub record AreStripes (stripes : List Table) : Type 0 where
   pub count : IsStripeCount (length stripes)
   pub apart : (i : ℕ) (key : List ℕ) → i ≢ stripe_of (length stripes) key → map.get (stripe_at stripes i) key ≡ None
 
--- one number of each kind is the sum of two
+-- each count is the sum of the two
 pub record IsSum (total first second : Counts) : Type 0 where
   pub scanned : total.scanned ≡ first.scanned + second.scanned
   pub given : total.given ≡ first.given + second.given

@@ -5,64 +5,64 @@ ghost use Rattle.atomic_methods.specs.Invocations.{invocation_of};
 use bpf_model::{Key, Value};
 use verifier::Verified;
 
-/// A call of one method on one key. Keys, values and programs are lent, so a call is a few words and copies none of them.
-/// Where a program would run and a window is too small for its bytes, the reply is `Unfit` and nothing changes.
+/// A call of one method on one key. It borrows its key, values and program, so a call is a few words and copies none of
+/// them. If a program would run and a window is too small for its bytes, the reply is `Unfit` and nothing changes.
 #[derive(Clone, Copy)]
 pub enum Call<'a> {
-    /// Replies the key's value.
+    /// Returns the key's value.
     Get {
         key: &'a Key,
     },
-    /// Enters the value, and replies the one that the key had.
+    /// Sets the value, and returns the old one.
     Put {
         key: &'a Key,
         value: &'a Value,
     },
-    /// Enters the value where the key has none. Replies the one that the key had.
+    /// Sets the value if the key has none. Returns the old one.
     PutIfAbsent {
         key: &'a Key,
         value: &'a Value,
     },
-    /// Removes the key, and replies the value that it had.
+    /// Removes the key, and returns its value.
     Remove {
         key: &'a Key,
     },
-    /// Removes the key where its value is the expected one. Replies whether it was.
+    /// Removes the key if its value is the expected one. Returns whether it was.
     RemoveIf {
         key: &'a Key,
         expected: &'a Value,
     },
-    /// Enters the value where the key has one. Replies the one that the key had.
+    /// Sets the value if the key has one. Returns the old one.
     Replace {
         key: &'a Key,
         value: &'a Value,
     },
-    /// Enters the value where the key's value is the expected one. Replies whether it was.
+    /// Sets the value if the key's value is the expected one. Returns whether it was.
     ReplaceIf {
         key: &'a Key,
         expected: &'a Value,
         value: &'a Value,
     },
-    /// Runs the program on the key, its value and the argument. An answer of bytes is entered and replied; an answer
-    /// of nothing removes the key.
+    /// Runs the program on the key, its value and the argument. If it answers bytes, they become the value and are
+    /// returned; if it answers nothing, the key is removed.
     Compute {
         key: &'a Key,
         program: &'a Verified,
         arg: Option<&'a Value>,
     },
-    /// As `Compute` where the key has no value; else replies its value.
+    /// As `Compute` if the key has no value; else returns its value.
     ComputeIfAbsent {
         key: &'a Key,
         program: &'a Verified,
         arg: Option<&'a Value>,
     },
-    /// As `Compute` where the key has a value; else replies none.
+    /// As `Compute` if the key has a value; else returns none.
     ComputeIfPresent {
         key: &'a Key,
         program: &'a Verified,
         arg: Option<&'a Value>,
     },
-    /// As `Compute` with this value as the argument where the key has a value; else enters this value and replies it.
+    /// As `Compute` with this value as the argument, if the key has a value; else sets this value and returns it.
     Merge {
         key: &'a Key,
         value: &'a Value,
@@ -71,7 +71,7 @@ pub enum Call<'a> {
 }
 
 impl<'a> Call<'a> {
-    /// The key that the call is about.
+    /// Returns the key of the call.
     pub fn key(&self) -> &'a Key
         ensures value { result.now ≡ (invocation_of self.now).key }
     {

@@ -1,12 +1,12 @@
-//! Why a table is not opened.
+//! Why a table can't be opened.
 use bpf_model::NoMemory;
 use std::error::Error;
 use std::fmt;
 
-/// Why a table was not opened.
+/// Why a table can't be opened.
 #[derive(Clone, Copy, Debug, PartialEq, Eq)]
 pub enum OpenFault {
-    /// The number of stripes is no power of two from 1 to `MAX_STRIPES`: number 50.
+    /// The number of stripes isn't a power of two from 1 to `MAX_STRIPES`: number 50.
     BadStripes,
     /// A request for memory was refused: number 9.
     NoMemory,
@@ -16,7 +16,7 @@ impl OpenFault {
     ghost use Rattle.std.specs.Prelude.{◌≡◌};
     ghost use Rattle.atomic_methods.specs.Faults.{open_fault_number};
 
-    /// The number under which this refusal is printed and sent.
+    /// Returns the number with which this refusal is printed and sent.
     pub fn number(self) -> u8
         ensures value { result ≡ open_fault_number self }
     {

@@ -8,7 +8,7 @@ use crate::stripes::stripe_of_hash;
 use bins::HashedKey;
 use std::marker::Model;
 
-/// A call beside the hash of its key, so that whoever makes it computes that once, for the stripe and for the bin.
+/// A call with the hash of its key. You compute the hash once, for the stripe and for the bin.
 #[derive(Drop)]
 pub struct HashedCall<'a> {
     call: &'a Call<'a>,
@@ -27,7 +27,7 @@ impl<'a> Model for HashedCall<'a> {
 }
 
 impl<'a> HashedCall<'a> {
-    /// The call with its key's hash, which is computed here. Takes no memory.
+    /// Computes the key's hash and stores it with the call. Takes no memory.
     pub fn new(call: &'a Call<'a>) -> HashedCall<'a>
         ensures value { result ≡ invocation_of call.now }
     {
@@ -35,7 +35,7 @@ impl<'a> HashedCall<'a> {
         HashedCall { call, key }
     }
 
-    /// The call.
+    /// Returns the call.
     #[inline(always)]
     pub fn call(&self) -> &'a Call<'a>
         ensures value { invocation_of result.now ≡ self.now }
@@ -43,7 +43,7 @@ impl<'a> HashedCall<'a> {
         self.call
     }
 
-    /// Its key with the hash.
+    /// Returns its key with the hash.
     #[inline(always)]
     pub fn key(&self) -> &HashedKey<'a>
         ensures value { result.now ≡ self.now.key }
@@ -51,7 +51,7 @@ impl<'a> HashedCall<'a> {
         &self.key
     }
 
-    /// The stripe of its key, counted from 0, in a table of so many stripes.
+    /// Returns the stripe of its key, counted from 0, in a table of `stripes` stripes.
     #[inline(always)]
     pub fn stripe(&self, stripes: u64) -> u64
         requires { IsStripeCount stripes }

@@ -1,12 +1,11 @@
-//! The methods of a map, each one step on one key, over whatever keeps the entries.
+//! The methods of a map, each one step on one key, over any store of entries.
 //!
-//! The promise to the layers above: `apply` does to the entries, and replies, what the definition of its method says
-//! (`Answers`), and so does `Striped::apply` to a whole table; `Striped::run` makes a list of calls as the sequential map
-//! would, one after the other (`AnswersInTurn`).
-//! `walk_entries` and `count_of` answer what a walk over entries gives (`IsReply`, `IsCount` of `specs/Replies.antt`), and
-//! `Striped::walk` what one over a whole table does.
-//! `NoMemory` comes only if a call would have added its key, and the entries are then as before. A call that adds no
-//! key takes no memory, and none waits. What each method does: `specs/Methods.antt`; lists of calls: `specs/Runs.antt`.
+//! The promise to the layers above: `apply` changes the entries and replies as the definition of its method says
+//! (`Answers`), and so does `Striped::apply` for a whole table. `Striped::run` makes a list of calls as the sequential map
+//! would, one after the other (`AnswersInTurn`). `walk_entries` and `count_of` return the reply of a walk over entries
+//! (`IsReply`, `IsCount` of `specs/Replies.antt`), and `Striped::walk` that of a walk over a whole table. `NoMemory` comes
+//! only if a call would have added its key, and the entries are then unchanged. A call that adds no key takes no memory,
+//! and none waits. `specs/Methods.antt` says what each method does, `specs/Runs.antt` what lists of calls do.
 #![tactic(auto)]
 
 mod call;

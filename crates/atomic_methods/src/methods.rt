@@ -1,4 +1,4 @@
-//! The methods, over whatever keeps the entries.
+//! The methods, over any store of entries.
 ghost use Rattle.std.specs.Prelude.{◌≡◌, ◌<◌, ◌^◌, ℕ, List, IfOk, OnOk, OnErr, Some, None};
 ghost use Rattle.std.specs.FinMap as map;
 ghost use Rattle.bins.specs.Replacements.{ReplacesEach};
@@ -18,7 +18,7 @@ use std::alloc::Global;
 use verifier::Verified;
 
 /// Makes one call. Returns `NoMemory` only if it would have added a key and the room for it is refused; the entries are
-/// then as before. A call that adds no key takes no memory. Never waits.
+/// then unchanged. A call that adds no key takes no memory. Never waits.
 pub fn apply<B: Bins>(bins: &mut B, call: &Call) -> Result<Reply, NoMemory>
     ensures ok { IfOk result (Answers (B.table bins.old) (invocation_of call.now) (B.table bins.new)) }
     ensures err { OnErr result (B.table bins.new ≡ B.table bins.old) }
@@ -30,9 +30,9 @@ pub fn apply<B: Bins>(bins: &mut B, call: &Call) -> Result<Reply, NoMemory>
     Ok(kind.with(bytes))
 }
 
-/// Makes one call as `apply` does. Leaves the bytes of the replied value in `bytes`, so that no value is moved, and works
-/// in `workspace`, so that none is cleared; what both held is lost. A program is run on the old value where that lies, before
-/// room is asked for. Hashed bins make one search for a call, and what is replied is copied once.
+/// Makes one call as `apply` does. Leaves the bytes of the replied value in `bytes`, so that no value is moved, and works in
+/// `workspace`, so that none is cleared; the old contents of both are lost. A program runs on the old value in place, before
+/// room is asked for. Hashed bins search once per call, and the replied value is copied once.
 pub fn apply_into<B: Bins>(
     bins: &mut B,
     call: &HashedCall<'_>,
@@ -67,7 +67,7 @@ pub fn apply_into<B: Bins>(
     }
 }
 
-/// Enters what a program came to: an answer of bytes, which are in `bytes`, is the key's value then, and is replied.
+/// Enters a program's answer: if it is bytes, which are in `bytes`, they become the key's value and the reply.
 fn enter_answer<B: Bins>(
     bins: &mut B,
     call: &HashedCall<'_>,
@@ -93,7 +93,7 @@ fn enter_answer<B: Bins>(
     }
 }
 
-/// The reply about a present key, whose value is told apart from it.
+/// Returns the reply about a present key, without its value.
 fn kind_of(told: PlannedReply) -> ReplyKind
     ensures value { (old : List ℕ) → reply_by result old ≡ reply_planned told (Some old) }
 {
@@ -124,7 +124,7 @@ fn make_change<B: Bins>(
     }
 }
 
-/// Makes a call whose key is absent, as `apply_into` does. Apart from it, so that calls on present keys clear no room for
+/// Makes a call whose key is absent, as `apply_into` does. It is separate so that calls on present keys clear no room for
 /// a new entry.
 #[inline(never)]
 fn apply_to_absent<B: Bins>(
@@ -147,15 +147,15 @@ fn apply_to_absent<B: Bins>(
     Ok(kind)
 }
 
-/// Copies of all entries, in key order. Returns `NoMemory` if a request for memory is refused. Never waits.
+/// Returns copies of all entries, in key order. Returns `NoMemory` if a request for memory is refused. Never waits.
 pub fn scan<B: Bins>(alloc: Global, bins: &B) -> Result<Vec<(Key, Value)>, NoMemory>
     ensures ok { IfOk result (λ found. found.items ≡ map.entries (B.table bins.now)) }
 {
     bins.entries(alloc)
 }
 
-/// Replaces the value of each key once by what the program answers on the key, its value and the argument. An answer of
-/// nothing keeps the entry, and one that is too long for a window stays. Takes no memory. Never waits.
+/// Replaces the value of each key once by the program's answer on the key, its value and the argument. If the answer is
+/// nothing, or the entry is too long for a window, the entry stays. Takes no memory. Never waits.
 pub fn replace_each<B: Bins>(bins: &mut B, program: &Verified, arg: &Option<Value>) -> Counts
     ensures each { ReplacesEach program.now arg.now (B.table bins.old) (B.table bins.new) result }
     ensures bounded { result.scanned < 2 ^ 57 }
@@ -163,7 +163,7 @@ pub fn replace_each<B: Bins>(bins: &mut B, program: &Verified, arg: &Option<Valu
     bins.replace_each(program, arg)
 }
 
-/// The call on an absent key: whether a value is to be entered, which is then in `bytes`, and the reply.
+/// Returns the result of a call on an absent key: whether to enter a value, which is then in `bytes`, and the reply.
 fn new_value(call: &Call, workspace: &mut Workspace, bytes: &mut Value) -> (bool, ReplyKind)
     ensures follows { let invocation = invocation_of call.now in
         Follows (rule_of invocation.method None) invocation.key None

@@ -1,4 +1,4 @@
-//! What a call makes of its key, before anything changes.
+//! What a call will do to its key, before anything changes.
 ghost use Rattle.std.specs.Prelude.{◌≡◌};
 ghost use Rattle.std.specs.Option.{option_copied};
 ghost use Rattle.atomic_methods.specs.Invocations.{invocation_of};
@@ -9,18 +9,18 @@ use crate::call::Call;
 use bpf_model::Value;
 use verifier::Verified;
 
-/// What becomes of a key's value.
+/// The change of a key's value.
 #[derive(Clone, Copy)]
 pub enum Change<'c> {
-    /// It stays, or the key stays absent.
+    /// Keeps the value, or keeps the key absent.
     Keep,
-    /// The key has none then.
+    /// Removes the key.
     Remove,
-    /// The key has this one then.
+    /// Sets this value.
     Enter(&'c Value),
 }
 
-/// What is replied.
+/// The reply.
 #[derive(Clone, Copy)]
 pub enum PlannedReply {
     /// The value that the key had, if any.
@@ -29,18 +29,18 @@ pub enum PlannedReply {
     Done(bool),
 }
 
-/// What a call makes of its key.
+/// What a call does to its key.
 #[derive(Clone, Copy)]
 pub enum Plan<'c> {
-    /// The change and what is replied.
+    /// The change and the reply.
     Apply(Change<'c>, PlannedReply),
-    /// The key has this value then, which is replied.
+    /// Sets this value and replies it.
     Give(&'c Value),
-    /// The program is run with this argument; what it answers becomes the key's value and is replied.
+    /// Runs the program with this argument; its answer becomes the key's value and the reply.
     Run(&'c Verified, Option<&'c Value>),
 }
 
-/// The rule of each method: what the call makes of its key, which has this value or none.
+/// The rule of each method: what the call does to its key, which has this value or none.
 #[inline(always)]
 pub fn plan_of<'c>(call: &Call<'c>, old: Option<&[u8]>) -> Plan<'c>
     ensures rule { let value = option_copied old.entry in

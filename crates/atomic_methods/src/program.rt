@@ -1,4 +1,4 @@
-//! What a program makes of a key.
+//! Runs a program on a key.
 ghost use Rattle.std.specs.Prelude.{◌≡◌};
 ghost use Rattle.std.specs.Option.{option_copied};
 ghost use Rattle.bpf_model.specs.Fits.{input_of};
@@ -9,8 +9,9 @@ use bpf_machine::{Machine, run_into};
 use bpf_model::{InputPart, Key, Value, fits_parts};
 use verifier::Verified;
 
-/// Runs the program on the key, its value and the argument, in a machine that is lent: whether it answers bytes, which are
-/// then in `answer`; an answer of nothing is `false`. The first window that is too small, where one is. Takes no memory.
+/// Runs the program on the key, its value and the argument, in the borrowed machine. Returns whether it answers bytes,
+/// which are then in `answer`; `false` means nothing. If a window is too small, returns the first such window. Takes no
+/// memory.
 pub fn answer_into(
     program: &Verified,
     key: &Key,

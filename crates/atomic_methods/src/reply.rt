@@ -4,18 +4,18 @@ ghost use Rattle.atomic_methods.specs.Plans.{reply_by};
 
 use bpf_model::{InputPart, Value};
 
-/// What a call replies.
+/// A call's reply.
 #[derive(Debug, PartialEq, Eq, Drop)]
 pub enum Reply {
     /// A value, or none.
     Value(Option<Value>),
     /// Whether the key's value was the expected one.
     Done(bool),
-    /// The first window that is too small for its bytes. The program did not run, and the table is as before.
+    /// The first window that is too small for its bytes. The program did not run, and the table is unchanged.
     Unfit(InputPart),
 }
 
-/// A reply without the bytes of its value, which the caller has in a `Value` of its own.
+/// A reply without the bytes of its value, which the caller has in its own `Value`.
 #[derive(Clone, Copy, Debug, PartialEq, Eq)]
 pub enum ReplyKind {
     /// No value.
@@ -29,7 +29,7 @@ pub enum ReplyKind {
 }
 
 impl ReplyKind {
-    /// The reply whose value, if it has one, is this.
+    /// Returns the reply with this value, if it has one.
     pub fn with(self, value: Value) -> Reply
         ensures value { result ≡ reply_by self value }
     {

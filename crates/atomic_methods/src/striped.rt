@@ -26,10 +26,10 @@ use std::alloc::Global;
 use std::marker::Model;
 use verifier::Verified;
 
-/// Why a list of calls was not made to its end: memory was refused.
+/// Why a list of calls stopped early: memory was refused.
 #[derive(Debug, Drop)]
 pub struct Stopped {
-    /// The replies to the calls that were made, which stand. None if the list of replies itself found no room.
+    /// The replies to the calls that were made; these calls stand. Empty if memory for the list itself was refused.
     pub replies: Vec<Reply>,
 }
 
@@ -54,7 +54,7 @@ impl Model for Striped {
 }
 
 impl Striped {
-    /// A table without entries. Returns `BadStripes` if it may not have this many stripes, else `NoMemory` if a request for
+    /// Makes an empty table. Returns `BadStripes` if it may not have this many stripes, else `NoMemory` if a request for
     /// memory is refused.
     pub fn open(alloc: Global, stripes: u64) -> Result<Striped, OpenFault>
         ensures bad_stripes { IsErrOf result OpenFault.BadStripes ↔ (IsStripeCount stripes → ⊥) }
@@ -70,7 +70,7 @@ impl Striped {
     }
 
     /// Makes one call on the whole table. Returns `NoMemory` only if it would have added a key and the room for it is
-    /// refused; the table is then as before. A call that adds no key takes no memory. Never waits.
+    /// refused; the table is then unchanged. A call that adds no key takes no memory. Never waits.
     pub fn apply(&mut self, call: &Call) -> Result<Reply, NoMemory>
         ensures ok { IfOk result (Answers self.old (invocation_of call.now) self.new) }
         ensures err { OnErr result (self.new ≡ self.old) }
@@ -82,7 +82,7 @@ impl Striped {
     }
 
     /// Makes one call as `apply` does, and leaves the bytes of the replied value in `bytes`, so that no value is moved.
-    /// What `bytes` held is lost.
+    /// The old contents of `bytes` are lost.
     pub fn apply_into(&mut self, call: &Call, bytes: &mut Value) -> Result<ReplyKind, NoMemory>
         ensures ok { IfOk result (λ kind.
             Answers self.old (invocation_of call.now) self.new (reply_by kind bytes.new)) }
@@ -95,8 +95,8 @@ impl Striped {
         methods::apply_into(bins, &call, &mut self.workspace, bytes)
     }
 
-    /// Makes the calls in turn, each on what the ones before it left. If a call is refused, neither it nor any after it is
-    /// made. Room for the replies is asked for first. Never waits.
+    /// Makes the calls in turn, each on the result of the ones before it. If a call is refused, neither it nor any after
+    /// it is made. Room for the replies is asked for first. Never waits.
     pub fn run(&mut self, alloc: Global, calls: &[Call]) -> Result<Vec<Reply>, Stopped>
         ensures ok { IfOk result (λ replies.
             AnswersInTurn self.old (map invocation_of calls.now) self.new replies.items) }
@@ -120,7 +120,7 @@ impl Striped {
         Ok(replies)
     }
 
-    /// Copies of all entries, in key order. Returns `NoMemory` if a request for memory is refused. Never waits.
+    /// Returns copies of all entries, in key order. Returns `NoMemory` if a request for memory is refused. Never waits.
     pub fn scan(&self, alloc: Global) -> Result<Vec<(Key, Value)>, NoMemory>
         ensures ok { IfOk result (λ found. found.items ≡ finmap.entries self.now) }
     {
@@ -129,8 +129,8 @@ impl Striped {
         Ok(found)
     }
 
-    /// Runs the program on each entry in key order, and gives the answers of this kind of walk. Returns `NoMemory` if a
-    /// request for memory is refused. Never waits.
+    /// Runs the program on each entry in key order, and returns the answers of this kind of walk. Returns `NoMemory` if
+    /// a request for memory is refused. Never waits.
     pub fn walk(
         &self,
         alloc: Global,
@@ -145,16 +145,15 @@ impl Striped {
         Ok(reply.into_reply())
     }
 
-    /// How many entries there are. Takes no memory. Never waits.
+    /// Returns the number of entries. Takes no memory. Never waits.
     pub fn count(&self) -> u64
         ensures value { result ≡ length (finmap.entries self.now) }
     {
         count_all(&self.stripes)
     }
 
-    /// Replaces the value of each key of the table once by what the program answers on the key, its value and the
-    /// argument. An answer of nothing keeps the entry, and one that is too long for a window stays. Takes no memory. Never
-    /// waits.
+    /// Replaces the value of each key of the table once by the program's answer on the key, its value and the argument. If
+    /// the answer is nothing, or the entry is too long for a window, the entry stays. Takes no memory. Never waits.
     pub fn replace_each(&mut self, program: &Verified, arg: &Option<Value>) -> Counts
         ensures each { ReplacesEach program.now arg.now self.old self.new result }
     {
@@ -162,7 +161,7 @@ impl Striped {
     }
 }
 
-/// Replaces the values of each stripe, and counts them together.
+/// Replaces the values of each stripe, and adds up the counts.
 fn replace_stripes(stripes: &mut Vec<HashedBins>, program: &Verified, arg: &Option<Value>) -> Counts
     requires bounded { length stripes.old.items ≤ MAX_STRIPES }
     ensures each { ReplacesStripes program.now arg.now stripes.old.items stripes.new.items result }
@@ -183,7 +182,7 @@ fn replace_stripes(stripes: &mut Vec<HashedBins>, program: &Verified, arg: &Opti
     }
 }
 
-/// This many stripes without entries.
+/// Makes this many stripes without entries.
 fn empty_stripes(alloc: Global, count: u64) -> Result<Vec<HashedBins>, NoMemory>
     ensures count { IfOk result (λ stripes. length stripes.items ≡ count) }
     ensures empty { IfOk result (λ stripes. (i : ℕ) → stripe_at stripes.items i ≡ finmap.empty) }
@@ -195,7 +194,7 @@ fn empty_stripes(alloc: Global, count: u64) -> Result<Vec<HashedBins>, NoMemory>
     Ok(stripes)
 }
 
-/// How many entries the stripes have together.
+/// Returns the number of entries in all stripes.
 fn count_all(stripes: &[HashedBins]) -> u64
     requires { length stripes.now ≤ MAX_STRIPES }
     ensures { result ≡ length (all_entries stripes.now) }
@@ -207,7 +206,7 @@ fn count_all(stripes: &[HashedBins]) -> u64
     sum
 }
 
-/// The entries of each stripe in one list, for which room is asked first.
+/// Returns the entries of all stripes in one list. Asks for its room first.
 fn list_of(alloc: Global, stripes: &[HashedBins]) -> Result<EntryList, NoMemory>
     requires { length stripes.now ≤ MAX_STRIPES }
     ensures ok { IfOk result (λ found. WeighSame found (all_entries stripes.now)) }
@@ -220,7 +219,7 @@ fn list_of(alloc: Global, stripes: &[HashedBins]) -> Result<EntryList, NoMemory>
     Ok(found)
 }
 
-/// The entries of all stripes in key order.
+/// Returns the entries of all stripes in key order.
 fn sorted_entries(alloc: Global, stripes: &[HashedBins]) -> Result<SortedEntries, NoMemory>
     requires { AreStripes stripes.now }
     ensures ok { IfOk result (λ found. found ≡ finmap.entries (whole stripes.now)) }

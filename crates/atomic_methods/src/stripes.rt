@@ -5,17 +5,17 @@ ghost use Rattle.atomic_methods.specs.Hashes.{stripe_of, IsStripeCount};
 use bins::hash_of;
 use bpf_model::Key;
 
-/// The most stripes that a table may have.
+/// A table has at most this many stripes.
 pub const MAX_STRIPES: u64 = 64;
 
-/// Whether a table may have so many stripes: a power of two, from 1 to `MAX_STRIPES`.
+/// Tests whether a table may have this many stripes: a power of two, from 1 to `MAX_STRIPES`.
 pub fn is_stripe_count(stripes: u64) -> bool
     ensures exact { IsTrue result ↔ IsStripeCount stripes }
 {
     stripes <= MAX_STRIPES && stripes.is_power_of_two()
 }
 
-/// The stripe of the keys of a hash, counted from 0, in a table of so many stripes.
+/// Returns the stripe of keys with this hash, counted from 0, in a table of `stripes` stripes.
 #[tactic(auto, using(crate::proofs::StripeLemmas::masked))]
 pub(crate) fn stripe_of_hash(hash: u32, stripes: u64) -> u64
     requires { IsStripeCount stripes }
@@ -25,7 +25,7 @@ pub(crate) fn stripe_of_hash(hash: u32, stripes: u64) -> u64
     u64::from(hash) & (stripes - 1)
 }
 
-/// The stripe of a key, counted from 0, in a table of so many stripes.
+/// Returns the stripe of a key, counted from 0, in a table of `stripes` stripes.
 pub fn stripe_of(key: &Key, stripes: u64) -> u64
     requires { IsStripeCount stripes }
     ensures value { result ≡ stripe_of stripes key.now }

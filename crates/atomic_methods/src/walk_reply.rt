@@ -8,18 +8,19 @@ ghost use Rattle.atomic_methods.specs.Replies.{IsReply, IsCount};
 use bins::{Counts, MergedEntries};
 use std::alloc::Global;
 
-/// What a walk answers.
+/// The reply to a walk.
 #[derive(Drop)]
 pub struct WalkReply {
     /// Keys with the answers that the walk gives, in key order.
     pub items: MergedEntries,
-    /// `scanned` and `unfit` count entries, and `given` the items; a replacement, which gives no items, counts there the
-    /// values that it entered.
+    /// `scanned` and `unfit` count entries, and `given` the items. A replacement, which gives no items, counts in
+    /// `given` the values that it entered.
     pub counts: Counts,
 }
 
 impl WalkReply {
-    /// Whether two replies are the same: those to one walk over the same entries are, and those to a count of as many.
+    /// Tests whether two replies are the same. Replies to one walk over the same entries are, and so are replies to
+    /// counts of equal numbers.
     pub fn is_same(&self, other: &WalkReply) -> bool
         ensures exact { IsTrue result ↔ (self.now.items ≡ other.now.items) × (self.now.counts ≡ other.now.counts) }
         ensures one { (kind : AnyKind) (checked : Checked) (arg : Option (List ℕ)) (entries : List Entry) →
@@ -40,7 +41,7 @@ pub enum WalkKind {
     ForEach,
 }
 
-/// The reply to a count of this many entries. Takes no memory.
+/// Returns the reply to a count of this many entries. Takes no memory.
 pub fn count_of(alloc: Global, scanned: u64) -> WalkReply
     ensures { IsCount scanned result }
 {

@@ -16,8 +16,8 @@ use bpf_model::{InputPart, Key, NoMemory, Value, value_bytes};
 use std::alloc::Global;
 use verifier::Verified;
 
-/// What a program needs to run on one entry after the other: no value is made for an entry, or moved. What it holds makes no
-/// difference.
+/// The buffers in which a program runs on one entry after the other: no value is made for an entry, or moved. Old contents
+/// make no difference.
 #[derive(Drop)]
 struct Workbench {
     machine: Machine,
@@ -26,7 +26,7 @@ struct Workbench {
 }
 
 impl Workbench {
-    /// A workbench. Takes no memory.
+    /// Makes a workbench. Takes no memory.
     fn new() -> Workbench {
         Workbench {
             machine: Machine::new(),
@@ -36,8 +36,8 @@ impl Workbench {
     }
 }
 
-/// Runs the program on each entry in turn, and gives the answers of this kind of walk, in the order of the entries. Asks
-/// for room for the answers first; returns `NoMemory` if a request for memory is refused. Never waits.
+/// Runs the program on each entry in turn, and returns the answers of this kind of walk, in the order of the entries.
+/// Asks for room for the answers first; returns `NoMemory` if a request for memory is refused. Never waits.
 pub fn walk_entries(
     alloc: Global,
     kind: WalkKind,
@@ -68,7 +68,7 @@ pub fn walk_entries(
     Ok(WorkerReply::new(items, counts))
 }
 
-/// How many answers a walk over this many entries gives at most.
+/// Returns how many answers a walk over this many entries gives at most.
 fn most_given(kind: WalkKind, count: usize) -> usize {
     match kind {
         WalkKind::Search => 1,
@@ -76,7 +76,8 @@ fn most_given(kind: WalkKind, count: usize) -> usize {
     }
 }
 
-/// Runs the program on a key, its value and the argument: whether it answers bytes, which then lie on the bench.
+/// Runs the program on a key, its value and the argument. Returns whether it answers bytes, which are then on the
+/// bench.
 fn answer(
     program: &Verified,
     key: &[u8],

@@ -5,7 +5,7 @@ use crate::walk_reply::WalkReply;
 use bins::{Counts, EntryList, MergedEntries};
 use std::marker::Model;
 
-/// What one worker answers for the entries that it found, which may be a part of the table's. The replies of all workers are
+/// The reply of one worker for the entries that it found, which may be a part of the table's. The replies of all workers are
 /// merged into one.
 #[derive(Drop)]
 pub struct WorkerReply {
@@ -22,7 +22,7 @@ impl Model for WorkerReply {
 }
 
 impl WorkerReply {
-    /// A reply of these items and these counts.
+    /// Makes a reply of these items and counts.
     pub(crate) fn new(items: EntryList, counts: Counts) -> WorkerReply
         ensures { result ≡ record { items = items; counts = counts } }
     {
@@ -36,21 +36,21 @@ impl WorkerReply {
         &self.items
     }
 
-    /// What the worker counted.
+    /// Returns the worker's counts.
     pub fn counts(&self) -> Counts
         ensures value { result ≡ self.now.counts }
     {
         self.counts
     }
 
-    /// The items alone.
+    /// Returns only the items.
     pub fn into_items(self) -> EntryList
         ensures { result ≡ self.items }
     {
         self.items
     }
 
-    /// The reply to the whole walk, if the worker was alone.
+    /// Returns the reply to the whole walk, if there was one worker.
     pub fn into_reply(self) -> WalkReply
         ensures { result ≡ self }
     {

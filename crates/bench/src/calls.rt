@@ -12,22 +12,22 @@ use std::sync::Wait;
 use std::thread::{self, Threads};
 use verifier::Verified;
 
-/// What each call is.
+/// The method of the calls.
 #[derive(Clone, Copy, Debug, PartialEq, Eq)]
 pub enum Method {
     Get,
-    /// Of the value 1.
+    /// Puts the value 1.
     Put,
-    /// By the value 1.
+    /// Replaces by the value 1.
     Replace,
-    /// By the sum, with the argument 1.
+    /// Computes the sum with the argument 1.
     Compute,
-    /// Of the value 1, by the sum.
+    /// Merges the value 1 by the sum.
     Merge,
 }
 
 impl Method {
-    /// The method of this name; none where there is no such one.
+    /// Returns the method of this name, or `None` if there is no such one.
     pub fn named(name: &str) -> Option<Method> {
         match name {
             "get" => Some(Method::Get),
@@ -39,7 +39,7 @@ impl Method {
         }
     }
 
-    /// The call on this key.
+    /// Returns the call on this key.
     pub fn call<'a>(self, key: &'a Key, value: &'a Value, program: &'a Verified) -> Call<'a> {
         match self {
             Method::Get => Call::Get { key },
@@ -62,24 +62,24 @@ impl Method {
 /// Which keys the threads call.
 #[derive(Clone, Copy, Debug, PartialEq, Eq)]
 pub enum Keys {
-    /// All threads so many keys, each from a place of its own on.
+    /// All threads call this many keys, each starting at its own place.
     Shared(u64),
-    /// Each thread one key of its own, in stripes that lie so many apart.
+    /// Each thread has its own key, and their stripes are this many apart.
     Own(u64),
 }
 
-/// How many stripes apart the threads' own keys lie, where they are to lie apart.
+/// The distance of the stripes of keys that are far apart.
 const FAR: u64 = 8;
 
-/// The key of one byte in this stripe of 64: its hash is 31 and the byte.
+/// Returns the key of one byte in this stripe of 64: its hash is 31 and the byte.
 fn key_in_stripe(stripe: u64) -> Result<Key> {
     let byte = stripe.wrapping_add(33) % 64;
     Ok(Key::from_slice(&[byte as u8])?)
 }
 
 impl Keys {
-    /// `near` is a key for each thread, in stripes side by side, and `apart` in stripes that lie 8 apart; else the word is
-    /// how many keys all threads share.
+    /// Reads a word: `near` is a key for each thread, in neighbouring stripes, and `apart` in stripes that are 8 apart;
+    /// otherwise the word is how many keys all threads share.
     pub fn named(word: &str) -> Result<Keys> {
         Ok(match word {
             "near" => Keys::Own(1),
@@ -88,7 +88,7 @@ impl Keys {
         })
     }
 
-    /// How many keys so many threads call.
+    /// Returns how many keys `threads` threads call.
     fn count(self, threads: u64) -> u64 {
         match self {
             Keys::Shared(count) => count,
@@ -96,7 +96,7 @@ impl Keys {
         }
     }
 
-    /// The key of this number.
+    /// Returns the key of this number.
     fn key(self, number: u64) -> Result<Key> {
         match self {
             Keys::Shared(_) => Ok(numbered_key(number)?),
@@ -104,7 +104,7 @@ impl Keys {
         }
     }
 
-    /// The number of the key that the worker calls at this turn.
+    /// Returns the number of the key that the worker calls at this turn.
     fn number(self, worker: u64, turn: u64) -> u64 {
         match self {
             Keys::Shared(count) => worker.wrapping_mul(count / 4).wrapping_add(turn) % count.max(1),
@@ -113,7 +113,7 @@ impl Keys {
     }
 }
 
-/// What the threads do.
+/// The work of the threads.
 #[derive(Drop)]
 struct Plan<'a> {
     method: Method,
@@ -122,7 +122,7 @@ struct Plan<'a> {
     count: u64,
 }
 
-/// Puts the value 1 under each of the keys.
+/// Puts the value 1 at each of the keys.
 fn fill<R: Wait>(rt: &R, map: &StripedMap, pass: &mut Pass, keys: Keys, count: u64) -> Result<()>
     requires { pass.old.map ≡ map.now }
     ensures { pass.new.map ≡ map.now }
@@ -156,7 +156,7 @@ fn make_calls<R: Wait>(
     Ok(())
 }
 
-/// Makes the calls of all workers, each in a thread of its own where one can be made.
+/// Makes the calls of all workers, each in a thread of its own if one can be made.
 fn make_all_calls<R: Threads + Wait + Sync>(
     rt: &R,
     map: &StripedMap,
@@ -175,7 +175,7 @@ fn make_all_calls<R: Threads + Wait + Sync>(
     thread::for_each_mut(rt, passes, threads, &call);
 }
 
-/// The value's number; 0 where there is no value of eight bytes.
+/// Returns the value's number; 0 if there is no value of eight bytes.
 fn number_of(reply: &Reply) -> u64 {
     let Reply::Value(Some(value)) = reply else {
         return 0;
@@ -186,7 +186,7 @@ fn number_of(reply: &Reply) -> u64 {
     }
 }
 
-/// The sum of the values of the keys.
+/// Returns the sum of the values of the keys.
 fn sum_of<R: Wait>(rt: &R, map: &StripedMap, pass: &mut Pass, keys: Keys, count: u64) -> Result<u64>
     requires { pass.old.map ≡ map.now }
 {
@@ -199,8 +199,8 @@ fn sum_of<R: Wait>(rt: &R, map: &StripedMap, pass: &mut Pass, keys: Keys, count:
     Ok(sum)
 }
 
-/// The sum of the values, after as many threads made as many calls each on keys that had the value 1. A call that was
-/// refused for memory shows in the sum.
+/// Returns the sum of the values after this many threads made this many calls each, on keys that had the value 1. A
+/// call that was refused for memory shows in the sum.
 pub fn calls_sum<R: Threads + Wait + Sync>(
     rt: &R,
     alloc: Global,

@@ -1,4 +1,4 @@
-//! Calls on bins of many entries, made as often as is told.
+//! Repeated calls on bins of many entries.
 
 use crate::opening::{numbered_value, scattered_key};
 use anyhow::{Result, bail};
@@ -7,16 +7,16 @@ use bpf_model::limits::{KEY_BYTES, VALUE_BYTES};
 use bpf_model::{Key, Value};
 use std::alloc::Global;
 
-/// What is done with each key.
+/// The work on each key.
 #[derive(Clone, Copy)]
 enum Work {
-    /// The key and its hash are made, and no more.
+    /// Only makes the key and its hash.
     Nothing,
     Find,
     Put,
-    /// Removed, and put again.
+    /// Removes it, and puts it again.
     Remove,
-    /// Found, where each entry is as long as it may be.
+    /// Finds it, with entries as long as they may be.
     Longest,
 }
 
@@ -33,7 +33,7 @@ impl Work {
     }
 }
 
-/// A longest key that tells a number, scattered.
+/// Returns a longest key that encodes a number, scattered.
 fn longest_key(number: u64) -> Result<Key> {
     let mut bytes = [7; KEY_BYTES];
     let scattered = number.wrapping_mul(0x9e37_79b9_7f4a_7c15).to_be_bytes();
@@ -50,7 +50,7 @@ fn put(bins: &mut HashedBins, work: Work, number: u64) -> Result<()> {
     Ok(bins.put(&HashedKey::new(&key), &value)?)
 }
 
-/// How many bytes the value of a key has.
+/// Returns how many bytes the value of a key has.
 fn bytes_found(bins: &HashedBins, key: &HashedKey<'_>) -> u64 {
     match bins.find(key) {
         Some(found) => found.len() as u64,
@@ -58,7 +58,7 @@ fn bytes_found(bins: &HashedBins, key: &HashedKey<'_>) -> u64 {
     }
 }
 
-/// Works on the entry of a number; how many bytes of it were seen.
+/// Works on the entry of a number, and returns how many bytes of it were seen.
 fn work_on(bins: &mut HashedBins, work: Work, number: u64) -> Result<u64> {
     let key = scattered_key(number)?;
     let key = HashedKey::new(&key);
@@ -80,8 +80,8 @@ fn work_on(bins: &mut HashedBins, work: Work, number: u64) -> Result<u64> {
     })
 }
 
-/// Fills bins with so many entries, of keys and values of 8 bytes or the longest ones, and then does the work of this name on
-/// each of them, in another order, as often as told. Gives how many bytes it saw.
+/// Fills bins with this many entries, of keys and values of 8 bytes or the longest ones. Then does the work of this name on
+/// each of them, in another order, this often. Returns how many bytes it saw.
 pub fn work_often(alloc: Global, name: &str, entries: u64, rounds: u64) -> Result<u64> {
     let Some(work) = Work::named(name) else {
         bail!("no work is named so");

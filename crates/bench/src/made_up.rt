@@ -1,5 +1,5 @@
-//! Made-up programs: a fixed sequence of them, and a checksum of all that they answer. A machine that is made anew has to
-//! give the same one.
+//! Made-up programs: a fixed sequence of them, and a checksum of all their answers. A new machine has to give the same
+//! one.
 ghost use Rattle.std.specs.Prelude.{◌<◌, ◌≤◌};
 
 use anyhow::{Result, bail, ensure};
@@ -19,7 +19,7 @@ const SIZES: Sizes = Sizes {
     result: 64,
 };
 
-/// A number is loaded, stored or answered at one of the first 57 bytes of a window, so that 8 bytes fit.
+/// Numbers are loaded, stored or answered at one of the first 57 bytes of a window, so that 8 bytes fit.
 const PLACES: u64 = 57;
 
 const OPS: [AluOp; 13] = [
@@ -87,7 +87,7 @@ fn reg(number: u8) -> Reg
     Reg::new(number).unwrap()
 }
 
-/// Numbers, each from the last: a linear congruential generator.
+/// Numbers, each made from the last: a linear congruential generator.
 #[derive(Drop)]
 struct Numbers {
     last: u64,
@@ -117,7 +117,7 @@ impl Numbers {
         }
     }
 
-    /// r0, r5 or r9, which hold numbers.
+    /// Picks r0, r5 or r9, which hold numbers.
     fn register(&mut self) -> Reg {
         match self.below(3) {
             0 => reg(0),
@@ -126,7 +126,7 @@ impl Numbers {
         }
     }
 
-    /// An immediate, small or not.
+    /// Picks an immediate, small or not.
     fn immediate(&mut self) -> i32 {
         let word = ((self.word() >> 32) as u32).cast_signed();
         match self.below(3) {
@@ -144,7 +144,7 @@ impl Numbers {
         }
     }
 
-    /// A register that holds a window's address, and an offset from it: of result or stack where it is written.
+    /// Picks a register that holds a window's address, and an offset from it; for a write, in result or stack.
     fn address(&mut self, is_written: bool) -> (Reg, i16) {
         let place = self.below(PLACES) as i16;
         match self.below(5) {
@@ -186,7 +186,7 @@ impl Numbers {
         }
     }
 
-    /// A jump over at most two instructions of one unit.
+    /// Picks a jump over at most two instructions of one unit.
     fn jump(&mut self) -> Insn {
         let far = self.below(3);
         match self.below(8) {
@@ -206,7 +206,7 @@ impl Numbers {
         }
     }
 
-    /// An instruction of one unit that is no jump.
+    /// Picks an instruction of one unit that is no jump.
     fn straight(&mut self) -> Insn {
         match self.below(16) {
             0 => Insn::Negate {
@@ -234,14 +234,14 @@ impl Numbers {
         }
     }
 
-    /// A wide instruction.
+    /// Picks a wide instruction.
     fn wide(&mut self) -> Insn {
         let value = self.word();
         let dst = self.register();
         Insn::Wide { dst, value }
     }
 
-    /// An instruction, and at times a wide one, or a jump and what it may pass over.
+    /// Appends an instruction, and at times a wide one, or a jump and the instructions that it may skip.
     fn append_some(&mut self, program: &mut Vec<Insn>) -> Result<()> {
         append(program, &[self.straight()])?;
         if self.below(4) > 0 {
@@ -282,7 +282,7 @@ fn store_number(dst: u8, src: u8, offset: i16) -> Insn
     }
 }
 
-/// A number into 8 bytes of the result, and one into 8 bytes of the stack's upper 64.
+/// Appends stores of a number to 8 bytes of the result, and of one to 8 bytes of the stack's upper 64.
 fn append_stores(program: &mut Vec<Insn>, slot: u8) -> Result<()>
     requires { slot < 8 }
 {
@@ -291,7 +291,7 @@ fn append_stores(program: &mut Vec<Insn>, slot: u8) -> Result<()>
     append(program, &stores)
 }
 
-/// Numbers into r0, r5 and r9, into the result and into the 64 upper bytes of the stack.
+/// Appends numbers for r0, r5 and r9, for the result and for the 64 upper bytes of the stack.
 fn begin(program: &mut Vec<Insn>) -> Result<()> {
     let loads = [load_number(0, 2), load_number(5, 3), load_number(9, 1)];
     append(program, &loads)?;
@@ -301,7 +301,7 @@ fn begin(program: &mut Vec<Insn>) -> Result<()> {
     Ok(())
 }
 
-/// The registers into the result, all of which is answered.
+/// Appends stores of the registers to the result, all of which is answered.
 fn end(program: &mut Vec<Insn>) -> Result<()> {
     let stores = [
         store_number(4, 0, 0),
@@ -361,7 +361,7 @@ fn input(numbers: &mut Numbers) -> Result<Input> {
     })
 }
 
-/// The checksum with these bytes: FNV-1a.
+/// Adds these bytes to the checksum: FNV-1a.
 fn mixed(sum: u64, bytes: &[u8]) -> u64 {
     let mut sum = sum;
     for byte in bytes {
@@ -370,8 +370,8 @@ fn mixed(sum: u64, bytes: &[u8]) -> u64 {
     sum
 }
 
-/// What the made-up programs answered so far: how many of them are safe, and the checksum of the answers. One machine runs
-/// them all.
+/// The answers of the made-up programs so far: how many programs are safe, and the checksum of the answers. One machine
+/// runs them all.
 #[derive(Drop)]
 struct Answers {
     safe: u64,
@@ -381,7 +381,7 @@ struct Answers {
 }
 
 impl Answers {
-    /// The next program on the next input, where it is safe.
+    /// Runs the next program on the next input, if it is safe.
     fn add(&mut self, alloc: Global, numbers: &mut Numbers) -> Result<()> {
         let program = made_up(alloc, numbers)?;
         let input = input(numbers)?;
@@ -402,7 +402,7 @@ impl Answers {
     }
 }
 
-/// How many of the first `count` made-up programs are safe, and the checksum of what these answer.
+/// Returns how many of the first `count` made-up programs are safe, and the checksum of their answers.
 pub fn checksum(alloc: Global, count: u64) -> Result<(u64, u64)> {
     let mut numbers = Numbers { last: 1 };
     let mut answers = Answers {

@@ -1,7 +1,6 @@
-//! Runs and verifies programs, makes calls, requests and walks as often as it is told, to be timed from outside.
+//! Repeats runs and verifications of programs, calls, requests and walks, to be timed from outside.
 //!
-//! What the words mean is in the README. Each mode prints what came of it; without words some small ones of each are
-//! printed.
+//! The README explains the words. Each mode prints its result; without words each mode does a little.
 #![tactic(auto)]
 
 mod calls;
@@ -31,7 +30,7 @@ use std::thread::Threads;
 use tables::call_often;
 use walk::{Walk, walk_often};
 
-/// What is printed where there are no words.
+/// The modes that run without words.
 const ROWS: [(&str, &[&str]); 32] = [
     ("answer", &["sum"]),
     ("answer", &["alu"]),
@@ -120,7 +119,7 @@ fn walk_text<R: Threads + Wait + Sync>(rt: &R, alloc: Global, words: &[&str; 4])
     Ok(format!(in alloc; "{scanned} scanned, {given} given")?)
 }
 
-/// What one thread does without a shared map.
+/// Runs the modes of one thread without a shared map.
 fn alone_text(alloc: Global, mode: &str, words: &[&str]) -> Result<String> {
     match (mode, words) {
         ("answer", [name]) => answer_of(alloc, sample(name)?),

@@ -3,7 +3,7 @@ ghost use Rattle.std.specs.Prelude.{◌≤◌, vec_len};
 
 use devices::{Failed, Sink, Source};
 
-/// Gives its bytes once, and then those behind the opening so many times more.
+/// Gives its bytes once, and then those after the opening `times` times more.
 #[derive(Drop)]
 pub struct Repeated {
     bytes: Vec<u8>,
@@ -17,7 +17,7 @@ pub struct Repeated {
 }
 
 impl Repeated {
-    /// Of these bytes so many, or all where they are fewer, are the opening.
+    /// Takes these bytes; the first `opening` of them, or all if there are fewer, are the opening.
     pub fn new(bytes: Vec<u8>, opening: usize, times: u64) -> Repeated {
         let opening = opening.min(bytes.len());
         Repeated {
@@ -60,12 +60,12 @@ pub struct Counter {
 }
 
 impl Counter {
-    /// A counter that has taken none.
+    /// Makes a counter of 0.
     pub fn new() -> Counter {
         Counter { bytes: 0 }
     }
 
-    /// How many bytes it has taken, modulo 2^64.
+    /// Returns how many bytes it has taken, modulo 2^64.
     pub fn bytes(&self) -> u64 {
         self.bytes
     }

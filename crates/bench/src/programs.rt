@@ -1,4 +1,4 @@
-//! The programs that are measured, as texts of the assembler. They stand here alone: `bench/run.sh` has their bytes from
+//! The programs that are measured, as texts of the assembler. They are only here: `bench/run.sh` takes their bytes from
 //! here for the C loop too.
 
 use anyhow::Result;
@@ -9,7 +9,7 @@ use flow_shape::shape;
 use std::alloc::{AllocError, Global};
 use verifier::{Verified, verify};
 
-/// The windows that each program is verified and registered with.
+/// Each program is verified and registered with these windows.
 pub const SIZES: Sizes = Sizes {
     key: 64,
     old: 8,
@@ -22,7 +22,7 @@ pub const SIZES: Sizes = Sizes {
 pub enum Sample {
     /// Six instructions: the sum of the old value and the argument.
     Sum,
-    /// 501 instructions, all but a store and EXIT arithmetic.
+    /// 501 instructions: a store, EXIT, and arithmetic.
     Arithmetic,
     /// Arithmetic on eight registers in turn.
     Registers,
@@ -34,7 +34,7 @@ pub enum Sample {
     Jumps,
     /// In all units but two a ladder of jumps over one instruction.
     Ladder,
-    /// A value in each slot of the stack, and then jumps that go on at the next instruction either way.
+    /// Spills a value to each slot of the stack, and then jumps that go on at the next instruction either way.
     Spills,
 }
 
@@ -122,7 +122,7 @@ const RUNG_UNITS: usize = 2;
 const SLOTS: usize = STACK_BYTES / 8;
 
 impl Sample {
-    /// The sample of this name; none where there is no such one.
+    /// Returns the sample of this name, or `None` if there is no such one.
     pub fn named(name: &str) -> Option<Sample> {
         match name {
             "sum" => Some(Sample::Sum),
@@ -137,7 +137,7 @@ impl Sample {
         }
     }
 
-    /// The program's text.
+    /// Returns the program's text.
     pub fn text(self, alloc: Global) -> Result<String, AllocError> {
         match self {
             Sample::Sum => joined(alloc, &[(SUM, 1)]),
@@ -184,7 +184,7 @@ impl Sample {
     }
 }
 
-/// A store of r6 to each slot of the stack.
+/// Returns a store of r6 to each slot of the stack.
 fn spills(alloc: Global) -> Result<String, AllocError> {
     let mut text = String::new(alloc);
     for slot in 1..SLOTS + 1 {
@@ -193,7 +193,7 @@ fn spills(alloc: Global) -> Result<String, AllocError> {
     Ok(text)
 }
 
-/// Each of these texts as often as the number beside it says.
+/// Joins these texts, each repeated as often as the number beside it says.
 fn joined(alloc: Global, parts: &[(&str, usize)]) -> Result<String, AllocError> {
     let mut text = String::new(alloc);
     for (part, times) in parts {
@@ -204,13 +204,13 @@ fn joined(alloc: Global, parts: &[(&str, usize)]) -> Result<String, AllocError> 
     Ok(text)
 }
 
-/// The program, read from its text.
+/// Returns the program, read from its text.
 pub fn program(alloc: Global, sample: Sample) -> Result<Program> {
     let text = sample.text(alloc)?;
     Ok(assemble(alloc, &text)?)
 }
 
-/// The program, found safe.
+/// Returns the verified program.
 pub fn verified(alloc: Global, sample: Sample) -> Result<Verified> {
     Ok(verify(alloc, shape(program(alloc, sample)?)?, SIZES)?)
 }

@@ -1,4 +1,4 @@
-//! Registers of programs at a registry: of one that is known, or of new ones.
+//! Registers programs at a registry: one that is known, or new ones.
 
 use crate::programs::SIZES;
 use admission::{ProgramLimits, admit};
@@ -12,7 +12,7 @@ use std::sync::Wait;
 pub enum Programs {
     /// The same one each time.
     Known,
-    /// Another one each time.
+    /// A different one each time.
     New,
 }
 
@@ -21,11 +21,11 @@ const END: [u8; 16] = [
     0xb7, 0, 0, 0, 0xff, 0xff, 0xff, 0xff, 0x95, 0, 0, 0, 0, 0, 0, 0,
 ];
 
-/// How many units that is.
+/// `END` has this many units.
 const END_UNITS: u64 = 2;
 
 impl Programs {
-    /// The programs of this name; none where there are no such ones.
+    /// Returns the programs of this name, or `None` if there are no such ones.
     pub fn named(name: &str) -> Option<Programs> {
         match name {
             "known" => Some(Programs::Known),
@@ -35,7 +35,7 @@ impl Programs {
     }
 }
 
-/// The bytes of a program of so many units, which begins with a move of this number to r0.
+/// Returns the bytes of a program of this many units, which begins with a move of this number to r0.
 fn bytes_with(alloc: Global, units: u64, number: u32) -> Result<Vec<u8>, AllocError> {
     let mut bytes = Vec::new(alloc);
     for _ in 0..units.saturating_sub(END_UNITS) {
@@ -59,7 +59,7 @@ fn register<R: Wait>(rt: &R, alloc: Global, registry: &Registry, bytes: &[u8]) -
     }
 }
 
-/// Registers programs of so many units so often, and returns how many numbers were given.
+/// Registers programs of this many units this often, and returns how many numbers were given.
 pub fn register_often<R: Wait>(
     rt: &R,
     alloc: Global,

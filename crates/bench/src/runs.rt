@@ -1,4 +1,4 @@
-//! Runs of programs, and what comes before them.
+//! Repeats runs of programs, and the steps before them.
 
 use crate::programs::{SIZES, Sample, program, verified};
 use anyhow::{Result, bail, ensure};
@@ -9,22 +9,22 @@ use flow_shape::{Shaped, shape};
 use std::alloc::Global;
 use verifier::verify;
 
-/// What is done with a program.
+/// The work on a program.
 #[derive(Clone, Copy, Debug, PartialEq, Eq)]
 pub enum Mode {
     Run,
     /// The same, in one machine and into one value.
     RunInto,
-    /// What `verify` is handed, without `verify`.
+    /// Only the steps before `verify`.
     Shape,
     Verify,
 }
 
-/// How many old values runs are made on, in turn.
+/// Runs take this many old values in turn.
 const INPUTS: u64 = 256;
 
 impl Mode {
-    /// The mode of this name; none where there is no such one.
+    /// Returns the mode of this name, or `None` if there is no such one.
     pub fn named(name: &str) -> Option<Mode> {
         match name {
             "run" => Some(Mode::Run),
@@ -45,7 +45,7 @@ fn shaped(alloc: Global, instructions: &[Insn]) -> Result<Shaped> {
     Ok(shape(program)?)
 }
 
-/// The empty key, an old value and the argument 2, each number of 8 bytes.
+/// Makes an input of the empty key, an old value and the argument 2, each number of 8 bytes.
 fn input(old: u64) -> Result<Input> {
     Ok(Input {
         key: Key::from_slice(b"")?,
@@ -54,7 +54,7 @@ fn input(old: u64) -> Result<Input> {
     })
 }
 
-/// `INPUTS` of them.
+/// Makes `INPUTS` of them.
 fn inputs(alloc: Global) -> Result<Vec<Input>> {
     let mut inputs = Vec::new(alloc);
     for number in 0..INPUTS {
@@ -114,7 +114,7 @@ fn verify_all(alloc: Global, sample: Sample, count: u64) -> Result<()> {
     Ok(())
 }
 
-/// Runs, shapes or verifies the program as often as that.
+/// Runs, shapes or verifies the program this often.
 pub fn run_often(alloc: Global, mode: Mode, sample: Sample, count: u64) -> Result<()> {
     match mode {
         Mode::Run => run_all(alloc, sample, count),
@@ -124,7 +124,7 @@ pub fn run_often(alloc: Global, mode: Mode, sample: Sample, count: u64) -> Resul
     }
 }
 
-/// The bytes in hex.
+/// Returns the bytes in hex.
 fn hex(alloc: Global, bytes: &[u8]) -> Result<String> {
     let mut text = String::new(alloc);
     for byte in bytes {
@@ -133,13 +133,13 @@ fn hex(alloc: Global, bytes: &[u8]) -> Result<String> {
     Ok(text)
 }
 
-/// The program's bytes, in hex.
+/// Returns the program's bytes, in hex.
 pub fn bytes_of(alloc: Global, sample: Sample) -> Result<String> {
     let bytes = encode(alloc, &program(alloc, sample)?)?;
     hex(alloc, bytes.as_slice())
 }
 
-/// What the program answers on the old value 1 and the argument 2, in hex, or `nothing`.
+/// Returns the program's answer on the old value 1 and the argument 2, in hex, or `nothing`.
 pub fn answer_of(alloc: Global, sample: Sample) -> Result<String> {
     let verified = verified(alloc, sample)?;
     let input = input(1)?;

@@ -9,21 +9,21 @@ use sessions::{Alone, SessionEnd, session_alone};
 use std::alloc::Global;
 use std::sync::Wait;
 
-/// What each request asks for.
+/// The kind of the requests.
 #[derive(Clone, Copy, Debug, PartialEq, Eq)]
 pub enum Ask {
     Get,
-    /// Of the value 1.
+    /// Puts the value 1.
     Put,
-    /// By the value 1.
+    /// Replaces by the value 1.
     Replace,
-    /// By the sum, with the argument 1.
+    /// Computes the sum with the argument 1.
     Compute,
-    /// Of the value 1, by the sum.
+    /// Merges the value 1 by the sum.
     Merge,
 }
 
-/// The requests of a block, one for each key.
+/// A block has this many requests, one for each key.
 pub const BLOCK: u64 = 1_000;
 
 const HELLO: &[u8] = b"\x00\x01";
@@ -46,7 +46,7 @@ const ONE: &[u8] = b"\x00\x08\x01\x00\x00\x00\x00\x00\x00\x00";
 const FIRST_PROGRAM: &[u8] = b"\x00\x00\x00\x00\x00\x00\x00\x00";
 
 impl Ask {
-    /// The request of this name; none where there is no such one.
+    /// Returns the request of this name, or `None` if there is no such one.
     pub fn named(name: &str) -> Option<Ask> {
         match name {
             "get" => Some(Ask::Get),
@@ -58,7 +58,7 @@ impl Ask {
         }
     }
 
-    /// Its tag, and the fields behind the key.
+    /// Returns its tag, and the fields after the key.
     fn parts(self) -> (u8, [&'static [u8]; 2]) {
         match self {
             Ask::Get => (GET, [b"", b""]),
@@ -92,7 +92,7 @@ fn add_request(frames: &mut Vec<u8>, body: &mut Vec<u8>, ask: Ask, number: u64) 
     add_frame(frames, body)
 }
 
-/// A request on each of the keys.
+/// Adds a request on each of the keys.
 fn add_block(alloc: Global, frames: &mut Vec<u8>, ask: Ask) -> Result<()> {
     let mut body = Vec::new(alloc);
     for number in 0..BLOCK {
@@ -101,7 +101,7 @@ fn add_block(alloc: Global, frames: &mut Vec<u8>, ask: Ask) -> Result<()> {
     Ok(())
 }
 
-/// Says hello, registers the sum, and puts the value 1 under each key.
+/// Says hello, registers the sum, and puts the value 1 at each key.
 fn opening(alloc: Global) -> Result<Vec<u8>> {
     let mut frames = Vec::new(alloc);
     add_frame(&mut frames, HELLO)?;
@@ -116,7 +116,7 @@ fn opening(alloc: Global) -> Result<Vec<u8>> {
     Ok(frames)
 }
 
-/// The opening, and so many blocks.
+/// Returns the opening, and then this many blocks.
 fn reader(alloc: Global, ask: Ask, times: u64) -> Result<Repeated> {
     let mut bytes = opening(alloc)?;
     if times == 0 {
@@ -128,7 +128,7 @@ fn reader(alloc: Global, ask: Ask, times: u64) -> Result<Repeated> {
     Ok(Repeated::new(bytes, opening, times - 1))
 }
 
-/// How many bytes are answered to a session whose keys are put, and then asked for so many times, each in turn.
+/// Runs a session that puts the keys and then asks for them in turn, this often. Returns how many bytes are answered.
 pub fn serve<R: Wait>(rt: &R, alloc: Global, ask: Ask, times: u64) -> Result<u64> {
     let mut reader = reader(alloc, ask, times)?;
     let mut writer = Counter::new();

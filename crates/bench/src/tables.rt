@@ -1,4 +1,4 @@
-//! Calls on a table of one entry, made as often as is told.
+//! Repeated calls on a table of one entry.
 
 use crate::calls::Method;
 use crate::opening::numbered_value;
@@ -8,7 +8,7 @@ use atomic_methods::{Call, Striped};
 use bpf_model::{Key, Value};
 use std::alloc::Global;
 
-/// Makes the call of this name as often as that, on a key of 8 bytes that is present.
+/// Makes the call of this name this often, on a key of 8 bytes that is present.
 pub fn call_often(alloc: Global, name: &str, count: u64) -> Result<()> {
     let Some(method) = Method::named(name) else {
         bail!("no call is named so");

@@ -13,18 +13,18 @@ use std::sync::Wait;
 use std::thread::Threads;
 use verifier::Verified;
 
-/// What each walk is.
+/// The kind of the walks.
 #[derive(Clone, Copy, Debug, PartialEq, Eq)]
 pub enum Walk {
-    /// The sum of each entry and the argument 1.
+    /// Adds each entry and the argument 1.
     ForEach,
-    /// The first of these, in the order of the keys.
+    /// Finds the first of these sums, in the order of the keys.
     Search,
     MappingCount,
 }
 
 impl Walk {
-    /// The walk of this name; none where there is no such one.
+    /// Returns the walk of this name, or `None` if there is no such one.
     pub fn named(name: &str) -> Option<Walk> {
         match name {
             "for_each" => Some(Walk::ForEach),
@@ -35,7 +35,7 @@ impl Walk {
     }
 }
 
-/// A walk that is asked for again and again.
+/// A walk that is repeated.
 #[derive(Drop)]
 struct AskedWalk {
     walk: Walk,
@@ -43,7 +43,7 @@ struct AskedWalk {
     arg: Option<Value>,
 }
 
-/// Puts the value 1 under so many keys.
+/// Puts the value 1 at this many keys.
 fn fill<R: Wait>(rt: &R, map: &StripedMap, pass: &mut Pass, entries: u64) -> Result<()>
     requires { pass.old.map ≡ map.now }
     ensures { pass.new.map ≡ map.now }
@@ -56,7 +56,7 @@ fn fill<R: Wait>(rt: &R, map: &StripedMap, pass: &mut Pass, entries: u64) -> Res
     Ok(())
 }
 
-/// A team of all passes but one, which has put so many entries.
+/// Makes a team of all passes but one, which has put this many entries.
 fn filled<R: Wait>(rt: &R, map: &StripedMap, mut passes: Vec<Pass>, entries: u64) -> Result<Team>
     requires { All (λ pass. pass.map ≡ map.now) passes.items }
     ensures { IfOk result (λ team. All (λ pass. pass.map ≡ map.now) team.passes.items) }
@@ -69,7 +69,7 @@ fn filled<R: Wait>(rt: &R, map: &StripedMap, mut passes: Vec<Pass>, entries: u64
     Ok(team)
 }
 
-/// One walk, and the team again.
+/// Makes one walk, and returns the team.
 fn walked<R: Threads + Wait + Sync>(
     rt: &R,
     alloc: Global,
@@ -88,7 +88,7 @@ fn walked<R: Threads + Wait + Sync>(
     }
 }
 
-/// So many walks by one team: how many entries all of them scanned and gave, modulo 2^64.
+/// Makes this many walks by one team. Returns how many entries they all scanned and gave, modulo 2^64.
 fn walked_often<R: Threads + Wait + Sync>(
     rt: &R,
     alloc: Global,
@@ -101,7 +101,7 @@ fn walked_often<R: Threads + Wait + Sync>(
 {
     let mut sums = (0u64, 0u64);
     for turn in 0..count {
-        // For the proof alone: its invariant of the loop is named for this variable.
+        // Only for the proof, whose loop invariant is named after this variable.
         let _ = turn;
         let (again, reply) = walked(rt, alloc, map, team, asked);
         let counts = reply?.counts;
@@ -114,7 +114,7 @@ fn walked_often<R: Threads + Wait + Sync>(
     Ok(sums)
 }
 
-/// Walks over so many entries as often as `count` says. How many entries all walks scanned and gave, modulo 2^64.
+/// Makes `count` walks over this many entries. Returns how many entries they all scanned and gave, modulo 2^64.
 pub fn walk_often<R: Threads + Wait + Sync>(
     rt: &R,
     alloc: Global,

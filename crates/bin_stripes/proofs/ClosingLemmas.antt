@@ -1,4 +1,4 @@
--- The last entries of a map: what a pass that has taken every stripe copies.
+-- The last entries of a map: the copies made by a pass that has taken every stripe.
 use Rattle.std.proofs.Common.{◌≡◌, ℕ, suc, ◌+◌, true, List, [], ◌∷◌, ◌++◌, Option, Some, None, refl, sym, ap, ◌∙◌, subst, append-nil, arith}
 use Rattle.std.proofs.lemmas.Grind.{flat_map-append}
 use Rattle.std.specs.FinMap as map
@@ -21,7 +21,7 @@ use Rattle.bin_stripes.specs.Passes.{PassState, stripes_of}
 use Rattle.bin_stripes.specs.Closed.{Closes}
 use Rattle.bin_stripes.proofs.StripeTables.{leaves_within}
 
--- the entries of one stripe more
+-- the entries of one more stripe
 pub all_entries-push : (tables : List Table) (table : Table) → all_entries (tables ++ table ∷ []) ≡ all_entries tables ++ map.entries table
 all_entries-push tables table = flat_map-append map.entries tables (table ∷ []) ∙ ap (λ (es : List Entry). all_entries tables ++ es) (append-nil (map.entries table))
 
@@ -29,7 +29,7 @@ all_entries-push tables table = flat_map-append map.entries tables (table ∷ []
 pub carries_next : (w u x : View GhostAction) (k : ℕ) → x ≡ u → Extends w k true u → Carries w (least w.numbers) → Carries x (least x.numbers)
 carries_next w u x k is e c = subst (λ (z : View GhostAction). Carries z (least z.numbers)) (sym is) (least_has (least w.numbers) u.numbers (carries_same w u (least w.numbers) e.sets.numbers c))
 
--- one stripe more is taken
+-- one more stripe is taken
 pub taken_next : {B : Type 0} (content : B → Table) (n k : ℕ) (v : View GhostAction) (me me' : Me (Option B) (View GhostAction)) (x : View GhostAction) (tables : List Table) (bins : B) → HasTaken (does n) empty v k tables me.0
     → Takes (does n) empty content k me me' → x ≡ me'.0 → Leaves n k (seen_of me'.0 k) (content bins) → HasTaken (does n) empty v (k + 1) (tables ++ content bins ∷ []) x
 taken_next content n k v me me' x tables bins h t is found = subst (λ (z : View GhostAction). HasTaken (does n) empty v (k + 1) (tables ++ content bins ∷ []) z) (sym is)
@@ -48,7 +48,7 @@ are_stripes n v w tables count h = record {
       (λ beyond. ap (λ (t : Table). map.get t key) (get_or-beyond tables i map.empty (let c = h.count in omega arith)) ∙ get-empty by_bytes key);
 }
 
--- what a pass gets that has taken every stripe
+-- the result for a pass that has taken every stripe
 pub closes_with : (pass : PassState) (w : View GhostAction) (tables : List Table) (found : List Entry) → HasTaken (does (stripes_of pass.map)) empty pass.view (stripes_of pass.map) tables w → Sound (stripes_of pass.map) w
     → found ≡ map.entries (whole tables) → Closes pass found
 closes_with pass w tables found h sound is = let n = stripes_of pass.map in record {

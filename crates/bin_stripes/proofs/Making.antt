@@ -1,4 +1,4 @@
--- What is done on the bins of a stripe, as events behind those that were seen.
+-- Actions on the bins of a stripe, as events after those that were seen.
 use Rattle.std.proofs.Common.{◌≡◌, ℕ, true, false, cond, is_eq, List, [], ◌∷◌, ◌++◌, Option, Some, None, refl, sym, ap, ◌∙◌, subst, map}
 use Rattle.std.specs.Option.{option_map}
 use Rattle.std.specs.Ordering.{eq_by_cmp}
@@ -34,7 +34,7 @@ module _ (n k : ℕ) where
       → Replays (does n k) t (own_events v actions) u → Leaves n k (seen_of v k ++ own_events v actions) u
   leaves_more v t u actions l r = Replays-append (does n k) empty t u (seen_of v k) (own_events v actions) l r
 
-  -- nothing was done; w is the view then
+  -- nothing was done; w is then the view
   pub nothing_made : (v w : View GhostAction) (t u : Table) → w ≡ v → u ≡ t → Leaves n k (seen_of v k) t
       → (actions : List Action) × ((actions ≡ []) × Leaves n k (seen_of w k ++ own_events w actions) u)
   nothing_made v w t u is same l = subst (λ (x : View GhostAction × Table). (actions : List Action) × ((actions ≡ []) × Leaves n k (seen_of x.0 k ++ own_events x.0 actions) x.1)) (λ i. (sym is i, sym same i))
@@ -59,7 +59,7 @@ module _ (n k : ℕ) where
     abbrev pub action_at : Entry → Action
     action_at e = replaced e.0 program arg (outcome e.0)
 
-    -- the entries that are left are as in the old table, and all others as in the new one
+    -- the remaining entries are as in the old table, and all others as in the new one
     abbrev Between : Table → Table → List Entry → Table → Type 0
     Between old new todo t = (q : List ℕ) → ((find by_bytes q todo ≡ None → finmap.get t q ≡ finmap.get new q)
         × ((v : List ℕ) → find by_bytes q todo ≡ Some v → finmap.get t q ≡ Some v))
@@ -68,7 +68,7 @@ module _ (n k : ℕ) where
         (values : (q : List ℕ) → finmap.get new q ≡ option_map (value_after (outcome q)) (finmap.get old q))
         (comes : (key value : List ℕ) → finmap.get old key ≡ Some value → ComesTo program (input_of key (Some value) arg) (outcome key))
         (within : IsWithin n k old) where
-      -- one entry more is replaced
+      -- one more entry is replaced
       next_between : (e : Entry) (rest : List Entry) (t : Table) → finmap.get old e.0 ≡ Some e.1 → find by_bytes e.0 rest ≡ None
           → Between old new (e ∷ rest) t → Between old new rest (finmap.insert t e.0 (value_after (outcome e.0) e.1))
       next_between e rest t was once b q = let u = finmap.insert t e.0 (value_after (outcome e.0) e.1) in

@@ -15,7 +15,7 @@ use Rattle.bin_stripes.specs.Histories.{empty, does, Sound}
 use Rattle.bin_stripes.specs.Passes.{IsPass, stripes_of, PassState}
 use Rattle.bin_stripes.specs.Opened.{IsOpened, pass_of}
 
--- so many numbers from n on, and one more
+-- this many numbers from n on, and one more
 pub from_on-more : (n count : ℕ) → from_on n (suc count) ≡ from_on n count ++ (n + count) ∷ []
 from_on-more n zero = ap (λ m. m ∷ []) (omega arith)
 from_on-more n (suc count) = ap (λ ns. n ∷ ns) (from_on-more (n + 1) count ∙ ap (λ m. from_on (n + 1) count ++ m ∷ []) (omega arith))
@@ -24,7 +24,7 @@ pub map-more : (f : ℕ → PassState) (ns : List ℕ) (n : ℕ) → map f (ns +
 map-more f [] n = refl
 map-more f (m ∷ ns) n = ap (λ xs. f m ∷ xs) (map-more f ns n)
 
--- one pass more is dealt
+-- one more pass is dealt
 pub dealt_more : (id : TableId) (passes number : ℕ) (all : List PassState) (p : PassState) → all ≡ map (pass_of id passes) (from_on 0 number) → p ≡ pass_of id passes number
     → all ++ p ∷ [] ≡ map (pass_of id passes) (from_on 0 (number + 1))
 dealt_more id passes number all p is new = let same : number ≡ 0 + number = omega arith in let next : suc number ≡ number + 1 = omega arith in
@@ -32,7 +32,7 @@ dealt_more id passes number all p is new = let same : number ≡ 0 + number = om
     ∙ (sym (map-more (pass_of id passes) (from_on 0 number) number)
     ∙ ap (map (pass_of id passes)) (ap (λ (m : ℕ). from_on 0 number ++ m ∷ []) same ∙ (sym (from_on-more 0 number) ∙ ap (from_on 0) next)))
 
--- a pass, by the map that it serves and what it knows
+-- a pass, by its map and its knowledge
 abbrev pub passing : TableId → View GhostAction → PassState
 passing z v = record { map = z; view = v }
 
@@ -54,7 +54,7 @@ module _ (stripes passes number : ℕ) where
     own = λ k q c. ap (λ (p : Part GhostAction). made_by q p.seen) (new_part k) ∙ sym (ap (λ (p : Part GhostAction). made_by q p.mine) (new_part k));
   }
 
-  -- what a new pass has
+  -- the state of a new pass
   pub new_pass : (id : TableId) → stripes_of id ≡ stripes → IsPass id (Newcomer ∷ [])
   new_pass id is = record {
     one = refl;
@@ -67,7 +67,7 @@ module _ (stripes passes number : ℕ) where
 abbrev pub zeros : ℕ → List ℕ
 zeros n = replicate n 0
 
--- one zero more
+-- one more zero
 pub zeros_more : (n : ℕ) → zeros n ++ 0 ∷ [] ≡ zeros (n + 1)
 zeros_more n = let next : suc n ≡ n + 1 = omega arith in more n ∙ ap zeros next
   where

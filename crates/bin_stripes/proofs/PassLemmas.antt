@@ -1,4 +1,4 @@
--- A pass and its seat: what the seat does is what the pass does.
+-- A pass and its seat: a step of the seat is a step of the pass.
 use Rattle.std.proofs.Common.{◌≡◌, ℕ, suc, List, [], ◌∷◌, ◌++◌, Option, Result, Ok, Err, length, refl, sym, ap, ◌∙◌, subst}
 use Rattle.std.specs.Prelude.{OnErr, IfOk}
 use Rattle.atomic_table.specs.Table.{Me}
@@ -77,7 +77,7 @@ module _ {B : Type 0} (id : TableId) (views : List (View GhostAction)) (me : Me 
       (subst (λ (z : View GhostAction × View GhostAction). ReplacesInStripe (record { map = id; view = z.0 }) k program arg counts (record { map = id'; view = z.1 })) (λ i. (sym (ap view_of is) i, sym (ap view_of is') i))
       (record { actions = r.actions; makes = r.settles.adds; table = r.table; found = r.found; are = r.are }))
 
--- what holds of the error, or of the value, may be led on
+-- a fact about the error, or about the value, can be carried on
 pub on_err_so : {X E P Q : Type 0} (r : Result X E) → (P → Q) → OnErr r P → OnErr r Q
 on_err_so (Ok x) f p = tt
 on_err_so (Err e) f p = f p
@@ -86,7 +86,7 @@ pub if_ok_so : {X E : Type 0} (P Q : X → Type 0) (r : Result X E) → ((x : X)
 if_ok_so P Q (Ok x) f p = f x p
 if_ok_so P Q (Err e) f p = tt
 
--- it holds of the error that there is
+-- a fact about the error, if there is one
 pub of_error : {X E P : Type 0} (r : Result X E) (e : E) → r ≡ Err e → OnErr r P → P
 of_error {X} {E} {P} r e is p = subst (λ (x : Result X E). OnErr x P) is p
 

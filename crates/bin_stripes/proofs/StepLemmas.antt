@@ -30,7 +30,7 @@ use Rattle.std.specs.FinMap as finmap
 abbrev pub deed_of : Action → GhostAction
 deed_of action = record { action = action }
 
--- events of one's own as events of actions
+-- a pass's own events as events of actions
 pub events_are : (v : View GhostAction) (actions : List Action) → map (own_event v) (map deed_of actions) ≡ own_events v actions
 events_are v [] = refl
 events_are v (a ∷ rest) = ap (λ es. own_event v (deed_of a) ∷ es) (events_are v rest)
@@ -41,7 +41,7 @@ events_under v actions c = subst (λ es. AreUnder v.numbers es) (events_are v ac
 pub events_same : (v w : View GhostAction) (actions : List Action) → w.numbers ≡ v.numbers → own_events w actions ≡ own_events v actions
 events_same v w actions e = sym (events_are w actions) ∙ (own_same v w (map deed_of actions) e ∙ events_are v actions)
 
--- where a word that is 0 tells one thing and any other word another, a test for 0 tells which
+-- if a word of 0 means one thing and any other word another, a test for 0 tells which
 pub won_or_lost : {P Q : Type 0} (found : ℕ) → (found ≡ 0 → P) × (found ≢ 0 → Q) → MatchBool (found == 0) P Q
 won_or_lost {P = P} {Q = Q} found p = elim (cases_eq found 0) [
   | inl e ↦ subst (λ n. MatchBool (n == 0) P Q) (sym e) (p.0 e)
@@ -127,7 +127,7 @@ module _ {B : Type 0} (content : B → Table) (stripes k : ℕ) where
     none_out = l.out ∙ (ap rest t.out.out ∙ r.none_out);
   }
 
-  -- what a take and the release after it add, under one's least number
+  -- what a take and the release after it add, with the pass's least number
   abbrev pub adds_own : (me held me' : Me (Option B) (View GhostAction)) (actions : List Action) → Takes (does stripes) empty content k me held
       → Releases (does stripes) empty (own_events held.0 actions) k held me' → Adds me.0 k (own_events me.0 actions) me'.0
   adds_own me held me' actions t l = let a = adds_after me.0 held.0 me'.0 k true (own_events held.0 actions) t.extends l.sets in
@@ -153,13 +153,13 @@ module _ {B : Type 0} (content : B → Table) (stripes k : ℕ) where
     rests = rests_after me held me' actions r t l;
   }
 
-  -- the same, where it is known which actions were added
+  -- the same, if it is known which actions were added
   pub settles_as : (me held me' : Me (Option B) (View GhostAction)) (actions : List Action) → Rests me → Takes (does stripes) empty content k me held
       → Lets (λ made. made ≡ actions) stripes k held me' → Settles stripes k me actions me'
   settles_as me held me' actions r t l = settles_after me held me' actions r t
       (subst (λ a. Releases (does stripes) empty (own_events held.0 a) k held me') l.may_be l.releases)
 
-  -- what was refused after a take is refused after the release that adds nothing
+  -- a refusal after a take is still one after a release that adds nothing
   pub refuses_after : (held me' : Me (Option B) (View GhostAction)) (invocation : Rattle.atomic_methods.specs.Invocations.Invocation) → Lets (λ made. made ≡ []) stripes k held me'
       → SeatRefuses stripes k held invocation → SeatRefuses stripes k me' invocation
   refuses_after held me' invocation l r = record {
@@ -186,7 +186,7 @@ module _ {B : Type 0} (content : B → Table) (stripes k : ℕ) where
   first_bins d ((j, None) ∷ xs) = d
   first_bins d ((j, Some b) ∷ xs) = b
 
-  -- what the bins that are out contain
+  -- the contents of the bins that are out
   pub found_is : (me : Me (Option B) (View GhostAction)) (b : B) (others : List (ℕ × Option B)) → SeatHolds content stripes k me → me.1 ≡ (k, Some b) ∷ others → Leaves stripes k (seen_of me.0 k) (content b)
   found_is me b others h out = subst (λ (x : B). Leaves stripes k (seen_of me.0 k) (content x)) (ap (first_bins b) (sym h.out ∙ out)) h.content_is
 
@@ -196,7 +196,7 @@ module _ {B : Type 0} (content : B → Table) (stripes k : ℕ) where
   held_still me v xs others h is out = (ap (λ (x : View GhostAction). held_at x k) is ∙ h.held, subst (λ (x : View GhostAction). Carries x (least x.numbers)) (sym is) h.some, (others, out))
 
 module _ {B : Type 0} (stripes k : ℕ) where
-  -- what a release lets, from the seat as it was while the bins were out, or before
+  -- what a release lets, given the seat while the bins were out, or before
   pub lets_from : (may : List Action → Type 0) (me mid me' : Me (Option B) (View GhostAction)) (others : List (ℕ × Option B)) (x y : Option B) → mid.0 ≡ me.0 → me.1 ≡ (k, x) ∷ others → mid.1 ≡ (k, y) ∷ others
       → Lets may stripes k mid me' → Lets may stripes k me me'
   lets_from may me mid me' others x y is before after l = record {

@@ -1,4 +1,4 @@
--- What the bins under a map's stripes contain. With the alias `StripeBins` of src/map.rt, this is all that names their kind.
+-- The contents of the bins in a map's stripes. Only this and the alias `StripeBins` of src/map.rt name their kind.
 use Rattle.bins.specs.Table.{Table}
 
 abbrev pub content : Table → Table

@@ -1,4 +1,4 @@
--- The tables that the events of a stripe leave: their keys lie in the stripe.
+-- The tables that the events of a stripe leave: their keys belong to the stripe.
 use Rattle.std.proofs.Common.{◌≡◌, ℕ, true, false, cond, is_eq, List, [], ◌∷◌, Option, Some, None, refl, sym, ap, ◌∙◌, subst, All}
 use Rattle.std.proofs.lemmas.List.Elements.{All-nil, All-cons}
 use Rattle.std.specs.Ordering.{eq_by_cmp}
@@ -19,7 +19,7 @@ use Rattle.bin_stripes.specs.Actions.{Action, called, scanned, replaced, Does}
 use Rattle.bin_stripes.specs.Histories.{does, empty, Leaves}
 use Rattle.bin_stripes.specs.Invoked.{AreOf}
 
--- each key of the table lies in the stripe k
+-- each key of the table belongs to the stripe k
 abbrev pub IsWithin : ℕ → ℕ → Table → Type 0
 IsWithin n k table = (key value : List ℕ) → map.get table key ≡ Some value → stripe_of n key ≡ k
 
@@ -54,7 +54,7 @@ module _ (n k : ℕ) where
   replays_within t u [] r all = subst Within (sym r) all
   replays_within t u (e ∷ es) r all = replays_within r.0 u es r.1.1 (does_within t r.0 e.action.action r.1.0 all)
 
-  -- the keys that a list of events leaves lie in the stripe
+  -- the keys that a list of events leaves belong to the stripe
   pub leaves_within : (t : Table) (es : List (Event GhostAction)) → Leaves n k es t → Within t
   leaves_within t es l = replays_within empty t es l (λ q v found. absurd (some_of_none (map.get empty q) v (get-empty by_bytes q) found))
 

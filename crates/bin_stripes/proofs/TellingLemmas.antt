@@ -1,4 +1,4 @@
--- A pass at rest that is told, and looks.
+-- A pass at rest is told something, and looks.
 use Rattle.std.proofs.Common.{◌≡◌, ℕ, List, [], ◌∷◌, ◌++◌, Option, refl, sym, ap, ◌∙◌, subst}
 use Rattle.known_seat.specs.Knowing.{Learns}
 use Rattle.atomic_table.specs.Table.{Me}
@@ -17,14 +17,14 @@ use Rattle.bin_stripes.specs.Histories.{empty, does, Sound}
 use Rattle.bin_stripes.specs.Holding.{Rests}
 use Rattle.bin_stripes.proofs.StepLemmas.{settles_lost}
 
--- a pass is told of what another at rest has seen
+-- a pass is told what another at rest has seen
 pub learns_of : {B : Type 0} (content : B → Table) (shape : Shape) (id : ℕ) (v : View GhostAction) (other : ℕ) (from : View GhostAction) → Carries v (least v.numbers) → Carries from (least from.numbers)
     → Learns (Kept (does shape.stripes) empty content shape.stripes shape.passes) id v other from (λ u. IsTold from v u)
 learns_of content shape id v other from c c' s kept at there =
     let t = told_by (does shape.stripes) empty content shape.stripes shape.passes id v other from (least v.numbers) (least from.numbers) c c' s kept at there in
     (t.0, t.1.0, t.1.1)
 
--- what was told alone is no news of any stripe
+-- being told something is not yet news of any stripe
 pub told_sound : (n : ℕ) (from v u : View GhostAction) → IsTold from v u → Sound n v → Sound n u
 told_sound n from v u t s = record {
   legal = λ k. subst (λ (p : Part GhostAction). IsLegal (does n k) empty p.seen) (sym (t.parts k)) (s.legal k);
@@ -33,7 +33,7 @@ told_sound n from v u t s = record {
   own = λ k q c. ap (λ (p : Part GhostAction). made_by q p.seen) (t.parts k) ∙ (s.own k q (ap (has q) (sym t.numbers) ∙ c) ∙ ap (λ (p : Part GhostAction). made_by q p.mine) (sym (t.parts k)));
 }
 
--- one that has heard rests as before
+-- after it has heard, it rests as before
 pub rests_heard : {B : Type 0} (from : View GhostAction) (n : ℕ) (me me' : Me (Option B) (View GhostAction)) → Rests me → HasHeard from me.0 n me'.0 → me'.1 ≡ [] → Rests me'
 rests_heard from n me me' r h out = record {
   idle = λ k. h.held k ∙ r.idle k;
@@ -41,7 +41,7 @@ rests_heard from n me me' r h out = record {
   none_out = out;
 }
 
--- one that was told is told of the same again
+-- after it was told, it is told the same again
 pub told_again : (from v u : View GhostAction) → IsTold from v u → IsTold from u u
 told_again from v u t = record {
   numbers = refl;
@@ -50,7 +50,7 @@ told_again from v u t = record {
   parts = λ k. t.parts k ∙ ap (λ (p : Part GhostAction). told_part p (seen_of from k)) (sym (t.parts k));
 }
 
--- what was heard since it was told
+-- what it has heard since it was told
 pub heard_since : (from v u w : View GhostAction) (n : ℕ) → IsTold from v u → HasHeard from u n w → HasHeard from v n w
 heard_since from v u w n t h = record {
   numbers = h.numbers ∙ t.numbers;
@@ -71,10 +71,10 @@ heard_since from v u w n t h = record {
 pub told_is : (from v u w : View GhostAction) (views : List (View GhostAction)) → views ≡ w ∷ [] → view_of views ≡ from → IsTold w v u → IsTold from v u
 told_is from v u w views is e t = subst (λ x. IsTold x v u) (sym (ap view_of is) ∙ e) t
 
--- one that was told rests as before
+-- after it was told, it rests as before
 pub told_rests : {B : Type 0} (from : View GhostAction) (me me' : Me (Option B) (View GhostAction)) → Rests me → IsTold from me.0 me'.0 → me'.1 ≡ [] → Rests me'
 told_rests from me me' r t out = rests_heard from 0 me me' r (heard_none from me.0 me'.0 t) out
 
--- one that looked rests as before
+-- after it looked, it rests as before
 pub told_looks : {B : Type 0} (n : ℕ) (content : B → Table) (k : ℕ) (me me' : Me (Option B) (View GhostAction)) → Rests me → Looks (does n) empty k me me' → Rests me'
 told_looks n content k me me' r l = (settles_lost content n k me me' r l).rests

@@ -1,4 +1,4 @@
--- Actions as ghost data: how they are told apart.
+-- Actions as ghost data, told apart by codes.
 use Rattle.std.specs.Prelude.{◌≡◌, ◌⊎◌, ℕ, List, Option}
 use Rattle.std.specs.Coded.{Coded, code_by, coded_ℕ, coded_list, coded_option, coded_result, coded×, coded⊎}
 use base.Stored.{coded_unit}

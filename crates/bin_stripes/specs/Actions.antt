@@ -1,5 +1,5 @@
--- What is done on a stripe, and what it makes of the stripe's table. Calls by Java SE 17's ConcurrentMap; that each is
--- recorded with its reply, and lies in the stripe of its key, is our profile.
+-- Actions on a stripe, and their effect on the stripe's table. Calls by Java SE 17's ConcurrentMap. Our profile: each
+-- is recorded with its reply, and is in the stripe of its key.
 use Rattle.std.specs.Prelude.{◌≡◌, ℕ, List, Option, Some}
 use Rattle.std.specs.FinMap as map
 use Rattle.bpf_model.specs.Fits.{input_of}
@@ -11,16 +11,16 @@ use Rattle.atomic_methods.specs.Invocations.{Invocation}
 use Rattle.atomic_methods.specs.Hashes.{stripe_of}
 use Rattle.atomic_methods.specs.Methods.{Answers}
 
--- what was done, and what came of it
+-- an action and its outcome
 pub data Action : Type 0 where
   -- an invocation got a reply
   called : Invocation → Reply → Action
   -- a scan found these entries
   scanned : List Entry → Action
-  -- the value of a key was replaced by what a program, with an argument, came to
+  -- the value of a key was replaced by the outcome of a program, with an argument
   replaced : List ℕ → Checked → Option (List ℕ) → Outcome → Action
 
--- the action, done on the table of the stripe k of so many, leaves the new one, and what it records came of it
+-- doing the action on the table of the stripe k of this many leaves the new one, and its outcome is the recorded one
 abbrev pub Does : ℕ → ℕ → Table → Action → Table → Type 0
 Does stripes k table (called invocation reply) new =
     (stripe_of stripes invocation.key ≡ k) × Answers table invocation new reply

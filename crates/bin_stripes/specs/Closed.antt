@@ -1,4 +1,4 @@
--- What the last call on a map gives.
+-- The result of the last call on a map.
 use Rattle.std.specs.Prelude.{◌≡◌, ℕ, ◌<◌, List, [], ◌++◌, length}
 use Rattle.std.specs.FinMap as finmap
 use Rattle.stripe_rule.specs.declared.view.Event.{Event}
@@ -11,8 +11,8 @@ use Rattle.bin_stripes.specs.AllSeen.{CarriesAll}
 use Rattle.bin_stripes.specs.Histories.{Leaves}
 use Rattle.bin_stripes.specs.Passes.{PassState, stripes_of}
 
--- the entries, in key order, that a legal list of each stripe leaves, which begins with what the pass has seen and goes on
--- with others' events alone; where the pass carries all numbers, the list is what it has seen
+-- the entries, in key order, that a legal list of each stripe leaves; the list begins with what the pass has seen, and the
+-- rest are others' events; if the pass carries all numbers, the list is exactly what it has seen
 pub record Closes (pass : PassState) (entries : List Entry) : Type 0 where
   pub tables : List Table
   pub one_each : length tables ≡ stripes_of pass.map

@@ -1,4 +1,4 @@
--- The numbers under which refusals are printed and sent, and how they are told. Our profile.
+-- The numbers with which refusals are printed and sent, and their texts. Our profile.
 use Rattle.std.specs.Prelude.{ℕ, List, codes}
 use Rattle.bin_stripes.specs.declared.fault.OpenFault.{OpenFault}
 use Rattle.bin_stripes.specs.declared.fault.OpenFault.TheVariants.{BadStripes, BadPasses, NoMemory}
@@ -10,7 +10,7 @@ map_fault_number BadStripes = 50
 map_fault_number BadPasses = 51
 map_fault_number NoMemory = 9
 
--- what is wrong
+-- the fault
 abbrev pub map_fault_message : OpenFault → List ℕ
 map_fault_message BadStripes = codes "not a number of stripes"
 map_fault_message BadPasses = codes "not a number of passes"

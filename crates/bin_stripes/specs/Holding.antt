@@ -1,4 +1,4 @@
--- A seat of the table beside one stripe: at rest, holding the stripe, and after a call.
+-- A seat of the table at one stripe: at rest, holding the stripe, and after a call.
 use Rattle.std.specs.Prelude.{◌≡◌, ℕ, ◌≤◌, true, List, [], ◌∷◌, ◌++◌, length, Option, Some}
 use Rattle.std.specs.FinMap as finmap
 use Rattle.atomic_table.specs.Seated.{TableId}
@@ -18,7 +18,7 @@ use Rattle.bin_stripes.specs.Actions.{Action, scanned}
 use Rattle.bin_stripes.specs.Histories.{empty, own_events, Leaves, Sound}
 use Rattle.bin_stripes.specs.Invoked.{AreOf, AreReplacements}
 
--- the table has words and a slot for each stripe, and few stripes
+-- the table has words and a slot for each stripe, and not too many stripes
 pub record IsLaid (id : TableId) (shape : Shape) : Type 0 where
   pub words : id.words ≡ words_of id.slots
   pub bounded : id.slots ≤ 64
@@ -36,7 +36,7 @@ module _ {B : Type 0} where
     pub some : Carries me.0 (least me.0.numbers)
     pub none_out : me.1 ≡ []
 
-  -- behind all that it had seen of the stripe k, the seat saw others' events and made these actions, and rests
+  -- after all that it had seen of the stripe k, the seat saw others' events and made these actions, and rests
   pub record Settles (stripes k : ℕ) (me : Me (Option B) (View GhostAction)) (actions : List Action)
       (me' : Me (Option B) (View GhostAction)) : Type 0 where
     pub adds : Adds me.0 k (own_events me.0 actions) me'.0
@@ -60,7 +60,8 @@ module _ {B : Type 0} where
     pub found : Leaves stripes k (seen_of me.0 k ++ settles.adds.here.between) table
     pub are : AreReplacements program arg (finmap.entries table) actions counts
 
-  -- the seat holds the stripe k, whose bins are out with it and contain what was done there, all of which it has seen
+  -- the seat holds the stripe k; its bins are out with the seat and contain the result of its events, all of which the
+  -- seat has seen
   pub record SeatHolds (content : B → Table) (stripes k : ℕ) (me : Me (Option B) (View GhostAction)) : Type 0 where
     pub held : held_at me.0 k ≡ true
     pub some : Carries me.0 (least me.0.numbers)
@@ -69,7 +70,7 @@ module _ {B : Type 0} where
     pub out : me.1 ≡ (k, Some bins) ∷ others
     pub content_is : Leaves stripes k (seen_of me.0 k) (content bins)
 
-  -- what the seat has seen of the stripe k leaves a table to which the invocation would add its key
+  -- the events that the seat has seen of the stripe k leave a table to which the invocation would add its key
   pub record SeatRefuses (stripes k : ℕ) (me : Me (Option B) (View GhostAction)) (invocation : Invocation) : Type 0 where
     pub table : Table
     pub left : Leaves stripes k (seen_of me.0 k) table

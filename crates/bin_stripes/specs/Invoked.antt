@@ -1,4 +1,4 @@
--- What a pass comes to know by a call of its own.
+-- How a call of its own extends a pass's knowledge.
 use Rattle.std.specs.Prelude.{◌≡◌, ℕ, ◌<◌, ◌^◌, List, [], ◌∷◌, ◌++◌, Option, map, length, count_by, All, T}
 use Rattle.std.specs.FinMap as finmap
 use Rattle.stripe_rule.specs.Gains.{Adds, seen_of}
@@ -15,7 +15,7 @@ use Rattle.bin_stripes.specs.Actions.{Action, called, scanned, replaced}
 use Rattle.bin_stripes.specs.Histories.{own_events, Leaves}
 use Rattle.bin_stripes.specs.Passes.{PassState, stripes_of}
 
--- behind all that it had seen of the stripe k, the pass saw others' events and then made these actions; it knows nothing
+-- after all that it had seen of the stripe k, the pass saw others' events and then made these actions; it knows nothing
 -- new of the other stripes
 abbrev pub Makes : PassState → ℕ → List Action → PassState → Type 0
 Makes old k actions new = Adds old.view k (own_events old.view actions) new.view
@@ -28,7 +28,7 @@ stripe_for pass invocation = stripe_of (stripes_of pass.map) invocation.key
 abbrev pub Calls : PassState → Invocation → Reply → PassState → Type 0
 Calls old invocation reply new = Makes old (stripe_for old invocation) (called invocation reply ∷ []) new
 
--- the pass made nothing; what it has seen then leaves a table to which the invocation would add its key
+-- the pass made nothing; the events that it has then seen leave a table to which the invocation would add its key
 pub record RefusesCall (old : PassState) (invocation : Invocation) (new : PassState) : Type 0 where
   pub nothing : Makes old (stripe_for old invocation) [] new
   pub table : Table
@@ -39,13 +39,13 @@ pub record RefusesCall (old : PassState) (invocation : Invocation) (new : PassSt
 abbrev pub Scans : PassState → ℕ → List Entry → PassState → Type 0
 Scans old k entries new = Makes old k (scanned entries ∷ []) new
 
--- the pass made one scan of the stripe k, which found so many entries; which they were, its event says
+-- the pass made one scan of the stripe k, which found this many entries; its event has them
 pub record CountsStripe (old : PassState) (k count : ℕ) (new : PassState) : Type 0 where
   pub entries : List Entry
   pub scans : Scans old k entries new
   pub count_is : count ≡ length entries
 
--- entries in key order, each once, and each of the stripe k of so many
+-- entries in key order, each once, and each in the stripe k of this many
 pub record AreOf (stripes k : ℕ) (entries : List Entry) : Type 0 where
   pub order : T (finmap.is_sorted by_bytes entries)
   pub stripe : All (λ entry. stripe_of stripes entry.0 ≡ k) entries
@@ -55,13 +55,13 @@ pub record CopiesStripe (old : PassState) (k : ℕ) (before after : List Entry) 
   pub entries : List Entry
   pub scans : Scans old k entries new
   pub are : AreOf (stripes_of old.map) k entries
-  -- an entry takes more than 2^6 bytes, of fewer than 2^63
+  -- an entry takes more than 2^6 bytes, and memory has fewer than 2^63
   pub bounded : length entries < 2 ^ 57
   pub copies : List Entry
   pub same : WeighSame copies entries
   pub added : after ≡ before ++ copies
 
--- one replacement for each entry, in their order, by what the program came to at its key; so many of each kind
+-- one replacement for each entry, in their order, by the program's outcome at its key; with these counts of each kind
 pub record AreReplacements (program : Checked) (arg : Option (List ℕ)) (entries : List Entry) (actions : List Action)
     (counts : Counts) : Type 0 where
   pub outcome : List ℕ → Outcome
@@ -70,8 +70,8 @@ pub record AreReplacements (program : Checked) (arg : Option (List ℕ)) (entrie
   pub given_are : counts.given ≡ count_by (λ entry. is_given (outcome entry.0)) entries
   pub unfit_are : counts.unfit ≡ count_by (λ entry. is_unfit (outcome entry.0)) entries
 
--- the pass replaced the value of each key of the stripe k once, in key order, by the program with the argument; nothing
--- stands between these events
+-- the pass replaced the value of each key of the stripe k once, in key order, by the program with the argument; no
+-- other event comes between these
 pub record ReplacesInStripe (old : PassState) (k : ℕ) (program : Checked) (arg : Option (List ℕ)) (counts : Counts)
     (new : PassState) : Type 0 where
   pub actions : List Action

@@ -1,4 +1,4 @@
--- What contracts see of a pass: the map that it serves, and what it carries and knows.
+-- What contracts see of a pass: its map, its numbers and its knowledge.
 use Rattle.std.specs.Prelude.{◌≡◌, ℕ, [], ◌∷◌, List, length}
 use Rattle.std.specs.Coded.{Coded, code_by, coded×}
 use mathlib.Core.Path.{refl}
@@ -19,12 +19,12 @@ abbrev pub pass_code : Coded PassState
 pass_code = code_by (TableId × View GhostAction) (coded× table_id_coded (view_row action_row).coded)
     (λ p. (p.map, p.view)) (λ x. record { map = x.0; view = x.1 }) (λ _. refl)
 
--- how many stripes a map has
+-- the number of stripes of a map
 abbrev pub stripes_of : TableId → ℕ
 stripes_of map = map.slots
 
--- what a pass that serves this map, with these views at rest, always has: one view, which holds no stripe, carries its
--- least number, and knows of each stripe a legal history
+-- what always holds of a pass that serves this map, with these views at rest: it has one view, which holds no stripe,
+-- carries its least number, and knows a legal history of each stripe
 pub record IsPass (map : TableId) (views : List (View GhostAction)) : Type 0 where
   pub one : views ≡ view_of views ∷ []
   pub idle : IsIdle (view_of views)
@@ -32,7 +32,7 @@ pub record IsPass (map : TableId) (views : List (View GhostAction)) : Type 0 whe
   pub sound : Sound (stripes_of map) (view_of views)
   pub wide : length (view_of views).parts ≡ stripes_of map
 
--- the pass serves the same map, which was opened with as many passes
+-- the pass serves the same map, opened with the same number of passes
 pub record ServesSameMap (old new : PassState) : Type 0 where
   pub map : new.map ≡ old.map
   pub passes : new.view.passes ≡ old.view.passes

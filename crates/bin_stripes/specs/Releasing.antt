@@ -1,4 +1,4 @@
--- A release of a stripe that adds some events, of which a fact is known.
+-- A release of a stripe that adds some events, about which a fact is known.
 use Rattle.std.specs.Prelude.{◌≡◌, ℕ, List, Option}
 use Rattle.atomic_table.specs.Table.{Me, Step}
 use Rattle.stripe_rule.specs.declared.view.View.{View}
@@ -10,20 +10,20 @@ use Rattle.bin_stripes.specs.Actions.{Action}
 use Rattle.bin_stripes.specs.Histories.{empty, does, own_events}
 
 module _ {S : Type 0} where
-  -- a load of a stripe's word, as a table with so many slots tells it
+  -- a load of a stripe's word, in the terms of a table with this many slots
   abbrev pub stripe_looked : Step S → Me S (View GhostAction) → ℕ → Me S (View GhostAction) → Type 0
   stripe_looked st me found me' = (k : ℕ) → st.word ≡ word_at k → Looks (does st.slots) empty k me me'
 
-  -- the actions that the release adds, of which `may` holds
+  -- the release adds actions for which `may` holds
   pub record Lets (may : List Action → Type 0) (stripes k : ℕ) (me me' : Me S (View GhostAction)) : Type 0 where
     pub actions : List Action
     pub may_be : may actions
     pub releases : Releases (does stripes) empty (own_events me.0 actions) k me me'
 
-  -- the swap of the word to 0, as a table with so many slots tells it
+  -- the swap of the word to 0, in the terms of a table with this many slots
   abbrev pub stripe_released : (List Action → Type 0) → Step S → Me S (View GhostAction) → ℕ → Me S (View GhostAction) → Type 0
   stripe_released may st me found me' = (k : ℕ) → st.word ≡ word_at k → Lets may st.slots k me me'
 
--- the compare-exchange of the word from 0 to 1, as a table with so many slots tells it
+-- the compare-exchange of the word from 0 to 1, in the terms of a table with this many slots
 abbrev pub stripe_took : {B : Type 0} → (B → Table) → Step (Option B) → Me (Option B) (View GhostAction) → ℕ → Me (Option B) (View GhostAction) → Type 0
 stripe_took content st me found me' = takes_or_looks (does st.slots) empty content st me found me'

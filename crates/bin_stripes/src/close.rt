@@ -17,8 +17,8 @@ use std::alloc::Global;
 use std::sync::Wait;
 
 impl StripedMap {
-    /// Gives the map up for its entries, in key order: those of each stripe once it was free. Returns `NoMemory` if a request
-    /// for memory is refused; the map is given up then too. Waits until each stripe is free.
+    /// Closes the map and returns its entries, in key order: those of each stripe once it was free. Returns `NoMemory` if a
+    /// request for memory is refused; the map is gone then too. Waits until each stripe is free.
     pub fn close<R: Wait>(
         self,
         rt: &R,

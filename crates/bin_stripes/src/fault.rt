@@ -1,13 +1,13 @@
-//! Why a map is not opened, and why a call is not made.
+//! Why a map can't be opened, and why a call isn't made.
 
 use bpf_model::NoMemory;
 use std::error::Error;
 use std::fmt;
 
-/// Why a map was not opened.
+/// Why a map can't be opened.
 #[derive(Clone, Copy, Debug, PartialEq, Eq)]
 pub enum OpenFault {
-    /// The number of stripes is no power of two from 1 to `MAX_STRIPES`: number 50.
+    /// The number of stripes isn't a power of two from 1 to `MAX_STRIPES`: number 50.
     BadStripes,
     /// The number of passes is not from 1 to `MAX_PASSES`: number 51.
     BadPasses,
@@ -19,7 +19,7 @@ impl OpenFault {
     ghost use Rattle.std.specs.Prelude.{◌≡◌};
     ghost use Rattle.bin_stripes.specs.Faults.{map_fault_number};
 
-    /// The number under which this refusal is printed and sent.
+    /// Returns the number with which this refusal is printed and sent.
     pub fn number(self) -> u8
         ensures value { result ≡ map_fault_number self }
     {
@@ -59,7 +59,7 @@ impl From<NoMemory> for OpenFault {
     }
 }
 
-/// Why a call that waits for nobody was not made.
+/// Why a call that never waits wasn't made.
 #[derive(Clone, Copy, Debug, PartialEq, Eq)]
 pub enum CallFault {
     /// The stripe was held: number 52.
@@ -72,7 +72,7 @@ impl CallFault {
     ghost use Rattle.std.specs.Prelude.{◌≡◌};
     ghost use Rattle.bin_stripes.specs.Faults.{call_fault_number};
 
-    /// The number under which this refusal is printed and sent.
+    /// Returns the number with which this refusal is printed and sent.
     pub fn number(self) -> u8
         ensures value { result ≡ call_fault_number self }
     {

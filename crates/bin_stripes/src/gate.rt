@@ -1,6 +1,6 @@
 //! Points at which a test may hold a worker.
 
-/// Where a worker is.
+/// A worker's place.
 #[derive(Clone, Copy, Debug, PartialEq, Eq)]
 pub enum Place {
     /// Before the first stripe of a walk.
@@ -11,9 +11,9 @@ pub enum Place {
     Request,
 }
 
-/// What a worker passes at each `Place`. It may hold the worker there.
+/// A worker passes the gate at each `Place`. The gate may hold it there.
 pub trait Gate {
-    /// The worker of this number has come there.
+    /// The worker with this number is at the place.
     fn pass(&self, place: Place, worker: u32);
 }
 

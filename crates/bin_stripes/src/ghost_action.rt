@@ -1,10 +1,10 @@
-//! What is done on a stripe.
+//! Actions on a stripe.
 ghost use Rattle.bin_stripes.specs.Actions.{Action};
 ghost use Rattle.bin_stripes.specs.ActionCodes.{action_code};
 
 use std::marker::Model;
 
-/// What was done on a stripe, with what came of it: `action`. No value of it is made.
+/// An action on a stripe with its outcome: `action`. No value of it is made.
 pub struct GhostAction {
     pub ghost action: { Action } by { action_code },
 }

@@ -1,5 +1,5 @@
-//! What is done with the bins of a stripe that is held: a call, a scan or the replacement of its values. Each works
-//! on the bins where they lie, in the stripe's slot, and lets the stripe go.
+//! Work on the bins of a held stripe: a call, a scan or the replacement of its values. Each works on the bins in place,
+//! in the stripe's slot, and lets the stripe go.
 ghost use Rattle.std.specs.Prelude.{◌≡◌, ◌<◌, ◌^◌, List, [], ◌∷◌, length, IfOk, OnOk, OnErr};
 ghost use Rattle.std.specs.FinMap as map;
 ghost use Rattle.atomic_methods.specs.Hashes.{stripe_of};
@@ -52,14 +52,14 @@ impl<B: Bins> Shows<Snapshot<B>> for Scanning {
     ghost shows = { λ found actions. actions ≡ scanned (map.entries (B.table found.value)) ∷ [] };
 }
 
-/// By what values are replaced.
+/// The program and argument that replace values.
 #[derive(Clone, Copy)]
 pub(crate) struct Replacer<'a> {
     pub(crate) program: &'a Verified,
     pub(crate) arg: &'a Option<Value>,
 }
 
-/// What was replaced, by what, and how many.
+/// What was replaced, by which program, and how many.
 #[derive(Drop)]
 struct Replacement<'a, B> {
     by: Replacer<'a>,
@@ -113,8 +113,8 @@ pub(crate) fn make_call<B: Bins + Drop>(
     }
 }
 
-/// Adds copies of the stripe's entries to the list, in an order of their own. Returns `NoMemory` if a request for memory is
-/// refused; then nothing was done, and the list is as before.
+/// Adds copies of the stripe's entries to the list, in any order. Returns `NoMemory` if a request for memory is refused;
+/// then nothing was done, and the list is unchanged.
 pub(crate) fn make_copies<B: Bins + Drop>(
     table: &Stripes<B>,
     seat: &mut PassSeat<B>,
@@ -148,8 +148,8 @@ pub(crate) fn make_copies<B: Bins + Drop>(
     }
 }
 
-/// Copies of the stripe's entries, in key order. They are sorted before the stripe is let go, since that takes memory. Returns
-/// `NoMemory` if a request for memory is refused; then nothing was done.
+/// Returns copies of the stripe's entries, in key order. Sorts them before the stripe is let go, since that takes memory.
+/// Returns `NoMemory` if a request for memory is refused; then nothing was done.
 pub(crate) fn make_scan<B: Bins + Drop>(
     alloc: Global,
     table: &Stripes<B>,
@@ -184,7 +184,7 @@ pub(crate) fn make_scan<B: Bins + Drop>(
     }
 }
 
-/// How many entries the stripe has. Takes no memory.
+/// Returns the number of entries in the stripe. Takes no memory.
 pub(crate) fn make_count<B: Bins + Drop>(
     table: &Stripes<B>,
     seat: &mut PassSeat<B>,
@@ -207,7 +207,7 @@ pub(crate) fn make_count<B: Bins + Drop>(
     count
 }
 
-/// Replaces the value of each of the stripe's keys once. The gate is passed before, with the stripe held. Takes no memory.
+/// Replaces the value of each of the stripe's keys once. Passes the gate before, with the stripe held. Takes no memory.
 pub(crate) fn make_replacements<B: Bins + Drop, G: Gate>(
     table: &Stripes<B>,
     seat: &mut PassSeat<B>,

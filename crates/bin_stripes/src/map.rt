@@ -24,10 +24,10 @@ use std::sync::Wait;
 use stripe_rule::View;
 use verifier::Verified;
 
-/// What keeps the entries of a stripe. The map's contracts and proofs know it by the trait `Bins` alone.
+/// The store of a stripe's entries. The map's contracts and proofs know it only by the trait `Bins`.
 pub(crate) type StripeBins = HashedBins;
 
-/// A table in stripes by the hashes of the keys, which passes share: each stripe has a word, which is 1 while it is held,
+/// A table in stripes by the hashes of the keys, shared by passes. Each stripe has a word, which is 1 while it is held,
 /// and a slot for its bins.
 #[derive(Drop)]
 pub struct StripedMap {
@@ -54,7 +54,7 @@ impl Model for StripedMap {
 }
 
 impl StripedMap {
-    /// The number of stripes. Takes no memory. Never waits.
+    /// Returns the number of stripes. Takes no memory. Never waits.
     pub fn stripes(&self) -> u64
         ensures value { result ≡ stripes_of self.now }
         ensures count { IsStripeCount (stripes_of self.now) }
@@ -62,7 +62,7 @@ impl StripedMap {
         self.table.slot_count() as u64
     }
 
-    /// The stripe of a key, counted from 0. Takes no memory. Never waits.
+    /// Returns the stripe of a key, counted from 0. Takes no memory. Never waits.
     pub fn stripe_of(&self, key: &Key) -> u64
         ensures value { result ≡ stripe_of (stripes_of self.now) key.now }
         ensures range { result < stripes_of self.now }
@@ -78,8 +78,8 @@ impl StripedMap {
         call.stripe(self.stripes()) as usize
     }
 
-    /// Makes the call. Returns `NoMemory` only if it would have added its key and a request for memory is refused; nothing was
-    /// made then. Waits until the stripe of the key is free.
+    /// Makes the call. Returns `NoMemory` only if it would have added its key and a request for memory is refused; then
+    /// nothing was done. Waits until the stripe of the key is free.
     pub fn call<R: Wait>(&self, rt: &R, pass: &mut Pass, call: &Call) -> Result<Reply, NoMemory>
         requires map { pass.old.map ≡ self.now }
         ensures same { ServesSameMap pass.old pass.new }
@@ -91,8 +91,8 @@ impl StripedMap {
         Ok(kind.with(bytes))
     }
 
-    /// Makes the call if the stripe of the key is free; else returns `Busy`. Returns `NoMemory` as `call` does. After either
-    /// nothing was made. Never waits.
+    /// Makes the call if the stripe of the key is free, else returns `Busy`. Returns `NoMemory` as `call` does. After either
+    /// error nothing was done. Never waits.
     pub fn try_call(&self, pass: &mut Pass, call: &Call) -> Result<Reply, CallFault>
         requires map { pass.old.map ≡ self.now }
         ensures same { ServesSameMap pass.old pass.new }
@@ -105,8 +105,8 @@ impl StripedMap {
         Ok(kind.with(bytes))
     }
 
-    /// Makes the call as `call` does, and leaves the bytes of the replied value in `bytes`, so that no value is moved. What
-    /// `bytes` held is lost. Returns `NoMemory` as `call` does. Waits until the stripe of the key is free.
+    /// Makes the call as `call` does, and leaves the bytes of the replied value in `bytes`, so that no value is moved. The
+    /// old contents of `bytes` are lost. Returns `NoMemory` as `call` does. Waits until the stripe of the key is free.
     pub fn call_into<R: Wait>(
         &self,
         rt: &R,
@@ -130,7 +130,7 @@ impl StripedMap {
     }
 
     /// Makes the call as `try_call` does, and leaves the bytes of the replied value in `bytes`, so that no value is moved.
-    /// What `bytes` held is lost. Returns `Busy` and `NoMemory` as `try_call` does. Never waits.
+    /// The old contents of `bytes` are lost. Returns `Busy` and `NoMemory` as `try_call` does. Never waits.
     pub fn try_call_into(
         &self,
         pass: &mut Pass,
@@ -152,8 +152,8 @@ impl StripedMap {
         answer
     }
 
-    /// Copies of the entries of one stripe, which is below `stripes()`, in key order. Returns `NoMemory` if a request for memory
-    /// is refused; nothing was made then. Waits until the stripe is free.
+    /// Returns copies of the entries of one stripe, which is below `stripes()`, in key order. Returns `NoMemory` if a request
+    /// for memory is refused; then nothing was done. Waits until the stripe is free.
     pub fn scan_stripe<R: Wait>(
         &self,
         rt: &R,
@@ -178,9 +178,9 @@ impl StripedMap {
         answer
     }
 
-    /// Adds copies of the entries of one stripe, which is below `stripes()`, to the list, in an order of their own: a scan
-    /// whose entries are not sorted. Returns `NoMemory` if a request for memory is refused; nothing was made then, and the list is
-    /// as before. Waits until the stripe is free.
+    /// Adds copies of the entries of one stripe, which is below `stripes()`, to the list, in any order: a scan without sorting.
+    /// Returns `NoMemory` if a request for memory is refused; then nothing was done, and the list is unchanged. Waits until the
+    /// stripe is free.
     pub fn copy_stripe<R: Wait>(
         &self,
         rt: &R,
@@ -224,8 +224,8 @@ impl StripedMap {
         answer
     }
 
-    /// How many entries one stripe has, which is below `stripes()`: a scan whose entries are not handed out. Takes no
-    /// memory. Waits until the stripe is free.
+    /// Returns the number of entries of one stripe, which is below `stripes()`: a scan that returns no entries. Takes
+    /// no memory. Waits until the stripe is free.
     pub fn count_stripe<R: Wait>(&self, rt: &R, pass: &mut Pass, stripe: u64) -> u64
         requires map { pass.old.map ≡ self.now }
         requires stripe { stripe < stripes_of self.now }
@@ -242,9 +242,9 @@ impl StripedMap {
         count
     }
 
-    /// Replaces the value of each key of one stripe, which is below `stripes()`, once by what the program answers on the key,
-    /// its value and the argument. An answer of nothing keeps the entry, and one that does not fit stays. The gate is passed
-    /// once at `Held`, by this worker, while the stripe is held. Takes no memory. Waits until the stripe is free.
+    /// Replaces the value of each key of one stripe, which is below `stripes()`, once by the program's answer on the key, its
+    /// value and the argument. If the answer is nothing, or the entry does not fit, the entry stays. This worker passes the
+    /// gate once at `Held`, while the stripe is held. Takes no memory. Waits until the stripe is free.
     pub fn replace_stripe<R: Wait, G: Gate>(
         &self,
         rt: &R,

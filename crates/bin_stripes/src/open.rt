@@ -18,12 +18,13 @@ use bpf_model::NoMemory;
 use known_seat::Known;
 use std::alloc::Global;
 
-/// The most passes that a map may be opened with.
+/// A map can be opened with at most this many passes.
 pub const MAX_PASSES: u64 = 64;
 
 impl StripedMap {
-    /// An empty map of so many stripes, and so many passes, which all serve it. `BadStripes` where it may not have so many stripes, else
-    /// `BadPasses` where there are not from 1 to `MAX_PASSES`, else `NoMemory` where a request for memory was refused.
+    /// Opens an empty map with `stripes` stripes and `passes` passes, which all serve it. `BadStripes` if it may not have this many
+    /// stripes, else `BadPasses` if the number of passes is not from 1 to `MAX_PASSES`, else `NoMemory` if a request for memory is
+    /// refused.
     pub fn open(
         alloc: Global,
         stripes: u64,
@@ -37,9 +38,9 @@ impl StripedMap {
         StripedMap::open_seeded(alloc, stripes, passes, Seed::fixed())
     }
 
-    /// As `open`, for a map that hashes keys by this seed inside its stripes: nobody who does not know it can choose keys that are
-    /// slow to find. `BadStripes` where it may not have so many stripes, else `BadPasses` where there are not from 1 to `MAX_PASSES`,
-    /// else `NoMemory` where a request for memory was refused.
+    /// As `open`, for a map that hashes keys with this seed inside its stripes: if you don't know the seed, you can't choose keys
+    /// that are slow to find. `BadStripes` if it may not have this many stripes, else `BadPasses` if the number of passes is not from
+    /// 1 to `MAX_PASSES`, else `NoMemory` if a request for memory is refused.
     pub fn open_seeded(
         alloc: Global,
         stripes: u64,
@@ -61,7 +62,7 @@ impl StripedMap {
     }
 }
 
-/// The map and its passes.
+/// Returns the map and its passes.
 #[tactic(auto, using(crate::proofs::OpenedLemmas::serve_all))]
 fn opened(
     alloc: Global,
@@ -83,7 +84,7 @@ fn opened(
     Ok((StripedMap { table }, all))
 }
 
-/// The words and the bins of the stripes of a new map.
+/// Makes the words and the bins of the stripes of a new map.
 fn free_stripes<B: Bins + Drop>(
     alloc: Global,
     stripes: u64,
@@ -102,7 +103,7 @@ fn free_stripes<B: Bins + Drop>(
     Ok((words, slots))
 }
 
-/// So many words of 0.
+/// Makes `count` words of 0.
 fn zero_words(alloc: Global, count: u64) -> Result<Vec<u64>, NoMemory>
     ensures words { IfOk result (λ words. words.items ≡ replicate count 0) }
 {
@@ -113,7 +114,7 @@ fn zero_words(alloc: Global, count: u64) -> Result<Vec<u64>, NoMemory>
     Ok(words)
 }
 
-/// A pass for each number that the seat carries.
+/// Makes a pass for each number that the seat carries.
 fn dealt<B: Bins>(
     alloc: Global,
     table: &Stripes<B>,
@@ -128,7 +129,7 @@ fn dealt<B: Bins>(
 {
     let mut all = Vec::new(alloc);
     for number in 0..passes - 1 {
-        // For the proof alone, which counts the passes that were dealt.
+        // Only for the proof, which counts the passes that were dealt.
         let _ = number;
         let next = table.split_seat::<Deal>(&mut rest);
         all.push(dealt_pass(rest))?;
@@ -138,7 +139,7 @@ fn dealt<B: Bins>(
     Ok(all)
 }
 
-/// The pass of a seat that carries one number and knows nothing.
+/// Makes the pass of a seat that carries one number and knows nothing.
 fn dealt_pass<B: Bins>(seat: PassSeat<B>) -> Pass
     requires new { (passes : ℕ) × ((number : ℕ) × (seat.me ≡ (newcomer seat.table_id.slots passes (number ∷ []), []))) }
     ensures pass { result ≡ record { map = seat.table_id; view = seat.me.0 } }

@@ -1,4 +1,4 @@
-//! What a thread makes its calls with.
+//! A thread's handle for its calls.
 
 use crate::ghost_action::GhostAction;
 use atomic_methods::Workspace;
@@ -6,8 +6,9 @@ use known_seat::Known;
 use std::marker::Model;
 use stripe_rule::View;
 
-/// The right to make calls on the map that it was opened with. Its bytes are the workspace of its calls, where programs run.
-/// Contracts see what it carries and knows: of each stripe the events that it has seen, and those of them that it made.
+/// The right to make calls on the map that it was opened with. Its bytes are the workspace of its calls, in which programs
+/// run. Contracts see its numbers and knowledge: for each stripe the events that it has seen, and those of them that it
+/// made.
 #[derive(Drop)]
 pub struct Pass {
     pub(crate) known: Known<View<GhostAction>>,
@@ -33,16 +34,16 @@ impl Pass {
     ghost use Rattle.bin_stripes.specs.Histories.{Sound};
     ghost use Rattle.bin_stripes.specs.Passes.{stripes_of};
 
-    /// What always holds of a pass: what it has seen of each stripe is a legal history, whose events are under numbers of
-    /// passes that were opened, and of those under its numbers it has just the ones that it made. It carries the least of
-    /// its numbers, under which its calls are made. One that carries the numbers of all passes has seen just the events that
-    /// were made, each once. Does nothing.
+    /// What always holds of a pass: of each stripe it has seen a legal history, with numbers of opened passes, and the
+    /// events with its own numbers are exactly the ones that it made. It carries the least of its numbers, and makes its
+    /// calls with it. If it carries the numbers of all passes, it has seen exactly the events that were made, each once.
+    /// Does nothing.
     pub fn vouch(&self)
         ensures sound { Sound (stripes_of self.now.map) self.now.view }
         ensures least { Carries self.now.view (least self.now.view.numbers) }
         ensures once { CarriesAll self.now.view → SeesJustMine self.now.view }
     {
-        // For the proof alone: from what is at rest here it learns what always holds of a pass.
+        // Only for the proof: the facts that always hold of a pass come from the seat at rest here.
         let _ = &self.known;
     }
 }

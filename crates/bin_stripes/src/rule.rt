@@ -1,4 +1,4 @@
-//! The rule of the stripes as the table asks for it, and what each step tells.
+//! The rule of the stripes in the form that the table asks for, and the effect of each step.
 ghost use Rattle.std.specs.Prelude.{◌≡◌, List, []};
 ghost use Rattle.bin_stripes.specs.Actions.{Action};
 
@@ -50,7 +50,7 @@ impl<B: Bins> Play<Option<B>, View<GhostAction>> for Take<B> {
     ghost then = { stripe_took B.table };
 }
 
-/// What is known of the actions that a release adds. It is picked where the release is made.
+/// A fact about the actions that a release adds. The release picks it.
 pub trait May {
     ghost may: { List Action → Type 0 };
 }
@@ -70,7 +70,7 @@ impl<B, J: May> Play<Option<B>, View<GhostAction>> for Release<J> {
     ghost then = { stripe_released J.may };
 }
 
-/// Each pass is dealt the first number that is left.
+/// Each pass is dealt the first remaining number.
 pub struct Deal;
 
 impl Split<View<GhostAction>> for Deal {

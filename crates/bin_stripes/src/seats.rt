@@ -1,4 +1,4 @@
-//! Calls, scans and replacements by a seat at rest that tries the take once.
+//! Calls, scans and replacements by a seat at rest that tries to take the stripe once.
 ghost use Rattle.std.specs.Prelude.{◌≡◌, ◌<◌, ◌^◌, [], ◌∷◌, IfOk, IfErr, OnErr, IsErrOf};
 ghost use Rattle.std.specs.FinMap as map;
 ghost use Rattle.atomic_methods.specs.Hashes.{stripe_of};
@@ -16,7 +16,7 @@ use bpf_model::{Key, Value};
 use std::alloc::Global;
 use verifier::Verified;
 
-/// Makes the call on the stripe of its key, where that is free. A program runs in the workspace. The bytes of the replied
+/// Makes the call on the stripe of its key if that is free. A program runs in the workspace. The bytes of the replied
 /// value are left in `bytes`.
 pub(crate) fn try_call<B: Bins + Drop>(
     table: &Stripes<B>,
@@ -43,7 +43,7 @@ pub(crate) fn try_call<B: Bins + Drop>(
     Ok(make_call(table, seat, stripe, call, workspace, bytes)?)
 }
 
-/// Copies of the stripe's entries, in key order, where it is free.
+/// Returns copies of the stripe's entries, in key order, if it is free.
 pub(crate) fn try_scan<B: Bins + Drop>(
     alloc: Global,
     table: &Stripes<B>,
@@ -64,7 +64,7 @@ pub(crate) fn try_scan<B: Bins + Drop>(
     Ok(make_scan(alloc, table, seat, stripe)?)
 }
 
-/// Replaces the value of each of the stripe's keys once, where it is free.
+/// Replaces the value of each of the stripe's keys once, if it is free.
 pub(crate) fn try_replace<B: Bins + Drop>(
     table: &Stripes<B>,
     seat: &mut PassSeat<B>,

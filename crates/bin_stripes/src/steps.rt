@@ -1,5 +1,5 @@
-//! The steps on one stripe: take and release. Its word is 1 while it is held, else 0, and stands on two lines of the cache of
-//! its own; its bins lie in the slot of its number, which is the seat's that holds the stripe.
+//! The steps on one stripe: take and release. Its word is 1 while it is held, else 0, and has two lines of the cache to
+//! itself. Its bins are in the slot with its number, which belongs to the seat that holds the stripe.
 ghost use Rattle.std.specs.Prelude.{◌≡◌, ℕ, ◌<◌, true, false, Option, List, [], ◌∷◌, ◌++◌, Some, None, MatchBool};
 ghost use Rattle.stripe_rule.specs.Gains.{held_at, seen_of, Carries, least};
 ghost use Rattle.stripe_rule.specs.Steps.{Takes, Looks};
@@ -17,17 +17,17 @@ use std::sync::Wait;
 use std::thread;
 use stripe_rule::View;
 
-/// How many words a stripe has, of which the first is used. They fill two lines of the cache, which processors fetch by
-/// pairs, so the words of two stripes share none.
+/// A stripe has this many words and uses the first. They fill two lines of the cache, which processors fetch in pairs,
+/// so the words of two stripes share none.
 pub(crate) const STRIPE_WORDS: usize = 16;
 
 /// The words and slots of all stripes.
 pub(crate) type Stripes<B> = Shared<Option<B>, View<GhostAction>, Shape, Striping<B>>;
 
-/// What a pass steps with.
+/// The seat that a pass steps with.
 pub(crate) type PassSeat<B> = Seat<Option<B>, View<GhostAction>>;
 
-/// Looks at the stripe: the seat has then seen all that it was told of. Never waits.
+/// Looks at the stripe: the seat has then seen everything that it was told. Never waits.
 pub(crate) fn look<B: Bins + Drop>(table: &Stripes<B>, seat: &mut PassSeat<B>, stripe: usize)
     requires table { IsLaid table.now.table_id table.now.key × (seat.old.table_id ≡ table.now.table_id) }
     requires stripe { stripe < table.now.table_id.slots }
@@ -38,7 +38,7 @@ pub(crate) fn look<B: Bins + Drop>(table: &Stripes<B>, seat: &mut PassSeat<B>, s
     table.load::<Look>(seat, stripe * STRIPE_WORDS);
 }
 
-/// Tries once to take the stripe: whether it was free. Never waits.
+/// Tries once to take the stripe, and returns whether it was free. Never waits.
 pub(crate) fn try_take_stripe<B: Bins + Drop>(
     table: &Stripes<B>,
     seat: &mut PassSeat<B>,
@@ -77,7 +77,7 @@ pub(crate) fn take_stripe<B: Bins + Drop, R: Wait>(
     unreachable!()
 }
 
-/// The bins of a stripe that the seat holds, taken out of their slot.
+/// Takes the bins of a stripe that the seat holds out of their slot.
 pub(crate) fn bins_out<B: Bins + Drop>(
     table: &Stripes<B>,
     seat: &mut PassSeat<B>,
@@ -96,12 +96,12 @@ pub(crate) fn bins_out<B: Bins + Drop>(
     }
 }
 
-/// What a value shows of the actions that were made on a stripe.
+/// What a value shows about the actions that were made on a stripe.
 pub(crate) trait Shows<T> {
     ghost shows: { T → List Action → Type 0 };
 }
 
-/// Lets the stripe go after these actions; its bins lie in its slot. Never waits.
+/// Lets the stripe go after these actions; its bins are in its slot. Never waits.
 pub(crate) fn let_go<B: Bins + Drop, T, M: Shows<T>>(
     table: &Stripes<B>,
     seat: &mut PassSeat<B>,
@@ -121,7 +121,7 @@ pub(crate) fn let_go<B: Bins + Drop, T, M: Shows<T>>(
     release::<B, T, Brand>(table, seat, stripe, what);
 }
 
-/// The swap of the word to 0. The actions that it adds are those of which `J` says something, and `what` tells it.
+/// Swaps the word to 0. `J` says something about the actions that this adds, and `what` picks it.
 fn release<B: Bins + Drop, T, J: May>(
     table: &Stripes<B>,
     seat: &mut PassSeat<B>,
@@ -138,7 +138,7 @@ fn release<B: Bins + Drop, T, J: May>(
     ensures same { (seat.new.table_id ≡ seat.old.table_id) × (seat.new.id ≡ seat.old.id) }
     ensures made { Lets J.may table.now.table_id.slots stripe seat.old.me seat.new.me }
 {
-    // For the proof alone: what `J` says of the actions it says by this value.
+    // Only for the proof: `J` speaks about the actions in terms of this value.
     let _ = what;
     table.swap::<Release<J>>(seat, stripe * STRIPE_WORDS, 0);
 }

@@ -1,4 +1,4 @@
-//! What one pass knows is told to another, and two passes become one.
+//! One pass is told what another knows, and two passes become one.
 ghost use Rattle.std.specs.Prelude.{◌≡◌, ◌<◌, []};
 ghost use Rattle.stripe_rule.specs.Gains.{Hears, IsJoined, Carries, least};
 ghost use Rattle.stripe_rule.specs.Steps.{HasHeard, united, view_of};
@@ -17,7 +17,7 @@ use known_seat::{Known, learn};
 use stripe_rule::View;
 
 impl StripedMap {
-    /// `to` then knows, of each stripe, what `from` knew, and looks at each stripe once. Takes no memory. Never waits.
+    /// Tells `to`, for each stripe, what `from` knows; it then looks at each stripe once. Takes no memory. Never waits.
     pub fn tell(&self, from: &Pass, to: &mut Pass)
         requires from { from.now.map ≡ self.now }
         requires to { to.old.map ≡ self.now }
@@ -30,8 +30,8 @@ impl StripedMap {
         to.known.put(seat);
     }
 
-    /// The pass that carries the numbers of both, and knows what both knew. Where these are the numbers of all passes, it has
-    /// seen just the events that both had made, each once. Looks at each stripe. Takes no memory. Never waits.
+    /// Returns a pass that carries the numbers of both, and knows what both knew. If these are the numbers of all passes, it
+    /// has seen exactly the events that both had made, each once. Looks at each stripe. Takes no memory. Never waits.
     pub fn join(&self, one: Pass, other: Pass) -> Pass
         requires one { one.map ≡ self.now }
         requires other { other.map ≡ self.now }
@@ -60,7 +60,7 @@ impl StripedMap {
     }
 }
 
-/// Gives the seat what both carried, and spends the other.
+/// Gives the seat all that both carried; the other is spent.
 fn unite<B: Bins + Drop>(table: &Stripes<B>, seat: &mut PassSeat<B>, other: PassSeat<B>)
     requires table { (seat.old.table_id ≡ table.now.table_id) × (other.table_id ≡ table.now.table_id)
         × (0 < table.now.table_id.words) }
@@ -71,7 +71,7 @@ fn unite<B: Bins + Drop>(table: &Stripes<B>, seat: &mut PassSeat<B>, other: Pass
     table.join_seat::<Unite>(seat, other);
 }
 
-/// The seat hears of all that the one at rest has seen: it learns of it, and a look at each word shows it.
+/// The seat hears everything that the one at rest has seen: it is told, and a look at each word shows it.
 fn hear<B: Bins + Drop>(
     table: &Stripes<B>,
     from: &Known<View<GhostAction>>,

@@ -118,7 +118,7 @@ pub IsTrueOf-passed : (text : List ℕ) (e : AsmFault) (result : Result (List In
 IsTrueOf-passed text e (Ok q) passed h = absurd passed
 IsTrueOf-passed text e (Err x) passed h = record { found = tt; first_fault = rw passed h }
 
--- where a program has this text no other answer is true
+-- if a program has this text, no other answer is true
 pub only_program : (text : List ℕ) (p : List Insn) (result : Result (List Insn) AsmFault) → IsTrueOf text result → IsTextOf text p → GivesUnless NoMemory result (Ok p)
 only_program text p (Ok q) h is_text =
     let same : text_of q ++ [] ≡ text_of p ++ [] = ap (λ x. x ++ []) (sym h.found.lines ∙ is_text.lines) in
@@ -128,7 +128,7 @@ only_program text p (Err e) h is_text = elim h.first_fault [
   | inr faulty ↦ absurd (no_faulty_line text p e is_text faulty)
 ]
 
--- where there is a first fault no other answer is true
+-- if there is a first fault, no other answer is true
 pub only_fault : (text : List ℕ) (fault : AsmFault) (result : Result (List Insn) AsmFault) → IsTrueOf text result → IsFirstAsmFault text fault → GivesUnless NoMemory result (Err fault)
 only_fault text fault (Ok q) h first = absurd (no_faulty_line text q fault h.found first)
 only_fault text fault (Err e) h first = elim h.first_fault [
@@ -138,7 +138,7 @@ only_fault text fault (Err e) h first = elim h.first_fault [
 
 -- ---- the line that is refused
 
--- what can't be read begins with no line
+-- if a line can't be read, the text begins with no line
 pub no_line : (rest : List ℕ) (fault : LineFault) (i : Insn) (more : List ℕ) → line_at rest ≡ Err fault → IsInstruction i → rest ≡ line_of i ++ more → ⊥
 no_line rest fault i more unread h e =
     let read : line_at rest ≡ Ok (i, more) = ap line_at e ∙ line_again i more h in
@@ -186,30 +186,30 @@ unfolding unit_count
 unit_count-push [] i = omega arith
 unit_count-push (x ∷ is) i = omega (arith, unit_count-push is i)
 
--- a line more was read
+-- one more line was read
 pub lines_push : (text rest new : List ℕ) (is : List Insn) (i : Insn) → text ≡ text_of is ++ rest → rest ≡ line_of i ++ new → text ≡ text_of (is ++ i ∷ []) ++ new
 lines_push text rest new is i lines read = rw (text_of-push is i) (lines ∙ ap (λ x. text_of is ++ x) read ∙ sym (append_assoc (text_of is) (line_of i) new))
 
--- the first line of all, once another was read
+-- the first line of all, after another was read
 pub first_line : (text rest new : List ℕ) (is : List Insn) (i : Insn) → AreInstructions is → IsInstruction i → text ≡ text_of is ++ rest → rest ≡ line_of i ++ new → BeginsWithLine text
 unfolding text_of
 first_line text rest new [] i fits h lines read = record { first = i; rest = new; fits = h; line = lines ∙ read }
 first_line text rest new (j ∷ is) i fits h lines read = record { first = j; rest = text_of is ++ rest; fits = fits.0; line = lines ∙ text_of-cons j is rest }
 
--- no line's own fault is want of memory
+-- no line's own fault is a lack of memory
 pub at_line_says_no_memory : (n : ℕ) (fault : LineFault) → at_line n fault ≡ NoMemory → ⊥
 at_line_says_no_memory n UnknownName e = absurd cc
 at_line_says_no_memory n BadOperand e = absurd cc
 at_line_says_no_memory n OutOfRange e = absurd cc
 at_line_says_no_memory n Trailing e = absurd cc
 
--- each line takes a byte at least
+-- each line takes at least a byte
 pub line_shortens : (rest new : List ℕ) (i : Insn) → rest ≡ line_of i ++ new → length new < length rest
 line_shortens rest new i read =
     let parts : length rest ≡ length (line_of i ++ new) = ap length read in
     omega (arith, parts, length-append (line_of i) new, line_some i)
 
--- instructions that are no program, though few enough, are none, and so is their text
+-- instructions that are few enough and yet no program are none, so their text is empty
 pub empty_text : (text : List ℕ) (is : List Insn) → (IsProgram is → ⊥) → unit_count is ≤ PROGRAM_UNITS → text ≡ text_of is → text ≡ []
 unfolding text_of
 empty_text text [] none bounded lines = lines

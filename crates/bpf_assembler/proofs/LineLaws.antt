@@ -1,4 +1,4 @@
--- What was written is read again: numbers, operands and lines.
+-- Written text is read back: numbers, operands and lines.
 use Rattle.std.proofs.Common.{◌≡◌, ℕ, suc, ◌-◌, ◌^◌, ◌≤◌, ◌<◌, List, [], ◌∷◌, ◌++◌, length, refl, ap, ◌∙◌, arith, true, false, Ok, inl, inr}
 use Rattle.std.specs.Prelude.{decimal, nat_eq, ℤ, pos, negsuc}
 use Rattle.std.proofs.lemmas.Bool.Decides.{nat_tests}
@@ -11,7 +11,7 @@ use Rattle.bpf_assembler.specs.Text.{immediate, offset, register_text, operand}
 use Rattle.bpf_assembler.specs.Operands.{run, is_digit, begins_with, byte_at, register_at, positive_at, negative_at, FitsBelow, immediate_at, offset_at, operand_at, comma_at, dst_at, base_at, displacement_at}
 use Rattle.bpf_assembler.proofs.NumberLemmas.{AreDigits, own, number_again}
 
--- what comes is no digit
+-- the next byte is no digit
 abbrev pub Stops : List ℕ → Type 0
 Stops rest = run is_digit rest ≡ 0
 

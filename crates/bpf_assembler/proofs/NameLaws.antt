@@ -98,7 +98,7 @@ mnemonic_again JumpLong = refl
 mnemonic_again (Branch test width) = branch_again width test
 mnemonic_again Exit = refl
 
--- ---- what is read has the name
+-- ---- what was read has the name
 
 after_found : (front text rest : List ℕ) → rest_after front text ≡ Some rest → text ≡ front ++ rest
 unfolding rest_after

@@ -31,7 +31,7 @@ value_from-end ds k v total h before =
     let here : value_from v (drop k ds) ≡ v = rw (drop_all k ds h) refl in
     sym here ∙ before
 
--- where the next step passes a bound, so does the number
+-- if the next step passes a bound, so does the number
 pub value_from-passes : (ds : List ℕ) (k d v total : ℕ) → k < length ds → value_from v (drop k ds) ≡ total → v * 10 + (get_or ds k d - 48) ≤ total
 value_from-passes ds k d v total h before =
     let next = value_from-next ds k d v total h before in
@@ -48,7 +48,7 @@ digit_range c e = (grind (arith, nat_tests), grind (arith, nat_tests))
 range_digit : (c : ℕ) → 48 ≤ c → c ≤ 57 → is_digit c ≡ true
 range_digit c l h = grind (arith, nat_tests)
 
--- a run of digits has digits alone
+-- a run of digits has only digits
 pub AreDigits-run : (xs : List ℕ) → AreDigits (take (run is_digit xs) xs)
 unfolding run
 AreDigits-run [] = tt
@@ -104,13 +104,13 @@ is_numeral-decimal : (n : ℕ) → n < 2 ^ 64 → is_numeral (decimal n) ≡ tru
 is_numeral-decimal zero h = rw (decimal_digit 0 (omega arith)) refl
 is_numeral-decimal (suc n) h = is_numeral-of (decimal (suc n)) (decimal_nonempty (suc n) h) (λ e. absurd (omega (arith, e, first_decimal (suc n) (omega arith) h)))
 
--- what is read as a number was written as it
+-- digits read as a number are that number's text
 pub numeral_is_decimal : (ds : List ℕ) → AreDigits ds → is_numeral ds ≡ true → value_from 0 ds < 2 ^ 64 → decimal (value_from 0 ds) ≡ ds
 numeral_is_decimal ds all numeral small =
     let (some, one) = numeral_first ds numeral in
     decimal-digits_value own ds all some one small
 
--- and a number is read again
+-- and a number is read back
 pub number_again : (limit n : ℕ) (rest : List ℕ) → n ≤ limit → n < 2 ^ 64 → run is_digit rest ≡ 0 → number_at limit (decimal n ++ rest) ≡ Ok (n, rest)
 unfolding number_at
 number_again limit n rest bounded small stops =
@@ -119,7 +119,7 @@ number_again limit n rest bounded small stops =
     let within : nat_le n limit ≡ true = grind (arith, nat_tests) in
     rw (len, take_at (decimal n) rest (length (decimal n)) refl, drop_at (decimal n) rest (length (decimal n)) refl, is_numeral-decimal n small, value, within) refl
 
--- a number that was read is what stood there
+-- a number that was read is the one in the text
 pub number_found : (text ds rest : List ℕ) (n : ℕ) → ds ≡ take (run is_digit text) text → rest ≡ drop (run is_digit text) text → is_numeral ds ≡ true → n ≡ value_from 0 ds → n < 2 ^ 64
     → text ≡ decimal n ++ rest
 number_found text ds rest n front behind numeral value small =

@@ -1,4 +1,4 @@
--- The operands of each instruction are read again, and so are lines.
+-- The operands of each instruction are read back, and so are lines.
 use Rattle.std.proofs.Common.{◌≡◌, ℕ, ◌^◌, ◌-◌, List, ◌∷◌, ◌++◌, length, ◌<◌, refl, ap, sym, ◌∙◌, arith, length-append, Result, Ok, Err, append_assoc}
 use Rattle.std.specs.Prelude.{decimal, codes}
 use Rattle.std.proofs.lemmas.List.{take_at, drop_at}
@@ -104,7 +104,7 @@ operands_again Exit rest h stops = refl
 
 -- ---- lines
 
--- behind a name stands a blank, or at once the newline
+-- after a name comes a blank, or at once the newline
 operands_after_name : (i : Insn) (rest : List ℕ) → run is_name_byte (operands_of i ++ 10 ∷ rest) ≡ 0
 unfolding run operands_of
 operands_after_name (Alu op width dst src) rest = refl
@@ -120,7 +120,7 @@ newline_again : (rest : List ℕ) → newline_at (10 ∷ rest) ≡ Ok (tt, rest)
 unfolding newline_at
 newline_again rest = refl
 
--- a line is read again, whatever follows it
+-- a line is read back, whatever follows it
 pub line_again : (i : Insn) (rest : List ℕ) → IsInstruction i → line_at (line_of i ++ rest) ≡ Ok (i, rest)
 unfolding line_at line_of
 line_again i rest h =
@@ -153,7 +153,7 @@ line-first i j a b hi hj e =
     rest_in d (Ok x) = x.1
     rest_in d (Err e) = d
 
--- a line has its newline at least
+-- a line has at least its newline
 pub line_some : (i : Insn) → 0 < length (line_of i)
 unfolding line_of
 line_some i = omega (arith, length-append (name_of (mnemonic_of i) ++ operands_of i) (codes "\n"))

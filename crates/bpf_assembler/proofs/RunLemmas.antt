@@ -22,7 +22,7 @@ run-within has (c ∷ cs) = elim (test_of (has c)) [
   | inr e ↦ rw e (omega arith)
 ]
 
--- up to the first that has it not, or else all of them
+-- up to the first that doesn't have it, or else all of them
 pub run-position : (has : ℕ → Bool) (xs : List ℕ) → unwrap_or (position (λ c. not (has c)) xs) (length xs) ≡ run has xs
 run-position has xs = elim (test_of (nat_lt (run has xs) (length xs))) [
   | inl e ↦ rw (first_without has xs, e) refl
@@ -31,7 +31,7 @@ run-position has xs = elim (test_of (nat_lt (run has xs) (length xs))) [
       rw (first_without has xs, e) (omega (arith, all, run-within has xs))
 ]
 
--- a front of such bytes and what begins with another one are told apart
+-- splits off a front of such bytes, if the next byte is of another kind
 pub run-front : (has : ℕ → Bool) (xs rest : List ℕ) → AllByRecursion (λ c. has c ≡ true) xs → run has rest ≡ 0 → run has (xs ++ rest) ≡ length xs
 unfolding run
 run-front has [] rest all stops = stops

@@ -1,4 +1,4 @@
--- What `{:+}` writes.
+-- The text that `{:+}` writes.
 use Rattle.std.proofs.Common.{◌≡◌, ℕ, suc, ◌-◌, List, [], ◌∷◌, length, ap, arith, true, false, ltb}
 use Rattle.std.specs.Prelude.{ℤ, pos, negsuc, decimal}
 use Rattle.std.specs.Fmt.{format_spec, styled_signed_decimal, padded_integral, char_count}
@@ -6,7 +6,7 @@ use Rattle.std.proofs.lemmas.Bool.{le-ltb}
 use Rattle.std.proofs.lemmas.List.{append-nil}
 use Rattle.bpf_assembler.specs.Text.{offset}
 
--- without a width nothing is filled in
+-- without a width nothing is padded
 plus_alone : (digits : List ℕ) → padded_integral (format_spec 32 0 1 0 18446744073709551615) false [] digits ≡ 43 ∷ digits
 unfolding padded_integral
 plus_alone digits =

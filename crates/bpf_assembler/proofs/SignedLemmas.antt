@@ -8,7 +8,7 @@ less_than_zero : (m : ℕ) → negsuc 0 -ℤ pos m ≡ negsuc m
 less_than_zero zero = refl
 less_than_zero (suc k) = let e : 0 + k ≡ k = omega arith in ap (λ j. negsuc (suc j)) e
 
--- one less than the negation of a small number
+-- the negation of a small number, less one
 pub negated : (m : ℕ) → m < 2 ^ 31 → to_z w32 (of_z w32 (negsuc 0 -ℤ to_z w32 m)) ≡ negsuc m
 negated m small =
     let fits : FitsSigned w32 (negsuc m) = record { sfits = omega arith } in

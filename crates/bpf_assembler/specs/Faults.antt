@@ -1,4 +1,4 @@
--- Which line of a text is the first faulty one, and what is wrong with it.
+-- Which line of a text is the first faulty one, and its fault.
 use Rattle.std.specs.Prelude.{◌≡◌, ℕ, zero, suc, codes, decimal, ◌+◌, ◌<◌, ◌≤◌, ◌⊎◌, List, [], ◌++◌, length, Ok, Err}
 use Rattle.bpf_model.specs.declared.limits.TheConstants.{PROGRAM_UNITS}
 use Rattle.bpf_model.specs.declared.instruction.Insn.{Insn}
@@ -12,7 +12,7 @@ use Rattle.bpf_assembler.specs.Text.{line_of, text_of}
 use Rattle.bpf_assembler.specs.Operands.{Read}
 use Rattle.bpf_assembler.specs.Reading.{line_at}
 
--- the number under which a fault is printed
+-- the number with which a fault is printed
 abbrev pub asm_fault_number : AsmFault → ℕ
 asm_fault_number NoMemory = 9
 asm_fault_number (UnknownName line) = 20
@@ -30,7 +30,7 @@ line_number (OutOfRange line) = line
 line_number (Trailing line) = line
 line_number (BadCount line) = line
 
--- what is printed of it
+-- the text of a fault
 abbrev pub asm_fault_message : AsmFault → List ℕ
 asm_fault_message NoMemory = codes "no memory"
 asm_fault_message (UnknownName line) = codes "unknown name in line " ++ decimal line
@@ -47,12 +47,12 @@ at_line n line.BadOperand = BadOperand n
 at_line n line.OutOfRange = OutOfRange n
 at_line n line.Trailing = Trailing n
 
--- the fault that is met first in a line, read from left to right; a line without one can pass the units alone
+-- the first fault in a line, read from left to right; a line without one can only pass the units
 abbrev pub fault_in : Read Insn → ℕ → AsmFault
 fault_in (Err fault) n = at_line n fault
 fault_in (Ok read) n = BadCount n
 
--- behind lines of instructions, of PROGRAM_UNITS units at most, stands a line that is no instruction's, or one whose
+-- after lines of instructions, of PROGRAM_UNITS units at most, comes a line that is no instruction's, or one whose
 -- instruction passes PROGRAM_UNITS
 pub record IsFaultyLine (text : List ℕ) (fault : AsmFault) : Type 0 where
   pub front : List Insn

@@ -1,4 +1,4 @@
--- The names of instructions: a word for what is done, and one for the width, the size or the kind.
+-- The names of instructions: a word for the operation, and one for the width, the size or the kind.
 use Rattle.std.specs.Prelude.{ℕ, List, [], ◌∷◌, ◌++◌, codes, map}
 use Rattle.bpf_model.specs.declared.operations.AluOp.{AluOp}
 use Rattle.bpf_model.specs.declared.operations.AluOp.TheVariants.{Add, Sub, Mul, Div, SDiv, Or, And, Lsh, Rsh, Mod, SMod, Xor, Arsh}
@@ -64,7 +64,7 @@ size_word HalfWord = codes "h"
 size_word Word = codes "w"
 size_word DoubleWord = codes "d"
 
--- with a sign where the bytes read have one
+-- with a sign if the bytes read have one
 abbrev pub kind_word : LoadKind → List ℕ
 kind_word LoadByte = codes "b"
 kind_word LoadHalfWord = codes "h"
@@ -87,7 +87,7 @@ test_word Le = codes "jle"
 test_word SLt = codes "jslt"
 test_word SLe = codes "jsle"
 
--- the word for what is done
+-- the word for the operation
 abbrev pub stem_word : Stem → List ℕ
 stem_word (stem.Alu op) = alu_word op
 stem_word stem.Negate = codes "neg"
@@ -103,7 +103,7 @@ stem_word stem.JumpLong = codes "jal"
 stem_word (stem.Branch test) = test_word test
 stem_word stem.Exit = codes "exit"
 
--- what is done
+-- the operation
 abbrev pub stem_of : Mnemonic → Stem
 stem_of (Alu op width) = stem.Alu op
 stem_of (Negate width) = stem.Negate
@@ -119,7 +119,7 @@ stem_of JumpLong = stem.JumpLong
 stem_of (Branch test width) = stem.Branch test
 stem_of Exit = stem.Exit
 
--- the word for the width, the size or the kind, where it has one
+-- the word for the width, the size or the kind, if it has one
 abbrev pub suffix_of : Mnemonic → List ℕ
 suffix_of (Alu op width) = width_word width
 suffix_of (Negate width) = width_word width

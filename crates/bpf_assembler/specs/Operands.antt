@@ -1,12 +1,12 @@
--- Reading a line from left to right, with the first fault that is met: its bytes, numbers and operands. The grammar itself
--- is Text.antt: only which number a faulty line gets rests on this file.
+-- Reading a line from left to right up to the first fault: its bytes, numbers and operands. Text.antt is the grammar; this
+-- file only decides which number a faulty line gets.
 use Rattle.std.specs.Prelude.{◌≡◌, IfOk, ◌++◌, ℕ, suc, ◌+◌, ◌-◌, ◌*◌, ◌^◌, ◌<◌, Bool, false, not, ◌&&◌, ◌||◌, List, [], ◌∷◌, length, take, drop, Result, Ok, Err, nat_eq, nat_le, if◌then◌else◌, ℤ, pos, negsuc}
 use Rattle.bpf_model.specs.declared.instruction.Operand.{Operand}
 use Rattle.bpf_model.specs.declared.instruction.Operand.TheVariants.{Register, Immediate}
 use Rattle.bpf_assembler.specs.declared.fault.LineFault.{LineFault}
 use Rattle.bpf_assembler.specs.declared.fault.LineFault.TheVariants.{BadOperand, OutOfRange}
 
--- what was read and the bytes after it, or the fault
+-- the value read and the bytes after it, or the fault
 abbrev pub Read : Type 0 → Type 0
 Read A = Result (A × List ℕ) LineFault
 
@@ -15,12 +15,12 @@ abbrev pub ◌>>=◌ : {A B : Type 0} → Result A LineFault → (A → Result B
 (Ok x) >>= f = f x
 (Err e) >>= f = Err e
 
--- a call returned what reading gives, and stands before the rest
+-- a call returned what reading gives, and stops before the rest
 abbrev pub Gives : {A : Type 0} → List ℕ → Result A LineFault → Read A → Type 0
 Gives rest (Ok x) read = read ≡ Ok (x, rest)
 Gives rest (Err e) read = read ≡ Err e
 
--- a call that returned what fits took its text
+-- if a call returned a value that fits, it took its text
 abbrev pub TakesText : {A : Type 0} → (A → List ℕ) → (A → Type 0) → List ℕ → List ℕ → Result A LineFault → Type 0
 TakesText text fits old new result = IfOk result (λ x. (old ≡ text x ++ new) × fits x)
 
@@ -37,7 +37,7 @@ unfoldable pub value_from : ℕ → List ℕ → ℕ
 value_from n [] = n
 value_from n (c ∷ cs) = value_from (10 * n + (c - 48)) cs
 
--- digits, the first of several no zero
+-- digits; if there are several, the first isn't zero
 abbrev pub is_numeral : List ℕ → Bool
 is_numeral [] = false
 is_numeral (c ∷ cs) = not (nat_eq c 48) || nat_eq (length cs) 0
@@ -50,7 +50,7 @@ begins_with b (c ∷ rest) = nat_eq c b
 unfoldable pub byte_at : ℕ → List ℕ → Read (Unit {0})
 byte_at b text = if begins_with b text then Ok (tt, drop 1 text) else Err BadOperand
 
--- a number, the whole run of its digits
+-- a number: the whole run of its digits
 unfoldable pub number_at : ℕ → List ℕ → Read ℕ
 number_at limit text =
     let digits = take (run is_digit text) text in
@@ -62,7 +62,7 @@ register_at text = do
   r ← byte_at 114 text
   number_at 10 r.1
 
--- a number after its sign; half is the first that its field hasn't
+-- a number after its sign; half is the first one too large for its field
 unfoldable pub positive_at : ℕ → List ℕ → Read ℤ
 positive_at half text = do
   n ← number_at (half - 1) text
@@ -73,7 +73,7 @@ negative_at half text = do
   n ← number_at half text
   if nat_eq n.0 0 then Err BadOperand else Ok (negsuc (n.0 - 1), n.1)
 
--- from half less than zero to one below half
+-- from -half to half - 1
 abbrev pub FitsBelow : ℕ → ℤ → Type 0
 FitsBelow half (pos n) = n < half
 FitsBelow half (negsuc n) = n < half

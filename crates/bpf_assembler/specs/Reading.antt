@@ -1,5 +1,5 @@
--- Reading a line from left to right, with the first fault that is met: its name, the operands of each name, and its
--- newline. The grammar itself is Text.antt: only which number a faulty line gets rests on this file and on Operands.antt.
+-- Reading a line from left to right up to the first fault: its name, the operands of each name, and its newline.
+-- Text.antt is the grammar; this file and Operands.antt only decide which number a faulty line gets.
 use Rattle.std.specs.Prelude.{◌≡◌, IfOk, ◌++◌, ℕ, ◌-◌, ◌^◌, Bool, not, ◌&&◌, List, [], ◌∷◌, length, take, drop, Option, Some, None, Result, Ok, Err, nat_eq, if◌then◌else◌, bytes_eq, option_map, option_and_then, find}
 use Rattle.std.specs.Option.{option_or}
 use Rattle.bpf_model.specs.declared.instruction.Operand.TheVariants.{Register, Immediate}
@@ -16,7 +16,7 @@ use Rattle.bpf_assembler.specs.Text.{mnemonic_of, operands_of}
 use Rattle.bpf_assembler.specs.Names.{width_word, swap_word, extension_word, size_word, kind_word, stem_word, widths, swap_widths, extensions, sizes, kinds, stems}
 use Rattle.bpf_assembler.specs.Operands.{Read, ◌>>=◌, run, begins_with, byte_at, number_at, register_at, immediate_at, offset_at, operand_at, comma_at, dst_at, base_at, displacement_at}
 
--- a call that returned an instruction of this name took its operands
+-- if a call returned an instruction of this name, it took its operands
 abbrev pub TakesOperands : Mnemonic → List ℕ → List ℕ → Result Insn LineFault → Type 0
 TakesOperands m old new result = IfOk result (λ i. (old ≡ operands_of i ++ new) × (mnemonic_of i ≡ m) × IsInstruction i)
 
@@ -24,7 +24,7 @@ TakesOperands m old new result = IfOk result (λ i. (old ≡ operands_of i ++ ne
 abbrev pub is_name_byte : ℕ → Bool
 is_name_byte c = not (nat_eq c 32) && not (nat_eq c 10)
 
--- what stands behind the front
+-- the bytes after the front
 unfoldable pub rest_after : List ℕ → List ℕ → Option (List ℕ)
 rest_after front text = if bytes_eq (take (length front) text) front then Some (drop (length front) text) else None
 
@@ -32,7 +32,7 @@ rest_after front text = if bytes_eq (take (length front) text) front then Some (
 abbrev pub named_at : {A : Type 0} → (A → List ℕ) → List A → List ℕ → Option A
 named_at word all text = find (λ x. bytes_eq (word x) text) all
 
--- the instruction that is named by a word for what is done and by this suffix
+-- the instruction with this word for the operation and this suffix
 abbrev pub suffixed_at : Stem → List ℕ → Option Mnemonic
 suffixed_at (stem.Alu op) text = option_map (λ w. Alu op w) (named_at width_word widths text)
 suffixed_at stem.Negate text = option_map Negate (named_at width_word widths text)
@@ -48,7 +48,7 @@ suffixed_at stem.JumpLong text = if nat_eq (length text) 0 then Some JumpLong el
 suffixed_at (stem.Branch test) text = option_map (λ w. Branch test w) (named_at width_word widths text)
 suffixed_at stem.Exit text = if nat_eq (length text) 0 then Some Exit else None
 
--- the instruction of the first word for what is done that its name begins with
+-- the instruction made with the first operation's word that its name begins with
 unfoldable pub mnemonic_at : List Stem → List ℕ → Option Mnemonic
 mnemonic_at [] name = None
 mnemonic_at (s ∷ others) name = option_or (option_and_then (suffixed_at s) (rest_after (stem_word s) name)) (mnemonic_at others name)

@@ -1,5 +1,5 @@
--- The canonical text of a program: one instruction a line. An instruction is a name and, where there are operands,
--- one blank and the operands, with a comma and one blank between them.
+-- The canonical text of a program: one instruction per line. An instruction is a name and, if there are operands, one
+-- blank and the operands, with a comma and one blank between them.
 use Rattle.std.specs.Prelude.{◌≡◌, ℕ, suc, List, [], ◌++◌, codes, decimal, ℤ, pos, negsuc}
 use Rattle.std.specs.List.{flat_map}
 use Rattle.bpf_model.specs.declared.instruction.Operand.{Operand}
@@ -12,12 +12,12 @@ use Rattle.bpf_assembler.specs.declared.mnemonic.Mnemonic.{Mnemonic}
 use Rattle.bpf_assembler.specs.declared.mnemonic.Mnemonic.TheVariants.{Alu, Negate, Mov, SignExtend, Reorder, Wide, Load, Store, StoreImmediate, Jump, JumpLong, Branch, Exit}
 use Rattle.bpf_assembler.specs.Names.{name_of}
 
--- an immediate: decimal, with a sign where it is negative
+-- an immediate: decimal, with a sign if it is negative
 abbrev pub immediate : ℤ → List ℕ
 immediate (pos n) = decimal n
 immediate (negsuc n) = codes "-" ++ decimal (suc n)
 
--- an offset or a distance: decimal, with its sign always
+-- an offset or a distance: decimal, always with a sign
 abbrev pub offset : ℤ → List ℕ
 offset (pos n) = codes "+" ++ decimal n
 offset (negsuc n) = codes "-" ++ decimal (suc n)

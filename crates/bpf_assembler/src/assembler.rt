@@ -46,16 +46,16 @@ fn instructions(alloc: Global, text: &[u8]) -> Result<Vec<Insn>, AsmFault>
     Ok(instructions)
 }
 
-/// The program whose canonical text this is; else the first faulty line, and what is wrong with it. Asks for memory
-/// for the program alone, and only when a line was read.
+/// Returns the program whose canonical text this is. Otherwise returns the first faulty line and its fault. Asks for
+/// memory for the program alone, and only after a line was read.
 pub fn assemble(alloc: Global, text: &str) -> Result<Program, AsmFault>
-    // What is read has this text.
+    // If a program is read, this is its text.
     ensures found { IfOk result (IsTextOf text.now) }
-    // A program that has this text is read, unless memory is refused.
+    // A program with this text is read, unless memory is refused.
     ensures only { (p : List Insn) → IsTextOf text.now p → GivesUnless NoMemory result (Ok p) }
     // Which line is refused, and why.
     ensures first_fault { IfErr result (λ e. (e ≡ NoMemory) ⊎ IsFirstAsmFault text.now e) }
-    // Memory can be refused only where a line was read.
+    // Memory can be refused only after a line was read.
     ensures memory { result ≡ Err NoMemory → BeginsWithLine text.now }
     // A text with a faulty line is refused.
     ensures refused { (e : AsmFault) → IsFirstAsmFault text.now e

@@ -1,11 +1,11 @@
-//! What is left of a text, of which bytes are taken from the front.
+//! The rest of a text. You take bytes from its front.
 ghost use Rattle.std.specs.Prelude.{◌≡◌, ◌≤◌, ◌++◌, ◌∷◌, take, drop, length, codes, OnOk, IsTrue, nat_eq, if◌then◌else◌};
 ghost use Rattle.bpf_assembler.specs.Operands.{Gives, run, is_digit, begins_with, byte_at};
 ghost use Rattle.bpf_assembler.specs.Reading.{is_name_byte, newline_at};
 
 use crate::fault::LineFault;
 
-/// What is left of a text.
+/// The rest of a text.
 #[derive(Drop)]
 pub(crate) struct Cursor<'a> {
     rest: &'a [u8],
@@ -40,21 +40,21 @@ fn name_length(text: &[u8]) -> usize
 }
 
 impl<'a> Cursor<'a> {
-    /// All of a text.
+    /// Starts at the front of a text.
     pub(crate) fn new(text: &'a [u8]) -> Cursor<'a>
         ensures { result.rest.now ≡ text.now }
     {
         Cursor { rest: text }
     }
 
-    /// Whether nothing is left.
+    /// Tests whether nothing is left.
     pub(crate) fn is_done(&self) -> bool
         ensures { result ≡ nat_eq (length self.now.rest.now) 0 }
     {
         self.rest.is_empty()
     }
 
-    /// Whether this byte is next.
+    /// Tests whether this byte is next.
     pub(crate) fn begins_with(&self, byte: u8) -> bool
         ensures { result ≡ begins_with byte self.now.rest.now }
     {
@@ -64,7 +64,7 @@ impl<'a> Cursor<'a> {
         }
     }
 
-    /// Takes this byte where it is next, and tells whether it was.
+    /// Takes this byte if it is next, and returns whether it was.
     pub(crate) fn take(&mut self, byte: u8) -> bool
         ensures value { result ≡ begins_with byte self.old.rest.now }
         ensures rest { self.new.rest.now
@@ -99,7 +99,7 @@ impl<'a> Cursor<'a> {
         name
     }
 
-    /// Takes this byte, which has to be next.
+    /// Takes this byte; a fault if another is next.
     #[tactic(auto, unfolding(crate::specs::Operands::byte_at))]
     pub(crate) fn byte(&mut self, byte: u8) -> Result<(), LineFault>
         ensures exact { Gives self.new.rest.now result (byte_at byte self.old.rest.now) }

@@ -9,26 +9,26 @@ use std::alloc::AllocError;
 use std::error::Error;
 use std::fmt;
 
-/// What is wrong with a text, and in which line; lines are counted from 1.
+/// A fault in a text, and its line; lines are counted from 1.
 #[derive(Clone, Copy, Debug, PartialEq, Eq)]
 pub enum AsmFault {
-    /// A request for memory was refused: number 9. It says nothing of the text.
+    /// A request for memory was refused: number 9. It says nothing about the text.
     NoMemory,
     /// The bytes up to the first blank, newline or end are no name: number 20, in this line.
     UnknownName(usize),
     /// An operand, a separator or the blank after the name is missing or ill-formed, a number has a needless zero, or
-    /// zero a minus: number 21, in this line.
+    /// zero has a minus: number 21, in this line.
     BadOperand(usize),
     /// A well-formed number that doesn't fit its field: number 22, in this line.
     OutOfRange(usize),
-    /// After the last operand stands anything but a newline, the end of the text included: number 23, in this line.
+    /// The last operand is not followed by a newline, or the text ends there: number 23, in this line.
     Trailing(usize),
-    /// Number 24: this line's instruction passes `PROGRAM_UNITS`, or there is no line at all, in line 0.
+    /// Number 24: this line's instruction passes `PROGRAM_UNITS`, or there is no line at all (line 0).
     BadCount(usize),
 }
 
 impl AsmFault {
-    /// The number under which the fault is printed, 9 or 20 to 24.
+    /// Returns the number with which the fault is printed, 9 or 20 to 24.
     pub fn number(&self) -> u8
         ensures { result ≡ asm_fault_number self.now }
     {
@@ -42,7 +42,7 @@ impl AsmFault {
         }
     }
 
-    /// The line that has the fault, counted from 1; 0 where no line has it.
+    /// Returns the line with the fault, counted from 1; 0 if no line has it.
     pub fn line(&self) -> usize
         ensures { result ≡ line_number self.now }
     {
@@ -86,7 +86,7 @@ impl From<AllocError> for AsmFault {
     }
 }
 
-/// What is wrong with one line: the first fault from left to right.
+/// A fault in one line: the first from left to right.
 #[derive(Clone, Copy, Debug, PartialEq, Eq)]
 pub(crate) enum LineFault {
     UnknownName,

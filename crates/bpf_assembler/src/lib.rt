@@ -1,12 +1,12 @@
-//! Programs from text, and text from programs: one instruction a line.
+//! Programs from text, and text from programs: one instruction per line.
 //!
-//! The promise to the layers above: `assemble` answers a program exactly where the text is its canonical text (clauses
-//! `found` and `only`), and exactly where a line is faulty names the first one (`first_fault` and `refused`), want of
-//! memory aside, which comes only behind a line that was read (`memory`). `disassemble` gives the canonical text
-//! (`text`). So each undoes the other. `instruction_text` gives that of one instruction (`text`). The grammar, by its
-//! forms, is `specs/Text.antt` over the names of `specs/Names.antt`; it knows nothing of reading. Which of the faults a
-//! line has is the one met first from left to right (`specs/Reading.antt` over `specs/Operands.antt`). No call waits;
-//! all ask for memory for their results alone.
+//! The promise to the layers above: `assemble` answers a program exactly if the text is its canonical text (clauses
+//! `found` and `only`). Exactly if a line is faulty, it names the first one (`first_fault` and `refused`). The
+//! exception is a refusal of memory, which can come only after a line was read (`memory`). `disassemble` gives the
+//! canonical text (`text`), so each undoes the other. `instruction_text` gives the text of one instruction (`text`).
+//! `specs/Text.antt` defines the grammar by its forms, with the names of `specs/Names.antt`; it says nothing about
+//! reading. A line's fault is the first one from left to right (`specs/Reading.antt`, which uses
+//! `specs/Operands.antt`). No call waits; all ask for memory only for their results.
 #![tactic(auto)]
 
 mod assembler;

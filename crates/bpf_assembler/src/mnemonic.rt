@@ -9,7 +9,7 @@ use bpf_model::{
     AccessSize, AluOp, ByteOrder, Insn, JumpOp, LoadKind, Operand, SignExtension, SwapWidth, Width,
 };
 
-/// What an instruction does, without its width, size or kind.
+/// An operation, without its width, size or kind.
 #[derive(Clone, Copy, Debug, PartialEq, Eq)]
 pub(crate) enum Stem {
     Alu(AluOp),
@@ -37,9 +37,9 @@ pub(crate) enum Mnemonic {
     Reorder(ByteOrder, SwapWidth),
     Wide,
     Load(LoadKind),
-    /// From a register.
+    /// Stores a register.
     Store(AccessSize),
-    /// Of an immediate.
+    /// Stores an immediate.
     StoreImmediate(AccessSize),
     Jump,
     JumpLong,
@@ -111,7 +111,7 @@ impl Named for Stem {
 }
 
 impl Stem {
-    /// The instruction of this name, where the name begins with the stem's word.
+    /// Returns the instruction of this name, if the name begins with the stem's word.
     #[tactic(auto, unfolding(crate::specs::Reading::rest_after))]
     fn named_in(self, name: &[u8]) -> Option<Mnemonic>
         ensures { result ≡ option_and_then (suffixed_at self) (rest_after (stem_word self) name.now) }
@@ -119,7 +119,8 @@ impl Stem {
         self.with_suffix(name.strip_prefix(self.word().as_bytes())?)
     }
 
-    /// What the rest of a name makes of it; none where that is no width, size or kind of its.
+    /// Returns the instruction that the rest of a name makes with this stem, or `None` if the rest isn't one of its
+    /// widths, sizes or kinds.
     fn with_suffix(self, text: &[u8]) -> Option<Mnemonic>
         ensures { result ≡ suffixed_at self text.now }
     {
@@ -143,7 +144,7 @@ impl Stem {
     }
 }
 
-/// The instruction of this name with the first of the stems that makes one.
+/// Returns the instruction of this name, made with the first of the stems that fits.
 fn first_named(stems: &[Stem], name: &[u8]) -> Option<Mnemonic>
     ensures { result ≡ mnemonic_at stems.now name.now }
 {
@@ -186,14 +187,14 @@ impl Mnemonic {
         }
     }
 
-    /// The instruction of this name; none where the bytes are no name.
+    /// Returns the instruction of this name, or `None` if the bytes are no name.
     pub(crate) fn from_name(name: &[u8]) -> Option<Mnemonic>
         ensures { result ≡ mnemonic_at stems name.now }
     {
         first_named(&STEMS, name)
     }
 
-    /// The first part of the name: what is done.
+    /// Returns the first part of the name: the operation.
     pub(crate) fn stem(self) -> Stem
         ensures { result ≡ stem_of self }
     {
@@ -214,7 +215,7 @@ impl Mnemonic {
         }
     }
 
-    /// The last part of the name: at which width, size or kind.
+    /// Returns the last part of the name: its width, size or kind.
     pub(crate) fn suffix(self) -> &'static str
         ensures { result.now ≡ suffix_of self }
     {

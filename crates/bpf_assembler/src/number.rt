@@ -17,7 +17,7 @@ fn is_numeral(digits: &[u8]) -> bool
     }
 }
 
-/// The number of the digits; none above the limit.
+/// Returns the number of the digits, or `None` if it is above the limit.
 fn value_within(digits: &[u8], limit: u64) -> Option<u64>
     requires { All (λ c. (48 ≤ c) × (c ≤ 57)) digits.now }
     ensures some { IfSome result (λ n. (n ≡ value_from 0 digits.now) × (n ≤ limit)) }
@@ -33,7 +33,7 @@ fn value_within(digits: &[u8], limit: u64) -> Option<u64>
 }
 
 impl<'a> Cursor<'a> {
-    /// Takes a number without needless zeros, which is at most the limit.
+    /// Takes a number without needless zeros, at most the limit.
     #[tactic(auto, unfolding(crate::specs::Operands::number_at))]
     pub(crate) fn number(&mut self, limit: u64) -> Result<u64, LineFault>
         ensures exact { Gives self.new.rest.now result (number_at limit self.old.rest.now) }
@@ -60,7 +60,7 @@ impl<'a> Cursor<'a> {
         Ok(Reg::new(number as u8).unwrap())
     }
 
-    /// Takes a number that is no negative one, below half the numbers of its field.
+    /// Takes a number without a minus, below half the numbers of its field.
     #[tactic(auto, unfolding(crate::specs::Operands::positive_at))]
     fn positive(&mut self, half: u32) -> Result<i32, LineFault>
         requires some { 1 ≤ half }
@@ -73,7 +73,7 @@ impl<'a> Cursor<'a> {
         Ok(number as i32)
     }
 
-    /// Takes the rest of a negative number, behind its sign.
+    /// Takes the rest of a negative number, after its sign.
     #[tactic(auto, unfolding(crate::specs::Operands::negative_at))]
     fn negative(&mut self, half: u32) -> Result<i32, LineFault>
         requires bounded { half ≤ 2 ^ 31 }
@@ -102,7 +102,7 @@ impl<'a> Cursor<'a> {
         }
     }
 
-    /// Takes a number with its sign, from `half` less than zero to one below `half`.
+    /// Takes a number with its sign, from `-half` to `half - 1`.
     #[tactic(auto, unfolding(crate::specs::Operands::offset_at))]
     fn signed(&mut self, half: u32) -> Result<i32, LineFault>
         requires some { 1 ≤ half }

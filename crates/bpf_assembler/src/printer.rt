@@ -128,7 +128,7 @@ fn write_line(text: &mut String, insn: &Insn) -> Result<(), AllocError>
     text.push_str("\n")
 }
 
-/// The canonical text of one instruction: its line without the newline. Asks for memory for the text alone.
+/// Returns the canonical text of one instruction: its line without the newline. Asks for memory only for the text.
 pub fn instruction_text(alloc: Global, insn: &Insn) -> Result<String, NoMemory>
     ensures text { IfOk result (λ text. string_bytes text ≡ instruction_text insn.now) }
 {
@@ -138,7 +138,7 @@ pub fn instruction_text(alloc: Global, insn: &Insn) -> Result<String, NoMemory>
     Ok(text)
 }
 
-/// The canonical text of a program, which `assemble` reads back. Asks for memory for the text alone.
+/// Returns the canonical text of a program; `assemble` reads it back. Asks for memory only for the text.
 #[tactic(auto, unfolding(crate::specs::Text::text_of))]
 pub fn disassemble(alloc: Global, program: &Program) -> Result<String, NoMemory>
     ensures text { IfOk result (λ text. IsTextOf (string_bytes text) program.now) }

@@ -5,25 +5,25 @@ ghost use Rattle.bpf_assembler.specs.Reading.{named_at};
 
 use bpf_model::{AccessSize, AluOp, ByteOrder, JumpOp, LoadKind, SignExtension, SwapWidth, Width};
 
-/// What has a word of its own in names of instructions.
+/// A thing with a word of its own in names of instructions.
 pub(crate) trait Named: Copy {
     ghost text: { Self → List ℕ };
 
-    /// Its word.
+    /// Returns its word.
     fn word(self) -> &'static str
         ensures { result.now ≡ text self };
 }
 
-/// What can be found by its word.
+/// A thing that can be found by its word.
 pub(crate) trait Listed: Named {
     ghost values: { List Self };
 
-    /// All there are.
+    /// Returns all of them.
     fn all() -> &'static [Self]
         ensures { result.now ≡ values };
 }
 
-/// What has this word; none where nothing has it.
+/// Returns the item with this word, or `None` if no item has it.
 pub(crate) fn with_word<T: Listed + 'static>(text: &[u8]) -> Option<T>
     ensures { result ≡ named_at T.text T.values text.now }
 {

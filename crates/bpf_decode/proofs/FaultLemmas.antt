@@ -29,11 +29,11 @@ is_a_unit f xs e =
     let none : 0 ≡ length (unit_bytes f ++ xs) = ap length e in
     omega (arith, none, length-append (unit_bytes f) xs, length-unit_bytes f)
 
--- a value that is there and not there
+-- a value that is both present and absent
 is_both : {A : Type 0} (o : Option A) (x : A) → o ≡ None → o ≡ Some x → ⊥
 is_both o x n s = cc
 
--- what comes after a wide instruction's first half is its second, which has no fault
+-- after a wide instruction's first half comes its second, which has no fault
 second_is_faultless : (value : ℕ) (xs ys : List ℕ) (fault : UnitFault) → IsWord value → HasSecondFault ys fault → unit_bytes (second_unit value) ++ xs ≡ ys → ⊥
 second_is_faultless value xs ys fault word (inl (cut, none)) e = is_a_unit (second_unit value) xs (sym none ∙ sym e)
 second_is_faultless value xs ys fault word (inr (unused, more)) e =
@@ -99,7 +99,7 @@ spelled_is_faultless (i ∷ p) (j ∷ q) f xs fault is-p is-q fit faulty e =
     let first = spelling-first i j _ _ is-p.0 is-q.0 both in
     spelled_is_faultless p q f xs fault is-p.1 is-q.1 fit faulty first.1
 
--- how many bytes there are, where their number has no fault
+-- how many bytes there are, if their number has no fault
 length_fault-none : (bytes : List ℕ) → length_fault bytes ≡ None → (0 < length bytes) × (length bytes % 8 ≡ 0) × (length bytes / 8 ≤ PROGRAM_UNITS)
 length_fault-none bytes h =
     elim (test_of (nat_eq (length bytes) 0)) [
@@ -148,7 +148,7 @@ unfolding unit_count
 some_units [] h = absurd (omega (arith, h))
 some_units (i ∷ is) h = omega arith
 
--- bytes of a program's length that are instructions and less than a unit are the instructions alone
+-- if fewer bytes than a unit are left after instructions, and the length is a program's, nothing is left
 pub Spells-all : (bytes rest : List ℕ) (is : List Insn) → length_fault bytes ≡ None → AreInstructions is → bytes ≡ spelling_of_all is ++ rest → length rest < 8 → Spells bytes is
 Spells-all bytes rest is h fits e short =
     let len : length bytes ≡ 8 * unit_count is + length rest = ap length e ∙ length-append (spelling_of_all is) rest ∙ omega (arith, length-spelling_of_all is) in
@@ -160,7 +160,7 @@ Spells-all bytes rest is h fits e short =
       bytes = e ∙ ap (λ (x : List ℕ). spelling_of_all is ++ x) nothing ∙ append-nil (spelling_of_all is);
     }
 
--- an answer that is a program that is spelled, or the first fault, or a refusal of memory
+-- an answer that is the spelled program, the first fault, or a refusal of memory
 pub record IsTrueOf (bytes : List ℕ) (result : Result (List Insn) DecodeFault) : Type 0 where
   pub found : IfOk result (Spells bytes)
   pub first_fault : IfErr result (λ e. (e ≡ NoMemory) ⊎ IsFirstDecodeFault bytes e)
@@ -170,7 +170,7 @@ pub IsTrueOf-passed : (bytes : List ℕ) (e : DecodeFault) (result : Result (Lis
 IsTrueOf-passed bytes e (Ok q) passed h = absurd passed
 IsTrueOf-passed bytes e (Err x) passed h = record { found = tt; first_fault = rw passed h }
 
--- where a program is spelled no other answer is true
+-- if a program is spelled, no other answer is true
 pub only_program : (bytes : List ℕ) (p : List Insn) (result : Result (List Insn) DecodeFault) → IsTrueOf bytes result → Spells bytes p → GivesUnless NoMemory result (Ok p)
 only_program bytes p (Ok q) h spells = inr (ap (λ (x : List Insn). Ok x) (spelled_once bytes q p h.found spells))
 only_program bytes p (Err e) h spells = elim h.first_fault [
@@ -178,7 +178,7 @@ only_program bytes p (Err e) h spells = elim h.first_fault [
   | inr faulty ↦ absurd (spelled_has_no_fault bytes p e spells faulty)
 ]
 
--- where there is a first fault no other answer is true
+-- if there is a first fault, no other answer is true
 pub only_fault : (bytes : List ℕ) (fault : DecodeFault) (result : Result (List Insn) DecodeFault) → IsTrueOf bytes result → IsFirstDecodeFault bytes fault → GivesUnless NoMemory result (Err fault)
 only_fault bytes fault (Ok q) h first = absurd (spelled_has_no_fault bytes q fault h.found first)
 only_fault bytes fault (Err e) h first = elim h.first_fault [

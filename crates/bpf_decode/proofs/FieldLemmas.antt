@@ -1,4 +1,4 @@
--- The fields of instructions fit, have no fault, and tell the instruction.
+-- The fields of instructions fit, have no fault, and determine the instruction.
 use Rattle.std.proofs.Common.{◌≡◌, ℕ, ◌/◌, ◌%◌, ◌^◌, ◌<◌, ◌≤◌, Bool, false, true, ◌&&◌, not, List, [], ◌++◌, Option, Some, None, refl, sym, ap, ◌∙◌, arith, ℤ, pos}
 use Rattle.std.specs.Prelude.{nat_eq, nat_lt}
 use Rattle.std.specs.Ordering.{int_eq}
@@ -31,7 +31,7 @@ use Rattle.bpf_decode.specs.UnitFaults.{FitUnit, has_bad_register, has_unused_no
 use Rattle.bpf_decode.specs.OpcodeFields.{opcode_byte, used_by, AreOperands, IsRegisterIfUsed, IsZeroUnlessUsed}
 use Rattle.bpf_decode.proofs.OpcodeLemmas.{order_source-bounded, alu_class-bounded, jump_class-bounded, size_code-bounded, mode_of-bounded, AluFacts, alu_facts, test_code-bounded, class_in-jump, class_in-access, used_fields-byte_of, good_sign, good_move, good_order, good_negation, no_width, no_width_of_jump}
 
--- the source and the register of an operand have their bits
+-- the source and the register of an operand fit their bits
 pub source_of-bounded : (s : Operand) → source_bit s < 2
 source_of-bounded (Register r) = omega arith
 source_of-bounded (Immediate imm) = omega arith
@@ -44,14 +44,14 @@ pub store_class-bounded : (s : Operand) → store_class s < 8
 store_class-bounded (Register r) = omega arith
 store_class-bounded (Immediate imm) = omega arith
 
--- an opcode of parts that have their bits has its bits
+-- if an opcode's parts fit their bits, so does the opcode
 opcode-fits : (code source class : ℕ) → code < 16 → source < 2 → class < 8 → opcode code source class < 2 ^ 8
 opcode-fits code source class h g k = omega (arith, h, g, k)
 
 access_opcode-fits : (mode size class : ℕ) → mode < 8 → size < 4 → class < 8 → access_opcode mode size class < 2 ^ 8
 access_opcode-fits mode size class h g k = omega (arith, h, g, k)
 
--- the opcode of an instruction has its bits
+-- the opcode of an instruction fits its bits
 opcode-bounded : (i : Insn) → (fields_of i).opcode < 2 ^ 8
 opcode-bounded (Alu op w dst src) = opcode-fits (code_of op) (source_bit src) (alu_class w) (AluFacts.bounded (alu_facts op)) (source_of-bounded src) (alu_class-bounded w)
 opcode-bounded (Negate w dst) = opcode-fits neg_code source_k (alu_class w) (omega arith) (omega arith) (alu_class-bounded w)
@@ -66,7 +66,7 @@ opcode-bounded (JumpLong distance) = omega arith
 opcode-bounded (Branch test w dst src distance) = opcode-fits (test_code test) (source_bit src) (jump_class w) (test_code-bounded test) (source_of-bounded src) (jump_class-bounded w)
 opcode-bounded Exit = omega arith
 
--- the source field of an instruction has its bits
+-- the source field of an instruction fits its bits
 src-bounded : (i : Insn) → IsInstruction i → (fields_of i).src < 2 ^ 4
 src-bounded (Alu op w dst src) h = omega (arith, src_of-register src h.1)
 src-bounded (Mov w dst src) h = omega (arith, src_of-register src h.1)
@@ -76,7 +76,7 @@ src-bounded (Store size dst src offset) h = omega (arith, src_of-register src h.
 src-bounded (Branch test w dst src distance) h = omega (arith, src_of-register src h.1)
 src-bounded i h = omega arith
 
--- the fields of an instruction have their bits
+-- the fields of an instruction fit their bits
 pub fit-fields_of : (i : Insn) → IsInstruction i → FitUnit (fields_of i)
 fit-fields_of i h =
     let fit = laws.fit-fields_of i h in
@@ -144,7 +144,7 @@ operands-fields_of (Branch test w dst (Register r) distance) h = record { dst = 
 operands-fields_of (Branch test w dst (Immediate imm) distance) h = record { dst = h.0; src = refl; offset = tt; imm = tt }
 operands-fields_of Exit h = record { dst = refl; src = refl; offset = refl; imm = refl }
 
--- the bits of an extension are a width of moves, and those of a change of byte order a width of such
+-- the bits of an extension are a valid width of moves, and those of a byte order a valid width of byte orders
 extension_bits-move : (e : SignExtension) → is_move (extension_width e) (pos (extension_bits e)) ≡ true
 extension_bits-move From8To32 = refl
 extension_bits-move From16To32 = refl
@@ -183,7 +183,7 @@ width-fields_of (JumpLong distance) = refl
 width-fields_of (Branch test w dst src distance) = no_width_of_jump (fields_of (Branch test w dst src distance)) w (class_in-jump (test_code test) (source_bit src) w (source_of-bounded src))
 width-fields_of Exit = refl
 
--- fields that are operands have no fault but of their width
+-- fields that are operands have no fault but a bad width
 pub operands_have_no_fault : (used : UsedFields) (f : Fields) → AreOperands used f → (has_bad_register used f ≡ false) × (has_unused_not_zero used f ≡ false)
 operands_have_no_fault used f h =
     let dst = register_tests used.dst f.dst h.dst in

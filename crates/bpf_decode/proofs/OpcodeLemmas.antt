@@ -26,7 +26,7 @@ use Rattle.bpf_decode.specs.Opcodes.{used_fields, used_by_alu, used_by_jump, use
 use Rattle.bpf_decode.specs.UnitFaults.{has_bad_width, has_bad_alu_width, is_sign, is_move, is_swap, fault_under, unit_fault}
 use Rattle.bpf_decode.specs.OpcodeFields.{source_number, stored_class, opcode_byte, used_by, IsZeroUnlessUsed}
 
--- the parts of an opcode are those that it was put together of
+-- an opcode splits into the parts it was made of
 pub class_in-alu : (code source : ℕ) (w : Width) → source < 2 → opcode code source (alu_class w) % 8 ≡ alu_class w
 class_in-alu code source W32 h = omega (arith, h)
 class_in-alu code source W64 h = omega (arith, h)
@@ -76,7 +76,7 @@ pub mode_of-bounded : (kind : LoadKind) → mode_of kind < 8
 mode_of-bounded LoadByte = omega arith
 mode_of-bounded kind = omega arith
 
--- what holds of each operation's code and offset
+-- facts about each operation's code and offset
 pub record AluFacts (op : AluOp) : Type 0 where
   pub bounded : code_of op < 16
   pub listed : is_alu_code (code_of op) ≡ true
@@ -93,7 +93,7 @@ alu_facts Mod = record { bounded = omega arith; listed = refl; no_negation = ref
 alu_facts SMod = record { bounded = omega arith; listed = refl; no_negation = refl; no_move = refl; no_order = refl; sign = tt; signed = refl }
 alu_facts op = record { bounded = omega arith; listed = refl; no_negation = refl; no_move = refl; no_order = refl; sign = refl; signed = refl }
 
--- what holds of each test's code
+-- facts about each test's code
 pub test_code-bounded : (test : JumpOp) → test_code test < 16
 test_code-bounded Eq = omega arith
 test_code-bounded test = omega arith
@@ -167,18 +167,18 @@ pub no_width_of_jump : (f : Fields) (w : Width) → f.opcode % 8 ≡ jump_class 
 no_width_of_jump f W32 h = rw h refl
 no_width_of_jump f W64 h = rw h refl
 
--- a quotient's or remainder's offset that is no sign
+-- an offset of a quotient or remainder that is not a sign
 pub bad_sign : (f : Fields) (op : AluOp) (source : Source) (w : Width) → f.opcode ≡ opcode_byte (Alu op source w)
     → is_division (code_of op) ≡ true → is_sign f.offset ≡ false → has_bad_width f ≡ true
 bad_sign f op source w e d s = has_bad_width-alu f (code_of op) (source_number source) w (source_number-bounded source) e ∙ rw (d, s) refl
 
--- a move's offset that is no width
+-- an offset of a move that is not a width
 pub bad_move : (f : Fields) (source : Source) (w : Width) → f.opcode ≡ opcode_byte (Mov source w)
     → IsZeroUnlessUsed (nat_eq (source_number source) source_x) f.offset → f.offset ≢ pos 0 → is_move w f.offset ≡ false → has_bad_width f ≡ true
 bad_move f Immediate w e z n m = absurd (n z)
 bad_move f Register w e z n m = has_bad_width-alu f mov_code source_x w (omega arith) e ∙ rw m refl
 
--- an operation of two operands has the offset of its sign, and so no width that is none
+-- an operation of two operands has the offset of its sign, so its width is valid
 pub good_sign : (f : Fields) (op : AluOp) (source : ℕ) (w : Width) → source < 2 → f.opcode ≡ opcode (code_of op) source (alu_class w) → is_sign f.offset ≡ true → has_bad_width f ≡ false
 good_sign f op source w h e sign =
     let facts = alu_facts op in
@@ -188,7 +188,7 @@ good_sign f op source w h e sign =
     no_case true = refl
     no_case false = refl
 
--- a move of the whole or of a width
+-- a move of the whole or of a valid width
 pub good_move : (f : Fields) (source : ℕ) (w : Width) → source < 2 → f.opcode ≡ opcode mov_code source (alu_class w) → is_move w f.offset ≡ true → has_bad_width f ≡ false
 good_move f source w h e move =
     has_bad_width-alu f mov_code source w h e ∙ rw move (no_case (nat_eq source source_x))
@@ -197,7 +197,7 @@ good_move f source w h e move =
     no_case true = refl
     no_case false = refl
 
--- a change of byte order of a width
+-- a change of byte order of a valid width
 pub good_order : (f : Fields) (source : ℕ) (w : Width) → source < 2 → f.opcode ≡ opcode end_code source (alu_class w) → is_swap f.imm ≡ true → has_bad_width f ≡ false
 good_order f source w h e swap = has_bad_width-alu f end_code source w h e ∙ rw swap refl
 

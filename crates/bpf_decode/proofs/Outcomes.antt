@@ -3,17 +3,17 @@ use Rattle.std.proofs.Common.{◌≡◌, Option, Some, None, Result, Ok, Err, re
 use Rattle.std.specs.Prelude.{IfNone, IfErr, IsErrAnd, if◌then◌else◌}
 use Rattle.std.specs.Result.{is_ok}
 
--- what holds anyway holds where there is none
+-- a fact that always holds also holds if there is none
 pub IfNone-anyway : {A P : Type 0} (o : Option A) → P → IfNone o P
 IfNone-anyway None h = h
 IfNone-anyway (Some x) h = tt
 
--- an error that was passed on has what it had
+-- a fact about an error stays after the error is passed on
 pub IfErr-passed : {A E : Type 0} (P : E → Type 0) (e : E) (result : Result A E) → IsErrAnd result (λ x. x ≡ e) → P e → IfErr result P
 IfErr-passed P e (Ok x) passed h = absurd passed
 IfErr-passed P e (Err x) passed h = rw passed h
 
--- what is so where a call succeeded, once it has
+-- a fact that holds if the call succeeded, once it has
 pub where_ok : {A E B : Type 0} (result : Result A E) (x : A) (y z : B) → result ≡ Ok x → (if is_ok result then y else z) ≡ y
 where_ok (Ok w) x y z e = refl
 where_ok (Err w) x y z e = absurd cc

@@ -1,4 +1,4 @@
--- Bytes that are compared with an instruction's spelling, and with a program's.
+-- Comparing bytes with an instruction's spelling, and with a program's.
 use Rattle.std.proofs.Common.{◌≡◌, ◌≢◌, ◌∙◌, ℕ, ◌<◌, suc, List, ◌∷◌, ◌++◌, length, take, drop, get_or, Option, Some, None, IfSome, IfNone, Bor, sym, ap, subst, ◌+◌, true≢false}
 use Rattle.std.specs.Prelude.{MatchOption, true, false, nat_eq, IsTrue}
 use Rattle.std.specs.Cmp.Lexicographic.{pointwise}
@@ -12,7 +12,7 @@ use Rattle.bpf_model.specs.declared.instruction.Insn.{Insn}
 use Rattle.bpf_model.specs.Spelling.{unit_bytes, fields_of, second_bytes, spelling, spelling_of_all, Spells}
 use Rattle.bpf_decode.proofs.SpellingLemmas.{spelling-first_unit}
 
--- these bytes are cut off the front of others, or the others don't begin with them
+-- the rest of the bytes after these, or the bytes don't begin with them
 abbrev pub CutsOff : List ℕ → List ℕ → Option (Bor (List ℕ)) → Type 0
 CutsOff front bytes result = MatchOption result ((rest : List ℕ) → bytes ≢ front ++ rest) (λ rest. bytes ≡ front ++ rest.now)
 
@@ -37,13 +37,13 @@ module _ (i : Insn) (bytes : List ℕ) where
   second_missing after None first cuts = no_second_unit after first cuts
   second_missing after (Some rest) first cuts = tt
 
--- what std's `strip_prefix` says of bytes
+-- the meaning of std's `strip_prefix` for bytes
 pub stripped : (front text bytes : List ℕ) (result : Option (Bor (List ℕ))) → front ≡ text
     → MatchOption result (pointwise nat_eq (take (length front) bytes) front ≡ false) (λ x. (pointwise nat_eq (take (length front) bytes) front ≡ true) × (x.now ≡ drop (length front) bytes) × (length x.now + length front ≡ length bytes))
     → CutsOff text bytes result
 stripped front text bytes result e cases = subst (λ (t : List ℕ). CutsOff t bytes result) e (strip_prefix_is Decides-eqb bytes front result cases)
 
--- bytes that go on otherwise than with the program's next instruction don't spell it
+-- bytes that don't go on with the program's next instruction don't spell it
 pub spelled_otherwise : (bytes rest : List ℕ) (is program : List Insn) (k : ℕ) (i : Insn) → is ≡ program → k < length is → i ≡ get_or is k i → bytes ≡ spelling_of_all (take k is) ++ rest
     → ((next : List ℕ) → rest ≢ spelling i ++ next) → (IsTrue false → Spells bytes program) × (Spells bytes program → IsTrue false)
 spelled_otherwise bytes rest is program k i same lt at spelled lacks =

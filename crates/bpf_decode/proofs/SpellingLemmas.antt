@@ -10,7 +10,7 @@ use Rattle.bpf_model.specs.Spelling.{unit_bytes, fields_of, second_bytes, spelli
 use Rattle.bpf_model.proofs.ProgramLemmas.{units_of-some, length-unit_count, unit_count-next, unit_count-take}
 use Rattle.bpf_model.proofs.SpellingLaws.{length-spelling, length-spelling_of_all}
 
--- an instruction more is spelled behind the others
+-- one more instruction is spelled after the others
 pub spelling_of_all-push : (is : List Insn) (i : Insn) → spelling_of_all (is ++ i ∷ []) ≡ spelling_of_all is ++ spelling i
 spelling_of_all-push is i = flat_map-append spelling is (i ∷ []) ∙ ap (λ (x : List ℕ). spelling_of_all is ++ x) (flat_map-cons spelling i [] ∙ append-nil (spelling i))
 
@@ -22,13 +22,13 @@ spelling-first_unit i xs = append_assoc (unit_bytes (fields_of i)) (second_bytes
 pub spelling_of_all-cons : (i : Insn) (is : List Insn) (xs : List ℕ) → spelling_of_all (i ∷ is) ++ xs ≡ spelling i ++ (spelling_of_all is ++ xs)
 spelling_of_all-cons i is xs = ap (λ (x : List ℕ). x ++ xs) (flat_map-cons spelling i is) ∙ append_assoc (spelling i) (spelling_of_all is) xs
 
--- how many units stand before the rest
+-- how many units come before the rest
 pub units_before : (bytes rest : List ℕ) (is : List Insn) → bytes ≡ spelling_of_all is ++ rest → (length bytes - length rest) / 8 ≡ unit_count is
 units_before bytes rest is e =
     let len : length bytes ≡ length (spelling_of_all is) + length rest = ap length e ∙ length-append (spelling_of_all is) rest in
     omega (arith, len, length-spelling_of_all is)
 
--- before a unit more there are fewer instructions than units in all
+-- if one more unit follows, there are fewer instructions than units in all
 pub fewer_than_units : (bytes rest : List ℕ) (is : List Insn) → bytes ≡ spelling_of_all is ++ rest → 8 ≤ length rest → length is < length bytes / 8
 fewer_than_units bytes rest is e more =
     let len : length bytes ≡ length (spelling_of_all is) + length rest = ap length e ∙ length-append (spelling_of_all is) rest in
@@ -49,13 +49,13 @@ spelled_more bytes rest next is i e r =
     e ∙ ap (λ (x : List ℕ). spelling_of_all is ++ x) r ∙ sym (append_assoc (spelling_of_all is) (spelling i) next)
     ∙ ap (λ (x : List ℕ). x ++ next) (sym (spelling_of_all-push is i))
 
--- a rest behind an instruction is shorter, and has whole units where all had
+-- the rest after an instruction is shorter, and has whole units if all the bytes did
 pub rest_is_shorter : (rest next : List ℕ) (i : Insn) → rest ≡ spelling i ++ next → (length next < length rest) × (length rest % 8 ≡ 0 → length next % 8 ≡ 0)
 rest_is_shorter rest next i e =
     let len : length rest ≡ 8 * units_of i + length next = ap length e ∙ length-append (spelling i) next ∙ ap (λ (n : ℕ). n + length next) (length-spelling i) in
     (omega (arith, len, units_of-some i), λ h. omega (arith, len, h))
 
--- the next instruction has room where there is room for all
+-- there is room for the next instruction if there is room for all
 pub room_for_next : (is : List Insn) (k : ℕ) (i : Insn) (bytes : List ℕ) (room : ℕ) → slice_get is k ≡ Some i → bytes ≡ spelling_of_all (take k is) → 8 * unit_count is ≤ room → length bytes + 8 * units_of i ≤ room
 room_for_next is k i bytes room e b h =
     let written : length bytes ≡ 8 * unit_count (take k is) = ap length b ∙ length-spelling_of_all (take k is) in

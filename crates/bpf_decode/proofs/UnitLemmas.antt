@@ -15,7 +15,7 @@ use Rattle.bpf_model.proofs.UnitLaws.{FitFields}
 abbrev pub AreBytes : List ℕ → Type 0
 AreBytes bytes = (i : ℕ) → get_or bytes i 0 < 256
 
--- the bytes of the word of bytes are these bytes
+-- the bytes of the word of these bytes are these bytes
 pub bytes_of-word_of : (bytes : List ℕ) → AreBytes bytes → bytes_of (length bytes) (word_of bytes) ≡ bytes
 unfolding bytes_of word_of
 bytes_of-word_of [] h = refl
@@ -69,7 +69,7 @@ pub length-unit_bytes : (f : Fields) → length (unit_bytes f) ≡ 8
 unfolding bytes_of
 length-unit_bytes f = refl
 
--- fields that have their bits fit a unit
+-- fields that fit their bits fit a unit
 fit_unit : (f : Fields) → FitUnit f → FitFields f
 fit_unit f fit = record { dst = omega (arith, fit.dst); offset = fit.offset; imm = fit.imm }
 

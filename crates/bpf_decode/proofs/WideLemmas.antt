@@ -19,7 +19,7 @@ use Rattle.bpf_decode.specs.Opcodes.{dst_and_imm, wide_opcode}
 use Rattle.bpf_decode.specs.UnitFaults.{FitUnit, has_imm_alone}
 use Rattle.bpf_decode.specs.OpcodeFields.{AreOperands}
 
--- fields are equal where each of them is
+-- fields are equal if each of them is
 fields_are : (f : Fields) (opcode dst src : ℕ) (offset imm : ℤ) → f.opcode ≡ opcode → f.dst ≡ dst → f.src ≡ src → f.offset ≡ offset → f.imm ≡ imm
     → f ≡ record { opcode = opcode; dst = dst; src = src; offset = offset; imm = imm }
 fields_are f opcode dst src offset imm a b c d e =
@@ -29,7 +29,7 @@ fields_are f opcode dst src offset imm a b c d e =
     with_all : ℕ → ℕ → ℕ → ℤ → ℤ → Fields
     with_all o d s z i = record { opcode = o; dst = d; src = s; offset = z; imm = i }
 
--- a number that fits is read from what it is written as
+-- a number that fits is read back from its bytes
 read_again : (n : ℕ) (imm : ℤ) → IsImmediate imm → n ≡ cast_unsigned w32 imm → imm ≡ cast_signed w32 n
 read_again n imm fit e = sym (ap (cast_signed w32) e ∙ to_z-of_z w32 imm fit)
 

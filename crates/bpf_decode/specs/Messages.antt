@@ -1,10 +1,10 @@
--- How a fault of bytes is told.
+-- The text of a fault.
 use Rattle.std.specs.Prelude.{ℕ, List, ◌++◌, codes, decimal}
 use Rattle.bpf_model.specs.declared.limits.TheConstants.{PROGRAM_UNITS}
 use Rattle.bpf_decode.specs.declared.fault.DecodeFault.{DecodeFault}
 use Rattle.bpf_decode.specs.declared.fault.DecodeFault.TheVariants.{NoMemory, Empty, NotWholeUnits, TooManyUnits, UnknownOpcode, BadRegister, UnusedNotZero, BadWidth, CutWide}
 
--- what is wrong, and where
+-- the fault and its place
 abbrev pub decode_fault_message : DecodeFault → List ℕ
 decode_fault_message NoMemory = codes "no memory"
 decode_fault_message Empty = codes "no byte"

@@ -1,4 +1,4 @@
--- The byte that an opcode is, and which fields its instructions use. Internal: no public contract cites it.
+-- The byte of an opcode, and the fields that its instructions use. Internal: no public contract cites it.
 use Rattle.std.specs.Prelude.{◌≡◌, ℕ, ◌≤◌, Bool, true, false, nat_eq, ℤ, pos}
 use Rattle.bpf_model.specs.declared.operations.Width.TheVariants.{W32, W64}
 use Rattle.bpf_model.specs.Spelling.{Fields, opcode, access_opcode, class_ldx, class_st, class_stx, alu_class, jump_class, source_k, source_x, code_of, neg_code, mov_code, end_code, order_source, order_width, test_code, ja_code, exit_code, size_code, mode_mem, mode_of}
@@ -47,17 +47,17 @@ used_by JumpLong = imm_alone
 used_by (Branch test source width) = operands (source_number source) true
 used_by Exit = no_field
 
--- a register's number where the field is used, else zero
+-- a register's number if the field is used, else zero
 abbrev pub IsRegisterIfUsed : Bool → ℕ → Type 0
 IsRegisterIfUsed true n = n ≤ 10
 IsRegisterIfUsed false n = n ≡ 0
 
--- any number where the field is used, else zero
+-- any number if the field is used, else zero
 abbrev pub IsZeroUnlessUsed : Bool → ℤ → Type 0
 IsZeroUnlessUsed true z = Unit {0}
 IsZeroUnlessUsed false z = z ≡ pos 0
 
--- the fields are operands of instructions that use these; whether a width is one is another question
+-- the fields are operands of instructions that use these; widths are checked elsewhere
 pub record AreOperands (used : UsedFields) (f : Fields) : Type 0 where
   pub dst : IsRegisterIfUsed used.dst f.dst
   pub src : IsRegisterIfUsed used.src f.src

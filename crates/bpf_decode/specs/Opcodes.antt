@@ -1,5 +1,5 @@
--- Which fields the instructions of an opcode use. RFC 9669, sections 3 to 5; calls, atomic operations, packet access
--- and the forms of wide beyond a plain value are not of our profile.
+-- Which fields the instructions of an opcode use. RFC 9669, sections 3 to 5. Our profile has no calls, atomic
+-- operations or packet access, and no wide form but the plain value.
 use Rattle.std.specs.Prelude.{ℕ, ◌/◌, ◌%◌, Bool, true, false, not, ◌&&◌, ◌||◌, Option, Some, None, nat_eq, nat_le, if◌then◌else◌}
 use Rattle.bpf_model.specs.declared.operations.AluOp.TheVariants.{Div, Mod}
 use Rattle.bpf_model.specs.declared.operations.Width.{Width}
@@ -26,7 +26,7 @@ size_in opcode = opcode / 8 % 4
 abbrev pub mode_in : ℕ → ℕ
 mode_in opcode = opcode / 32
 
--- dst and a second operand, which source X has in src and source K in imm; and the offset or not
+-- dst and a second operand, which is in src for source X and in imm for source K; and the offset if used
 abbrev pub operands : ℕ → Bool → UsedFields
 operands source offset = record { dst = true; src = nat_eq source source_x; offset = offset; imm = nat_eq source source_k }
 
@@ -49,7 +49,7 @@ no_field = record { dst = false; src = false; offset = false; imm = false }
 abbrev pub is_alu_code : ℕ → Bool
 is_alu_code code = nat_le code 7 || (nat_eq code 9 || (nat_eq code 10 || nat_eq code 12))
 
--- those of them whose offset says whether they are signed
+-- those whose offset says whether they are signed
 abbrev pub is_division : ℕ → Bool
 is_division code = nat_eq code (code_of Div) || nat_eq code (code_of Mod)
 
@@ -70,7 +70,7 @@ used_by_alu width source code =
 abbrev pub is_test_code : ℕ → Bool
 is_test_code code = (nat_le 1 code && nat_le code 7) || (nat_le 10 code && nat_le code 13)
 
--- a jump without condition, which in the class of JMP32 has its distance in imm, and the end, by the code
+-- a jump without condition, whose distance is in imm in the class of JMP32, and the end, by the code
 abbrev pub used_by_plain_jump : Width → ℕ → Option UsedFields
 used_by_plain_jump W64 code =
     if nat_eq code ja_code then Some offset_alone
@@ -87,7 +87,7 @@ used_by_jump width source code =
 abbrev pub wide_opcode : ℕ
 wide_opcode = access_opcode mode_imm (size_code DoubleWord) class_ld
 
--- loads, by mode and size; none reads eight bytes with a sign
+-- loads, by mode and size; no load reads eight bytes with a sign
 abbrev pub used_by_load : ℕ → ℕ → Option UsedFields
 used_by_load mode size =
     if nat_eq mode mode_mem || (nat_eq mode mode_memsx && not (nat_eq size (size_code DoubleWord))) then Some (operands source_x true) else None
@@ -96,7 +96,7 @@ used_by_load mode size =
 abbrev pub used_by_store : ℕ → ℕ → Option UsedFields
 used_by_store source mode = if nat_eq mode mode_mem then Some (operands source true) else None
 
--- which fields the instructions of an opcode use; none where no instruction has the opcode
+-- which fields the instructions of an opcode use; none if no instruction has the opcode
 abbrev pub used_fields : ℕ → Option UsedFields
 used_fields opcode =
     if nat_eq (class_in opcode) class_ld then (if nat_eq opcode wide_opcode then Some dst_and_imm else None)

@@ -1,4 +1,5 @@
--- Which fault a unit has, by its fields, and which the second half of a wide instruction. Our profile of RFC 9669.
+-- Which fault a unit has, by its fields, and which fault the second half of a wide instruction has. Our profile of RFC
+-- 9669.
 use Rattle.std.specs.Prelude.{◌≡◌, ℕ, ◌^◌, ◌<◌, Bool, false, not, ◌&&◌, ◌||◌, ◌⊎◌, List, [], ◌++◌, Option, Some, None, nat_eq, nat_lt, if◌then◌else◌, ℤ, pos}
 use Rattle.std.specs.Ordering.{int_eq}
 use Rattle.bpf_model.specs.declared.operations.Width.{Width}
@@ -9,7 +10,7 @@ use Rattle.bpf_decode.specs.declared.fault.UnitFault.TheVariants.{UnknownOpcode,
 use Rattle.bpf_decode.specs.declared.unit.UsedFields.{UsedFields}
 use Rattle.bpf_decode.specs.Opcodes.{class_in, source_in, code_in, is_division, wide_opcode, used_fields}
 
--- the fields have the bits of a unit, as those of any eight bytes do
+-- the fields fit a unit, as those of any eight bytes do
 pub record FitUnit (f : Fields) : Type 0 where
   pub opcode : f.opcode < 2 ^ 8
   pub dst : f.dst < 2 ^ 4
@@ -31,7 +32,7 @@ has_unused_not_zero used f =
 abbrev pub is_sign : ℤ → Bool
 is_sign offset = int_eq offset (pos 0) || int_eq offset (pos 1)
 
--- the offset of a move at a width: the whole, or how many bits have their sign extended
+-- the offset of a move at a width: the whole, or how many bits are sign-extended
 abbrev pub is_move : Width → ℤ → Bool
 is_move W32 offset = int_eq offset (pos 0) || (int_eq offset (pos 8) || int_eq offset (pos 16))
 is_move W64 offset = int_eq offset (pos 0) || (int_eq offset (pos 8) || (int_eq offset (pos 16) || int_eq offset (pos 32)))
@@ -40,7 +41,7 @@ is_move W64 offset = int_eq offset (pos 0) || (int_eq offset (pos 8) || (int_eq 
 abbrev pub is_swap : ℤ → Bool
 is_swap imm = int_eq imm (pos 16) || (int_eq imm (pos 32) || int_eq imm (pos 64))
 
--- an offset or imm of arithmetic that should say which of several it is, and does not
+-- an offset or imm of arithmetic that should choose between variants, and doesn't
 abbrev pub has_bad_alu_width : Width → ℕ → ℕ → Fields → Bool
 has_bad_alu_width width source code f =
     (is_division code && not (is_sign f.offset))
@@ -53,7 +54,7 @@ has_bad_width f =
     else (if nat_eq (class_in f.opcode) (alu_class W64) then has_bad_alu_width W64 (source_in f.opcode) (code_in f.opcode) f
     else false)
 
--- the least-numbered fault of fields of which these are used; with none listed there is no such opcode
+-- the least-numbered fault if these fields are used; if none are listed there is no such opcode
 abbrev pub fault_under : Option UsedFields → Fields → Option UnitFault
 fault_under None f = Some UnknownOpcode
 fault_under (Some used) f =
@@ -74,7 +75,7 @@ pub record IsFirstHalf (f : Fields) : Type 0 where
 abbrev pub has_imm_alone : Fields → Bool
 has_imm_alone f = nat_eq f.opcode 0 && (nat_eq f.dst 0 && (nat_eq f.src 0 && int_eq f.offset (pos 0)))
 
--- the bytes begin with a unit that has more
+-- the bytes begin with a unit, and more follow
 pub record BeginsWithMore (bytes : List ℕ) : Type 0 where
   pub fields : Fields
   pub rest : List ℕ
@@ -82,7 +83,7 @@ pub record BeginsWithMore (bytes : List ℕ) : Type 0 where
   pub spelled : bytes ≡ unit_bytes fields ++ rest
   pub more : has_imm_alone fields ≡ false
 
--- the fault of bytes after a first half: there are none, or their first unit is no second half
+-- the fault of bytes after a first half: there are none, or their first unit isn't a second half
 abbrev pub HasSecondFault : List ℕ → UnitFault → Type 0
 HasSecondFault bytes fault = ((fault ≡ CutWide) × (bytes ≡ [])) ⊎ ((fault ≡ UnusedNotZero) × BeginsWithMore bytes)
 

@@ -6,7 +6,8 @@ ghost use Rattle.bpf_decode.specs.Opcodes.{is_alu_code, is_test_code, used_by_lo
 
 use bpf_model::{AccessSize, AluOp, JumpOp, LoadKind};
 
-/// The operation of a code of arithmetic: of DIV and MOD the unsigned one; none where the code is of another kind.
+/// Returns the operation of an arithmetic code (the unsigned one for DIV and MOD), or `None` if it is a code of another
+/// kind.
 pub(crate) fn alu_op(code: u8) -> Option<AluOp>
     ensures some { IfSome result (λ op. code_of op ≡ code) }
     ensures none { IfNone result (is_alu_code code ≡ false) }
@@ -47,7 +48,7 @@ pub(crate) fn alu_code(op: AluOp) -> u8
     }
 }
 
-/// The test of a code of jumps; none where the jump has no condition, or no jump has the code.
+/// Returns the test of a jump code, or `None` if the jump has no condition or no jump has the code.
 pub(crate) fn jump_test(code: u8) -> Option<JumpOp>
     ensures some { IfSome result (λ test. code_of_test test ≡ code) }
     ensures none { IfNone result (is_test_code code ≡ false) }
@@ -88,7 +89,7 @@ pub(crate) fn test_code(test: JumpOp) -> u8
     }
 }
 
-/// The size of a code of sizes, 0 to 3.
+/// Returns the size of a size code, 0 to 3.
 pub(crate) fn access_size(code: u8) -> AccessSize
     requires { code < 4 }
     ensures { code_of_size result ≡ code }
@@ -114,7 +115,7 @@ pub(crate) fn size_code(size: AccessSize) -> u8
     }
 }
 
-/// What a load of this mode and size reads; none where no load has them.
+/// Returns what a load of this mode and size reads, or `None` if there is no such load.
 pub(crate) fn load_kind(mode: u8, size: AccessSize) -> Option<LoadKind>
     ensures mode { IfSome result (λ kind. mode_of kind ≡ mode) }
     ensures size { IfSome result (λ kind. loaded_size kind ≡ size) }

@@ -35,7 +35,7 @@ fn check_length(bytes: &[u8]) -> Result<(), DecodeFault>
     Ok(())
 }
 
-/// The instruction of a unit and of the bytes after it, and the bytes after the instruction.
+/// Reads the instruction of this unit and the bytes after it. Returns it with the rest of the bytes.
 fn instruction(fields: Fields, after: &[u8]) -> Result<(Insn, &[u8]), UnitFault>
     requires { length after.now % 8 ≡ 0 }
     ensures instruction { IfOk result (λ r. IsInstruction r.0) }
@@ -102,9 +102,9 @@ fn instructions(alloc: Global, bytes: &[u8]) -> Result<Vec<Insn>, DecodeFault>
     Ok(instructions)
 }
 
-/// The program that all the bytes spell; else the first fault: of their number, or else of the first unit that begins
-/// no instruction, and there the one of the least number. Asks for memory once, for the program, and only after the
-/// number of bytes was found right.
+/// Returns the program that all the bytes spell. Otherwise returns the first fault: a wrong number of bytes, or else
+/// the least-numbered fault of the first unit that begins no instruction. Asks for memory once, for the program, and
+/// only after the number of bytes was found right.
 pub fn decode(alloc: Global, bytes: &[u8]) -> Result<Program, DecodeFault>
     ensures found { IfOk result (λ p. Spells bytes.now p) }
     ensures only { (p : List Insn) → Spells bytes.now p → GivesUnless NoMemory result (Ok p) }

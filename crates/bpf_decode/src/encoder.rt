@@ -24,7 +24,7 @@ fn write(bytes: &mut Vec<u8>, insn: &Insn)
     }
 }
 
-/// The bytes that spell the program, which `decode` reads back. Asks for memory once, for the bytes.
+/// Returns the bytes that spell the program; `decode` reads them back. Asks for memory once, for the bytes.
 pub fn encode(alloc: Global, program: &Program) -> Result<Vec<u8>, NoMemory>
     ensures spelled { IfOk result (λ v. Spells v.items program.now) }
 {

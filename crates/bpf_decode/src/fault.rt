@@ -9,33 +9,33 @@ use std::alloc::AllocError;
 use std::error::Error;
 use std::fmt;
 
-/// What is wrong with bytes, and at which unit; units are counted from 0.
+/// A fault in bytes, and its unit; units are counted from 0.
 #[derive(Clone, Copy, Debug, PartialEq, Eq)]
 pub enum DecodeFault {
-    /// A request for memory was refused: number 9. It says nothing of the bytes.
+    /// A request for memory was refused: number 9. It says nothing about the bytes.
     NoMemory,
-    /// No byte: number 10, at unit 0.
+    /// There are no bytes: number 10, at unit 0.
     Empty,
-    /// A number of bytes that is no multiple of 8: number 11, at unit 0.
+    /// The number of bytes isn't a multiple of 8: number 11, at unit 0.
     NotWholeUnits,
-    /// More than `PROGRAM_UNITS` units: number 12, at unit 0.
+    /// There are more than `PROGRAM_UNITS` units: number 12, at unit 0.
     TooManyUnits,
-    /// An opcode that no instruction has: number 13, at this unit.
+    /// No instruction has this opcode: number 13, at this unit.
     UnknownOpcode(usize),
-    /// A register field that is used and above 10: number 14, at this unit.
+    /// A register field is used and above 10: number 14, at this unit.
     BadRegister(usize),
-    /// A field that is not used and not zero: number 15, at this unit. Of a wide instruction's second half: at its
-    /// first.
+    /// A field is not used and not zero: number 15, at this unit. For a wide instruction's second half this is its
+    /// first half's unit.
     UnusedNotZero(usize),
-    /// A quotient's or remainder's offset other than 0 and 1, a move's that is no width, or a byte order's imm that is
-    /// none: number 16, at this unit.
+    /// The offset of a quotient or remainder is not 0 or 1, the offset of a move isn't a width, or the imm of a byte
+    /// order isn't one: number 16, at this unit.
     BadWidth(usize),
-    /// The first half of a wide instruction without a second: number 17, at this unit.
+    /// The first half of a wide instruction has no second: number 17, at this unit.
     CutWide(usize),
 }
 
 impl DecodeFault {
-    /// The number under which the fault is printed and sent, 9 to 17.
+    /// Returns the number with which the fault is printed and sent, 9 to 17.
     pub fn number(&self) -> u8
         ensures { result ≡ decode_fault_number self.now }
     {
@@ -52,7 +52,7 @@ impl DecodeFault {
         }
     }
 
-    /// The unit that has the fault; 0 where the fault is of no one unit.
+    /// Returns the unit with the fault; 0 if the fault belongs to no unit.
     pub fn unit(&self) -> usize
         ensures { result ≡ decode_fault_unit self.now }
     {
@@ -104,7 +104,7 @@ impl From<AllocError> for DecodeFault {
     }
 }
 
-/// What is wrong with one unit, or with the second half of its instruction.
+/// A fault in one unit, or in the second half of its instruction.
 #[derive(Clone, Copy, Debug, PartialEq, Eq)]
 pub(crate) enum UnitFault {
     UnknownOpcode,

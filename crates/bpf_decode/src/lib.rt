@@ -1,11 +1,11 @@
 //! Programs from bytes, and bytes from programs.
 //!
-//! The promise to the layers above: `decode` answers a program exactly where the bytes spell it (clauses `found` and
-//! `only`), want of memory aside, and else names the first faulty unit and there the least number (`first_fault` and
-//! `refused`). `encode` gives the spelling (`spelled`), so decoding what was encoded gives it back. Spelling is a
-//! definition of bpf_model, after RFC 9669; which fault is first stands in `specs/Faults.antt`, which one a unit has in
-//! `specs/UnitFaults.antt`, and which fields an opcode uses in `specs/Opcodes.antt`. Each call asks for memory once,
-//! for its result. Never waits.
+//! The promise to the layers above: `decode` answers a program exactly if the bytes spell it (clauses `found` and
+//! `only`), unless memory runs out. Otherwise it names the first faulty unit and that unit's least-numbered fault
+//! (`first_fault` and `refused`). `encode` gives the spelling (`spelled`), so decoding what you encoded gives it back.
+//! bpf_model defines spelling, after RFC 9669. `specs/Faults.antt` says which fault is first, `specs/UnitFaults.antt`
+//! which fault a unit has, and `specs/Opcodes.antt` which fields an opcode uses. Each call asks for memory once, for
+//! its result. Never waits.
 #![tactic(auto)]
 
 mod codes;

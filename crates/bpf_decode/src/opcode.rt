@@ -10,7 +10,7 @@ use crate::codes::{
 use crate::unit::{NO_FIELD, UsedFields};
 use bpf_model::{AccessSize, AluOp, ByteOrder, JumpOp, LoadKind, Operand, Width};
 
-/// Where an instruction has its second operand: in imm (K) or in the register src (X).
+/// Where an instruction's second operand is: in imm (K) or in the register src (X).
 #[derive(Clone, Copy, Debug, PartialEq, Eq)]
 pub(crate) enum Source {
     Immediate,
@@ -37,7 +37,7 @@ impl Source {
         }
     }
 
-    /// dst and an operand of this source, and the offset or not
+    /// dst, an operand of this source, and the offset if it is used
     fn used_fields(self, offset: bool) -> UsedFields
         ensures { result ≡ operands (source_number self) offset }
     {
@@ -60,8 +60,8 @@ impl Source {
     }
 }
 
-/// An instruction without its operands. Of quotients and remainders the sign is among the operands, and so is whether
-/// a move extends a sign.
+/// An instruction without its operands. Whether a quotient or remainder is signed counts as an operand, and so does
+/// whether a move extends a sign.
 #[derive(Clone, Copy, Debug, PartialEq, Eq)]
 pub(crate) enum Opcode {
     Alu(AluOp, Source, Width),
@@ -78,7 +78,7 @@ pub(crate) enum Opcode {
 }
 
 impl Opcode {
-    /// What a byte stands for; none where no instruction has it as its opcode.
+    /// Returns what this opcode byte stands for, or `None` if no instruction has it.
     pub(crate) fn from_byte(byte: u8) -> Option<Opcode>
         ensures some { IfSome result (λ o. opcode_byte o ≡ byte) }
         ensures none { IfNone result (used_fields byte ≡ None) }

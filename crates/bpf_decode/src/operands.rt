@@ -12,7 +12,7 @@ use crate::unit::Fields;
 use bpf_model::{AccessSize, AluOp, Insn, JumpOp, Operand, Reg, SignExtension, SwapWidth, Width};
 
 impl Opcode {
-    /// Its instruction with the operands that these fields have; none where a width among them is none.
+    /// Returns its instruction with the operands in these fields, or `None` if a width among them is invalid.
     pub(crate) fn with_operands(self, fields: Fields) -> Option<Insn>
         requires opcode { fields.opcode ≡ opcode_byte self }
         requires one_unit { self ≢ Wide }
@@ -139,7 +139,7 @@ fn read_branch(test: JumpOp, source: Source, width: Width, fields: Fields) -> In
     }
 }
 
-/// the operation with the sign that the offset says
+/// the operation, signed or not as the offset says
 fn with_sign(op: AluOp, offset: i16) -> Option<AluOp>
     requires { IsZeroUnlessUsed (is_division (code_of op)) offset }
     ensures code { IfSome result (λ signed. code_of signed ≡ code_of op) }

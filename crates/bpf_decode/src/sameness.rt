@@ -1,11 +1,11 @@
-//! Whether bytes are the spelling of a program that is there already.
+//! Tests whether bytes spell a program that already exists.
 ghost use Rattle.std.specs.Prelude.{◌≡◌, ◌≢◌, ◌↔◌, ◌++◌, ℕ, List, IfSome, IfNone, IsTrue};
 ghost use Rattle.bpf_model.specs.Spelling.{Spells, spelling, IsInstruction};
 
 use crate::unit::Fields;
 use bpf_model::{Insn, Program};
 
-/// The bytes after the instruction's spelling, if they begin with it.
+/// Returns the bytes after the instruction's spelling, if they begin with it.
 fn rest_after<'a>(bytes: &'a [u8], insn: &Insn) -> Option<&'a [u8]>
     ensures instruction { IfSome result (λ _. IsInstruction insn.now) }
     ensures begins { IfSome result (λ rest. bytes.now ≡ spelling insn.now ++ rest.now) }

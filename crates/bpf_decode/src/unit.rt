@@ -9,7 +9,7 @@ use crate::fault::UnitFault;
 use byteorder::{ByteOrder, LittleEndian};
 use std::marker::Model;
 
-/// The bytes of a unit.
+/// A unit has this many bytes.
 pub(crate) const UNIT_BYTES: usize = 8;
 
 /// The fields of a unit.
@@ -35,7 +35,7 @@ impl Model for Fields {
     ghost inverse = { λ v. record { opcode = v.opcode; dst = v.dst; src = v.src; offset = v.offset; imm = v.imm } };
 }
 
-/// Which fields an instruction uses, beside its opcode.
+/// Which fields an instruction uses, besides its opcode.
 #[derive(Clone, Copy, Debug, PartialEq, Eq)]
 pub(crate) struct UsedFields {
     pub(crate) dst: bool,
@@ -93,14 +93,14 @@ impl Fields {
             || (!used.imm && self.imm != 0)
     }
 
-    /// Whether these are the fields of a wide instruction's second half.
+    /// Tests whether these can be the fields of a wide instruction's second half.
     pub(crate) fn has_imm_alone(self) -> bool
         ensures { result ≡ has_imm_alone self }
     {
         self.opcode == 0 && self.dst == 0 && self.src == 0 && self.offset == 0
     }
 
-    /// The least-numbered fault of fields of which these are used; widths are not looked at.
+    /// Returns the least-numbered fault of the fields if an instruction uses `used` of them. Doesn't check widths.
     pub(crate) fn check(self, used: UsedFields) -> Result<(), UnitFault>
         ensures operands { OnOk result (AreOperands used self) }
         ensures ok { OnOk result

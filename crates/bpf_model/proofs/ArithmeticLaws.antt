@@ -1,4 +1,4 @@
--- What arithmetic gives is of its width, and quotients and remainders belong together.
+-- Results of arithmetic fit their width, and quotients and remainders belong together.
 use Rattle.std.proofs.Common.{◌≡◌, ◌≢◌, ℕ, zero, suc, ◌+◌, ◌-◌, ◌*◌, ◌/◌, ◌%◌, ◌^◌, ◌<◌, ◌≤◌, false, true, refl, sym, ap, ◌∙◌, ℤ, pos, negsuc, arith, inl, inr}
 use Rattle.std.specs.Prelude.{nat_eq, nat_lt, int_div, int_rem, ◌+ℤ◌, ◌*ℤ◌, ◌≤ℤ◌, FitsSigned, unsigned_abs, neg_ℤ}
 use Rattle.std.specs.Int.{Width as IntWidth, w8, w16, w32, w64, cast_signed, cast_unsigned, int_wrap, int_shr}
@@ -25,7 +25,7 @@ modulus_is : (width : Width) → modulus width ≡ 2 ^ bits_of width
 modulus_is W32 = refl
 modulus_is W64 = refl
 
--- what is left modulo a width is a number of the width
+-- a number modulo a width is a number of the width
 pub low_below : (width : Width) (n : ℕ) → n % modulus width < modulus width
 low_below width n = mod_below n (modulus width) (modulus_some width)
 
@@ -75,13 +75,13 @@ extended_low From8To64 x = ap (λ l. wrapped (2 ^ 64) (cast_signed w8 l)) (omega
 extended_low From16To64 x = ap (λ l. wrapped (2 ^ 64) (cast_signed w16 l)) (omega arith)
 extended_low From32To64 x = ap (λ l. wrapped (2 ^ 64) (cast_signed w32 l)) (omega arith)
 
--- what stands for a number modulo a power of two reads as the number wrapped round
+-- the number that stands for an integer modulo a power of two reads as the integer wrapped round
 wrapped_reads : (w : IntWidth) (z : ℤ) → cast_signed w (wrapped (2 ^ bits w) z) ≡ int_wrap w z
 unfolding int_wrap
 wrapped_reads w (pos n) = refl
 wrapped_reads w (negsuc n) = refl
 
--- a signed number stands in its own bits
+-- a signed number fits its own bits
 cast_wrapped : (w : IntWidth) (z : ℤ) → FitsSigned w z → cast_unsigned w z ≡ wrapped (2 ^ bits w) z
 cast_wrapped w (pos n) f = sym (mod-eq_of_lt (omega (arith, f.sfits, pow-bits w)))
 cast_wrapped w (negsuc n) f = let small : n % 2 ^ bits w ≡ n = mod-eq_of_lt (omega (arith, f.sfits, pow-bits w)) in omega (arith, small)
@@ -121,13 +121,13 @@ divided_again w x y p q =
     ∙ int_wrap_fits w first (sfits_to_z (record { fits = p })) in
     sym (of_z-to_z w _ is_sum) ∙ ap (cast_unsigned w) (sum ∙ whole) ∙ of_z-to_z w x p
 
--- the same of the definitions, at a divisor that is not zero
+-- the same for the definitions, if the divisor isn't zero
 divided_low : (width : Width) (x y : ℕ) → x < modulus width → y < modulus width → nat_eq y 0 ≡ false
     → ((signed_quotient width x y * y) % modulus width + signed_remainder width x y) % modulus width ≡ x
 divided_low W32 x y p q e = rw e (divided_again w32 x y p q)
 divided_low W64 x y p q e = rw e (divided_again w64 x y p q)
 
--- by zero the quotient is 0 and the remainder the dividend
+-- if the divisor is zero, the quotient is 0 and the remainder is the dividend
 divided_by_zero : (width : Width) (x y : ℕ) → x < modulus width → nat_eq y 0 ≡ true
     → ((signed_quotient width x y * y) % modulus width + signed_remainder width x y) % modulus width ≡ x
 divided_by_zero width x y p e =
@@ -164,19 +164,19 @@ remainder_reads w x y p =
     let less = mag_rem (cast_signed w x) (cast_signed w y) in
     wrapped_reads w (int_rem (cast_signed w x) (cast_signed w y)) ∙ int_wrap_fits w _ (record { sfits = omega (arith, first.sfits, less) })
 
--- a number fits where one further below zero does
+-- a number fits if the one just below its negation does
 fits_signed_to : (w : IntWidth) (n a : ℕ) → FitsSigned w (negsuc a) → n ≤ suc a → FitsSigned w (neg_ℤ (pos n))
 fits_signed_to w zero a f h = record { sfits = omega (arith, f.sfits) }
 fits_signed_to w (suc n) a f h = record { sfits = omega (arith, f.sfits) }
 
--- a dividend that is not the least number, where the divisor is -1
+-- if the divisor is -1, the dividend isn't the least number
 not_least : (w : IntWidth) (x y : ℕ) → x < 2 ^ bits w → y < 2 ^ bits w → (y ≡ 2 ^ bits w - 1 → x ≢ 2 ^ hbits w) → cast_signed w y ≡ negsuc 0 → unsigned_abs (cast_signed w x) < 2 ^ hbits w
 not_least w x y p q h e =
     let greatest : y ≡ 2 ^ bits w - 1 = sym (of_z-to_z w y q) ∙ ap (cast_unsigned w) e in
     let fewer : x ≢ 2 ^ hbits w = h greatest in
     cond_both (nat_lt x (2 ^ hbits w)) _ _ (λ z. unsigned_abs z < 2 ^ hbits w) (λ t. grind (arith, nat_tests)) (λ t. grind (arith, nat_tests, pow-bits w))
 
--- a quotient fits, but that of the least number by -1
+-- a quotient fits, except that of the least number by -1
 quotient_fits : (w : IntWidth) (a d : ℤ) → FitsSigned w a → (d ≡ negsuc 0 → unsigned_abs a < 2 ^ hbits w) → FitsSigned w (int_div a d)
 quotient_fits w (pos a) (pos d) f h = record { sfits = omega (arith, f.sfits, div-le_self a d) }
 quotient_fits w (pos a) (negsuc d) f h = fits_signed_from_abs w _ (omega (arith, ints, f.sfits, div-le_self a (suc d)))
@@ -191,7 +191,7 @@ quotient_reads w x y p q h =
     wrapped_reads w (int_div (cast_signed w x) (cast_signed w y))
     ∙ int_wrap_fits w _ (quotient_fits w (cast_signed w x) (cast_signed w y) (sfits_to_z (record { fits = p })) (not_least w x y p q h))
 
--- so quotient times divisor plus remainder is the dividend, as whole numbers
+-- so quotient times divisor plus remainder is the dividend, as integers
 divided_exactly : (w : IntWidth) (x y : ℕ) → x < 2 ^ bits w → y < 2 ^ bits w → (y ≡ 2 ^ bits w - 1 → x ≢ 2 ^ hbits w)
     → cast_signed w (wrapped (2 ^ bits w) (int_div (cast_signed w x) (cast_signed w y))) *ℤ cast_signed w y +ℤ cast_signed w (wrapped (2 ^ bits w) (int_rem (cast_signed w x) (cast_signed w y))) ≡ cast_signed w x
 divided_exactly w x y p q h = rw (quotient_reads w x y p q h, remainder_reads w x y p) (quot-rem (cast_signed w x) (cast_signed w y))
@@ -220,7 +220,7 @@ pub signed_remainder_near : (width : Width) (x y : ℕ) → 0 < mov_value width 
 signed_remainder_near W32 x y h = rw (not_zero (y % 2 ^ 32) h) (remainder_near w32 (x % 2 ^ 32) (y % 2 ^ 32) (low_below W32 x) (low_below W32 y) h)
 signed_remainder_near W64 x y h = rw (not_zero (y % 2 ^ 64) h) (remainder_near w64 (x % 2 ^ 64) (y % 2 ^ 64) (low_below W64 x) (low_below W64 y) h)
 
--- and has the dividend's sign, where it is not zero
+-- and has the dividend's sign, if it isn't zero
 rem_not_negative : (a d : ℤ) → pos 0 ≤ℤ a → pos 0 ≤ℤ int_rem a d
 rem_not_negative (pos n) d h = omega (arith, ints)
 rem_not_negative (negsuc n) d h = absurd (omega (arith, ints))

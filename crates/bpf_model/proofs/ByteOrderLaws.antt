@@ -1,4 +1,4 @@
--- Reordered bytes are no more bytes; those that are reversed twice stand as they stood.
+-- Reordering adds no bytes; reversing bytes twice gives them back.
 use Rattle.std.proofs.Common.{◌≡◌, ℕ, ◌%◌, ◌<◌, List, get_or, refl, sym, ap, subst, ◌∙◌, arith}
 use Rattle.std.specs.Prelude.{reverse}
 use Rattle.std.specs.Int.{w16, w32, w64, swap_bytes, to_le_bytes, from_be_bytes}
@@ -27,7 +27,7 @@ reversed_again S16 n h = ap (λ (bytes : List ℕ). from_be_bytes w16 (reverse b
 reversed_again S32 n h = ap (λ (bytes : List ℕ). from_be_bytes w32 (reverse bytes)) (be_bytes_4 (to_le_bytes w32 n) (swap_bytes w32 n) refl (small_4 n) refl) ∙ from_be_bytes-to_be_bytes_4 n h
 reversed_again S64 n h = ap (λ (bytes : List ℕ). from_be_bytes w64 (reverse bytes)) (be_bytes_8 (to_le_bytes w64 n) (swap_bytes w64 n) refl (small_8 n) refl) ∙ from_be_bytes-to_be_bytes_8 n h
 
--- what is reversed is a number of its width
+-- a reversed number is a number of its width
 reversed_below : (size : SwapWidth) (n : ℕ) → reversed size n < swap_modulus size
 unfolding reversed
 reversed_below S16 n = omega (arith, small_2 n 0, small_2 n 1)
@@ -45,7 +45,7 @@ reordered_below Little size x = low_of size x
 reordered_below Big size x = reversed_below size (x % swap_modulus size)
 reordered_below Swap size x = reversed_below size (x % swap_modulus size)
 
--- bytes of a word that are reversed, and reversed again, are its low bytes
+-- if the bytes of a word are reversed twice, they are its low bytes
 pub reversed_twice : (size : SwapWidth) (n : ℕ) → reversed size (reversed size (n % swap_modulus size) % swap_modulus size) ≡ n % swap_modulus size
 reversed_twice size n =
     ap (reversed size) (mod-eq_of_lt (reversed_below size (n % swap_modulus size))) ∙ reversed_again size (n % swap_modulus size) (low_of size n)

@@ -77,7 +77,7 @@ jump_insn width code source f =
     else (if nat_eq code 9 then Exit
     else Branch (test_of code) width f.dst (operand_of source f) f.offset)
 
--- by the class, the code and the source of the opcode; a wide instruction has its upper half elsewhere
+-- by the class, the code and the source of the opcode; a wide instruction's upper half is elsewhere
 by_parts : ℕ → ℕ → ℕ → Fields → ℕ → Insn
 by_parts class code source f upper =
     if nat_eq class 0 then Wide f.dst (cast_unsigned w32 f.imm + 2 ^ 32 * upper)
@@ -96,7 +96,7 @@ unfoldable pub upper_half : Insn → ℕ
 upper_half (Wide dst value) = value / 2 ^ 32
 upper_half i = 0
 
--- ---- each instruction is that of its fields
+-- ---- each instruction is the one with its fields
 
 pub opcode_parts : (code source class : ℕ) → source ≤ 1 → class < 8 → (opcode code source class % 8 ≡ class) × (opcode code source class / 16 ≡ code) × (opcode code source class / 8 % 2 ≡ source)
 opcode_parts code source class h k = (omega (arith, h, k), omega (arith, h, k), omega (arith, h, k))

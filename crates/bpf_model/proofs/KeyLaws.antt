@@ -1,4 +1,4 @@
--- The order of keys: what begins another comes before it, and else the first byte that differs decides.
+-- The order of keys: a beginning comes before the longer key; else the first byte that differs decides.
 use Rattle.std.proofs.Common.{◌≡◌, ℕ, ◌<◌, List, [], ◌∷◌, ◌++◌, refl, arith}
 use Rattle.std.specs.declared.cmp.Ordering.TheVariants.{Less, Equal}
 use Rattle.std.specs.Ordering.{nat_cmp}

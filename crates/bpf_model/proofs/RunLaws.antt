@@ -13,7 +13,7 @@ use Rattle.bpf_model.specs.Step.{act, ends_in}
 use Rattle.bpf_model.specs.Meaning.{step, ending, after, Means}
 use Rattle.bpf_model.proofs.Options.{chain_some, some_is}
 
--- what ends a run does not act
+-- an instruction that ends a run does not act
 ends_or_acts : (sizes : Sizes) (i : Insn) (s : State) (a : Answer) → ends_in sizes i s ≡ Some a → act sizes i s ≡ None
 ends_or_acts sizes Exit s a e = refl
 ends_or_acts sizes i s a e = absurd cc
@@ -25,7 +25,7 @@ end_stops program sizes s a e =
     let x = chain_some (λ i. ends_in sizes i s) (instruction_at program s.unit) a e in
     ap (λ (o : Option Insn). option_and_then (λ i. act sizes i s) o) x.1 ∙ ends_or_acts sizes x.0 s a x.2
 
--- after a state without a next one there is none
+-- after a state without a next one there are no more states
 none_after : (program : List Insn) (sizes : Sizes) (n k : ℕ) (s t : State) → after program sizes n s ≡ Some t → step program sizes t ≡ None → after program sizes (suc (k + n)) s ≡ None
 none_after program sizes n zero s t e stop =
     let here : 0 + n ≡ n = omega arith in
@@ -34,7 +34,7 @@ none_after program sizes n (suc k) s t e stop =
     let later : suc k + n ≡ suc (k + n) = omega arith in
     rw later (ap (option_and_then (step program sizes)) (none_after program sizes n k s t e stop))
 
--- a run that comes to an end comes to nothing later
+-- a run that has ended reaches nothing later
 ended_before : (program : List Insn) (sizes : Sizes) (n m : ℕ) (s t u : State) (a : Answer) → n < m → after program sizes n s ≡ Some t → ending program sizes t ≡ Some a → after program sizes m s ≡ Some u → ⊥
 ended_before program sizes n m s t u a h e ends later =
     let k = m - suc n in
@@ -43,7 +43,7 @@ ended_before program sizes n m s t u a h e ends later =
     let both : Some u ≡ None = sym later ∙ none in
     absurd cc
 
--- a program answers one thing on an input
+-- a program gives one answer to an input
 pub one_answer : (program : List Insn) (sizes : Sizes) (input : Input) (a b : Answer) → Means program sizes input a → Means program sizes input b → a ≡ b
 one_answer program sizes input a b (n, (t, (e, ends))) (m, (u, (f, stops))) =
     elim (cases_order n m) [

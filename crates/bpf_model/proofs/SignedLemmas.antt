@@ -23,7 +23,7 @@ modulus_some W64 = omega arith
 pub biased : (w : ℕ) → IsWord w → signed w +ℤ pos (2 ^ 63) ≡ pos ((w + 2 ^ 63) % 2 ^ 64)
 biased w h = elim (cases_lt w (2 ^ 63)) [ inl t ↦ omega (arith, ints, to_z_pos w64 w t) | inr t ↦ grind (arith, ints, nat_tests) ]
 
--- of the lower half of the words it is the word itself
+-- for the lower half of the words it is the word itself
 pub signed_small : (w : ℕ) → w < 2 ^ 63 → signed w ≡ pos w
 signed_small w h = to_z_pos w64 w h
 

@@ -1,4 +1,4 @@
--- Bytes spell one program at most, and no instruction's spelling begins another's.
+-- Bytes spell one program at most, and no instruction's spelling is the beginning of another's.
 use Rattle.std.proofs.Common.{◌≡◌, ◌⊎◌, ℕ, ◌+◌, ◌*◌, ◌/◌, ◌%◌, ◌^◌, ◌<◌, ◌≤◌, true, false, List, [], ◌∷◌, ◌++◌, length, refl, sym, ap, subst, ◌∙◌, append_assoc, arith, length-append, inl, inr}
 use Rattle.std.specs.Prelude.{nat_eq}
 use Rattle.std.specs.Int.{w32, cast_signed, cast_unsigned}
@@ -93,7 +93,7 @@ not_both i j wide narrow e =
 fit-second_unit : (value : ℕ) → IsWord value → FitFields (second_unit value)
 fit-second_unit value h = record { dst = omega arith; offset = zero_offset; imm = half_fits (value / 2 ^ 32) (omega (arith, h)) }
 
--- a second unit tells the upper half
+-- a second unit determines the upper half
 second_unit-first : (v w : ℕ) (xs ys : List ℕ) → IsWord v → IsWord w → unit_bytes (second_unit v) ++ xs ≡ unit_bytes (second_unit w) ++ ys → (v / 2 ^ 32 ≡ w / 2 ^ 32) × (xs ≡ ys)
 second_unit-first v w xs ys is-v is-w e =
     let first = unit_bytes-first (second_unit v) (second_unit w) xs ys (fit-second_unit v is-v) (fit-second_unit w is-w) e in
@@ -114,7 +114,7 @@ second-first i j xs ys is-i is-j (inr narrow) (inl wide) e rest = absurd (not_bo
 second-first i j xs ys is-i is-j (inr narrow) (inr also) e rest =
     (narrow.no_upper ∙ sym also.no_upper, ap (λ (k : List ℕ). k ++ xs) (sym narrow.no_second) ∙ rest ∙ ap (λ (k : List ℕ). k ++ ys) also.no_second)
 
--- no instruction's spelling begins another's
+-- no instruction's spelling is the beginning of another's
 pub spelling-first : (i j : Insn) (xs ys : List ℕ) → IsInstruction i → IsInstruction j → spelling i ++ xs ≡ spelling j ++ ys → (i ≡ j) × (xs ≡ ys)
 spelling-first i j xs ys is-i is-j e =
     let split : unit_bytes (fields_of i) ++ (second_bytes i ++ xs) ≡ unit_bytes (fields_of j) ++ (second_bytes j ++ ys) =
@@ -125,13 +125,13 @@ spelling-first i j xs ys is-i is-j e =
 
 -- ---- programs
 
--- an instruction has eight bytes a unit
+-- an instruction has eight bytes per unit
 pub length-spelling : (i : Insn) → length (spelling i) ≡ 8 * units_of i
 unfolding bytes_of
 length-spelling (Wide dst value) = refl
 length-spelling i = refl
 
--- instructions have eight bytes a unit
+-- instructions have eight bytes per unit
 pub length-spelling_of_all : (is : List Insn) → length (spelling_of_all is) ≡ 8 * unit_count is
 unfolding unit_count
 length-spelling_of_all [] = refl

@@ -1,4 +1,4 @@
--- What a step leaves alone: the windows that may only be read.
+-- Bytes that a step never changes: those of the read-only windows.
 use Rattle.std.proofs.Common.{◌≡◌, ℕ, ◌+◌, ◌<◌, ◌≤◌, Bool, true, false, Some, length, sym, ap, ◌∙◌, ℤ, arith, inl, inr}
 use Rattle.std.specs.Prelude.{nat_le, nat_lt, ◌&&◌, not}
 use Rattle.std.proofs.lemmas.Bool.{cond-false, or_cases, or_left, or_right, cases_Bool, both_ways}
@@ -19,7 +19,7 @@ use Rattle.bpf_model.specs.Step.{address_of, sets, jumps, act}
 use Rattle.bpf_model.proofs.WordLemmas.{length-bytes_of}
 use Rattle.bpf_model.proofs.StepLemmas.{alu_acts, negate_acts, mov_acts, sign_extend_acts, reorder_acts, load_acts, store_acts, branch_acts, sets_is, stores_is, jumps_is}
 
--- whether a window may only be read
+-- whether a window is read-only
 abbrev pub is_read_only : Window → Bool
 is_read_only Key = true
 is_read_only Old = true
@@ -27,7 +27,7 @@ is_read_only Arg = true
 is_read_only Result = false
 is_read_only Stack = false
 
--- bytes of a window may be written where it may not only be read
+-- bytes may be written if the window isn't read-only
 pub writable : (sizes : Sizes) → AreWithinLimits sizes → (window : Window) (a n : ℕ) → lies_in_window sizes window a n ≡ true → can_write sizes a n ≡ not (is_read_only window)
 writable sizes limits Key a n h = let k = limits.key in grind (arith, nat_tests)
 writable sizes limits Old a n h = let k = limits.old in grind (arith, nat_tests)
@@ -39,7 +39,7 @@ writable sizes limits Stack a n h = grind (arith, nat_tests)
 one_of_many : (first size a n q : ℕ) → lies_in first size a n ≡ true → a ≤ q → q < a + n → lies_in first size q 1 ≡ true
 one_of_many first size a n q h from below = grind (arith, nat_tests)
 
--- so a byte among bytes that may be written may be written
+-- so each of several writable bytes is writable
 one_writable : (sizes : Sizes) (a n q : ℕ) → can_write sizes a n ≡ true → a ≤ q → q < a + n → can_write sizes q 1 ≡ true
 one_writable sizes a n q h from below =
     elim (or_cases (lies_in_window sizes Result a n) (lies_in_window sizes Stack a n) h) [
@@ -47,7 +47,7 @@ one_writable sizes a n q h from below =
       | inr e ↦ or_right _ _ (one_of_many 0x50000 STACK_BYTES a n q e from below)
     ]
 
--- bytes that are written where they may be written leave each other byte
+-- an allowed write leaves each byte that can't be written
 other_kept : (sizes : Sizes) (m : Partial) (a n v q : ℕ) → can_write sizes a n ≡ true → can_write sizes q 1 ≡ false → with_bytes m a (bytes_of n v) q ≡ m q
 other_kept sizes m a n v q writes not_q =
     elim (cases_Bool (nat_le a q && nat_lt q (a + length (bytes_of n v)))) [
@@ -59,7 +59,7 @@ other_kept sizes m a n v q writes not_q =
       | inr e ↦ cond-false _ _ _ e
     ]
 
--- a step that sets a register leaves the memory
+-- a step that sets a register doesn't change the memory
 set_kept : (s t : State) (units dst v q : ℕ) → sets s units dst v ≡ Some t → t.memory q ≡ s.memory q
 set_kept s t units dst v q e = ap (λ (u : State). u.memory q) (sym (sets_is s t units dst v e).1)
 
@@ -67,7 +67,7 @@ set_kept s t units dst v q e = ap (λ (u : State). u.memory q) (sym (sets_is s t
 jump_kept : (s t : State) (distance : ℤ) (q : ℕ) → jumps s distance ≡ Some t → t.memory q ≡ s.memory q
 jump_kept s t distance q e = ap (λ (u : State). u.memory q) (sym (jumps_is s t distance e).2)
 
--- a step leaves each byte that may not be written
+-- a step leaves each byte that can't be written
 pub unwritable_kept : (sizes : Sizes) (i : Insn) (s t : State) (q : ℕ) → act sizes i s ≡ Some t → can_write sizes q 1 ≡ false → t.memory q ≡ s.memory q
 unwritable_kept sizes (Alu op width dst src) s t q e h =
     let x = alu_acts sizes s t op width dst src e in

@@ -28,7 +28,7 @@ word_of-bytes_of (suc n) w h =
     let rest : word_of (bytes_of n (w / 256)) ≡ w / 256 = word_of-bytes_of n (w / 256) (omega arith) in
     omega (arith, rest)
 
--- the fields that two registers in a byte, and two signed numbers, leave readable
+-- fields that a unit can hold: two registers in a byte, and two signed numbers
 pub record FitFields (f : Fields) : Type 0 where
   pub dst : f.dst < 16
   pub offset : IsOffset f.offset

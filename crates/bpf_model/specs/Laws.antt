@@ -1,4 +1,4 @@
--- What the laws say of the definitions, each fact under a name.
+-- What the laws say of the definitions, each with a name.
 use Rattle.std.specs.Prelude.{◌≡◌, ℕ, ◌<◌, List, ◌++◌, Some, ℤ, pos, ◌+ℤ◌, ◌*ℤ◌, ◌≤ℤ◌, unsigned_abs}
 use Rattle.bpf_model.specs.declared.input.Sizes.{Sizes}
 use Rattle.bpf_model.specs.declared.instruction.Insn.{Insn}
@@ -9,11 +9,11 @@ use Rattle.bpf_model.specs.Spelling.{spelling, IsInstruction}
 use Rattle.bpf_model.specs.State.{State}
 use Rattle.bpf_model.specs.Step.{act}
 
--- a word's low part as a two's complement number
+-- a word's low part, read as two's complement
 abbrev pub signed_low : Width → ℕ → ℤ
 signed_low width x = signed_at width (mov_value width x)
 
--- the one division of two words whose quotient is no number of the width
+-- the one division of two words whose quotient doesn't fit the width
 abbrev pub IsLeastOfWords : Width → ℕ → ℕ → Type 0
 IsLeastOfWords width x y = IsLeastByMinusOne width (mov_value width x) (mov_value width y)
 
@@ -35,7 +35,7 @@ pub record IsSignedDivision (width : Width) (dividend divisor quotient remainder
 abbrev pub StaysAt : Sizes → ℕ → Type 0
 StaysAt sizes a = (insn : Insn) (s t : State) → act sizes insn s ≡ Some t → t.memory a ≡ s.memory a
 
--- bytes begin with the spelling of no other instruction where they begin with this one's
+-- if bytes begin with this instruction's spelling, they begin with no other's
 abbrev pub IsSpelledAlone : Insn → Type 0
 IsSpelledAlone insn =
     (other : Insn) (xs ys : List ℕ) → IsInstruction other → spelling insn ++ xs ≡ spelling other ++ ys → (insn ≡ other) × (xs ≡ ys)

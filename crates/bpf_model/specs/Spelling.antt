@@ -119,7 +119,7 @@ mov_code = 11
 abbrev pub end_code : ℕ
 end_code = 13
 
--- END has the direction where others have the source, and swaps in the class of ALU64
+-- END has its direction in the source field, and swaps in the class of ALU64
 abbrev pub order_source : ByteOrder → ℕ
 order_source Little = 0
 order_source Big = 1

@@ -1,8 +1,8 @@
-//! What loads and stores move.
+//! The data that loads and stores move.
 ghost use Rattle.std.specs.Prelude.{◌≡◌, ◌≤◌};
 ghost use Rattle.bpf_model.specs.Accesses.{byte_count, loaded_size};
 
-/// How many bytes a load or a store moves.
+/// The number of bytes that a load or a store moves.
 #[derive(Clone, Copy, Debug, PartialEq, Eq)]
 pub enum AccessSize {
     /// 1 byte.
@@ -31,7 +31,7 @@ impl AccessSize {
     }
 }
 
-/// What a load reads, and how it is made a word: with zeros, or with the sign of the bytes read.
+/// What a load reads, and how it extends the value to a word: with zeros, or with the sign of the bytes read.
 #[derive(Clone, Copy, Debug, PartialEq, Eq)]
 pub enum LoadKind {
     Byte,
@@ -44,7 +44,7 @@ pub enum LoadKind {
 }
 
 impl LoadKind {
-    /// How much is read.
+    /// The size of the access.
     pub fn size(self) -> AccessSize
         ensures { result ≡ loaded_size self }
     {

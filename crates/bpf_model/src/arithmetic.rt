@@ -1,4 +1,4 @@
-//! The arithmetic of words, exact to the definitions: what the processor does, with no request for memory.
+//! Arithmetic on words, exactly as the definitions say. No call takes memory.
 ghost use Rattle.std.specs.Prelude.{ℕ, ◌≡◌, ◌+◌, ◌-◌, ◌*◌, ◌%◌, ◌<◌, ◌^◌};
 ghost use Rattle.std.specs.Int.{w8, w16, w32, cast_signed};
 ghost use Rattle.bpf_model.specs.Arithmetic.{modulus, bits_of, sum_of, difference_of, product_of, quotient_of, remainder_of, signed_quotient, signed_remainder, shifted_left, shifted_right, signed_right, low_value, alu_value, negated, mov_value, extended, swap_modulus, reversed, reordered};
@@ -16,7 +16,7 @@ impl Width {
         }
     }
 
-    /// What a move gives: the low part of a word.
+    /// Returns the low part of a word, as a move gives it.
     pub fn low(self, n: u64) -> u64
         ensures value { result ≡ mov_value self n }
         ensures below { result < modulus self }
@@ -27,7 +27,7 @@ impl Width {
         }
     }
 
-    /// How far a shift by this goes.
+    /// Returns how far a shift by `by` goes.
     pub fn shift_amount(self, by: u64) -> u32
         ensures value { result ≡ by % bits_of self }
         ensures bounded { result < 64 }
@@ -38,7 +38,7 @@ impl Width {
         }
     }
 
-    /// What NEG gives.
+    /// Returns the negation, as NEG gives it.
     pub fn negate(self, n: u64) -> u64
         ensures { result ≡ negated self n }
     {
@@ -198,7 +198,7 @@ impl AluOp {
         }
     }
 
-    /// What the operation gives on two words, as RFC 9669 (4.1) says; at 32 bits, on their low parts.
+    /// Returns the result of the operation on two words, as RFC 9669 (4.1) says; at 32 bits, on their low parts.
     pub fn apply(self, width: Width, a: u64, b: u64) -> u64
         ensures { result ≡ alu_value self width a b }
     {
@@ -226,7 +226,7 @@ fn signed_word(n: u64) -> i32
 }
 
 impl SignExtension {
-    /// The low bits with their sign extended; at 32 bits the upper 32 are zero.
+    /// Sign-extends the low bits; at 32 bits the upper 32 are zero.
     #[tactic(auto, unfolding(crate::specs::Arithmetic::extended))]
     pub fn apply(self, n: u64) -> u64
         ensures { result ≡ extended self n }
@@ -265,7 +265,7 @@ impl SwapWidth {
 }
 
 impl ByteOrder {
-    /// The low bits of this width in the given order; the others are zero.
+    /// Returns the low bits of this width in the given byte order; the other bits are zero.
     pub fn apply(self, size: SwapWidth, n: u64) -> u64
         ensures { result ≡ reordered self size n }
     {

@@ -10,7 +10,7 @@ pub enum JumpOp {
     Eq,
     Gt,
     Ge,
-    /// The words have a common bit.
+    /// The words share a set bit.
     Set,
     Ne,
     SGt,
@@ -21,7 +21,7 @@ pub enum JumpOp {
     SLe,
 }
 
-/// What may hold of two words: the tests of jumps, and the one that only their opposites bring.
+/// A condition on two words: what jumps test, and one more that is only an opposite.
 #[derive(Clone, Copy, Debug, PartialEq, Eq)]
 pub enum Condition {
     Eq,
@@ -39,7 +39,7 @@ pub enum Condition {
 }
 
 impl JumpOp {
-    /// What holds of the words where the jump is taken.
+    /// The condition that holds if the jump is taken.
     pub fn condition(self) -> Condition
         ensures { result ≡ condition_of self }
     {
@@ -60,7 +60,7 @@ impl JumpOp {
 }
 
 impl Condition {
-    /// What holds of the words exactly where this does not.
+    /// The condition that holds exactly if this one doesn't.
     pub fn opposite(self) -> Condition
         ensures { result ≡ opposite_of self }
     {
@@ -80,7 +80,7 @@ impl Condition {
         }
     }
 
-    /// Whether the condition holds of two words, at this width.
+    /// Tests whether the condition holds of two words at this width.
     pub fn holds(self, width: Width, a: u64, b: u64) -> bool
         ensures { result ≡ holds self width a b }
     {
@@ -99,7 +99,7 @@ impl Condition {
         }
     }
 
-    /// by the numbers and their signed readings
+    /// compares the numbers and their signed readings
     fn holds_of(self, a: u64, b: u64, signed_a: i64, signed_b: i64) -> bool
         ensures { result ≡ compare self a b signed_a signed_b }
     {

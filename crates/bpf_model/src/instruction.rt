@@ -27,7 +27,7 @@ impl Model for Reg {
 }
 
 impl Reg {
-    /// The register of this number; none above 10.
+    /// Returns the register of this number, or `None` if it is above 10.
     pub fn new(number: u8) -> Option<Reg>
         ensures some { IsSome result ↔ (number ≤ 10) }
         ensures value { IfSome result (λ r. r ≡ number) }
@@ -55,7 +55,7 @@ pub enum Operand {
     Immediate(i32),
 }
 
-/// The word that an immediate stands for.
+/// Returns the word that an immediate stands for.
 pub fn immediate_word(imm: i32) -> u64
     ensures { result ≡ sign_extended imm }
 {
@@ -65,7 +65,7 @@ pub fn immediate_word(imm: i32) -> u64
 /// An instruction, by its name in RFC 9669. A jump's distance counts units, from the next instruction on.
 #[derive(Clone, Copy, Debug, PartialEq, Eq)]
 pub enum Insn {
-    /// ADD, SUB, MUL, DIV, SDIV, OR, AND, LSH, RSH, MOD, SMOD, XOR, ARSH: `dst` becomes what the operation gives on
+    /// ADD, SUB, MUL, DIV, SDIV, OR, AND, LSH, RSH, MOD, SMOD, XOR, ARSH: `dst` becomes the result of the operation on
     /// `dst` and `src`.
     Alu {
         op: AluOp,
@@ -73,7 +73,7 @@ pub enum Insn {
         dst: Reg,
         src: Operand,
     },
-    /// NEG: `dst` becomes 0 less `dst`.
+    /// NEG: `dst` becomes minus `dst`.
     Negate {
         width: Width,
         dst: Reg,
@@ -96,7 +96,7 @@ pub enum Insn {
         size: SwapWidth,
         dst: Reg,
     },
-    /// The wide LD of IMM mode, a 64-bit immediate: `dst` becomes the value. The one instruction of two units.
+    /// The wide LD of IMM mode, a 64-bit immediate: `dst` becomes the value. The only instruction of two units.
     Wide {
         dst: Reg,
         value: u64,
@@ -116,16 +116,16 @@ pub enum Insn {
         src: Operand,
         offset: i16,
     },
-    /// JA of the class JMP: the run goes on at this distance, which stands in the offset.
+    /// JA of the class JMP: jumps by this distance, which is in the offset.
     Jump {
         distance: i16,
     },
-    /// JA of the class JMP32: the same, with the distance in the immediate.
+    /// JA of the class JMP32: the same, but the distance is in the immediate.
     JumpLong {
         distance: i32,
     },
-    /// JEQ, JGT, JGE, JSET, JNE, JSGT, JSGE, JLT, JLE, JSLT, JSLE: the run goes on at this distance where the test holds
-    /// of `dst` and `src`, else at the next instruction.
+    /// JEQ, JGT, JGE, JSET, JNE, JSGT, JSGE, JLT, JLE, JSLT, JSLE: jumps by this distance if the test holds of `dst` and
+    /// `src`, else goes on at the next instruction.
     Branch {
         test: JumpOp,
         width: Width,
@@ -138,7 +138,7 @@ pub enum Insn {
 }
 
 impl Insn {
-    /// How many units of 64 bits the instruction takes: two where it is wide, else one.
+    /// Returns how many units of 64 bits the instruction takes: two if it is wide, else one.
     pub fn units(self) -> usize
         ensures value { result ≡ units_of self }
         ensures bounded { result ≤ 2 }
@@ -149,7 +149,7 @@ impl Insn {
         }
     }
 
-    /// How many units the instructions take in all.
+    /// Returns how many units the instructions take in all.
     pub fn count_units(instructions: &[Insn]) -> usize
         ensures value { result ≡ unit_count instructions.now }
     {

@@ -1,4 +1,4 @@
-//! Laws of the definitions: what holds of them whatever their arguments, each the contract of a small function.
+//! Laws of the definitions, true of all arguments. Each is the contract of a small function.
 ghost use Rattle.std.specs.Prelude.{ℕ, ◌≡◌, ◌↔◌, ◌*◌, ◌++◌, ◌∷◌, ◌<◌, ◌≤◌, length, List, IsTrue, not, true, false};
 ghost use Rattle.std.specs.declared.cmp.Ordering.TheVariants.{Less};
 ghost use Rattle.bpf_model.specs.declared.input.Input.{Input};
@@ -27,7 +27,7 @@ use crate::window::Window;
 use std::cmp::Ordering;
 
 impl Key {
-    /// How the key stands to another in the order of keys.
+    /// How the key compares with another in the order of keys.
     #[tactic(auto, using(crate::proofs::KeyLaws::by_bytes_beginning, crate::proofs::KeyLaws::by_bytes_difference))]
     pub fn compare(&self, other: &Key) -> Ordering
         ensures value { result ≡ by_bytes self.now other.now }
@@ -41,7 +41,8 @@ impl Key {
 }
 
 impl Width {
-    /// Whether the word is a number of the width. Whatever an operation, a negation or a move gives at it is one.
+    /// Tests whether the word is a number of the width. The result of an operation, a negation or a move at this width
+    /// always is.
     #[tactic(auto, using(crate::proofs::ArithmeticLaws::alu_value_below, crate::proofs::ArithmeticLaws::negated_below, crate::proofs::ArithmeticLaws::low_below))]
     pub fn has(self, n: u64) -> bool
         ensures exact { IsTrue result ↔ (n < modulus self) }
@@ -52,8 +53,8 @@ impl Width {
         n <= self.greatest()
     }
 
-    /// The dividend once more, out of its signed quotient and remainder. The least number by -1 gives itself, with
-    /// remainder 0; by zero the quotient is 0 and the remainder the dividend.
+    /// Computes the dividend again from its signed quotient and remainder. The least number by -1 gives itself, with
+    /// remainder 0. If the divisor is zero, the quotient is 0 and the remainder is the dividend.
     pub fn divided_again(self, dividend: u64, divisor: u64) -> u64
         ensures value { result ≡ mov_value self dividend }
         ensures division { let quotient = alu_value SDiv self dividend divisor in
@@ -67,7 +68,7 @@ impl Width {
 }
 
 impl SignExtension {
-    /// Whether the word is one that the extension gives: one that it leaves as it is.
+    /// Tests whether the extension can give this word: if so, extending it again changes nothing.
     #[tactic(auto, using(crate::proofs::ArithmeticLaws::extended_below, crate::proofs::ArithmeticLaws::extended_again))]
     pub fn gives(self, n: u64) -> bool
         ensures exact { IsTrue result ↔ (extended self n ≡ n) }
@@ -79,7 +80,7 @@ impl SignExtension {
 }
 
 impl SwapWidth {
-    /// Reverses the low bytes of a word twice: they are as before, and the others are zero.
+    /// Reverses the low bytes of a word twice: they end as they began, and the other bytes are zero.
     #[tactic(auto, using(crate::proofs::ByteOrderLaws::reordered_below))]
     pub fn reversed_twice(self, n: u64) -> u64
         ensures value { result ≡ reordered Little self n }
@@ -92,7 +93,7 @@ impl SwapWidth {
 }
 
 impl Condition {
-    /// Whether the condition does not hold of two words: exactly then its opposite does.
+    /// Tests whether the condition fails for two words: exactly then its opposite holds.
     pub fn fails(self, width: Width, a: u64, b: u64) -> bool
         ensures value { result ≡ not (holds self width a b) }
         ensures opposite { holds (opposite_of self) width a b ≡ not (holds self width a b) }
@@ -102,7 +103,7 @@ impl Condition {
 }
 
 impl Window {
-    /// Whether the window may only be read: no step changes a byte of such a window, nor any byte outside all windows.
+    /// Tests whether the window is read-only: no step changes a byte of such a window, or a byte outside all windows.
     pub fn is_read_only(self) -> bool
         ensures exact { (sizes : DeclaredSizes) (a n : ℕ) → AreWithinLimits sizes →
             lies_in_window sizes self a n ≡ true → result ≡ not (can_write sizes a n) }
@@ -116,7 +117,7 @@ impl Window {
 }
 
 impl Answer {
-    /// Whether two answers are the same: those that one program gives on one input are.
+    /// Tests whether two answers are the same. A program gives one answer to one input.
     pub fn is_same(&self, other: &Answer) -> bool
         ensures exact { IsTrue result ↔ (self.now ≡ other.now) }
         ensures one { (program : List AnyInsn) (sizes : DeclaredSizes) (input : Input) →
@@ -128,7 +129,8 @@ impl Answer {
 }
 
 impl Insn {
-    /// How many bytes spell the instruction: 8 a unit. No instruction's spelling begins another's.
+    /// Returns how many bytes spell the instruction: 8 per unit. No instruction's spelling is the beginning of
+    /// another's.
     pub fn spelled_bytes(self) -> usize
         ensures value { result ≡ length (spelling self) }
         ensures bounded { result ≤ 16 }
@@ -140,7 +142,7 @@ impl Insn {
 }
 
 impl Program {
-    /// How many bytes spell the program. It has one spelling, and bytes spell one program at most.
+    /// Returns how many bytes spell the program. It has one spelling, and bytes spell one program at most.
     pub fn spelled_bytes(&self) -> usize
         ensures value { result ≡ length (spelling_of_all self.now) }
         ensures bounded { result ≤ 8 * PROGRAM_UNITS }

@@ -1,11 +1,11 @@
-//! BPF programs, what they read and answer, and what they mean.
+//! BPF programs, their input and answer, and their meaning.
 //!
-//! The types are plain data: keys and values of bounded length, instructions, programs. What an instruction does,
-//! what a run is and when a program is safe stands in `specs/`, in the terms of RFC 9669: partial maps of registers
-//! and of addresses, and a step that has no case where RFC 9669 or our profile gives none.
+//! The types are plain data: keys and values of bounded length, instructions, programs. `specs/` says what an
+//! instruction does, what a run is and when a program is safe, in the terms of RFC 9669: partial maps of registers and
+//! of addresses, and a step that has no case if RFC 9669 or our profile gives none.
 //!
-//! The promise to the layers above: lengths are bounded by type, each call gives what its definition says, and whether
-//! an input fits is exact (`fits`, `fits_parts`). No call takes memory or waits.
+//! The promise to the layers above: lengths are bounded by type, each call gives what its definition says, and the test
+//! whether an input fits is exact (`fits`, `fits_parts`). No call takes memory or waits.
 #![tactic(auto)]
 
 pub mod accesses;

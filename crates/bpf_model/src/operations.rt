@@ -17,26 +17,26 @@ pub enum AluOp {
     Add,
     Sub,
     Mul,
-    /// The unsigned quotient; 0 where the divisor is 0.
+    /// The unsigned quotient; 0 if the divisor is 0.
     Div,
-    /// The signed quotient, truncated toward zero; 0 where the divisor is 0.
+    /// The signed quotient, truncated toward zero; 0 if the divisor is 0.
     SDiv,
     Or,
     And,
-    /// To the left, by the amount modulo the width's bits.
+    /// Shifts left, by the amount modulo the width's bits.
     Lsh,
-    /// To the right, zeros coming in.
+    /// Shifts right and fills with zeros.
     Rsh,
-    /// The unsigned remainder; the dividend where the divisor is 0.
+    /// The unsigned remainder; the dividend if the divisor is 0.
     Mod,
-    /// The signed remainder, with the dividend's sign; the dividend where the divisor is 0.
+    /// The signed remainder, with the dividend's sign; the dividend if the divisor is 0.
     SMod,
     Xor,
-    /// To the right, the sign coming in.
+    /// Shifts right and fills with the sign.
     Arsh,
 }
 
-/// Which low bits of a word have their sign extended, and to which width.
+/// How many low bits of a word are sign-extended, and to which width.
 #[derive(Clone, Copy, Debug, PartialEq, Eq)]
 pub enum SignExtension {
     From8To32,
@@ -58,7 +58,7 @@ impl SignExtension {
         }
     }
 
-    /// How many low bits are read.
+    /// Returns how many low bits are read.
     pub fn bits(self) -> u32
         ensures value { result ≡ extension_bits self }
         ensures read { (x : ℕ) → extended self (x % 2 ^ result) ≡ extended self x }
@@ -72,14 +72,14 @@ impl SignExtension {
     }
 }
 
-/// What is done with the order of a word's low bytes. Words are little-endian.
+/// How the order of a word's low bytes changes. Words are little-endian.
 #[derive(Clone, Copy, Debug, PartialEq, Eq)]
 pub enum ByteOrder {
-    /// To little-endian: they stay.
+    /// To little-endian: the bytes stay.
     Little,
-    /// To big-endian: they are reversed.
+    /// To big-endian: the bytes are reversed.
     Big,
-    /// They are reversed.
+    /// Always reverses the bytes.
     Swap,
 }
 

@@ -6,7 +6,7 @@ use crate::instruction::Insn;
 use crate::limits::PROGRAM_UNITS;
 use std::marker::Model;
 
-/// A list of instructions of 1 to `PROGRAM_UNITS` units in all.
+/// A list of 1 to `PROGRAM_UNITS` units of instructions.
 #[derive(Debug, Drop)]
 pub struct Program {
     instructions: Vec<Insn>,
@@ -25,7 +25,7 @@ impl Model for Program {
 }
 
 impl Program {
-    /// The program of these instructions; none where they have no unit or more than `PROGRAM_UNITS`.
+    /// Makes a program of these instructions. Returns `None` if they have no unit or more than `PROGRAM_UNITS`.
     pub fn new(instructions: Vec<Insn>) -> Option<Program>
         ensures some { IsSome result ↔ IsProgram instructions.items }
         ensures value { IfSome result (λ p. p ≡ instructions.items) }

@@ -8,15 +8,15 @@ use crate::limits::STACK_BYTES;
 /// A window of memory.
 #[derive(Clone, Copy, Debug, PartialEq, Eq)]
 pub enum Window {
-    /// The key; may be read.
+    /// The key: read-only.
     Key,
-    /// The old value; may be read.
+    /// The old value: read-only.
     Old,
-    /// The argument; may be read.
+    /// The argument: read-only.
     Arg,
-    /// The result; may be written, and read where it was written.
+    /// The result: can be written, and read after it was written.
     Result,
-    /// The stack; may be written, and read where it was written.
+    /// The stack: can be written, and read after it was written.
     Stack,
 }
 
@@ -34,7 +34,7 @@ impl Window {
         }
     }
 
-    /// How many bytes the window has.
+    /// Returns how many bytes the window has.
     pub fn size(self, sizes: Sizes) -> usize
         ensures { result ≡ window_size sizes self }
     {

@@ -1,4 +1,4 @@
-//! The program `bpfmap`: what its words ask for, over the process's three streams.
+//! The program `bpfmap`: runs its command line over the process's three streams.
 #![tactic(auto)]
 
 use map_commands::{StreamSink, StreamSource, bpfmap_on, tell_unread_words};

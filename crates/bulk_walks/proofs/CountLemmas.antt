@@ -14,7 +14,7 @@ module _ (workers worker : ℕ) (v : View GhostAction) where
   pub counts_none : CountsTurns 0 workers worker v v 0
   counts_none = record { scans = λ _. []; walked = walked_none workers worker _ v; count_is = omega arith; bounded = omega arith }
 
-  -- one stripe more is counted
+  -- one more stripe is counted
   pub counts_more : (n : ℕ) (p q : PassState) (before more : ℕ) → CountsTurns n workers worker v p.view before → n % workers ≡ worker → q.view.passes ≡ p.view.passes
       → CountsStripe p n more q → more < 2 ^ 57 → CountsTurns (n + 1) workers worker v q.view (before + more)
   counts_more n p q before more r turn same e bounded =

@@ -18,7 +18,7 @@ use Rattle.bulk_walks.specs.Turns.{WorkerFinds}
 use Rattle.bulk_walks.proofs.Sums.{with_at, with_at-same, with_at-other, turn_sum-more, turn_sum-past}
 use Rattle.bulk_walks.proofs.TurnLemmas.{walked_none, walked_more, walked_past, walked_stop, walked_as, scanned_more}
 
--- what was scanned may have been
+-- a scan that was made is allowed
 pub may_scan : (workers worker : ℕ) (scans : ℕ → List Entry) (v : View GhostAction) (n : ℕ) (w : View GhostAction) → Walked n workers worker (Each IsScan scans) v w → Walked n workers worker MayScan v w
 may_scan workers worker scans v n w p = walked_as workers worker (Each IsScan scans) MayScan v n w p (λ k found more t e. inr (scans k, e))
 
@@ -42,7 +42,7 @@ module _ (all workers worker : ℕ) (v : View GhostAction) where
     sum = λ h. let m = turn_sum-more workers worker (λ (es : List Entry). sum_by h es) f.scans n entries turn in let s = f.sum h in let b = sum_by-append h found entries in omega (arith, m, s, b);
   }
 
-  -- the same where copies of what was scanned were added, in any order
+  -- the same if copies of the scanned entries were added, in any order
   pub finds_copied : (n : ℕ) (u w : View GhostAction) (found after entries copies : List Entry) → WorkerFinds all n workers worker v u found → n % workers ≡ worker → w.passes ≡ u.passes → Adds u n (own_events u (scanned entries ∷ [])) w → AreOf all n entries
       → length entries < 2 ^ 57 → WeighSame copies entries → after ≡ found ++ copies → WorkerFinds all (n + 1) workers worker v w after
   finds_copied n u w found after entries copies f turn same a are few weigh added =
@@ -64,7 +64,7 @@ module _ (all workers worker : ℕ) (v : View GhostAction) where
     sum = λ h. f.sum h ∙ sym (turn_sum-past workers worker (λ k. sum_by h (f.scans k)) n miss);
   }
 
-  -- it ended
+  -- the loop ended
   pub scans_part : (scans : ℕ → List Entry) (n most : ℕ) (u : View GhostAction) → n ≤ most → Walked n workers worker (Each IsScan scans) v u → Walked most workers worker MayScan v u
   scans_part scans n most u le p = walked_stop workers worker MayScan v n most u le (may_scan workers worker scans v n u p) (λ k _. inl refl)
 
@@ -80,6 +80,6 @@ pub finds_at : (all n workers worker : ℕ) (v : View GhostAction) (p q : PassSt
 finds_at all n workers worker v p q es fs f same list =
     subst (λ (p : PassState). WorkerFinds all n workers worker v p.view fs) (sym same) (subst (λ (es : List Entry). WorkerFinds all n workers worker v p.view es) (sym list) f)
 
--- moved, the found list has the same sums
+-- a list that was moved has the same sums
 pub finds_moved : (all n workers worker : ℕ) (v w : View GhostAction) (es fs : List Entry) → WorkerFinds all n workers worker v w es → IsPermutation es fs → WorkerFinds all n workers worker v w fs
 finds_moved all n workers worker v w es fs f moved = record { scans = f.scans; walked = f.walked; stripes = f.stripes; bounded = f.bounded; sum = λ h. sum_by-IsPermutation h es fs moved ∙ f.sum h }

@@ -1,4 +1,4 @@
--- From what each worker found to what the team found.
+-- From each worker's finds to the team's.
 use Rattle.std.proofs.Common.{◌≡◌, ℕ, ◌^◌, ◌%◌, ◌<◌, List, [], length, map, sum_by, get_or, Result, Ok, Err, IfOk, IsOk, All, refl, sym, ap, ◌∙◌, subst, arith}
 use Rattle.std.specs.List.Sorted.{IsSortedBy}
 use Rattle.std.proofs.lemmas.List.{get_or-map, length-map}
@@ -16,7 +16,7 @@ use Rattle.bulk_walks.specs.Turns.{turn_sum, FindsInOrder, EachFinds, FindsAll, 
 use Rattle.bulk_walks.proofs.Sums.{turn_sum-same, sums_of_turns, sum_by_mapped}
 use Rattle.bulk_walks.proofs.TeamLemmas.{Turn, together, all_walked, head_of}
 
--- what is known of one worker that found all of its own
+-- facts about one worker that found all of its own
 record Own (n workers j : ℕ) (r : Result (List Entry) NoMemory) (scans : ℕ → List Entry) : Type 0 where
   stripes : (k : ℕ) → IsTurn n workers j k → AreOf n k (scans k)
   bounded : (k : ℕ) → IsTurn n workers j k → length (scans k) < 2 ^ 57

@@ -53,7 +53,7 @@ pub lead_fits : (xs : List Entry) → AreBytes (entry_of xs 0).0 → lead_of xs 
 lead_fits [] bytes = omega arith
 lead_fits (x ∷ xs) bytes = omega (arith, bytes 0, bytes 1, bytes 2, bytes 3, bytes 4, bytes 5, bytes 6, bytes 7)
 
--- no list comes before one whose lead is less
+-- no list comes before one with a lesser lead
 pub comes_first-by_lead : (xs ys : List Entry) → AreBytes (entry_of ys 0).0 → lead_of xs < lead_of ys → comes_first ys xs ≡ false
 comes_first-by_lead xs [] bytes less = refl
 comes_first-by_lead [] (y ∷ ys) bytes less = absurd (let fits = lead_fits (y ∷ ys) bytes in omega (arith, less, fits))
@@ -69,7 +69,7 @@ pub comes_first-itself : (xs : List Entry) → comes_first xs xs ≡ false
 comes_first-itself [] = refl
 comes_first-itself (x ∷ xs) = ap is_lt (tied_itself nat_list_cmp_total x.0)
 
--- a key below the first one, and so below all that come behind
+-- a key below the first one, and so below all that follow
 below_first : (key : List ℕ) (e x : Entry) → by_bytes key e.0 ≡ Less → is_lt (by_bytes x.0 e.0) ≡ false → by_bytes key x.0 ≡ Less
 below_first key e x p h = elim (by_bytes x.0 e.0) as (λ r. by_bytes x.0 e.0 ≡ r → by_bytes key x.0 ≡ Less) [
   | Less ↦ λ q. absurd (false≢true (sym h ∙ ap is_lt q))
@@ -86,9 +86,9 @@ none_before key e behind (x ∷ es) p h sorted =
     let c = sum_by-cons (at_key key) x es in
     omega (arith, here, rest, c)
 
--- a list in key order that begins as others do: an entry, of which no lesser key is behind it
+-- a list in key order that begins as others do: an entry, with no lesser key after it
 module _ (e : Entry) (behind : (Entry → ℕ) → ℕ) (least : (key : List ℕ) → by_bytes key e.0 ≡ Less → behind (at_key key) ≡ 0) where
-  -- what is left of it
+  -- the rest of it
   pub record Rest (all : List Entry) : Type 0 where
     pub tail : List Entry
     pub begins : all ≡ e ∷ tail
@@ -170,7 +170,7 @@ module _ (old new : List (List Entry)) (e : Entry) (takes : TakesFirst old e new
   pub goes_on : (all : List Entry) → T (is_sorted by_bytes all) → HasAll all old → Rest e (λ weight. weigh weight new) nothing_less all
   goes_on all order has = rest_of e (λ weight. weigh weight new) nothing_less all order (λ weight. has weight ∙ weighs weight)
 
--- the items that were taken begin the whole list, and the rest of it has what the lists still have
+-- the taken items begin the whole list, and the rest of it has what the lists still have
 pub record Left (items : List Entry) (rests : List (List Entry)) (all : List Entry) : Type 0 where
   pub tail : List Entry
   pub begins : all ≡ items ++ tail
@@ -180,7 +180,7 @@ pub record Left (items : List Entry) (rests : List (List Entry)) (all : List Ent
 pub left_all : (all : List Entry) (lists : List (List Entry)) → T (is_sorted by_bytes all) → HasAll all lists → Left [] lists all
 left_all all lists order has = record { tail = all; begins = refl; order = order; has = has }
 
--- one item more
+-- one more item
 pub left_less : (items : List Entry) (old new : List (List Entry)) (e : Entry) (all : List Entry) → TakesFirst old e new → All (λ es. T (is_sorted by_bytes es)) old → Left items old all → Left (items ++ e ∷ []) new all
 left_less items old new e all takes sorted left =
     let rest = goes_on old new e takes sorted left.tail left.order left.has in
@@ -191,7 +191,7 @@ left_less items old new e all takes sorted left =
       has = rest.same;
     }
 
--- where nothing is left, the items are the whole list
+-- if nothing is left, the items are the whole list
 pub left_none : (items : List Entry) (rests : List (List Entry)) (all : List Entry) (most : ℕ) → Left items rests all → All (λ es. es ≡ []) rests → length items ≤ most → items ≡ take most all
 left_none items rests all most left empty many =
     let none = sum_by-le (λ es. sum_by (λ _. 1) es) 0 rests (λ i d low. let z = ap (λ (es : List Entry). sum_by (λ _. 1) es) (empty i d low) in omega (arith, z)) in
@@ -204,7 +204,7 @@ left_none items rests all most left empty many =
     nothing [] z = refl
     nothing (x ∷ es) z = absurd (let c = sum_by-cons (λ (y : Entry). 1) x es in omega (arith, c, z))
 
--- where as many are there as are wanted, they are the first of it
+-- if there are as many items as are wanted, they are the first of it
 pub left_enough : (items : List Entry) (rests : List (List Entry)) (all : List Entry) (most : ℕ) → Left items rests all → length items ≡ most → items ≡ take most all
 left_enough items rests all most left many = sym (ap (take most) left.begins ∙ ap (λ n. take n (items ++ left.tail)) (sym many) ∙ take-append_seam items left.tail)
 
@@ -222,7 +222,7 @@ module _ (rests : List (List Entry)) (position : ℕ) (inside : position < lengt
   pub taken : (e : Entry) (behind : List Entry) → get_or rests position [] ≡ e ∷ behind → TakesFirst rests e (set rests position behind)
   taken e behind is = record { position = position; behind = behind; inside = inside; was = is; least = least_at (e ∷ behind) is; now = refl }
 
-  -- it has none: then no list has
+  -- it has none: then no list has one
   pub all_empty : get_or rests position [] ≡ [] → All (λ es. es ≡ []) rests
   all_empty is = λ k x low. none (get_or rests k x) (least_at [] is k x low)
     where
@@ -230,12 +230,12 @@ module _ (rests : List (List Entry)) (position : ℕ) (inside : position < lengt
       none [] h = refl
       none (e ∷ es) h = absurd (false≢true (sym h))
 
--- an entry is taken from what is left of the list at the position
+-- an entry is taken from the rest of the list at the position
 module _ (rests : List Remains) (which : ℕ) (inside : which < length rests) (old new : Remains) (was : get_or rests which old ≡ old) (list : new.list ≡ old.list) where
   at_which : {X : Type 0} → (f : Remains → X) → (d : X) → get_or (map f rests) which d ≡ f old
   at_which f d = get_or-map f rests which old d inside ∙ ap f was
 
-  -- the lists are as they were
+  -- the lists are unchanged
   pub lists_kept : lists_of (set rests which new) ≡ lists_of rests
   lists_kept =
       let f : Remains → List Entry = λ rest. rest.list in
@@ -262,7 +262,7 @@ weightless h [] none = refl
 weightless h ([] ∷ lists) none = weightless h lists (omega (arith, none, sum_by-cons (λ (es : List Entry). length es) [] lists)) ∙ refl
 weightless h ((e ∷ es) ∷ lists) none = absurd (let c = sum_by-cons (λ (xs : List Entry). length xs) (e ∷ es) lists in omega (arith, none, c))
 
--- one list has as many entries as all lists: then it weighs as much
+-- if one list has as many entries as all lists, it weighs as much
 pub one_has_all : (h : Entry → ℕ) (lists : List (List Entry)) (position : ℕ) → position < length lists → length (get_or lists position []) ≡ sum_by (λ es. length es) lists
     → weigh h lists ≡ sum_by h (get_or lists position [])
 one_has_all h [] position low all = absurd (omega (arith, low))
@@ -284,7 +284,7 @@ pub one_is_all : (lists : List (List Entry)) (position : ℕ) → position < len
     → T (is_sorted by_bytes (get_or lists position [])) → (all : List Entry) → T (is_sorted by_bytes all) → HasAll all lists → get_or lists position [] ≡ all
 one_is_all lists position low count order all sorted has = sym (same_entries all (get_or lists position []) sorted order (λ h. has h ∙ one_has_all h lists position low count))
 
--- what replies gave is how many items they have
+-- the replies' `given` counts are how many items they have
 pub given_all : (replies : List WalkReply) → All (λ r. r.counts.given ≡ length r.items) replies → sum_by (λ (r : WalkReply). r.counts.given) replies ≡ sum_by (λ es. length es) (items_in replies)
 given_all [] counted = refl
 given_all (r ∷ replies) counted =
@@ -294,7 +294,7 @@ given_all (r ∷ replies) counted =
     let b = sum_by-cons (λ (es : List Entry). length es) r.items (items_in replies) in
     omega (arith, rest, here, a, b)
 
--- so many of the whole list are all
+-- this many of the whole list are all of it
 pub take_whole : (lists : List (List Entry)) (all : List Entry) (count : ℕ) → HasAll all lists → count ≡ sum_by (λ es. length es) lists → take count all ≡ all
 take_whole lists all count has is =
     take_all count all (let a = ones lists in let b = has (λ _. 1) in let c = sum_of_ones all in omega (arith, a, b, c, is))
@@ -308,7 +308,7 @@ take_whole lists all count has is =
         let c = sum_of_ones es in
         omega (arith, rest, a, b, c)
 
--- where nothing was taken, the lists are left
+-- if nothing was taken, the lists remain
 pub lefts_whole : (lists : List (List Entry)) → lefts_of (map whole_of lists) ≡ lists
 lefts_whole [] = refl
 lefts_whole (es ∷ lists) = ap (λ (ls : List (List Entry)). es ∷ ls) (lefts_whole lists)
@@ -317,7 +317,7 @@ pub lists_whole : (lists : List (List Entry)) → lists_of (map whole_of lists) 
 lists_whole [] = refl
 lists_whole (es ∷ lists) = ap (λ (ls : List (List Entry)). es ∷ ls) (lists_whole lists)
 
--- what holds of each reply's items
+-- a fact about each reply's items
 pub sorted_items : (replies : List WalkReply) → All (λ r. T (is_sorted by_bytes r.items)) replies → All (λ es. T (is_sorted by_bytes es)) (items_in replies)
 sorted_items replies sorted = λ k d low.
     let len = length-map replies (λ (r : WalkReply). r.items) in

@@ -1,4 +1,4 @@
--- A key stands at most once in the scans of all stripes.
+-- A key is at most once in the scans of all stripes.
 use Rattle.std.proofs.Common.{◌≡◌, ◌≢◌, ℕ, zero, suc, ◌<◌, ◌≤◌, List, [], ◌∷◌, sum_by, All, refl, sym, ap, ◌∙◌, inl, inr, arith}
 use Rattle.std.specs.declared.cmp.Ordering.TheVariants.{Less, Equal, Greater}
 use Rattle.std.specs.FinMap.{slice_cmp-IsAntisymmetric, nat_cmp-IsAntisymmetric}
@@ -37,7 +37,7 @@ elsewhere n k key (e ∷ es) of ne =
     let c = sum_by-cons (at_key key) e es in
     omega (arith, rest, here, c)
 
--- so a key stands at most once in all scans
+-- so a key is at most once in all scans
 pub once_in_all : (n : ℕ) (scans : ℕ → List Entry) (total : (Entry → ℕ) → ℕ) → ((k : ℕ) → k < n → AreOf n k (scans k)) → ((h : Entry → ℕ) → total h ≡ sum_below n (λ k. sum_by h (scans k))) → (key : List ℕ) → total (at_key key) ≤ 1
 once_in_all n scans total are all key =
     let one = sum_below-one n (λ k. sum_by (at_key key) (scans k)) (stripe_of n key) (λ k low ne. elsewhere n k key (scans k) (are k low).stripe ne) (λ k low. at_most_once key (scans k) (are k low).order) in

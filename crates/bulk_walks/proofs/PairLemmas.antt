@@ -1,4 +1,4 @@
--- Entries with what the program came to at each, in key order.
+-- Entries with the program's outcome at each, in key order.
 use Rattle.std.proofs.Common.{◌≡◌, ℕ, zero, suc, ◌+◌, ◌<◌, List, [], ◌∷◌, ◌++◌, cond, true, false, get_or, map, length, sum_by, Option, Some, Ok, Err, refl, ap, arith, T}
 use Rattle.std.specs.Prelude.{⊤}
 use Rattle.std.specs.List.{count_by}
@@ -21,7 +21,7 @@ use Rattle.bulk_walks.specs.Turns.{items_in, AreReplies}
 use Rattle.bins.proofs.SameEntries.{both, first, second}
 use Rattle.bulk_walks.proofs.Sums.{sum_of_ones}
 
--- an entry, and what the program came to at it
+-- an entry and the program's outcome at it
 abbrev pub Pair : Type 0
 Pair = Entry × Outcome
 
@@ -60,12 +60,12 @@ sum_by-in_order h (p ∷ ps) =
     let other = sum_by-cons h p ps in
     omega (arith, rest, one, other)
 
--- the first of the entries does not come before this one
+-- the first of these entries does not come before this one
 abbrev NotBefore : Entry → List Entry → Type 0
 NotBefore e [] = ⊤
 NotBefore e (f ∷ es) = is_lt (by_bytes f.0 e.0) ≡ false
 
--- no entry comes before the one in front of it
+-- no entry comes before its predecessor
 abbrev pub Ordered : List Entry → Type 0
 Ordered [] = ⊤
 Ordered (e ∷ es) = NotBefore e es × Ordered es
@@ -95,7 +95,7 @@ ordered_in_order [] = tt
 ordered_in_order (p ∷ ps) = ordered_insert p (in_order ps) (ordered_in_order ps)
 
 module _ (checked : Checked) (arg : Option (List ℕ)) where
-  -- each is what the program comes to at its entry
+  -- each is the program's outcome at its entry
   abbrev pub AllCome : List Pair → Type 0
   AllCome [] = ⊤
   AllCome (p ∷ ps) = ComesTo checked (input_of p.0.0 (Some p.0.1) arg) p.1 × AllCome ps
@@ -116,7 +116,7 @@ module _ (checked : Checked) (arg : Option (List ℕ)) where
   outcomes_of [] h = tt
   outcomes_of (p ∷ ps) h = (h.0, outcomes_of ps h.1)
 
--- what an answer weighs, where it is present
+-- the weight of an answer, if it is present
 abbrev weight_at : (Entry → ℕ) → List ℕ → Outcome → ℕ
 weight_at h key (Ok (Bytes answer)) = h (key, answer)
 weight_at h key (Ok Nothing) = 0
@@ -133,7 +133,7 @@ present_cons h e (Ok (Bytes answer)) es os = sum_by-cons h (e.0, answer) (presen
 present_cons h e (Ok Nothing) es os = omega arith
 present_cons h e (Err part) es os = omega arith
 
--- the present answers weigh what the pairs' answers weigh
+-- the present answers weigh the same as the pairs' answers
 pub sum_by-present : (h : Entry → ℕ) (ps : List Pair) → sum_by h (present (entries_in ps) (outcomes_in ps)) ≡ sum_by (answer_weight h) ps
 sum_by-present h [] = refl
 sum_by-present h (p ∷ ps) =
@@ -163,7 +163,7 @@ paired [] os = []
 paired (e ∷ es) [] = []
 paired (e ∷ es) (o ∷ os) = (e, o) ∷ paired es os
 
--- what the pairs of entries and outcomes are
+-- the pairs of entries and outcomes
 record Paired (checked : Checked) (arg : Option (List ℕ)) (es : List Entry) (os : List Outcome) (ps : List Pair) : Type 0 where
   entries : (h : Entry → ℕ) → sum_by (λ p. h p.0) ps ≡ sum_by h es
   answers : (h : Entry → ℕ) → sum_by (answer_weight h) ps ≡ sum_by h (present es os)

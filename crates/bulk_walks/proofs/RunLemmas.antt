@@ -1,4 +1,4 @@
--- Replies that stand where their entries do.
+-- Replies in the places of their entries.
 use Rattle.std.proofs.Common.{◌≡◌, ℕ, suc, ◌<◌, List, [], ◌∷◌, Option, Some, None, IfSome, length, map, drop, get_or, slice_index_or, sym, ap, subst, arith}
 use Rattle.verifier.specs.Checked.{Checked}
 use Rattle.atomic_methods.specs.declared.walk_reply.WalkKind.TheVariants.{ForEach}
@@ -11,7 +11,7 @@ use Rattle.bulk_walks.specs.declared.answering.Part.{Part}
 use Rattle.bulk_walks.specs.Turns.{found_in, AreReplies}
 use Rattle.bulk_walks.proofs.FindingLemmas.{may_scan}
 
--- where each part has its reply, they are the replies to what the parts held
+-- if each part has its reply, they are the replies to the entries of the parts
 pub are_replies : (checked : Checked) (arg : Option (List ℕ)) (old new : List Part) (replies : List WalkReply) → length new ≡ length old
     → ((i : ℕ) (d : Part) → i < length old → IfSome (slice_index_or new i d).reply (λ reply. IsReply ForEach checked arg (slice_index_or old i d).found reply))
     → map Some replies ≡ map (λ part. part.reply) new → AreReplies checked arg (found_in old) replies
@@ -27,7 +27,7 @@ are_replies checked arg (x ∷ old) (y ∷ new) (r ∷ replies) len each told =
       are_replies checked arg old new replies (omega (arith, len)) (λ i d low. each (suc i) d (omega (arith, low))) rest,
     )
 
--- what was scanned may have been
+-- a scan that was made is allowed
 pub may_all : (n : ℕ) (scans : ℕ → List Entry) (before after : List PassState) → AllWalked n (Each IsScan scans) before after → AllWalked n MayScan before after
 may_all n scans before after w = record {
   order = w.order;

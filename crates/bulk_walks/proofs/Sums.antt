@@ -46,7 +46,7 @@ module _ (workers worker : ℕ) where
       let here : cond (eqb (n % workers) worker) (f n) 0 ≤ most = cond_both (eqb (n % workers) worker) (f n) 0 (λ x. x ≤ most) (λ _. below n) (λ _. omega arith) in
       omega (arith, rest, here)
 
--- what the turns come to when one more is counted
+-- the sum over the turns after one more is counted
 pub turn_sum-more : (workers worker : ℕ) {X : Type 0} (h : X → ℕ) (f : ℕ → X) (n : ℕ) (x : X) → n % workers ≡ worker → turn_sum workers worker (λ k. h (with_at f n x k)) (n + 1) ≡ turn_sum workers worker (λ k. h (f k)) n + h x
 turn_sum-more workers worker h f n x t =
     let all = turn_sum-turn workers worker (λ k. h (with_at f n x k)) n t in
@@ -54,7 +54,7 @@ turn_sum-more workers worker h f n x t =
     let here = ap h (with_at-same f n x) in
     omega (arith, all, before, here)
 
--- f of each stripe whose turn is a worker's before the i-th
+-- f of each stripe whose turn belongs to a worker before the i-th
 abbrev upto : ℕ → ℕ → (ℕ → ℕ) → ℕ → ℕ
 upto workers i f n = sum_below n (λ k. cond (ltb (k % workers) i) (f k) 0)
 

@@ -1,4 +1,4 @@
--- From what each worker did to what the team did.
+-- From each worker's work to the team's.
 use Rattle.std.proofs.Common.{◌≡◌, ℕ, ◌^◌, ◌%◌, ◌<◌, ◌≤◌, ◌⊎◌, inl, inr, List, [], ◌∷◌, length, sum_by, get_or, slice_index_or, sym, ap, ◌∙◌, subst, arith}
 use Rattle.std.proofs.lemmas.Bool.{cases_lt}
 use Rattle.std.proofs.lemmas.List.{get_or_default}
@@ -16,7 +16,7 @@ use Rattle.bulk_walks.proofs.Sums.{turn_sum-same, sums_of_turns, bound_of_turns,
 pub at_most_64 : (n : ℕ) → IsStripeCount n → n ≤ 64
 at_most_64 n is = is.1
 
--- where each worker knows its own of each stripe of its turns, one function has all of them
+-- if each worker knows its own value for each stripe of its turns, one function has all of them
 module _ {X : Type 0} (blank : X) (workers : ℕ) where
   pick_by : (G : ℕ → (ℕ → X) → Type 0) → ((j : ℕ) → j < workers → (xs : ℕ → X) × G j xs) → (j : ℕ) → (j < workers) ⊎ (workers ≤ j) → ℕ → X
   pick_by G of j (inl low) = (of j low).0
@@ -33,7 +33,7 @@ module _ {X : Type 0} (blank : X) (workers : ℕ) where
       let own : ℕ → ℕ → X = λ j. pick_by G of j (cases_lt j workers) in
       (λ k. own (k % workers) k, λ j low. (own j, (good_by G of j (cases_lt j workers) low, λ k turn. ap (λ m. own m k) (sym turn))))
 
--- where each worker made such events on its stripes, the team made them on all, whichever is whose
+-- if each worker made such events on its stripes, the team made them on all, whichever worker has which
 module _ {X : Type 0} (Of : ℕ → X → View GhostAction → Events → Events → Type 0) (n : ℕ) (before after : List PassState) (d : PassState) where
   abbrev pub Turn : ℕ → (ℕ → X) → Type 0
   Turn j xs = Walked n (length before) j (Each Of xs) (slice_index_or before j d).view (slice_index_or after j d).view

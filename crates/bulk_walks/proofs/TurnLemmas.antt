@@ -31,7 +31,7 @@ keeps_gains v u w k more numbers p q = record {
   mine = q.mine ∙ ap (λ (es : Events). es ++ more) p.mine;
 }
 
--- what is kept gained no event
+-- a stripe that is kept gained no event
 abbrev gains_none : (v w : View GhostAction) (k : ℕ) → Keeps v w k → Gains v w k []
 gains_none v w k p = record {
   between = [];
@@ -44,7 +44,7 @@ module _ (workers worker : ℕ) (Made : ℕ → View GhostAction → Events → 
   pub walked_none : Walked 0 workers worker Made v v
   walked_none = record { numbers = refl; passes = refl; turns = λ k t. absurd (omega arith); others = λ k _. keeps_all v k }
 
-  -- the next stripe is its turn
+  -- the next stripe is in its turn
   pub walked_more : (n : ℕ) (u w : View GhostAction) (more : Events) → Walked n workers worker Made v u → n % workers ≡ worker → w.passes ≡ u.passes → (a : Adds u n more w)
       → Made n v (seen_of u n ++ a.here.between) more → Walked (n + 1) workers worker Made v w
   walked_more n u w more p turn same a made = record {
@@ -73,7 +73,7 @@ module _ (workers worker : ℕ) (Made : ℕ → View GhostAction → Events → 
     others = λ k no. p.others k (λ t. no (omega arith, t.1));
   }
 
-  -- it stops, and the stripes that are left have none of its events
+  -- it stops, and the remaining stripes have none of its events
   pub walked_stop : (n most : ℕ) (u : View GhostAction) → n ≤ most → Walked n workers worker Made v u → ((k : ℕ) (found : Events) → Made k v found []) → Walked most workers worker Made v u
   walked_stop n most u le p made = record {
     numbers = p.numbers;
@@ -95,11 +95,11 @@ walked_as workers worker Made Also v n w p also = record {
   others = p.others;
 }
 
--- events are under the least of the numbers
+-- events have the least of the numbers
 pub own_again : (u v : View GhostAction) (actions : List Action) → u.numbers ≡ v.numbers → own_events u actions ≡ own_events v actions
 own_again u v actions same = ap (λ (ns : List ℕ). own_events (record v { numbers = ns }) actions) same
 
--- events that are such by one more
+-- the same events, if the function gets one more value
 pub walked_with : {X : Type 0} (Of : ℕ → X → View GhostAction → Events → Events → Type 0) (workers worker : ℕ) (xs : ℕ → X) (v : View GhostAction) (n : ℕ) (u : View GhostAction) (x : X)
     → Walked n workers worker (Each Of xs) v u → Walked n workers worker (Each Of (with_at xs n x)) v u
 walked_with Of workers worker xs v n u x p =

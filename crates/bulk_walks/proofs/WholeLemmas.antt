@@ -1,4 +1,4 @@
--- From the replies to what each worker found to the reply of the walk.
+-- From the replies to each worker's finds to the reply of the walk.
 use Rattle.std.proofs.Common.{◌≡◌, ℕ, zero, suc, ◌^◌, ◌<◌, ◌≤◌, List, [], ◌∷◌, cond, false, All, get_or, length, sum_by, Option, Result, Ok, Err, IfOk, refl, sym, ap, ◌∙◌, subst, arith, add-one, T}
 use Rattle.std.specs.Ordering.{is_lt}
 use Rattle.std.specs.List.Sorted.{IsSortedBy}
@@ -51,7 +51,7 @@ unfit_at_most (e, Ok answer) = omega arith
 unfit_at_most (e, Err part) = omega arith
 
 module _ (n : ℕ) (before after : List PassState) (lists : List (List Entry)) (checked : Checked) (arg : Option (List ℕ)) (replies : List WalkReply) (found : FindsAll n before after lists) (are : AreReplies checked arg lists replies) where
-  -- a key stands at most once in all lists
+  -- a key is at most once in all lists
   once : (key : List ℕ) → sum_by (λ es. sum_by (at_key key) es) lists ≤ 1
   once key = once_in_all n found.scans (λ h. sum_by (λ es. sum_by h es) lists) found.stripes found.sum key
 
@@ -99,7 +99,7 @@ module _ (n : ℕ) (before after : List PassState) (lists : List (List Entry)) (
         let f = few in
         omega (arith, a, b, c, f)
 
-  -- what is merged is the reply to all entries in key order
+  -- the merged reply is the reply to all entries in key order
   pub is_walk : (kind : WalkKind) (reply : WalkReply) → IsMerge kind replies reply → IsWalk kind n checked arg before after reply
   is_walk kind reply merge =
       let all = all_pairs checked arg lists replies are in

@@ -12,7 +12,7 @@ use Rattle.atomic_methods.specs.declared.walk_reply.WalkReply.{WalkReply}
 use Rattle.atomic_methods.specs.Replies.{chosen}
 use Rattle.bulk_walks.specs.Turns.{items_in}
 
--- a list, of which so many entries were taken from the front
+-- a list, with this many entries taken from the front
 pub record Remains : Type 0 where
   pub list : List Entry
   pub taken : ℕ
@@ -21,7 +21,7 @@ pub record Remains : Type 0 where
 abbrev pub whole_of : List Entry → Remains
 whole_of list = record { list = list; taken = 0 }
 
--- what is left
+-- the remaining entries
 abbrev pub left_of : Remains → List Entry
 left_of remains = drop remains.taken remains.list
 
@@ -33,7 +33,7 @@ lefts_of rests = map left_of rests
 abbrev pub lists_of : List Remains → List (List Entry)
 lists_of rests = map (λ rest. rest.list) rests
 
--- each entry stands in `all` as often as in the lists
+-- each entry is in `all` as often as in the lists
 abbrev pub HasAll : List Entry → List (List Entry) → Type 0
 HasAll all lists = (weight : Entry → ℕ) → sum_by weight all ≡ sum_by (λ entries. sum_by weight entries) lists
 
@@ -43,12 +43,12 @@ comes_first [] other = false
 comes_first (x ∷ one) [] = true
 comes_first (x ∷ one) (y ∷ other) = is_lt (by_bytes x.0 y.0)
 
--- the first bytes of a list's first key, as a number; where the list is empty, the greatest one
+-- the first bytes of a list's first key, as a number; if the list is empty, the greatest one
 abbrev pub lead_of : List Entry → ℕ
 lead_of [] = 2 ^ 64 - 1
 lead_of (entry ∷ list) = front 8 entry.0
 
--- the first entry of one list went, and no other list begins with a lesser key
+-- the first entry of one list was taken, and no other list begins with a lesser key
 pub record TakesFirst (old : List (List Entry)) (entry : Entry) (new : List (List Entry)) : Type 0 where
   pub position : ℕ
   pub behind : List Entry
@@ -57,17 +57,17 @@ pub record TakesFirst (old : List (List Entry)) (entry : Entry) (new : List (Lis
   pub least : All (λ list. comes_first list (entry ∷ behind) ≡ false) old
   pub now : new ≡ slice_set old position behind
 
--- the entry at this position of the lists was taken so; or none, since nothing is left of them
+-- the entry at this position of the lists was taken in this way; or none, since nothing is left of them
 abbrev pub TakesLeast : List (List Entry) → List (List Entry) → Option EntryPosition → List (List Entry) → Type 0
 TakesLeast lists old taken new = MatchOption taken (All (λ list. list ≡ []) old) (λ position. TakesFirst old (entry_at lists position) new)
 
--- one number of each kind is the sum of what the replies counted
+-- each count is the sum of the replies' counts
 pub record CountsAdd (replies : List WalkReply) (total : Counts) : Type 0 where
   pub scanned : total.scanned ≡ sum_by (λ reply. reply.counts.scanned) replies
   pub given : total.given ≡ sum_by (λ reply. reply.counts.given) replies
   pub unfit : total.unfit ≡ sum_by (λ reply. reply.counts.unfit) replies
 
--- what a walk of this kind gives of all items of the replies, in key order, and what they counted
+-- the reply of a walk of this kind, made of all items of the replies, in key order, and of their counts
 pub record IsMerge (kind : WalkKind) (replies : List WalkReply) (merged : WalkReply) : Type 0 where
   pub items : (all : List Entry) → T (finmap.is_sorted by_bytes all) → HasAll all (items_in replies) → merged.items ≡ chosen kind all
   pub scanned : merged.counts.scanned ≡ sum_by (λ reply. reply.counts.scanned) replies

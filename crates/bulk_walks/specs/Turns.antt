@@ -1,4 +1,4 @@
--- What each worker of a walk answers.
+-- The answer of each worker of a walk.
 use Rattle.std.specs.Prelude.{◌≡◌, ◌<◌, ◌≤◌, ◌^◌, ◌+◌, ◌%◌, ◌==◌, if◌then◌else◌, ℕ, ⊤, All, List, [], ◌∷◌, Option, Result, Ok, Err, IfOk, length, map, sum_by, slice_index_or}
 use Rattle.std.specs.List.Sorted.{IsSortedBy}
 use Rattle.stripe_rule.specs.declared.view.View.{View}
@@ -16,24 +16,24 @@ use Rattle.atomic_methods.specs.Replies.{IsReply}
 use Rattle.bulk_walks.specs.declared.answering.Part.{Part}
 use Rattle.bulk_walks.specs.Walks.{IsTurn, Walked, AllWalked, Each, IsScan, MayScan, IsReplaced, sum_below}
 
--- f of each stripe below n whose turn is this worker's, added up
+-- the sum of f over the stripes below n whose turn is this worker's
 abbrev pub turn_sum : ℕ → ℕ → (ℕ → ℕ) → ℕ → ℕ
 turn_sum workers worker f n = sum_below n (λ k. if k % workers == worker then f k else 0)
 
--- what a worker did that counted the entries of those of the first n stripes whose turn is its own
+-- the work of a worker that counts its own among the first n stripes
 pub record CountsTurns (n workers worker : ℕ) (v w : View GhostAction) (count : ℕ) : Type 0 where
   pub scans : ℕ → List Entry
   pub walked : Walked n workers worker (Each IsScan scans) v w
   pub count_is : count ≡ turn_sum workers worker (λ k. length (scans k)) n
   pub bounded : count ≤ turn_sum workers worker (λ _. 2 ^ 57) n
 
--- and what each worker did
+-- and the work of each worker
 pub record EachCounts (n : ℕ) (before : List PassState) (counts : List ℕ) (after : List PassState) : Type 0 where
   pub answers : length counts ≡ length before
   pub left : length after ≡ length before
   pub each : (i : ℕ) (d : PassState) (e : ℕ) → i < length before → CountsTurns n (length before) i (slice_index_or before i d).view (slice_index_or after i d).view (slice_index_or counts i e)
 
--- what a worker found on the first n of all stripes
+-- a worker's finds on the first n of all stripes
 pub record WorkerFinds (all n workers worker : ℕ) (v w : View GhostAction) (found : List Entry) : Type 0 where
   pub scans : ℕ → List Entry
   pub walked : Walked n workers worker (Each IsScan scans) v w
@@ -41,7 +41,7 @@ pub record WorkerFinds (all n workers worker : ℕ) (v w : View GhostAction) (fo
   pub bounded : (k : ℕ) → IsTurn n workers worker k → length (scans k) < 2 ^ 57
   pub sum : (weight : Entry → ℕ) → sum_by weight found ≡ turn_sum workers worker (λ k. sum_by weight (scans k)) n
 
--- what a worker found on all of its stripes, sorted
+-- a worker's finds on all of its stripes, sorted
 pub record FindsInOrder (n workers worker : ℕ) (v w : View GhostAction) (found : List Entry) : Type 0 where
   pub finds : WorkerFinds n n workers worker v w found
   pub order : IsSortedBy comes_before found
@@ -51,14 +51,14 @@ abbrev pub found_of : Result (List Entry) NoMemory → List Entry
 found_of (Ok found) = found
 found_of (Err e) = []
 
--- what each worker found
+-- each worker's finds
 pub record EachFinds (n : ℕ) (before : List PassState) (rs : List (Result (List Entry) NoMemory)) (after : List PassState) : Type 0 where
   pub answers : length rs ≡ length before
   pub left : length after ≡ length before
   pub done : (i : ℕ) (d : PassState) (e : Result (List Entry) NoMemory) → i < length before → IfOk (slice_index_or rs i e) (λ found. FindsInOrder n (length before) i (slice_index_or before i d).view (slice_index_or after i d).view found)
   pub part : (i : ℕ) (d : PassState) → i < length before → Walked n (length before) i MayScan (slice_index_or before i d).view (slice_index_or after i d).view
 
--- all stripes were scanned. These lists are sorted, and have the entries of all scans, each as often as the scans
+-- all stripes were scanned; these lists are sorted, and have each entry as often as the scans
 pub record FindsAll (n : ℕ) (before after : List PassState) (lists : List (List Entry)) : Type 0 where
   pub scans : ℕ → List Entry
   pub walked : AllWalked n (Each IsScan scans) before after
@@ -82,7 +82,7 @@ AreReplies checked arg [] (reply ∷ replies) = ⊥
 AreReplies checked arg (entries ∷ lists) [] = ⊥
 AreReplies checked arg (entries ∷ lists) (reply ∷ replies) = IsReply ForEach checked arg entries reply × AreReplies checked arg lists replies
 
--- what a worker did that replaced the values of the first n of all stripes, and counted
+-- the work of a worker that replaces the values among the first n of all stripes, and counts them
 pub record ReplacesTurns (all : ℕ) (checked : Checked) (arg : Option (List ℕ)) (n workers worker : ℕ) (v w : View GhostAction)
     (total : Counts) : Type 0 where
   pub counts : ℕ → Counts
@@ -94,7 +94,7 @@ pub record ReplacesTurns (all : ℕ) (checked : Checked) (arg : Option (List ℕ
   pub bounded_given : total.given ≤ turn_sum workers worker (λ _. 2 ^ 57) n
   pub bounded_unfit : total.unfit ≤ turn_sum workers worker (λ _. 2 ^ 57) n
 
--- and what each worker did
+-- and the work of each worker
 pub record EachReplaces (n : ℕ) (checked : Checked) (arg : Option (List ℕ)) (before : List PassState) (rs : List Counts) (after : List PassState) : Type 0 where
   pub answers : length rs ≡ length before
   pub left : length after ≡ length before
@@ -106,7 +106,7 @@ pub record HasRoom (x y : Counts) : Type 0 where
   pub given : x.given + y.given < 2 ^ 64
   pub unfit : x.unfit + y.unfit < 2 ^ 64
 
--- one number of each kind is the sum of all
+-- each count is the sum of all
 pub record AreSums (all : List Counts) (total : Counts) : Type 0 where
   pub scanned : total.scanned ≡ sum_by (λ c. c.scanned) all
   pub given : total.given ≡ sum_by (λ c. c.given) all

@@ -1,5 +1,5 @@
--- What a walk with a team answers, and what it adds to what the passes have seen. Java SE 17: ConcurrentHashMap.search, forEach,
--- mappingCount and replaceAll, whose function is a program here. Which worker takes which stripe is this map's profile.
+-- The reply of a walk with a team, and what it adds to the passes' knowledge. Java SE 17: ConcurrentHashMap.search, forEach,
+-- mappingCount and replaceAll, but the function is a program here. Which worker takes which stripe is this map's profile.
 use Rattle.std.specs.Prelude.{◌≡◌, ℕ, zero, suc, ◌+◌, ◌%◌, ◌<◌, ◌⊎◌, List, [], ◌∷◌, ◌++◌, Option, Result, MatchResult, length, slice_index_or, sum_by, T}
 use Rattle.std.specs.FinMap as finmap
 use Rattle.stripe_rule.specs.declared.view.Event.{Event}
@@ -22,17 +22,17 @@ use Rattle.atomic_methods.specs.Replies.{IsReply, IsCount}
 abbrev pub Events : Type 0
 Events = List (Event GhostAction)
 
--- f of each number below n, added up
+-- the sum of f over the numbers below n
 abbrev pub sum_below : ℕ → (ℕ → ℕ) → ℕ
 sum_below zero f = 0
 sum_below (suc n) f = sum_below n f + f n
 
--- the stripe k, of n, is the turn of this worker: worker, worker + workers, and so on
+-- of n stripes, the stripe k is in the turn of this worker, which takes worker, worker + workers, and so on
 abbrev pub IsTurn : ℕ → ℕ → ℕ → ℕ → Type 0
 IsTurn n workers worker k = (k < n) × (k % workers ≡ worker)
 
--- on each stripe whose turn is its own the pass made such events, behind all that it had seen and others' events; nothing
--- else is new to it. `Made k v found more`: a pass that knew v made the events `more` on the stripe k behind `found`
+-- on each stripe in its turn the pass made such events, after all that it had seen and others' events; nothing else is
+-- new to it. `Made k v found more`: a pass that knew v made the events `more` on the stripe k after `found`
 pub record Walked (n workers worker : ℕ) (Made : ℕ → View GhostAction → Events → Events → Type 0) (v w : View GhostAction) : Type 0 where
   pub numbers : w.numbers ≡ v.numbers
   pub passes : w.passes ≡ v.passes
@@ -46,7 +46,7 @@ pub record AllWalked (n : ℕ) (Made : ℕ → View GhostAction → Events → E
   pub each : (j : ℕ) (d : PassState) → j < length before
       → Walked n (length before) j Made (slice_index_or before j d).view (slice_index_or after j d).view
 
--- what was made on the stripe k is so by the k-th
+-- the events made on the stripe k are as the k-th says
 abbrev pub Each : {X : Type 0} → (ℕ → X → View GhostAction → Events → Events → Type 0) → (ℕ → X) → ℕ → View GhostAction → Events → Events → Type 0
 Each Of xs k = Of k (xs k)
 
@@ -58,7 +58,7 @@ IsScan k entries v found more = more ≡ own_events v (scanned entries ∷ [])
 abbrev pub MayScan : ℕ → View GhostAction → Events → Events → Type 0
 MayScan k v found more = (more ≡ []) ⊎ ((entries : List Entry) × IsScan k entries v found more)
 
--- one replacement for each key of the table that the events found leave, and so many of each kind
+-- one replacement for each key of the table that the found events leave, with these counts of each kind
 pub record IsReplaced (n : ℕ) (checked : Checked) (arg : Option (List ℕ)) (k : ℕ) (counts : Counts) (v : View GhostAction)
     (found more : Events) : Type 0 where
   pub actions : List Action
@@ -71,11 +71,11 @@ pub record IsReplaced (n : ℕ) (checked : Checked) (arg : Option (List ℕ)) (k
 pub record IsInOrder (n : ℕ) (scans : ℕ → List Entry) (entries : List Entry) : Type 0 where
   -- the keys rise
   pub order : T (finmap.is_sorted by_bytes entries)
-  -- each entry stands there as often as in the scans: however entries are weighed, the sums agree
+  -- each entry is there as often as in the scans: whatever weights you give to entries, the sums agree
   pub all : (weight : Entry → ℕ) → sum_by weight entries ≡ sum_below n (λ k. sum_by weight (scans k))
 
--- a walk that runs a program: one scan of each stripe, and the reply is that of all entries in key order. No number of
--- workers and no threshold stands in the reply's part
+-- a walk that runs a program: one scan of each stripe, and the reply is that of all entries in key order. The reply's
+-- part mentions neither the number of workers nor the threshold
 pub record IsWalk (kind : WalkKind) (n : ℕ) (checked : Checked) (arg : Option (List ℕ)) (before after : List PassState)
     (reply : WalkReply) : Type 0 where
   pub scans : ℕ → List Entry
@@ -84,12 +84,12 @@ pub record IsWalk (kind : WalkKind) (n : ℕ) (checked : Checked) (arg : Option 
   pub in_order : IsInOrder n scans entries
   pub replies : IsReply kind checked arg entries reply
 
--- what a team answers that walks so: that reply; or no memory, and each stripe has its scan or none
+-- the answer of a team that makes this walk: that reply, or `NoMemory`, and then each stripe has its scan or none
 abbrev pub Walks : WalkKind → ℕ → Checked → Option (List ℕ) → List PassState → List PassState → Result WalkReply NoMemory → Type 0
 Walks kind n checked arg before after result =
     MatchResult result (λ reply. IsWalk kind n checked arg before after reply) (λ _. AllWalked n MayScan before after)
 
--- a walk that counts: one scan of each stripe, and how many entries they found
+-- a walk that counts: one scan of each stripe, and the number of entries that they found
 pub record CountsAll (n : ℕ) (before after : List PassState) (reply : WalkReply) : Type 0 where
   pub scans : ℕ → List Entry
   pub walked : AllWalked n (Each IsScan scans) before after

@@ -1,4 +1,4 @@
-//! What the program answers on the entries that a walk found.
+//! The program's answers on the entries that a walk found.
 ghost use Rattle.std.specs.Prelude.{◌≡◌, ℕ, ◌<◌, IfOk, IfSome, Some, length, map, slice_index_or};
 ghost use Rattle.atomic_methods.specs.declared.walk_reply.WalkKind.TheVariants.{ForEach};
 ghost use Rattle.atomic_methods.specs.Replies.{IsReply};
@@ -14,7 +14,7 @@ use std::thread::Threads;
 use verifier::Verified;
 use workers::for_each_apart;
 
-/// What one worker found, and its reply. There is none before the program has run, nor if memory was refused to it.
+/// One worker's entries and its reply. It has none before the program has run, or if it was refused memory.
 #[derive(Drop)]
 pub(crate) struct Part {
     pub(crate) found: SortedEntries,
@@ -51,7 +51,7 @@ fn answer_each<R: Threads + Sync>(
     }
 }
 
-/// The replies of all parts. Returns `NoMemory` if one has none.
+/// Collects the replies of all parts. Returns `NoMemory` if one has none.
 fn replies_of(alloc: Global, parts: Vec<Part>) -> Result<Vec<WorkerReply>, NoMemory>
     ensures { IfOk result (λ replies. map Some replies.items ≡ map (λ part. part.reply) parts.items) }
 {
@@ -66,8 +66,8 @@ fn replies_of(alloc: Global, parts: Vec<Part>) -> Result<Vec<WorkerReply>, NoMem
     Ok(replies)
 }
 
-/// Runs the program on the entries of all parts, each in a thread of its own or one after the other: the reply of each.
-/// Returns `NoMemory` if a request for memory is refused.
+/// Runs the program on the entries of all parts, each in a thread of its own or one after the other, and returns the
+/// reply of each. Returns `NoMemory` if a request for memory is refused.
 pub(crate) fn answer_all<R: Threads + Sync>(
     rt: &R,
     alloc: Global,
@@ -83,7 +83,7 @@ pub(crate) fn answer_all<R: Threads + Sync>(
     Ok(replies)
 }
 
-/// How many entries the parts hold; not more than the greatest number.
+/// Returns how many entries the parts hold, capped at the greatest number.
 pub(crate) fn held_in(parts: &[Part]) -> u64 {
     let mut held: u64 = 0;
     for part in parts {

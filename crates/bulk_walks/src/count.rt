@@ -1,4 +1,4 @@
-//! How many entries there are.
+//! The number of entries.
 ghost use Rattle.std.specs.Prelude.{◌≡◌, ◌<◌, ◌^◌, All, MatchResult, sum_by};
 ghost use Rattle.bin_stripes.specs.Passes.{stripes_of};
 ghost use Rattle.bulk_walks.specs.Walks.{AllWalked, MayScan, CountsAll};
@@ -14,7 +14,7 @@ use std::sync::Wait;
 use std::thread::Threads;
 use workers::work;
 
-/// The worker's stripes, one after the other.
+/// Counts the worker's stripes, one after the other.
 fn count_turns<R: Wait, G: Gate>(rt: &R, worker: &Turns<'_>, gate: &G, pass: &mut Pass) -> u64
     requires map { pass.old.map ≡ worker.now.map.now }
     requires worker { worker.now.number < worker.now.workers }
@@ -32,7 +32,7 @@ fn count_turns<R: Wait, G: Gate>(rt: &R, worker: &Turns<'_>, gate: &G, pass: &mu
     count
 }
 
-/// The counts of the workers, added up.
+/// Adds up the counts of the workers.
 fn total(counts: &[u64]) -> u64
     requires { sum_by (λ n. n) counts.now < 2 ^ 64 }
     ensures { result ≡ sum_by (λ n. n) counts.now }
@@ -44,8 +44,8 @@ fn total(counts: &[u64]) -> u64
     sum
 }
 
-/// How many entries there are, each stripe counted by one scan. Returns `NoMemory` if a request for the lists of the team's
-/// workers is refused: no entry is copied. Waits until each stripe is free.
+/// Returns the number of entries, with one scan of each stripe. Returns `NoMemory` if a request for the lists of the team's
+/// workers is refused; no entry is copied. Waits until each stripe is free.
 pub fn mapping_count<R: Threads + Wait + Sync, G: Gate + Sync>(
     rt: &R,
     alloc: Global,

@@ -14,7 +14,7 @@ use std::sync::Wait;
 use std::thread::Threads;
 use workers::work;
 
-/// The worker's stripes, one after the other.
+/// Scans the worker's stripes, one after the other.
 fn scan_turns<R: Wait, G: Gate>(
     rt: &R,
     alloc: Global,
@@ -39,7 +39,7 @@ fn scan_turns<R: Wait, G: Gate>(
     Ok(found)
 }
 
-/// The entries of the worker's stripes, in key order.
+/// Returns the entries of the worker's stripes, in key order.
 fn sorted_turns<R: Wait, G: Gate>(
     rt: &R,
     alloc: Global,
@@ -58,7 +58,7 @@ fn sorted_turns<R: Wait, G: Gate>(
     Ok(sorted)
 }
 
-/// A part for each worker's entries, without a reply.
+/// Makes a part for each worker's entries, without a reply.
 fn parts_of(
     alloc: Global,
     answers: Vec<Result<SortedEntries, NoMemory>>,
@@ -74,8 +74,8 @@ fn parts_of(
     Ok(parts)
 }
 
-/// The entries of all stripes, each scanned once by the worker whose turn it is: for each worker its part, with its entries in
-/// key order.
+/// Finds the entries of all stripes. The worker whose turn it is scans each stripe once. Returns for each worker its part,
+/// with its entries in key order.
 pub(crate) fn find<R: Threads + Wait + Sync, G: Gate + Sync>(
     rt: &R,
     alloc: Global,

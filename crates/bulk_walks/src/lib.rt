@@ -1,9 +1,9 @@
 //! Walks over a striped map by a team of workers.
 //!
-//! The promise to the layer above: a walk is a function of one scan of each stripe, which the worker whose turn the stripe is
-//! made; the same scans give the same reply however many workers there are (`IsWalk`, `CountsAll`, `ReplacesAll` of
+//! The promise to the layer above: a walk is a function of one scan of each stripe, made by the worker whose turn the stripe
+//! is. The same scans give the same reply however many workers there are (`IsWalk`, `CountsAll`, `ReplacesAll` of
 //! `specs/Walks.antt`). After `NoMemory` each stripe has all its events of the walk or none. The team comes back with its
-//! passes in their order. Each walk waits until each stripe is free in its turn, and takes memory for what it gives.
+//! passes in their order. Each walk waits until each stripe is free in its turn, and takes memory for its results.
 #![tactic(auto)]
 
 mod alike;

@@ -15,8 +15,8 @@ use bpf_model::NoMemory;
 use std::alloc::Global;
 use std::marker::Model;
 
-/// The reply of this kind that is made of replies of the kind `ForEach`, each with its items in key order. Returns `NoMemory`
-/// if a request for memory is refused. The items of one reply that has all, or of `ForEach`, are not copied.
+/// Merges replies of the kind `ForEach`, each with its items in key order, into one reply of this kind. Returns `NoMemory` if
+/// a request for memory is refused. If one reply has all items, or for `ForEach`, items are not copied.
 pub(crate) fn merged(
     alloc: Global,
     kind: WalkKind,
@@ -39,7 +39,7 @@ pub(crate) fn merged(
     Ok(WalkReply { items, counts })
 }
 
-/// What all replies counted.
+/// Adds up the counts of all replies.
 fn total_of(replies: &[WorkerReply]) -> Counts
     requires scanned { sum_by (λ reply. reply.counts.scanned) replies.now < 2 ^ 64 }
     requires given { sum_by (λ reply. reply.counts.given) replies.now < 2 ^ 64 }
@@ -53,7 +53,7 @@ fn total_of(replies: &[WorkerReply]) -> Counts
     total
 }
 
-/// The first item of all replies in key order: a copy, since the others are given up.
+/// Returns the first item of all replies in key order: a copy, since the others are dropped.
 fn first_item(alloc: Global, replies: Vec<WorkerReply>) -> Result<MergedEntries, NoMemory>
     requires order { All (λ reply. T (finmap.is_sorted by_bytes reply.items)) replies.items }
     ensures { IfOk result (λ items. (all : List Entry) → T (finmap.is_sorted by_bytes all) → HasAll all (items_in replies.items) → items ≡ take 1 all) }
@@ -63,7 +63,7 @@ fn first_item(alloc: Global, replies: Vec<WorkerReply>) -> Result<MergedEntries,
     Ok(MergedEntries::of_one(copy))
 }
 
-/// All items of all replies, `count` of them, in key order: those of one reply if it has all of them.
+/// Returns all items of all replies, `count` of them, in key order: those of one reply if it has all of them.
 fn all_items(
     alloc: Global,
     mut replies: Vec<WorkerReply>,
@@ -81,7 +81,7 @@ fn all_items(
     Ok(items)
 }
 
-/// The position of a reply that has this many items.
+/// Returns the position of a reply that has this many items.
 fn position_with(replies: &[WorkerReply], count: usize) -> Option<usize>
     ensures range { IfSome result (λ position. position < length replies.now) }
     ensures count { IfSome result (λ position. length (slice_index_or (items_in replies.now) position []) ≡ count) }
@@ -94,7 +94,7 @@ fn position_with(replies: &[WorkerReply], count: usize) -> Option<usize>
     None
 }
 
-/// The first `most` items of all replies, in key order. They stay where they are.
+/// Returns the first `most` items of all replies, in key order. They stay in place.
 fn first_items(
     alloc: Global,
     replies: Vec<WorkerReply>,
@@ -108,7 +108,7 @@ fn first_items(
     Ok(MergedEntries::of_several(lists, positions))
 }
 
-/// The items of each reply.
+/// Takes the items out of each reply.
 fn lists_in(alloc: Global, replies: Vec<WorkerReply>) -> Result<Vec<EntryList>, NoMemory>
     ensures { IfOk result (λ lists. lists.items ≡ items_in replies.items) }
 {
@@ -119,7 +119,7 @@ fn lists_in(alloc: Global, replies: Vec<WorkerReply>) -> Result<Vec<EntryList>, 
     Ok(lists)
 }
 
-/// The positions of the first `most` items of all replies, in key order.
+/// Returns the positions of the first `most` items of all replies, in key order.
 fn first_positions(
     alloc: Global,
     replies: &[WorkerReply],
@@ -139,8 +139,8 @@ fn first_positions(
     Ok(positions)
 }
 
-/// Items that are lent, and how many were taken from their front. The first bytes of the first key that is left are kept at hand,
-/// as a number: its lead. If nothing is left the lead is the greatest number.
+/// Borrowed items, and how many were taken from their front. The lead is the first bytes of the first remaining key, kept as a
+/// number. If nothing is left the lead is the greatest number.
 #[derive(Drop)]
 struct Rest<'a> {
     items: &'a EntryList,
@@ -163,7 +163,7 @@ impl<'a> Model for Rest<'a> {
 }
 
 impl<'a> Rest<'a> {
-    /// All of these items.
+    /// Starts with all of these items.
     fn new(items: &'a EntryList) -> Rest<'a>
         ensures { result ≡ record { list = items.now; taken = 0 } }
     {
@@ -174,7 +174,7 @@ impl<'a> Rest<'a> {
         }
     }
 
-    /// Whether nothing is left.
+    /// Tests whether nothing is left.
     #[inline(always)]
     fn is_over(&self) -> bool
         ensures exact { IsTrue result ↔ (length (left_of self.now) ≡ 0) }
@@ -182,7 +182,7 @@ impl<'a> Rest<'a> {
         self.next >= self.items.len()
     }
 
-    /// The first key; no bytes if nothing is left.
+    /// Returns the first key; no bytes if nothing is left.
     #[inline(always)]
     fn key(&self) -> &'a [u8]
         ensures value { result.now ≡ (entry_of (left_of self.now) 0).0 }
@@ -190,7 +190,7 @@ impl<'a> Rest<'a> {
         self.items.key(self.next)
     }
 
-    /// The first bytes of the first key, as a number; the greatest one if nothing is left.
+    /// Returns the first bytes of the first key, as a number; the greatest one if nothing is left.
     #[inline(always)]
     fn lead(&self) -> u64
         ensures value { result ≡ lead_of (left_of self.now) }
@@ -199,7 +199,7 @@ impl<'a> Rest<'a> {
         self.lead
     }
 
-    /// Takes the first item, if there is one: its position.
+    /// Takes the first item, if there is one, and returns its position.
     #[inline(always)]
     fn take_first(&mut self) -> Option<usize>
         ensures first { MatchOption result (left_of self.old ≡ []) (λ position. left_of self.old ≡ entry_of self.old.list position ∷ left_of self.new) }
@@ -226,7 +226,7 @@ fn rests_of<'a>(alloc: Global, replies: &'a [WorkerReply]) -> Result<Vec<Rest<'a
     Ok(rests)
 }
 
-/// Takes the first item of a rest, with the least key of all: its position. None if all rests are empty.
+/// Takes the first item with the least key of all and returns its position, or `None` if all rests are empty.
 fn take_least(rests: &mut Vec<Rest<'_>>) -> Option<EntryPosition>
     ensures least { TakesLeast (lists_of rests.old.items) (lefts_of rests.old.items) result (lefts_of rests.new.items) }
     ensures lists { lists_of rests.new.items ≡ lists_of rests.old.items }
@@ -240,7 +240,7 @@ fn take_least(rests: &mut Vec<Rest<'_>>) -> Option<EntryPosition>
     Some(EntryPosition { list, position })
 }
 
-/// The lead of what is left of the items from a position on.
+/// Returns the lead of the items from a position on.
 #[inline(always)]
 fn lead_at(items: &EntryList, position: usize) -> u64
     ensures value { result ≡ lead_of (drop position items.now) }
@@ -252,7 +252,7 @@ fn lead_at(items: &EntryList, position: usize) -> u64
     u64::MAX
 }
 
-/// The position of a rest before which no other comes. Mostly the leads tell.
+/// Returns the position of a rest that no other comes before. Mostly the leads tell.
 #[inline(always)]
 fn least(rests: &[Rest<'_>]) -> usize
     requires { 0 < length rests.now }
@@ -266,8 +266,8 @@ fn least(rests: &[Rest<'_>]) -> usize
     least_key(rests)
 }
 
-/// The position of a rest with the least lead, and whether the others' leads are greater: then no other comes before it.
-/// Nothing branches on a lead, since which one is less is anyone's guess.
+/// Returns the position of a rest with the least lead, and whether the other leads are greater: then no other comes
+/// before it. Doesn't branch on a lead, since nobody can predict which one is less.
 #[inline(always)]
 fn least_lead(rests: &[Rest<'_>]) -> (usize, bool)
     requires { 0 < length rests.now }
@@ -286,7 +286,7 @@ fn least_lead(rests: &[Rest<'_>]) -> (usize, bool)
     (position, least < second)
 }
 
-/// The position of a rest whose first key none of the others' comes before.
+/// Returns the position of a rest whose first key no other's comes before.
 #[inline(never)]
 fn least_key(rests: &[Rest<'_>]) -> usize
     requires { 0 < length rests.now }
@@ -302,7 +302,7 @@ fn least_key(rests: &[Rest<'_>]) -> usize
     position
 }
 
-/// Whether the one rest's first key comes before the other's. An empty rest comes last.
+/// Tests whether the one rest's first key comes before the other's. An empty rest comes last.
 #[inline(always)]
 fn is_first(one: &Rest<'_>, other: &Rest<'_>) -> bool
     ensures { result ≡ comes_first (left_of one.now) (left_of other.now) }

@@ -34,7 +34,7 @@ pub(crate) const ZERO: Counts = Counts {
     unfit: 0,
 };
 
-/// The worker's stripes, one after the other.
+/// Replaces the values of the worker's stripes, one after the other.
 fn replace_turns<R: Wait, G: Gate>(
     rt: &R,
     worker: &Turns<'_>,
@@ -63,7 +63,7 @@ fn replace_turns<R: Wait, G: Gate>(
     total
 }
 
-/// The counts of the workers, added up.
+/// Adds up the counts of the workers.
 fn sum_of(answers: &[Counts]) -> Counts
     requires scanned { sum_by (λ c. c.scanned) answers.now < 2 ^ 64 }
     requires given { sum_by (λ c. c.given) answers.now < 2 ^ 64 }
@@ -77,10 +77,10 @@ fn sum_of(answers: &[Counts]) -> Counts
     total
 }
 
-/// Replaces the value of each key once, stripe by stripe, by what the program answers on the key, its value and the
-/// argument. An answer of nothing keeps the entry, and one that does not fit stays. The reply has no items: its count `given` is
-/// of the values that were entered. Returns `NoMemory` if a request for memory is refused; nothing was replaced then. Waits
-/// until each stripe is free.
+/// Replaces the value of each key once, stripe by stripe, by the program's answer on the key, its value and the argument. If
+/// the answer is nothing, or the entry does not fit, the entry stays. The reply has no items: its count `given` is the number
+/// of values that were entered. Returns `NoMemory` if a request for memory is refused; then nothing was replaced. Waits until
+/// each stripe is free.
 pub fn replace_all<R: Threads + Wait + Sync, G: Gate + Sync>(
     rt: &R,
     alloc: Global,

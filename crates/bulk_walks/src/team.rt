@@ -5,15 +5,15 @@ use bin_stripes::Pass;
 use std::error::Error;
 use std::fmt;
 
-/// A team of no pass: number 53.
+/// A team without a pass: number 53.
 #[derive(Clone, Copy, Debug, PartialEq, Eq)]
 pub struct EmptyTeam;
 
 impl EmptyTeam {
-    /// The number under which this refusal is printed and sent.
+    /// This error is printed and sent with this number.
     pub const NUMBER: u8 = 53;
 
-    /// That number.
+    /// Returns `NUMBER`.
     pub fn number(self) -> u8
         ensures { result ≡ 53 }
     {
@@ -41,7 +41,7 @@ pub struct Team {
 }
 
 impl Team {
-    /// The team of these passes; `EmptyTeam` if there is none. Takes no memory.
+    /// Makes a team of these passes; `EmptyTeam` if there are none. Takes no memory.
     pub fn new(passes: Vec<Pass>) -> Result<Team, EmptyTeam>
         ensures some { IsOk result ↔ (0 < vec_len passes) }
         ensures team { IfOk result (λ team. team.passes ≡ passes) }
@@ -52,7 +52,7 @@ impl Team {
         Ok(Team { passes })
     }
 
-    /// The passes, in their order. Takes no memory.
+    /// Returns the passes, in their order. Takes no memory.
     pub fn into_passes(self) -> Vec<Pass>
         ensures { result ≡ self.passes }
     {

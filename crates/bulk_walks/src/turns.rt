@@ -11,7 +11,7 @@ pub(crate) struct Turns<'a> {
 }
 
 impl<'a> Turns<'a> {
-    /// Passes the gate before its first stripe, if it has one.
+    /// Passes the gate before its first stripe, if it has a stripe.
     pub(crate) fn start<G: Gate>(&self, gate: &G) {
         if self.number < self.map.stripes() {
             gate.pass(Place::WalkStart, self.number as u32);

@@ -16,22 +16,22 @@ use std::sync::Wait;
 use std::thread::Threads;
 use verifier::Verified;
 
-/// What a walk runs on each entry, and which answers it gives. The program runs in the workers if there are at least
-/// `threshold` entries, else in the calling thread.
+/// The program that a walk runs on each entry, and which answers it gives. The program runs in the workers if there are
+/// at least `threshold` entries, else in the calling thread.
 #[derive(Clone, Copy)]
 pub struct Walk<'a> {
-    /// Which answers are given.
+    /// Which answers the walk gives.
     pub kind: WalkKind,
-    /// The program that is run.
+    /// The program to run.
     pub program: &'a Verified,
     /// Its argument.
     pub arg: &'a Option<Value>,
-    /// From how many entries on the workers run it.
+    /// The workers run the program if there are at least this many entries.
     pub threshold: u64,
 }
 
-/// Scans each stripe once, runs the program on each entry, and gives the answers of this kind of walk. Returns `NoMemory` if a
-/// request for memory is refused. Waits until each stripe is free.
+/// Scans each stripe once, runs the program on each entry, and returns the answers of this kind of walk. Returns `NoMemory` if
+/// a request for memory is refused. Waits until each stripe is free.
 pub fn walk_map<R: Threads + Wait + Sync, G: Gate + Sync>(
     rt: &R,
     alloc: Global,

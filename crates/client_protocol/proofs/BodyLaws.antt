@@ -1,4 +1,4 @@
--- Fields' faults are a body's.
+-- Faults of fields are faults of the body.
 use Rattle.std.proofs.Common.{◌≡◌, ◌≢◌, ℕ, ◌≤◌, arith, false, List, [], ◌∷◌, ◌++◌, length, Option, Some, refl, sym, ap, ◌∙◌, inl}
 use Rattle.std.specs.Prelude.{nat_eq}
 use Rattle.bpf_model.specs.declared.input.Sizes.{Sizes}
@@ -12,11 +12,11 @@ use Rattle.client_protocol.specs.Bodies.Kind.{a_short}
 use Rattle.client_protocol.specs.Bodies.Field.{byte}
 use Rattle.client_protocol.specs.Reading.{NoFields, SpellsBody, TakesSizes}
 
--- the bytes behind a tag do not begin with its fields
+-- the bytes after a tag do not begin with its fields
 pub bad_fields : (hello : Option Version) (tag : ℕ) (kinds : List Kind) (bytes : List ℕ) → kinds_of tag ≡ Some kinds → NoFields (limits_after hello) kinds bytes → BodyHas hello (tag ∷ bytes) BadField
 bad_fields hello tag kinds bytes known none = record { tag = tag; rest = bytes; kinds = kinds; spelled = refl; known = known; bad = none }
 
--- bytes are left behind the fields
+-- bytes are left after the fields
 pub trailing : (hello : Option Version) (tag : ℕ) (kinds : List Kind) (bytes : List ℕ) (fields : List Field) (tail : List ℕ) → kinds_of tag ≡ Some kinds → takes_tail tag ≡ false → TakesAll (limits_after hello) kinds bytes fields tail → 1 ≤ length tail → BodyHas hello (tag ∷ bytes) TrailingBytes
 trailing hello tag kinds bytes fields tail known none takes more =
     record {

@@ -1,4 +1,4 @@
--- Some list and some rest belong to bytes.
+-- Bytes have some list and some rest.
 use Rattle.std.proofs.Common.{◌≡◌, ◌≢◌, ℕ, zero, suc, ◌+◌, ◌^◌, ◌<◌, ◌≤◌, ◌⊎◌, inl, inr, arith, Bool, true, false, List, [], ◌∷◌, ◌++◌, length, take, drop, get_or, Option, Some, None, refl, sym, ap, subst, ◌∙◌, append_assoc, length-drop, length-take-le, take-append-drop}
 use Rattle.std.specs.Prelude.{nat_eq, if◌then◌else◌}
 use Rattle.std.specs.Int.{w16, w32, w64, to_be_bytes, from_be_bytes}
@@ -19,7 +19,7 @@ use Rattle.client_protocol.proofs.BodyLaws.{bad_fields, trailing, misplaced}
 use Rattle.client_protocol.proofs.Unique.{request_of, request_again}
 use Rattle.client_protocol.proofs.HeldLaws.{frames_first, frames_begun, frames_failed}
 
--- ---- what can be told apart
+-- ---- cases that can be told apart
 
 le_or : (m n : ℕ) → (m ≤ n) ⊎ (n < m)
 le_or zero n = inl (omega arith)
@@ -135,7 +135,7 @@ bytes_get [] p (suc i) = omega arith
 bytes_get (b ∷ bytes) p zero = p.0
 bytes_get (b ∷ bytes) p (suc i) = bytes_get bytes p.1 i
 
--- a number of 16 bits, and what is behind it
+-- a number of 16 bits, and the bytes after it
 abbrev Short : List ℕ → Type 0
 Short bytes = (n : ℕ) × (rest : List ℕ) × (n < 2 ^ 16) × (bytes ≡ to_be_bytes w16 n ++ rest) × AreBytes rest
 

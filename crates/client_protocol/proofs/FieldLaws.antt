@@ -1,4 +1,4 @@
--- Fields begin bytes in one way.
+-- Bytes begin with fields in one way.
 use Rattle.std.proofs.Common.{◌≡◌, ◌≢◌, ℕ, ◌+◌, ◌/◌, ◌%◌, ◌^◌, ◌<◌, ◌≤◌, List, [], ◌∷◌, ◌++◌, length, take, drop, Option, Some, None, refl, sym, ap, ◌∙◌, append_assoc, arith}
 use Rattle.std.proofs.lemmas.List.{take_at, drop_at, length-append}
 use Rattle.std.proofs.lemmas.Nat.{from_be_bytes-to_be_bytes_8}
@@ -50,7 +50,7 @@ value_or_none a x y la e =
     let (len, rest) = same_short (length a) 65535 (a ++ x) y (omega (arith, la)) (omega arith) e in
     omega (arith, la, len)
 
--- one field of a kind begins bytes
+-- bytes begin with one field of a kind
 pub field_unique : (limits : Limits) (kind : Kind) (f g : Field) (x y : List ℕ) → IsField limits kind f → IsField limits kind g → field_bytes f ++ x ≡ field_bytes g ++ y → (f ≡ g) × (x ≡ y)
 field_unique limits a_byte (byte m) (byte n) x y p q e = (cc, cc)
 field_unique limits a_byte (byte m) g x y p q e = absurd q
@@ -74,7 +74,7 @@ field_unique limits an_opt (opt None) (opt None) x y p q e = (refl, cc)
 field_unique limits an_opt (opt m) g x y p q e = absurd q
 field_unique limits an_opt f g x y p q e = absurd p
 
--- fields of these kinds begin bytes in one way
+-- bytes begin with fields of these kinds in one way
 pub fields_unique : (limits : Limits) (kinds : List Kind) (fs gs : List Field) (x y : List ℕ) → AreFields limits kinds fs → AreFields limits kinds gs → fields_bytes fs ++ x ≡ fields_bytes gs ++ y → (fs ≡ gs) × (x ≡ y)
 fields_unique limits [] [] [] x y p q e = (refl, e)
 fields_unique limits [] [] (g ∷ gs) x y p q e = absurd q
@@ -116,7 +116,7 @@ takes_three limits kind next last bytes field second third rest more tail first 
 
 -- ---- one field
 
--- a value's limit is below the length that stands for nothing
+-- a value's limit is below the length that means nothing
 pub small_value : (hello : Option Version) → (limits_after hello).value < 65535
 small_value None = omega arith
 small_value (Some One) = omega arith
@@ -149,7 +149,7 @@ no_key limits bytes n rest is bad (key k) tail (p, e) =
     omega (arith, len, less, long)
 no_key limits bytes n rest is bad f tail (p, e) = p
 
--- a length that no value may have here, or that is longer than what follows
+-- a length that no value may have here, or that is longer than the bytes after it
 no_bytes : (limits : Limits) (bytes : List ℕ) (n : ℕ) (rest k tail : List ℕ) → TakesField limits a_short bytes (short n) rest → (n ≤ limits.value → length rest < n) → IsValue limits k → bytes ≡ value_bytes k ++ tail → ⊥
 no_bytes limits bytes n rest k tail takes bad p e =
     let (len, rest-is) = same_short n (length k) rest (k ++ tail) takes.0 (omega (arith, p.1)) (sym takes.1 ∙ e) in
@@ -177,13 +177,13 @@ no_opt limits bytes n rest takes present bad (opt None) tail (p, e) =
     present len
 no_opt limits bytes n rest takes present bad f tail (p, e) = p
 
--- a value, found behind its length
+-- a value, found after its length
 pub value_found : (hello : Option Version) (bytes : List ℕ) (n : ℕ) (rest v x : List ℕ) → TakesField (limits_after hello) a_short bytes (short n) rest → (rest ≡ v ++ x) × (length v ≡ n) × (n ≤ (limits_after hello).value) → IsValue (limits_after hello) v × (bytes ≡ value_bytes v ++ x)
 value_found hello bytes n rest v x takes (is, len, limit) = (
   (omega (arith, len, limit), omega (arith, len, limit, small_value hello)),
   takes.1 ∙ rw (is, len) refl,
 )
 
--- four lists behind a first one, put there one after the other
+-- four lists after a first one, appended one by one
 pub four_behind : (out a b d e : List ℕ) → (((out ++ a) ++ b) ++ d) ++ e ≡ out ++ (a ++ (b ++ (d ++ e)))
 four_behind out a b d e = append_assoc ((out ++ a) ++ b) d e ∙ append_assoc (out ++ a) b (d ++ e) ∙ append_assoc out a (b ++ (d ++ e))

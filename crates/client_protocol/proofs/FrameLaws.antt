@@ -1,4 +1,4 @@
--- Reading goes on where it stopped.
+-- Reading goes on at the place where it stopped.
 use Rattle.std.proofs.Common.{◌≡◌, ℕ, ◌+◌, ◌-◌, ◌<◌, arith, List, [], ◌∷◌, ◌++◌, length, drop, Option, Some, None, refl, sym, ap, subst, ◌∙◌, inl, inr, append_assoc, append-nil}
 use Rattle.std.proofs.lemmas.List.{length-append, drop_at}
 use Rattle.std.proofs.lemmas.List.Concat.{flat_map-append}
@@ -37,7 +37,7 @@ faulty_more hello rest more fault (inl (is, bad)) =
 faulty_more hello rest more fault (inr bad) =
     inr (record { body = bad.body; more = bad.more ++ more; allowed = bad.allowed; spelled = ap (λ (t : List ℕ). t ++ more) bad.spelled ∙ append_assoc (framed bad.body) bad.more more; has = bad.has })
 
--- a piece fed in two parts is fed whole
+-- feeding a piece in two parts is feeding it whole
 pub frames_go_on : (hello : Option Version) (bytes more : List ℕ) (rs ss : List Request) (mid new : Held) → Frames hello bytes rs mid → Feeds mid more ss new → Frames hello (bytes ++ more) (rs ++ ss) new
 frames_go_on hello bytes more rs ss (open_at h held) new first later =
     let (h-is, held-is, begun) = first.ends in
@@ -65,7 +65,7 @@ feeds_then (failed fault) mid new p q rs ss (empty, same) later =
     let (nothing, is) = subst (λ (h : Held). Feeds h q ss new) same later in
     (ap (λ (t : List Request). t ++ ss) empty ∙ nothing, is)
 
--- what is left where there is no fault
+-- the rest if there is no fault
 pub held_rest : (hello after : Option Version) (bytes rest : List ℕ) (rs : List Request) → Frames hello bytes rs (open_at after rest) → (bytes ≡ frames_of rs ++ rest)
 held_rest hello after bytes rest rs f = f.spelled ∙ ap (λ (t : List ℕ). frames_of rs ++ t) (sym f.ends.1)
 
@@ -75,7 +75,7 @@ rest_is front bytes rest n e is =
     let same : length front ≡ n = omega (arith, len, is) in
     ap (drop n) e ∙ drop_at front rest n same
 
--- the same, read where the rest lies elsewhere
+-- the same, read at another place of the rest
 pub held_again : (hello : Option Version) (bytes : List ℕ) (rs : List Request) (after : Option Version) (rest again : List ℕ) (fault : Option ProtocolFault) → Frames hello bytes rs (held_of after rest fault) → (bytes ≡ frames_of rs ++ rest → again ≡ rest) → Frames hello bytes rs (held_of after again fault)
 held_again hello bytes rs after rest again None f same = subst (λ (t : List ℕ). Frames hello bytes rs (open_at after t)) (sym (same (held_rest hello after bytes rest rs f))) f
 held_again hello bytes rs after rest again (Some fault) f same = f

@@ -17,7 +17,7 @@ nil_of : (xs : List ℕ) → length xs < 1 → xs ≡ []
 nil_of [] h = refl
 nil_of (x ∷ xs) h = absurd (omega arith)
 
--- the bytes that a length lacks
+-- the bytes that are missing from a length
 pub lacks_length : (hello : Option Version) (bytes : List ℕ) → length bytes < 4 → Lacks hello bytes (4 - length bytes)
 lacks_length hello bytes less =
     record {
@@ -28,7 +28,7 @@ lacks_length hello bytes less =
           absurd (omega (arith, less, bounded, len, length-append bytes more, length-append (frame_of r) behind));
     }
 
--- the bytes that a body lacks
+-- the bytes that are missing from a body
 pub lacks_body : (hello : Option Version) (bytes : List ℕ) (n : ℕ) (part : List ℕ) → IsLength hello n → bytes ≡ length_bytes n ++ part → length part < n → Lacks hello bytes (n - length part)
 lacks_body hello bytes n part allowed spelled short =
     record {
@@ -47,7 +47,7 @@ lacks_body hello bytes n part allowed spelled short =
           nil_of behind (omega (arith, short, bounded, len, lengths, length-append part more, length-append (body_bytes (body_of r)) behind));
     }
 
--- what a frame lacks that has begun with this length
+-- the bytes missing from a frame that has begun with this length
 pub begun_body : (hello : Option Version) (bytes : List ℕ) (n : ℕ) (part : List ℕ) → IsBeginning hello bytes → n < 2 ^ 32 → bytes ≡ length_bytes n ++ part → (IsLength hello n) × (length part < n)
 begun_body hello bytes n part (inl less) small e = let len : length bytes ≡ 4 + length part = ap length e ∙ omega arith in absurd (omega (arith, less, len))
 begun_body hello bytes n part (inr b) small e =
@@ -60,7 +60,7 @@ begun_short hello bytes n part begun small e = let (allowed, short) = begun_body
 pub lacks_rest : (hello : Option Version) (bytes : List ℕ) (n : ℕ) (part : List ℕ) → IsBeginning hello bytes → n < 2 ^ 32 → bytes ≡ length_bytes n ++ part → Lacks hello bytes (n - length part)
 lacks_rest hello bytes n part begun small e = let (allowed, short) = begun_body hello bytes n part begun small e in lacks_body hello bytes n part allowed e short
 
--- ---- moving the piece's front behind what is held
+-- ---- moving the piece's front to the end of the held bytes
 
 pub all_front : (xs : List ℕ) → take (length xs) xs ≡ xs
 all_front xs = take_all (length xs) xs (omega arith)
@@ -70,18 +70,18 @@ still_front xs ys more e =
     let len : length (take (length xs) ys) ≡ length xs = ap length e in
     take-append-le (length xs) ys more (omega (arith, len, length-take (length xs) ys)) ∙ e
 
--- all that is held and to come stays the same
+-- the held and coming bytes together stay the same
 pub moved : (all rest piece : List ℕ) (n : ℕ) → all ≡ rest ++ piece → all ≡ (rest ++ take n piece) ++ drop n piece
 moved all rest piece n e = e ∙ ap (λ (t : List ℕ). rest ++ t) (sym (take-append-drop n piece)) ∙ sym (append_assoc rest (take n piece) (drop n piece))
 
--- the first frame is whole with what it lacked
+-- with the missing bytes the first frame is whole
 pub completed : (hello : Option Version) (all rest piece : List ℕ) (n : ℕ) (r : Request) (behind : List ℕ) → Lacks hello rest n → all ≡ rest ++ piece → IsRequest hello r → rest ++ take n piece ≡ frame_of r ++ behind → all ≡ frame_of r ++ drop n piece
 completed hello all rest piece n r behind lacks e is spelled =
     let fits : length (take n piece) ≤ n = omega (arith, length-take n piece) in
     let none = lacks.no_more (take n piece) r behind fits is spelled in
     moved all rest piece n e ∙ ap (λ (t : List ℕ). t ++ drop n piece) (spelled ∙ ap (λ (t : List ℕ). frame_of r ++ t) none ∙ append-nil (frame_of r))
 
--- it is refused with what it lacked
+-- with the missing bytes it is refused
 refused : (hello : Option Version) (all rest piece : List ℕ) (n : ℕ) (fault : ProtocolFault) → all ≡ rest ++ piece → IsFaulty hello (rest ++ take n piece) fault → IsFaulty hello all fault
 refused hello all rest piece n fault e bad =
     subst (λ (t : List ℕ). IsFaulty hello t fault) (sym (moved all rest piece n e)) (faulty_more hello (rest ++ take n piece) (drop n piece) fault bad)
@@ -101,7 +101,7 @@ frames_first hello bytes behind r rs held is e later =
       ends = later.ends;
     }
 
--- the request that was added to no other, and then those behind it
+-- the request that was added to no other, and then those after it
 pub frames_added : (hello after : Option Version) (bytes behind : List ℕ) (old mid later : List Request) (held : Held) → Adds hello bytes old mid after behind → old ≡ [] → Frames after behind later held → Frames hello bytes (mid ++ later) held
 frames_added hello after bytes behind old mid later held adds none frames =
     let first = frames_first hello bytes behind adds.request later held adds.comes adds.spelled (subst (λ (h : Option Version). Frames h behind later held) adds.taken frames) in
@@ -116,7 +116,7 @@ frames_begun hello bytes rest is begun =
 pub frames_failed : (hello : Option Version) (bytes : List ℕ) (fault : ProtocolFault) → IsFaulty hello bytes fault → Frames hello bytes [] (failed fault)
 frames_failed hello bytes fault bad = record { after = hello; rest = bytes; follow = refl; spelled = refl; ends = bad }
 
--- what is held after reading is sound
+-- the state after reading is sound
 pub sound_after : (hello : Option Version) (bytes : List ℕ) (rs : List Request) (held : Held) → Frames hello bytes rs held → IsSoundHeld held
 sound_after hello bytes rs (open_at h rest) f =
     let (hello-is, rest-is, begun) = f.ends in

@@ -1,4 +1,4 @@
--- One list and one rest belong to bytes.
+-- Bytes have one list and one rest.
 use Rattle.std.proofs.Common.{◌≡◌, ℕ, ◌+◌, ◌^◌, ◌<◌, ◌≤◌, inl, inr, arith, Bool, true, false, List, [], ◌∷◌, ◌++◌, length, Option, Some, None, refl, sym, ap, subst, ◌∙◌, append_assoc}
 use Rattle.std.specs.Prelude.{nat_eq, if◌then◌else◌}
 use Rattle.std.specs.Int.{w32, from_be_bytes}
@@ -103,7 +103,7 @@ same_head m n x y e = (cc, cc)
 words : ℕ → List Field → List ℕ → Body
 words tag fields tail = record { tag = tag; fields = fields; tail = tail }
 
--- fields of two words of one body
+-- the same fields, if two bodies are spelled by one list of bytes
 same_parts : (limits : Limits) (v w : Body) (k l : List Kind) → kinds_of v.tag ≡ Some k → kinds_of w.tag ≡ Some l → AreFields limits k v.fields → AreFields limits l w.fields → body_bytes v ≡ body_bytes w → (v.tag ≡ w.tag) × (v.fields ≡ w.fields) × (v.tail ≡ w.tail)
 same_parts limits v w k l kv kw fv fw e =
     let head = same_head v.tag w.tag (fields_bytes v.fields ++ v.tail) (fields_bytes w.fields ++ w.tail) e in
@@ -120,7 +120,7 @@ same_words limits v w p q e =
 pub same_body : (hello : Option Version) (b : List ℕ) (r q : Request) → IsBodyOf hello b r → IsBodyOf hello b q → r ≡ q
 same_body hello b r q x y = one_request r q (same_words (limits_after hello) (body_of r) (body_of q) x.body y.body (sym x.spelled ∙ y.spelled))
 
--- words of a body: its tag is known, its fields begin what is behind, and no tail is left where none may be
+-- a body's parts: its tag is known, its fields begin the bytes after it, and no tail is left if there may be none
 unknown_words : (limits : Limits) (b : List ℕ) (w : Body) (k : List Kind) → kinds_of w.tag ≡ Some k → b ≡ body_bytes w → IsUnknown b → ⊥
 unknown_words limits b w k known spelled u =
     let head = same_head w.tag u.tag (fields_bytes w.fields ++ w.tail) u.rest (sym spelled ∙ u.spelled) in

@@ -11,9 +11,9 @@ use Rattle.client_protocol.specs.Requests.Request.{Hello, Register, Get, Put, Pu
 use Rattle.client_protocol.specs.declared.fault.ProtocolFault.{ProtocolFault}
 use Rattle.client_protocol.specs.declared.fault.ProtocolFault.TheVariants.{BadLength, UnknownRequest, BadField, TrailingBytes, WrongVersion}
 
--- what may be sent after this Hello was taken, or before any: in version 1, and until then, bodies of at most 8,192
--- bytes, values of at most 256 and programs of at most 512 units; in version 2, bodies of at most 32,777 bytes, values of
--- at most 1,024 and any program
+-- the limits after this Hello was taken, or before any: in version 1, and until then, bodies of at most 8,192 bytes,
+-- values of at most 256 and programs of at most 512 units; in version 2, bodies of at most 32,777 bytes, values of at
+-- most 1,024 and any program
 abbrev pub limits_after : Option Version → Limits
 limits_after None = record { body = 8192; value = 256; units = 512 }
 limits_after (Some One) = record { body = 8192; value = 256; units = 512 }
@@ -44,11 +44,11 @@ pub data Field : Type 0 where
   value : List ℕ → Field
   opt : Option (List ℕ) → Field
 
--- a value behind its length of 16 bits
+-- a value after its length of 16 bits
 abbrev pub value_bytes : List ℕ → List ℕ
 value_bytes bytes = to_be_bytes w16 (length bytes) ++ bytes
 
--- numbers are big-endian; a key is behind a length of 8 bits; nothing is 0xFFFF
+-- numbers are big-endian; a key comes after a length of 8 bits; nothing is 0xFFFF
 abbrev pub field_bytes : Field → List ℕ
 field_bytes (byte n) = n ∷ []
 field_bytes (short n) = to_be_bytes w16 n
@@ -62,7 +62,7 @@ field_bytes (opt None) = 255 ∷ 255 ∷ []
 abbrev pub fields_bytes : List Field → List ℕ
 fields_bytes fields = flat_map field_bytes fields
 
--- a value that may be sent: within the limit, and its length is not the 0xFFFF that stands for nothing
+-- a value that may be sent: within the limit, and its length is not the 0xFFFF that means nothing
 abbrev pub IsValue : Limits → List ℕ → Type 0
 IsValue limits bytes = (length bytes ≤ limits.value) × (length bytes < 65535)
 
@@ -106,13 +106,13 @@ kinds_of tag =
     else (if nat_eq tag 0x22 then Some (a_long ∷ an_opt ∷ [])
     else (if nat_eq tag 0x23 then Some [] else None))))))))))))))))
 
--- behind the fields of a Register comes a program, to the frame's end; behind all others comes nothing
+-- after the fields of a Register comes a program, to the frame's end; after all others comes nothing
 abbrev pub takes_tail : ℕ → Bool
 takes_tail tag = nat_eq tag 0x01
 
 -- ---- bodies
 
--- a tag, fields, and the bytes behind them
+-- a tag, fields, and the bytes after them
 pub record Body : Type 0 where
   pub tag : ℕ
   pub fields : List Field
@@ -121,7 +121,7 @@ pub record Body : Type 0 where
 abbrev pub body_bytes : Body → List ℕ
 body_bytes body = body.tag ∷ (fields_bytes body.fields ++ body.tail)
 
--- a tag, its fields within the limits, and no bytes behind them where none may be
+-- a tag, its fields within the limits, and no bytes after them if there may be none
 pub record IsBody (limits : Limits) (body : Body) : Type 0 where
   pub kinds : List Kind
   pub known : kinds_of body.tag ≡ Some kinds
@@ -164,7 +164,7 @@ abbrev pub is_none : Option Version → Bool
 is_none None = true
 is_none (Some version) = false
 
--- the first request and no other is a Hello
+-- the first request, and no other, is a Hello
 abbrev pub MayCome : Option Version → Request → Type 0
 MayCome hello request = is_hello request ≡ is_none hello
 
@@ -192,7 +192,7 @@ pub record IsUnknown (bytes : List ℕ) : Type 0 where
   pub spelled : bytes ≡ tag ∷ rest
   pub unknown : kinds_of tag ≡ None
 
--- the bytes behind the tag do not begin with its fields
+-- the bytes after the tag do not begin with its fields
 pub record HasBadField (limits : Limits) (bytes : List ℕ) : Type 0 where
   pub tag : ℕ
   pub rest : List ℕ
@@ -201,7 +201,7 @@ pub record HasBadField (limits : Limits) (bytes : List ℕ) : Type 0 where
   pub known : kinds_of tag ≡ Some kinds
   pub bad : (fields : List Field) (tail : List ℕ) → TakesAll limits kinds rest fields tail → ⊥
 
--- bytes are behind the fields where none may be
+-- there are bytes after the fields although none may be there
 pub record HasTrailing (limits : Limits) (bytes : List ℕ) : Type 0 where
   pub body : Body
   pub kinds : List Kind
@@ -211,14 +211,14 @@ pub record HasTrailing (limits : Limits) (bytes : List ℕ) : Type 0 where
   pub no_tail : takes_tail body.tag ≡ false
   pub trailing : 1 ≤ length body.tail
 
--- a body, and of no request that may come now
+-- a body of a request that may not come now
 pub record IsMisplaced (hello : Option Version) (bytes : List ℕ) : Type 0 where
   pub body : Body
   pub is : IsBody (limits_after hello) body
   pub spelled : bytes ≡ body_bytes body
   pub misplaced : (request : Request) → MayCome hello request → body_of request ≢ body
 
--- the fault of a whole body: one of these at most, and none where it is a request's
+-- the fault of a whole body: one of these at most, and none if it is a request's
 abbrev pub BodyHas : Option Version → List ℕ → ProtocolFault → Type 0
 BodyHas hello bytes BadLength = ⊥
 BodyHas hello bytes UnknownRequest = IsUnknown bytes

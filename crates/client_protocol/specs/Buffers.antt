@@ -10,7 +10,7 @@ use Rattle.client_protocol.specs.declared.request.RequestKind.TheVariants as kin
 use Rattle.client_protocol.specs.Requests.{Request}
 use Rattle.client_protocol.specs.Requests.Request.{Hello, Register, Get, Put, PutIfAbsent, Remove, RemoveIf, Replace, ReplaceIf, Compute, ComputeIfAbsent, ComputeIfPresent, Merge, Search, ForEach, ReplaceAll, Count}
 
--- the value where it is there
+-- the value if it is present
 abbrev pub optional : OptionalValue → Option (List ℕ)
 optional other = if other.is_there then Some other.value else None
 

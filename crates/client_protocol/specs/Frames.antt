@@ -1,4 +1,4 @@
--- Which requests a stream of bytes is, and what is left of it.
+-- Which requests a stream of bytes is, and its rest.
 use Rattle.std.specs.Prelude.{◌≡◌, ℕ, ◌≤◌, ◌<◌, ◌^◌, ◌⊎◌, Bool, true, false, List, [], ◌∷◌, ◌++◌, length, flat_map, Option, Some, None}
 use Rattle.std.specs.Int.{w32, to_be_bytes}
 use Rattle.client_protocol.specs.declared.limits.Version.{Version}
@@ -29,7 +29,7 @@ pub record IsRequest (hello : Option Version) (request : Request) : Type 0 where
   pub allowed : IsLength hello (length (body_bytes (body_of request)))
   pub body : IsBodyOf hello (body_bytes (body_of request)) request
 
--- the requests may come in this order, where the first Hello was taken, and then the second was
+-- the requests may come in this order, if the first Hello was taken before them; then the second is taken
 abbrev pub Follow : Option Version → List Request → Option Version → Type 0
 Follow hello [] after = after ≡ hello
 Follow hello (request ∷ requests) after = IsRequest hello request × Follow (hello_after hello request) requests after
@@ -64,7 +64,7 @@ pub record HasBadBody (hello : Option Version) (rest : List ℕ) (fault : Protoc
 abbrev pub IsFaulty : Option Version → List ℕ → ProtocolFault → Type 0
 IsFaulty hello rest fault = ((fault ≡ BadLength) × HasBadLength hello rest) ⊎ HasBadBody hello rest fault
 
--- what a feeder stands for: the Hello taken and a rest, or its fault
+-- the state of a feeder: the Hello taken and a rest, or its fault
 pub data Held : Type 0 where
   open_at : Option Version → List ℕ → Held
   failed : ProtocolFault → Held
@@ -77,12 +77,12 @@ abbrev pub held_fault : Held → Option ProtocolFault
 held_fault (open_at hello rest) = None
 held_fault (failed fault) = Some fault
 
--- what is held where the rest is this
+-- the state if the rest is this
 abbrev pub Ends : Option Version → List ℕ → Held → Type 0
 Ends after rest (open_at hello held) = (hello ≡ after) × (held ≡ rest) × IsBeginning after rest
 Ends after rest (failed fault) = IsFaulty after rest fault
 
--- read on from a Hello, the bytes are these requests in order and a rest, for which the last is held
+-- read on from a Hello, the bytes are these requests in order and a rest, which leaves the last state
 pub record Frames (hello : Option Version) (bytes : List ℕ) (requests : List Request) (held : Held) : Type 0 where
   pub after : Option Version
   pub rest : List ℕ
@@ -90,7 +90,7 @@ pub record Frames (hello : Option Version) (bytes : List ℕ) (requests : List R
   pub spelled : bytes ≡ frames_of requests ++ rest
   pub ends : Ends after rest held
 
--- a piece, fed to a feeder that stands for the first, gives these requests and leaves the last
+-- a piece, fed to a feeder in the first state, gives these requests and leaves the last state
 abbrev pub Feeds : Held → List ℕ → List Request → Held → Type 0
 Feeds (open_at hello rest) piece requests new = Frames hello (rest ++ piece) requests new
 Feeds (failed fault) piece requests new = (requests ≡ []) × (new ≡ failed fault)
@@ -99,12 +99,12 @@ abbrev pub held_of : Option Version → List ℕ → Option ProtocolFault → He
 held_of hello rest None = open_at hello rest
 held_of hello rest (Some fault) = failed fault
 
--- each number is a byte
+-- each number is below 256
 abbrev pub AreBytes : List ℕ → Type 0
 AreBytes [] = Unit {0}
 AreBytes (b ∷ bytes) = (b < 2 ^ 8) × AreBytes bytes
 
--- no more is held than the beginning of one frame
+-- the feeder holds no more than the beginning of one frame
 abbrev pub IsSoundHeld : Held → Type 0
 IsSoundHeld (open_at hello rest) = IsBeginning hello rest
 IsSoundHeld (failed fault) = Unit {0}

@@ -1,4 +1,4 @@
--- What readers of fields and of bodies find.
+-- The results of readers of fields and of bodies.
 use Rattle.std.specs.Prelude.{◌≡◌, ℕ, ◌≤◌, ◌<◌, length, List, [], ◌∷◌, ◌++◌, Option}
 use Rattle.bpf_model.specs.declared.input.Sizes.{Sizes}
 use Rattle.client_protocol.specs.declared.limits.Version.{Version}
@@ -22,7 +22,7 @@ NoField limits kind bytes = (field : Field) (rest : List ℕ) → TakesField lim
 abbrev pub NoFields : Limits → List Kind → List ℕ → Type 0
 NoFields limits kinds bytes = (fields : List Field) (tail : List ℕ) → TakesAll limits kinds bytes fields tail → ⊥
 
--- bytes that begin with four sizes, and that do not
+-- the bytes begin with four sizes, or they don't
 abbrev pub TakesSizes : Limits → List ℕ → Sizes → List ℕ → Type 0
 TakesSizes limits bytes sizes rest = TakesAll limits (a_short ∷ a_short ∷ a_short ∷ a_short ∷ []) bytes (sizes_fields sizes) rest
 
@@ -38,15 +38,15 @@ IfFault NoMemory P = Unit {0}
 IfFault (Fault fault) P = P fault
 
 -- the frame that begins here lacks n bytes, of its length or else of its body: with fewer it stays a beginning, and
--- with so many no byte is behind it
+-- with this many no byte comes after it
 pub record Lacks (hello : Option Version) (bytes : List ℕ) (n : ℕ) : Type 0 where
   pub some : 1 ≤ n
   pub fewer : (more : List ℕ) → length more < n → IsBeginning hello (bytes ++ more)
   pub no_more : (more : List ℕ) (request : Request) (behind : List ℕ) → length more ≤ n → IsRequest hello request
       → bytes ++ more ≡ frame_of request ++ behind → behind ≡ []
 
--- the first frame of the bytes is a request that may come: it was added to the list. The Hello taken then, and the bytes
--- behind the frame
+-- the first frame of the bytes is a request that may come, and it was added to the list; the Hello taken then, and the
+-- bytes after the frame
 pub record Adds (hello : Option Version) (bytes : List ℕ) (old new : List Request) (after : Option Version) (behind : List ℕ) : Type 0 where
   pub request : Request
   pub comes : IsRequest hello request

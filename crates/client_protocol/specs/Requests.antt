@@ -1,11 +1,11 @@
--- What clients ask, and how a view shows it.
+-- Clients' requests, and how a view shows them.
 use Rattle.std.specs.Prelude.{ℕ, List, Option, option_copied}
 use Rattle.bpf_model.specs.declared.input.Sizes.{Sizes}
 use Rattle.client_protocol.specs.declared.limits.Version.{Version}
 use Rattle.client_protocol.specs.declared.request.RequestView.{RequestView}
 use Rattle.client_protocol.specs.declared.request.RequestView.TheVariants as shown
 
--- a request: of each call its key, then its values or its program, and its argument or none; a walk has no key, and a
+-- a request: for a call its key, then its values or its program, and its argument or none; a walk has no key, and a
 -- threshold last
 pub data Request : Type 0 where
   Hello : Version → Request
@@ -26,7 +26,7 @@ pub data Request : Type 0 where
   ReplaceAll : ℕ → Option (List ℕ) → Request
   Count : Request
 
--- the request that a view shows; its key, values and program are lent
+-- the request that a view shows; the view borrows its key, values and program
 abbrev pub viewed : RequestView → Request
 viewed (shown.Hello version) = Hello version
 viewed (shown.Register sizes program) = Register sizes program.now

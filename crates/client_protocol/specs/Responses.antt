@@ -15,13 +15,13 @@ abbrev pub flag : Bool → ℕ
 flag false = 0
 flag true = 1
 
--- the number under which a window is sent
+-- the number with which a window is sent
 abbrev pub part_number : InputPart → ℕ
 part_number part.Key = 1
 part_number part.Old = 2
 part_number part.Arg = 3
 
--- a response's tag, and its fields behind it
+-- a response's tag, and its fields after it
 abbrev pub response_tag : Response → ℕ
 response_tag (Hello version) = 128
 response_tag (Registered program) = 129
@@ -51,7 +51,7 @@ response_frame response = framed (response_body response)
 abbrev pub response_frames : List Response → List ℕ
 response_frames responses = flat_map response_frame responses
 
--- the response that a short one is
+-- the response that a short one stands for
 abbrev pub response_of : ShortResponse → Response
 response_of (short.Hello version) = Hello version
 response_of (short.Registered program) = Registered program

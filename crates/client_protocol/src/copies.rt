@@ -1,10 +1,10 @@
-//! Bytes that are copied over others.
+//! Bytes copied over others.
 ghost use Rattle.std.specs.Prelude.{◌≡◌, IfOk, OnErr};
 
 use bpf_model::NoMemory;
 use bytes::BytesMut;
 
-/// Copies these bytes over the others. Asks for memory where there is no room for them.
+/// Copies these bytes over the others. Asks for memory if there is no room for them.
 pub fn replace(bytes: &mut BytesMut, by: &[u8]) -> Result<(), NoMemory>
     ensures ok { IfOk result (λ _. bytes.new.items ≡ by.now) }
     ensures err { OnErr result (bytes.new.items ≡ bytes.old.items) }

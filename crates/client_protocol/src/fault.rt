@@ -5,24 +5,24 @@ ghost use Rattle.client_protocol.specs.Faults.{protocol_fault_number};
 use std::error::Error;
 use std::fmt;
 
-/// What is wrong with a frame. Of several faults of one frame the one with the least number is told. After one of them
-/// nothing more is read from the stream.
+/// A fault in a frame. If a frame has several faults, it is reported with the least-numbered one. After a fault nothing
+/// more is read from the stream.
 #[derive(Clone, Copy, Debug, PartialEq, Eq)]
 pub enum ProtocolFault {
-    /// A length of 0 or above the limit, told as soon as its four bytes are there: number 60.
+    /// The length is 0 or above the limit; reported as soon as its four bytes are there: number 60.
     BadLength,
-    /// A tag that no request has: number 61.
+    /// No request has this tag: number 61.
     UnknownRequest,
-    /// Fields that are cut short, a key or a value above its limit, or 0xFFFF where a value must be: number 62.
+    /// Fields are cut short, a key or a value is above its limit, or 0xFFFF is in place of a required value: number 62.
     BadField,
-    /// Bytes behind the last field: number 63.
+    /// There are bytes after the last field: number 63.
     TrailingBytes,
-    /// A Hello of another version, a first request that is no Hello, or a second Hello: number 64.
+    /// A Hello has another version, the first request is no Hello, or there is a second Hello: number 64.
     WrongVersion,
 }
 
 impl ProtocolFault {
-    /// The number under which the fault is sent, 60 to 64.
+    /// Returns the number with which the fault is sent, 60 to 64.
     pub fn number(self) -> u8
         ensures { result ≡ protocol_fault_number self }
     {

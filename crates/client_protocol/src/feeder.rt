@@ -1,4 +1,4 @@
-//! Requests from a stream that comes in pieces.
+//! Requests from a stream that arrives in pieces.
 ghost use Rattle.std.specs.Prelude.{◌≡◌, ◌<◌, ◌++◌, List, [], length, take, IfOk, IfErr, IfSome, IfNone, IsOk, IsSome, OnOk, OnErr, None};
 ghost use Rattle.client_protocol.specs.Requests.{Request as TheRequest};
 ghost use Rattle.client_protocol.specs.Reading.{IfFault, Adds};
@@ -23,21 +23,21 @@ const LEAST_FRAME: usize = 5;
 /// From the first piece on there is room for this many requests: those that end in 1,024 bytes, and one that began before them.
 const LEAST_ROOM: usize = 205;
 
-/// What a piece gave.
+/// The result of a piece.
 #[derive(Drop)]
 pub struct Fed {
     pub requests: Vec<Request>,
     pub fault: Option<ProtocolFault>,
 }
 
-/// How far a piece led: the Hello that is taken now, and the fault that ended the stream, if any.
+/// The state after a piece: the Hello that is taken now, and the fault that ended the stream, if any.
 #[derive(Clone, Copy)]
 struct Progress {
     hello: Option<Version>,
     fault: Option<ProtocolFault>,
 }
 
-/// Adds the requests of the bytes, whose frames are read where they lie; keeps in `rest` the beginning of one that isn't
+/// Adds the requests of the bytes, whose frames are read in place. Keeps in `rest` the beginning of a frame that isn't
 /// whole.
 fn read_whole(
     alloc: Global,
@@ -60,8 +60,8 @@ fn read_whole(
     })
 }
 
-/// Adds the request of the first frame of the bytes held and the piece after them, and answers what follows it in the
-/// piece. None if it isn't whole; then all of the piece is held. No byte after the frame is copied.
+/// Adds the request of the first frame, made of the held bytes and the piece after them, and returns the rest of the
+/// piece. Returns `None` if the frame isn't whole; then all of the piece is held. Copies no byte after the frame.
 #[tactic(auto, using(crate::proofs::HeldLaws::all_front, crate::proofs::HeldLaws::still_front, crate::proofs::HeldLaws::moved, crate::proofs::HeldLaws::completed))]
 fn complete<'a>(
     alloc: Global,
@@ -102,7 +102,7 @@ fn complete<'a>(
     }
 }
 
-/// Reads on after the beginning of a frame that is held.
+/// Reads on after the held beginning of a frame.
 #[tactic(auto, using(crate::proofs::HeldLaws::frames_added, crate::proofs::HeldLaws::frames_begun, crate::proofs::HeldLaws::frames_failed))]
 fn read_held(
     alloc: Global,
@@ -128,7 +128,7 @@ fn read_held(
     }
 }
 
-/// Reads on, or leaves the bytes held as they were.
+/// Reads on, or leaves the held bytes unchanged.
 fn read_on(
     alloc: Global,
     hello: Option<Version>,
@@ -155,7 +155,7 @@ fn read_on(
     }
 }
 
-/// A stream's bytes so far, as requests and what is left of them.
+/// The bytes of a stream so far, as requests and the rest.
 #[derive(Drop)]
 pub struct Feeder {
     hello: Option<Version>,
@@ -174,7 +174,7 @@ impl Model for Feeder {
 }
 
 impl Feeder {
-    /// A feeder of no bytes. Takes no memory.
+    /// Makes a feeder that has no bytes yet. Takes no memory.
     pub fn new(alloc: Global) -> Feeder
         ensures { result ≡ open_at None [] }
     {
@@ -185,8 +185,8 @@ impl Feeder {
         }
     }
 
-    /// The requests that are whole with this piece, up to a fault, if any. `NoMemory` where a request for memory was refused; the
-    /// piece was not taken then. Makes a list of its own, with room as `feed_into` asks for it.
+    /// Returns the requests that this piece completes, up to a fault, if any. `NoMemory` if a request for memory is refused; then
+    /// the piece was not taken. Makes its own list, with as much room as `feed_into` asks for.
     pub fn feed(&mut self, alloc: Global, piece: &[u8]) -> Result<Fed, NoMemory>
         ensures requests { IfOk result (λ fed. Feeds self.old piece.now fed.requests.items self.new) }
         ensures fault { IfOk result (λ fed. fed.fault ≡ held_fault self.new) }
@@ -201,10 +201,10 @@ impl Feeder {
         })
     }
 
-    /// Reads a piece as `feed` does, and leaves the requests in this list, whose buffers are used again. What the list held is
-    /// lost. Answers the fault, if any. `NoMemory` as `feed`; what the list holds then is not said. Asks for room for all requests
-    /// that a piece of this length can bring, and for 205 at least. A later piece asks for more only if it is longer than all
-    /// before it and than 1,024 bytes, or for a program, so memory that others fill in between does not refuse it.
+    /// Reads a piece as `feed` does, and leaves the requests in this list, whose buffers are used again. The list's old contents
+    /// are lost. Returns the fault, if any. `NoMemory` as `feed`; the list's contents are then unspecified. Asks for room for all
+    /// requests that a piece of this length can bring, and for at least 205. A later piece asks for more only if it is longer than
+    /// all before it and than 1,024 bytes, or for a program. So memory that others fill in between does not refuse it.
     #[tactic(auto, using(crate::proofs::HeldLaws::sound_after))]
     pub fn feed_into(
         &mut self,
@@ -228,7 +228,7 @@ impl Feeder {
         Ok(progress.fault)
     }
 
-    /// The Hello that was taken, if any; none after a fault.
+    /// Returns the Hello that was taken, if any; none after a fault.
     pub fn hello(&self) -> Option<Version>
         ensures { result ≡ held_hello self.now }
     {
@@ -238,7 +238,7 @@ impl Feeder {
         self.hello
     }
 
-    /// Whether the stream so far ends inside a frame.
+    /// Tests whether the stream so far ends inside a frame.
     pub fn is_inside(&self) -> bool
         ensures { result ≡ is_inside self.now }
     {

@@ -14,14 +14,14 @@ use bpf_model::{Key, Value};
 /// The length that stands for an absent value.
 const ABSENT: u16 = 0xFFFF;
 
-/// What bytes may begin with.
+/// A field that bytes may begin with.
 pub trait Field: Sized {
     ghost kind: { Kind };
 
     ghost field: { Self → TheField };
 
-    /// Reads the field that begins the bytes into `self`, and answers what follows it; none if the bytes are too few, or the
-    /// field is above its limit. What `self` held is lost.
+    /// Reads the field that begins the bytes into `self`, and returns the bytes after it, or `None` if there are too few
+    /// bytes or the field is above its limit. The old contents of `self` are lost.
     fn read<'b>(&mut self, hello: Option<Version>, bytes: &'b [u8]) -> Option<&'b [u8]>
         ensures some { IfSome result (λ rest.
             TakesField (limits_after hello) kind bytes.now (field self.new) rest.now) }
@@ -44,7 +44,7 @@ impl Field for u8 {
     }
 }
 
-/// The number of 16 bits that begins the bytes, and what is behind it; none where they are too few.
+/// Returns the number of 16 bits that begins the bytes, and the bytes after it, or `None` if there are too few.
 pub fn short_at(hello: Option<Version>, bytes: &[u8]) -> Option<(u16, &[u8])>
     ensures some { IfSome result (λ r. TakesField (limits_after hello) a_short bytes.now (short r.0) r.1.now) }
     ensures none { IfNone result (NoField (limits_after hello) a_short bytes.now) }
@@ -88,7 +88,7 @@ impl Field for Key {
     }
 }
 
-/// Copies the first `len` bytes into this value, and answers what is behind them.
+/// Copies the first `len` bytes into this value, and returns the bytes after them.
 fn read_value<'b>(
     value: &mut Value,
     hello: Option<Version>,

@@ -1,4 +1,4 @@
-//! Lists of fields that are a whole body after its tag.
+//! Lists of fields that fill a body after its tag.
 ghost use Rattle.std.specs.Prelude.{◌≡◌, [], ◌∷◌, IfOk, OnOk, IfErr, Some, false};
 ghost use Rattle.client_protocol.specs.Bodies.{limits_after, kinds_of, takes_tail, body_of_fields, BodyHas};
 ghost use Rattle.client_protocol.specs.Bodies.Kind.{a_long, a_key, an_opt};
@@ -12,7 +12,7 @@ use crate::limits::Version;
 use crate::request::OptionalValue;
 use bpf_model::Key;
 
-/// No field.
+/// Reads no field.
 pub fn no_field(hello: Option<Version>, tag: u8, bytes: &[u8]) -> Result<(), ProtocolFault>
     requires known { kinds_of tag ≡ Some [] }
     requires no_tail { takes_tail tag ≡ false }
@@ -103,7 +103,7 @@ pub fn three_fields<A: Field, B: Field, C: Field>(
     Ok(())
 }
 
-/// Reads the fields of a call that runs a program: its key into `key` and its argument into `arg`. Answers the program.
+/// Reads the fields of a call that runs a program: its key into `key` and its argument into `arg`. Returns the program.
 pub fn compute_fields(
     hello: Option<Version>,
     tag: u8,
@@ -122,7 +122,7 @@ pub fn compute_fields(
     Ok(program)
 }
 
-/// Reads the fields of a walk with a threshold: its argument into `arg`. Answers the program and the threshold.
+/// Reads the fields of a walk with a threshold: its argument into `arg`. Returns the program and the threshold.
 pub fn walk_fields(
     hello: Option<Version>,
     tag: u8,

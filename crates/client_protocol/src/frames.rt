@@ -26,7 +26,7 @@ fn length_at(bytes: &[u8]) -> Option<(u32, &[u8])>
     }
 }
 
-/// How many bytes the frame lacks that begins here: those of its length, or else those of its body.
+/// Returns how many bytes the frame that begins here lacks: those of its length, or else those of its body.
 #[tactic(auto, using(crate::proofs::HeldLaws::begun_short))]
 pub fn lacking(hello: Option<Version>, bytes: &[u8]) -> usize
     requires begun { IsBeginning hello bytes.now }
@@ -38,7 +38,7 @@ pub fn lacking(hello: Option<Version>, bytes: &[u8]) -> usize
     }
 }
 
-/// The Hello that was taken, after this request.
+/// Returns the Hello that is taken after this request.
 pub fn hello_after(hello: Option<Version>, request: &Request) -> Option<Version>
     ensures { result ≡ hello_after hello request.now }
 {
@@ -48,8 +48,8 @@ pub fn hello_after(hello: Option<Version>, request: &Request) -> Option<Version>
     }
 }
 
-/// Reads the request of the frame that begins the bytes into this buffer, and answers what follows it; none if the frame
-/// has only begun. What the buffer held is lost.
+/// Reads the request of the frame that begins the bytes into this buffer, and returns the bytes after it, or `None` if
+/// the frame has only begun. The old contents of the buffer are lost.
 pub fn next<'b>(
     hello: Option<Version>,
     bytes: &'b [u8],
@@ -75,7 +75,7 @@ pub fn next<'b>(
     Ok(Some(behind))
 }
 
-/// What is left behind whole frames.
+/// The state after whole frames.
 #[derive(Clone, Copy)]
 pub struct Left<'a> {
     pub hello: Option<Version>,

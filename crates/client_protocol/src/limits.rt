@@ -1,4 +1,4 @@
-//! Versions of the protocol, and what may be sent in each.
+//! Versions of the protocol, and the limits of each.
 ghost use Rattle.std.specs.Prelude.{◌≡◌, ◌≢◌, IfSome, IfNone};
 ghost use Rattle.client_protocol.specs.declared.limits.Version.{Version as TheVersion};
 ghost use Rattle.client_protocol.specs.Bodies.{version_number, limits_after};
@@ -8,14 +8,14 @@ use bpf_model::limits::PROGRAM_UNITS;
 /// A version of the protocol, which a client names in its Hello.
 #[derive(Clone, Copy, Debug, PartialEq, Eq)]
 pub enum Version {
-    /// Short values alone.
+    /// Only short values.
     One,
     /// Longer values and programs.
     Two,
 }
 
 impl Version {
-    /// The version with this number; none where there is none.
+    /// Returns the version with this number, or `None` if there is none.
     pub fn from_number(number: u8) -> Option<Version>
         ensures some { IfSome result (λ version. version_number version ≡ number) }
         ensures none { IfNone result ((version : TheVersion) → version_number version ≢ number) }
@@ -27,7 +27,7 @@ impl Version {
         }
     }
 
-    /// The number under which the version is sent.
+    /// Returns the number with which the version is sent.
     pub fn number(self) -> u8
         ensures { result ≡ version_number self }
     {
@@ -38,7 +38,7 @@ impl Version {
     }
 }
 
-/// What may be sent: the most bytes of a frame's body, of a value or an argument, and the most units of a program.
+/// The limits: the most bytes of a frame's body, of a value or an argument, and the most units of a program.
 #[derive(Clone, Copy, Debug, PartialEq, Eq)]
 pub struct Limits {
     pub body: u32,
@@ -47,7 +47,7 @@ pub struct Limits {
 }
 
 impl Limits {
-    /// The limits after this Hello was taken, or before any.
+    /// Returns the limits after this Hello was taken, or before any.
     pub fn after(hello: Option<Version>) -> Limits
         ensures { result ≡ limits_after hello }
     {

@@ -52,7 +52,7 @@ impl From<NoMemory> for BodyFault {
     }
 }
 
-/// A Hello, if it were its turn.
+/// Returns a Hello; whether it is its turn isn't tested here.
 fn hello_request(
     hello: Option<Version>,
     tag: u8,
@@ -74,7 +74,8 @@ fn hello_request(
     }
 }
 
-/// The request with a tag below 0x14, if it were its turn: a Hello, or a call on whatever the key has.
+/// Returns the request with a tag below 0x14: a Hello, or a call that works with or without a value. Whether it is its
+/// turn isn't tested here.
 fn early_request(
     hello: Option<Version>,
     tag: u8,
@@ -109,7 +110,7 @@ fn early_request(
     Ok(())
 }
 
-/// The request with a tag from 0x14 to 0x16: a call on what the key has already.
+/// Returns the request with a tag from 0x14 to 0x16: a call on the key's present value.
 fn present_request(
     hello: Option<Version>,
     tag: u8,
@@ -141,7 +142,7 @@ fn present_request(
     Ok(())
 }
 
-/// The request with a tag from 0x17 to 0x1F: a call with a program.
+/// Returns the request with a tag from 0x17 to 0x1F: a call with a program.
 fn program_request(
     hello: Option<Version>,
     tag: u8,
@@ -178,7 +179,7 @@ fn program_request(
     Ok(())
 }
 
-/// The request with a tag from 0x20 on: a walk.
+/// Returns the request with a tag from 0x20 on: a walk.
 fn walk_request(
     hello: Option<Version>,
     tag: u8,
@@ -214,7 +215,7 @@ fn walk_request(
     Ok(())
 }
 
-/// The sizes that a Register begins with, and the program behind them; none where the bytes are too few.
+/// Returns the sizes that a Register begins with, and the program after them, or `None` if there are too few bytes.
 fn sizes_at(hello: Option<Version>, bytes: &[u8]) -> Option<(Sizes, &[u8])>
     ensures some { IfSome result (λ r. TakesSizes (limits_after hello) bytes.now r.0 r.1.now) }
     ensures none { IfNone result (NoSizes (limits_after hello) bytes.now) }
@@ -240,7 +241,7 @@ fn sizes_at(hello: Option<Version>, bytes: &[u8]) -> Option<(Sizes, &[u8])>
     Some((sizes, program))
 }
 
-/// A Register. Asks for memory for a copy of the program if the buffer has no room for it.
+/// Returns a Register. Asks for memory for a copy of the program if the buffer has no room for it.
 fn register_request(
     hello: Option<Version>,
     rest: &[u8],
@@ -257,7 +258,7 @@ fn register_request(
     Ok(())
 }
 
-/// The request of a body, if it were its turn.
+/// Returns the request of a body; whether it is its turn isn't tested here.
 fn request_of(hello: Option<Version>, body: &[u8], request: &mut Request) -> Result<(), BodyFault>
     requires { 1 ≤ length body.now }
     ensures ok { OnOk result (SpellsBody (limits_after hello) body.now (body_of request.new)) }
@@ -288,7 +289,7 @@ fn is_hello(request: &Request) -> bool
     matches!(request.kind, RequestKind::Hello { .. })
 }
 
-/// Whether it is the request's turn.
+/// Tests whether it is the request's turn.
 fn may_come(hello: Option<Version>, request: &Request) -> bool
     ensures yes { IsTrue result → MayCome hello request.now }
     ensures no { IsFalse result → is_hello request.now ≢ is_none hello }
@@ -299,8 +300,8 @@ fn may_come(hello: Option<Version>, request: &Request) -> bool
     }
 }
 
-/// Reads the request of a body into this buffer, or names the body's fault; what the buffer held is lost. A body has at least
-/// one byte.
+/// Reads the request of a body into this buffer, or names the body's fault; the buffer's old contents are lost. A body has at
+/// least one byte.
 #[tactic(auto, using(crate::proofs::BodyLaws::misplaced))]
 pub fn read_request(
     hello: Option<Version>,

@@ -1,4 +1,4 @@
-//! What clients ask, in buffers that are used again.
+//! Clients' requests, in buffers that are used again.
 ghost use Rattle.std.specs.Prelude.{◌≡◌, Option, option_copied};
 ghost use Rattle.client_protocol.specs.Requests.{viewed};
 ghost use Rattle.client_protocol.specs.Requests.Request.{Count};
@@ -11,8 +11,8 @@ use std::alloc::Global;
 use std::fmt;
 use std::marker::Model;
 
-/// A request of a client, as its buffer shows it: a few words, which lend the key, the values and the bytes. A program is
-/// named by the number under which it was registered; an `arg` is an argument, or absent.
+/// A client's request, as its buffer shows it: a few words, which borrow the key, the values and the bytes. A program is
+/// named by the number with which it was registered; an `arg` is an argument, or absent.
 #[derive(Clone, Copy, Debug, PartialEq, Eq)]
 pub enum RequestView<'a> {
     /// Comes first, and once: tag 00.
@@ -94,16 +94,16 @@ pub enum RequestView<'a> {
         arg: Option<&'a Value>,
         threshold: u64,
     },
-    /// Each value is replaced by its answer: tag 22.
+    /// Replaces each value by its answer: tag 22.
     ReplaceAll {
         program: u64,
         arg: Option<&'a Value>,
     },
-    /// How many entries there are: tag 23.
+    /// The number of entries: tag 23.
     Count,
 }
 
-/// What a request is beside its bytes.
+/// A request without its bytes.
 #[derive(Clone, Copy)]
 pub enum RequestKind {
     Hello { version: Version },
@@ -128,7 +128,7 @@ pub enum Run {
     Merge { program: u64 },
 }
 
-/// A request that is about no key.
+/// A request without a key.
 #[derive(Clone, Copy)]
 pub enum Walk {
     Search { program: u64, threshold: u64 },
@@ -138,7 +138,7 @@ pub enum Walk {
 }
 
 impl Run {
-    /// The request on this key, with this value or this argument.
+    /// Returns the request on this key, with this value or this argument.
     #[inline(always)]
     fn view<'a>(self, key: &'a Key, value: &'a Value, arg: Option<&'a Value>) -> RequestView<'a>
         ensures { viewed result ≡ run_with self key.now value.now (option_copied arg.entry) }
@@ -161,7 +161,7 @@ impl Run {
 }
 
 impl Walk {
-    /// The walk with this argument.
+    /// Returns the walk with this argument.
     #[inline(always)]
     fn view<'a>(self, arg: Option<&'a Value>) -> RequestView<'a>
         ensures { viewed result ≡ walk_with self (option_copied arg.entry) }
@@ -183,7 +183,7 @@ impl Walk {
     }
 }
 
-/// A value that may be absent. Its bytes' room stays then.
+/// A value that may be absent. Then the room for its bytes stays.
 #[derive(Drop)]
 pub struct OptionalValue {
     pub is_there: bool,
@@ -203,7 +203,7 @@ impl OptionalValue {
     }
 }
 
-/// A key without a byte, over which one is read.
+/// Makes an empty key, to read one into.
 fn empty_key() -> Key {
     match Key::from_slice(&[]) {
         Ok(key) => key,
@@ -211,13 +211,13 @@ fn empty_key() -> Key {
     }
 }
 
-/// A buffer of some 2,200 bytes that holds a request of a client. A request is read into it and stays there, and `view` lends
-/// it, so reading and answering copy no more than the bytes that came.
+/// A buffer of some 2,200 bytes that holds a client's request. You read a request into it, and borrow it from there by
+/// `view`, so reading and answering copy no more than the bytes that arrived.
 #[derive(Drop)]
 pub struct Request {
     pub(crate) kind: RequestKind,
     pub(crate) key: Key,
-    // The argument, or the value that is expected.
+    // The argument, or the expected value.
     pub(crate) other: OptionalValue,
     pub(crate) value: Value,
     // The bytes of a Register's program.
@@ -240,7 +240,7 @@ impl fmt::Debug for Request {
 }
 
 impl Request {
-    /// A buffer that holds a `Count`. Takes no memory; a `Register` that is read into it asks for some.
+    /// Makes a buffer that holds a `Count`. Takes no memory; reading a `Register` into it asks for some.
     pub fn new(alloc: Global) -> Request
         ensures { result ≡ Count }
     {
@@ -256,7 +256,7 @@ impl Request {
         }
     }
 
-    /// The request, lent. Takes no memory, and copies a few words.
+    /// Borrows the request. Takes no memory, and copies a few words.
     #[inline(always)]
     pub fn view(&self) -> RequestView<'_>
         ensures { viewed result ≡ self.now }

@@ -12,7 +12,8 @@ use bpf_model::NoMemory;
 use std::alloc::Global;
 use std::marker::Model;
 
-/// Requests in order. A list keeps its buffers when it is cleared, and uses them again: reading a request copies only its bytes.
+/// Requests in order. `clear` keeps the list's buffers, and later requests use them again: reading a request copies only its
+/// bytes.
 #[derive(Drop)]
 pub struct Requests {
     buffers: Vec<Request>,
@@ -30,7 +31,7 @@ impl Model for Requests {
     ghost invariant = { λ r. r.used ≤ length r.buffers.items };
 }
 
-/// What follows a request that was read.
+/// The state after a request was read.
 #[derive(Clone, Copy)]
 pub struct Behind<'b> {
     /// The Hello taken.
@@ -61,7 +62,7 @@ fn add_buffer(buffers: &mut Vec<Request>, alloc: Global) -> Result<(), NoMemory>
 }
 
 impl Requests {
-    /// An empty list without buffers. Takes no memory.
+    /// Makes an empty list without buffers. Takes no memory.
     pub fn new(alloc: Global) -> Requests
         ensures { result ≡ [] }
     {
@@ -78,7 +79,7 @@ impl Requests {
         self.used = 0;
     }
 
-    /// The requests in order.
+    /// Returns the requests in order.
     pub fn as_slice(&self) -> &[Request]
         ensures { result.now ≡ self.now }
     {
@@ -92,8 +93,8 @@ impl Requests {
         make_room(&mut self.buffers, count)
     }
 
-    /// Adds the request of the frame that begins the bytes, and answers what follows it; none if the frame has only
-    /// begun. The request is read into the next buffer, which is made if there is none.
+    /// Adds the request of the frame that begins the bytes, and returns the bytes after it, or `None` if the frame has
+    /// only begun. Reads the request into the next buffer, and makes it if there is none.
     pub(crate) fn read_next<'b>(
         &mut self,
         alloc: Global,
@@ -117,7 +118,7 @@ impl Requests {
         Ok(Some(Behind { hello, bytes }))
     }
 
-    /// The requests, without the buffers that hold none.
+    /// Returns the requests, without the unused buffers.
     pub(crate) fn into_vec(self) -> Vec<Request>
         ensures { result.items ≡ self }
     {

@@ -1,4 +1,4 @@
-//! What is answered.
+//! Responses.
 ghost use Rattle.std.specs.Prelude.{◌≡◌, ◌+◌, ◌≤◌, ◌<◌, ◌^◌, ◌++◌, length, Some};
 ghost use Rattle.arrayvec.specs.ArrayVec.{array_vec_len};
 ghost use Rattle.bpf_model.specs.declared.limits.TheConstants.{KEY_BYTES, VALUE_BYTES};
@@ -9,25 +9,25 @@ use crate::limits::Version;
 use arrayvec::ArrayVec;
 use bpf_model::{InputPart, Key, Value};
 
-/// The bytes of the longest frame of a response, an `Item`.
+/// The longest frame of a response, an `Item`, has this many bytes.
 pub const FRAME_BYTES: usize = 1096;
 
-/// The bytes of the longest frame of a short response, an `End`.
+/// The longest frame of a short response, an `End`, has this many bytes.
 pub const SHORT_FRAME_BYTES: usize = 29;
 
-/// The most bytes that stand before a value's own in the frame of an `Item`.
+/// In the frame of an `Item` at most this many bytes come before the value's own.
 pub const ITEM_HEAD_BYTES: usize = 72;
 
 const SHORT_BODY_BYTES: usize = 25;
 
-/// A response, one frame. A walk has several: its items in order, and then one `End`.
+/// A response in one frame. A walk has several: its items in order, and then one `End`.
 #[derive(Debug, PartialEq, Eq, Drop)]
 pub enum Response {
     /// The Hello was taken: tag 80.
     Hello {
         version: Version,
     },
-    /// The program is registered under this number: tag 81.
+    /// The program is registered with this number: tag 81.
     Registered {
         program: u64,
     },
@@ -61,18 +61,18 @@ pub enum Response {
     },
 }
 
-/// A response without the bytes of a key or of a value: a few words, which are copied freely.
+/// A response without the bytes of a key or of a value: a few words, which you can copy freely.
 #[derive(Clone, Copy, Debug, PartialEq, Eq)]
 pub enum ShortResponse {
     /// The Hello was taken: tag 80.
     Hello {
         version: Version,
     },
-    /// The program is registered under this number: tag 81.
+    /// The program is registered with this number: tag 81.
     Registered {
         program: u64,
     },
-    /// A value that is absent: tag 82.
+    /// An absent value: tag 82.
     Nothing,
     /// Whether the call changed the entry: tag 83.
     Done {
@@ -117,7 +117,7 @@ fn part_number(part: InputPart) -> u8
 }
 
 impl ShortResponse {
-    /// How many bytes the body has.
+    /// Returns how many bytes the body has.
     fn body_len(self) -> usize
         ensures value { result ≡ length (response_body (response_of self)) }
         ensures fits { result ≤ SHORT_BODY_BYTES }
@@ -164,7 +164,7 @@ impl ShortResponse {
         }
     }
 
-    /// The response's frame. Takes no memory.
+    /// Returns the response's frame. Takes no memory.
     pub fn frame(&self) -> ArrayVec<u8, SHORT_FRAME_BYTES>
         ensures { result.items ≡ response_frame (response_of self.now) }
     {
@@ -175,7 +175,8 @@ impl ShortResponse {
     }
 }
 
-/// The bytes before a value's own in the frame of the response with it, for who sends the value from where it lies.
+/// Returns the bytes that come before the value in the frame of the response with it, so that you can send the value in
+/// place.
 pub fn value_head(value: &[u8]) -> [u8; 7]
     requires { length value.now ≤ VALUE_BYTES }
     ensures { response_frame (Answered (Some value.now)) ≡ result ++ value.now }
@@ -186,8 +187,8 @@ pub fn value_head(value: &[u8]) -> [u8; 7]
     [a, b, c, d, 0x82, e, f]
 }
 
-/// The bytes before a value's own in the frame of the item with this key and it, for who sends the value from where it
-/// lies. Takes no memory.
+/// Returns the bytes that come before the value in the frame of the item with this key and value, so that you can send
+/// the value in place. Takes no memory.
 pub fn item_head(key: &[u8], value: &[u8]) -> ArrayVec<u8, ITEM_HEAD_BYTES>
     requires key { length key.now ≤ KEY_BYTES }
     requires value { length value.now ≤ VALUE_BYTES }
@@ -204,7 +205,7 @@ pub fn item_head(key: &[u8], value: &[u8]) -> ArrayVec<u8, ITEM_HEAD_BYTES>
     head
 }
 
-/// Adds a value behind what stands before it.
+/// Adds a value after the bytes that come before it.
 fn put_behind(frame: &mut ArrayVec<u8, FRAME_BYTES>, head: &[u8], value: &[u8])
     requires none { array_vec_len frame.old ≡ 0 }
     requires fits { length head.now + length value.now ≤ FRAME_BYTES }
@@ -232,7 +233,7 @@ fn put_short(frame: &mut ArrayVec<u8, FRAME_BYTES>, short: ShortResponse)
 }
 
 impl Response {
-    /// The response's frame. Takes no memory.
+    /// Returns the response's frame. Takes no memory.
     pub fn frame(&self) -> ArrayVec<u8, FRAME_BYTES>
         ensures { result.items ≡ response_frame self.now }
     {

@@ -1,4 +1,4 @@
--- What is known of a connection that never blocks, and of the bytes that are owed to it.
+-- What a connection that never blocks tells, and the bytes that are owed to it.
 use Rattle.std.specs.Prelude.{◌≡◌, ℕ, ◌≤◌, ◌++◌, List, Option, length, take}
 use Rattle.std.specs.Io.KnownBytes.{Appends, Consumes, IsAtEnd, Keeps}
 use Rattle.devices.specs.declared.channel.Received.{Received}
@@ -6,7 +6,7 @@ use Rattle.devices.specs.declared.channel.Received.TheVariants as received
 use Rattle.devices.specs.declared.channel.Sent.{Sent}
 use Rattle.devices.specs.declared.channel.Sent.TheVariants as sent
 
--- the bytes that are left to be received, and those that were taken, where the connection tells them
+-- the bytes that are left to be received, and those that were taken, if the connection tells them
 pub record ChannelState : Type 0 where
   pub left : Option (List ℕ)
   pub held : Option (List ℕ)
@@ -15,7 +15,7 @@ pub record ChannelState : Type 0 where
 abbrev pub IsKept : ChannelState → ChannelState → Type 0
 IsKept old new = Keeps old.left new.left × Keeps old.held new.held
 
--- one receive: some bytes, which stand at the front of the room then, or none
+-- one receive: some bytes, which are then at the front of the room, or none
 abbrev pub Receives : ChannelState → ChannelState → Received → List ℕ → Type 0
 Receives old new (received.Bytes n) room =
     (1 ≤ n) × (n ≤ length room) × Consumes old.left new.left (take n room) × Keeps old.held new.held
@@ -35,7 +35,7 @@ pub record OwedState : Type 0 where
   pub rest : List ℕ
   pub failures : ℕ
 
--- the connection took a front of what it was owed
+-- the connection took a front of the bytes owed to it
 pub record TakesOwed (old new : ChannelState) (owed left : OwedState) : Type 0 where
   pub front : List ℕ
   pub parts : owed.rest ≡ front ++ left.rest

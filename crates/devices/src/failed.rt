@@ -1,5 +1,5 @@
-//! That a device failed.
+//! A device failed.
 
-/// A device could not be used. It is not used again.
+/// A device could not be used. Don't use it again.
 #[derive(Clone, Copy, Debug, PartialEq, Eq)]
 pub struct Failed;

@@ -1,7 +1,7 @@
-//! Where bytes come from and where they go, as far as a device tells.
+//! Sources and sinks of bytes, and what devices tell about them.
 //!
-//! The promise to the layers above: a `Source` and a `Sink` say what each read, write and flush makes of what the device
-//! tells (`SourceState` and `SinkState` of `specs/Devices.antt`); `read_all` and `write_all` read and write all bytes. A
+//! The promise to the layers above: a `Source` and a `Sink` say how each read, write and flush changes what the device
+//! tells (`SourceState` and `SinkState` of `specs/Devices.antt`). `read_all` and `write_all` read and write all bytes. A
 //! `StreamSource` and a `StreamSink` are the streams of `std::io` as devices, and repeat a call that a signal interrupts.
 //! A read waits as long as its device does. Only `read_all` takes memory.
 #![tactic(auto)]

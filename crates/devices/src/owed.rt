@@ -1,4 +1,4 @@
-//! What a connection has not taken yet.
+//! Bytes that a connection has not taken yet.
 ghost use Rattle.std.specs.Prelude.{◌≡◌, ◌≤◌, ◌<◌, ℕ, [], length, Some, false};
 ghost use Rattle.devices.specs.Channels.{TakesOwed};
 
@@ -8,11 +8,11 @@ use crate::sink::Sink;
 use std::alloc::Global;
 use std::marker::Model;
 
-/// The most room that is kept for later when nothing is owed.
+/// If nothing is owed, at most this much room is kept for later.
 const KEPT_BYTES: usize = 1024;
 
-/// Bytes that a connection has not taken yet, as a sink. A write fails if a request for memory is refused, and then nothing of it
-/// is kept.
+/// Bytes that a connection has not taken yet, as a sink. A write fails if a request for memory is refused, and then keeps none of
+/// its bytes.
 #[derive(Drop)]
 pub struct Owed {
     bytes: Vec<u8>,
@@ -31,7 +31,7 @@ impl Model for Owed {
     ghost invariant = { λ o. o.taken ≤ length o.bytes.items };
 }
 
-/// How much of what was owed is taken.
+/// How much of the owed bytes was taken.
 #[derive(Clone, Copy, Debug, PartialEq, Eq)]
 pub enum Taking {
     /// All of it.
@@ -43,7 +43,7 @@ pub enum Taking {
 }
 
 impl Owed {
-    /// Nothing is owed. Takes no memory.
+    /// Owes nothing. Takes no memory.
     pub fn new(alloc: Global) -> Owed
         ensures { result ≡ record { rest = []; failures = 0 } }
     {
@@ -54,14 +54,14 @@ impl Owed {
         }
     }
 
-    /// How many bytes are owed.
+    /// Returns how many bytes are owed.
     pub fn len(&self) -> usize
         ensures { result ≡ length self.now.rest }
     {
         self.bytes.len() - self.taken
     }
 
-    /// One send of what is owed.
+    /// Sends once from the owed bytes.
     fn send_front<C: Channel>(&mut self, channel: &mut C) -> Sent
         requires { 1 ≤ length self.old.rest }
         ensures taken { TakesOwed (C.state channel.old) (C.state channel.new) self.old self.new }
@@ -74,7 +74,7 @@ impl Owed {
         sent
     }
 
-    /// Sends what is owed, as far as the connection takes it now.
+    /// Sends the owed bytes, as many as the connection takes now.
     #[tactic(auto, using(crate::proofs::ChannelLemmas::takes_none, crate::proofs::ChannelLemmas::takes_both))]
     pub fn send_to<C: Channel>(&mut self, channel: &mut C) -> Taking
         ensures taken { TakesOwed (C.state channel.old) (C.state channel.new) self.old self.new }
@@ -90,7 +90,7 @@ impl Owed {
         Taking::All
     }
 
-    /// Gives up the bytes that were taken, and room beyond what is kept for later, if nothing is owed.
+    /// If nothing is owed, drops the bytes that were taken, and frees the room beyond what is kept for later.
     pub fn settle(&mut self, alloc: Global)
         ensures { self.new ≡ self.old }
     {

@@ -1,4 +1,4 @@
-//! Where bytes go.
+//! Sinks of bytes.
 ghost use Rattle.std.specs.Prelude.{◌≡◌, ◌≤◌, ◌+◌, false, length, OnOk, OnErr, IfOk};
 ghost use Rattle.std.specs.Io.{WritesAtMost};
 ghost use Rattle.std.specs.Io.KnownBytes.{Keeps, WriteAppends};
@@ -6,14 +6,14 @@ ghost use Rattle.devices.specs.Devices.{CanWrite, TakesBytes, TakesPart};
 
 use crate::failed::Failed;
 
-/// Where bytes go.
+/// A sink of bytes.
 pub trait Sink {
     ghost use Rattle.devices.specs.Devices.{SinkState};
 
-    /// What the device tells of itself.
+    /// What the device tells about itself.
     ghost state: { Self → SinkState };
 
-    /// Takes a front of the bytes, at least one, and answers how many. A write that fails takes none.
+    /// Takes a front of the bytes, at least one, and returns how many. A write that fails takes none.
     fn write(&mut self, bytes: &[u8]) -> Result<usize, Failed>
         requires some { 1 ≤ length bytes.now }
         requires count { CanWrite (state self.old) }
@@ -23,7 +23,7 @@ pub trait Sink {
         ensures ok { OnOk result ((state self.new).failures ≡ (state self.old).failures) }
         ensures err { OnErr result ((state self.new).failures ≡ (state self.old).failures + 1) };
 
-    /// Passes on what the device keeps back of the bytes that it took. Where that fails, a write has failed.
+    /// Passes on the bytes that the device took and kept back. If that fails, a write has failed.
     fn flush(&mut self) -> Result<(), Failed>
         requires count { CanWrite (state self.old) }
         ensures bytes { Keeps (state self.old).held (state self.new).held }

@@ -1,4 +1,4 @@
-//! Where bytes come from.
+//! Sources of bytes.
 ghost use Rattle.std.specs.Prelude.{◌≡◌, ◌≤◌, ◌+◌, length, false, OnOk, OnErr, IfOk};
 ghost use Rattle.std.specs.Io.{ReadsAtMost};
 ghost use Rattle.std.specs.Io.KnownBytes.{ReadConsumes};
@@ -8,14 +8,14 @@ use crate::failed::Failed;
 use crate::sink::Sink;
 use std::alloc::{AllocError, Global};
 
-/// Where bytes come from.
+/// A source of bytes.
 pub trait Source {
     ghost use Rattle.devices.specs.Devices.{SourceState};
 
-    /// What the device tells of itself.
+    /// What the device tells about itself.
     ghost state: { Self → SourceState };
 
-    /// Reads into a front of the buffer, and answers how many bytes: 0 tells the end. A read that fails takes none.
+    /// Reads into the front of the buffer, and returns how many bytes: 0 means the end. A read that fails takes none.
     fn read(&mut self, buffer: &mut [u8]) -> Result<usize, Failed>
         requires room { 1 ≤ length buffer.old }
         requires count { CanRead (state self.old) }
@@ -25,13 +25,12 @@ pub trait Source {
         ensures err { OnErr result (FailsToRead (state self.old) (state self.new)) };
 }
 
-/// A source that may be read only when a sink has been flushed. A session reads its client by this trait alone, so it can't
-/// wait for the client while answers to it are still kept back: the client may be waiting for them. Each `Source` is one,
-/// with any sink.
+/// A source that may be read only after a sink has been flushed. A session reads its client only by this trait, so it can't
+/// wait for the client while it keeps back answers that the client may be waiting for. Each `Source` is one, with any sink.
 pub trait ReadAfterFlush<W: Sink> {
     ghost use Rattle.devices.specs.Devices.{SourceState};
 
-    /// What the source tells of itself.
+    /// What the source tells about itself.
     ghost source: { Self → SourceState };
 
     /// Reads as a `Source` does, after the sink has passed on all that it took.
@@ -53,7 +52,7 @@ impl<W: Sink, R: Source> ReadAfterFlush<W> for R {
     }
 }
 
-/// Why not all of a device's bytes are there.
+/// Why not all of a device's bytes were read.
 #[derive(Clone, Copy, Debug, PartialEq, Eq)]
 pub enum ReadFault {
     /// The device failed.
@@ -86,7 +85,8 @@ impl From<Failed> for ReadFault {
 
 const PIECE_BYTES: usize = 4096;
 
-/// All bytes that the device has left, up to the end that it tells.
+/// Reads all bytes that the device has left, up to the end that it tells. `Failed` if a read fails, `NoMemory` if a
+/// request for memory is refused.
 pub fn read_all<R: Source>(alloc: Global, reader: &mut R) -> Result<Vec<u8>, ReadFault>
     requires { CanRead (R.state reader.old) }
     ensures value { IfOk result (λ v. IsAll (R.state reader.old).left v.items) }

@@ -8,7 +8,7 @@ use crate::sink::Sink;
 use crate::source::Source;
 use std::io::{self, ErrorKind, Read, Write};
 
-/// One read; where a signal interrupts it, one more.
+/// Reads once, and again if a signal interrupts it.
 fn read_again<R: Read>(reader: &mut R, buffer: &mut [u8]) -> io::Result<usize>
     ensures within { ReadsAtMost result buffer.new }
     ensures bytes { ReadConsumes (R.remaining reader.old) (R.remaining reader.new)
@@ -27,7 +27,7 @@ fn read_again<R: Read>(reader: &mut R, buffer: &mut [u8]) -> io::Result<usize>
     Err(io::Error::from(ErrorKind::Interrupted))
 }
 
-/// One write; where a signal interrupts it, one more.
+/// Writes once, and again if a signal interrupts it.
 fn write_again<W: Write>(writer: &mut W, bytes: &[u8]) -> io::Result<usize>
     ensures within { WritesAtMost result bytes.now }
     ensures bytes { WriteAppends (W.contents writer.old) (W.contents writer.new) result bytes.now }
@@ -45,7 +45,7 @@ fn write_again<W: Write>(writer: &mut W, bytes: &[u8]) -> io::Result<usize>
     Err(io::Error::from(ErrorKind::Interrupted))
 }
 
-/// One flush; where a signal interrupts it, one more.
+/// Flushes once, and again if a signal interrupts it.
 fn flush_again<W: Write>(writer: &mut W) -> io::Result<()>
     ensures bytes { Keeps (W.contents writer.old) (W.contents writer.new) }
 {
@@ -62,7 +62,7 @@ fn flush_again<W: Write>(writer: &mut W) -> io::Result<()>
     Err(io::Error::from(ErrorKind::Interrupted))
 }
 
-/// A reader as a `Source`. It tells its bytes where the reader does.
+/// A reader as a `Source`. It tells its bytes if the reader does.
 #[derive(Drop)]
 pub struct StreamSource<R> {
     reader: R,
@@ -72,7 +72,7 @@ pub struct StreamSource<R> {
 }
 
 impl<R: Read> StreamSource<R> {
-    /// A source that was not read, has not failed and not told its end.
+    /// Makes a source that was not read, has not failed and has not told its end.
     pub fn new(reader: R) -> StreamSource<R>
         ensures { ⟦<StreamSource<R> as Source>⟧.state result
             ≡ record { left = R.remaining reader; last = 0; ends = 0; failures = 0 } }
@@ -111,7 +111,7 @@ impl<R: Read> Source for StreamSource<R> {
     }
 }
 
-/// A writer as a `Sink`. It tells its bytes where the writer does. A write that takes no byte has failed. The writer may
+/// A writer as a `Sink`. It tells its bytes if the writer does. A write that takes no byte has failed. The writer may
 /// keep bytes back until it is flushed.
 #[derive(Drop)]
 pub struct StreamSink<W> {
@@ -121,7 +121,7 @@ pub struct StreamSink<W> {
 }
 
 impl<W: Write> StreamSink<W> {
-    /// A sink that has not failed. What the writer took before may be kept back.
+    /// Makes a sink that has not failed. The writer may still keep back bytes that it took before.
     pub fn new(writer: W) -> StreamSink<W>
         ensures { ⟦<StreamSink<W> as Sink>⟧.state result
             ≡ record { held = W.contents writer; keeps_back = true; failures = 0 } }
@@ -133,7 +133,7 @@ impl<W: Write> StreamSink<W> {
         }
     }
 
-    /// The writer.
+    /// Returns the writer.
     pub fn into_inner(self) -> W
         ensures { W.contents result ≡ (⟦<StreamSink<W> as Sink>⟧.state self).held }
     {

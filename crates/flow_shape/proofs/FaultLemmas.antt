@@ -14,7 +14,7 @@ use Rattle.flow_shape.specs.Jumps.{distance_of, falls_through, JumpsBy, target_o
 use Rattle.flow_shape.specs.FlowShape.{JumpsIntoWide, Falls, HasFault, IsWellShaped, Lands, flow_fault_unit, flow_fault_number}
 use Rattle.flow_shape.specs.Layouts.{HasNoFaultAt, IsFirstFaultAt, DoesLand}
 
--- a whole number that is a unit is this one
+-- a whole number that is a unit is equal to it
 pub unit_is : (z : ℤ) (t : ℕ) → unit_of z ≡ Some t → z ≡ pos t
 unit_is (pos u) t e = ap pos (some_is u t e)
 unit_is (negsuc u) t e = absurd cc
@@ -65,14 +65,14 @@ only_falls program unit lands (JumpIntoWide u) has here =
     absurd (lands_at_start program unit into (lands into.distance into.jumps))
 only_falls program unit lands (FallsOffEnd u) has here = ap FallsOffEnd here
 
--- an instruction whose jump lands and after which no run leaves the program has no fault
+-- if the jump lands and no run leaves the program after the instruction, it has no fault
 pub clear_here : (program : List Insn) (unit : ℕ) (i : Insn) → instruction_at program unit ≡ Some i → DoesLand program unit → (falls_through i ≡ true → unit + units_of i ≢ unit_count program) → HasNoFaultAt program unit
 clear_here program unit i at lands goes_on fault has here =
     let falls : Falls program unit = subst (λ (f : FlowFault). HasFault program f) (only_falls program unit lands fault has here) has in
     let same : falls.instruction ≡ i = some_is falls.instruction i (sym falls.at ∙ at) in
     goes_on (ap falls_through (sym same) ∙ falls.goes_on) (ap (λ (j : Insn). unit + units_of j) (sym same) ∙ falls.last)
 
--- and one after which a run leaves it has this fault alone
+-- and if a run leaves it there, this is its only fault
 pub falls_here : (program : List Insn) (unit : ℕ) (i : Insn) → instruction_at program unit ≡ Some i → DoesLand program unit → falls_through i ≡ true → unit + units_of i ≡ unit_count program → IsFirstFaultAt program unit (FallsOffEnd unit)
 falls_here program unit i at lands goes_on last = record {
   has = record { instruction = i; at = at; last = last; goes_on = goes_on };
@@ -80,7 +80,7 @@ falls_here program unit i at lands goes_on last = record {
   least = λ other has here. omega (arith, ap flow_fault_number (only_falls program unit lands other has here));
 }
 
--- no unit that the first k instructions take has a fault
+-- none of the units of the first k instructions has a fault
 pub record Passed (program : List Insn) (k unit : ℕ) : Type 0 where
   pub counted : unit ≡ unit_count (take k program)
   pub clear : (fault : FlowFault) → HasFault program fault → unit ≤ flow_fault_unit fault
@@ -89,7 +89,7 @@ pub none_passed : (program : List Insn) → Passed program 0 0
 unfolding unit_count
 none_passed program = record { counted = refl; clear = λ fault has. omega arith }
 
--- a fault is one of an instruction that starts at its unit
+-- a fault belongs to the instruction that starts at its unit
 fault_stands : (program : List Insn) (fault : FlowFault) → HasFault program fault → (i : Insn) × (instruction_at program (flow_fault_unit fault) ≡ Some i)
 fault_stands program (BackwardJump u) has = let j = chain_some distance_of (instruction_at program u) has.0 has.1.0 in (j.0, j.1)
 fault_stands program (JumpOut u) has = let j = chain_some distance_of (instruction_at program u) has.0 has.1.0 in (j.0, j.1)
@@ -114,7 +114,7 @@ more_passed program k unit i here passed none = record { counted = omega (arith,
           ]
         ]
 
--- where all instructions are passed, the program is well shaped
+-- if all instructions are passed, the program is well shaped
 pub all_passed : (program : List Insn) (k unit : ℕ) → length program ≤ k → Passed program k unit → IsWellShaped program
 all_passed program k unit all passed fault has =
     let end = ap unit_count (take_all k program all) in

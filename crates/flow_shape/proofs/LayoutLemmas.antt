@@ -10,7 +10,7 @@ use Rattle.bpf_model.specs.Program.{units_of, unit_count, instruction_at}
 use Rattle.bpf_model.proofs.ProgramLemmas.{units_of-some, unit_count-next, unit_count-take, starts_at, none_inside, none_past}
 use Rattle.flow_shape.specs.Layouts.{IsLaidOut}
 
--- the starts below a unit, which the first k instructions come to, are marked
+-- the starts are marked up to the unit that the first k instructions end at
 pub record Marked (program : List Insn) (k : ℕ) (flags : List Bool) (total : ℕ) : Type 0 where
   pub len : length flags ≡ PROGRAM_UNITS
   pub counted : total ≡ unit_count (take k program)
@@ -80,7 +80,7 @@ more_marked program k i flags total bounded here marked = record {
         unmarked : (unit : ℕ) → nat_lt unit (total + units_of i) ≡ false → (nat_lt unit (total + units_of i) && is_some (instruction_at program unit)) ≡ false
         unmarked unit past = rw past refl
 
--- where all instructions are marked, the program is laid out
+-- if all instructions are marked, the program is laid out
 pub all_marked : (program : List Insn) (k : ℕ) (flags : List Bool) (total : ℕ) → unit_count program ≤ PROGRAM_UNITS → length program ≤ k → Marked program k flags total → IsLaidOut program flags total
 all_marked program k flags total bounded all marked = record { starts = starts; counted = counted; bounded = bounded }
   where

@@ -1,4 +1,4 @@
--- What a well-shaped program keeps: its jumps go forward and land, and no run leaves it.
+-- In a well-shaped program jumps go forward and land, and no run leaves it.
 use Rattle.std.proofs.Common.{◌≡◌, ℕ, ◌+◌, ◌<◌, ◌⊎◌, true, List, Option, Some, None, refl, ap, ◌∙◌, inl, inr, arith, rules, ℤ, pos, negsuc, ◌≤ℤ◌}
 use Rattle.std.specs.Prelude.{IsSome, option_and_then}
 use Rattle.std.proofs.lemmas.Bool.{cases_order}
@@ -15,7 +15,7 @@ which_start : (o : Option Insn) → (o ≡ None) ⊎ IsSome o
 which_start None = inl refl
 which_start (Some i) = inr (is_there (Some i) i refl)
 
--- a jump of a program without a fault lands
+-- a jump lands if the program has no fault
 pub jump_lands : (program : List Insn) (unit : ℕ) (d : ℤ) → IsWellShaped program → JumpsBy program unit d → (pos 0 ≤ℤ d) × Lands program unit d
 jump_lands program unit (negsuc n) shaped jumps = absurd (shaped (BackwardJump unit) (negsuc n, (jumps, search rules)))
 jump_lands program unit (pos n) shaped jumps = (

@@ -1,4 +1,4 @@
--- Which faults of flow a program has, and what one without keeps. Our profile of RFC 9669.
+-- Which flow faults a program has, and what holds if it has none. Our profile of RFC 9669.
 use Rattle.std.specs.Prelude.{◌≡◌, ℕ, ◌+◌, ◌<◌, ◌≤◌, ◌⊎◌, true, List, Some, None, IsSome, ℤ, pos, ◌<ℤ◌, ◌≤ℤ◌}
 use Rattle.bpf_model.specs.declared.instruction.Insn.{Insn}
 use Rattle.bpf_model.specs.Program.{units_of, unit_count, instruction_at}
@@ -7,7 +7,7 @@ use Rattle.flow_shape.specs.declared.fault.FlowFault.{FlowFault}
 use Rattle.flow_shape.specs.declared.fault.FlowFault.TheVariants.{BackwardJump, JumpOut, JumpIntoWide, FallsOffEnd}
 use Rattle.flow_shape.specs.Jumps.{falls_through, JumpsBy, target_of}
 
--- a jump to what went before, or to itself
+-- a jump backward, or to itself
 abbrev pub JumpsBack : List Insn → ℕ → Type 0
 JumpsBack program unit = (distance : ℤ) × (JumpsBy program unit distance × (distance <ℤ pos 0))
 
@@ -16,7 +16,7 @@ abbrev pub JumpsOut : List Insn → ℕ → Type 0
 JumpsOut program unit =
     (distance : ℤ) × (JumpsBy program unit distance × (pos (unit_count program) ≤ℤ target_of unit distance))
 
--- a unit inside at which no instruction starts is the second of a wide one
+-- if no instruction starts at a unit of the program, it is the second half of a wide one
 abbrev pub IsSecondHalf : List Insn → ℕ → Type 0
 IsSecondHalf program unit = (unit < unit_count program) × (instruction_at program unit ≡ None)
 
@@ -28,7 +28,7 @@ pub record JumpsIntoWide (program : List Insn) (unit : ℕ) : Type 0 where
   pub aims : target_of unit distance ≡ pos target
   pub half : IsSecondHalf program target
 
--- the last instruction starts at this unit, and after it a run may go on past the program's end
+-- the last instruction starts at this unit, and a run may go on after it, past the program's end
 pub record Falls (program : List Insn) (unit : ℕ) : Type 0 where
   pub instruction : Insn
   pub at : instruction_at program unit ≡ Some instruction
@@ -42,7 +42,7 @@ HasFault program (JumpOut unit) = JumpsOut program unit
 HasFault program (JumpIntoWide unit) = JumpsIntoWide program unit
 HasFault program (FallsOffEnd unit) = Falls program unit
 
--- the program has no fault of flow
+-- the program has no flow fault
 abbrev pub IsWellShaped : List Insn → Type 0
 IsWellShaped program = (fault : FlowFault) → HasFault program fault → ⊥
 
@@ -53,7 +53,7 @@ flow_fault_unit (JumpOut unit) = unit
 flow_fault_unit (JumpIntoWide unit) = unit
 flow_fault_unit (FallsOffEnd unit) = unit
 
--- the number under which the fault is printed and sent
+-- the number with which the fault is printed and sent
 abbrev pub flow_fault_number : FlowFault → ℕ
 flow_fault_number (BackwardJump unit) = 30
 flow_fault_number (JumpOut unit) = 31
@@ -73,7 +73,7 @@ pub record Lands (program : List Insn) (unit : ℕ) (distance : ℤ) : Type 0 wh
   pub forward : unit < target
   pub starts : IsSome (instruction_at program target)
 
--- each jump goes forward, to an instruction's start inside, and after no instruction does a run leave it
+-- each jump goes forward, to the start of an instruction inside, and no run leaves the program after an instruction
 pub record IsForward (program : List Insn) : Type 0 where
   pub lands : (unit : ℕ) (distance : ℤ) → JumpsBy program unit distance → (pos 0 ≤ℤ distance) × Lands program unit distance
   pub goes_on : (unit : ℕ) (i : Insn) → instruction_at program unit ≡ Some i → falls_through i ≡ true → IsSome (instruction_at program (unit + units_of i))

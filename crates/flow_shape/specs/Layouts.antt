@@ -1,4 +1,4 @@
--- Internal: what is known of a program while its flow is tested.
+-- Internal: facts about a program while its flow is tested.
 use Rattle.std.specs.Prelude.{◌≡◌, ◌≢◌, ℕ, ◌≤◌, ℤ, List, Bool, false, is_some, slice_index_or}
 use Rattle.bpf_model.specs.declared.limits.TheConstants.{PROGRAM_UNITS}
 use Rattle.bpf_model.specs.declared.instruction.Insn.{Insn}
@@ -7,13 +7,13 @@ use Rattle.flow_shape.specs.declared.fault.FlowFault.{FlowFault}
 use Rattle.flow_shape.specs.Jumps.{JumpsBy}
 use Rattle.flow_shape.specs.FlowShape.{HasFault, flow_fault_unit, flow_fault_number, Lands}
 
--- a flag is set exactly where an instruction starts, and the units are counted
+-- a flag is set exactly if an instruction starts there, and the units are counted
 pub record IsLaidOut (program : List Insn) (flags : List Bool) (total : ℕ) : Type 0 where
   pub starts : (unit : ℕ) → slice_index_or flags unit false ≡ is_some (instruction_at program unit)
   pub counted : total ≡ unit_count program
   pub bounded : unit_count program ≤ PROGRAM_UNITS
 
--- no fault is of the instruction at this unit
+-- the instruction at this unit has no fault
 abbrev pub HasNoFaultAt : List Insn → ℕ → Type 0
 HasNoFaultAt program unit = (fault : FlowFault) → HasFault program fault → flow_fault_unit fault ≢ unit
 

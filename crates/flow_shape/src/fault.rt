@@ -6,21 +6,21 @@ ghost use Rattle.flow_shape.specs.Messages.{flow_fault_reason};
 use std::error::Error;
 use std::fmt;
 
-/// Why a program's flow is refused, with the unit of the faulty instruction, counted from 0.
+/// A fault in a program's flow, with the unit of the faulty instruction, counted from 0.
 #[derive(Clone, Copy, Debug, PartialEq, Eq)]
 pub enum FlowFault {
-    /// A jump whose distance is below 0: number 30.
+    /// A jump has a distance below 0: number 30.
     BackwardJump(usize),
-    /// A jump at or past the number of units: number 31.
+    /// A jump goes to the number of units or past it: number 31.
     JumpOut(usize),
-    /// A jump to the second half of a wide instruction: number 32.
+    /// A jump goes to the second half of a wide instruction: number 32.
     JumpIntoWide(usize),
     /// The last instruction is neither EXIT nor a jump without a condition: number 33.
     FallsOffEnd(usize),
 }
 
 impl FlowFault {
-    /// The number under which this refusal is printed and sent.
+    /// Returns the number with which this refusal is printed and sent.
     pub fn number(self) -> u8
         ensures { result ≡ flow_fault_number self }
     {
@@ -32,7 +32,7 @@ impl FlowFault {
         }
     }
 
-    /// The unit of the faulty instruction, counted from 0.
+    /// Returns the unit of the faulty instruction, counted from 0.
     pub fn unit(self) -> usize
         ensures { result ≡ flow_fault_unit self }
     {

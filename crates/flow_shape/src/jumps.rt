@@ -1,10 +1,11 @@
-//! What an instruction means for the flow of a program.
+//! How instructions affect the flow of a program.
 ghost use Rattle.std.specs.Prelude.{◌≡◌, ◌<◌, ◌^◌, ◌<ℤ◌, ◌≤ℤ◌, pos, IfSome, IfNone};
 ghost use Rattle.flow_shape.specs.Jumps.{distance_of, falls_through, target_of};
 
 use bpf_model::Insn;
 
-/// The distance of a jump, in units from the next instruction on; none where the instruction is no jump. Takes no memory.
+/// Returns the distance of a jump, in units from the next instruction on, or `None` if the instruction is no jump. Takes
+/// no memory.
 pub fn distance(insn: &Insn) -> Option<i32>
     ensures value { result ≡ distance_of insn.now }
 {
@@ -15,7 +16,7 @@ pub fn distance(insn: &Insn) -> Option<i32>
     }
 }
 
-/// The unit that a jump forward goes to; none where it goes backward, or to itself.
+/// Returns the unit that a forward jump goes to, or `None` if it goes backward, or to itself.
 pub(crate) fn target(unit: usize, distance: i32) -> Option<usize>
     requires { unit < 2 ^ 32 }
     ensures forward { IfSome result (λ target. target_of unit distance ≡ pos target) }
@@ -28,7 +29,7 @@ pub(crate) fn target(unit: usize, distance: i32) -> Option<usize>
     Some(unit + 1 + distance.unsigned_abs() as usize)
 }
 
-/// Whether a run may go on at the next instruction.
+/// Tests whether a run may go on at the next instruction.
 pub(crate) fn falls_through(insn: &Insn) -> bool
     ensures { result ≡ falls_through insn.now }
 {

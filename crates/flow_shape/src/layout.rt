@@ -1,4 +1,4 @@
-//! At which units of a program an instruction starts, and which fault of flow an instruction has there.
+//! Which units of a program start an instruction, and which flow fault an instruction has.
 ghost use Rattle.std.specs.Prelude.{◌≡◌, Some, OnOk, IfErr};
 ghost use Rattle.bpf_model.specs.Program.{IsProgram, instruction_at};
 ghost use Rattle.flow_shape.specs.Layouts.{DoesLand, HasNoFaultAt, IsFirstFaultAt};
@@ -9,7 +9,7 @@ use bpf_model::Insn;
 use bpf_model::limits::PROGRAM_UNITS;
 use std::marker::Model;
 
-/// A program, and at which of its units an instruction starts.
+/// A program, and which of its units start an instruction.
 #[derive(Drop)]
 pub(crate) struct Layout<'a> {
     instructions: &'a [Insn],
@@ -47,7 +47,7 @@ impl<'a> Layout<'a> {
         }
     }
 
-    /// The first fault of a jump that starts at a unit; none of another instruction.
+    /// Returns the first fault of a jump that starts at a unit; other instructions have none.
     fn check_jump(&self, unit: usize, insn: &Insn) -> Result<(), FlowFault>
         requires { instruction_at self.now unit ≡ Some insn.now }
         ensures ok { OnOk result (DoesLand self.now unit) }
@@ -69,7 +69,7 @@ impl<'a> Layout<'a> {
         Ok(())
     }
 
-    /// The first fault of the instruction that starts at a unit.
+    /// Returns the first fault of the instruction that starts at a unit.
     pub(crate) fn check(&self, unit: usize, insn: &Insn) -> Result<(), FlowFault>
         requires { instruction_at self.now unit ≡ Some insn.now }
         ensures ok { OnOk result (HasNoFaultAt self.now unit) }

@@ -8,7 +8,7 @@ use crate::layout::Layout;
 use bpf_model::{Insn, Program};
 use std::marker::Model;
 
-/// A program without a fault of flow.
+/// A program without a flow fault.
 #[derive(Debug, Drop)]
 pub struct Shaped {
     program: Program,
@@ -27,7 +27,7 @@ impl Model for Shaped {
 }
 
 impl Shaped {
-    /// The program.
+    /// Returns the program.
     pub fn program(&self) -> &Program
         ensures value { result.now ≡ self.now }
         ensures shaped { IsWellShaped self.now }
@@ -36,7 +36,7 @@ impl Shaped {
         &self.program
     }
 
-    /// The program, taken out.
+    /// Takes the program out.
     pub fn into_program(self) -> Program
         ensures value { result ≡ self }
         ensures shaped { IsWellShaped self }
@@ -60,8 +60,8 @@ fn find_fault(program: &[Insn]) -> Result<(), FlowFault>
     Ok(())
 }
 
-/// The program, where its flow has no fault, else the first fault: the first faulty unit, and there the least number.
-/// The program is then given up. Takes no memory.
+/// Returns the program if its flow has no fault. Otherwise returns the first fault, which is the least-numbered one of
+/// the first faulty unit, and drops the program. Takes no memory.
 pub fn shape(program: Program) -> Result<Shaped, FlowFault>
     ensures ok { IsOk result ↔ IsWellShaped program }
     ensures same { IfOk result (λ s. s ≡ program) }

@@ -1,4 +1,4 @@
--- One seat learns what another that is at rest knows: the table's invariant is opened with no step. Assumes `Logic`.
+-- One seat learns what another at rest knows: the table's invariant is opened without a step. Assumes `Logic`.
 use Rattle.std.proofs.Common.{◌≡◌, ℕ, [], ◌∷◌, length, set, arith}
 use mathlib.Core.List.{not-mem-nil}
 use mathlib.Core.Option as maybe

@@ -84,7 +84,7 @@ module _ {V : Type 0} (cv : Coded V) where
         via 𝓤 (ex 𝓤 F) (entry_glue halved 𝓛 γ k (q, cv.code w) (r, cv.code v)) (ex_e 𝓤 F (λ x. guard_e 𝓤 (Both x) ⟦ entry halved γ k x ⟧ (λ m.
         via 𝓤 Z (entry_cut halved 𝓛 γ k (q, cv.code w) (r, cv.code v) x m) (guard_i 𝓤 (w ≡ v) Z (cv.inj w v m.0.1)))))
 
-    -- a share of a seat's view shows what the roster has there
+    -- a share of a seat's view shows what the roster has for it
     pub stands : (vs : List V) (k i j : ℕ) (v : V) (q : Share) → j ≡ k + i → ⟦ roster cv.code γ k vs ⟧ ∗ ⟦ S j v q ⟧ ⊢ guard 𝓤 (get_elem? vs i ≡ some v) (⟦ roster cv.code γ k vs ⟧ ∗ ⟦ S j v q ⟧)
     stands [] k i j v q e = qed 𝓛 (‵ (roster cv.code γ k []) ∷ ‵ (S j v q) ∷ []) ∵ fpick ! (λ d. move ! (1 ∷ 0 ∷ []) $
         use2 𝓛 (given (OpDef halved.op (q, cv.code v) (full_share, cv.code d)) (‵ (S j v q) ⊛ ‵ (unused cv.code γ k d))) (entries_beside halved 𝓛 γ k j (λ _. (full_share, cv.code d)) (q, cv.code v) (omega arith)) $

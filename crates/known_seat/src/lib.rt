@@ -1,9 +1,9 @@
 //! A seat of an `atomic_table` at rest: through a `&` to it another seat learns what it knows.
 //!
 //! The promise to the layers above: `learn` gives a seat any view that keeps the table's rule, whatever the table is
-//! while both seats have their views (`Learns` of `specs/Knowing.antt`; `learn`, clause `ensures`). It reads no word,
-//! changes none, takes no memory, waits for nobody and compiles to nothing: it is a step of the proof alone.
-//! A `Known` has no bytes and may be shared by threads.
+//! while both seats have their views (`Learns` of `specs/Knowing.antt`; `learn`, clause `ensures`). It reads and
+//! changes no word, takes no memory, never waits and compiles to nothing: it is only a step of the proof. A `Known` has
+//! no bytes, and threads may share it.
 #![tactic(auto)]
 
 ghost use Rattle.std.specs.Prelude.{◌≡◌, ℕ, List, [], ◌∷◌};
@@ -14,7 +14,7 @@ ghost use Rattle.known_seat.specs.Knowing.{known_shares, Learns};
 use atomic_table::{Badge, Seat, Shared, TableRule};
 use std::marker::{Model, PhantomData};
 
-/// A seat that holds no slot, at rest; or none (`blank`). It has no bytes. `views` has the seat's view, or is empty.
+/// A seat at rest that holds no slot, or no seat (`blank`). It has no bytes. `views` has the seat's view, or is empty.
 pub struct Known<V> {
     marker: PhantomData<V>,
     pub ghost table_id: { TableId } by { table_id_coded },
@@ -30,11 +30,11 @@ impl<V> Model for Known<V> {
 
 /// What a seat learns from another.
 pub trait Lesson<V> {
-    /// Of the seat's view before, the other seat's view, and the seat's view after.
+    /// Relates the seat's view before, the other seat's view, and the seat's view after.
     ghost then: { V → V → V → Type 0 };
 }
 
-/// The seat learns from another that is at rest. That both are the table's is the caller's condition. Reads no word, and
+/// Lets the seat learn from another one at rest. The caller ensures that both belong to the table. Reads no word, and
 /// nothing runs. Takes no memory. Never waits.
 pub fn learn<S, V, K, P: TableRule<S, V, K>, M: Lesson<V>>(
     table: &Shared<S, V, K, P>,
@@ -50,7 +50,7 @@ pub fn learn<S, V, K, P: TableRule<S, V, K>, M: Lesson<V>>(
 {}
 
 impl<V> Known<V> {
-    /// No seat.
+    /// Makes a `Known` without a seat.
     fn blank() -> Known<V>
         ensures { result.views ≡ [] }
     {
@@ -59,14 +59,14 @@ impl<V> Known<V> {
         }
     }
 
-    /// Each has what the other had.
+    /// Swaps what the two hold.
     fn trade(&mut self, badge: &mut Badge<V>)
         ensures { (self.new.table_id ≡ badge.old.table_id) × (self.new.id ≡ badge.old.id)
             × (self.new.views ≡ badge.old.views) × (badge.new.table_id ≡ self.old.table_id)
             × (badge.new.id ≡ self.old.id) × (badge.new.views ≡ self.old.views) }
     {}
 
-    /// The seat, which holds no slot, at rest.
+    /// Puts a seat that holds no slot to rest.
     pub fn of<S>(seat: Seat<S, V>) -> Known<V>
         requires { seat.me.1 ≡ [] }
         ensures { (result.table_id ≡ seat.table_id) × (result.id ≡ seat.id)
@@ -78,7 +78,7 @@ impl<V> Known<V> {
         known
     }
 
-    /// Takes the seat out, to step with it; a blank is left.
+    /// Takes the seat out, so that you can step with it, and leaves a blank.
     pub fn take<S>(&mut self) -> Seat<S, V>
         requires { (v : V) × (self.old.views ≡ v ∷ []) }
         ensures { (result.table_id ≡ self.old.table_id) × (result.id ≡ self.old.id)
@@ -89,7 +89,7 @@ impl<V> Known<V> {
         badge.into_seat()
     }
 
-    /// Puts the seat, which holds no slot, to rest.
+    /// Puts a seat that holds no slot to rest.
     pub fn put<S>(&mut self, seat: Seat<S, V>)
         requires { seat.me.1 ≡ [] }
         ensures { (self.new.table_id ≡ seat.table_id) × (self.new.id ≡ seat.id)

@@ -1,4 +1,4 @@
-//! Rows of calls and what they reply.
+//! Rows of calls and their replies.
 use crate::programs::{NINE, NOTHING, ONE, THREE, TWO, sizes, summing, verified};
 use atomic_methods::{Call, OpenFault, Reply, Striped, is_stripe_count, stripe_of};
 use bins::{Counts, hash_of};
@@ -7,7 +7,7 @@ use std::alloc::Global;
 use std::test::Fail;
 use verifier::Verified;
 
-/// A reply that is wanted.
+/// An expected reply.
 #[derive(Clone, Copy)]
 enum Wanted {
     Nothing,
@@ -24,7 +24,7 @@ enum Which {
     NoKey,
 }
 
-/// A method with what it is given; `ReplaceIf` has the expected value first.
+/// A method with its arguments; `ReplaceIf` has the expected value first.
 #[derive(Clone, Copy)]
 enum Method {
     Get,
@@ -41,7 +41,7 @@ enum Method {
 }
 
 impl Method {
-    /// Returns the bytes that it is given.
+    /// Returns the bytes of its arguments.
     fn bytes(self) -> (&'static [u8], &'static [u8]) {
         match self {
             Method::Get | Method::Remove => (b"", b""),
@@ -58,7 +58,7 @@ impl Method {
     }
 }
 
-/// Tells whether the reply is the wanted one.
+/// Tells whether the reply is the expected one.
 fn is_wanted(reply: &Reply, wanted: Wanted) -> bool {
     match (reply, wanted) {
         (Reply::Value(None), Wanted::Nothing) => true,
@@ -79,7 +79,7 @@ fn value(bytes: &[u8]) -> Result<Value, TooLong> {
     Value::from_slice(bytes)
 }
 
-/// Programs on values of 8 bytes, and one that takes the empty key alone.
+/// Programs on values of 8 bytes, and one that accepts only the empty key.
 #[derive(Drop)]
 struct Programs {
     sum: Verified,
@@ -110,7 +110,7 @@ impl Programs {
     }
 }
 
-/// What a call lends: its key, and its value or argument. `ReplaceIf` has the expected value first.
+/// The data that a call borrows: its key, and its value or argument. `ReplaceIf` has the expected value first.
 #[derive(Drop)]
 struct Lender {
     key: Key,
@@ -120,7 +120,7 @@ struct Lender {
 }
 
 impl Lender {
-    /// Makes what a call of the method on this key lends.
+    /// Makes the data for a call of the method on this key.
     fn new(name: &[u8], method: Method) -> Result<Lender, TooLong> {
         let (first, second) = method.bytes();
         Ok(Lender {

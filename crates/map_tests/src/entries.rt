@@ -1,4 +1,4 @@
-//! Puts, changes, removals and replacements in both bodies of the trait, and what is copied out of them.
+//! Puts, changes, removals and replacements in both bodies of the trait, and copies of the entries.
 ghost use Rattle.std.specs.Prelude.{◌≤◌, ◌<◌};
 
 use crate::expectations::expect;
@@ -13,14 +13,14 @@ mod lengths;
 mod made_up;
 mod replaced;
 
-/// Puts bytes under a name.
+/// Puts bytes at a name.
 fn put<B: Bins>(bins: &mut B, name: &[u8], bytes: &[u8]) -> Result<(), Fail> {
     let key = Key::from_slice(name)?;
     bins.put(&HashedKey::new(&key), &Value::from_slice(bytes)?)?;
     Ok(())
 }
 
-/// Puts each of these bytes under the name before it.
+/// Puts each of these bytes at the name before it.
 fn put_all<B: Bins>(bins: &mut B, rows: &[(&[u8], &[u8])]) -> Result<(), Fail> {
     for (name, bytes) in rows {
         put(bins, name, bytes)?;
@@ -38,7 +38,7 @@ fn holds<B: Bins>(bins: &B, alloc: Global, wanted: &[(&[u8], &[u8])]) -> Result<
     Ok(same)
 }
 
-/// Puts keys that begin one another in mixed order, one of them twice; whether they then stand in order.
+/// Puts keys that begin one another in mixed order, one of them twice. Tells whether they are then in order.
 fn stand_in_order<B: Bins + Drop>(alloc: Global) -> Result<bool, Fail> {
     let mut bins = B::open(alloc, 1)?;
     put_all(
@@ -55,7 +55,7 @@ fn stand_in_order<B: Bins + Drop>(alloc: Global) -> Result<bool, Fail> {
     Ok(holds(&bins, alloc, &wanted)?)
 }
 
-/// Puts so many keys of two bytes in mixed order, each with itself as its value.
+/// Puts `count` keys of two bytes in mixed order, each with itself as its value.
 fn fill<B: Bins>(bins: &mut B, count: u16) -> Result<(), Fail>
     requires { count ≤ 300 }
 {
@@ -66,7 +66,7 @@ fn fill<B: Bins>(bins: &mut B, count: u16) -> Result<(), Fail>
     Ok(())
 }
 
-/// Empties each value in another order, and removes it; whether each was there, and then was not.
+/// Empties each value in another order, and removes it. Tells whether each was there, and then was not.
 fn remove_all<B: Bins>(bins: &mut B) -> Result<bool, Fail> {
     let mut there = true;
     for i in 0..300u16 {
@@ -90,7 +90,7 @@ fn are_in_order(entries: &[(Key, Value)]) -> bool {
     same
 }
 
-/// Puts 300 keys, scans them, and removes them; whether each was there, and then none.
+/// Puts 300 keys, scans them, and removes them. Tells whether each was there, and then none.
 fn come_and_go<B: Bins + Drop>(alloc: Global) -> Result<bool, Fail> {
     let mut bins = B::open(alloc, 1)?;
     fill(&mut bins, 300)?;
@@ -98,7 +98,7 @@ fn come_and_go<B: Bins + Drop>(alloc: Global) -> Result<bool, Fail> {
     Ok(in_order && remove_all(&mut bins)? && bins.entries(alloc)?.is_empty())
 }
 
-/// Puts 40 keys, and removes every other one of them; returns the entries that are left.
+/// Puts 40 keys, and removes every other one of them. Returns the remaining entries.
 fn half_removed<B: Bins + Drop>(alloc: Global) -> Result<Vec<(Key, Value)>, Fail> {
     let mut bins = B::open(alloc, 4)?;
     fill(&mut bins, 40)?;
@@ -131,7 +131,7 @@ fn are_twice(sorted: &SortedEntries, entries: &[(Key, Value)]) -> bool {
     true
 }
 
-/// Copies the entries of bins twice; whether each is there twice. One key and one value are long.
+/// Copies the entries of bins twice. Tells whether each is there twice. One key and one value are long.
 fn copied_twice<B: Bins + Drop>(alloc: Global) -> Result<bool, Fail> {
     let mut bins = B::open(alloc, 4)?;
     fill(&mut bins, 40)?;
@@ -154,7 +154,7 @@ pub(crate) fn key_of_pairs(number: u8) -> Result<Key, Fail> {
     Ok(Key::from_slice(&bytes)?)
 }
 
-/// Makes one of 256 keys of five bytes: each has a hash of its own, and the lowest 16 bits of them all are 0.
+/// Makes one of 256 keys of five bytes: each has a different hash, but the lowest 16 bits of all hashes are 0.
 fn key_of_bin(number: u8) -> Result<Key, Fail> {
     let begun = hash_of(&Key::from_slice(&[number])?);
     let rest = begun.wrapping_mul(31 * 31 * 31 * 31).wrapping_neg() % 65_536;
@@ -170,9 +170,9 @@ fn key_of_bin(number: u8) -> Result<Key, Fail> {
 /// How the hashes of keys are alike.
 #[derive(Clone, Copy)]
 enum Crowd {
-    /// Not at all: the keys are of one byte.
+    /// They differ: the keys have one byte.
     Apart,
-    /// They are one.
+    /// They are equal.
     OneHash,
     /// They are in one bin, however many bins there are.
     OneBin,
@@ -188,7 +188,7 @@ impl Crowd {
         }
     }
 
-    /// Tells whether the hashes of two keys are so alike.
+    /// Tells whether the hashes of two keys are alike in this way.
     fn is_of(self, one: &Key, other: &Key) -> bool {
         let one = hash_of(one);
         let other = hash_of(other);
@@ -200,7 +200,7 @@ impl Crowd {
     }
 }
 
-/// Puts 200 keys of a crowd; whether they are of that crowd.
+/// Puts 200 keys of a crowd. Tells whether they belong to that crowd.
 fn put_crowd<B: Bins>(bins: &mut B, crowd: Crowd) -> Result<bool, Fail> {
     let other = crowd.key(255)?;
     let mut all = true;
@@ -212,7 +212,7 @@ fn put_crowd<B: Bins>(bins: &mut B, crowd: Crowd) -> Result<bool, Fail> {
     Ok(all)
 }
 
-/// Removes every third key of a crowd; whether each had its value.
+/// Removes every third key of a crowd. Tells whether each had its value.
 fn remove_thirds<B: Bins>(bins: &mut B, crowd: Crowd) -> Result<bool, Fail> {
     let mut there = true;
     for number in 0..200u8 {
@@ -230,7 +230,7 @@ fn has<B: Bins>(bins: &B, key: &Key, number: u8) -> bool {
     bins.find(&HashedKey::new(key)) == Some([number].as_slice())
 }
 
-/// Puts the keys of a crowd among others, removes every third, and finds just those that are left; whether it went so.
+/// Puts the keys of a crowd among others, and removes every third. Tells whether exactly the remaining ones are found.
 fn stand_apart<B: Bins + Drop>(alloc: Global, crowd: Crowd) -> Result<bool, Fail> {
     let mut bins = B::open_seeded(alloc, 1, weak_seed())?;
     let mut apart = put_crowd(&mut bins, Crowd::Apart)? && put_crowd(&mut bins, crowd)?;
@@ -242,7 +242,7 @@ fn stand_apart<B: Bins + Drop>(alloc: Global, crowd: Crowd) -> Result<bool, Fail
     Ok(apart && bins.count() == 333)
 }
 
-/// Tries each thing that bins of either kind are to do.
+/// Tries everything that bins of either kind must do.
 fn try_each<B: Bins + Drop>(alloc: Global) -> Result<(), Fail> {
     expect(stand_in_order::<B>(alloc)?, "keys that begin one another")?;
     expect(come_and_go::<B>(alloc)?, "three hundred keys")?;
@@ -264,7 +264,7 @@ fn hashed_bins_do_as_wanted(rt: HostRuntime) -> Result<(), Fail> {
     try_each::<HashedBins>(rt.alloc())
 }
 
-/// Tells whether bins say for how many stripes they are, empty and with keys of one hash.
+/// Tells whether bins know how many stripes they are for, empty and with keys of one hash.
 fn say_for_how_many(alloc: Global, stripes: u64) -> Result<bool, Fail> {
     let mut bins = HashedBins::open(alloc, stripes)?;
     let before = bins.stripes() == stripes;
@@ -297,7 +297,7 @@ fn hashes_are_as_in_java(rt: HostRuntime) -> Result<(), Fail> {
     Ok(())
 }
 
-/// Tells how many bins so many entries have.
+/// Returns how many bins `entries` entries should have.
 fn wanted_bins(entries: u8) -> u64 {
     match entries {
         0..=16 => 8,
@@ -307,7 +307,7 @@ fn wanted_bins(entries: u8) -> u64 {
     }
 }
 
-/// Puts the key of this number, counted from 0; whether the bins were as many as wanted before, and after.
+/// Puts the key of this number, counted from 0. Tells whether there were as many bins as expected before and after.
 fn double_in_time(bins: &mut HashedBins, key: &Key, number: u8) -> Result<bool, Fail>
     requires { number < 255 }
 {
@@ -316,7 +316,7 @@ fn double_in_time(bins: &mut HashedBins, key: &Key, number: u8) -> Result<bool, 
     Ok(before == wanted_bins(number) && bins.bins() == wanted_bins(number + 1))
 }
 
-/// Puts 40 keys of a crowd; whether the bins doubled with the keys that crowded them.
+/// Puts 40 keys of a crowd. Tells whether the bins doubled with the keys that crowded them.
 fn double_with(alloc: Global, stripes: u64, crowd: Crowd) -> Result<bool, Fail> {
     let mut bins = HashedBins::open(alloc, stripes)?;
     let mut right = true;
@@ -336,12 +336,12 @@ fn bins_double_with_the_key_that_crowds_them(rt: HostRuntime) -> Result<(), Fail
     Ok(())
 }
 
-/// By this seed a hash is the xor of a key's words and its length, so that keys which end alike come into one chain.
+/// With this seed a hash is the xor of a key's words and its length, so keys with equal ends share a chain.
 fn weak_seed() -> Seed {
     Seed::new(0, 1)
 }
 
-/// Opens by the weak seed, and once more where that was refused.
+/// Opens bins with the weak seed, and again if that was refused.
 fn opened<B: Bins>(alloc: Global) -> Result<B, NoMemory> {
     match B::open_seeded(alloc, 1, weak_seed()) {
         Ok(bins) => Ok(bins),
@@ -349,7 +349,7 @@ fn opened<B: Bins>(alloc: Global) -> Result<B, NoMemory> {
     }
 }
 
-/// Puts a key, and once more where that was refused; whether it was then not there.
+/// Puts a key, and again if that was refused. Tells whether it was then not there.
 fn put_twice<B: Bins>(bins: &mut B, key: &Key) -> Result<bool, Fail> {
     let key = HashedKey::new(key);
     if bins.put(&key, &Value::new()).is_ok() {
@@ -371,7 +371,7 @@ fn has_first<B: Bins>(bins: &B, crowd: Crowd, count: u8) -> Result<bool, Fail> {
     Ok(there && bins.find(&HashedKey::new(&next)).is_none())
 }
 
-/// Puts a key of a crowd, and once more where that was refused; whether it was then not there, and the first keys now are.
+/// Puts a key of a crowd, and again if that was refused. Tells whether it was then not there, and the first keys now are.
 fn enters<B: Bins>(bins: &mut B, crowd: Crowd, number: u8) -> Result<bool, Fail>
     requires { number < 255 }
 {
@@ -379,7 +379,7 @@ fn enters<B: Bins>(bins: &mut B, crowd: Crowd, number: u8) -> Result<bool, Fail>
     Ok(absent && has_first(bins, crowd, number + 1)?)
 }
 
-/// Also where one request for memory is refused: that put leaves the entries, and the next one enters.
+/// Also if one request for memory is refused: that put leaves the entries, and the next one enters.
 #[test]
 fn a_refused_put_leaves_the_list(rt: HostRuntime) -> Result<(), Fail> {
     let mut bins = opened::<ListBins>(rt.alloc())?;
@@ -389,7 +389,7 @@ fn a_refused_put_leaves_the_list(rt: HostRuntime) -> Result<(), Fail> {
     Ok(())
 }
 
-/// Opens by the seed that is always the same, and once more where that was refused.
+/// Opens bins with the fixed seed, and again if that was refused.
 fn opened_fixed(alloc: Global) -> Result<HashedBins, NoMemory> {
     match HashedBins::open(alloc, 1) {
         Ok(bins) => Ok(bins),
@@ -397,8 +397,8 @@ fn opened_fixed(alloc: Global) -> Result<HashedBins, NoMemory> {
     }
 }
 
-/// The 17th entry makes 16 bins of 8, the 33rd 32 and the 65th 64. Also where one request for memory is refused: a put
-/// leaves the entries, and the next one enters; a bin that is not added is no refusal.
+/// The 17th entry makes 16 bins of 8, the 33rd 32 and the 65th 64. Also if one request for memory is refused: a put
+/// leaves the entries, and the next one enters; a bin that isn't added is not an error.
 #[test]
 fn a_refused_put_leaves_the_bins(rt: HostRuntime) -> Result<(), Fail> {
     let mut bins = opened_fixed(rt.alloc())?;
@@ -409,8 +409,8 @@ fn a_refused_put_leaves_the_bins(rt: HostRuntime) -> Result<(), Fail> {
     Ok(())
 }
 
-/// Also where one request for memory is refused, for the index, for the tree that takes its place, for a node of it, or for the
-/// index that comes again when there are twice as many keys.
+/// Also if one request for memory is refused: for the index, for the tree that takes its place, for a node of it, or for the
+/// index that comes back when there are twice as many keys.
 #[test]
 fn a_refused_put_leaves_the_tree(rt: HostRuntime) -> Result<(), Fail> {
     let mut bins = opened::<HashedBins>(rt.alloc())?;

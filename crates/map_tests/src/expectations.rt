@@ -1,6 +1,6 @@
-//! What a row says when it does not hold.
+//! The message of a row that fails.
 
-/// The name of a row that did not hold, which goes into the message of the test that fails.
+/// The name of a row that failed, for the message of its test.
 #[derive(Clone, Copy, Debug)]
 pub struct Wrong(pub &'static str);
 

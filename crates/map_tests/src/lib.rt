@@ -1,4 +1,5 @@
-//! Tests of the map: its entries, its calls and its registry; and the programs that these and walk_tests call, and how they fail.
+//! Tests of the map: its entries, its calls and its registry. Also the programs that these and walk_tests call, and how their
+//! rows fail.
 #![tactic(auto)]
 
 #[cfg(test)]

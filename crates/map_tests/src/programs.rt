@@ -1,4 +1,4 @@
-//! The programs that rows call, and values of eight bytes.
+//! The programs in the rows, and values of eight bytes.
 use bpf_assembler::assemble;
 use bpf_model::{NoMemory, Sizes};
 use flow_shape::shape;
@@ -32,23 +32,23 @@ pub const fn sizes(key: u16, old: u16, arg: u16, most: u16) -> Sizes {
     }
 }
 
-/// Verifies the program of a text, for inputs and answers of these sizes; none if memory was refused.
+/// Verifies the program of a text, for inputs and answers of these sizes. Returns `None` if memory was refused.
 pub fn accepted(alloc: Global, text: &str, sizes: Sizes) -> Option<Verified> {
     let program = assemble(alloc, text).ok()?;
     verify(alloc, shape(program).ok()?, sizes).ok()
 }
 
-/// Verifies the program as `accepted` does, with `NoMemory` for none.
+/// Verifies the program as `accepted` does, with `NoMemory` in place of `None`.
 pub fn verified(alloc: Global, text: &str, sizes: Sizes) -> Result<Verified, NoMemory> {
     accepted(alloc, text, sizes).ok_or(NoMemory)
 }
 
-/// Verifies the sum of values of 8 bytes; none if memory was refused.
+/// Verifies the sum of values of 8 bytes. Returns `None` if memory was refused.
 pub fn summed(alloc: Global) -> Option<Verified> {
     accepted(alloc, SUM, sizes(64, 8, 8, 8))
 }
 
-/// Verifies the sum as `summed` does, with `NoMemory` for none.
+/// Verifies the sum as `summed` does, with `NoMemory` in place of `None`.
 pub fn summing(alloc: Global) -> Result<Verified, NoMemory> {
     summed(alloc).ok_or(NoMemory)
 }

@@ -9,12 +9,12 @@ use std::thread;
 use std::thread::Threads;
 use verifier::Verified;
 
-/// Makes a program that answers nothing, told apart by its declared size of the key.
+/// Makes a program that answers nothing. Its declared size of the key tells it from others.
 fn program_of(alloc: Global, key: u16) -> Option<Verified> {
     accepted(alloc, NOTHING, sizes(key, 0, 0, 0))
 }
 
-/// Returns the declared size of the key, of the program under this number, which `get` and `find` lend.
+/// Returns the declared size of the key of the program with this number, by `get` and `find`.
 fn key_size(registry: &Registry, number: u64) -> Option<u16> {
     let key = registry.get(number)?.sizes().key;
     let (token, program) = registry.find(number)?;
@@ -25,7 +25,7 @@ fn key_size(registry: &Registry, number: u64) -> Option<u16> {
     }
 }
 
-/// Registers a program; whether it gets this number, and its token leads to it.
+/// Registers a program. Tells whether it gets this number, and its token leads to it.
 fn is_registered<R: Wait>(rt: &R, alloc: Global, registry: &Registry, number: u16) -> Option<bool> {
     let program = program_of(alloc, number)?;
     let token = registry.register(rt, program).ok()?;
@@ -59,7 +59,7 @@ fn reads_its_own<R: Wait>(rt: &R, alloc: Global, registry: &Registry, first: u16
     Some(right)
 }
 
-/// Has two threads register and read their programs; whether each read its own.
+/// Has two threads register and read their programs. Tells whether each read its own.
 fn read_their_own<R: Threads + Wait + Sync>(rt: &R, alloc: Global, registry: &Registry) -> bool {
     let read = thread::join(
         rt,
@@ -77,7 +77,7 @@ fn two_threads_read_by_their_tokens(rt: HostRuntime) -> Result<(), Fail> {
     Ok(())
 }
 
-/// Makes a registry, once more if memory was refused.
+/// Makes a registry, and again if memory was refused.
 fn made(alloc: Global) -> Result<Registry, NoMemory> {
     match Registry::new(alloc) {
         Err(NoMemory) => Registry::new(alloc),
@@ -85,7 +85,7 @@ fn made(alloc: Global) -> Result<Registry, NoMemory> {
     }
 }
 
-/// Makes the program, once more if memory was refused.
+/// Makes the program, and again if memory was refused.
 fn program_again(alloc: Global, key: u16) -> Option<Verified> {
     match program_of(alloc, key) {
         Some(program) => Some(program),
@@ -93,7 +93,7 @@ fn program_again(alloc: Global, key: u16) -> Option<Verified> {
     }
 }
 
-/// Registers a program of this size of the key, once more if it came back; whether that was the one.
+/// Registers a program with this size of the key, and again if it came back. Tells whether that was the one.
 fn comes_back<R: Wait>(rt: &R, registry: &Registry, program: Verified, key: u16) -> bool {
     match registry.register(rt, program) {
         Ok(_) => true,
@@ -104,7 +104,7 @@ fn comes_back<R: Wait>(rt: &R, registry: &Registry, program: Verified, key: u16)
     }
 }
 
-/// Also where one allocation fails: that program comes back, and is registered at the next try.
+/// Also if one allocation fails: that program comes back, and can be registered at the next try.
 #[test]
 fn a_refused_program_comes_back(rt: HostRuntime) -> Result<(), Fail> {
     let registry = made(rt.alloc())?;

@@ -1,4 +1,4 @@
-//! The program `mapd`: what its words ask for, over the process's output and error streams and the network.
+//! The program `mapd`: runs its command line over the process's output and error streams and the network.
 #![tactic(auto)]
 
 use map_server::{StreamSink, mapd_on, tell_unread_words};

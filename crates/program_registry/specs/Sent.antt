@@ -1,4 +1,5 @@
--- Programs as they are sent: declared sizes, and the bytes that spell the instructions. Their digest is the name that lasts.
+-- Programs as clients send them: declared sizes, and the bytes that spell the instructions. Their digest is their lasting
+-- name.
 use Rattle.std.specs.Prelude.{◌≡◌, ℕ, List, ◌++◌}
 use Rattle.std.specs.Int.{w16, to_be_bytes}
 use Rattle.sha1.specs.Sha1.{sha1}

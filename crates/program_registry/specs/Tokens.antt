@@ -1,4 +1,4 @@
--- What a token says: of which registry it is, and which program it stands for, under which number.
+-- What a token says: its registry, its program and its number.
 use Rattle.std.specs.Prelude.{ℕ}
 use Rattle.boxcar.specs.Table.{Shows}
 use Rattle.verifier.specs.Checked.{Checked}

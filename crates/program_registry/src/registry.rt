@@ -12,26 +12,26 @@ use std::alloc::Global;
 use std::sync::{Mutex, Wait};
 use verifier::Verified;
 
-/// Registered programs, each under a number: the first has 0, the next 1.
+/// Registered programs, each with a number: the first has 0, the next 1.
 #[derive(Drop)]
 pub struct Registry {
     programs: Vec<Verified>,
     known: Mutex<Known>,
 }
 
-/// What shows that a registry holds a program, for as long as the registry lasts.
+/// Shows that a registry holds a program, for as long as the registry lasts.
 #[derive(Drop)]
 pub struct ProgramToken {
     place: Pushed<Verified>,
 }
 
 impl Registry {
-    /// A registry without programs. `NoMemory` where a request for memory was refused.
+    /// Makes an empty registry. `NoMemory` if a request for memory is refused.
     pub fn new(alloc: Global) -> Result<Registry, NoMemory> {
         Registry::bounded(alloc, usize::MAX)
     }
 
-    /// A registry without programs, which takes at most so many. `NoMemory` where a request for memory was refused.
+    /// Makes an empty registry that takes at most `most` programs. `NoMemory` if a request for memory is refused.
     pub fn bounded(alloc: Global, most: usize) -> Result<Registry, NoMemory> {
         Ok(Registry {
             programs: Vec::new(alloc)?,
@@ -39,8 +39,8 @@ impl Registry {
         })
     }
 
-    /// Keeps the program, and counts it. `NoMemory` if a request for memory was refused, or if there are as many programs as
-    /// the registry takes; the program comes back.
+    /// Keeps the program and counts it. `NoMemory` if a request for memory is refused, or if the registry is full; the
+    /// program comes back.
     fn keep<R: Wait>(
         &self,
         rt: &R,
@@ -62,8 +62,8 @@ impl Registry {
         }
     }
 
-    /// Keeps the program under the next number. `NoMemory` where a request for memory was refused, or where there are as many
-    /// programs as the registry takes; the program comes back. Waits while another thread registers a program.
+    /// Gives the program the next number and keeps it. `NoMemory` if a request for memory is refused or the registry is full;
+    /// the program comes back. Waits while another thread registers a program.
     pub fn register<R: Wait>(
         &self,
         rt: &R,
@@ -76,8 +76,8 @@ impl Registry {
         self.keep(rt, &mut known, verified)
     }
 
-    /// As `register`, for a program that was sent like this; one that is registered already has the number that it had, and is
-    /// not kept again. `NoMemory` as there; waits as there.
+    /// The same for a program that was sent like this. One that is registered already keeps its number and isn't stored again.
+    /// `NoMemory` and waiting as in `register`.
     #[tactic(auto, using(crate::proofs::SentLemmas::sent_once))]
     pub fn register_sent<R: Wait>(
         &self,
@@ -98,7 +98,7 @@ impl Registry {
         Ok(token)
     }
 
-    /// A token of the known program that was sent like this, if there is one.
+    /// Returns a token of the known program that was sent like this, if there is one.
     fn sent_in(&self, known: &Known, sent: &SentProgram<'_>) -> Option<ProgramToken>
         ensures mine { IfSome result (λ token. IsOf self.now token) }
         ensures same { IfSome result (λ token. IsSentAs sent.now.sizes sent.now.bytes.now (program_of token)) }
@@ -107,7 +107,7 @@ impl Registry {
         self.sent_as(number, sent)
     }
 
-    /// A token of the program under this number, if it was sent like this.
+    /// Returns a token of the program with this number, if it was sent like this.
     fn sent_as(&self, number: u64, sent: &SentProgram<'_>) -> Option<ProgramToken>
         ensures mine { IfSome result (λ token. IsOf self.now token) }
         ensures same { IfSome result (λ token. IsSentAs sent.now.sizes sent.now.bytes.now (program_of token)) }
@@ -117,8 +117,8 @@ impl Registry {
         if sent.is(verified) { Some(token) } else { None }
     }
 
-    /// A token of the program that was registered as it is sent here, if there is one: its sizes and bytes are these. Takes no
-    /// memory. Waits while another thread registers a program.
+    /// Returns a token of the registered program with these sizes and bytes, if there is one. Takes no memory. Waits while
+    /// another thread registers a program.
     pub fn find_same<R: Wait>(&self, rt: &R, sent: &SentProgram<'_>) -> Option<ProgramToken>
         ensures mine { IfSome result (λ token. IsOf self.now token) }
         ensures same { IfSome result (λ token. IsSentAs sent.now.sizes sent.now.bytes.now (program_of token)) }
@@ -128,7 +128,7 @@ impl Registry {
         self.sent_as(number, sent)
     }
 
-    /// The program under this number, if one was registered, with a token of it. Takes no memory. Never waits.
+    /// Returns the program with this number and a token of it, if one was registered. Takes no memory. Never waits.
     pub fn find(&self, number: u64) -> Option<(ProgramToken, &Verified)>
         ensures token { IfSome result (λ found. IsOf self.now found.0 × (token_number found.0 ≡ number)) }
         ensures program { IfSome result (λ found. found.1.now ≡ program_of found.0) }
@@ -138,14 +138,14 @@ impl Registry {
         Some((ProgramToken { place }, program))
     }
 
-    /// The program that `find` lends, without its token: so no clause says which one it is. Takes no memory. Never waits.
+    /// Returns the program that `find` returns, without its token: so no clause says which one it is. Takes no memory.
+    /// Never waits.
     pub fn get(&self, number: u64) -> Option<&Verified> {
         let (_, program) = self.find(number)?;
         Some(program)
     }
 
-    /// The look-up of a number by one who has a token: under the token's number stands its program, and not nothing. Takes no
-    /// memory. Never waits.
+    /// Looks up a number if you have a token of it: you get its program, never `None`. Takes no memory. Never waits.
     pub fn get_seen<'a>(&'a self, number: u64, seen: &ProgramToken) -> Option<&'a Verified>
         requires mine { IsOf self.now seen.now }
         ensures found { number ≡ token_number seen.now → IsSomeAnd result (λ program. program.now ≡ program_of seen.now) }
@@ -153,7 +153,7 @@ impl Registry {
         self.programs.get_seen(number as usize, &seen.place)
     }
 
-    /// The program that was registered with the token. Takes no memory. Never waits.
+    /// Returns the program that was registered with the token. Takes no memory. Never waits.
     pub fn get_by<'a>(&'a self, token: &ProgramToken) -> &'a Verified
         requires mine { IsOf self.now token.now }
         ensures value { result.now ≡ program_of token.now }
@@ -161,7 +161,7 @@ impl Registry {
         self.programs.value(&token.place)
     }
 
-    /// Two tokens of one number stand for one program. Takes no memory. Never waits.
+    /// Two tokens with one number stand for one program. Takes no memory. Never waits.
     pub fn agrees(&self, first: &ProgramToken, second: &ProgramToken)
         requires mine { IsOf self.now first.now × IsOf self.now second.now }
         requires same_number { token_number first.now ≡ token_number second.now }

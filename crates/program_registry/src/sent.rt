@@ -8,7 +8,7 @@ use bpf_model::Sizes;
 use sha1::{DIGEST_LEN, Sha1};
 use verifier::Verified;
 
-/// The name of a program on every server: it is made of the sizes and bytes alone.
+/// The name of a program on every server, made only of its sizes and bytes.
 #[derive(Clone, Copy, Debug, PartialEq, Eq, PartialOrd, Ord)]
 pub struct Digest {
     pub bytes: [u8; DIGEST_LEN],
@@ -23,7 +23,7 @@ pub struct SentProgram<'a> {
     ghost named: { digest.bytes ≡ program_digest sizes bytes.now },
 }
 
-/// The digest of what is sent.
+/// Returns the digest of these sizes and bytes.
 fn digest_of(sizes: Sizes, bytes: &[u8]) -> Digest
     ensures { result.bytes ≡ program_digest sizes bytes.now }
 {
@@ -39,7 +39,7 @@ fn digest_of(sizes: Sizes, bytes: &[u8]) -> Digest
 }
 
 impl<'a> SentProgram<'a> {
-    /// What is sent, with its digest. Takes no memory.
+    /// Stores the sizes and bytes with their digest. Takes no memory.
     pub fn new(sizes: Sizes, bytes: &'a [u8]) -> SentProgram<'a>
         ensures sizes { result.sizes ≡ sizes }
         ensures bytes { result.bytes.now ≡ bytes.entry.now }

@@ -1,4 +1,4 @@
--- An access through a masked register: plain where each place that the mask leaves lies inside the window, and else not.
+-- An access through a masked register: plain exactly if each place that the mask leaves is inside the window.
 use Rattle.std.proofs.Common.{◌≡◌, ◌≢◌, ℕ, suc, ◌<◌, ◌⊎◌, true, [], ◌∷◌, Some, refl, sym, ap, subst, inl, inr, arith, pos}
 use Rattle.bpf_model.specs.declared.window.Window.{Window}
 use Rattle.bpf_model.specs.declared.window.Window.TheVariants.{Key, Old, Arg, Result, Stack}
@@ -47,7 +47,7 @@ to_seven = refl
 bases : AtEach masked_byte 0 (λ u i. (w : Window) → written_by i ≢ Some (base_of w))
 bases = (nine_apart, (five_apart, (nine_apart, (five_apart, (zero_apart, (none_apart, (zero_apart, (none_apart, tt))))))))
 
--- a register is written from the instruction behind the one that writes it
+-- a register is written from the instruction after the one that writes it
 written_before : (v s r : ℕ) → v ≢ 0 → sources masked_byte 0 v ≡ (s ∷ []) → WritesRegister masked_byte r s → OnEveryPath masked_byte v (WasWritten masked_byte r)
 written_before v s r later only writes = after_one masked_byte v s (WasWritten masked_byte r) later only (λ before comes. inl writes)
 
@@ -76,7 +76,7 @@ zero_at_seven : OnEveryPath masked_byte 7 (WasWritten masked_byte 0)
 unfolding instruction_at
 zero_at_seven = written_before 7 6 0 (λ e. absurd cc) to_seven (_, (refl, refl))
 
--- a register that is this one was written
+-- a register that equals this one was written
 so_written : (u k r : ℕ) → OnEveryPath masked_byte u (WasWritten masked_byte k) → k ≡ r → OnEveryPath masked_byte u (WasWritten masked_byte r)
 so_written u k r from is = subst (λ (x : ℕ). OnEveryPath masked_byte u (WasWritten masked_byte x)) is from
 
@@ -108,7 +108,7 @@ reading = (
   ),
 )
 
--- the load goes through r5, to which 0 to 7 was added
+-- the load uses r5, to which 0 to 7 was added
 is_masked : IsMasked masked_byte 4 5 Old 7
 unfolding instruction_at
 is_masked = record {
@@ -215,7 +215,7 @@ five_is_none Arg e = absurd cc
 five_is_none Result e = absurd cc
 five_is_none Stack e = absurd cc
 
--- of the register that the mask copied
+-- for the register that the mask copied
 copied_is_old : (w : Window) → instruction_at masked_byte 1 ≡ Some (copy_of 5 w) → w ≡ Old
 unfolding instruction_at
 copied_is_old Key e = absurd cc

@@ -165,7 +165,7 @@ byte_exiting = (
   ),
 )
 
--- a program is plain where each of its instructions is
+-- a program is plain if each of its instructions is
 pub plain_by_text : (program : List Insn) (sizes : Sizes) → AreWithinLimits sizes
     → AtEach program 0 (λ u i. (w : Window) → written_by i ≢ Some (base_of w))
     → AtEach program 0 (λ u i. (r : ℕ) → reads i r ≡ true → OnEveryPath program u (WasWritten program r))

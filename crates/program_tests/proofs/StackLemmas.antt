@@ -1,4 +1,4 @@
--- A load from the stack: plain behind a store of the byte, and else not. No path leads to the first exit.
+-- A load from the stack: plain exactly after a store of the byte. No path leads to the first exit.
 use Rattle.std.proofs.Common.{◌≡◌, ◌≢◌, ℕ, suc, ◌≤◌, ◌<◌, true, List, [], ◌∷◌, Some, refl, subst, inl, inr, arith, pos, neg_ℤ}
 use Rattle.bpf_model.specs.declared.window.Window.{Window}
 use Rattle.bpf_model.specs.declared.window.Window.TheVariants.{Key, Old, Arg, Result, Stack}
@@ -32,7 +32,7 @@ to_six : sources (read_back DoubleWord) 0 6 ≡ (5 ∷ [])
 unfolding leads_there
 to_six = refl
 
--- no path leads behind the first jump, so anything holds of each
+-- no path leads past the first jump, so anything holds of each
 nothing_at_two : (holds : List ℕ → Type 0) → OnEveryPath (read_back DoubleWord) 2 holds
 nothing_at_two holds =
     after_one (read_back DoubleWord) 2 1 holds (λ e. absurd cc) to_two
@@ -164,7 +164,7 @@ exiting = (
 pub stored_byte_is_plain : IsPlain (read_back DoubleWord) (with_sizes 0 0 0 0)
 stored_byte_is_plain = plain_by_text (read_back DoubleWord) (with_sizes 0 0 0 0) limits bases reading loading storing exiting
 
--- r10 points into the stack alone
+-- r10 points only into the stack
 ten_is_stack : (w : Window) → 10 ≡ base_of w → w ≡ Stack
 ten_is_stack Key e = absurd cc
 ten_is_stack Old e = absurd cc

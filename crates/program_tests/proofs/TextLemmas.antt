@@ -96,7 +96,7 @@ came_from program u v follows =
     let there : 0 + unit_count (take p.0 program) ≡ u = omega (arith, p.1.1) in
     subst (λ (n : ℕ). IsAmong n (sources program 0 v)) there (among_sources program 0 v p.0 x.0 p.1.0 (subst (λ (n : ℕ). leads_there x.0 n v ≡ true) (sym there) x.1.1))
 
--- what holds of a path holds of each path to a later unit, where it does for each unit from which a path comes there
+-- a fact holds of each path to a later unit if it does for each unit from which a path comes there
 pub on_paths_from : (program : List Insn) (v : ℕ) (holds : List ℕ → Type 0) → v ≢ 0 → ((u : ℕ) → IsAmong u (sources program 0 v) → OnEveryPath program u (λ before. holds (u ∷ before))) → OnEveryPath program v holds
 on_paths_from program v holds later from [] comes = absurd (later comes)
 on_paths_from program v holds later from (u ∷ before) comes = from u (came_from program u v comes.0) before comes.1

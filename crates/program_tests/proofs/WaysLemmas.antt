@@ -1,4 +1,4 @@
--- Two ways that meet: what is stored on both is a plain answer, what is stored on one is not.
+-- Two ways that meet: an answer that both store is plain, one that only one stores is not.
 use Rattle.std.proofs.Common.{◌≡◌, ◌≢◌, ℕ, ◌<◌, ◌⊎◌, true, [], ◌∷◌, Some, refl, sym, subst, ◌∙◌, inl, inr, arith, ℤ, pos, negsuc}
 use Rattle.bpf_model.specs.declared.window.Window.{Window}
 use Rattle.bpf_model.specs.declared.window.Window.TheVariants.{Result}

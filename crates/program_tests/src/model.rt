@@ -1,4 +1,4 @@
-//! Laws that no command prints, on words at the edges of both widths. What instructions give on words stands in `tests/words.txt`.
+//! Laws that no command prints, on words at the edges of both widths. `tests/words.txt` has the results of instructions.
 use bpf_model::Width::{W32, W64};
 use bpf_model::{Answer, Condition, JumpOp, NoMemory, SignExtension, SwapWidth, TooLong, Window};
 use std::test::*;

@@ -1,5 +1,5 @@
-//! The very bounds that operations, conditions and unsigned or signed bounds give. The rows are worked out from the
-//! rules of each operation, apart from this program; no contract says them.
+//! The exact bounds that operations, conditions and unsigned or signed bounds give. The rows are worked out from the
+//! rules of each operation, apart from this program; no contract has them.
 mod changes;
 mod conditions;
 mod conditions_at_edges;
@@ -25,7 +25,7 @@ const BIT63: u64 = 0x8000_0000_0000_0000;
 
 const MAX64: u64 = 0xffff_ffff_ffff_ffff;
 
-/// A range as the rows write it.
+/// A range in a row.
 #[derive(Clone, Copy, Debug)]
 enum Row {
     /// All four bounds are this word.
@@ -56,7 +56,7 @@ impl Row {
         }
     }
 
-    /// the range; a row whose bounds are out of order has none
+    /// returns the range, or fails if a row's bounds are out of order
     fn range(self, rt: &impl Abort) -> Range {
         let (umin, umax, smin, smax) = self.bounds();
         assert!(rt; umin <= umax && smin <= smax, "{self:?}");
@@ -73,10 +73,10 @@ fn bounds(range: Range) -> FourBounds {
     (range.umin, range.umax, range.smin, range.smax)
 }
 
-/// What an operation gives, at 64 bits and at 32.
+/// The result of an operation, at 64 bits and at 32.
 type Given = (Row, Row);
 
-/// Two operands, and what each operation gives on them.
+/// Two operands, and the result of each operation on them.
 struct Operands {
     name: &'static str,
     a: Row,
@@ -122,7 +122,7 @@ impl Operands {
     }
 }
 
-/// One operand, and what each change gives of it: at 64 bits and at 32, or at 16, 32 and 64.
+/// One operand, and the result of each change: at 64 bits and at 32, or at 16, 32 and 64.
 struct Operand {
     name: &'static str,
     a: Row,
@@ -194,7 +194,7 @@ impl Operand {
 enum Answer {
     /// It holds of no pair.
     Never,
-    /// Both ranges as they were.
+    /// Both ranges unchanged.
     Kept,
     Are(Row, Row),
 }
@@ -256,7 +256,7 @@ fn both_bounds((a, b): (Range, Range)) -> (FourBounds, FourBounds) {
     (bounds(a), bounds(b))
 }
 
-/// the order that says the same of the operands exchanged
+/// the condition that says the same with the operands exchanged
 fn exchanged(condition: Condition) -> Option<Condition> {
     match condition {
         Condition::Gt => Some(Condition::Lt),

@@ -13,7 +13,7 @@ const SIZES: Sizes = Sizes {
     result: 16,
 };
 
-/// A jump passes over a wide instruction, and no run comes to the last two.
+/// A jump skips a wide instruction, and no run reaches the last two.
 const CODE: [u8; 88] = [
     0x79, 0x21, 0, 0, 0, 0, 0, 0, // ldd r1, [r2+0]
     0x18, 0x06, 0, 0, 7, 0, 0, 0, 0, 0, 0, 0, 0, 0, 0, 0, // wide r6, 7

@@ -1,4 +1,4 @@
-//! Tests of `bpfmap_on` over memory: devices that fail, and sessions.
+//! Tests of `bpfmap_on` over memory: sessions, and devices that fail.
 mod cut_streams;
 mod faults;
 pub mod memory;

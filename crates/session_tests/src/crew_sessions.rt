@@ -1,4 +1,4 @@
-//! Sessions of crews over one map, over memory.
+//! Sessions of crews over one map, in memory.
 ghost use Rattle.std.specs.Prelude.{◌≡◌, ◌≤◌, All, IfOk, IfSome};
 ghost use Rattle.crews.specs.Crews.{IsCrewOf};
 
@@ -21,14 +21,14 @@ const PUT_AND_GET: &[u8] = b"\0\0\0\x02\0\x01\0\0\0\x07\x11\x01a\0\x02xy\0\0\0\x
 
 const PUT_AND_GOT: &[u8] = b"\0\0\0\x02\x80\x01\0\0\0\x03\x82\xFF\xFF\0\0\0\x05\x82\0\x02xy";
 
-/// A Hello and a program that answers its argument's first byte, as a value of one byte.
+/// A Hello and a program that answers the first byte of its argument, as a value of one byte.
 const REGISTER: &[u8] = b"\0\0\0\x02\0\x01\
     \0\0\0\x29\x01\0\x40\0\0\0\x01\0\x01\
     \x71\x30\0\0\0\0\0\0\x73\x04\0\0\0\0\0\0\xB7\0\0\0\x01\0\0\0\x95\0\0\0\0\0\0\0";
 
 const REGISTERED: &[u8] = b"\0\0\0\x02\x80\x01\0\0\0\x09\x81\0\0\0\0\0\0\0\0";
 
-/// A Hello, a Compute by that program's number with the argument 7, and a Count.
+/// A Hello, a Compute with that program's number and the argument 7, and a Count.
 const COMPUTE: &[u8] = b"\0\0\0\x02\0\x01\
     \0\0\0\x0E\x17\x01b\0\0\0\0\0\0\0\0\0\x01\x07\
     \0\0\0\x01\x23";
@@ -36,13 +36,14 @@ const COMPUTE: &[u8] = b"\0\0\0\x02\0\x01\
 const COMPUTED: &[u8] = b"\0\0\0\x02\x80\x01\0\0\0\x04\x82\0\x01\x07\
     \0\0\0\x19\x87\0\0\0\0\0\0\0\x01\0\0\0\0\0\0\0\0\0\0\0\0\0\0\0\0";
 
-/// Takes the next crew: the last of the passes, and the two before it as its team; none if passes or memory are wanting.
+/// Takes the next crew: the last of the passes, with the two before it as its team. Returns `None` if there are too few
+/// passes or a request for memory is refused.
 fn crew(map: &StripedMap, passes: &mut Vec<Pass>, worker: u32) -> Option<Crew>
     requires { All (λ pass. pass.map ≡ map.now) passes.old.items }
     ensures passes { All (λ pass. pass.map ≡ map.now) passes.new.items }
     ensures crew { IfSome result (λ crew. IsCrewOf map.now crew) }
 {
-    // For the clauses alone, which name the map.
+    // Only the clauses use it: they name the map.
     let _ = map;
     let Some(pass) = passes.pop() else {
         return None;
@@ -64,7 +65,7 @@ fn last_pass(map: &StripedMap, mut passes: Vec<Pass>) -> Option<Pass>
     requires { All (λ pass. pass.map ≡ map.now) passes.items }
     ensures { IfSome result (λ pass. pass.map ≡ map.now) }
 {
-    // For the clauses alone, which name the map.
+    // Only the clauses use it: they name the map.
     let _ = map;
     let Some(pass) = passes.pop() else {
         return None;
@@ -72,7 +73,8 @@ fn last_pass(map: &StripedMap, mut passes: Vec<Pass>) -> Option<Pass>
     Some(pass)
 }
 
-/// Opens a map with two crews, of the workers 0 and 1, and one more pass; none if memory was refused.
+/// Opens a map with two crews, of the workers 0 and 1, and one more pass. Returns `None` if a request for memory is
+/// refused.
 fn crews_and_pass(alloc: Global) -> Option<(StripedMap, Crew, Crew, Pass)>
     ensures one { IfSome result (λ r. IsCrewOf r.0 r.1) }
     ensures other { IfSome result (λ r. IsCrewOf r.0 r.2) }
@@ -85,7 +87,7 @@ fn crews_and_pass(alloc: Global) -> Option<(StripedMap, Crew, Crew, Pass)>
     Some((map, one, other, pass))
 }
 
-/// Opens the same without the pass.
+/// The same without the pass.
 fn two_crews(alloc: Global) -> Option<(StripedMap, Crew, Crew)>
     ensures one { IfSome result (λ r. IsCrewOf r.0 r.1) }
     ensures other { IfSome result (λ r. IsCrewOf r.0 r.2) }
@@ -94,14 +96,14 @@ fn two_crews(alloc: Global) -> Option<(StripedMap, Crew, Crew)>
     Some((map, one, other))
 }
 
-/// A session's bytes, which are sent in pieces of at most this size.
+/// The bytes of a session, sent in pieces of at most this size.
 #[derive(Clone, Copy)]
 struct Sent {
     bytes: &'static [u8],
     size: usize,
 }
 
-/// Runs a session of the crew; how it ended, and what was answered.
+/// Runs a session of the crew. Returns its end and its answers.
 fn served<H: AllocGlobal + Threads + Wait + Sync>(
     rt: &H,
     map: &StripedMap,
@@ -131,7 +133,7 @@ fn served<H: AllocGlobal + Threads + Wait + Sync>(
     (end, writer.into_inner().bytes)
 }
 
-/// Tells whether a session of the crew is closed, and answered so.
+/// Tests whether a session of the crew is closed and has these answers.
 fn is_answered<H: AllocGlobal + Threads + Wait + Sync>(
     rt: &H,
     map: &StripedMap,
@@ -176,7 +178,7 @@ fn a_program_of_an_earlier_session_is_found(rt: HostRuntime) -> Result<(), Fail>
     let (map, one, other) = two_crews(rt.alloc()).ok_or("no map")?;
     let registry = Registry::new(rt.alloc())?;
     assert!(&rt; is_answered(&rt, &map, &registry, one, REGISTER_AT_ONCE, REGISTERED));
-    // The call is seen by the walk of the same session, whose team has two other passes.
+    // The walk of the same session sees the call; its team has two other passes.
     assert!(&rt; is_answered(&rt, &map, &registry, other, COMPUTE_AT_ONCE, COMPUTED));
     Ok(())
 }

@@ -1,4 +1,4 @@
-//! What no process shows of frames: a feeder by itself, and responses of great numbers. All other frames have their rows in
-//! `tests/frames.txt`.
+//! Tests of frames that no process can show: a feeder on its own, and responses with large numbers. All other frames have
+//! their rows in `tests/frames.txt`.
 mod responses;
 mod streams;

@@ -1,4 +1,4 @@
-//! Tests of what is read and answered: frames of the protocol, and `bpfmap` with its sessions, over memory.
+//! Tests of requests and their answers, over memory: frames of the protocol, and `bpfmap` with its sessions.
 #![tactic(auto)]
 
 #[cfg(test)]

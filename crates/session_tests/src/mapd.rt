@@ -1,4 +1,4 @@
-//! Tests of `mapd_on` over memory and the network of this machine: its words, and what it prints.
+//! Tests of `mapd_on` over memory and this machine's network: its command line, and what it prints.
 mod clients;
 
 use crate::bpfmap::memory::{ROOM, Room};
@@ -11,7 +11,7 @@ use std::sync::Wait;
 use std::test::Fail;
 use std::thread::Threads;
 
-/// What a call of `mapd_on` left.
+/// The status and the bytes that a call of `mapd_on` leaves.
 #[derive(Drop)]
 struct Outcome {
     status: u8,
@@ -19,7 +19,7 @@ struct Outcome {
     errors: Vec<u8>,
 }
 
-/// Makes one call, with this room in standard output.
+/// Makes one call, with this much room in standard output.
 fn call<
     R: AllocGlobal
         + Clock
@@ -43,8 +43,8 @@ fn call<
 /// The address that rows listen on.
 const ANY_PORT: &str = "127.0.0.1:0";
 
-/// Makes the words for this address, these numbers of stripes, workers and passes of a team, so many sessions, and the limits that are
-/// there if none is given.
+/// Makes the words for this address, for these numbers of stripes, workers and passes of a team, and for this number of sessions. The
+/// limits are the defaults.
 fn asked(
     alloc: Global,
     listen: &str,
@@ -101,7 +101,7 @@ fn words_are_taken(rt: HostRuntime) -> Result<(), Fail> {
 }
 
 impl Outcome {
-    /// Tells whether it has this status, and output and errors that begin so.
+    /// Tests whether it has this status, and whether output and errors begin with these bytes.
     fn begins(&self, status: u8, output: &[u8], errors: &[u8]) -> bool {
         self.status == status && self.output.starts_with(output) && self.errors.starts_with(errors)
     }
@@ -147,7 +147,7 @@ fn help_and_version_are_shown(rt: HostRuntime) {
     }
 }
 
-/// Calls for a map of these sizes, with a team of 2 and no address to listen on.
+/// Makes a call for a map of these sizes, with a team of 2 and no address to listen on.
 fn call_of_sizes<
     R: AllocGlobal
         + Clock
@@ -196,10 +196,10 @@ fn a_failed_listen_is_told(rt: HostRuntime) -> Result<(), Fail> {
     Ok(())
 }
 
-/// What is printed where nobody is to be served.
+/// The output if there is nobody to serve.
 const NOBODY: &[u8] = b"ready\nserved 0\n";
 
-/// Calls for no session, with this room in standard output.
+/// Makes a call for no session, with this much room in standard output.
 fn serve_nobody<
     R: AllocGlobal
         + Clock

@@ -10,12 +10,12 @@ use verifier::VerifyFault::{
     UnwrittenRegister, WriteToR10,
 };
 
-/// Tells whether the refusal is shown as this text.
+/// Tests whether the refusal is shown as this text.
 fn reads(alloc: Global, refusal: &Refusal, text: &str) -> Result<bool, AllocError> {
     Ok(format!(in alloc; "{refusal}")?.as_str() == text)
 }
 
-/// Tells whether the fault is shown as this text, alone and as a refusal.
+/// Tests whether the fault is shown as this text, alone and as a refusal.
 fn reads_twice(alloc: Global, fault: VerifyFault, text: &str) -> Result<bool, AllocError> {
     let alone = format!(in alloc; "{fault}")?.as_str() == text;
     let refusal = Refusal::Program(AdmissionFault::Verify(fault));

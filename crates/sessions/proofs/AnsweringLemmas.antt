@@ -1,4 +1,4 @@
--- Requests answered one after the other, and what was written for them.
+-- Requests answered one after the other, and the bytes written for them.
 use Rattle.std.proofs.Common.{◌≡◌, ℕ, ◌+◌, ◌<◌, map, get_or, List, [], ◌∷◌, ◌++◌, length, take, drop, Option, refl, sym, ap, subst, ◌∙◌, append_assoc, append-nil, arith}
 use Rattle.std.proofs.lemmas.List.{length-append, map-append, take_more, take-append-drop}
 use Rattle.std.proofs.lemmas.List.Concat.{flat_map-append}
@@ -20,7 +20,7 @@ pub part_more : (a b : SinkState) (bytes more : List ℕ) → TakesPart a b byte
 part_more a b bytes more ((front, (rest, taken, parts, some)), count) =
     ((front, (rest ++ more, taken, ap (λ (t : List ℕ). t ++ more) parts ∙ append_assoc front rest more, omega (arith, some, length-append rest more))), count)
 
--- the front is there, and a part of what follows
+-- the front is there, and a part of the rest
 pub part_after : (a b c : SinkState) (first bytes : List ℕ) → TakesBytes a b first → TakesPart b c bytes → TakesPart a c (first ++ bytes)
 part_after a b c first bytes whole ((front, (rest, taken, parts, some)), count) = (
   (first ++ front, (rest, Appends-trans a.held b.held c.held first front whole.0 taken, ap (λ (t : List ℕ). first ++ t) parts ∙ sym (append_assoc first front rest), some)),
@@ -31,12 +31,12 @@ part_after a b c first bytes whole ((front, (rest, taken, parts, some)), count) 
 pub front_at : {A : Type 0} (xs : List A) (i : ℕ) (x : A) → i < length xs → x ≡ get_or xs i x → take (i + 1) xs ≡ take i xs ++ x ∷ []
 front_at {A} xs i x lt is = take_more xs i x lt ∙ ap (λ (y : A). take i xs ++ y ∷ []) (sym is)
 
--- a list is what stands before an element, the element, and what stands behind it
+-- a list is the part before an element, the element, and the part after it
 pub parted_at : {A : Type 0} (xs : List A) (i : ℕ) (x : A) → i < length xs → x ≡ get_or xs i x → take i xs ++ x ∷ drop (i + 1) xs ≡ xs
 parted_at {A} xs i x lt is =
     sym (append_assoc (take i xs) (x ∷ []) (drop (i + 1) xs)) ∙ ap (λ (t : List A). t ++ drop (i + 1) xs) (sym (front_at xs i x lt is)) ∙ take-append-drop (i + 1) xs
 
--- the items before this one, this one, and those behind it
+-- the items before this one, this one, and those after it
 pub items_parted : (xs : List (List ℕ × List ℕ)) (i : ℕ) (x : List ℕ × List ℕ) → i < length xs → x ≡ get_or xs i x
     → response_frames (map item_of xs) ≡ response_frames (map item_of (take i xs)) ++ (response_frame (item_of x) ++ response_frames (map item_of (drop (i + 1) xs)))
 items_parted xs i x lt is =
@@ -53,7 +53,7 @@ items_more xs i x lt is =
     ∙ flat_map-append response_frame (map item_of (take i xs)) (item_of x ∷ [])
     ∙ ap (λ (t : List ℕ). response_frames (map item_of (take i xs)) ++ t) (append-nil (response_frame (item_of x)))
 
--- the items before this one are written, and of this one a part
+-- the items before this one are written, and a part of this one
 pub part_at : (a b c : SinkState) (xs : List (List ℕ × List ℕ)) (i : ℕ) (x : List ℕ × List ℕ) → i < length xs → x ≡ get_or xs i x
     → TakesBytes a b (response_frames (map item_of (take i xs))) → TakesPart b c (response_frame (item_of x)) → TakesPart a c (response_frames (map item_of xs))
 part_at a b c xs i x lt is before part =
@@ -61,7 +61,7 @@ part_at a b c xs i x lt is before part =
     (part_after a b c (response_frames (map item_of (take i xs))) (response_frame (item_of x) ++ response_frames (map item_of (drop (i + 1) xs))) before
     (part_more b c (response_frame (item_of x)) (response_frames (map item_of (drop (i + 1) xs))) part))
 
--- an item more is written
+-- one more item is written
 pub item_at : (a b c : SinkState) (xs : List (List ℕ × List ℕ)) (i : ℕ) (x : List ℕ × List ℕ) → i < length xs → x ≡ get_or xs i x
     → TakesBytes a b (response_frames (map item_of (take i xs))) → TakesBytes b c (response_frame (item_of x)) → TakesBytes a c (response_frames (map item_of (take (i + 1) xs)))
 item_at a b c xs i x lt is before more =
@@ -72,7 +72,7 @@ pub walk_frames : (items : List (List ℕ × List ℕ)) (last : Response) → re
 walk_frames items last =
     flat_map-append response_frame (map item_of items) (last ∷ []) ∙ ap (λ (t : List ℕ). response_frames (map item_of items) ++ t) (append-nil (response_frame last))
 
--- behind the first requests and then the others
+-- after the first requests and then the others
 pub hello_behind_both : (hello : Option Version) (rs ss : List Request) → hello_behind hello (rs ++ ss) ≡ hello_behind (hello_behind hello rs) ss
 hello_behind_both hello [] ss = refl
 hello_behind_both hello (r ∷ rs) ss = hello_behind_both (hello_after hello r) rs ss

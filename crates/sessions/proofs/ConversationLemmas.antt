@@ -1,4 +1,4 @@
--- How the pieces that a conversation takes join.
+-- Joining the pieces that a conversation takes.
 use Rattle.std.proofs.Common.{◌≡◌, ℕ, List, [], ◌∷◌, ◌++◌, flat_map, Option, None, refl, sym, subst, ◌∙◌, inl, append_assoc, append-nil, arith}
 use Rattle.client_protocol.specs.declared.limits.Version.{Version}
 use Rattle.client_protocol.specs.Requests.{Request}
@@ -16,7 +16,7 @@ follow_behind : (hello after : Option Version) (rs : List Request) → Follow he
 follow_behind hello after [] is = sym is
 follow_behind hello after (r ∷ rs) (request, more) = follow_behind (hello_after hello r) after rs more
 
--- what is held after a piece has the Hello after its requests
+-- the state after a piece has the Hello after its requests
 hello_then : (held : Held) (after : Option Version) (rest piece : List ℕ) (rs : List Request) → Feeds held piece rs (open_at after rest) → hello_behind (held_hello held) rs ≡ after
 hello_then (open_at hello part) after rest piece rs feeds = follow_behind hello feeds.after rs feeds.follow ∙ sym feeds.ends.0
 hello_then (failed fault) after rest piece rs (none, same) = absurd cc
@@ -30,7 +30,7 @@ no_request [] r left e = absurd cc
 no_request (d ∷ done) r left e = absurd cc
 
 module _ {S : Type 0} (Answers : Option Version → S → Request → List Response → S → Type 0) where
-  -- where there is no request, it doesn't matter which Hello was taken
+  -- if there is no request, it doesn't matter which Hello was taken
   none_answered : (hello other : Option Version) (old new : S) (rs : List Request) (w : List ℕ) → rs ≡ [] → Answered Answers hello old rs w new → Answered Answers other old rs w new
   none_answered hello other old new [] w none answered = answered
   none_answered hello other old new (r ∷ rs) w none answered = absurd cc

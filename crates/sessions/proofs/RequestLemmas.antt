@@ -1,4 +1,4 @@
--- What a walk answers, where its program is registered.
+-- The answer of a walk whose program is registered.
 use Rattle.std.proofs.Common.{◌≡◌, inl, refl, subst, ℕ, List, Option, Some}
 use Rattle.std.specs.Prelude.{slice_get}
 use Rattle.std.specs.FinMap as map

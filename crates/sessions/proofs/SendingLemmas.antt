@@ -1,4 +1,4 @@
--- What is sent of responses, by their values' lengths.
+-- What is sent for responses, by their values' lengths.
 use Rattle.std.proofs.Common.{◌≡◌, ℕ, zero, suc, ◌+◌, ◌<◌, ◌≤◌, Bool, true, false, map, get_or, List, [], ◌∷◌, ◌++◌, length, take, drop, Option, Some, refl, sym, ap, ◌∙◌, append-nil, arith}
 use Rattle.std.specs.Prelude.{nat_lt, ◌||◌}
 use Rattle.std.proofs.lemmas.Bool.Decides.{nat_tests}
@@ -14,13 +14,13 @@ use Rattle.sessions.specs.Answering.{item_of, end_of, is_too_long, has_too_long,
 use Rattle.sessions.specs.Sessions.{refusal}
 use Rattle.sessions.proofs.AnsweringLemmas.{front_at, parted_at}
 
--- an element of a list, whatever stands for those behind the last one
+-- an element of a list, whatever the default past the last one is
 same : {A : Type 0} (xs : List A) (i : ℕ) (one other : A) → i < length xs → get_or xs i one ≡ get_or xs i other
 same [] i one other lt = absurd (omega (arith, lt))
 same (x ∷ xs) zero one other lt = refl
 same (x ∷ xs) (suc i) one other lt = same xs i one other (omega (arith, lt))
 
--- one refusal stands for the responses
+-- one refusal replaces the responses
 pub sends_refusal : (hello : Option Version) (responses : List Response) → has_too_long hello responses ≡ true → response_frames (sendable hello responses) ≡ refusal 65
 sends_refusal hello responses is = rw is (append-nil (refusal 65))
 
@@ -56,7 +56,7 @@ too_long_both hello (x ∷ xs) ys = by (is_too_long hello x) (too_long_both hell
   by true e = refl
   by false e = e
 
--- an item more, whose value is short
+-- one more item, whose value is short
 pub short_more : (hello : Option Version) (items : List (List ℕ × List ℕ)) (i : ℕ) (key value : List ℕ) → i < length items → (key, value) ≡ entry_of items i
     → has_too_long hello (map item_of (take i items)) ≡ false → length value ≤ (limits_after hello).value → has_too_long hello (map item_of (take (i + 1) items)) ≡ false
 short_more hello items i key value lt is before short =
@@ -74,17 +74,17 @@ long_among hello items i key value lt is long =
     let parts = ap (has_too_long hello) (map-append item_of (take i items) (item ∷ drop (i + 1) items)) ∙ too_long_both hello (map item_of (take i items)) (map item_of (item ∷ drop (i + 1) items)) in
     whole ∙ parts ∙ rw (less (limits_after hello).value (length value) long) (or_true (has_too_long hello (map item_of (take i items))))
 
--- the end behind the items has no value
+-- the end after the items has no value
 pub end_is_short : (hello : Option Version) (items : List (List ℕ × List ℕ)) (last : Response) → is_too_long hello last ≡ false
     → has_too_long hello (map item_of items ++ last ∷ []) ≡ has_too_long hello (map item_of items)
 end_is_short hello items last none =
     too_long_both hello (map item_of items) (last ∷ []) ∙ rw none (or_false (has_too_long hello (map item_of items)))
 
--- an entry stands at its position
+-- an entry is at its position
 pub stands : (items : List (List ℕ × List ℕ)) (i : ℕ) (key value : List ℕ) → i < length items → (key, value) ≡ entry_of items i → (key, value) ≡ get_or items i (key, value)
 stands items i key value lt is = is ∙ same items i ([], []) (key, value) lt
 
--- what is sent of a walk's responses
+-- what is sent for a walk's responses
 pub walk_refused : (hello : Option Version) (reply : WalkReply) → has_too_long hello (map item_of reply.items) ≡ true → response_frames (sendable hello (walk_responses reply)) ≡ refusal 65
 walk_refused hello reply long = sends_refusal hello (walk_responses reply) (end_is_short hello reply.items (end_of reply.counts) refl ∙ long)
 

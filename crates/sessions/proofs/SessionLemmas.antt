@@ -46,7 +46,7 @@ module _ {S : Type 0} (Answers : Option Version → S → Request → List Respo
   read_failed_end old new (open_at hello rest) read last written e all = (hello, rest, all)
   read_failed_end old new (failed fault) read last written e all = absurd cc
 
-  -- what was answered is not passed on
+  -- the answers were written but not passed on
   pub flush_failed_end : (old new : S) (held : Held) (read : List ℕ) (last : ℕ) (written : List ℕ) → held_fault held ≡ None → AllAnswered Answers old read held written new → Ended Answers old WriteFailed read last written new
   flush_failed_end old new (open_at hello rest) read last written e all = inr (inr (hello, rest, all))
   flush_failed_end old new (failed fault) read last written e all = absurd cc
@@ -75,7 +75,7 @@ module _ {S : Type 0} (Answers : Option Version → S → Request → List Respo
       let (part, (rest, more, parts), count) = front is in
       (before ++ part, (Appends-trans a.held b.held c.held before part taken more, subst (λ (e : SessionEnd). Ended Answers old e read last (before ++ part) new) (sym is) (inr (inl (number, before, part, owes, (rest, parts), refl)))))
 
-  -- memory was refused to the piece, and nothing changed by that
+  -- memory for the piece was refused, and nothing changed by that
   pub memory_ends : (old mid new : S) (result : SessionEnd) (a m b c : SinkState) (held : Held) (read piece : List ℕ) (last : ℕ) (before : List ℕ) → length piece ≡ last → 1 ≤ last
       → (result ≡ NoMemory) ⊎ (result ≡ WriteFailed) → (result ≡ NoMemory → TakesBytes b c (refusal 9)) → (result ≡ WriteFailed → TakesFront b c (refusal 9))
       → new ≡ mid → b ≡ m → Appends a.held m.held before → held_fault held ≡ None → AllAnswered Answers old read held before mid

@@ -1,4 +1,4 @@
--- What is written for requests that are answered one after the other, whatever answers them.
+-- The bytes written for requests that are answered one after the other, by any service.
 use Rattle.std.specs.Prelude.{◌≡◌, ℕ, ◌≤◌, Bool, false, ◌||◌, List, [], ◌∷◌, ◌++◌, length, map, nat_lt, Option, Some, if◌then◌else◌}
 use Rattle.bins.specs.declared.counts.Counts.{Counts}
 use Rattle.client_protocol.specs.declared.limits.Version.{Version}
@@ -29,7 +29,7 @@ responses_of (One response) bytes = response_of response ∷ []
 responses_of Found bytes = Value (Some bytes) ∷ []
 responses_of (Walk reply) bytes = walk_responses reply
 
--- a beginning of these bytes, which may be all of them
+-- a beginning of these bytes, perhaps all of them
 abbrev pub IsFront : List ℕ → List ℕ → Type 0
 IsFront part whole = (missing : List ℕ) × (whole ≡ part ++ missing)
 
@@ -47,7 +47,7 @@ abbrev pub has_too_long : Option Version → List Response → Bool
 has_too_long hello [] = false
 has_too_long hello (response ∷ responses) = is_too_long hello response || has_too_long hello responses
 
--- what is sent in place of these responses: one refusal if a value is too long, else themselves
+-- what is sent for these responses: one refusal if a value is too long, else themselves
 abbrev pub sendable : Option Version → List Response → List Response
 sendable hello responses = if has_too_long hello responses then Refused 65 0 ∷ [] else responses
 
@@ -56,7 +56,8 @@ abbrev pub hello_behind : Option Version → List Request → Option Version
 hello_behind hello [] = hello
 hello_behind hello (request ∷ requests) = hello_behind (hello_after hello request) requests
 
--- over what answers a request after this Hello: what the first serves, the request, its responses, and what is served then
+-- for a service that answers a request after this Hello: the first state, the request, its responses, and the state after
+-- it
 module _ {S : Type 0} (Answers : Option Version → S → Request → List Response → S → Type 0) where
   -- the requests, answered one after the other, have these responses in all
   abbrev pub AnswersInOrder : Option Version → S → List Request → List Response → S → Type 0
@@ -71,7 +72,7 @@ module _ {S : Type 0} (Answers : Option Version → S → Request → List Respo
   Answered hello old requests written new =
       (responses : List Response) × AnswersInOrder hello old requests responses new × (written ≡ response_frames responses)
 
-  -- some of the requests were answered; the next was too, and its answer is not wholly written; no further one was made
+  -- some of the requests were answered; the next was too, but its answer is not wholly written; no further one was made
   pub record BreaksOff (hello : Option Version) (old : S) (requests : List Request) (written : List ℕ) (new : S) : Type 0 where
     pub done : List Request
     pub request : Request

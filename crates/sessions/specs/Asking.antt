@@ -1,4 +1,4 @@
--- What requests ask for, and the responses that depend on no state. Numbers and refusals are this map's profile.
+-- The meaning of requests, and the responses that depend on no state. Numbers and refusals are this map's profile.
 use Rattle.std.specs.Prelude.{◌≡◌, ℕ, List, [], ◌∷◌, Option, Some, None}
 use Rattle.bpf_model.specs.declared.input.Sizes.{Sizes}
 use Rattle.verifier.specs.Checked.{Checked}
@@ -16,7 +16,7 @@ use Rattle.client_protocol.specs.Bodies.{limits_after}
 use Rattle.admission.specs.Admissions.{Allowance, admission_fault_number, admission_fault_unit, IsAdmitted, IsNotAdmitted, HasManyUnits, HasLargeWindow}
 use Rattle.admission.specs.declared.fault.AdmissionFault.{AdmissionFault}
 
--- what is asked for, with the program in place of its number
+-- the request, with the program in place of its number
 pub data Asked : Type 0 where
   greeting : Version → Asked
   registration : Sizes → List ℕ → Asked
@@ -26,12 +26,12 @@ pub data Asked : Type 0 where
   count : Asked
   unknown : Asked
 
--- with the program of this number, where there is one
+-- with the program of this number, if there is one
 abbrev pub with_program : Option Checked → (Checked → Asked) → Asked
 with_program None asks = unknown
 with_program (Some program) asks = asks program
 
--- where a program is found by its number; a threshold changes no answer
+-- for a lookup of programs by number; a threshold changes no answer
 abbrev pub asked : (ℕ → Option Checked) → Request → Asked
 asked find (Hello version) = greeting version
 asked find (Register sizes program) = registration sizes program
@@ -94,14 +94,14 @@ response_to (replied.Unfit part) = tell.Unfit part
 abbrev pub program_limits : Option Version → Allowance
 program_limits hello = let limits = limits_after hello in record { units = limits.units; window = limits.value }
 
--- the bytes, sent behind this Hello, spell this program, which is safe with these sizes; they are within their limits
+-- the bytes, sent after this Hello, spell this program, which is safe with these sizes and within their limits
 pub record Admits (hello : Option Version) (sizes : Sizes) (bytes : List ℕ) (program : Checked) : Type 0 where
   pub admitted : IsAdmitted bytes sizes program.program
   pub declared : program.sizes ≡ sizes
   pub units : HasManyUnits (program_limits hello) bytes → ⊥
   pub windows : HasLargeWindow (program_limits hello) sizes → ⊥
 
--- the response tells the first step that refuses the program, and where
+-- the response gives the first step that refuses the program, and the unit
 abbrev pub RefusesProgram : Option Version → Sizes → List ℕ → Response → Type 0
 RefusesProgram hello sizes bytes response =
     (fault : AdmissionFault) × IsNotAdmitted (program_limits hello) bytes sizes fault

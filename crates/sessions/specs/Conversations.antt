@@ -1,4 +1,4 @@
--- How a conversation takes pieces: what a session is between two reads, and what each piece makes of it.
+-- How a conversation takes pieces: its state between two reads, and how each piece changes it.
 use Rattle.std.specs.Prelude.{◌≡◌, ℕ, List, [], ◌∷◌, ◌++◌, Option}
 use Rattle.client_protocol.specs.declared.limits.Version.{Version}
 use Rattle.client_protocol.specs.Requests.{Request}
@@ -9,7 +9,8 @@ use Rattle.sessions.specs.Answering.{responses_of, hello_behind, Answered, Break
 use denote.Ref.{Bor, MutBor}
 use denote.Param.Members.{Shared}
 
--- an exchange of a conversation: the state before it, the piece that was taken, what was written, and the state after it
+-- an exchange of a conversation: the state before it, the piece that was taken, the bytes written, and the state after
+-- it
 pub record Exchange (S : Type 0) : Type 0 where
   pub old : S
   pub piece : List ℕ
@@ -19,7 +20,8 @@ pub record Exchange (S : Type 0) : Type 0 where
 module _ {F S : Type 0}
     (g : Shared F (MutBor S × (Option Version × (Bor Request × (MutBor (List ℕ) × Unit {0})))) (Answer × (MutBor S × (MutBor (List ℕ) × Unit {0}))))
     (f : F) where
-  -- the call may be made at each state, and answers by this relation. A value that is found is left in the room for it
+  -- the function may be called in each state, and answers by this relation; a value that is found is left in the room
+  -- for it
   pub record AnswersBy (Answers : Option Version → S → Request → List Response → S → Type 0) : Type 0 where
     pub may : (state : MutBor S) (hello : Option Version) (request : Bor Request) (value : MutBor (List ℕ)) → g.pre f (state, (hello, (request, (value, tt))))
     pub does : (state after : MutBor S) (hello : Option Version) (request : Bor Request) (value left : MutBor (List ℕ)) (answer : Answer)
@@ -27,13 +29,12 @@ module _ {F S : Type 0}
         → Answers hello state.now request.now (responses_of answer left.now) after.now
 
 module _ {S : Type 0} (Answers : Option Version → S → Request → List Response → S → Type 0) where
-  -- a conversation that stood for the first took the piece, whose requests were all answered by these bytes, and stands for the
-  -- last
+  -- a conversation in the first state took the piece, answered all its requests by these bytes, and is now in the last state
   abbrev pub AnswersPiece : Held → S → List ℕ → List ℕ → Held → S → Type 0
   AnswersPiece held old piece written next new =
       (requests : List Request) × Feeds held piece requests next × Answered Answers (held_hello held) old requests written new
 
-  -- it took the piece, and the answers to its requests break off
+  -- it took the piece, but the answers to its requests break off
   abbrev pub BreaksPiece : Held → S → List ℕ → List ℕ → Held → S → Type 0
   BreaksPiece held old piece written next new =
       (requests : List Request) × Feeds held piece requests next × BreaksOff Answers (held_hello held) old requests written new

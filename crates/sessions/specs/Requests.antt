@@ -1,4 +1,4 @@
--- What one client is answered, over a table and the programs that it registered. What the methods do is Java SE 17's
+-- The answers to one client, over a table and the programs that it registered. The methods are those of Java SE 17's
 -- ConcurrentMap; numbers and refusals are this map's profile.
 use Rattle.std.specs.Prelude.{◌≡◌, ◌⊎◌, ℕ, List, [], ◌∷◌, ◌++◌, length, slice_get, Option}
 use Rattle.std.specs.FinMap as map
@@ -25,7 +25,7 @@ pub record IsNew (alone : Alone) : Type 0 where
   pub table : alone.table ≡ map.empty
   pub programs : alone.programs ≡ []
 
--- the program is kept under the next number, or is refused by the first step that refuses it
+-- the program gets the next number and is kept, or the first step that refuses it gives the refusal
 abbrev pub AnswersRegister : Option Version → Alone → Sizes → List ℕ → List Response → Alone → Type 0
 AnswersRegister hello old sizes bytes responses new =
     ((program : Checked) × Admits hello sizes bytes program × (responses ≡ tell.Registered (length old.programs) ∷ [])
@@ -33,7 +33,7 @@ AnswersRegister hello old sizes bytes responses new =
     ⊎ (((response : Response) × RefusesProgram hello sizes bytes response × AnswersOnce old response responses new)
     ⊎ TellsNoMemory old responses new)
 
--- the call is made; memory may be refused to one that would add its key, and to no other
+-- the call is made; only one that would add its key may be refused memory
 abbrev pub AnswersCall : Alone → Invocation → List Response → Alone → Type 0
 AnswersCall old invocation responses new =
     ((reply : Reply) × Answers old.table invocation new.table reply × (new.programs ≡ old.programs)
@@ -61,7 +61,7 @@ Meets hello old (replacement program arg) responses new = AnswersReplaceAll old 
 Meets hello old count responses new = AnswersWalk old (λ entries reply. IsCount (length entries) reply) responses new
 Meets hello old unknown responses new = AnswersOnce old (tell.Refused 66 0) responses new
 
--- a request behind this Hello is answered by these responses, and this is served then; the first program registered has the
--- number 0, the next 1
+-- a request after this Hello is answered by these responses and leaves the last state; the first program registered has
+-- the number 0, the next 1
 abbrev pub Serves : Option Version → Alone → Request → List Response → Alone → Type 0
 Serves hello old request responses new = Meets hello old (asked (λ number. slice_get old.programs number) request) responses new

@@ -1,4 +1,4 @@
--- How a session ends: what it has read and written, and what is served then, whatever answers its requests. Our profile.
+-- How a session ends: what it has read and written, and the state then, for any service. Our profile.
 use Rattle.std.specs.Prelude.{◌≡◌, ◌≢◌, ℕ, ◌≤◌, ◌⊎◌, List, [], ◌++◌, length, Option, None}
 use Rattle.client_protocol.specs.declared.limits.Version.{Version}
 use Rattle.client_protocol.specs.Requests.{Request}
@@ -23,7 +23,7 @@ HasToldEnd ReadFailed = ⊥
 HasToldEnd WriteFailed = ⊥
 HasToldEnd NoMemory = ⊥
 
--- how often the source has told its end after a session that ended so, if it had told it this often before
+-- how often the source has told its end after a session that ended this way, if it had told it this often before
 abbrev pub ends_after : SessionEnd → ℕ → ℕ
 ends_after Closed ends = next_end ends
 ends_after Cut ends = next_end ends
@@ -32,7 +32,7 @@ ends_after ReadFailed ends = ends
 ends_after WriteFailed ends = ends
 ends_after NoMemory ends = ends
 
--- how many reads failed in a session that ended so
+-- how many reads failed in a session that ended this way
 abbrev pub failed_reads : SessionEnd → ℕ
 failed_reads Closed = 0
 failed_reads Cut = 0
@@ -54,30 +54,30 @@ failed_writes NoMemory = 0
 abbrev pub refusal : ℕ → List ℕ
 refusal number = response_frame (reply.Refused number 0)
 
--- what was read is what was taken and the piece of the last read, which gave this number of bytes, one at least
+-- the input is what was taken and the piece of the last read, which gave this number of bytes, at least one
 abbrev pub LacksLast : List ℕ → ℕ → List ℕ → Type 0
 LacksLast read last taken = (piece : List ℕ) × (read ≡ taken ++ piece) × (length piece ≡ last) × (1 ≤ last)
 
 module _ {S : Type 0} (Answers : Option Version → S → Request → List Response → S → Type 0) where
-  -- what was read is requests, which were all answered by these bytes, and after them what is held
+  -- the input is requests, which were all answered by these bytes, and then the held rest
   abbrev pub AllAnswered : S → List ℕ → Held → List ℕ → S → Type 0
   AllAnswered old read held written new =
       (requests : List Request) × Frames None read requests held × Answered Answers None old requests written new
 
-  -- memory was refused to the piece of the last read, and to nothing that was asked before: all that is answered
+  -- memory for the piece of the last read was refused; all requests before it are answered
   abbrev pub RunsOut : S → List ℕ → ℕ → List ℕ → S → Type 0
   RunsOut old read last written new =
       (taken : List ℕ) × LacksLast read last taken
       × (hello : Option Version) × (rest : List ℕ) × AllAnswered old taken (open_at hello rest) written new
 
-  -- after the answers a refusal of this number is owed: what was read has the fault, or memory was refused to its last piece
+  -- after the answers a refusal of this number is owed: the input has the fault, or memory for its last piece was refused
   abbrev pub Owes : S → List ℕ → ℕ → ℕ → List ℕ → S → Type 0
   Owes old read last number written new =
       ((fault : ProtocolFault) × (number ≡ protocol_fault_number fault) × AllAnswered old read (failed fault) written new)
       ⊎ ((number ≡ 9) × RunsOut old read last written new)
 
-  -- a session that ended so had read and written these bytes, this number of them by the last read, and the last is
-  -- served then. A request that was refused memory has an answer as the others have, and ends nothing
+  -- a session that ended this way had read and written these bytes, this number of them by the last read, and left the
+  -- last state. A request that was refused memory has an answer like the others, and ends nothing
   abbrev pub Ended : S → SessionEnd → List ℕ → ℕ → List ℕ → S → Type 0
   Ended old Closed read last written new = (hello : Option Version) × AllAnswered old read (open_at hello []) written new
   Ended old Cut read last written new =

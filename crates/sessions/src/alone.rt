@@ -1,4 +1,4 @@
-//! What one client is served: a table of its own, and the programs that it registers.
+//! The service of one client: its own table, and the programs that it registers.
 ghost use Rattle.std.specs.Prelude.{◌≡◌, ◌≢◌, ◌+◌, ◌↔◌, ℕ, List, [], ◌∷◌, Option, false, option_copied, slice_get, IfOk, IsErrOf};
 ghost use Rattle.std.specs.Io.KnownBytes.{Appends, Consumes, IsAtEnd};
 ghost use Rattle.atomic_methods.specs.Hashes.{IsStripeCount};
@@ -23,7 +23,7 @@ use devices::{ReadAfterFlush, Sink};
 use std::alloc::Global;
 use std::sync::Wait;
 
-/// A table, and programs under the numbers 0, 1, 2 and on.
+/// A table, and programs with the numbers 0, 1, 2 and on.
 #[derive(Drop)]
 pub struct Alone {
     table: Striped,
@@ -31,8 +31,8 @@ pub struct Alone {
 }
 
 impl Alone {
-    /// An empty table in this number of stripes, and no program. `BadStripes` if a table may not have that number, else
-    /// `NoMemory` if a request for memory was refused.
+    /// Opens an empty table with this number of stripes, and no programs. `BadStripes` if a table may not have that
+    /// number, else `NoMemory` if a request for memory is refused.
     pub fn open(alloc: Global, stripes: u64) -> Result<Alone, OpenFault>
         ensures bad_stripes { IsErrOf result OpenFault.BadStripes ↔ (IsStripeCount stripes → ⊥) }
         ensures ok { IfOk result (λ alone. IsNew alone) }
@@ -45,7 +45,7 @@ impl Alone {
 }
 
 impl Alone {
-    /// Keeps the program that the bytes spell, which came after this Hello, under the next number.
+    /// Gives the program that the bytes spell the next number and keeps it. It was sent after this Hello.
     fn register(
         &mut self,
         alloc: Global,
@@ -65,7 +65,7 @@ impl Alone {
         }
     }
 
-    /// Makes the call that is asked for. The value of its reply, if it has one, is left in `value`.
+    /// Makes the requested call. Leaves the value of its reply, if it has one, in `value`.
     fn call(&mut self, request: &Request, value: &mut Value) -> Answer
         requires { IsCall request.now }
         ensures { (hello : Option TheVersion) → Meets hello self.old
@@ -105,7 +105,8 @@ impl Alone {
         Answer::Walk(count_of(alloc, self.table.count()))
     }
 
-    /// Replaces the value of each key by what the program of this number answers. Not inlined, as `walk` isn't.
+    /// Replaces the value of each key by the answer of the program of this number. Not inlined, for the same reason as
+    /// `walk`.
     #[inline(never)]
     fn replace_all(&mut self, number: u64, arg: Option<&Value>) -> ShortResponse
         ensures { (hello : Option TheVersion) → Meets hello self.old
@@ -119,8 +120,8 @@ impl Alone {
         }
     }
 
-    /// Answers the request, which came after this Hello. The value of an answer that found one is left in `value`; what that held
-    /// is lost. A refused request for memory is an answer too.
+    /// Answers the request, which came after this Hello. If the answer found a value, leaves it in `value`, whose old contents
+    /// are lost. A refused request for memory is an answer too.
     fn answer(
         &mut self,
         alloc: Global,
@@ -156,11 +157,11 @@ impl Service for Alone {
     ghost answers = { Serves };
 }
 
-/// Answers the requests that are read, each before the next one is looked at, until the reader tells its end, a device
-/// fails, or what was read is refused. What the sink took is passed on before each read, and at the end. The table and the
-/// programs are then as the answered requests left them; if a write failed, also as the request left them whose answer
-/// is not wholly written. A refused request for memory is answered with 9, and ends the session only if it was asked for
-/// to take in the piece of the last read. Waits for the reader.
+/// Answers the requests that it reads, each before it looks at the next one, until the reader tells its end, a device
+/// fails, or the input is refused. The sink's bytes are passed on before each read, and at the end. The table and the
+/// programs are then as the answered requests left them. If a write failed, this includes the request whose answer is not
+/// wholly written. A refused request for memory is answered with 9. It ends the session only if the memory was needed to
+/// take in the piece of the last read. Waits for the reader.
 pub fn session_alone<H: Wait, R: ReadAfterFlush<W>, W: Sink>(
     rt: &H,
     alloc: Global,
@@ -170,20 +171,20 @@ pub fn session_alone<H: Wait, R: ReadAfterFlush<W>, W: Sink>(
 ) -> SessionEnd
     requires reads { CanRead (R.source reader.old) }
     requires writes { CanWrite (W.state writer.old) }
-    // What was read is answered. A request to which memory was refused has 9 for an answer, as `Serves` says, and the next
-    // one is answered too: 9 ends a session at the piece of the last read alone.
+    // The requests that were read are answered. One that was refused memory has 9 for an answer, as `Serves` says, and the
+    // next one is answered too: 9 ends a session only at the piece of the last read.
     ensures ended { (read : List ℕ) × ((written : List ℕ)
         × (Consumes (R.source reader.old).left (R.source reader.new).left read
         × (Appends (W.state writer.old).held (W.state writer.new).held written
         × Ended Serves alone.old result read (R.source reader.new).last written alone.new))) }
-    // The end was told in this call if the session ended so, and else not.
+    // The reader told its end in this call exactly if the session ended that way.
     ensures told { (R.source reader.new).ends ≡ ends_after result (R.source reader.old).ends }
     ensures whole { HasToldEnd result → IsAtEnd (R.source reader.new).left }
     ensures reads { (R.source reader.new).failures
         ≡ (R.source reader.old).failures + failed_reads result }
     ensures writes { (W.state writer.new).failures
         ≡ (W.state writer.old).failures + failed_writes result }
-    // Nothing is kept back at the end. Before a read nothing is, by what `read_after_flush` requires.
+    // Nothing is kept back at the end. `read_after_flush` requires that nothing is kept back before a read.
     ensures sent { (result ≢ SessionEnd.WriteFailed) → (W.state writer.new).keeps_back ≡ false }
 {
     let answer = |alone: &mut Alone, hello, request: &Request, value: &mut Value| {

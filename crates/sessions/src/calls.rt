@@ -8,7 +8,7 @@ use bpf_model::Value;
 use client_protocol::{Request, RequestView};
 use verifier::Verified;
 
-/// The number of the program that a call names, if it names one.
+/// Returns the number of the program that a call names, if it names one.
 pub fn named_program(request: &Request) -> Option<u64>
     ensures { result ≡ named request.now }
 {
@@ -21,7 +21,7 @@ pub fn named_program(request: &Request) -> Option<u64>
     }
 }
 
-/// The call of a method that runs a program; none where there is no program under the number.
+/// Returns the call of a method that runs a program, or `None` if there is no program with the number.
 fn program_call<'a>(request: &'a Request, program: Option<&'a Verified>) -> Option<Call<'a>>
     requires { NamesProgram request.now }
     ensures { MatchOption result (asked (λ _. option_copied program.entry) request.now ≡ unknown)
@@ -50,8 +50,8 @@ fn program_call<'a>(request: &'a Request, program: Option<&'a Verified>) -> Opti
     Some(made)
 }
 
-/// The call that a request asks for, with the program of the number that it names; none where it names one and there is none.
-/// The request lends its key and values.
+/// Returns the requested call, with the program whose number it names, or `None` if it names one that doesn't exist. The call
+/// borrows the request's key and values.
 pub fn call_of<'a>(request: &'a Request, program: Option<&'a Verified>) -> Option<Call<'a>>
     requires { IsCall request.now }
     ensures { MatchOption result (asked (λ _. option_copied program.entry) request.now ≡ unknown)
@@ -78,7 +78,7 @@ pub fn call_of<'a>(request: &'a Request, program: Option<&'a Verified>) -> Optio
     Some(made)
 }
 
-/// The argument of a walk once more, for who keeps it. Takes no memory.
+/// Returns a copy of a walk's argument that you can keep. Takes no memory.
 pub fn argument_of(arg: Option<&Value>) -> Option<Value>
     ensures { result ≡ option_copied arg.entry }
 {

@@ -1,9 +1,9 @@
-//! Sessions of clients over readers and writers that are handed in.
+//! Sessions of clients over a given reader and writer.
 //!
-//! The promise to the layers above: `session_alone` writes the answers to the requests that it reads, and no more (by
-//! `specs/Requests.antt` and `specs/Sessions.antt`); `run_session` is its loop, over any `Service`. Readers
-//! and writers are those of the crate devices. A session waits for its reader, and nothing else waits. A refused request
-//! for memory is told as a refusal.
+//! The promise to the layers above: `session_alone` writes the answers to the requests that it reads, and nothing else
+//! (by `specs/Requests.antt` and `specs/Sessions.antt`). `run_session` is its loop, over any `Service`. Readers and
+//! writers are those of the crate devices. A session waits only for its reader. A refused request for memory is answered
+//! as a refusal.
 #![tactic(auto)]
 
 mod alone;

@@ -1,4 +1,4 @@
-//! Responses that whatever answers requests may give.
+//! Responses that any service may give.
 ghost use Rattle.std.specs.Prelude.{◌≡◌, ◌<◌, ◌^◌, ◌↔◌, ℕ, List, [], ◌∷◌, IfOk, IfErr, IsTrue};
 ghost use Rattle.admission.specs.Admissions.{admission_fault_number, admission_fault_unit, HasManyUnits, HasLargeWindow};
 ghost use Rattle.atomic_methods.specs.Plans.{reply_by};
@@ -17,7 +17,7 @@ use verifier::Verified;
 
 const UNKNOWN_PROGRAM: u8 = 66;
 
-/// The response to a request that names a program whose number is unknown.
+/// Returns the response to a request that names a program with an unknown number.
 pub fn unknown_program() -> ShortResponse
     ensures { response_of result ≡ tell.Refused 66 0 }
 {
@@ -27,7 +27,7 @@ pub fn unknown_program() -> ShortResponse
     }
 }
 
-/// The response to a request that was refused memory.
+/// Returns the response to a request that was refused memory.
 pub fn no_memory() -> ShortResponse
     ensures { response_of result ≡ tell.Refused 9 0 }
 {
@@ -37,7 +37,7 @@ pub fn no_memory() -> ShortResponse
     }
 }
 
-/// The answer with a call's reply, the bytes of whose value, if it has one, were left in a place of the caller's.
+/// Returns the answer with a call's reply. If the reply has a value, its bytes were left with the caller.
 pub fn answer_to(kind: ReplyKind) -> Answer
     ensures { (bytes : List ℕ) → responses_of result bytes ≡ response_to (reply_by kind bytes) ∷ [] }
 {
@@ -49,7 +49,7 @@ pub fn answer_to(kind: ReplyKind) -> Answer
     }
 }
 
-/// The limits of a program that is sent after this Hello.
+/// Returns the limits of a program that is sent after this Hello.
 fn program_limits(hello: Option<Version>) -> ProgramLimits
     ensures { result ≡ program_limits hello }
 {
@@ -60,14 +60,14 @@ fn program_limits(hello: Option<Version>) -> ProgramLimits
     }
 }
 
-/// Tests whether these bytes and sizes may be sent after this Hello: whether they are within its limits. Takes no memory.
+/// Tests whether these bytes and sizes are within the limits after this Hello. Takes no memory.
 pub fn may_be_sent(hello: Option<Version>, bytes: &[u8], sizes: Sizes) -> bool
     ensures { IsTrue result ↔ ((HasManyUnits (program_limits hello) bytes.now → ⊥) × (HasLargeWindow (program_limits hello) sizes → ⊥)) }
 {
     program_limits(hello).allows(bytes, sizes)
 }
 
-/// The response that tells this fault, and the unit that has it.
+/// Returns the response with this fault and its unit.
 fn refusal_of(fault: AdmissionFault) -> ShortResponse
     requires { admission_fault_unit fault < 2 ^ 32 }
     ensures { response_of result ≡ tell.Refused (admission_fault_number fault) (admission_fault_unit fault) }
@@ -78,7 +78,7 @@ fn refusal_of(fault: AdmissionFault) -> ShortResponse
     }
 }
 
-/// The program of a Register that is sent after this Hello, or the response that refuses it.
+/// Returns the program of a Register that is sent after this Hello, or the response that refuses it.
 pub fn program_sent(
     alloc: Global,
     hello: Option<Version>,

@@ -1,6 +1,6 @@
-//! A session of one client: pieces are read, and the requests in each are answered before the next one is read.
+//! A session of one client: it reads pieces, and answers the requests in each before it reads the next one.
 //!
-//! The loop knows no table: a call that is handed in answers the requests.
+//! The loop knows no table: the caller passes a function that answers the requests.
 ghost use Rattle.std.specs.Prelude.{◌≡◌, ◌≢◌, ◌+◌, ℕ, List, false};
 ghost use Rattle.std.specs.Io.KnownBytes.{Appends, Consumes, IsAtEnd};
 ghost use Rattle.sessions.specs.Conversations.{AnswersBy};
@@ -28,21 +28,21 @@ pub enum SessionEnd {
     Closed,
     /// The reader told its end inside a frame.
     Cut,
-    /// What was read has this fault, of which the client is told.
+    /// The input has this fault, and the client was told.
     Refused(ProtocolFault),
     /// A read failed.
     ReadFailed,
-    /// A write failed. The client has a beginning of what it was owed.
+    /// A write failed. The client has a beginning of the answers owed to it.
     WriteFailed,
-    /// Memory was refused to the last piece that was read, of which the client is told.
+    /// Memory for the last piece was refused, and the client was told.
     NoMemory,
 }
 
-/// The most bytes that are read at once.
+/// A read takes at most this many bytes.
 const PIECE_BYTES: usize = 4096;
 
-/// Answers the requests that are read, until the end. What `answer` is lent is the state, the Hello that came before the
-/// request, the request, and room for a value. What the sink took is passed on before each read.
+/// Answers the requests that it reads, until the end. `answer` gets the state, the Hello that came before the request,
+/// the request, and room for a value. The sink's bytes are passed on before each read.
 pub fn run_session<
     H: Wait,
     R: ReadAfterFlush<W>,

@@ -36,7 +36,7 @@ byte_count-some HalfWord = omega arith
 byte_count-some Word = omega arith
 byte_count-some DoubleWord = omega arith
 
--- bytes that were written are there, and elsewhere the memory is as before
+-- written bytes are present, and elsewhere the memory doesn't change
 with_bytes-inside : (memory : Partial) (a : ℕ) (bs : List ℕ) (q : ℕ) → a ≤ q → q < a + length bs → with_bytes memory a bs q ≡ Some (get_or bs (q - a) 0)
 with_bytes-inside memory a bs q low high = let inside : (nat_le a q && nat_lt q (a + length bs)) ≡ true = grind (arith, nat_tests) in rw inside refl
 
@@ -47,7 +47,7 @@ with_bytes-outside memory a bs q side = let outside : (nat_le a q && nat_lt q (a
     not_inside a q end (inl lt) = grind (arith, nat_tests)
     not_inside a q end (inr le) = grind (arith, nat_tests)
 
--- a byte that is written, or was there, is there after a write
+-- a byte that is written, or was present, is present after a write
 pub with_bytes-present : (memory : Partial) (a : ℕ) (bs : List ℕ) (q : ℕ) → (((a ≤ q) × (q < a + length bs)) ⊎ IsSome (memory q)) → IsSome (with_bytes memory a bs q)
 with_bytes-present memory a bs q h =
     elim (test_of (nat_le a q && nat_lt q (a + length bs))) [
@@ -55,7 +55,7 @@ with_bytes-present memory a bs q h =
       | inr t ↦ rw t (elim h [ inl within ↦ absurd (grind (arith, nat_tests, t, within)) | inr there ↦ there ])
     ]
 
--- bytes that are there, one by one, are read
+-- bytes that are present, one by one, are read
 bytes_at-each : (memory : Partial) (a : ℕ) (bs : List ℕ) → ((i : ℕ) → i < length bs → memory (a + i) ≡ Some (get_or bs i 0)) → bytes_at memory a (length bs) ≡ Some bs
 unfolding bytes_at
 bytes_at-each memory a [] each = refl
@@ -65,13 +65,13 @@ bytes_at-each memory a (b ∷ bs) each =
     let rest : bytes_at memory (suc a) (length bs) ≡ Some bs = bytes_at-each memory (suc a) bs (λ i below. let there : a + suc i ≡ suc a + i = omega arith in rw there at (each (suc i) (omega arith))) in
     rw (first, rest) refl
 
--- what is written is read
+-- a write is read back
 bytes_at-written : (memory : Partial) (a : ℕ) (bs : List ℕ) → bytes_at (with_bytes memory a bs) a (length bs) ≡ Some bs
 bytes_at-written memory a bs = bytes_at-each (with_bytes memory a bs) a bs (λ i below.
     let back : a + i - a ≡ i = omega arith in
     with_bytes-inside memory a bs (a + i) (omega arith) (omega arith) ∙ ap (λ (k : ℕ). Some (get_or bs k 0)) back)
 
--- memories that agree on some bytes are read alike there
+-- memories that agree on some bytes read alike there
 bytes_at-agree : (m m' : Partial) (a n : ℕ) → ((i : ℕ) → i < n → m' (a + i) ≡ m (a + i)) → bytes_at m' a n ≡ bytes_at m a n
 unfolding bytes_at
 bytes_at-agree m m' a zero same = refl
@@ -90,7 +90,7 @@ word_of-bytes_of (suc n) w small =
     let rest : word_of (bytes_of n (w / 256)) ≡ w / 256 = word_of-bytes_of n (w / 256) (omega (arith, more, small)) in
     omega (arith, rest)
 
--- where an access that is at one place touches a byte, its address is one of the access's
+-- if an access with one place touches a byte, its address is one of the access's
 touched : (a : Access) (distance : ℕ) (r : Window) (i : ℕ) → MayBeAt a distance → a.least ≡ a.greatest → touches a r i ≡ true → (first_address a.window + distance ≤ first_address r + i) × (first_address r + i < first_address a.window + distance + byte_count a.size)
 touched a distance r i at alone e =
     let window : first_address a.window ≡ first_address r = grind (arith, nat_tests, e) in
@@ -98,7 +98,7 @@ touched a distance r i at alone e =
     let high : i < a.greatest + byte_count a.size = grind (arith, nat_tests, e) in
     (omega (arith, at.least, at.greatest), omega (arith, at.least, at.greatest))
 
--- the stack is behind the other windows
+-- the stack comes after the other windows
 below_stack : (r : Window) → is_stack r ≡ false → first_address r + kept_bytes r ≤ first_address Stack
 below_stack Key e = omega arith
 below_stack Old e = omega arith
@@ -113,7 +113,7 @@ stack_first Arg e = absurd cc
 stack_first Result e = absurd cc
 stack_first Stack e = refl
 
--- an access that touches no byte of a slot is before it or behind it
+-- an access that touches no byte of a slot is before it or after it
 apart : (a : Access) (distance slot : ℕ) → MayBeAt a distance → touches_slot a slot ≡ false → (first_address a.window + distance + byte_count a.size ≤ first_address Stack + 8 * slot) ⊎ (first_address Stack + 8 * slot + 8 ≤ first_address a.window + distance)
 apart a distance slot at e =
     elim (cases_Bool (is_stack a.window)) [
@@ -126,7 +126,7 @@ apart a distance slot at e =
       | inr elsewhere ↦ inl (omega (arith, below_stack a.window elsewhere, at.greatest, a.inside))
     ]
 
--- what is known of an access that fills a slot
+-- facts about an access that fills a slot
 record Fills (a : Access) (slot : ℕ) : Type 0 where
   window : first_address a.window ≡ first_address Stack
   alone : a.least ≡ a.greatest
@@ -154,7 +154,7 @@ slot_filled a memory distance slot w at fills word =
     let back : word_of (bytes_of 8 w) ≡ w = word_of-bytes_of 8 w word in
     rw (address, fills.whole) (ap (option_map word_of) read ∙ ap Some back)
 
--- a store that touches no byte of a slot leaves it as it was
+-- a store that touches no byte of a slot doesn't change it
 slot_kept : (a : Access) (memory : Partial) (distance slot w : ℕ) → MayBeAt a distance → touches_slot a slot ≡ false → slot_word (with_bytes memory (first_address a.window + distance) (bytes_of (byte_count a.size) w)) slot ≡ slot_word memory slot
 slot_kept a memory distance slot w at e =
     let from = first_address a.window + distance in
@@ -203,7 +203,7 @@ store_values f g a x spills value none slot e =
       ]
     ]
 
--- bytes that a memory has are bytes, and past the last there is the default
+-- the bytes of a memory are below 256, and past the last there is the default
 pub bytes_small : (memory : Partial) (a n : ℕ) (bs : List ℕ) → HasBytes memory → bytes_at memory a n ≡ Some bs → (i : ℕ) → get_or bs i 0 < 256
 bytes_small memory a n bs h e i =
     let len = length-bytes_at memory a n bs e in
@@ -215,7 +215,7 @@ bytes_small memory a n bs h e i =
     split : (i n : ℕ) → (i < n) ⊎ (n ≤ i)
     split i n = grind arith
 
--- bytes that a frame has as written can be loaded
+-- bytes that a frame marks as written can be loaded
 load_finds : (f : Frame) (a : Access) (memory : Partial) (distance : ℕ) → DescribesMemory f memory → AreWritten f a → MayBeAt a distance → (bs : List ℕ) × (bytes_at memory (first_address a.window + distance) (byte_count a.size) ≡ Some bs)
 load_finds f a memory distance d written at = bytes_present memory (first_address a.window + distance) (byte_count a.size) (λ i lt.
     let same : first_address a.window + (distance + i) ≡ first_address a.window + distance + i = omega arith in
@@ -227,7 +227,7 @@ loaded_whole HalfWord signed n e = absurd (omega arith)
 loaded_whole Word signed n e = absurd (omega arith)
 loaded_whole DoubleWord signed n e = refl
 
--- a load of all of a slot gives a word for which its value stands
+-- a load of a whole slot gives a word that its value stands for
 pub load_slot : (f : Frame) (a : Access) (memory : Partial) (distance slot : ℕ) (x : RegValue) → fills_slot a slot ≡ true → spilled_in f slot ≡ Some x → AreWritten f a → DescribesMemory f memory → MayBeAt a distance → ReadsAs memory (first_address a.window + distance) a.size a.signed x
 load_slot f a memory distance slot x e spilled written d at =
     let fills = filled a slot e in
@@ -242,7 +242,7 @@ load_slot f a memory distance slot x e spilled written d at =
       stands = subst (λ (n : ℕ). StandsFor x (Some n)) (sym (loaded_whole a.size a.signed (word_of found.0) fills.whole)) stands;
     }
 
--- any load gives a word of a range of all that it may give
+-- any load gives a word in the range of all that it may give
 pub load_range : (f : Frame) (a : Access) (memory : Partial) (distance : ℕ) (r : Range) → ((n : ℕ) → n < 256 ^ byte_count a.size → IsIn (loaded_word a.size a.signed n) r) → HasBytes memory → AreWritten f a → DescribesMemory f memory → MayBeAt a distance → ReadsAs memory (first_address a.window + distance) a.size a.signed (Number r)
 load_range f a memory distance r holds small written d at =
     let found = load_finds f a memory distance d written at in
@@ -254,7 +254,7 @@ load_range f a memory distance r holds small written d at =
       stands = holds (word_of found.0) (word_of-bound (byte_count a.size) found.0 len (bytes_small memory from (byte_count a.size) found.0 small found.1));
     }
 
--- what both sides had in a slot
+-- the values that both sides had in a slot
 record BothHad (x y : Option RegValue) (z : RegValue) : Type 0 where
   first : RegValue
   second : RegValue

@@ -1,4 +1,4 @@
--- Words that loads with a sign give.
+-- Words loaded with a sign.
 use Rattle.std.proofs.Common.{ℕ, ◌%◌, ◌^◌, arith, pos}
 use Rattle.std.specs.Prelude.{neg_ℤ}
 use Rattle.std.specs.Int.{w8, w16, w32, cast_signed}

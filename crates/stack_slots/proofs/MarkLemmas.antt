@@ -41,7 +41,7 @@ bit-lowest n k =
       | inr le ↦ rw (bit_at_ones_above n k le) (grind (arith, nat_tests))
     ]
 
--- a word of which no bit is set is zero
+-- a word with no bit set is zero
 pub bit_somewhere : (n : ℕ) → 0 < n → n < 2 ^ 64 → (k : ℕ) × ((k < 64) × (bit n k ≡ true))
 bit_somewhere n some small =
     let first = bit_at-trailing_zeros w64 n some small in
@@ -81,11 +81,11 @@ pub marked-set_other : (words : List ℕ) (j v i : ℕ) → (i / 64 ≢ j) → i
 unfolding is_marked
 marked-set_other words j v i other = rw (get_or-set_other words j (i / 64) v 0 other) refl
 
--- bits of a word, without those of a second
+-- the bits of a word without those of a second one
 pub bit-without : (a b k : ℕ) → b < 2 ^ 64 → k < 64 → bit (bit_and a (bit_not w64 b)) k ≡ (bit a k && not (bit b k))
 bit-without a b k small below = bit-and a (bit_not w64 b) k ∙ ap (λ (t : Bool). bit a k && t) (bit-not b k small below)
 
--- a word in which the places from first to end are set as well
+-- a word in which the places from first to end are set too
 pub mark_step : (words : List ℕ) (first end j v : ℕ) (before : ℕ → Bool) → j < length words → ((k : ℕ) → k < 64 → bit v k ≡ (nat_le first (64 * j + k) && nat_lt (64 * j + k) end))
     → ((i : ℕ) → is_marked words i ≡ (((nat_le first i && nat_lt i end) && nat_lt (i / 64) j) || before i))
     → (i : ℕ) → is_marked (set words j (bit_or (get_or words j 0) v)) i ≡ (((nat_le first i && nat_lt i end) && nat_lt (i / 64) (j + 1)) || before i)
@@ -118,7 +118,7 @@ mark_step words first end j v before inside bits marks i =
     swapped false true = refl
     swapped false false = refl
 
--- a word of which the common bits are kept
+-- a word that keeps only the common bits
 pub marked-common : (words other : List ℕ) (j i : ℕ) → j < length words → i / 64 ≡ j → is_marked (set words j (bit_and (get_or words j 0) (get_or other j 0))) i ≡ (is_marked words i && is_marked other i)
 marked-common words other j i inside here =
     let place : i ≡ 64 * j + i % 64 = omega (arith, here) in
@@ -128,7 +128,7 @@ marked-common words other j i inside here =
     ∙ ap (λ (t : Bool). t && bit (get_or other j 0) (i % 64)) (sym (marked_by words i j (i % 64) place below))
     ∙ ap (λ (t : Bool). is_marked words i && t) (sym (marked_by other i j (i % 64) place below))
 
--- where a word lacks one of the bits that mark the places from first to end, one of these is not marked
+-- if a word lacks one of the bits that mark the places from first to end, one of these places isn't marked
 pub gap_somewhere : (words : List ℕ) (first end j v : ℕ) → v < 2 ^ 64 → get_or words j 0 < 2 ^ 64 → ((k : ℕ) → k < 64 → bit v k ≡ (nat_le first (64 * j + k) && nat_lt (64 * j + k) end))
     → 0 < bit_and v (bit_not w64 (get_or words j 0)) → (i : ℕ) × ((first ≤ i) × ((i < end) × (is_marked words i ≡ false)))
 gap_somewhere words first end j v small word bits some =
@@ -138,7 +138,7 @@ gap_somewhere words first end j v small word bits some =
     let range = and_parts (nat_le first (64 * j + k)) (nat_lt (64 * j + k) end) (sym (bits k found.1.0) ∙ parts.0) in
     (64 * j + k, (leb-true first (64 * j + k) range.0, (ltb-true (64 * j + k) end range.1, marked_by words (64 * j + k) j k refl found.1.0 ∙ not-true (bit (get_or words j 0) k) parts.1)))
 
--- where it lacks none, all of them are
+-- if it lacks none, all of them are
 pub no_gap : (words : List ℕ) (first end j v : ℕ) → get_or words j 0 < 2 ^ 64 → ((k : ℕ) → k < 64 → bit v k ≡ (nat_le first (64 * j + k) && nat_lt (64 * j + k) end))
     → bit_and v (bit_not w64 (get_or words j 0)) ≡ 0 → (i : ℕ) → first ≤ i → i < end → i / 64 ≡ j → is_marked words i ≡ true
 no_gap words first end j v word bits none i low high here =
@@ -150,14 +150,14 @@ no_gap words first end j v word bits none i low high here =
     let has : not (bit (get_or words j 0) (i % 64)) ≡ false = rw set at lacks in
     marked_by words i j (i % 64) (sym place) below ∙ not-false (bit (get_or words j 0) (i % 64)) has
 
--- a word of which all bits are set
+-- a word with all bits set
 pub all_marked : (words : List ℕ) (j i : ℕ) → get_or words j 0 ≡ 2 ^ 64 - 1 → i / 64 ≡ j → is_marked words i ≡ true
 all_marked words j i full here =
     let place : i ≡ 64 * j + i % 64 = omega (arith, here) in
     let below : i % 64 < 64 = omega arith in
     marked_by words i j (i % 64) place below ∙ (rw (full, bit_at_ones 64 (i % 64) below) refl)
 
--- the lowest bits that are set in a word that lacks one
+-- the lowest set bits of a word that lacks one
 pub marked_up_to : (words : List ℕ) (j k : ℕ) → get_or words j 0 + 1 < 2 ^ 64 → k < trailing_ones w64 (get_or words j 0) → is_marked words (64 * j + k) ≡ true
 marked_up_to words j k small below =
     let ones = bit_at-trailing_ones w64 (get_or words j 0) small in

@@ -26,7 +26,7 @@ get_or-nones zero k = refl
 get_or-nones (suc n) zero = refl
 get_or-nones (suc n) (suc k) = get_or-nones n k
 
--- the first value that is kept stands alone
+-- the first value to be stored is the only one
 pub kept_alone : (s : ℕ) (x : RegValue) → s < SLOTS → (i : ℕ) → slice_index_or (set (replicate SLOTS None) s (Some x)) i None ≡ (if nat_eq i s then Some x else None)
 kept_alone s x inside i =
     elim (cases_eq i s) [
@@ -41,7 +41,7 @@ Values = Option (List (Option RegValue))
 abbrev pub empty_frame : Frame
 empty_frame = record { result = replicate RESULT_WORDS 0; stack = replicate STACK_WORDS 0; slots = None }
 
--- an empty frame has no byte as written
+-- an empty frame has no written byte
 pub empty_written : (r : Window) (i : ℕ) → is_written empty_frame r i ≡ false
 unfolding is_written
 empty_written Key i = refl
@@ -85,7 +85,7 @@ marks_stack f words a end window alone is each Arg i = let same : nat_eq a.least
 marks_stack f words a end window alone is each Result i = let same : nat_eq a.least a.greatest ≡ true = eq-eqb a.least a.greatest alone in rw (same, window) refl
 marks_stack f words a end window alone is each Stack i = let same : nat_eq a.least a.greatest ≡ true = eq-eqb a.least a.greatest alone in rw (same, window) (rw is at (each i))
 
--- marks of both frames are met
+-- the common marks of two frames
 pub meets_marks : (f g h : Frame) → ((i : ℕ) → is_marked h.result i ≡ (is_marked f.result i && is_marked g.result i))
     → ((i : ℕ) → is_marked h.stack i ≡ (is_marked f.stack i && is_marked g.stack i)) → MeetsMarks f g h
 unfolding is_written
@@ -110,11 +110,11 @@ touched_slots : (a : Access) (end slot : ℕ) → is_stack a.window ≡ true →
 touched_slots a end slot stack is =
     rw (stack, is) (ap (λ (t : Bool). t && nat_lt (8 * slot) (a.greatest + byte_count a.size)) (first_slot a.least slot) ∙ ap (λ (t : Bool). nat_le (a.least / 8) slot && t) (last_slot (a.greatest + byte_count a.size) slot))
 
--- slots in which those that the access may touch are forgotten
+-- the slots, without the values that the access may touch
 abbrev pub Forgets : Frame → Access → Values → ℕ → Type 0
 Forgets f a slots end = (i : ℕ) → slot_in slots i ≡ (if nat_le (a.least / 8) i && nat_lt i end then None else slot_in f.slots i)
 
--- what is left where the access fills no slot
+-- the slots left if the access fills none
 pub forgotten : (f : Frame) (a : Access) (x : RegValue) (slots : Values) (end : ℕ) → is_stack a.window ≡ true → end ≡ div_ceil (a.greatest + byte_count a.size) 8 → Forgets f a slots end
     → (slot : ℕ) → fills_slot a slot ≡ false → slot_in slots slot ≡ spilled_after f a x slot
 unfolding spilled_in
@@ -122,7 +122,7 @@ forgotten f a x slots end stack is each slot none =
     let touched = touched_slots a end slot stack is in
     rw (none, touched) (each slot)
 
--- and where it fills one
+-- and if it fills one
 pub stored : (f : Frame) (a : Access) (x : RegValue) (slots after : Values) (end s : ℕ) → is_stack a.window ≡ true → end ≡ div_ceil (a.greatest + byte_count a.size) 8 → Forgets f a slots end
     → ((i : ℕ) → slot_in after i ≡ (if nat_eq i s then Some x else slot_in slots i)) → ((i : ℕ) → fills_slot a i ≡ nat_eq i s) → (slot : ℕ) → slot_in after slot ≡ spilled_after f a x slot
 stored f a x slots after end s stack is each kept fills slot =
@@ -155,11 +155,11 @@ pub value_missing : (f : Frame) (a : Access) (s : ℕ) (o : Option RegValue) →
 value_missing f a s None fills e = λ slot all. let here : slot ≡ s = eqb-true slot s (sym (fills slot) ∙ all) in rw here e
 value_missing f a s (Some x) fills e = search rules
 
--- marks that are set after slots were
+-- setting marks after the slots were changed
 pub marks_after : (f g h : Frame) (a : Access) → ((r : Window) (i : ℕ) → is_written g r i ≡ is_written f r i) → Marks g a h → Marks f a h
 marks_after f g h a same marks r i = marks r i ∙ ap (λ (t : Bool). (nat_eq a.least a.greatest && touches a r i) || t) (same r i)
 
--- none are set where the access may be at several places
+-- none are set if the access may have several places
 pub no_marks : (f g : Frame) (a : Access) → (a.least ≡ a.greatest → ⊥) → ((r : Window) (i : ℕ) → is_written g r i ≡ is_written f r i) → Marks f a g
 no_marks f g a several same r i = let apart : nat_eq a.least a.greatest ≡ false = ne_eqb a.least a.greatest several in rw apart (same r i)
 

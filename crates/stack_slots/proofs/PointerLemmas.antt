@@ -17,7 +17,7 @@ use Rattle.stack_slots.specs.declared.reg_value.RegValue.{RegValue}
 use Rattle.stack_slots.specs.declared.reg_value.RegValue.TheVariants.{Unwritten, Number, Pointer as PointerInto}
 use Rattle.stack_slots.specs.Values.{PointsTo, StandsFor}
 
--- a number from -2^20 to 2^20, as the offsets of pointers are
+-- a number from -2^20 to 2^20, like the offsets of pointers
 pub record IsNear (offset : ℤ) : Type 0 where
   pub least : neg_ℤ (pos (2 ^ 20)) ≤ℤ offset
   pub most : offset ≤ℤ pos (2 ^ 20)
@@ -44,7 +44,7 @@ near_bits z near =
     let same = to_z-of_z w64 z fits in
     (word, omega (arith, ints, biased (sign_extended z) word, same))
 
--- an address moves as its offset does
+-- an address moves with its offset
 pub address_moved : (first y : ℕ) (offset moved : ℤ) → IsNear offset → IsNear moved → IsWord y → moved ≡ offset +ℤ signed y → address_of first moved ≡ (address_of first offset + y) % 2 ^ 64
 address_moved first y offset moved near near' word is =
     let a = near_bits offset near in
@@ -102,7 +102,7 @@ points_minus p q r x y same least greatest at lies = record {
     high : offset ≤ℤ q.greatest
     high = omega (arith, ints, greatest, at.greatest, lies.smin)
 
--- the windows begin low
+-- the windows begin at low addresses
 pub first_small : (r : Window) → first_address r ≤ 0x50000
 first_small Key = omega arith
 first_small Old = omega arith
@@ -110,7 +110,7 @@ first_small Arg = omega arith
 first_small Result = omega arith
 first_small Stack = omega arith
 
--- so an address near one is read as first address and offset
+-- so an address near one reads as first address plus offset
 pub signed_address : (first : ℕ) (offset : ℤ) → first ≤ 0x50000 → IsNear offset → signed (address_of first offset) ≡ pos first +ℤ offset
 signed_address first offset small near =
     let a = near_bits offset near in
@@ -129,7 +129,7 @@ points_within p w low high l h at =
       smax = omega (arith, ints, reads, h, at.greatest);
     }
 
--- what a value stands for is a word
+-- a value stands only for words
 pub stands_word : (v : RegValue) (w : ℕ) → StandsFor v (Some w) → IsWord w
 stands_word Unwritten w stands = stands
 stands_word (Number r) w stands = stands.word
@@ -139,7 +139,7 @@ stands_word (PointerInto p) w stands = rw stands.address (omega arith)
 pub address_fits : (first : ℕ) (z : ℤ) → first ≤ 0x50000 → IsNear z → SFits w64 (pos first +ℤ z)
 address_fits first z small near = between_fits (pos first +ℤ z) (omega (arith, ints, near.least)) (omega (arith, ints, near.most, small))
 
--- what code adds up is the sum
+-- the code's sum is the sum
 pub sum_reads : (first : ℤ) (place : ℕ) (z : ℤ) → first ≡ pos place → place ≤ 0x50000 → IsNear z → to_z w64 (of_z w64 (to_z w64 (of_z w64 first) +ℤ to_z w64 (of_z w64 z))) ≡ pos place +ℤ z
 sum_reads first place z is small near =
     let f : SFits w64 (pos place) = between_fits (pos place) (omega (arith, ints)) (omega (arith, ints, small)) in

@@ -1,4 +1,4 @@
--- What two values have in common.
+-- The join of two values.
 use Rattle.std.proofs.Common.{◌≡◌, ◌≢◌, ℕ, ◌∙◌, min, max, true, Option, Some, None, refl, sym, ap, subst, arith, inl, inr, ℤ}
 use Rattle.std.specs.Prelude.{◌≤ℤ◌}
 use Rattle.std.specs.Int.{int_min, int_max}
@@ -36,7 +36,7 @@ min_above a b lo p q = grind (arith, ints)
 pub max_below : (a b hi : ℤ) → a ≤ℤ hi → b ≤ℤ hi → int_max a b ≤ℤ hi
 max_below a b hi p q = grind (arith, ints)
 
--- what a value stands for Unwritten stands for
+-- Unwritten stands for whatever a value stands for
 unwritten_takes : (x : RegValue) (o : Option ℕ) → StandsFor x o → StandsFor Unwritten o
 unwritten_takes Unwritten o stands = stands
 unwritten_takes (Number r) None stands = absurd stands
@@ -44,7 +44,7 @@ unwritten_takes (Number r) (Some w) stands = stands.word
 unwritten_takes (PointerInto p) None stands = absurd stands
 unwritten_takes (PointerInto p) (Some w) stands = stands_word (PointerInto p) w stands
 
--- and where there is a word, any number
+-- and if there is a word, so does any number
 number_takes : (x z : RegValue) (o : Option ℕ) → x ≢ Unwritten → IsAnyNumber z → StandsFor x o → StandsFor z o
 number_takes Unwritten z o value any stands = absurd (value refl)
 number_takes (Number r) z None value any stands = absurd stands
@@ -86,7 +86,7 @@ points_over_second p q t w window is at = record {
   address = at.address ∙ ap (λ (first : ℕ). address_of first at.offset) (sym window) ∙ ap (λ (r : Window). address_of (first_address r) at.offset) (sym is.window_is);
 }
 
--- what the first stands for the join stands for
+-- the join stands for each word of the first
 pub join_first : (a b z : RegValue) (o : Option ℕ) → IsJoin a b z → StandsFor a o → StandsFor z o
 join_first Unwritten b z o j stands = subst (λ (v : RegValue). StandsFor v o) (sym j) stands
 join_first (Number r) Unwritten z o j stands = subst (λ (v : RegValue). StandsFor v o) (sym j) (unwritten_takes (Number r) o stands)
@@ -102,7 +102,7 @@ join_first (PointerInto p) (PointerInto q) z (Some w) j stands =
       | inr two ↦ let any : IsAnyNumber z = when_false (IsPointerOver p q z) (IsAnyNumber z) two j in number_takes (PointerInto p) z (Some w) (λ e. cc) any stands
     ]
 
--- and what the second stands for
+-- and for each word of the second
 pub join_second : (a b z : RegValue) (o : Option ℕ) → IsJoin a b z → StandsFor b o → StandsFor z o
 join_second Unwritten b z o j stands = subst (λ (v : RegValue). StandsFor v o) (sym j) (unwritten_takes b o stands)
 join_second (Number r) Unwritten z o j stands = subst (λ (v : RegValue). StandsFor v o) (sym j) stands
@@ -127,7 +127,7 @@ number_is_value z r is e = cc
 pointer_is_value : (z : RegValue) (p : Pointer) → z ≡ PointerInto p → z ≢ Unwritten
 pointer_is_value z p is e = cc
 
--- the join of two that are not Unwritten isn't either
+-- if two values aren't Unwritten, neither is their join
 pub join_value : (a b z : RegValue) → IsJoin a b z → a ≢ Unwritten → b ≢ Unwritten → z ≢ Unwritten
 join_value Unwritten b z j first second = absurd (first refl)
 join_value (Number r) Unwritten z j first second = absurd (second refl)
@@ -157,7 +157,7 @@ join_pointer a b z w lo hi j first second =
       greatest = rw over.offsets.greatest_is (max_below p.greatest q.greatest hi first.greatest second.greatest);
     }
 
--- the join of two numbers within bounds is one within them
+-- the join of two numbers within bounds lies within them
 pub join_number : (a b z : RegValue) (lo hi : ℤ) → IsJoin a b z → IsNumberIn lo hi a → IsNumberIn lo hi b → IsNumberIn lo hi z
 join_number a b z lo hi j first second =
     let r = first.range in
@@ -170,7 +170,7 @@ join_number a b z lo hi j first second =
       greatest = rw over.smax (max_below r.smax s.smax hi first.greatest second.greatest);
     }
 
--- windows with one first address are one
+-- windows with one first address are the same
 pub same_window : (r s : Window) → first_address r ≡ first_address s → r ≡ s
 same_window Key Key e = refl
 same_window Old Old e = refl

@@ -1,4 +1,4 @@
--- Loads and stores of stack and result. Our profile of RFC 9669; what a load gives: RFC 9669, section 5.
+-- Loads and stores of stack and result. Our profile of RFC 9669; the value of a load: RFC 9669, section 5.
 use Rattle.std.specs.Prelude.{◌≡◌, ℕ, ◌+◌, ◌*◌, ◌<◌, ◌≤◌, Bool, true, false, ◌&&◌, List, Some, nat_eq, nat_le, nat_lt, pos, neg_ℤ}
 use Rattle.bpf_model.specs.declared.window.Window.{Window}
 use Rattle.bpf_model.specs.declared.window.Window.TheVariants.{Key, Old, Arg, Result, Stack}
@@ -47,13 +47,13 @@ touches_slot a slot =
     is_stack a.window
     && (nat_lt a.least (SLOT_BYTES * slot + SLOT_BYTES) && nat_lt (SLOT_BYTES * slot) (a.greatest + byte_count a.size))
 
--- whether the access is to all of the stack's slot and to nothing else
+-- whether the access covers exactly the stack's slot
 abbrev pub fills_slot : Access → ℕ → Bool
 fills_slot a slot =
     is_stack a.window
     && (nat_eq a.least a.greatest && (nat_eq (byte_count a.size) SLOT_BYTES && nat_eq a.least (SLOT_BYTES * slot)))
 
--- the word that the number read gives, extended with zeros or with the sign
+-- the word made of the number read, extended with zeros or with the sign
 abbrev pub loaded_word : AccessSize → Bool → ℕ → ℕ
 loaded_word DoubleWord signed n = n
 loaded_word size false n = n
@@ -61,7 +61,7 @@ loaded_word Byte true n = extended From8To64 n
 loaded_word HalfWord true n = extended From16To64 n
 loaded_word Word true n = extended From32To64 n
 
--- the bounds of the words that a load may give, by the reading that it extends; a load of eight bytes may give any word
+-- the bounds of the words that a load may give, in the reading that it extends; a load of eight bytes may give any word
 abbrev pub IsLoadRange : AccessSize → Bool → Range → Type 0
 IsLoadRange DoubleWord signed r = (w : ℕ) → IsWord w → IsIn w r
 IsLoadRange Byte false r = (r.umin ≡ 0) × (r.umax ≡ 0xff)
@@ -71,11 +71,11 @@ IsLoadRange Byte true r = (r.smin ≡ neg_ℤ (pos 0x80)) × (r.smax ≡ pos 0x7
 IsLoadRange HalfWord true r = (r.smin ≡ neg_ℤ (pos 0x8000)) × (r.smax ≡ pos 0x7fff)
 IsLoadRange Word true r = (r.smin ≡ neg_ℤ (pos 0x8000_0000)) × (r.smax ≡ pos 0x7fff_ffff)
 
--- each byte of the memory is a byte
+-- each byte of the memory is below 256
 abbrev pub HasBytes : Partial → Type 0
 HasBytes memory = (q b : ℕ) → memory q ≡ Some b → b < 256
 
--- the bytes that a load reads there are present, and the value stands for the word that they give
+-- the bytes that a load reads there are present, and the value stands for their word
 pub record ReadsAs (memory : Partial) (address : ℕ) (size : AccessSize) (signed : Bool) (x : RegValue) : Type 0 where
   pub bytes : List ℕ
   pub present : bytes_at memory address (byte_count size) ≡ Some bytes

@@ -1,4 +1,4 @@
--- What is known of a register's word, and of which words it is true. This verifier's own.
+-- What is known of a register's word, and for which words it is true. This verifier's own.
 use Rattle.std.specs.Prelude.{◌≡◌, ℕ, min, max, Bool, nat_eq, Option, Some, None, ℤ, pos, ◌+ℤ◌, ◌≤ℤ◌}
 use Rattle.std.specs.Bool.{MatchBool}
 use Rattle.std.specs.Int.{int_min, int_max}
@@ -39,7 +39,7 @@ pub record IsPointer (window : Window) (least greatest : ℤ) (p : Pointer) : Ty
   pub least_is : p.least ≡ least
   pub greatest_is : p.greatest ≡ greatest
 
--- a number of which nothing more is known: its range has every word
+-- a number about which nothing more is known: its range has every word
 pub record IsAnyNumber (x : RegValue) : Type 0 where
   pub range : Range
   pub is : x ≡ Number range
@@ -64,7 +64,7 @@ pub record IsPointerOver (p q : Pointer) (x : RegValue) : Type 0 where
 abbrev pub have_one_window : Pointer → Pointer → Bool
 have_one_window p q = nat_eq (first_address p.window) (first_address q.window)
 
--- what is known of a word of which the first or the second was known
+-- what is known of a word for which the first or the second value was known
 abbrev pub IsJoin : RegValue → RegValue → RegValue → Type 0
 IsJoin Unwritten b x = x ≡ Unwritten
 IsJoin (Number r) Unwritten x = x ≡ Unwritten

@@ -6,14 +6,14 @@ ghost use Rattle.stack_slots.specs.Kept.{kept_bytes};
 use bpf_model::limits::STACK_BYTES;
 use bpf_model::{AccessSize, Window};
 
-/// The bytes of a slot of the stack, which holds one spilled value.
+/// A slot of the stack has this many bytes and holds one spilled value.
 pub const SLOT_BYTES: usize = 8;
 
-/// The slots of the stack.
+/// The stack has this many slots.
 pub const SLOTS: usize = STACK_BYTES / SLOT_BYTES;
 
-/// An access to stack or result. Its first byte is `least` to `greatest` bytes behind the window's, and in each case all
-/// its bytes are in the window. A load extends what it reads with the sign, or with zeros.
+/// An access to stack or result. Its first byte is `least` to `greatest` bytes after the window's first, and at each of
+/// these places all its bytes are in the window. A load extends what it reads with the sign, or with zeros.
 #[derive(Clone, Copy, Debug, PartialEq, Eq)]
 pub struct Access {
     pub window: Window,

@@ -10,7 +10,7 @@ use crate::access::{Access, SLOT_BYTES, SLOTS};
 use bpf_model::{AccessSize, Sizes, Window};
 
 impl Access {
-    /// The access with these fields; none where the window may only be read, or is declared too short.
+    /// Makes the access with these fields, or returns `None` if the window is read-only or declared too short.
     pub fn new(
         window: Window,
         least: usize,
@@ -42,7 +42,7 @@ impl Access {
         }
     }
 
-    /// The slot of the stack that the access fills: all its bytes and no others, wherever the access may be.
+    /// Returns the slot of the stack that the access fills exactly, at every place that it may have.
     pub(crate) fn filled_slot(&self) -> Option<usize>
         ensures inside { IfSome result (λ slot. slot < SLOTS) }
         ensures fills { IfSome result (λ slot. (i : ℕ) → fills_slot self.now i ≡ nat_eq i slot) }

@@ -14,14 +14,14 @@ use crate::slots::{Slots, copy, forget, join_slots, keep, value_of};
 use bpf_model::Window;
 use bpf_model::limits::{STACK_BYTES, VALUE_BYTES};
 
-/// The words of the marks of the result's bytes.
+/// The result's marks take this many words.
 const RESULT_WORDS: usize = VALUE_BYTES / WORD_BITS;
 
-/// The words of the marks of the stack's bytes.
+/// The stack's marks take this many words.
 const STACK_WORDS: usize = STACK_BYTES / WORD_BITS;
 
 /// A mark for each byte of stack and result that was written, and for each slot of the stack the value that was spilled
-/// to it. All is kept in place: copying a frame takes no memory.
+/// to it. Everything is inline: copying a frame takes no memory.
 #[derive(Debug, PartialEq, Eq, Drop)]
 pub struct Frame {
     result: [u64; RESULT_WORDS],
@@ -33,7 +33,7 @@ pub struct Frame {
 const _: () = prove!(size_of::<Frame>() + 11 * size_of::<RegValue>() <= 4 * 1024);
 
 impl Frame {
-    /// The frame of a run's beginning: no byte was written, and no value spilled.
+    /// Returns the frame at the start of a run: no byte was written, and no value spilled.
     pub fn empty() -> Frame
         ensures written { (r : Window) (i : ℕ) → is_written result r i ≡ false }
         ensures describes { (memory : Partial) → DescribesMemory result memory }
@@ -46,7 +46,7 @@ impl Frame {
         }
     }
 
-    /// The same frame once more. Takes no memory.
+    /// Returns a copy of the frame. Takes no memory.
     pub fn copied(&self) -> Frame
         ensures value { result ≡ self.now }
     {
@@ -66,9 +66,9 @@ impl Frame {
         copy(&mut self.slots, &other.slots);
     }
 
-    /// The frame after a store of a word for which the value stands. The bytes become written where their place is one
-    /// alone. A slot that the store fills has the value then; every other slot that it may touch has none. Takes no
-    /// memory.
+    /// Updates the frame for a store of a word that `value` stands for. If the access has only one place, its bytes
+    /// become written. A slot that the store fills then has the value; every other slot that it may touch has none.
+    /// Takes no memory.
     pub fn store(&mut self, access: &Access, value: &RegValue)
         ensures describes { DescribesStore self.old access.now value.now self.new }
         ensures written { Marks self.old access.now self.new }
@@ -112,8 +112,8 @@ impl Frame {
         }
     }
 
-    /// What is known of the word that is loaded: the value of the slot that the access fills, or the range of all words
-    /// that it may give. None where not all bytes that the access may touch were written. Takes no memory.
+    /// Returns what is known of the loaded word: the value of the slot that the access fills, or the range of all words
+    /// that it may give. Returns `None` if the access may touch a byte that wasn't written. Takes no memory.
     pub fn load(&self, access: &Access) -> Option<RegValue>
         ensures some { IsSome result ↔ AreWritten self.now access.now }
         ensures found { IfSome result (FindsLoaded self.now access.now) }
@@ -152,7 +152,7 @@ impl Frame {
         }
     }
 
-    /// What either of two frames knows: the bytes that both have as written, and the joins of values that both have.
+    /// Returns what both frames know: the bytes that both have as written, and the joins of the values that both have.
     /// Takes no memory.
     pub fn join(&self, other: &Frame) -> Frame
         ensures first { DescribesMore self.now result }
@@ -166,7 +166,7 @@ impl Frame {
         joined
     }
 
-    /// The join with another frame, in place. Takes no memory.
+    /// Joins another frame into this one, in place. Takes no memory.
     pub fn join_with(&mut self, other: &Frame)
         ensures first { DescribesMore self.old self.new }
         ensures second { DescribesMore other.now self.new }
@@ -179,7 +179,7 @@ impl Frame {
         join_slots(&mut self.slots, &other.slots);
     }
 
-    /// The greatest n such that the first n bytes of the result were written. Takes no memory.
+    /// Returns how many bytes of the result were written without a gap from the first on. Takes no memory.
     pub fn written_prefix(&self) -> u16
         ensures written { (i : ℕ) → i < result → is_written self.now ResultWindow i ≡ true }
         ensures greatest { is_written self.now ResultWindow result ≡ false }

@@ -1,4 +1,4 @@
-//! What is known of a word that is loaded from bytes of which no value is kept.
+//! What is known of a loaded word if no value is kept for its bytes.
 ghost use Rattle.std.specs.Prelude.{◌<◌, ◌^◌, ℕ};
 ghost use Rattle.bpf_model.specs.Accesses.{byte_count};
 ghost use Rattle.value_ranges.specs.In.{IsIn};
@@ -7,7 +7,7 @@ ghost use Rattle.stack_slots.specs.Accesses.{loaded_word, IsLoadRange};
 use bpf_model::AccessSize;
 use value_ranges::Range;
 
-/// The range of the words that a load of so many bytes may give, extended with zeros or with the sign.
+/// Returns the range of the words that a load of this size may give, extended with zeros or with the sign.
 pub fn loadable(size: AccessSize, signed: bool) -> Range
     ensures holds { (n : ℕ) → n < 256 ^ byte_count size → IsIn (loaded_word size signed n) result }
     ensures bounds { IsLoadRange size signed result }

@@ -3,7 +3,7 @@ ghost use Rattle.std.specs.Prelude.{◌≡◌, ◌≤◌, ◌<◌, ◌+◌, ◌*
 ghost use Rattle.std.specs.Int.{bit_at};
 ghost use Rattle.stack_slots.specs.Marks.{is_marked};
 
-/// The bits of a word of marks.
+/// A word of marks has this many bits.
 pub(crate) const WORD_BITS: usize = 64;
 
 /// a word with its n lowest bits set
@@ -40,7 +40,7 @@ pub(crate) fn mark(words: &mut [u64], first: usize, end: usize)
     }
 }
 
-/// Whether all places from `first` to below `end` are marked.
+/// Tests whether all places from `first` to below `end` are marked.
 pub(crate) fn are_marked(words: &[u64], first: usize, end: usize) -> bool
     requires inside { end ≤ 64 * length words.now }
     requires small { length words.now < 2 ^ 32 }
@@ -54,7 +54,7 @@ pub(crate) fn are_marked(words: &[u64], first: usize, end: usize) -> bool
     true
 }
 
-/// Keeps the marks that both have, a word at a time.
+/// Keeps only the marks that both have, a word at a time.
 pub(crate) fn keep_common(words: &mut [u64], other: &[u64])
     requires same { length words.old ≡ length other.now }
     ensures exact { (i : ℕ) → is_marked words.new i
@@ -65,7 +65,7 @@ pub(crate) fn keep_common(words: &mut [u64], other: &[u64])
     }
 }
 
-/// How many places from the first on are marked without a gap.
+/// Returns how many places from the first on are marked without a gap.
 pub(crate) fn prefix(words: &[u64]) -> usize
     requires small { length words.now < 2 ^ 32 }
     ensures marked { (i : ℕ) → i < result → is_marked words.now i ≡ true }

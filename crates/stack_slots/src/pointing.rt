@@ -1,4 +1,4 @@
-//! Where pointers point, and pointers that move by numbers.
+//! Addresses of pointers, and pointers plus or minus numbers.
 ghost use Rattle.std.specs.Prelude.{◌≡◌, ◌+◌, ◌-◌, ◌%◌, ◌^◌, ℕ, pos, ◌≤ℤ◌, ◌+ℤ◌, ◌-ℤ◌, ◌↔◌, IsSome, IfSome};
 ghost use Rattle.std.specs.Int.{int_min, int_max};
 ghost use Rattle.value_ranges.specs.In.{IsIn};
@@ -9,11 +9,12 @@ use crate::pointer::Pointer;
 use bpf_model::Window;
 use value_ranges::Range;
 
-/// How far a pointer may be from its window's first byte, in either direction.
+/// A pointer may be at most this far from its window's first byte, in either direction.
 const REACH: i64 = 1 << 20;
 
 impl Pointer {
-    /// The pointer with these offsets; none where one of them is out of reach, or the least passes the greatest.
+    /// Makes the pointer with these offsets, or returns `None` if one of them is out of reach, or the least passes the
+    /// greatest.
     pub fn new(window: Window, least: i64, greatest: i64) -> Option<Pointer>
         ensures some { IsSome result ↔ (AreInReach least greatest × (least ≤ℤ greatest)) }
         ensures value { IfSome result (IsPointer window least greatest) }
@@ -29,7 +30,7 @@ impl Pointer {
         }
     }
 
-    /// The pointer plus a number; none where an offset may be out of reach.
+    /// Adds a number. Returns `None` if an offset may be out of reach.
     pub fn plus(self, number: Range) -> Option<Pointer>
         ensures some { IsSome result
             ↔ AreInReach (self.least +ℤ number.smin) (self.greatest +ℤ number.smax) }
@@ -43,7 +44,7 @@ impl Pointer {
         Pointer::new(self.window, least, greatest)
     }
 
-    /// The pointer less a number; none where an offset may be out of reach.
+    /// Subtracts a number. Returns `None` if an offset may be out of reach.
     pub fn minus(self, number: Range) -> Option<Pointer>
         ensures some { IsSome result
             ↔ AreInReach (self.least -ℤ number.smax) (self.greatest -ℤ number.smin) }
@@ -57,7 +58,8 @@ impl Pointer {
         Pointer::new(self.window, least, greatest)
     }
 
-    /// The pointer with the lesser least offset and the greater greatest one of two into one window.
+    /// Returns the pointer that covers both, which point into one window: the lesser least offset and the greater
+    /// greatest one.
     pub fn over(self, other: Pointer) -> Pointer
         ensures value { IsPointer self.window (int_min self.least other.least)
             (int_max self.greatest other.greatest) result }
@@ -69,7 +71,7 @@ impl Pointer {
         }
     }
 
-    /// The range of the addresses.
+    /// Returns the range of the addresses.
     pub fn addresses(self) -> Range
         ensures holds { (w : ℕ) → PointsTo self w → IsIn w result }
         ensures bounds { IsAddressRange self result }

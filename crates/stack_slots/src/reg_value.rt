@@ -1,4 +1,4 @@
-//! What is known of a register's word: as a number, and of two words what they have in common.
+//! What is known of a register's word: as a number, and what two such facts have in common.
 ghost use Rattle.std.specs.Prelude.{◌≡◌, ◌≢◌, ℕ, ℤ, Option, Some};
 ghost use Rattle.bpf_model.specs.declared.window.Window.{Window};
 ghost use Rattle.value_ranges.specs.In.{IsIn};
@@ -10,16 +10,16 @@ use value_ranges::Range;
 /// What is known of a register's word.
 #[derive(Clone, Copy, Debug, PartialEq, Eq)]
 pub enum RegValue {
-    /// There may be none.
+    /// The register may have no word.
     Unwritten,
-    /// It lies in the range.
+    /// The word lies in the range.
     Number(Range),
-    /// It is an address in or near a window.
+    /// The word is an address in or near a window.
     Pointer(Pointer),
 }
 
 impl RegValue {
-    /// The range of the words that the value stands for.
+    /// Returns the range of the words that the value stands for.
     pub fn as_number(&self) -> Range
         ensures holds { (w : ℕ) → StandsFor self.now (Some w) → IsIn w result }
         ensures number { (r : Range) → self.now ≡ RegValue.Number r → result ≡ r }
@@ -32,7 +32,7 @@ impl RegValue {
         }
     }
 
-    /// What is known of a word for which the one value stands or the other.
+    /// Returns what is known of a word if one of the two values stands for it.
     pub fn join(&self, other: &RegValue) -> RegValue
         ensures first { (o : Option ℕ) → StandsFor self.now o → StandsFor result o }
         ensures second { (o : Option ℕ) → StandsFor other.now o → StandsFor result o }

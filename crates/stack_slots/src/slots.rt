@@ -6,8 +6,8 @@ ghost use Rattle.stack_slots.specs.Frames.{IsSlotJoin, slot_in};
 use crate::access::SLOTS;
 use crate::reg_value::RegValue;
 
-/// For each slot of the stack the value that was spilled to it. There are none while no value was spilled, so that a copy
-/// or a join of such slots costs nothing.
+/// For each slot of the stack the value that was spilled to it. `None` until a value is spilled, so that copying or
+/// joining such slots costs nothing.
 pub(crate) type Slots = Option<[Option<RegValue>; SLOTS]>;
 
 /// Becomes a copy of other slots, in place.
@@ -20,7 +20,7 @@ pub(crate) fn copy(slots: &mut Slots, other: &Slots)
     }
 }
 
-/// Writing None writes all the room of the values, so it is done only where there are some.
+/// Forgets all values. Writing `None` writes all the room of the values, so it's done only if there are some.
 fn forget_all(slots: &mut Slots)
     ensures value { slots.new ≡ None }
 {
@@ -50,7 +50,7 @@ fn forget_each(slots: &mut [Option<RegValue>], first: usize, end: usize)
     slots[first..end].fill(None);
 }
 
-/// Keeps a value in a slot.
+/// Stores a value in a slot.
 pub(crate) fn keep(slots: &mut Slots, slot: usize, value: RegValue)
     requires inside { slot < SlotCount }
     ensures exact { (i : ℕ) → slot_in slots.new i
@@ -66,7 +66,7 @@ pub(crate) fn keep(slots: &mut Slots, slot: usize, value: RegValue)
     }
 }
 
-/// The value of a slot.
+/// Returns the value of a slot.
 pub(crate) fn value_of(slots: &Slots, slot: usize) -> Option<RegValue>
     requires inside { slot < SlotCount }
     ensures value { result ≡ slot_in slots.now slot }
@@ -77,7 +77,7 @@ pub(crate) fn value_of(slots: &Slots, slot: usize) -> Option<RegValue>
     }
 }
 
-/// Joins the values of each slot; none is left where one side has none.
+/// Joins the values of each slot; none is left if one side has none.
 pub(crate) fn join_slots(slots: &mut Slots, other: &Slots)
     ensures exact { (i : ℕ) → IsSlotJoin (slot_in slots.old i) (slot_in other.now i)
         (slot_in slots.new i) }

@@ -1,4 +1,4 @@
--- Steps one after another: what a call, and a wait, add to what is known.
+-- Steps one after another: how a call, and a wait, extend the knowledge.
 use Rattle.std.proofs.Common.{◌≡◌, ◌⊎◌, ℕ, Bool, true, false, true≢false, eqb, ◌||◌, min, List, [], ◌∷◌, ◌++◌, map, refl, sym, ap, ◌∙◌, subst, ⊎_elim, arith, append-nil, append_assoc, eq-eqb}
 use Rattle.std.proofs.lemmas.List.Elements.{All-nil, All-cons, All-append}
 use mathlib.Core.Logic.{dite}
@@ -11,7 +11,7 @@ use Rattle.stripe_rule.specs.Gains.{least, least_of, part_of, seen_of, mine_of, 
 use Rattle.stripe_rule.specs.Steps.{SetsPart, Extends, lengthened, grown}
 use Rattle.stripe_rule.proofs.HistoryLemmas.{IsUnder, IsOther, bool_cases}
 
--- a list that is not empty has its least
+-- a list that is not empty has a least number
 pub least_has : (q : ℕ) (ns : List ℕ) → has q ns ≡ true → has (least ns) ns ≡ true
 least_has q [] c = absurd (true≢false (sym c))
 least_has q (n ∷ ns) c = in_it n ns
@@ -34,12 +34,12 @@ least_has q (n ∷ ns) c = in_it n ns
         min_cases a b = grind (arith)
 
 module _ {D : Type 0} where
-  -- events of one's own are under a carried number
+  -- a pass's own events have a number that it carries
   pub own_under : (v : View D) (actions : List D) → Carries v (least v.numbers) → AreUnder v.numbers (map (own_event v) actions)
   own_under v [] c = All-nil (IsUnder v.numbers)
   own_under v (d ∷ ds) c = All-cons (IsUnder v.numbers) (own_event v d) (map (own_event v) ds) c (own_under v ds c)
 
-  -- one who still carries its numbers makes events under the same number
+  -- if it still carries its numbers, it makes events with the same number
   pub own_same : (v w : View D) (actions : List D) → w.numbers ≡ v.numbers → map (own_event w) actions ≡ map (own_event v) actions
   own_same v w [] e = refl
   own_same v w (d ∷ ds) e = λ i. event (e i) d ∷ own_same v w ds e i
@@ -107,7 +107,7 @@ module _ {D : Type 0} where
     elsewhere = λ j other. elsewhere_keeps v u j (s.elsewhere j other ∙ e.sets.elsewhere j other);
   }
 
-  -- one that holds no stripe holds none after a look
+  -- a pass that holds no stripe holds none after a look
   pub idle_after : (v w : View D) (k : ℕ) → IsIdle v → Extends v k false w → IsIdle w
   idle_after v w k idle e j = dite (ℕ_discrete j k)
       (λ is. subst (λ i. held_at w i ≡ false) (sym is) (ap (λ (p : Part D). p.held) e.sets.here))

@@ -1,4 +1,4 @@
--- A pass takes every stripe, and so learns what is left of each.
+-- A pass takes every stripe, and so learns the final table of each.
 use Rattle.std.proofs.Common.{◌≡◌, ℕ, ◌+◌, ◌<◌, true, List, [], ◌∷◌, ◌++◌, get_or, refl, sym, ap, ◌∙◌, subst, arith, append-nil}
 use Rattle.std.proofs.lemmas.List.{get_or_push, get_or_append_left, length_push}
 use mathlib.Core.Logic.{dite}
@@ -17,7 +17,7 @@ module _ {D T : Type 0} (does : ℕ → T → D → T → Type 0) (empty : T) wh
   pub taken_none : (v : View D) → HasTaken does empty v 0 [] v
   taken_none v = record { numbers = refl; passes = refl; count = refl; held = λ k _. refl; gains = λ k. gains_none v v k refl refl; left = λ k d less. absurd (omega arith) }
 
-  -- the next stripe is taken, whose bins keep this table
+  -- the next stripe is taken, and its bins hold this table
   pub taken_more : (v w u : View D) (n : ℕ) (tables : List T) (table : T) → HasTaken does empty v n tables w → Extends w n true u → Replays (does n) empty (seen_of u n) table → HasTaken does empty v (n + 1) (tables ++ table ∷ []) u
   taken_more v w u n tables table h e here = record {
     numbers = e.sets.numbers ∙ h.numbers;
@@ -32,11 +32,11 @@ module _ {D T : Type 0} (does : ℕ → T → D → T → Type 0) (empty : T) wh
   }
 
   module _ (v w : View D) (n : ℕ) (tables : List T) (h : HasTaken does empty v n tables w) where
-    -- what the taken stripes are left with, behind what was seen of them before
+    -- the final tables of the taken stripes, from the events after what was seen of them before
     pub left_behind : (k : ℕ) (d : T) → k < n → Replays (does k) empty (seen_of v k ++ (h.gains k).between) (get_or tables k d)
     left_behind k d less = let g = h.gains k in subst (λ es. Replays (does k) empty es (get_or tables k d)) (g.seen ∙ append-nil (seen_of v k ++ g.between)) (h.left k d less)
 
-    -- one who carries the number of every pass had seen all
+    -- a pass that carries the number of every pass had seen everything
     pub none_between : IsSound does empty w → ((q : ℕ) → q < v.passes → Carries v q) → (k : ℕ) → (h.gains k).between ≡ []
     none_between sound all k = let g = h.gains k in let seen = g.seen ∙ append-nil (seen_of v k ++ g.between) in
         let below : AreBelow v.passes (seen_of v k ++ g.between) = subst (λ (z : ℕ × List (Event D)). AreBelow z.0 z.1) (λ i. (h.passes i, seen i)) (sound.below k) in

@@ -28,12 +28,12 @@ has-right q [] ms e = e
 has-right q (n ∷ ns) ms e = elim (eqb q n) as (λ b. (b || has q (ns ++ ms)) ≡ true) [ true ↦ refl | false ↦ has-right q ns ms e ]
 
 module _ {X : Type 0} (P : X → Type 0) where
-  -- what holds of all holds of those in front
+  -- a fact about all holds of those in front
   pub All-front : (xs ys : List X) → All P (xs ++ ys) → All P xs
   All-front [] ys h = All-nil P
   All-front (x ∷ xs) ys h = All-cons P x xs (All-head P x (xs ++ ys) h) (All-front xs ys (All-tail P x (xs ++ ys) h))
 
-  -- and of those behind
+  -- and of those at the back
   pub All-back : (xs ys : List X) → All P (xs ++ ys) → All P ys
   All-back [] ys h = h
   All-back (x ∷ xs) ys h = All-back xs ys (All-tail P x (xs ++ ys) h)
@@ -53,7 +53,7 @@ module _ {D : Type 0} where
   made_by-append q (e ∷ es) ys = elim (eqb q e.by) as (λ b. cond b (e ∷ made_by q (es ++ ys)) (made_by q (es ++ ys)) ≡ cond b (e ∷ made_by q es) (made_by q es) ++ made_by q ys)
       [ true ↦ ap (λ l. e ∷ l) (made_by-append q es ys) | false ↦ made_by-append q es ys ]
 
-  -- none of others' events is under a carried number
+  -- no event of others has a number that it carries
   pub others_none : (ns : List ℕ) (q : ℕ) (es : List (Event D)) → has q ns ≡ true → AreOthers ns es → made_by q es ≡ []
   others_none ns q [] carried others = refl
   others_none ns q (e ∷ es) carried others = ⊎_elim
@@ -61,7 +61,7 @@ module _ {D : Type 0} where
       (λ (other : eqb q e.by ≡ false). ap (λ b. cond b (e ∷ made_by q es) (made_by q es)) other ∙ others_none ns q es carried (All-tail (IsOther ns) e es others))
       (bool_cases (eqb q e.by))
 
-  -- none of the events under these numbers is under another
+  -- no event with these numbers has another number
   pub under_none : (ns : List ℕ) (q : ℕ) (es : List (Event D)) → has q ns ≡ false → AreUnder ns es → made_by q es ≡ []
   under_none ns q [] out under = refl
   under_none ns q (e ∷ es) out under = ⊎_elim
@@ -69,11 +69,11 @@ module _ {D : Type 0} where
       (λ (other : eqb q e.by ≡ false). ap (λ b. cond b (e ∷ made_by q es) (made_by q es)) other ∙ under_none ns q es out (All-tail (IsUnder ns) e es under))
       (bool_cases (eqb q e.by))
 
-  -- events under these numbers are others' to one who carries none of them
+  -- events with these numbers are others' to a view that carries none of them
   pub under_others : (ns ms : List ℕ) (es : List (Event D)) → ((q : ℕ) → has q ns ≡ true → has q ms ≡ true → ⊥) → AreUnder ns es → AreOthers ms es
   under_others ns ms es apart under = All-weaker (IsUnder ns) (IsOther ms) (λ e h. not_true (has e.by ms) (λ c. apart e.by h c)) es under
 
-  -- and to one who carries fewer
+  -- and to one that carries fewer
   pub others_fewer : (ns ms : List ℕ) (es : List (Event D)) → ((q : ℕ) → has q ms ≡ true → has q ns ≡ true) → AreOthers ns es → AreOthers ms es
   others_fewer ns ms es sub others = All-weaker (IsOther ns) (IsOther ms) (λ e h. not_true (has e.by ms) (λ c. true≢false (sym (sub e.by c) ∙ h))) es others
 
@@ -83,7 +83,7 @@ module _ {D : Type 0} where
   pub under_below : (ns : List ℕ) (n : ℕ) (es : List (Event D)) → ((q : ℕ) → has q ns ≡ true → q < n) → AreUnder ns es → AreBelow n es
   under_below ns n es small under = All-weaker (IsUnder ns) (IsBelow n) (λ e h. small e.by h) es under
 
-  -- others' events behind change nothing of one's own
+  -- others' events at the end don't change a view's own events
   pub made_by-others : (ns : List ℕ) (q : ℕ) (xs ys : List (Event D)) → has q ns ≡ true → AreOthers ns ys → made_by q (xs ++ ys) ≡ made_by q xs
   made_by-others ns q xs ys carried others = made_by-append q xs ys ∙ (ap (λ l. made_by q xs ++ l) (others_none ns q ys carried others) ∙ append-nil (made_by q xs))
 

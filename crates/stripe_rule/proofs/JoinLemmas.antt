@@ -25,7 +25,7 @@ module _ {D : Type 0} where
   tl [] = []
   tl (x ∷ xs) = xs
 
-  -- of two beginnings of one list, the longer begins with each and begins the list
+  -- the longer of two beginnings of one list begins with each, and begins the list
   record Meets (xs ys r s : List (Event D)) : Type 0 where
     pub left : List (Event D)
     pub right : List (Event D)
@@ -48,7 +48,7 @@ module _ {D : Type 0} where
     rest_right = m.rest_right;
   }
 
-  -- one that begins with the other is the longer
+  -- if one begins with the other, it is the longer
   pub longer_is : (xs ys : List (Event D)) → StartsWith xs ys → longer xs ys ≡ xs
   longer_is xs ys b = ap (λ l. longer l ys) b.1 ∙ (go ys b.0 ∙ sym b.1)
     where
@@ -75,7 +75,7 @@ module _ {D : Type 0} where
   others_both : (ns ms : List ℕ) (es : List (Event D)) → AreOthers ns es → AreOthers ms es → AreOthers (ns ++ ms) es
   others_both ns ms es a b k d lt = let e : Event D = get_or es k d in not_true (has e.by (ns ++ ms)) (λ c. ⊎_elim (λ x. true≢false (sym x ∙ a k d lt)) (λ x. true≢false (sym x ∙ b k d lt)) (has-append e.by ns ms c))
 
-  -- what both have seen has, under a number of the one, what the one made
+  -- among the events that both have seen, those with a number of the one are the ones that it made
   own_both : (ns : List ℕ) (q : ℕ) (seen left all mine : List (Event D)) → has q ns ≡ true → AreOthers ns left → all ≡ seen ++ left → made_by q seen ≡ made_by q mine → made_by q all ≡ made_by q mine
   own_both ns q seen left all mine c others is own = ap (made_by q) is ∙ (made_by-others ns q seen left c others ∙ own)
 
@@ -104,7 +104,7 @@ module _ {D : Type 0} where
         heard = (f.heard.0, f.heard.1 ∙ ap (λ (x : Part D). x.told ++ f.heard.0) (sym is));
       }
 
-  -- what is left of the other fits any list
+  -- the other's remaining view fits any list
   spent_fits : (k : ℕ) (log : List (Event D)) → FitsLog k log spent
   spent_fits k log = record { rest = log; begins = refl; others = (λ j d lt. refl); own = λ q c. refl; under = All-nil (IsUnder []); heard = (log, refl) }
 
@@ -125,7 +125,7 @@ module _ {D T B : Type 0} (does : ℕ → T → D → T → Type 0) (empty : T) 
     every : (F : View D → Type 0) → F spent → F u → ((j : ℕ) (x : View D) → At views j x → F x) → (j : ℕ) (x : View D) → At left j x → F x
     every F a b c j x e = ⊎_elim (λ t. subst F t.1 a) (λ t. ⊎_elim (λ s. subst F s.1 b) (λ s. c j x s.1.1) t) (kind j x e)
 
-    -- one that carries a number now is the united one, or carried it before
+    -- a view that now carries a number is the united one, or carried it before
     carrier : (j : ℕ) (x : View D) (q : ℕ) → At left j x → Carries x q → ((j ≡ id) × Carries u q) ⊎ ((j ≢ id) × ((j ≢ other) × At views j x))
     carrier j x q e c = ⊎_elim
         (λ t. let none : Carries {D = D} spent q = subst (λ (z : View D). Carries z q) (sym t.1) c in absurd (true≢false (sym none)))
@@ -196,7 +196,7 @@ module _ {D T B : Type 0} (does : ℕ → T → D → T → Type 0) (empty : T) 
       }
 
 module _ {D : Type 0} where
-  -- `before` heard all of the other, was joined with it, and looked once more at some stripe
+  -- `before` heard everything from the other, was joined with it, and looked once more at some stripe
   pub joined : (stripes k : ℕ) (one other before after : View D) (held : Bool) → length before.parts ≡ length other.parts → Hears stripes other one before → k < stripes
       → Extends (united before other) k held after → IsJoined stripes one other after
   joined stripes k one other before after held wide heard inside e = record {

@@ -1,4 +1,4 @@
--- A new table keeps the rule, and so does one whose first numbers are dealt to another view.
+-- A new table keeps the rule, and still does after its first numbers are dealt to another view.
 use Rattle.std.proofs.Common.{◌≡◌, ◌≢◌, ◌⊎◌, ℕ, zero, suc, ◌+◌, ◌<◌, ◌≤◌, Bool, true, false, true≢false, eqb, ◌||◌, List, [], ◌∷◌, ◌++◌, replicate, length, get_or, set, Option, Some, refl, sym, ap, ◌∙◌, subst, inl, inr, ⊎_elim, arith, eq-eqb, All}
 use Rattle.std.proofs.lemmas.List.Elements.{All-nil, All-head, All-tail}
 use Rattle.std.proofs.lemmas.List.{length-replicate, get_or-replicate}
@@ -112,7 +112,7 @@ module _ {D T B : Type 0} (does : ℕ → T → D → T → Type 0) (empty : T) 
     );
   }
 
-  -- a view that holds nothing becomes two that hold nothing and carry no more
+  -- a view that holds nothing becomes two that hold nothing and carry no other numbers
   module _ (s : State (Option B) (View D)) (id : ℕ) (v l w : View D) (at : At s.views id v) where
     abbrev both : List (View D)
     both = set s.views id l ++ w ∷ []

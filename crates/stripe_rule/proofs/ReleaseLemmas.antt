@@ -17,7 +17,7 @@ use Rattle.stripe_rule.proofs.ViewLemmas.{set_at, same_view, put_part, sets_put}
 use Rattle.stripe_rule.proofs.StripeLemmas.{kept_set, sound_of}
 
 module _ {D : Type 0} where
-  -- the view of the one who made the events, who has seen the whole list before
+  -- the view of the pass that made the events and had seen the whole list before
   grown_fits : (k : ℕ) (log more : List (Event D)) (v w : View D) → FitsLog k log v → seen_of v k ≡ log → AreUnder v.numbers more → SetsPart v k (grown (part_of v k) more) w → FitsLog k (log ++ more) w
   grown_fits k log more v w f whole under sets = let seen : seen_of w k ≡ log ++ more = ap (λ (p : Part D). p.seen) sets.here ∙ ap (λ (l : List (Event D)). l ++ more) whole in record {
     rest = [];

@@ -1,4 +1,4 @@
--- One view changes: what that asks for at the stripe where it changes, and that the other stripes stay.
+-- One view changes: what its stripe needs for that, and that the other stripes stay.
 use Rattle.std.proofs.Common.{◌≡◌, ◌≢◌, ◌⊎◌, ℕ, suc, ◌+◌, ◌<◌, Bool, true, false, List, [], ◌++◌, get_or, set, Option, refl, sym, ap, ◌∙◌, subst, inl, inr, ⊎_elim, arith, append-nil, length-set, get_or-set_same, get_or-set_other}
 use Rattle.std.proofs.lemmas.List.Elements.{All-nil}
 use mathlib.Core.Logic.{dite}
@@ -19,7 +19,7 @@ use Rattle.stripe_rule.proofs.HistoryLemmas.{IsBelow, All-front, legal_front, ma
 use Rattle.stripe_rule.proofs.ViewLemmas.{set_at, get_or-beyond, every_set, same_view, apart_set, counted_same}
 
 module _ {D : Type 0} where
-  -- a view with the same numbers and the same part fits as before
+  -- a view with the same numbers and the same part still fits
   pub fits_same : (k : ℕ) (log : List (Event D)) (v w : View D) → w.numbers ≡ v.numbers → part_of w k ≡ part_of v k → FitsLog k log v → FitsLog k log w
   fits_same k log v w numbers part f = record {
     rest = f.rest;
@@ -46,7 +46,7 @@ module _ {D T B : Type 0} (does : ℕ → T → D → T → Type 0) (empty : T) 
   abbrev pub Place : ℕ → List (Event D) → ℕ → Home B → List (View D) → Type 0
   Place k log word home views = IsFree does empty content k log word home views ⊎ IsHeld does empty content k log word home views
 
-  -- where one view changes that holds the stripe as before, and has seen all if it had
+  -- one view changes, holds the stripe as before, and has seen everything if it holds it
   pub holding_set : (k : ℕ) (log : List (Event D)) (word : ℕ) (home : Home B) (views : List (View D)) (id : ℕ) (v w : View D) → At views id v → held_at w k ≡ held_at v k
       → (seen_of v k ≡ log → seen_of w k ≡ log) → Place k log word home views → Place k log word home (set views id w)
   holding_set k log word home views id v w at held seen (inl f) = inl record {
@@ -84,7 +84,7 @@ module _ {D T B : Type 0} (does : ℕ → T → D → T → Type 0) (empty : T) 
           (λ (t : (j ≢ id) × At views j u). b.alone j u t.1 h)
           (at_set views id j w u e)
 
-  -- the stripe where one view changes and fits
+  -- the stripe at which one view changes and fits
   pub stripe_set : (passes k word : ℕ) (home : Home B) (views : List (View D)) (id : ℕ) (v w : View D) (r : Stripe does empty content passes k word home views) → At views id v
       → FitsLog k r.log w → held_at w k ≡ held_at v k → (seen_of v k ≡ r.log → seen_of w k ≡ r.log) → Stripe does empty content passes k word home (set views id w)
   stripe_set passes k word home views id v w r at fits held seen = record {
@@ -95,13 +95,13 @@ module _ {D T B : Type 0} (does : ℕ → T → D → T → Type 0) (empty : T) 
     holding = holding_set k r.log word home views id v w at held seen r.holding;
   }
 
-  -- the stripe of which one view knows what it knew
+  -- a stripe about which the view learns nothing new
   pub stripe_else : (passes k word : ℕ) (home : Home B) (views : List (View D)) (id : ℕ) (v w : View D) → Stripe does empty content passes k word home views → At views id v
       → w.numbers ≡ v.numbers → part_of w k ≡ part_of v k → Stripe does empty content passes k word home (set views id w)
   stripe_else passes k word home views id v w r at numbers part = stripe_set passes k word home views id v w r at (fits_same k r.log v w numbers part (r.fits id v at))
       (ap (λ (p : Part D). p.held) part) (λ e. ap (λ (p : Part D). p.seen) part ∙ e)
 
-  -- all is kept where one view changes at the stripe k alone, and the stripe keeps its part of the rule
+  -- the rule is kept if one view changes only at the stripe k, and the stripe keeps its part of the rule
   pub kept_set : (stripes passes : ℕ) (s : State (Option B) (View D)) (id : ℕ) (v w : View D) (k word : ℕ) (part : Part D) (home : Home B) (homes : List (Home B))
       → Kept does empty content stripes passes s → At s.views id v → k < stripes → SetsPart v k part w → Stripe does empty content passes k word home (set s.views id w)
       → get_elem? homes k ≡ maybe.some home → ((j : ℕ) → j ≢ k → get_elem? homes j ≡ get_elem? s.homes j)

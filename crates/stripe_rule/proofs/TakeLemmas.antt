@@ -20,7 +20,7 @@ module _ {D T B : Type 0} (does : ℕ → T → D → T → Type 0) (empty : T) 
   abbrev Rule : State (Option B) (View D) → Type 0
   Rule = Kept does empty content stripes passes
 
-  -- the state and the view after a look, at a word that stays
+  -- the state and the view after a look, if the word stays
   pub look : (s : State (Option B) (View D)) (id k : ℕ) (me : Me (Option B) (View D)) (q : ℕ) → Rule s → At s.views id me.0 → k < stripes → Carries me.0 q
       → (w : View D) × (Rule record { words = set s.words (word_at k) (get_or s.words (word_at k) 0); homes = s.homes; views = set s.views id w } × Looks does empty k me (w, me.1))
   look s id k me q r at inside c = let v = me.0 in let n : ℕ = get_or s.words (word_at k) 0 in let here = r.stripe k inside in let t = here.1.1 in let f = t.fits id v at in

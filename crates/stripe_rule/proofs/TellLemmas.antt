@@ -16,7 +16,7 @@ use Rattle.stripe_rule.proofs.StripeLemmas.{stripe_set}
 use Rattle.stripe_rule.proofs.CallLemmas.{gains_none, gains_more}
 
 module _ {D : Type 0} where
-  -- each part is told of what is seen in the other's
+  -- each part is told what the other's part has seen
   abbrev told_parts : List (Part D) → List (Part D) → List (Part D)
   told_parts [] qs = []
   told_parts (p ∷ ps) [] = p ∷ ps
@@ -34,7 +34,7 @@ module _ {D : Type 0} where
   get_or-told_parts (p ∷ ps) (q ∷ qs) zero e = refl
   get_or-told_parts (p ∷ ps) (q ∷ qs) (suc k) e = get_or-told_parts ps qs k (omega arith)
 
-  -- the view that is told of all that the other has seen
+  -- the view that is told all that the other has seen
   abbrev hearing : View D → View D → View D
   hearing v from = record { numbers = v.numbers; passes = v.passes; parts = told_parts v.parts from.parts }
 
@@ -56,7 +56,7 @@ module _ {D T B : Type 0} (does : ℕ → T → D → T → Type 0) (empty : T) 
   abbrev Rule : State (Option B) (View D) → Type 0
   Rule = Kept does empty content stripes passes
 
-  -- a pass is told, with no step on a word
+  -- a pass is told, without a step on a word
   pub told_by : (id : ℕ) (v : View D) (other : ℕ) (from : View D) (q r : ℕ) → Carries v q → Carries from r → (s : State (Option B) (View D)) → Rule s → At s.views id v → At s.views other from
       → (u : View D) × (Rule record { words = s.words; homes = s.homes; views = set s.views id u } × IsTold from v u)
   told_by id v other from q r c c' s kept at there = let u = hearing v from in
@@ -83,7 +83,7 @@ module _ {D T B : Type 0} (does : ℕ → T → D → T → Type 0) (empty : T) 
       )
 
 module _ {D : Type 0} where
-  -- told, it has looked at no stripe yet
+  -- just told, it has looked at no stripe yet
   pub heard_none : (from v u : View D) → IsTold from v u → HasHeard from v 0 u
   heard_none from v u t = record {
     numbers = t.numbers;
@@ -109,7 +109,7 @@ module _ {D : Type 0} where
         (λ other. let b = h.begins k (omega arith) in (b.0, ap (λ (p : Part D). p.seen) (e.sets.elsewhere k other) ∙ b.1));
   }
     where
-      -- what holds of the stripe looked at, and held of the others
+      -- a fact about the stripe just looked at, and already about the others
       at_each : (k : ℕ) (F : View D → ℕ → Type 0) → ((z : View D) (i : ℕ) → part_of u i ≡ part_of w i → F w i → F u i) → F w k → F u n → F u k
       at_each k F same old new = dite (ℕ_discrete k n) (λ is. subst (F u) (sym is) new) (λ other. same u k (e.sets.elsewhere k other) old)
 

@@ -1,4 +1,4 @@
--- Lists of views of which one changes, and a view of which one part changes.
+-- Lists of views in which one changes, and a view in which one part changes.
 use Rattle.std.proofs.Common.{◌≡◌, ◌≢◌, ◌⊎◌, ℕ, zero, suc, ◌<◌, ◌≤◌, List, [], ◌∷◌, ◌++◌, length, get_or, set, refl, sym, ap, ◌∙◌, subst, inl, inr, ⊎_elim, arith, length-set, get_or-set_same, get_or-set_other}
 use mathlib.Core.Option as maybe
 use lib.ListN.{get_elem?}
@@ -28,14 +28,14 @@ module _ {A : Type 0} where
   get_or-beyond (x ∷ xs) (suc i) d h = get_or-beyond xs i d (omega arith)
 
 module _ {D : Type 0} where
-  -- what holds of the new view and held of all holds of all
+  -- a fact about the new view that held of all still holds of all
   pub every_set : (F : View D → Type 0) (views : List (View D)) (id : ℕ) (w : View D) → F w → ((j : ℕ) (u : View D) → At views j u → F u) → (j : ℕ) (u : View D) → At (set views id w) j u → F u
   every_set F views id w new old j u e = ⊎_elim (λ (t : (j ≡ id) × (w ≡ u)). subst F t.1 new) (λ (t : (j ≢ id) × At views j u). old j u t.1) (at_set views id j w u e)
 
   pub same_view : (views : List (View D)) (id : ℕ) (v w : View D) → At views id v → At views id w → v ≡ w
   same_view views id v w a b = maybe.some-injective v w (sym a ∙ b)
 
-  -- where one view changes and keeps its numbers, each number is still carried once
+  -- if one view changes and keeps its numbers, each number is still carried once
   pub apart_set : (views : List (View D)) (id : ℕ) (v w : View D) → At views id v → w.numbers ≡ v.numbers → AreApart views → AreApart (set views id w)
   apart_set views id v w at same apart i j x y q ex ey cx cy = let a = was i x ex in let b = was j y ey in
       apart i j a.0 b.0 q a.1.0 b.1.0 (ap (has q) a.1.1 ∙ cx) (ap (has q) b.1.1 ∙ cy)

@@ -5,7 +5,7 @@ use Rattle.stripe_rule.specs.declared.view.Part.{Part}
 use Rattle.stripe_rule.specs.declared.view.View.{View}
 use Rattle.stripe_rule.specs.History.{has, made_by, AreUnder, AreOthers, AreBelow, StartsWith, IsLegal}
 
--- the least of the numbers, where there is one
+-- the least of the numbers, if there is one
 abbrev pub least_of : ℕ → List ℕ → ℕ
 least_of m [] = m
 least_of m (n ∷ ns) = least_of (min m n) ns
@@ -27,11 +27,11 @@ module _ {D : Type 0} where
   abbrev pub seen_of : View D → ℕ → List (Event D)
   seen_of v k = (part_of v k).seen
 
-  -- the events that it made there; under the number q they are `made_by q (mine_of v k)`
+  -- the events that it made there; those with the number q are `made_by q (mine_of v k)`
   abbrev pub mine_of : View D → ℕ → List (Event D)
   mine_of v k = (part_of v k).mine
 
-  -- the events there that it was told of
+  -- the events there that it was told
   abbrev pub told_of : View D → ℕ → List (Event D)
   told_of v k = (part_of v k).told
 
@@ -46,18 +46,18 @@ module _ {D : Type 0} where
   abbrev pub Carries : View D → ℕ → Type 0
   Carries v q = has q v.numbers ≡ true
 
-  -- an event of it, under its least number
+  -- its event of this action, with its least number
   abbrev pub own_event : View D → D → Event D
   own_event v action = record { by = least v.numbers; action = action }
 
-  -- it has of the stripe k, behind all that it had seen, others' events and then these, which are its own
+  -- for the stripe k, after all that it had seen, it has others' events and then these of its own
   pub record Gains (v w : View D) (k : ℕ) (more : List (Event D)) : Type 0 where
     pub between : List (Event D)
     pub others : AreOthers v.numbers between
     pub seen : seen_of w k ≡ (seen_of v k ++ between) ++ more
     pub mine : mine_of w k ≡ mine_of v k ++ more
 
-  -- of the stripe k it knows what it knew
+  -- it knows of the stripe k what it knew before
   pub record Keeps (v w : View D) (k : ℕ) : Type 0 where
     pub seen : seen_of w k ≡ seen_of v k
     pub mine : mine_of w k ≡ mine_of v k
@@ -68,25 +68,25 @@ module _ {D : Type 0} where
     pub here : Gains v w k more
     pub elsewhere : (j : ℕ) → j ≢ k → Keeps v w j
 
-  -- it was told of all that the other has seen: there may be others' events behind what it had seen, and it begins with
-  -- what the other has seen
+  -- it was told all that the other has seen: it may have others' events after what it had seen, and it begins with what
+  -- the other has seen
   pub record Hears (stripes : ℕ) (from v w : View D) : Type 0 where
     pub numbers : w.numbers ≡ v.numbers
     pub gains : (k : ℕ) → k < stripes → Gains v w k []
     pub begins : (k : ℕ) → k < stripes → StartsWith (seen_of w k) (seen_of from k)
 
-  -- it carries what both carried, with the events that both had made, and begins with all that each has seen
+  -- it carries what both carried, has made what both had made, and begins with all that each has seen
   pub record IsJoined (stripes : ℕ) (v other w : View D) : Type 0 where
     pub numbers : w.numbers ≡ v.numbers ++ other.numbers
     pub mine : (k : ℕ) → k < stripes → mine_of w k ≡ mine_of v k ++ mine_of other k
     pub begins : (k : ℕ) → k < stripes → StartsWith (seen_of w k) (seen_of v k)
     pub begins_other : (k : ℕ) → k < stripes → StartsWith (seen_of w k) (seen_of other k)
 
--- `does k table action new`: the action, done on the table of the stripe k, leaves the new one, and its answer is the one that
--- it records
+-- `does k table action new`: doing the action on the table of the stripe k leaves the new one, and its answer is the recorded
+-- one
 module _ {D T : Type 0} (does : ℕ → T → D → T → Type 0) (empty : T) where
-  -- what always holds of a pass: what it has seen of each stripe is a legal list of events under numbers of passes
-  -- opened, of which those under its numbers are, in order, the ones that it made
+  -- what always holds of a pass: of each stripe it has seen a legal list of events with numbers of opened passes; those
+  -- with its own numbers are, in order, the ones that it made
   pub record IsSound (v : View D) : Type 0 where
     pub legal : (k : ℕ) → IsLegal (does k) empty (seen_of v k)
     pub below : (k : ℕ) → AreBelow v.passes (seen_of v k)

@@ -1,4 +1,5 @@
--- The rule of the table: its words, the values at home and what all passes know. A stripe's word is 1 while it is held.
+-- The rule of the table: its words, the values at home and the knowledge of all passes. A stripe's word is 1 while it
+-- is held.
 use Rattle.std.specs.Prelude.{◌≡◌, ℕ, zero, suc, ◌+◌, ◌<◌, ◌⊎◌, true, false, List, [], ◌∷◌, ◌++◌, length, replicate, slice_index, Option, Some}
 use mathlib.Core.Option as maybe
 use lib.ListN.{get_elem?}
@@ -9,7 +10,7 @@ use Rattle.stripe_rule.specs.History.{made_by, AreUnder, AreOthers, AreBelow, St
 use Rattle.stripe_rule.specs.Words.{words_of, word_at}
 use Rattle.stripe_rule.specs.Gains.{blank, seen_of, mine_of, told_of, held_at, Carries}
 
--- so many numbers from n on
+-- this many numbers, from n on
 abbrev pub from_on : ℕ → ℕ → List ℕ
 from_on n zero = []
 from_on n (suc count) = n ∷ from_on (n + 1) count
@@ -19,7 +20,7 @@ abbrev pub Home : Type 0 → Type 0
 Home B = maybe.Option (Option B)
 
 module _ {D : Type 0} where
-  -- one who carries these numbers and has seen nothing
+  -- a view that carries these numbers and has seen nothing
   abbrev pub newcomer : ℕ → ℕ → List ℕ → View D
   newcomer stripes passes numbers = record { numbers = numbers; passes = passes; parts = replicate stripes blank }
 
@@ -36,14 +37,14 @@ module _ {D : Type 0} where
   AreApart views = (i j : ℕ) (v w : View D) (q : ℕ)
       → At views i v → At views j w → Carries v q → Carries w q → i ≡ j
 
-  -- one that carries a number knows how many stripes and passes there are, and its numbers are those of passes
+  -- a view that carries a number knows how many stripes and passes there are, and its numbers are those of passes
   pub record IsCounted (stripes passes : ℕ) (v : View D) : Type 0 where
     pub wide : (q : ℕ) → Carries v q → length v.parts ≡ stripes
     pub count : (q : ℕ) → Carries v q → v.passes ≡ passes
     pub small : (q : ℕ) → Carries v q → q < passes
 
-  -- what a view knows of the stripe k, beside the one list of all events there: it has seen a beginning of the list, with
-  -- all events under its numbers in it, which are those that it made
+  -- a view's knowledge of the stripe k, compared with the one list of all events there: it has seen a beginning of the
+  -- list, which has all events with its numbers, and these are the ones that it made
   pub record FitsLog (k : ℕ) (log : List (Event D)) (v : View D) : Type 0 where
     pub rest : List (Event D)
     pub begins : log ≡ seen_of v k ++ rest
@@ -52,10 +53,10 @@ module _ {D : Type 0} where
     pub under : AreUnder v.numbers (mine_of v k)
     pub heard : StartsWith log (told_of v k)
 
--- `does k table action new`: the action, done on the table of the stripe k, leaves the new one, and its answer is the one that
--- it records. `content bins`: the table that the bins keep
+-- `does k table action new`: doing the action on the table of the stripe k leaves the new one, and its answer is the recorded
+-- one. `content bins`: the table that the bins hold
 module _ {D T B : Type 0} (does : ℕ → T → D → T → Type 0) (empty : T) (content : B → T) where
-  -- the stripe is free: the word is 0, the bins are at home with what the list leaves, and no view holds it
+  -- the stripe is free: the word is 0, the bins are at home with the table that the list leaves, and no view holds it
   pub record IsFree (k : ℕ) (log : List (Event D)) (word : ℕ) (home : Home B) (views : List (View D)) : Type 0 where
     pub word_is : word ≡ 0
     pub bins : B
@@ -63,7 +64,7 @@ module _ {D T B : Type 0} (does : ℕ → T → D → T → Type 0) (empty : T) 
     pub content_is : Replays (does k) empty log (content bins)
     pub nobody : (id : ℕ) (v : View D) → At views id v → held_at v k ≡ false
 
-  -- the stripe is held: the word is 1, the bins are out, and one view holds it, which has seen the whole list
+  -- the stripe is held: the word is 1, the bins are out, and the one view that holds it has seen the whole list
   pub record IsHeld (k : ℕ) (log : List (Event D)) (word : ℕ) (home : Home B) (views : List (View D)) : Type 0 where
     pub word_is : word ≡ 1
     pub home_is : home ≡ maybe.none

@@ -1,8 +1,8 @@
--- Where the words of the stripes are: sixteen a stripe, of which the first is used, so that no two
--- lines of 64 bytes side by side, which processors fetch together, have two that are used.
+-- Where the words of the stripes are. Each stripe has sixteen words and uses the first, because processors fetch two
+-- neighbouring lines of 64 bytes together: no such pair has two used words.
 use Rattle.std.specs.Prelude.{ℕ, ◌*◌}
 
--- how many words so many stripes have
+-- the number of words for this many stripes
 abbrev pub words_of : ℕ → ℕ
 words_of stripes = stripes * 16
 

@@ -1,8 +1,8 @@
-//! What a pass carries and knows.
+//! A pass's numbers and knowledge.
 
 use std::collections::LinkedList;
 
-/// Something that was done to a stripe, under the number of a pass. `D` says what was done, and what was answered.
+/// An action on a stripe, made with the number of a pass. `D` has the action and its answer.
 pub struct Event<D> {
     pub by: u64,
     pub action: D,
@@ -10,19 +10,19 @@ pub struct Event<D> {
 
 /// What a pass knows of one stripe.
 pub struct Part<D> {
-    /// All events that it knows of, the oldest first.
+    /// All events that it knows, the oldest first.
     pub seen: LinkedList<Event<D>>,
-    /// Those of them that were made under its numbers.
+    /// Those of them that it made, with one of its numbers.
     pub mine: LinkedList<Event<D>>,
-    /// The events that another pass has told it of: it has seen them after its next look.
+    /// The events that another pass has told it: it has seen them after its next look.
     pub told: LinkedList<Event<D>>,
     /// Whether it holds the stripe.
     pub held: bool,
 }
 
-/// What a pass carries and knows.
+/// A pass's numbers and knowledge.
 pub struct View<D> {
-    /// The numbers under which it makes events.
+    /// The numbers with which it makes events.
     pub numbers: LinkedList<u64>,
     /// How many passes were opened.
     pub passes: u64,

@@ -49,7 +49,7 @@ pub extended_below : (e : SignExtension) (width : Width) (x : ℕ) → extension
 unfolding extended
 extended_below e width x is = rw (← is) (wrapped_below (modulus (extension_width e)) (low_signed e x) (modulus_some (extension_width e)))
 
--- the low bits read as a number of so many bits
+-- the low bits read as a number of this many bits
 pub read_fits : (w : IntWidth) (x : ℕ) → mag (cast_signed w (x % 2 ^ bits w)) < 2 ^ hbits w
 read_fits w x = let fits : FitsSigned w (cast_signed w (x % 2 ^ bits w)) = sfits_to_z (record { fits = mod_below x (2 ^ bits w) (pow_pos (bits w)) }) in fits.sfits
 
@@ -71,7 +71,7 @@ between : (z lo hi : ℤ) (h : ℕ) → mag z < h → lo +ℤ pos h ≡ pos 0 �
 between (pos n) lo hi h p e f = (omega (arith, ints), omega (arith, ints))
 between (negsuc n) lo hi h p e f = (omega (arith, ints), omega (arith, ints))
 
--- the word of a number from -h to h - 1 reads so
+-- the word of a number from -h to h - 1 reads as that number
 pub word_within : (z lo hi : ℤ) (h : ℕ) → mag z < h → h ≤ 2 ^ 31 → lo +ℤ pos h ≡ pos 0 → hi +ℤ pos 1 ≡ pos h → IsWithinSigned (wrapped (2 ^ 64) z) lo hi
 word_within z lo hi h p q e f =
     let fits : FitsSigned w64 z = record { sfits = omega (arith, p, q) } in

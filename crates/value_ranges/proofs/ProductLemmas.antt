@@ -29,7 +29,7 @@ quotient_within x y a b c d n p q r =
     let high : x / y ≤ b / c = quotient_most x y b c p.umax q r.umin in
     record { word = grind (arith, nat_tests); umin = grind (arith, nat_tests); umax = grind (arith, nat_tests) }
 
--- also where the divisor may be zero
+-- also if the divisor may be zero
 pub quotient_up_to : (x y b : ℕ) → IsWord b → x ≤ b → IsWithinUnsigned (quotient_of x y) 0 b
 quotient_up_to x y b h p =
     let most : x / y ≤ x = div-le_self x y in

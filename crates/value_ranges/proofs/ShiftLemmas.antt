@@ -14,7 +14,7 @@ use Rattle.value_ranges.specs.In.{IsWithinUnsigned, IsWithinSigned}
 use Rattle.bpf_model.proofs.SignedLemmas.{wrapped_below, wrapped_signed}
 use Rattle.value_ranges.proofs.ProductLemmas.{quotient_most}
 
--- to the left, by one factor, where nothing is shifted out
+-- to the left, by one factor, if nothing is shifted out
 pub shl_within : (x f a b m : ℕ) → m ≤ 2 ^ 64 → IsWithinUnsigned x a b → b * f < m → IsWithinUnsigned ((x * f) % m) (a * f) (b * f)
 shl_within x f a b m n p r =
     let most : x * f ≤ b * f = mul-le x f b f p.umax (omega arith) in
@@ -104,7 +104,7 @@ shifted_is z m f =
     let g : SFits w64 (shr_z z m) = record { sfits = omega (arith, mag_shr z m, f.sfits) } in
     rw (to_z-of_z w64 z f, to_z-of_z w64 (shr_z z m) g) refl
 
--- at 32 bits, of a number whose top bit is clear
+-- at 32 bits, for a number with a clear top bit
 pub right_word : (x y : ℕ) → x < 2 ^ 31 → signed_right W32 x y ≡ x / 2 ^ (y % 32)
 unfolding signed_right
 right_word x y h =

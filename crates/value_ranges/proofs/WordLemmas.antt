@@ -12,7 +12,7 @@ unsigned_part x a b c d p = record { word = p.word; umin = p.umin; umax = p.umax
 pub signed_part : (x a b : ℕ) (c d : ℤ) → IsWithinBoth x a b c d → IsWithinSigned x c d
 signed_part x a b c d p = record { word = p.word; smin = p.smin; smax = p.smax }
 
--- the other signed bound is read as it was
+-- the other signed bound stays
 pub with_minimum : (x a b : ℕ) (c d low : ℤ) → SFits w64 d → IsWithinBoth x a b c d → low ≤ℤ signed x → IsWithinBoth x a b low (to_z w64 (of_z w64 d))
 with_minimum x a b c d low fits p h = record { word = p.word; umin = p.umin; umax = p.umax; smin = h; smax = rw (to_z-of_z w64 d fits) p.smax }
 

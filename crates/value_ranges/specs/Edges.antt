@@ -2,7 +2,7 @@
 use Rattle.std.specs.Prelude.{ℕ, ◌≤◌, ℤ, ◌≤ℤ◌, Option, Some, None}
 use Rattle.bpf_model.specs.Words.{signed}
 
--- a number from the edge on; none where there is no edge
+-- a number from the edge on; none if there is no edge
 abbrev pub IsFrom : ℕ → Option ℕ → Type 0
 IsFrom x None = ⊥
 IsFrom x (Some low) = low ≤ x

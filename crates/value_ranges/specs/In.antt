@@ -1,16 +1,16 @@
--- Which words lie in a range, and in two; from `IsBetween` on internal. This verifier's own.
+-- Which words lie in a range, and which pairs in two; from `IsBetween` on internal. This verifier's own.
 use Rattle.std.specs.Prelude.{◌≡◌, ℕ, ◌≤◌, ℤ, pos, ◌≤ℤ◌, Option, Some, None, Bool, IsTrue}
 use Rattle.bpf_model.specs.Words.{IsWord, signed}
 use Rattle.value_ranges.specs.declared.range.Range.{Range}
 use Rattle.value_ranges.specs.declared.bounds.Bounds.{Bounds}
 
--- a word whose unsigned reading lies within these
+-- a word whose unsigned reading lies within these bounds
 pub record IsWithinUnsigned (w low high : ℕ) : Type 0 where
   pub word : IsWord w
   pub umin : low ≤ w
   pub umax : w ≤ high
 
--- a word whose signed reading lies within these
+-- a word whose signed reading lies within these bounds
 pub record IsWithinSigned (w : ℕ) (low high : ℤ) : Type 0 where
   pub word : IsWord w
   pub smin : low ≤ℤ signed w
@@ -27,7 +27,7 @@ pub record IsWithinBoth (w low high : ℕ) (signed_low signed_high : ℤ) : Type
 abbrev pub IsIn : ℕ → Range → Type 0
 IsIn w r = IsWithinBoth w r.umin r.umax r.smin r.smax
 
--- where there is no range no word is in it
+-- if there is no range, no word is in it
 abbrev pub IsInSome : ℕ → Option Range → Type 0
 IsInSome w None = ⊥
 IsInSome w (Some r) = IsIn w r
@@ -36,7 +36,7 @@ abbrev pub AreInSome : ℕ → ℕ → Option (Range × Range) → Type 0
 AreInSome x y None = ⊥
 AreInSome x y (Some p) = IsIn x p.0 × IsIn y p.1
 
--- no pair of words of the two ranges is lost of which the test is true
+-- no pair of words of the two ranges is lost for which the test is true
 abbrev pub KeepsPairs : (ℕ → ℕ → Bool) → Range → Range → Option (Range × Range) → Type 0
 KeepsPairs test a b answer = (x y : ℕ) → IsIn x a → IsIn y b → IsTrue (test x y) → AreInSome x y answer
 

@@ -1,10 +1,10 @@
-//! Ranges of what the operations on single bits give.
+//! Ranges of AND, OR and XOR.
 ghost use Rattle.std.specs.Prelude.{ℕ, ◌≡◌, ◌+◌, ◌<◌, ◌≤◌, ◌^◌, bit_and, bit_or, bit_xor};
 ghost use Rattle.value_ranges.specs.In.{IsIn, IsSignedUpToMask};
 
 use crate::range::Range;
 
-/// The range of the common bits.
+/// Returns the range of `a & b`.
 pub fn and(a: Range, b: Range) -> Range
     ensures holds { (x y : ℕ) → IsIn x a → IsIn y b → IsIn (bit_and x y) result }
     ensures mask { b.umax < 2 ^ 63 → IsSignedUpToMask result b.umax }
@@ -12,21 +12,21 @@ pub fn and(a: Range, b: Range) -> Range
     Range::unsigned(0, a.umax.min(b.umax))
 }
 
-/// The range of the bits of either.
+/// Returns the range of `a | b`.
 pub fn or(a: Range, b: Range) -> Range
     ensures { (x y : ℕ) → IsIn x a → IsIn y b → IsIn (bit_or x y) result }
 {
     Range::unsigned(a.umin.max(b.umin), ones_over(a.umax.max(b.umax)))
 }
 
-/// The range of the bits of one alone.
+/// Returns the range of `a ^ b`.
 pub fn xor(a: Range, b: Range) -> Range
     ensures { (x y : ℕ) → IsIn x a → IsIn y b → IsIn (bit_xor x y) result }
 {
     Range::unsigned(0, ones_over(a.umax.max(b.umax)))
 }
 
-/// the least number of ones alone that is at least this
+/// the least number of the form 2^k - 1 that is at least n
 fn ones_over(n: u64) -> u64
     ensures ones { (k : ℕ) × (result + 1 ≡ 2 ^ k) }
     ensures above { n ≤ result }

@@ -1,4 +1,4 @@
-//! What bounds of one reading say of the other.
+//! Bounds of one reading tighten those of the other.
 ghost use Rattle.std.specs.Prelude.{ℕ};
 ghost use Rattle.value_ranges.specs.In.{IsIn, IsWithin, IsInSome};
 
@@ -26,15 +26,15 @@ impl Bounds {
         }
     }
 
-    /// The range of these bounds, each reading's tightened once by the other's; none where a minimum then passes its
-    /// maximum.
+    /// Returns the range with these bounds, each reading tightened once by the other, or `None` if a minimum then
+    /// passes its maximum.
     pub fn tighten(self) -> Option<Range>
         ensures { (w : ℕ) → IsWithin w self → IsInSome w result }
     {
         self.with_signed().with_unsigned().ordered()
     }
 
-    /// the unsigned bounds by the signed ones, where these are of one sign
+    /// tightens the unsigned bounds by the signed ones, if these have one sign
     fn with_signed(self) -> Bounds
         ensures { (w : ℕ) → IsWithin w self → IsWithin w result }
     {
@@ -56,7 +56,7 @@ impl Bounds {
         }
     }
 
-    /// the signed bounds by the unsigned ones, where these are in one half
+    /// tightens the signed bounds by the unsigned ones, if these are in one half
     fn with_unsigned(self) -> Bounds
         ensures { (w : ℕ) → IsWithin w self → IsWithin w result }
     {

@@ -1,4 +1,4 @@
-//! What comparisons of words say of their ranges.
+//! Refines ranges by comparisons of their words.
 ghost use Rattle.std.specs.Prelude.{ℕ, ◌≡◌, ◌<◌, ◌≤◌, ◌≤ℤ◌, ◌<ℤ◌};
 ghost use Rattle.bpf_model.specs.Words.{signed};
 ghost use Rattle.value_ranges.specs.In.{IsIn, IsWithin, IsInSome, AreInSome};
@@ -6,7 +6,7 @@ ghost use Rattle.value_ranges.specs.In.{IsIn, IsWithin, IsInSome, AreInSome};
 use crate::bounds::Bounds;
 use crate::range::Range;
 
-/// Both ranges; none where one of them is none.
+/// Returns both ranges, or `None` if one of them is missing.
 pub fn pair(a: Option<Range>, b: Option<Range>) -> Option<(Range, Range)>
     ensures { (x y : ℕ) → IsInSome x a → IsInSome y b → AreInSome x y result }
 {
@@ -16,14 +16,14 @@ pub fn pair(a: Option<Range>, b: Option<Range>) -> Option<(Range, Range)>
     }
 }
 
-/// The ranges of these bounds; none where one is empty.
+/// Returns the ranges of these bounds, or `None` if one is empty.
 pub fn both(a: Bounds, b: Bounds) -> Option<(Range, Range)>
     ensures { (x y : ℕ) → IsWithin x a → IsWithin y b → AreInSome x y result }
 {
     pair(a.tighten(), b.tighten())
 }
 
-/// The pair the other way round.
+/// Swaps the pair.
 pub fn swapped(pair: Option<(Range, Range)>) -> Option<(Range, Range)>
     ensures { (x y : ℕ) → AreInSome x y pair → AreInSome y x result }
 {
@@ -33,7 +33,7 @@ pub fn swapped(pair: Option<(Range, Range)>) -> Option<(Range, Range)>
     }
 }
 
-/// Where both words are the same.
+/// Refines if both words are equal.
 pub fn equal(a: Range, b: Range) -> Option<(Range, Range)>
     ensures { (x y : ℕ) → IsIn x a → IsIn y b → x ≡ y → AreInSome x y result }
 {
@@ -46,7 +46,7 @@ pub fn equal(a: Range, b: Range) -> Option<(Range, Range)>
     both(common, common)
 }
 
-/// Where the first word is greater.
+/// Refines if the first word is greater.
 pub fn greater(a: Range, b: Range) -> Option<(Range, Range)>
     ensures { (x y : ℕ) → IsIn x a → IsIn y b → y < x → AreInSome x y result }
 {
@@ -64,7 +64,7 @@ pub fn greater(a: Range, b: Range) -> Option<(Range, Range)>
     both(first, second)
 }
 
-/// Where the first word is at least the second.
+/// Refines if the first word is at least the second.
 pub fn at_least(a: Range, b: Range) -> Option<(Range, Range)>
     ensures { (x y : ℕ) → IsIn x a → IsIn y b → y ≤ x → AreInSome x y result }
 {
@@ -79,7 +79,7 @@ pub fn at_least(a: Range, b: Range) -> Option<(Range, Range)>
     both(first, second)
 }
 
-/// Where the signed reading of the first word is greater.
+/// Refines if the signed reading of the first word is greater.
 pub fn signed_greater(a: Range, b: Range) -> Option<(Range, Range)>
     ensures { (x y : ℕ) → IsIn x a → IsIn y b → signed y <ℤ signed x → AreInSome x y result }
 {
@@ -97,7 +97,7 @@ pub fn signed_greater(a: Range, b: Range) -> Option<(Range, Range)>
     both(first, second)
 }
 
-/// Where the signed reading of the first word is at least the second's.
+/// Refines if the signed reading of the first word is at least the second's.
 pub fn signed_at_least(a: Range, b: Range) -> Option<(Range, Range)>
     ensures { (x y : ℕ) → IsIn x a → IsIn y b → signed y ≤ℤ signed x → AreInSome x y result }
 {

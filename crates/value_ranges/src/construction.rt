@@ -1,4 +1,4 @@
-//! Ranges of given bounds, and the word of a range that has one alone.
+//! Ranges of given bounds, and the word of a range that has only one.
 ghost use Rattle.std.specs.Prelude.{◌≡◌, ℕ, ◌%◌, ◌<◌, ◌≤◌, ◌≤ℤ◌, ◌^◌, Some, None, nat_eq, if◌then◌else◌, IfSome};
 ghost use Rattle.bpf_model.specs.Words.{IsWord};
 ghost use Rattle.bpf_model.specs.Arithmetic.{modulus};
@@ -8,8 +8,8 @@ use crate::range::Range;
 use bpf_model::Width;
 
 impl Range {
-    /// The words of which the unsigned reading lies from `umin` to `umax`. Where both are in one half of the words,
-    /// the signed bounds are their signed readings.
+    /// Returns the words whose unsigned reading lies from `umin` to `umax`. If both are in one half of the words, the
+    /// signed bounds are their signed readings.
     pub fn unsigned(umin: u64, umax: u64) -> Range
         requires { umin ≤ umax }
         ensures holds { (w : ℕ) → IsWithinUnsigned w umin umax → IsIn w result }
@@ -33,7 +33,7 @@ impl Range {
         }
     }
 
-    /// The words of which the signed reading lies from `smin` to `smax`. Where both have one sign, the unsigned bounds
+    /// Returns the words whose signed reading lies from `smin` to `smax`. If both have one sign, the unsigned bounds
     /// are the words that they stand for.
     pub fn signed(smin: i64, smax: i64) -> Range
         requires { smin ≤ℤ smax }
@@ -78,7 +78,7 @@ impl Range {
         }
     }
 
-    /// The word, where the unsigned bounds leave one alone.
+    /// Returns the word, if the unsigned bounds leave only one.
     pub fn single_value(self) -> Option<u64>
         ensures value { result ≡ (if nat_eq self.umin self.umax then Some self.umin else None) }
         ensures only { IfSome result (λ v. (w : ℕ) → IsIn w self → w ≡ v) }
@@ -97,7 +97,7 @@ impl Range {
         Range::unsigned(0, width.greatest())
     }
 
-    /// The low parts, at a width of 32 bits; at 64 the range itself.
+    /// Returns the range of the low parts at 32 bits; at 64 the range itself.
     pub(crate) fn low(self, width: Width) -> Range
         ensures holds { (x : ℕ) → IsIn x self → IsIn (x % modulus width) result }
         ensures bounded { result.umax < modulus width }

@@ -1,4 +1,4 @@
-//! What it says of a range that its word is not another one.
+//! Refines a range if its word is not another one.
 ghost use Rattle.std.specs.Prelude.{ℕ, ◌≢◌, ◌≤◌, ◌≤ℤ◌};
 ghost use Rattle.bpf_model.specs.Words.{IsWord, signed};
 ghost use Rattle.value_ranges.specs.In.{IsIn, IsInSome, AreInSome};
@@ -8,7 +8,7 @@ use crate::bounds::Bounds;
 use crate::comparisons::pair;
 use crate::range::Range;
 
-/// Where the words differ: a single second one is taken away from the edges of the first range.
+/// Refines if the words differ: if the second range has one word, it is taken off the edges of the first.
 pub fn unequal(a: Range, b: Range) -> Option<(Range, Range)>
     ensures { (x y : ℕ) → IsIn x a → IsIn y b → x ≢ y → AreInSome x y result }
 {
@@ -44,7 +44,7 @@ fn without(a: Range, word: u64) -> Option<Range>
     bounds.tighten()
 }
 
-/// a minimum without this word, if there is a greater one
+/// a minimum without this word, if a greater one exists
 fn raised(bound: u64, word: u64) -> Option<u64>
     ensures { (x : ℕ) → IsWord x → bound ≤ x → x ≢ word → IsFrom x result }
 {

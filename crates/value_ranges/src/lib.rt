@@ -1,13 +1,13 @@
-//! Ranges of 64-bit words, and what operations, conditions and joins make of them.
+//! Ranges of 64-bit words, and the ranges after operations, conditions and joins.
 //!
-//! The promise to the layers above: what an operation gives on words of its operands' ranges lies in the answered
-//! range (`alu`, `negate`, `mov`, `sign_extend`, `reorder`, clause `holds`); `refine` loses no pair of words of which
-//! the condition holds; `join` loses no word. Ranges need not be the least ones: 1 added to the two greatest words
-//! gives any unsigned reading. Exact bounds are promised for joins (`join`, clauses `unsigned` and `signed`), for single
-//! words (each operation and `Range::single`, clause `single`) and for the reading that `Range::unsigned` or
-//! `Range::signed` is given; of an AND with a mask it is promised that the signed reading lies from 0 to the mask (`alu`,
-//! clause `mask`). All other bounds are shown by the tables of program_tests, and promised by no contract.
-//! No call refuses, waits or takes memory. What it is to lie in a range: `specs/In.antt`; the arithmetic is bpf_model's.
+//! The promise to the layers above: the result of an operation on words in its operands' ranges lies in the answered
+//! range (`alu`, `negate`, `mov`, `sign_extend`, `reorder`, clause `holds`). `refine` loses no pair of words for which
+//! the condition holds. `join` loses no word. Ranges need not be the least ones: 1 added to the two greatest words gives
+//! any unsigned reading. Exact bounds are promised for joins (`join`, clauses `unsigned` and `signed`), for single words
+//! (each operation and `Range::single`, clause `single`) and for the reading that you give `Range::unsigned` or
+//! `Range::signed`. For an AND with a mask the signed reading lies from 0 to the mask (`alu`, clause `mask`). The tables
+//! of program_tests show all other bounds; no contract promises them. No call refuses, waits or takes memory.
+//! `specs/In.antt` says when a word lies in a range; the arithmetic is bpf_model's.
 #![tactic(auto)]
 
 mod bits;

@@ -6,7 +6,7 @@ ghost use Rattle.value_ranges.specs.In.{IsIn, IsSingle};
 use crate::range::Range;
 use bpf_model::{ByteOrder, SignExtension, SwapWidth, Width};
 
-/// The range of moved words: of the low parts, at 32 bits.
+/// Returns the range of moved words: the low parts, at 32 bits.
 pub fn mov(width: Width, a: Range) -> Range
     ensures holds { (x : ℕ) → IsIn x a → IsIn (mov_value width x) result }
     ensures single { (x : ℕ) → IsSingle a x → IsSingle result (mov_value width x) }
@@ -17,7 +17,7 @@ pub fn mov(width: Width, a: Range) -> Range
     }
 }
 
-/// The range of words with the sign of their low bits extended.
+/// Returns the range of words with the sign of their low bits extended.
 pub fn sign_extend(extension: SignExtension, a: Range) -> Range
     ensures holds { (x : ℕ) → IsIn x a → IsIn (extended extension x) result }
     ensures single { (x : ℕ) → IsSingle a x → IsSingle result (extended extension x) }
@@ -42,7 +42,7 @@ fn extend_low(extension: SignExtension, a: Range) -> Range
     }
 }
 
-/// the highest of the bits that are read
+/// the highest bit that is read
 fn sign_bit(extension: SignExtension) -> u32
     ensures value { result ≡ 2 ^ (extension_bits extension - 1) }
     ensures least { 1 ≤ result }
@@ -51,7 +51,7 @@ fn sign_bit(extension: SignExtension) -> u32
     1 << (extension.bits() - 1)
 }
 
-/// The range of words whose low bits are put into the given order, the others becoming zero.
+/// Returns the range of words whose low bits are put into the given byte order, with zeros elsewhere.
 pub fn reorder(order: ByteOrder, size: SwapWidth, a: Range) -> Range
     ensures holds { (x : ℕ) → IsIn x a → IsIn (reordered order size x) result }
     ensures single { (x : ℕ) → IsSingle a x → IsSingle result (reordered order size x) }

@@ -3,7 +3,7 @@ ghost use Rattle.std.specs.Prelude.{◌≤◌, ◌≤ℤ◌};
 
 /// The words whose unsigned reading lies from `umin` to `umax` and whose signed reading lies from `smin` to `smax`.
 ///
-/// Each minimum is at most its maximum; still there may be no such word, as with `umax` 3 and `smax` -1.
+/// Each minimum is at most its maximum. Even so there may be no such word, as with `umax` 3 and `smax` -1.
 #[derive(Clone, Copy, Debug, PartialEq, Eq)]
 pub struct Range {
     pub umin: u64,

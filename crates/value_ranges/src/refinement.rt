@@ -1,4 +1,4 @@
-//! What a condition says of the ranges of its words.
+//! Refines ranges by a condition on their words.
 ghost use Rattle.bpf_model.specs.Words.{signed};
 ghost use Rattle.bpf_model.specs.Conditions.{compare, holds};
 ghost use Rattle.value_ranges.specs.In.{KeepsPairs};
@@ -11,10 +11,10 @@ use crate::exclusion::unequal;
 use crate::range::Range;
 use bpf_model::{Condition, Width};
 
-/// The ranges in which the words of these lie where the condition holds of them; none where it holds of no pair.
+/// Returns the ranges of the words for which the condition holds, or `None` if it holds for no pair.
 ///
-/// At 32 bits the bounds count where all words of both ranges are below 2 to the 31, where low parts and words have
-/// the same readings. Elsewhere the ranges stay, and none is answered only where both have one word.
+/// At 32 bits the bounds count if all words of both ranges are below 2 to the 31: there low parts and words have the
+/// same readings. Otherwise the ranges stay, and the answer is `None` only if both have one word.
 #[inline(always)]
 pub fn refine(condition: Condition, width: Width, a: Range, b: Range) -> Option<(Range, Range)>
     ensures { KeepsPairs (holds condition width) a b result }
@@ -31,7 +31,7 @@ pub fn refine(condition: Condition, width: Width, a: Range, b: Range) -> Option<
     }
 }
 
-/// By the whole words. Inlined with its caller: else each range, of four words, is copied at each call.
+/// Compares whole words. Inlined into its caller: otherwise each call copies each range, of four words.
 #[inline(always)]
 fn refine_words(condition: Condition, a: Range, b: Range) -> Option<(Range, Range)>
     ensures { KeepsPairs (λ x y. compare condition x y (signed x) (signed y)) a b result }
@@ -51,7 +51,7 @@ fn refine_words(condition: Condition, a: Range, b: Range) -> Option<(Range, Rang
     }
 }
 
-/// the ranges themselves; none where each has one word and the condition is false
+/// the ranges themselves, or none if each has one word and the condition is false
 fn kept(condition: Condition, width: Width, a: Range, b: Range) -> Option<(Range, Range)>
     ensures { KeepsPairs (holds condition width) a b result }
 {

@@ -1,4 +1,4 @@
-//! Ranges of what the operations give.
+//! Ranges of the results of operations.
 ghost use Rattle.std.specs.Prelude.{ℕ, ◌≡◌, ◌<◌, ◌^◌};
 ghost use Rattle.bpf_model.specs.Arithmetic.{modulus, low_value, alu_value, negated};
 ghost use Rattle.value_ranges.specs.In.{IsIn, IsSingle, IsSignedUpToMask};
@@ -10,10 +10,10 @@ use crate::shifts::{shift_left, shift_right, shift_right_signed};
 use crate::sums::{add, subtract};
 use bpf_model::{AluOp, Width};
 
-/// The range of what the operation gives on words of these ranges: of one word where both are.
+/// Returns the range of the operation's results on words of these ranges. If both have one word, so has the result.
 ///
-/// Bounds are those of the unsigned operands where the greatest result does not wrap round; the signed ones count at
-/// 64 bits alone, for sums, differences and signed shifts. Signed quotients and remainders may be any number.
+/// The bounds come from the unsigned operands if the greatest result does not wrap round. The signed ones count only at
+/// 64 bits, for sums, differences and signed shifts. Signed quotients and remainders may be any number.
 pub fn alu(op: AluOp, width: Width, a: Range, b: Range) -> Range
     ensures holds { (x y : ℕ) → IsIn x a → IsIn y b → IsIn (alu_value op width x y) result }
     ensures single { (x y : ℕ) → IsSingle a x → IsSingle b y → IsSingle result (alu_value op width x y) }
@@ -25,7 +25,7 @@ pub fn alu(op: AluOp, width: Width, a: Range, b: Range) -> Range
     }
 }
 
-/// on numbers of the width, not all of one word
+/// on numbers of the width, if not both have one word
 fn alu_low(op: AluOp, width: Width, a: Range, b: Range) -> Range
     requires first { a.umax < modulus width }
     requires second { b.umax < modulus width }
@@ -49,7 +49,7 @@ fn alu_low(op: AluOp, width: Width, a: Range, b: Range) -> Range
     }
 }
 
-/// The range of 0 less the words of this one.
+/// Returns the range of the negated words.
 pub fn negate(width: Width, a: Range) -> Range
     ensures holds { (x : ℕ) → IsIn x a → IsIn (negated width x) result }
     ensures single { (x : ℕ) → IsSingle a x → IsSingle result (negated width x) }

@@ -6,7 +6,7 @@ ghost use Rattle.value_ranges.specs.In.{IsIn};
 use crate::range::Range;
 use bpf_model::Width;
 
-/// The range of shifts to the left.
+/// Returns the range of left shifts.
 pub fn shift_left(width: Width, a: Range, b: Range) -> Range
     ensures { (x y : ℕ) → IsIn x a → IsIn y b → IsIn (shifted_left width x y) result }
 {
@@ -22,7 +22,7 @@ pub fn shift_left(width: Width, a: Range, b: Range) -> Range
     }
 }
 
-/// The range of shifts to the right, zeros coming in.
+/// Returns the range of right shifts that fill with zeros.
 pub fn shift_right(width: Width, a: Range, b: Range) -> Range
     ensures { (x y : ℕ) → IsIn x a → IsIn y b → IsIn (shifted_right width x y) result }
 {
@@ -35,7 +35,7 @@ pub fn shift_right(width: Width, a: Range, b: Range) -> Range
     }
 }
 
-/// The range of shifts to the right, the sign coming in.
+/// Returns the range of right shifts that fill with the sign.
 pub fn shift_right_signed(width: Width, a: Range, b: Range) -> Range
     requires { a.umax < modulus width }
     ensures { (x y : ℕ) → IsIn x a → IsIn y b → IsIn (signed_right width x y) result }

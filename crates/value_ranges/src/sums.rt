@@ -28,7 +28,7 @@ pub fn subtract(width: Width, a: Range, b: Range) -> Range
     )
 }
 
-/// the range of these bounds, or all numbers of the width where they hold no word
+/// the range of these bounds, or all numbers of the width if they hold no word
 fn of_bounds(width: Width, unsigned: (u64, u64), signed: (i64, i64)) -> Range
     ensures { (w : ℕ) → w < modulus width → IsBetween w unsigned → IsSignedBetween w signed → IsIn w result }
 {
@@ -44,7 +44,7 @@ fn of_bounds(width: Width, unsigned: (u64, u64), signed: (i64, i64)) -> Range
     }
 }
 
-/// the greatest sum decides: where it wraps round, any number of the width may come out
+/// the greatest sum decides: if it wraps round, any number of the width may come out
 fn unsigned_sums(width: Width, a: Range, b: Range) -> (u64, u64)
     ensures { (x y : ℕ) → IsIn x a → IsIn y b → IsBetween (sum_of width x y) result }
 {

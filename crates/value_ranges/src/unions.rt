@@ -5,7 +5,7 @@ ghost use Rattle.value_ranges.specs.In.{IsIn};
 
 use crate::range::Range;
 
-/// A range of the words of either: the lesser minima and the greater maxima.
+/// Returns a range of the words of either: the lesser minima and the greater maxima.
 pub fn join(a: Range, b: Range) -> Range
     ensures first { (w : ℕ) → IsIn w a → IsIn w result }
     ensures second { (w : ℕ) → IsIn w b → IsIn w result }

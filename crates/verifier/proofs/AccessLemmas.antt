@@ -1,4 +1,4 @@
--- The windows in which accesses lie.
+-- The windows of accesses.
 use Rattle.std.proofs.Common.{◌≡◌, ℕ, Some, None, sym, ap, subst, ◌∙◌, arith, ℤ}
 use Rattle.std.specs.Prelude.{true}
 use Rattle.bpf_model.specs.declared.input.Sizes.{Sizes}

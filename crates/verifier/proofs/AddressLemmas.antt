@@ -17,7 +17,7 @@ use Rattle.verifier.specs.declared.abstract_state.span.Span.{Span}
 use Rattle.verifier.specs.Describes.{IsInSpan}
 use Rattle.verifier.specs.Instructions.{IsAboveLeastOffset}
 
--- an offset to an address near a window's first one
+-- an offset from an address near a window's first one
 address_at : (first span : ℕ) (z offset : ℤ) → first ≤ 0x50000 → IsNear z → IsNear offset → pos span ≡ z +ℤ offset → address_of (address_of first z) offset ≡ first + span
 address_at first span z offset small near near' is =
     let a = near_bits z near in
@@ -40,7 +40,7 @@ not_negative : (z : ℤ) → pos 0 ≤ℤ z → (n : ℕ) × (z ≡ pos n)
 not_negative (pos n) low = (n, refl)
 not_negative (negsuc n) low = absurd (omega (arith, ints, low))
 
--- an access through a pointer is from its least offset to its greatest
+-- an access through a pointer is at one of its offsets, from the least to the greatest
 pub access_at : (p : Pointer) (span : Span) (offset : ℤ) (w : ℕ) → IsNear offset → span.window ≡ p.window → pos span.least ≡ p.least +ℤ offset → pos span.greatest ≡ p.greatest +ℤ offset → PointsTo p w → IsInSpan span (address_of w offset)
 access_at p span offset w near window least greatest at =
     let z = at.offset in
@@ -53,7 +53,7 @@ access_at p span offset w near window least greatest at =
       is = ap (λ (v : ℕ). address_of v offset) at.address ∙ (address_at (first_address p.window) n z offset (first_small p.window) (offset_near p z at.least at.greatest) near (sym there.1) ∙ ap (λ (r : Window). first_address r + n) (sym window));
     }
 
--- sums and differences of words, as pointers give them
+-- sums and differences of words, as pointers compute them
 pub sum_is : (x y : ℕ) → (x + y) % 2 ^ 64 ≡ alu_value Add W64 x y
 sum_is x y = omega arith
 

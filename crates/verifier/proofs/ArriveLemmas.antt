@@ -18,7 +18,7 @@ use Rattle.verifier.specs.Windows.{LiesIn}
 use Rattle.verifier.specs.Walks.{boxed, kept_at, IsDescribed, IncludesSome, IsKnown, Advances, Visits}
 use Rattle.verifier.proofs.WalkLemmas.{LeadsOrEnds, Walked, walked_on}
 
--- a list of defaults past the end reads as before
+-- if you add defaults at a list's end, it reads as before
 pub get_or-longer : {A : Type 0} → (xs : List A) (d : A) (i : ℕ) → get_or (xs ++ (d ∷ [])) i d ≡ get_or xs i d
 get_or-longer [] d zero = refl
 get_or-longer [] d (suc i) = refl
@@ -28,7 +28,7 @@ get_or-longer (x ∷ xs) d (suc i) = get_or-longer xs d i
 pub same_or_other : (n m : ℕ) → (n ≡ m) ⊎ (n ≢ m)
 same_or_other n m = grind arith
 
--- a state that is known when a walk comes to a unit is known once what was kept for the unit is joined
+-- a state that is known when a walk comes to a unit stays known after the state that was kept for the unit is joined
 pub arrived : (sizes : Sizes) (unit : ℕ) (here kept now : Option AbstractState) (before after : Pending) → kept ≡ kept_at before unit → ((other : ℕ) → other ≢ unit → kept_at after other ≡ kept_at before other) → IncludesSome here now → IncludesSome kept now → (s : State) → IsKnown unit here before sizes s → IsKnown unit now after sizes s
 arrived sizes unit here kept now before after is others first second s (inl at) = inl (at.0, first sizes s at.1)
 arrived sizes unit here kept now before after is others first second s (inr at) =
@@ -39,19 +39,19 @@ arrived sizes unit here kept now before after is others first second s (inr at) 
       | inr apart ↦ inr (subst (λ (o : Option AbstractState). IsDescribed o sizes s) (sym (others s.unit apart)) at)
     ]
 
--- where a run comes to a unit for which nothing more is kept, what is known there describes its state
+-- if a run comes to a unit and nothing is kept for it, the abstract state there describes the run's state
 pub known_here : (sizes : Sizes) (unit : ℕ) (here : Option AbstractState) (before : Pending) → kept_at before unit ≡ None → (s : State) → s.unit ≡ unit → IsKnown unit here before sizes s → IsDescribed here sizes s
 known_here sizes unit here before none s same (inl at) = at.1
 known_here sizes unit here before none s same (inr at) =
     let there : IsDescribed (kept_at before unit) sizes s = subst (λ (u : ℕ). IsDescribed (kept_at before u) sizes s) same at in
     absurd (subst (λ (o : Option AbstractState). IsDescribed o sizes s) none there)
 
--- what is known of units ahead stays known
+-- states at units ahead stay known
 pub stays_known : (sizes : Sizes) (unit next : ℕ) (here later : Option AbstractState) (before after : Pending) → ((other : ℕ) → IncludesSome (kept_at before other) (kept_at after other)) → (s : State) → unit < s.unit → IsKnown unit here before sizes s → IsKnown next later after sizes s
 stays_known sizes unit next here later before after keeps s ahead (inl at) = absurd (omega (arith, ahead, at.0))
 stays_known sizes unit next here later before after keeps s ahead (inr at) = inr (keeps s.unit sizes s at)
 
--- an entry that is written again with one that describes no less
+-- an entry is replaced by one that describes at least as much
 pub set_keeps : (sizes : Sizes) (s : State) (items : List (Option (Box AbstractState))) (unit other : ℕ) (kept new : Box AbstractState) → unit < length items → get_or items unit None ≡ Some kept → (Describes kept.value sizes s → Describes new.value sizes s) → IsDescribed (boxed (get_or items other None)) sizes s → IsDescribed (boxed (get_or (slice_set items unit (Some new)) other None)) sizes s
 set_keeps sizes s items unit other kept new within is more h =
     elim (same_or_other other unit) [
@@ -72,7 +72,7 @@ walk_visits program sizes unit i here later before after operation is forward at
       leads = elim (visits.leads s same (known_here sizes unit here before none s same known)) [ inl ends ↦ inl ends | inr on ↦ inr (on.next, (on.acts, on.known)) ];
     }
 
--- no run comes to an instruction of which nothing is known
+-- if an instruction has no abstract state, no run comes to it
 pub visits_none : (program : List Insn) (sizes : Sizes) (i : Insn) (unit : ℕ) (before : Pending) (operation : Operation) → Visits program sizes i unit before None before None operation
 visits_none program sizes i unit before operation = record {
   leads = λ s same d. absurd d;
@@ -80,7 +80,7 @@ visits_none program sizes i unit before operation = record {
   bound = λ s same d. absurd d;
 }
 
--- an instruction that is passed, and bound to the window of its access and the index of its target
+-- a walk goes past an instruction and binds it, to the window of its access and the index of its target
 pub visits_some : (program : List Insn) (sizes : Sizes) (i : Insn) (unit : ℕ) (before after : Pending) (a b : AbstractState) (on : Bool) (later : Option AbstractState) (window : Window) (target : ℕ) (operation : Operation) → Advances sizes i unit before a after on b → later ≡ (if on then Some b else None) → LiesIn sizes i a window → LeadsTo program i unit target → Binds operation i window target → Visits program sizes i unit before (Some a) after later operation
 visits_some program sizes i unit before after a b on later window target operation passes is lies leads binds = record {
   leads = rw is passes.leads;
@@ -94,7 +94,7 @@ visits_some program sizes i unit before after a b on later window target operati
   };
 }
 
--- the state after an instruction, where the run goes on at the next one
+-- the state after an instruction, if the run goes on at the next one
 pub state_after : (on : Bool) (o : Option AbstractState) (b : AbstractState) → ((on ≡ false) × (o ≡ None)) ⊎ ((on ≡ true) × (o ≡ Some b)) → o ≡ (if on then Some b else None)
 state_after on o b (inl h) = rw h.0 h.1
 state_after on o b (inr h) = rw h.0 h.1

@@ -1,4 +1,4 @@
--- What instructions change.
+-- How instructions change an abstract state.
 use Rattle.std.proofs.Common.{◌≡◌, ◌≢◌, ℕ, ◌+◌, ◌<◌, ◌≤◌, ◌^◌, ◌⊎◌, true, List, length, inl, inr, Some, refl, None, sym, subst, ap, ◌∙◌, arith, SFits, ℤ, pos, negsuc}
 use Rattle.std.specs.Prelude.{◌+ℤ◌, slice_index_or, slice_set}
 use Rattle.std.specs.Int.{w32, w64}
@@ -35,7 +35,7 @@ fits_more : (z : ℤ) → SFits w32 z → SFits w64 z
 fits_more (pos n) h = record { sfits = omega (arith, h.sfits) }
 fits_more (negsuc n) h = record { sfits = omega (arith, h.sfits) }
 
--- an immediate is read back as it is
+-- an immediate is read back unchanged
 pub signed_back : (z : ℤ) → SFits w32 z → signed (sign_extended z) ≡ z
 signed_back z fits = to_z-of_z w64 z (fits_more z fits)
 
@@ -54,7 +54,7 @@ mov_parts width v dst d src s e = (cc, (cc, cc))
 alu_parts : (op o : AluOp) (width v : Width) (dst d : ℕ) (src s : Operand) → Alu op width dst src ≡ Alu o v d s → (op ≡ o) × ((width ≡ v) × ((dst ≡ d) × (src ≡ s)))
 alu_parts op o width v dst d src s e = (cc, (cc, (cc, cc)))
 
--- a move, where a moved register has its value and a moved number is it
+-- a move: a moved register keeps its value, and a moved number is that number
 pub mov_changes : (width : Width) (dst : ℕ) (src : Operand) (a b : AbstractState) (x : RegValue) → SetsTo a dst x b → x ≢ Unwritten
     → ((s : ℕ) → width ≡ W64 → src ≡ Register s → x ≡ register a s) → ((k : ℤ) → width ≡ W64 → src ≡ Immediate k → IsNumberIn k k x) → Changes (Mov width dst src) a b
 mov_changes width dst src a b x sets some moved constant = record {
@@ -73,7 +73,7 @@ mov_changes width dst src a b x sets some moved constant = record {
   adds = λ d y w lo hi from to e. absurd cc;
 }
 
--- arithmetic, where a mask gives a small number and a pointer plus a number a pointer
+-- arithmetic: a mask gives a small number, and a pointer plus a number is a pointer
 pub alu_changes : (op : AluOp) (width : Width) (dst : ℕ) (src : Operand) (a b : AbstractState) (x : RegValue) → SetsTo a dst x b → x ≢ Unwritten
     → ((m : ℕ) → op ≡ And → width ≡ W64 → src ≡ Immediate (pos m) → IsNumberIn (pos 0) (pos m) x)
     → ((s : ℕ) (w : Window) (lo hi from to : ℤ) → op ≡ Add → width ≡ W64 → src ≡ Register s → AreInReach (lo +ℤ from) (hi +ℤ to)
@@ -111,7 +111,7 @@ set_changes i dst a b x sets_dst no_store no_mov no_alu sets some = record {
   adds = λ d y w lo hi from to e. absurd (no_alu Add W64 d (Register y) e);
 }
 
--- an access at one offset alone touches the bytes from it on
+-- an access at only one offset touches the bytes from it on
 touched_at : (size : AccessSize) (offset : ℤ) (a : AbstractState) (t : Touch) (span : Span) (x : RegValue) (w : Window) (j : ℕ) → x ≡ register a t.base → t.offset ≡ offset → t.count ≡ byte_count size
     → ((p : Pointer) → x ≡ PointerInto p → IsSpan p offset span) → TouchesByte a t w j → (span.window ≡ w) × ((span.least ≡ span.greatest) × ((span.least ≤ j) × (j < span.greatest + byte_count size)))
 touched_at size offset a t span x w j is at_offset of_size at touches =
@@ -152,7 +152,7 @@ store_changes size dst src offset a b x y span is some at writes = record {
   adds = λ d z w lo hi from to e. absurd cc;
 }
 
--- the bytes that a load may touch, where what is enough for it is known
+-- the bytes that a load may touch, if it has what is enough
 pub can_read : (sizes : Sizes) (a : AbstractState) (t : Touch) (span : Span) (can : CanLoad sizes a t) → IsSpan can.touch.pointer t.offset span → IsKept span.window → AreMarked a span t.count
 can_read sizes a t span can at kept = λ j least greatest.
     subst (λ (r : Window). is_written a.frame r j ≡ true) (sym at.window_is)
@@ -166,7 +166,7 @@ narrowed_same (PointerInto p) = refl
 pub narrows_same : (a : AbstractState) → OnlyNarrows a a
 narrows_same a = record { registers = λ r. narrowed_same (register a r); frame = refl }
 
--- one register that is narrowed
+-- one register is narrowed
 pub narrows_at : (a : AbstractState) (n : ℕ) (v : RegValue) → n < length a.registers → IsNarrowed (register a n) v → OnlyNarrows a (record { registers = slice_set a.registers n v; frame = a.frame })
 narrows_at a n v lt narrowed = record {
   registers = λ r. elim (decide r n) [
@@ -190,7 +190,7 @@ narrows_then a b d first second = record {
   frame = second.frame ∙ first.frame;
 }
 
--- a state whose narrowed registers are put back
+-- narrowed registers are put back
 pub put_back : (before a : AbstractState) (d p : ℕ) (x y : RegValue) → length a.registers ≡ length before.registers → d < length a.registers → p < length a.registers → x ≡ register before d → y ≡ register before p → a.frame ≡ before.frame → ((r : ℕ) → r ≢ d → r ≢ p → register a r ≡ register before r)
     → ◌≡◌ {A = AbstractState} (record { registers = slice_set (slice_set a.registers p y) d x; frame = a.frame }) before
 put_back before a d p x y long in_d in_p is_x is_y frame others =

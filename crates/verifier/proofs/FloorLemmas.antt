@@ -1,4 +1,4 @@
--- What holds of every path to a unit of a plain program goes on from unit to unit.
+-- In a plain program, if something holds of every path to a unit, the state after its instruction knows it too.
 use Rattle.std.proofs.Common.{◌≡◌, ◌≢◌, ℕ, ◌+◌, Bool, true, false, List, ◌∷◌, Some, None, refl, sym, ap, ◌∙◌, inl, inr, arith, ℤ, pos}
 use Rattle.std.proofs.lemmas.Int.{ints}
 use Rattle.bpf_model.specs.declared.window.Window.{Window}
@@ -20,7 +20,7 @@ use Rattle.verifier.specs.Paths.{base_of, base_offset, IsNextUnit, IsPathTo, OnE
 use Rattle.verifier.specs.Plain.{copy_of, mask_of, addition_of, constant_of}
 use Rattle.verifier.specs.Grants.{PointsPast, Grants}
 
--- a state that two are joined to grants what both do
+-- the join of two states grants what both do
 pub join_grants : (program : List Insn) (unit : ℕ) (a b c : AbstractState) → Grants program unit a → Grants program unit b → KeepsCommon a b c → Grants program unit c
 join_grants program unit a b c g h j = record {
   reached = g.reached;
@@ -44,7 +44,7 @@ clash false t f = cc
 same_instruction : (program : List Insn) (u : ℕ) (i j : Insn) → instruction_at program u ≡ Some i → instruction_at program u ≡ Some j → i ≡ j
 same_instruction program u i j first second = some_is i j (sym first ∙ second)
 
--- a register that this instruction does not write was written before it
+-- if an instruction doesn't write a register, the register was written before it
 written_before : (program : List Insn) (unit next r : ℕ) (i : Insn) → instruction_at program unit ≡ Some i → IsNextUnit program unit next → written_by i ≢ Some r → OnEveryPath program next (WasWritten program r) → OnEveryPath program unit (WasWritten program r)
 written_before program unit next r i at follows apart all path comes =
     elim (all (unit ∷ path) (follows, comes)) [
@@ -58,7 +58,7 @@ step_written program unit next i a b r at follows g ch all = λ none.
     let apart : written_by i ≢ Some r = λ is. ch.target r g.spills is none in
     g.written r (written_before program unit next r i at follows apart all) (sym (ch.others r apart) ∙ none)
 
--- a byte that was stored on every path to the next unit is known to be written there
+-- if a byte was stored on every path to the next unit, the state there knows that it was written
 step_stored : (program : List Insn) (unit next : ℕ) (i : Insn) (a b : AbstractState) (w : Window) (j : ℕ) → instruction_at program unit ≡ Some i → IsNextUnit program unit next → Grants program unit a → Changes i a b → OnEveryPath program next (WasStored program w j) → is_written b.frame w j ≡ true
 step_stored program unit next i a b w j at follows g ch all =
     elim (test_of (is_written b.frame w j)) [
@@ -83,7 +83,7 @@ step_added d x m w a b i is near both ch =
     let sum = ch.adds d x w (pos (base_offset w)) (pos (base_offset w + 0)) (pos 0) (pos m) is (record { above = omega (arith, ints, near.above); below = omega (arith, ints, near.below) }) both.0 both.1 in
     record { pointer = sum.pointer; is = sum.is; window = sum.window; least = omega (arith, ints, sum.least); greatest = omega (arith, ints, sum.greatest) }
 
--- an instruction that does not jump grants at the next unit what it granted at its own
+-- an instruction that doesn't jump grants at the next unit what it granted at its own
 pub step_grants : (program : List Insn) (unit next : ℕ) (i : Insn) (a b : AbstractState) → ((w : Window) → written_by i ≢ Some (base_of w)) → instruction_at program unit ≡ Some i → IsNextUnit program unit next → Grants program unit a → Changes i a b → Grants program next b
 step_grants program unit next i a b apart at follows g ch = record {
   reached = (unit ∷ g.reached.0, (follows, g.reached.1));
@@ -111,7 +111,7 @@ step_grants program unit next i a b apart at follows g ch = record {
     comes : IsPathTo program path next
     comes = (follows, g.reached.1)
 
--- what has a value keeps one where a condition narrows it, and a pointer stays
+-- if a condition narrows a value, there is still a value, and a pointer stays
 keeps_value : (x y : RegValue) → IsNarrowed x y → x ≢ Unwritten → y ≢ Unwritten
 keeps_value Unwritten y n h = absurd (h refl)
 keeps_value (Number r) y n h = λ e. absurd (let z = sym n.1 ∙ e in cc)
@@ -133,7 +133,7 @@ jump_stores_none : (i : Insn) → goes_straight i ≡ false → store_of i ≡ N
 jump_stores_none (Store size dst src offset) jump = absurd cc
 jump_stores_none other jump = refl
 
--- a jump grants at each of its ways what it granted at its own unit
+-- a jump grants on each of its ways what it granted at its own unit
 pub narrow_grants : (program : List Insn) (unit next : ℕ) (i : Insn) (a b : AbstractState) → goes_straight i ≡ false → instruction_at program unit ≡ Some i → IsNextUnit program unit next → Grants program unit a → OnlyNarrows a b → Grants program next b
 narrow_grants program unit next i a b jump at follows g n = record {
   reached = (path, comes);

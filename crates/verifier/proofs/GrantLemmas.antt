@@ -1,4 +1,4 @@
--- What is known at entry is what holds of the path without an instruction.
+-- The abstract state at entry knows what holds of the empty path.
 use Rattle.std.proofs.Common.{◌≢◌, ℕ, zero, suc, List, [], refl, sym, ◌∙◌, arith, ℤ}
 use Rattle.bpf_model.specs.declared.input.Sizes.{Sizes}
 use Rattle.bpf_model.specs.declared.window.Window.{Window}
@@ -41,7 +41,7 @@ base_at_entry sizes a e Arg = e.arg
 base_at_entry sizes a e Result = e.result
 base_at_entry sizes a e Stack = e.stack
 
--- what holds of every path to unit 0 holds of the one without an instruction
+-- if something holds of every path to unit 0, it holds of the empty path
 first_path : (program : List Insn) (holds : List ℕ → Type 0) → OnEveryPath program 0 holds → holds []
 first_path program holds all = all [] refl
 

@@ -1,4 +1,4 @@
--- What holds of every path is known at each unit to which a walk comes, and at each one ahead.
+-- If something holds of every path to a unit, a walk's state there knows it: at the walk's unit and at each one ahead.
 use Rattle.std.proofs.Common.{◌≡◌, ◌≢◌, ℕ, ◌+◌, Bool, true, false, List, Option, Some, None, refl, inl, inr}
 use Rattle.std.specs.Prelude.{if◌then◌else◌}
 use Rattle.bpf_model.specs.declared.input.Sizes.{Sizes}
@@ -18,13 +18,13 @@ use Rattle.verifier.proofs.ArriveLemmas.{same_or_other}
 use Rattle.verifier.proofs.FloorLemmas.{join_grants, step_grants, narrow_grants}
 use Rattle.verifier.proofs.PlainLemmas.{plain_suffices}
 
--- where two ways meet it is known what both know
+-- if two ways meet, the state knows what both know
 meets_grants : (program : List Insn) (unit : ℕ) (one other met : Option AbstractState) → MeetsKnown one other met → GrantsThere program unit one → GrantsThere program unit other → GrantsThere program unit met
 meets_grants program unit None other met m g h = rw m h
 meets_grants program unit (Some a) None met m g h = rw m g
 meets_grants program unit (Some a) (Some b) met m g h = rw m.1.0 (join_grants program unit a b m.0 g h m.1.1)
 
--- what an instruction leaves known is granted at each unit that follows it
+-- the state that an instruction leaves grants what holds at each unit that follows it
 leaves_grants : (program : List Insn) (unit next : ℕ) (i : Insn) (a b : AbstractState) → ((w : Window) → written_by i ≢ Some (base_of w)) → instruction_at program unit ≡ Some i → IsNextUnit program unit next → Grants program unit a → LeavesKnown i a b → Grants program next b
 leaves_grants program unit next i a b apart at follows g leaves =
     elim (test_of (goes_straight i)) [
@@ -63,7 +63,7 @@ visit_grants program unit i before after (Some a) later apart at sends g =
       kept = λ other. kept_grants program unit other i before after a b on apart at g.now sends.1.1.1 (g.kept other);
     }
 
--- at a unit where what was kept for it is joined
+-- at a unit, when the state that was kept for it is joined
 pub arrive_grants : (program : List Insn) (unit : ℕ) (here kept now : Option AbstractState) (before after : Pending) → kept ≡ kept_at before unit → kept_at after unit ≡ None → ((other : ℕ) → other ≢ unit → kept_at after other ≡ kept_at before other) → MeetsKnown here kept now → GrantsAll program unit here before → GrantsAll program unit now after
 arrive_grants program unit here kept now before after is none others meets g = record {
   now = meets_grants program unit here kept now meets g.now (rw is (g.kept unit));
@@ -80,7 +80,7 @@ start_grants program a pending entry none = record {
   kept = λ other. rw (none other) tt;
 }
 
--- what is known at a unit of a plain program is enough there
+-- the state at a unit of a plain program is enough there
 pub suffices_there : (program : List Insn) (sizes : Sizes) (unit : ℕ) (i : Insn) (here : Option AbstractState) → IsPlain program sizes → instruction_at program unit ≡ Some i → GrantsThere program unit here → SufficesThere sizes i here
 suffices_there program sizes unit i None plain at g = tt
 suffices_there program sizes unit i (Some a) plain at g = plain_suffices program sizes unit i a plain at g

@@ -1,4 +1,4 @@
--- States that are joined.
+-- Joins of states.
 use Rattle.std.proofs.Common.{◌≡◌, ℕ, ◌≤◌, true, Option, length, subst, arith}
 use Rattle.std.proofs.lemmas.Option.{slice_get-get_or, get_or_from_slice_get, slice_get_within}
 use Rattle.bpf_model.specs.declared.input.Sizes.{Sizes}
@@ -12,7 +12,8 @@ use Rattle.verifier.specs.declared.abstract_state.AbstractState.{AbstractState}
 use Rattle.verifier.specs.Describes.{Describes}
 use Rattle.verifier.specs.Joins.{register}
 
--- a state that stands for no less, with no more bytes of the result as written, describes what the first describes
+-- c describes whatever a describes, if its values stand for at least as much and no more bytes of the result are
+-- written
 pub joins_describes : (a c : AbstractState) (sizes : Sizes) (s : State) → length c.registers ≤ length a.registers → ((r : ℕ) (o : Option ℕ) → StandsFor (register a r) o → StandsFor (register c r) o) → DescribesMore a.frame c.frame → ((i : ℕ) → is_written c.frame Result i ≡ true → is_written a.frame Result i ≡ true) → Describes a sizes s → Describes c sizes s
 joins_describes a c sizes s bounded more frame marks d = record {
   registers = λ r x e.

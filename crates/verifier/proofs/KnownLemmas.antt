@@ -1,4 +1,4 @@
--- The list of what is known at each instruction to which a walk comes.
+-- The list with the abstract state at each instruction that a walk comes to.
 use Rattle.std.proofs.Common.{◌≡◌, ℕ, zero, suc, ◌⊎◌, List, [], ◌∷◌, ◌++◌, length, take, Option, Some, None, refl, sym, ap, subst, ◌∙◌, inl, inr, arith}
 use Rattle.std.specs.Prelude.{slice_get}
 use Rattle.bpf_model.specs.declared.input.Sizes.{Sizes}
@@ -13,7 +13,7 @@ use Rattle.verifier.specs.Walks.{kept_at, IsDescribed, IsKnown, KnowsRuns}
 use Rattle.verifier.proofs.WalkLemmas.{Walked, comes_here}
 use Rattle.verifier.proofs.ArriveLemmas.{known_here}
 
--- what is read in a list with one more is that one, or was there
+-- an element of a list with one more is that one, or was there before
 get_more : {A : Type 0} → (xs : List A) (y x : A) (k : ℕ) → slice_get (xs ++ (y ∷ [])) k ≡ Some x → (slice_get xs k ≡ Some x) ⊎ ((k ≡ length xs) × (y ≡ x))
 get_more [] y x zero e = inr (refl, some_is y x e)
 get_more [] y x (suc k) e = absurd cc
@@ -23,7 +23,7 @@ get_more (z ∷ xs) y x (suc k) e = elim (get_more xs y x k e) [ inl h ↦ inl h
 pub none_known : (program : List Insn) (sizes : Sizes) → KnowsRuns program [] sizes
 none_known program sizes = λ input bytes fits n s reaches index known listed at. absurd (let wrong = listed in cc)
 
--- what is known at the next instruction is listed
+-- the state at the next instruction is added to the list
 pub knows_more : (program : List Insn) (sizes : Sizes) (unit k : ℕ) (i : Insn) (here : Option AbstractState) (pending : Pending) (states : List (Option AbstractState)) → IsProgram program → IsForward program → slice_get program k ≡ Some i → unit ≡ unit_count (take k program) → length states ≡ k → kept_at pending unit ≡ None → Walked program sizes unit (IsKnown unit here pending sizes) → KnowsRuns program states sizes → KnowsRuns program (states ++ (here ∷ [])) sizes
 knows_more program sizes unit k i here pending states is forward at counted listed empty walked knows = λ input bytes fits n s reaches index known stands unit_is.
     elim (get_more states here known index stands) [

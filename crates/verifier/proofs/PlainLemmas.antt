@@ -1,4 +1,4 @@
--- In a plain program what holds of every path is enough for each instruction.
+-- In a plain program, the facts that hold of every path are enough for each instruction.
 use Rattle.std.proofs.Common.{◌≡◌, ℕ, suc, ◌+◌, ◌≤◌, ◌^◌, true, List, [], ◌∷◌, Some, sym, subst, ap, ◌∙◌, inl, inr, arith, pos}
 use Rattle.std.proofs.lemmas.Int.{ints}
 use Rattle.std.proofs.lemmas.Bool.{cases_order}
@@ -20,7 +20,7 @@ use Rattle.verifier.specs.Paths.{base_offset, IsNextUnit, IsTarget, IsPathTo, On
 use Rattle.verifier.specs.Plain.{copy_of, mask_of, addition_of, constant_of, LiesPlainly, IsPlain}
 use Rattle.verifier.specs.Grants.{PointsPast, Grants}
 
--- a unit to which no jump leads is entered from the instruction before it alone
+-- if no jump leads to a unit, runs enter it only from the instruction before
 only_from : (program : List Insn) (u v : ℕ) (i : Insn) → instruction_at program v ≡ Some i → (IsTarget program (suc v) → ⊥) → IsNextUnit program u (suc v) → u ≡ v
 only_from program u v i at apart (inr jump) = absurd (apart (u, jump))
 only_from program u v i at apart (inl falls) =
@@ -61,7 +61,7 @@ small_window sizes Arg h = omega (arith, h.arg)
 small_window sizes Result h = omega (arith, h.result)
 small_window sizes Stack h = omega arith
 
--- where an access is plain a pointer for it is known
+-- if an access is plain, the state knows a pointer for it
 touched : (program : List Insn) (sizes : Sizes) (unit : ℕ) (a : AbstractState) (t : Touch) (p : LiesPlainly program sizes unit t) → AreWithinLimits sizes → IsAboveLeastOffset t.offset → Grants program unit a → PointsPast p.window p.further a t.base
 touched program sizes unit a t p limits near g =
     elim p.through [
@@ -83,7 +83,7 @@ can_touch program sizes unit a t p x = record {
   inside = record { least = omega (arith, ints, x.least, p.begins); greatest = rw x.window (omega (arith, ints, x.greatest, p.begins, p.inside)) };
 }
 
--- a plain program's instruction is accepted where what holds of every path to it is known
+-- a plain program's instruction is accepted if the state knows what holds of every path to it
 pub plain_suffices : (program : List Insn) (sizes : Sizes) (unit : ℕ) (i : Insn) (a : AbstractState) → IsPlain program sizes → instruction_at program unit ≡ Some i → Grants program unit a → Suffices sizes i a
 unfolding can_touch
 plain_suffices program sizes unit i a plain at g = record {

@@ -1,4 +1,4 @@
--- What an instruction makes of what is known, and what is enough for it to be accepted. This verifier's own.
+-- How an instruction changes an abstract state, and what is enough for it to be accepted. This verifier's own.
 use Rattle.std.specs.Prelude.{◌≡◌, ◌≢◌, ℕ, ◌+◌, ◌<◌, ◌≤◌, true, false, ◌⊎◌, Some, ◌^◌, ℤ, pos, negsuc, ◌+ℤ◌, ◌≤ℤ◌}
 use Rattle.bpf_model.specs.declared.limits.TheConstants.{STACK_BYTES}
 use Rattle.bpf_model.specs.declared.input.Sizes.{Sizes}
@@ -27,14 +27,14 @@ use Rattle.verifier.specs.declared.abstract_state.span.Span.{Span}
 use Rattle.verifier.specs.Instructions.{reads, written_by, Touch, load_of, store_of, IsAboveLeastOffset}
 use Rattle.verifier.specs.Joins.{register}
 
--- this word alone, of those that read the same with a sign
+-- only this word, with the same signed and unsigned reading
 pub record IsSmallWord (m : ℕ) (x : RegValue) : Type 0 where
   pub range : Range
   pub is : x ≡ Number range
   pub single : IsSingle range m
   pub small : m < 2 ^ 63
 
--- the access touches the byte at this distance from the window's first one, and is at one address alone
+-- the access is at one address only, and touches the byte at this distance from the window's first one
 pub record TouchesByte (a : AbstractState) (t : Touch) (w : Window) (j : ℕ) : Type 0 where
   pub distance : ℤ
   pub first : ℕ
@@ -43,7 +43,7 @@ pub record TouchesByte (a : AbstractState) (t : Touch) (w : Window) (j : ℕ) : 
   pub from : first ≤ j
   pub to : j < first + t.count
 
--- what an instruction after which a run goes on at the next one makes of what is known
+-- how an instruction changes the abstract state, if a run goes on at the next instruction
 pub record Changes (i : Insn) (a b : AbstractState) : Type 0 where
   pub others : (r : ℕ) → written_by i ≢ Some r → register b r ≡ register a r
   pub target : (r : ℕ) → NoneUnwritten a.frame → written_by i ≡ Some r → register b r ≢ Unwritten
@@ -56,7 +56,7 @@ pub record Changes (i : Insn) (a b : AbstractState) : Type 0 where
   pub adds : (d x : ℕ) (w : Window) (lo hi from to : ℤ) → i ≡ Alu Add W64 d (Register x) → AreInReach (lo +ℤ from) (hi +ℤ to)
       → IsPointerIn w lo hi (register a d) → IsNumberIn from to (register a x) → IsPointerIn w (lo +ℤ from) (hi +ℤ to) (register b d)
 
--- what a condition makes of a value: of a number a number, and all else stays as it was
+-- a condition turns a number into a number, and leaves all else as it was
 abbrev pub IsNarrowed : RegValue → RegValue → Type 0
 IsNarrowed Unwritten y = y ≡ Unwritten
 IsNarrowed (Number r) y = (q : Range) × (y ≡ Number q)
@@ -66,16 +66,16 @@ pub record OnlyNarrows (a b : AbstractState) : Type 0 where
   pub registers : (r : ℕ) → IsNarrowed (register a r) (register b r)
   pub frame : b.frame ≡ a.frame
 
--- the register of a condition's second operand; that of the first where it is none
+-- the register of a condition's second operand, or that of the first if the second isn't a register
 abbrev pub second_register : ℕ → Operand → ℕ
 second_register dst (Register r) = r
 second_register dst (Immediate k) = dst
 
--- of all registers but those of the operands the same is known
+-- all registers except the operands' keep their values
 abbrev pub KeepsOthers : AbstractState → ℕ → Operand → AbstractState → Type 0
 KeepsOthers a dst src b = (r : ℕ) → r ≢ dst → r ≢ second_register dst src → register b r ≡ register a r
 
--- what is known at entry: where the registers point, and what the lengths may be
+-- the state at entry: where the registers point, and what the lengths may be
 pub record IsEntry (sizes : Sizes) (a : AbstractState) : Type 0 where
   pub key : IsPointerIn Key (pos 0) (pos 0) (register a 1)
   pub old : IsPointerIn Old (pos 0) (pos 0) (register a 2)
@@ -89,7 +89,7 @@ pub record IsEntry (sizes : Sizes) (a : AbstractState) : Type 0 where
   pub marks : (w : Window) (i : ℕ) → is_written a.frame w i ≡ false
   pub spills : NoneUnwritten a.frame
 
--- at each of its addresses an access of so many bytes through the pointer lies inside the window
+-- at each of its addresses an access of this many bytes through the pointer lies inside the window
 pub record ReachesInside (sizes : Sizes) (p : Pointer) (offset : ℤ) (count : ℕ) : Type 0 where
   pub least : pos 0 ≤ℤ (p.least +ℤ offset)
   pub greatest : ((p.greatest +ℤ offset) +ℤ pos count) ≤ℤ pos (window_size sizes p.window)
@@ -100,11 +100,11 @@ pub record IsSpan (p : Pointer) (offset : ℤ) (span : Span) : Type 0 where
   pub least_is : pos span.least ≡ p.least +ℤ offset
   pub greatest_is : pos span.greatest ≡ p.greatest +ℤ offset
 
--- each byte that an access of so many bytes may touch there was written
+-- each byte that an access of this many bytes may touch there was written
 abbrev pub AreMarked : AbstractState → Span → ℕ → Type 0
 AreMarked a p count = (j : ℕ) → p.least ≤ j → j < p.greatest + count → is_written a.frame p.window j ≡ true
 
--- what a store of a value there makes of what is known
+-- how a store of a value there changes the abstract state
 pub record WritesAt (a : AbstractState) (p : Span) (size : AccessSize) (x : RegValue) (b : AbstractState) : Type 0 where
   pub registers : b.registers ≡ a.registers
   pub keeps : KeepsMarks a.frame b.frame
@@ -116,18 +116,18 @@ pub record CanTouch (sizes : Sizes) (a : AbstractState) (t : Touch) : Type 0 whe
   pub through : register a t.base ≡ PointerInto pointer
   pub inside : ReachesInside sizes pointer t.offset t.count
 
--- a load that lies inside its window, and whose bytes were written where a run may write
+-- a load inside its window; if a run may write to the window, the bytes were written
 pub record CanLoad (sizes : Sizes) (a : AbstractState) (t : Touch) : Type 0 where
   pub touch : CanTouch sizes a t
   pub written : (j : ℕ) → IsKept touch.pointer.window → (touch.pointer.least +ℤ t.offset) ≤ℤ pos j
       → (pos j +ℤ pos 1) ≤ℤ ((touch.pointer.greatest +ℤ t.offset) +ℤ pos t.count) → is_written a.frame touch.pointer.window j ≡ true
 
--- a store that lies inside a window that may be written
+-- a store inside a window that may be written
 pub record CanStore (sizes : Sizes) (a : AbstractState) (t : Touch) : Type 0 where
   pub touch : CanTouch sizes a t
   pub kept : IsKept touch.pointer.window
 
--- r0 is -1, or a number of the result's first bytes, all of them written
+-- r0 is -1, or a count of the result's first bytes that were all written
 pub record CanExit (a : AbstractState) : Type 0 where
   pub answer : ℤ
   pub constant : IsNumberIn answer answer (register a 0)

@@ -6,7 +6,7 @@ use Rattle.bpf_model.specs.declared.instruction.Insn.{Insn}
 use Rattle.bpf_model.specs.declared.instruction.Insn.TheVariants.{Alu, Negate, Mov, SignExtend, Reorder, Wide, Load, Store, Jump, JumpLong, Branch, Exit}
 use Rattle.bpf_model.specs.Accesses.{byte_count, loaded_size}
 
--- whether an operand, an instruction, reads a register
+-- whether an operand or an instruction reads a register
 abbrev pub operand_reads : Operand → ℕ → Bool
 operand_reads (Register src) r = nat_eq src r
 operand_reads (Immediate imm) r = false
@@ -40,7 +40,7 @@ written_by (JumpLong distance) = None
 written_by (Branch test width dst src distance) = None
 written_by Exit = None
 
--- an access: of so many bytes, through a register, at an offset
+-- an access of this many bytes, through a register, at an offset
 pub record Touch : Type 0 where
   pub base : ℕ
   pub offset : ℤ
@@ -54,6 +54,6 @@ abbrev pub store_of : Insn → Option Touch
 store_of (Store size dst src offset) = Some (record { base = dst; offset = offset; count = byte_count size })
 store_of other = None
 
--- an offset has 16 bits, so it is no less than this
+-- an offset has 16 bits, so it is at least this
 abbrev pub IsAboveLeastOffset : ℤ → Type 0
 IsAboveLeastOffset offset = neg_ℤ (pos (2 ^ 15)) ≤ℤ offset

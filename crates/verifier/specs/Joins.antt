@@ -1,4 +1,4 @@
--- What is known where two ways of a run meet. This verifier's own.
+-- The abstract state where two ways of a run meet. This verifier's own.
 use Rattle.std.specs.Prelude.{◌≡◌, ◌≢◌, ℕ, true, ℤ, slice_index_or}
 use Rattle.bpf_model.specs.declared.window.Window.{Window}
 use Rattle.stack_slots.specs.declared.reg_value.RegValue.{RegValue}
@@ -7,7 +7,7 @@ use Rattle.stack_slots.specs.Values.{IsJoin, IsPointerIn, IsNumberIn}
 use Rattle.stack_slots.specs.Frames.{is_written, NoneUnwritten, MeetsMarks, JoinsSlots}
 use Rattle.verifier.specs.declared.abstract_state.AbstractState.{AbstractState}
 
--- what is known of a register; there are no others
+-- the value of a register; registers above r10 don't exist and read as Unwritten
 abbrev pub register : AbstractState → ℕ → RegValue
 register a r = slice_index_or a.registers r Unwritten
 
@@ -23,8 +23,8 @@ pub record JoinsStates (a b c : AbstractState) : Type 0 where
   pub marks : MeetsMarks a.frame b.frame c.frame
   pub slots : JoinsSlots a.frame b.frame c.frame
 
--- what both of two states know in one way the third knows in that way: that a register has a value, points into a window
--- or lies within bounds, that a byte was written, and that no spilled value is Unwritten
+-- if both states know one of these facts, the third knows it: a register has a value, points into a window or lies
+-- within bounds, a byte was written, or no spilled value is Unwritten
 pub record KeepsCommon (a b c : AbstractState) : Type 0 where
   pub value : (r : ℕ) → register a r ≢ Unwritten → register b r ≢ Unwritten → register c r ≢ Unwritten
   pub pointer : (r : ℕ) (w : Window) (lo hi : ℤ) → IsPointerIn w lo hi (register a r) → IsPointerIn w lo hi (register b r) → IsPointerIn w lo hi (register c r)

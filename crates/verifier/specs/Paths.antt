@@ -1,4 +1,4 @@
--- The paths that a program's text has, and what they write. Our profile of RFC 9669.
+-- The paths of a program's text, and what they write. Our profile of RFC 9669.
 use Rattle.std.specs.Prelude.{◌≡◌, ◌≢◌, ℕ, ◌+◌, ◌<◌, ◌≤◌, true, ◌⊎◌, List, [], ◌∷◌, Some, ℤ, pos, ◌+ℤ◌}
 use Rattle.bpf_model.specs.declared.limits.TheConstants.{STACK_BYTES}
 use Rattle.bpf_model.specs.declared.window.Window.{Window}
@@ -9,7 +9,7 @@ use Rattle.bpf_model.specs.Step.{unit_of}
 use Rattle.flow_shape.specs.Jumps.{falls_through, target_of, JumpsBy}
 use Rattle.verifier.specs.Instructions.{written_by, Touch, store_of}
 
--- the register that points into a window at entry, and how far behind the window's first byte
+-- the register that points into a window at entry, and how far after the window's first byte it points
 abbrev pub base_of : Window → ℕ
 base_of Key = 1
 base_of Old = 2
@@ -49,7 +49,7 @@ FallsTo program unit next =
 abbrev pub IsNextUnit : List Insn → ℕ → ℕ → Type 0
 IsNextUnit program unit next = FallsTo program unit next ⊎ JumpsTo program unit next
 
--- a path from unit 0 to a unit, by the units before it, the latest first
+-- a path from unit 0 to a unit, as the list of units before it, the latest first
 abbrev pub IsPathTo : List Insn → List ℕ → ℕ → Type 0
 IsPathTo program [] unit = unit ≡ 0
 IsPathTo program (u ∷ before) unit = IsNextUnit program u unit × IsPathTo program before u
@@ -79,12 +79,12 @@ pub record StoresByte (program : List Insn) (u : ℕ) (w : Window) (j : ℕ) : T
   pub from : first ≤ j
   pub to : j < first + t.count
 
--- the byte was stored on the path; a store through another register does not count
+-- the byte was stored on the path; a store through another register doesn't count
 abbrev pub WasStored : List Insn → Window → ℕ → List ℕ → Type 0
 WasStored program w j [] = ⊥
 WasStored program w j (u ∷ before) = StoresByte program u w j ⊎ WasStored program w j before
 
--- the path ends in these instructions, the latest first
+-- the path ends with these instructions, the latest first
 abbrev pub EndsIn : List Insn → List Insn → List ℕ → Type 0
 EndsIn program [] before = Unit {0}
 EndsIn program (i ∷ more) [] = ⊥

@@ -1,4 +1,4 @@
--- Plain programs: those that are seen to be safe by reading their text. Our profile of RFC 9669.
+-- Plain programs: you see that they are safe when you read their text. Our profile of RFC 9669.
 use Rattle.std.specs.Prelude.{◌≡◌, ◌≢◌, ℕ, suc, ◌+◌, ◌<◌, ◌≤◌, true, ◌⊎◌, List, Some, ℤ, pos, negsuc, ◌+ℤ◌}
 use Rattle.bpf_model.specs.declared.input.Sizes.{Sizes}
 use Rattle.bpf_model.specs.declared.window.Window.{Window}
@@ -15,7 +15,7 @@ use Rattle.stack_slots.specs.Kept.{IsKept}
 use Rattle.verifier.specs.Instructions.{reads, written_by, Touch, load_of, store_of}
 use Rattle.verifier.specs.Paths.{base_of, base_offset, IsTarget, OnEveryPath, WasWritten, WasStored}
 
--- the instructions of a mask: the window's register is copied, a number is cut to at most m, and added
+-- the instructions of a mask: copy the window's register, cut a number to at most m, and add it
 abbrev pub copy_of : ℕ → Window → Insn
 copy_of d w = Mov W64 d (Register (base_of w))
 
@@ -25,11 +25,11 @@ mask_of x m = Alu And W64 x (Immediate (pos m))
 abbrev pub addition_of : ℕ → ℕ → Insn
 addition_of d x = Alu Add W64 d (Register x)
 
--- the answer's constant
+-- sets the answer to a constant
 abbrev pub constant_of : ℤ → Insn
 constant_of c = Mov W64 0 (Immediate c)
 
--- the three instructions before the unit put a window's register plus 0 to m into rD, and no jump leads in between
+-- the three instructions before the unit set rD to a window's register plus 0 to m, and no jump leads in between
 pub record IsMasked (program : List Insn) (unit d : ℕ) (w : Window) (m : ℕ) : Type 0 where
   pub x : ℕ
   pub start : ℕ
@@ -42,7 +42,7 @@ pub record IsMasked (program : List Insn) (unit d : ℕ) (w : Window) (m : ℕ) 
   pub sum_apart : IsTarget program (suc (suc start)) → ⊥
   pub access_apart : IsTarget program unit → ⊥
 
--- an access that lies inside the window, at this distance from its first byte or up to so many bytes further on: it
+-- an access that lies inside the window, at this distance from its first byte or up to `further` bytes after it; it
 -- goes through the window's register, or through a masked one
 pub record LiesPlainly (program : List Insn) (sizes : Sizes) (unit : ℕ) (t : Touch) : Type 0 where
   pub window : Window
@@ -52,23 +52,23 @@ pub record LiesPlainly (program : List Insn) (sizes : Sizes) (unit : ℕ) (t : T
   pub begins : (pos (base_offset window) +ℤ t.offset) ≡ pos first
   pub inside : first + further + t.count ≤ window_size sizes window
 
--- a load, of bytes that were stored on every path where a run may write them
+-- a load; if a run may write to the window, the bytes were stored on every path
 pub record LoadsPlainly (program : List Insn) (sizes : Sizes) (unit : ℕ) (t : Touch) : Type 0 where
   pub span : LiesPlainly program sizes unit t
   pub stored : (j : ℕ) → IsKept span.window → span.first ≤ j → j < span.first + span.further + t.count
       → OnEveryPath program unit (WasStored program span.window j)
 
--- a store, to result or stack
+-- a store into the result or the stack
 pub record StoresPlainly (program : List Insn) (sizes : Sizes) (unit : ℕ) (t : Touch) : Type 0 where
   pub span : LiesPlainly program sizes unit t
   pub kept : IsKept span.window
 
--- -1, or a number of the result's first bytes, all of them stored on every path
+-- -1, or a count of the result's first bytes, all of them stored on every path
 abbrev pub IsPlainAnswer : List Insn → ℕ → ℤ → Type 0
 IsPlainAnswer program unit c =
     OnEveryPath program unit (λ before. (c ≡ negsuc 0) ⊎ ((n : ℕ) × ((c ≡ pos n) × ((j : ℕ) → j < n → WasStored program Result j before))))
 
--- an EXIT that follows `mov64 r0, c` in the text, and is no jump's target
+-- an EXIT that follows `mov64 r0, c` in the text, and that no jump leads to
 pub record ExitsPlainly (program : List Insn) (unit : ℕ) : Type 0 where
   pub before : ℕ
   pub answer : ℤ
@@ -77,8 +77,8 @@ pub record ExitsPlainly (program : List Insn) (unit : ℕ) : Type 0 where
   pub apart : IsTarget program unit → ⊥
   pub plain : IsPlainAnswer program unit answer
 
--- the windows' registers are never written; each access lies inside a window, each byte that is loaded and each register
--- that is read was written before, and the answer is a constant
+-- the windows' registers are never written; each access lies inside a window; a loaded byte or a register that is read
+-- was written before; and the answer is a constant
 pub record IsPlain (program : List Insn) (sizes : Sizes) : Type 0 where
   pub limits : AreWithinLimits sizes
   pub bases : (u : ℕ) (i : Insn) (w : Window) → instruction_at program u ≡ Some i → written_by i ≢ Some (base_of w)

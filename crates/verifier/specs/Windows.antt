@@ -12,7 +12,7 @@ use Rattle.verifier.specs.declared.abstract_state.AbstractState.{AbstractState}
 use Rattle.verifier.specs.Joins.{register}
 use Rattle.verifier.specs.Describes.{Describes}
 
--- the window that a pointer points into; of all else the result's, which stands for none
+-- the window that a pointer points into; for a value that isn't a pointer the result's, which then means no window
 abbrev pub pointed_window : RegValue → Window
 pointed_window (PointerInto p) = p.window
 pointed_window other = Result

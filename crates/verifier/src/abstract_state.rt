@@ -1,4 +1,5 @@
-//! What is known of every state that a run brings to a unit, and what an instruction makes of it.
+//! Abstract states: the facts that hold of every state that a run brings to a unit, and how an instruction changes
+//! them.
 ghost use Rattle.std.specs.Prelude.{◌≡◌, true, Ok, OnOk};
 ghost use Rattle.bpf_model.specs.declared.input.Sizes.{Sizes as DeclaredSizes};
 ghost use Rattle.bpf_model.specs.declared.instruction.Insn.TheVariants.{Alu, Negate, Mov, SignExtend, Reorder};
@@ -20,7 +21,7 @@ pub use branches::{Operands, Side};
 use stack_slots::{Frame, RegValue};
 use value_ranges::{Range, negate, reorder, sign_extend};
 
-/// What is known of the registers, and of the bytes of stack and result.
+/// An abstract state: a value for each register, and the frame with the bytes of stack and result.
 #[derive(Debug, Drop)]
 pub struct AbstractState {
     registers: [RegValue; 11],
@@ -28,21 +29,21 @@ pub struct AbstractState {
 }
 
 impl AbstractState {
-    /// What is known of each register, by its number.
+    /// Returns the value of each register, by its number.
     pub fn registers(&self) -> &[RegValue; 11]
         ensures value { result.now ≡ self.now.registers }
     {
         &self.registers
     }
 
-    /// What is known of the bytes of stack and result.
+    /// Returns the frame: the known facts about the bytes of stack and result.
     pub fn frame(&self) -> &Frame
         ensures value { result.now ≡ self.now.frame }
     {
         &self.frame
     }
 
-    /// The same state once more. Takes no memory.
+    /// Returns a copy of the state. Takes no memory.
     pub(crate) fn copied(&self) -> AbstractState
         ensures value { result ≡ self.now }
     {
@@ -60,8 +61,8 @@ impl AbstractState {
         self.frame.copy_from(&other.frame);
     }
 
-    /// Tests an instruction after which a run goes on at the next one, and goes on to what is known there. Faults are
-    /// tested in the order of their numbers.
+    /// Checks an instruction after which a run goes on at the next one, and becomes the state there. Faults are checked
+    /// in the order of their numbers.
     pub(crate) fn step(&mut self, sizes: Sizes, insn: Insn) -> Result<(), StepFault>
         requires limits { AreWithinLimits sizes }
         requires straight { goes_straight insn ≡ true }

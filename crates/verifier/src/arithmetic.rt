@@ -1,4 +1,4 @@
-//! What arithmetic makes of register values.
+//! Arithmetic on register values.
 ghost use Rattle.std.specs.Prelude.{◌≡◌, ◌≢◌, ◌<◌, ℕ, ◌+◌, ◌-◌, ◌%◌, ◌^◌, Some, ℤ, pos, ◌+ℤ◌};
 ghost use Rattle.bpf_model.specs.declared.window.Window.{Window};
 ghost use Rattle.bpf_model.specs.Arithmetic.{alu_value, mov_value};
@@ -11,8 +11,8 @@ use bpf_model::{AluOp, Width};
 use stack_slots::{Pointer, RegValue};
 use value_ranges::{Range, alu, mov};
 
-/// What is known of the operation's result on words for which these values stand. At 64 bits a pointer and a number add
-/// up to a pointer, and a pointer less a number is one; all else is arithmetic on numbers.
+/// Returns the value of an operation's result, on any words for which these values stand. At 64 bits a pointer plus a
+/// number is a pointer, and so is a pointer minus a number; everything else is arithmetic on numbers.
 pub fn operate(op: AluOp, width: Width, a: RegValue, b: RegValue) -> RegValue
     ensures holds { (x y : ℕ) → StandsFor a (Some x) → StandsFor b (Some y)
         → StandsFor result (Some (alu_value op width x y)) }
@@ -36,7 +36,7 @@ pub fn operate(op: AluOp, width: Width, a: RegValue, b: RegValue) -> RegValue
     }
 }
 
-/// What is known of a moved word: at 64 bits what was known of it.
+/// Returns the value of a moved word: at 64 bits the same value.
 pub fn moved(width: Width, value: RegValue) -> RegValue
     ensures holds { (x : ℕ) → StandsFor value (Some x)
         → StandsFor result (Some (mov_value width x)) }
@@ -49,7 +49,7 @@ pub fn moved(width: Width, value: RegValue) -> RegValue
     }
 }
 
-/// a pointer out of reach may be any word
+/// if the sum is out of a pointer's reach, it may be any word
 fn sum(pointer: Pointer, number: Range) -> RegValue
     ensures holds { (x y : ℕ) → PointsTo pointer x → IsIn y number
         → StandsFor result (Some ((x + y) % 2 ^ 64)) }

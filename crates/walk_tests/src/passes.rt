@@ -60,7 +60,7 @@ fn is_value(reply: &Reply, bytes: &[u8]) -> bool {
     }
 }
 
-/// Returns the number under which a map is refused, or 0.
+/// Returns the number of the error if a map is refused, or 0.
 fn refusal(alloc: Global, stripes: u64, passes: u64) -> u8 {
     match StripedMap::open(alloc, stripes, passes) {
         Ok(_) => 0,
@@ -79,7 +79,7 @@ pub(crate) fn opened(
     StripedMap::open(alloc, stripes, passes)
 }
 
-/// Returns the entries of a stripe, where the map has it and memory is there.
+/// Returns the entries of a stripe, if the map has it and there is memory.
 fn scanned<R: Wait>(
     rt: &R,
     alloc: Global,
@@ -102,7 +102,7 @@ pub(crate) fn next_pass(map: &StripedMap, passes: &mut Vec<Pass>) -> Result<Pass
     ensures pass { IfOk result (λ pass. pass.map ≡ map.now) }
     ensures all { All (λ pass. pass.map ≡ map.now) passes.new.items }
 {
-    // For the clauses alone, which name the map.
+    // Only for the clauses, which name the map.
     let _ = map;
     match passes.pop() {
         Some(pass) => Ok(pass),

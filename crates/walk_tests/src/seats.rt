@@ -1,4 +1,4 @@
-//! A seat at rest: each function of known_seat once, at a table of one word without slots.
+//! A seat at rest: calls each function of known_seat once, at a table of one word without slots.
 ghost use Rattle.std.specs.Prelude.{◌≡◌};
 
 use atomic_table::{Play, Seat, Shared, Split, Table, TableRule};
@@ -6,7 +6,7 @@ use known_seat::{Known, Lesson, learn};
 use std::alloc::Global;
 use std::test::Fail;
 
-/// A table of which nothing is asked.
+/// A table without a rule.
 struct Anything;
 
 impl TableRule<u8, (), ()> for Anything {

@@ -20,7 +20,7 @@ mod gates;
 mod refused;
 mod rows;
 
-/// Puts an entry; none where memory was refused.
+/// Puts an entry. Returns `None` if memory was refused.
 fn put<R: Wait>(rt: &R, map: &StripedMap, pass: &mut Pass, name: &[u8], bytes: &[u8]) -> Option<()>
     requires { pass.old.map ≡ map.now }
     ensures { pass.new.map ≡ map.now }
@@ -42,7 +42,7 @@ fn dealt(map: &StripedMap, mut passes: Vec<Pass>) -> Option<(Pass, Team)>
     Some((pass, team))
 }
 
-/// Opens a map of so many stripes, with a pass and a team of so many more; none where memory was refused.
+/// Opens a map with this many stripes, a pass and a team of `workers`. Returns `None` if memory was refused.
 fn made(alloc: Global, stripes: u64, workers: u64) -> Option<(StripedMap, Pass, Team)>
     ensures pass { IfSome result (λ r. r.1.map ≡ r.0) }
     ensures team { IfSome result (λ r. All (λ pass. pass.map ≡ r.0) r.2.passes.items) }
@@ -52,8 +52,8 @@ fn made(alloc: Global, stripes: u64, workers: u64) -> Option<(StripedMap, Pass, 
     Some((map, pass, team))
 }
 
-/// Puts the entries `a` of 1 and `b` of 2, and `c` of nine bytes, which is too long for the program; none where memory was
-/// refused.
+/// Puts the entries `a` of 1 and `b` of 2, and `c` of nine bytes, which is too long for the program. Returns `None` if
+/// memory was refused.
 fn put_all<R: Wait>(rt: &R, map: &StripedMap, pass: &mut Pass) -> Option<()>
     requires { pass.old.map ≡ map.now }
     ensures { pass.new.map ≡ map.now }
@@ -63,7 +63,7 @@ fn put_all<R: Wait>(rt: &R, map: &StripedMap, pass: &mut Pass) -> Option<()>
     put(rt, map, pass, b"c", &NINE)
 }
 
-/// Opens a map of those three entries, with a pass and a team of so many more; none where memory was refused.
+/// Opens a map of those three entries, with a pass and a team of `workers`. Returns `None` if memory was refused.
 fn filled<R: Wait>(
     rt: &R,
     alloc: Global,
@@ -78,7 +78,7 @@ fn filled<R: Wait>(
     Some((map, pass, team))
 }
 
-/// A walk: a search and a list have their threshold.
+/// A walk; a search and a list have a threshold.
 #[derive(Clone, Copy)]
 enum Task {
     List(u64),
@@ -113,7 +113,7 @@ fn walk<R: AllocGlobal + Threads + Wait + Sync, G: Gate + Sync>(
     }
 }
 
-/// Returns the number that these bytes spell, where there are eight.
+/// Returns the number that these bytes spell, if there are eight.
 fn number_of(bytes: &[u8]) -> Option<u64> {
     match bytes {
         [a, b, c, d, e, f, g, h] => Some(u64::from_le_bytes([*a, *b, *c, *d, *e, *f, *g, *h])),
@@ -124,11 +124,11 @@ fn number_of(bytes: &[u8]) -> Option<u64> {
 /// Keys and values.
 type Items = &'static [(&'static [u8], &'static [u8])];
 
-/// What a walk replies: its items, and how many entries were scanned, given and unfit.
+/// The reply of a walk: its items, and how many entries were scanned, given and unfit.
 #[derive(Clone, Copy)]
 struct Wanted(Items, (u64, u64, u64));
 
-/// What each walk over the three entries replies.
+/// The replies of the walks over the three entries.
 const LISTED: Wanted = Wanted(&[(b"a", &TWO), (b"b", &THREE)], (3, 2, 1));
 
 const FOUND: Wanted = Wanted(&[(b"a", &TWO)], (3, 1, 1));

@@ -1,8 +1,8 @@
--- A list of which the first element stands apart.
+-- A list taken apart into its first element and the rest.
 use Rattle.std.proofs.Common.{◌≡◌, ℕ, zero, suc, ◌+◌, ◌<◌, List, [], ◌∷◌, ◌++◌, length, get_or, ap, subst, arith}
 use Rattle.workers.specs.Apart.{AcceptsFrom, ChangesFrom}
 
--- what holds of all holds of the rest, at its places
+-- a fact about all holds of the rest, at its places
 pub accepts_rest : {X : Type 0} → (P : ℕ → X → Type 0) (base : ℕ) (xs first rest : List X) → xs ≡ first ++ rest → length first ≡ 1 → AcceptsFrom P base xs → AcceptsFrom P (base + 1) rest
 accepts_rest P base xs [] rest whole one accepts = absurd (omega (arith, one))
 accepts_rest P base xs (x ∷ []) rest whole one accepts = λ k d low.
@@ -11,7 +11,7 @@ accepts_rest P base xs (x ∷ []) rest whole one accepts = λ k d low.
     subst (λ m. P m (get_or rest k d)) (omega arith) here
 accepts_rest P base xs (x ∷ y ∷ first) rest whole one accepts = absurd (omega (arith, one))
 
--- what became of the first element and of the rest is what became of all
+-- the change of the first element and that of the rest make up the change of all
 pub changes_both : {X : Type 0} → (R : ℕ → X → X → Type 0) (base : ℕ) (first rest first_after rest_after : List X) → length first ≡ 1
     → ChangesFrom R base first first_after → ChangesFrom R (base + 1) rest rest_after → ChangesFrom R base (first ++ rest) (first_after ++ rest_after)
 changes_both R base [] rest first_after rest_after one front back = absurd (omega (arith, one))

@@ -8,7 +8,7 @@ use Rattle.workers.specs.Workers.{job_of, Worked, AllWorked}
 use Rattle.workers.specs.declared.jobs.Job.{Job}
 
 module _ {F X T : Type 0} (g : Shared F (ℕ × (MutBor X × Unit {0})) (T × (MutBor X × Unit {0}))) (f : F) where
-  -- what each job became
+  -- the result of each job
   abbrev pub Done : List (Job X T) → List (Job X T) → Type 0
   Done js ks =
       (length ks ≡ length js) × ((i : ℕ) (d : Job X T) → i < length js → IsSomeAnd (slice_index_or ks i d).answer (λ r. Worked g f i (slice_index_or js i d).own r (slice_index_or ks i d).own))

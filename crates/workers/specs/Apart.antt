@@ -1,7 +1,7 @@
--- What calls at the places of a part of a list do.
+-- The effect of calls at the places of a part of a list.
 use Rattle.std.specs.Prelude.{◌≡◌, ℕ, ◌+◌, ◌<◌, List, length, slice_index_or}
 
--- P holds of each element at its place, where the part begins at the place `base`
+-- P holds of each element at its place; the part begins at the place `base`
 abbrev pub AcceptsFrom : {X : Type 0} → (ℕ → X → Type 0) → ℕ → List X → Type 0
 AcceptsFrom P base xs = (k : ℕ) (d : _) → k < length xs → P (base + k) (slice_index_or xs k d)
 

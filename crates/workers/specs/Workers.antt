@@ -1,11 +1,11 @@
--- What the workers of a team did.
+-- The work of a team.
 use Rattle.std.specs.Prelude.{◌≡◌, ℕ, ◌<◌, List, length, slice_index_or}
 use Rattle.std.specs.Prelude.{None}
 use Rattle.workers.specs.declared.jobs.Job.{Job}
 use denote.Ref.{MutBor}
 use denote.Param.Members.{Shared}
 
--- a job of which nothing is done
+-- a job that hasn't begun
 abbrev pub job_of : {X T : Type 0} → X → Job X T
 job_of x = record { own = x; answer = None }
 

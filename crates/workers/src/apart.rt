@@ -6,9 +6,9 @@ ghost use Rattle.workers.specs.Apart.{AcceptsFrom, ChangesFrom};
 
 use std::thread::{Threads, join_mut};
 
-/// Calls f(i, &mut s[i]) at each place, each in a thread of its own where one can be made, and waits for all. The calling thread
-/// makes no call where there are several: beside a thread that works, one that it made was seen to wait for its core while others
-/// were free.
+/// Calls f(i, &mut s[i]) at each place, each in a thread of its own if one can be made, and waits for all. If there are several,
+/// the calling thread makes no call itself: beside a thread that works, we saw a thread that it had made wait for its core while
+/// others were free.
 pub fn for_each_apart<R: Threads + Sync, T: Send, F: Fn(usize, &mut T) + Sync>(
     rt: &R,
     s: &mut [T],
@@ -24,7 +24,7 @@ pub fn for_each_apart<R: Threads + Sync, T: Send, F: Fn(usize, &mut T) + Sync>(
     each_from(rt, f, 0, s);
 }
 
-/// The calls at the places of a part of the whole, which begins at `base`.
+/// Makes the calls at the places of a part of the whole, which begins at `base`.
 #[cycle(from)]
 fn each_from<R: Threads + Sync, T: Send, F: Fn(usize, &mut T) + Sync>(
     rt: &R,
@@ -43,8 +43,8 @@ fn each_from<R: Threads + Sync, T: Send, F: Fn(usize, &mut T) + Sync>(
     both(rt, f, base, first, base + 1, rest);
 }
 
-/// The calls of two parts, those of the first in a new thread. A function of its own, so that what its closures require is what
-/// it is given.
+/// Makes the calls of two parts, those of the first in a new thread. It is its own function so that it is given exactly what
+/// its closures require.
 #[cycle(from)]
 fn both<R: Threads + Sync, T: Send, F: Fn(usize, &mut T) + Sync>(
     rt: &R,
@@ -71,7 +71,7 @@ fn both<R: Threads + Sync, T: Send, F: Fn(usize, &mut T) + Sync>(
     join_mut(rt, &mut front, &mut back);
 }
 
-/// The calls at the places of a part, one after the other.
+/// Makes the calls at the places of a part, one after the other.
 fn in_turn<T, F: Fn(usize, &mut T)>(f: &F, base: usize, s: &mut [T])
     requires room { base + length s.old < 2 ^ 64 }
     requires accepts { AcceptsFrom (AcceptsAt F.Fn f.now) base s.old }

@@ -9,16 +9,16 @@ use bpf_model::NoMemory;
 use std::alloc::Global;
 use std::thread::Threads;
 
-/// What one worker is given, and its answer.
+/// One worker's input and answer.
 #[derive(Drop)]
 struct Job<X, T> {
     own: X,
     answer: Option<T>,
 }
 
-/// Calls `f(i, &mut x)` for each element `x` at its place `i`, each in a thread of its own where one can be made, and waits for
-/// all of them. Gives the elements back in their order, with what the calls answered. `NoMemory` where a request for the lists of
-/// jobs was refused; nothing was called then.
+/// Calls `f(i, &mut x)` for each element `x` at its place `i`, each in a thread of its own if one can be made, and waits for all
+/// of them. Returns the elements in their order, with the answers of the calls. `NoMemory` if a request for the lists of jobs is
+/// refused; then nothing was called.
 pub fn work<R: Threads + Sync, X: Send + Drop, T: Send + Drop, F: Fn(usize, &mut X) -> T + Sync>(
     rt: &R,
     alloc: Global,
@@ -44,7 +44,7 @@ pub fn work<R: Threads + Sync, X: Send + Drop, T: Send + Drop, F: Fn(usize, &mut
     (left, Ok(answers))
 }
 
-/// A job for each element, in the room that is there.
+/// Makes a job for each element, in room that was already asked for.
 fn given_out<X: Drop, T: Drop>(all: Vec<X>, mut jobs: Vec<Job<X, T>>) -> Vec<Job<X, T>>
     requires empty { jobs.items ≡ [] }
     requires room { vec_len all ≤ vec_capacity jobs }
@@ -59,7 +59,7 @@ fn given_out<X: Drop, T: Drop>(all: Vec<X>, mut jobs: Vec<Job<X, T>>) -> Vec<Job
     jobs
 }
 
-/// What the jobs hold, in the room that is there.
+/// Takes the jobs apart, in room that was already asked for.
 fn handed_back<X: Drop, T: Drop>(
     jobs: Vec<Job<X, T>>,
     mut left: Vec<X>,

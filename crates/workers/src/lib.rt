@@ -1,7 +1,7 @@
 //! Calls of one function by several threads, one for each element of a list.
 //!
-//! The promise to the layers above: `work` calls the function once for each element, with its place, and gives back the
-//! elements in their order and what the calls answered (`AllWorked` of `specs/Workers.antt`); `for_each_apart` makes the
+//! The promise to the layers above: `work` calls the function once for each element, with its place, and returns the
+//! elements in their order with the answers of the calls (`AllWorked` of `specs/Workers.antt`). `for_each_apart` makes the
 //! calls over a slice (`ChangesEach` of std). The calling thread waits for all of them. `work` takes memory for three lists,
 //! `for_each_apart` takes none.
 #![tactic(auto)]

@@ -1,10 +1,10 @@
-//! Calls that add no key ask for no memory, where there is no room for a further key.
+//! Calls that add no key ask for no memory, even if there is no room for a further key.
 use super::methods::{COMPUTING, PLAIN, Row, Tried, play};
 use super::*;
 use bins::{HashedBins, ListBins};
 use std::process::Abort;
 
-/// A request of so many bytes is a mark to `tests/refused.sh`, and no other request is of this size.
+/// A request of this many bytes is a mark for `tests/refused.sh`; no other request has this size.
 const MARK: usize = 99_991;
 
 /// Asks for memory of the marked size.
@@ -13,7 +13,7 @@ fn mark(alloc: Global) -> Result<(), Fail> {
     Ok(())
 }
 
-/// Opens a table with eight entries in one stripe, as many as a list that doubles has room for; `a` has what it is to have before.
+/// Opens a table with eight entries in one stripe, as many as a doubling list has room for; `a` has its first value.
 fn full<T: Tried + Drop>(alloc: Global, programs: &Programs, before: Wanted) -> Result<T, Fail> {
     let mut table = T::opened(alloc)?;
     match before {
@@ -21,7 +21,7 @@ fn full<T: Tried + Drop>(alloc: Global, programs: &Programs, before: Wanted) -> 
         _ => play(&mut table, programs, b"A", Method::Put(b"other"))?,
     };
     for number in 0..7u8 {
-        // In the stripe of `a` and `A`, where there are four.
+        // In the stripe of `a` and `A`, if there are four.
         let name = [4 * number + 1];
         play(&mut table, programs, &name, Method::Put(b"other"))?;
     }
@@ -72,8 +72,8 @@ fn try_rows<T: Tried + Drop>(rt: &impl Abort, alloc: Global, rows: &[Row]) -> Re
     Ok(())
 }
 
-/// Also where each request between two marks is refused, of six calls on each kind of table: one of a list, and three of hashed
-/// bins, which try a growth with less.
+/// Also if each request between two marks is refused, of six calls on each kind of table: one of a list, and three of hashed
+/// bins, which try to grow again with less.
 #[test]
 fn a_call_that_adds_no_key_asks_for_no_memory(rt: HostRuntime) -> Result<(), Fail> {
     for rows in [PLAIN.as_slice(), &COMPUTING] {

@@ -38,7 +38,7 @@ const NO_OLD: Wanted = Unfit(InputPart::Old);
 
 const NO_ARG: Wanted = Unfit(InputPart::Arg);
 
-/// What the key has before, the method, the reply, and what the key has after.
+/// The key's value before, the method, the reply, and the key's value after.
 pub(super) type Row = (Wanted, Method, Wanted, Wanted);
 
 pub(super) const PLAIN: [Row; 19] = [
@@ -84,7 +84,7 @@ pub(super) const COMPUTING: [Row; 18] = [
     (WAS, Merge(&NINE, Sum), NO_ARG, WAS),
 ];
 
-/// What rows are tried on: a whole table, or bins of either kind alone.
+/// The tables that rows run on: a whole table, or only bins of either kind.
 pub(super) trait Tried: Sized {
     /// Opens it without an entry.
     fn opened(alloc: Global) -> Result<Self, Fail>;
@@ -130,7 +130,7 @@ pub(super) struct Names {
     pub(super) neighbour: &'static [u8],
 }
 
-/// A key with which the other one begins.
+/// One key is a beginning of the other.
 pub(super) const BEGINNING: Names = Names {
     key: b"a",
     neighbour: b"ab",
@@ -153,7 +153,7 @@ pub(super) fn play<T: Tried>(
     Ok(table.made(&lender.call(programs))?)
 }
 
-/// Opens a table in which the neighbour has an entry, and the key the one that it is to have before.
+/// Opens a table in which the neighbour has an entry, and the key its first one.
 fn filled<T: Tried + Drop>(
     alloc: Global,
     programs: &Programs,
@@ -168,7 +168,7 @@ fn filled<T: Tried + Drop>(
     Ok(table)
 }
 
-/// Tells whether the reply to the row's call is the wanted one, and what its key and the neighbour have after it.
+/// Tells whether the row's call gets the expected reply, and leaves the expected values at its key and the neighbour.
 fn is_kept<T: Tried>(
     table: &mut T,
     programs: &Programs,
@@ -216,7 +216,7 @@ fn methods_with_programs(rt: HostRuntime) -> Result<(), Fail> {
     try_everywhere(&rt, rt.alloc(), ONE_HASH, &COMPUTING)
 }
 
-/// What a `Compute` lends.
+/// The data that a `Compute` borrows.
 #[derive(Drop)]
 struct Computing {
     key: Key,
@@ -225,7 +225,7 @@ struct Computing {
 }
 
 impl Computing {
-    /// Lends the call of the program on the key `a` with this argument.
+    /// Makes the data for a call of the program on the key `a` with this argument.
     fn new(program: Verified, arg: Option<&[u8]>) -> Result<Computing, TooLong> {
         let arg = match arg {
             Some(bytes) => Some(value(bytes)?),
@@ -256,7 +256,7 @@ fn table_with(alloc: Global, key: &Key, old: Option<&[u8]>) -> Result<Striped, F
     Ok(table)
 }
 
-/// Tells whether the call is refused for the key's value, and leaves it.
+/// Tells whether the call refuses the key's value as unfit, and leaves it.
 fn is_unfit(alloc: Global, computing: &Computing, old: &'static [u8]) -> Result<bool, Fail> {
     let key = &computing.key;
     let mut table = table_with(alloc, key, Some(old))?;
@@ -273,7 +273,7 @@ fn a_longest_value_is_unfit_where_one_byte_is_missing(rt: HostRuntime) -> Result
     Ok(())
 }
 
-/// Answers two numbers of 8 bytes: the length of the old value and that of the argument, -1 where there is none.
+/// Answers two numbers of 8 bytes: the length of the old value and that of the argument, -1 if there is none.
 const LENGTHS_TOLD: &str = "stxd [r4+0], r7\nstxd [r4+8], r8\nmov64 r0, 16\nexit\n";
 
 /// Eight bytes each: the length -1, 0 and 1.
@@ -281,7 +281,7 @@ const ABSENT: [u8; 8] = [255; 8];
 
 const EMPTY_LENGTH: [u8; 8] = [0; 8];
 
-/// The old value, the argument, and the two lengths that a program is told.
+/// The old value, the argument, and the two lengths that a program should see.
 type LengthRow = (
     Option<&'static [u8]>,
     Option<&'static [u8]>,
@@ -307,7 +307,7 @@ fn is_pair(reply: &Reply, first: &[u8; 8], second: &[u8; 8]) -> bool {
     bytes.starts_with(first) && bytes.ends_with(second) && bytes.len() == 16
 }
 
-/// Tells whether the program is told the row's lengths.
+/// Tells whether the program sees the row's lengths.
 fn are_told(alloc: Global, row: &LengthRow) -> Result<bool, Fail> {
     let (old, arg, first, second) = row;
     let program = verified(alloc, LENGTHS_TOLD, sizes(64, 8, 8, 16))?;

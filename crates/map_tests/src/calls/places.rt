@@ -1,4 +1,4 @@
-//! In which stripe of a shared map keys lie.
+//! Which stripe of a shared map keys are in.
 ghost use Rattle.std.specs.Prelude.{◌≡◌};
 
 use super::shared::map_and_pass;
@@ -7,7 +7,7 @@ use crate::entries::key_of_pairs;
 use bin_stripes::{Pass, StripedMap};
 use std::sync::Wait;
 
-/// Puts each key; none where memory was refused.
+/// Puts each key. Returns `None` if memory was refused.
 fn put_all<R: Wait>(rt: &R, map: &StripedMap, pass: &mut Pass, keys: &[Key]) -> Option<()>
     requires { pass.old.map ≡ map.now }
     ensures { pass.new.map ≡ map.now }
@@ -30,7 +30,7 @@ fn count_in<R: Wait>(rt: &R, map: &StripedMap, pass: &mut Pass, stripe: u64) -> 
     Some(map.count_stripe(rt, pass, stripe))
 }
 
-/// Tells whether each stripe has so many entries.
+/// Tells whether each stripe has this many entries.
 fn has_each<R: Wait>(rt: &R, map: &StripedMap, pass: &mut Pass, wanted: u64) -> bool
     requires { pass.old.map ≡ map.now }
     ensures { pass.new.map ≡ map.now }
@@ -43,7 +43,7 @@ fn has_each<R: Wait>(rt: &R, map: &StripedMap, pass: &mut Pass, wanted: u64) -> 
     true
 }
 
-/// Tells whether keys lie in all stripes alike: so many in each.
+/// Tells whether keys are spread evenly: this many in each stripe.
 fn are_dealt<R: Wait>(
     rt: &R,
     alloc: Global,
@@ -78,7 +78,7 @@ fn is_stripe_of_all(map: &StripedMap, keys: &[Key], stripe: u64) -> bool {
     same
 }
 
-/// Tells whether the keys, of which there are 32, all lie in this stripe.
+/// Tells whether the keys, 32 of them, are all in this stripe.
 fn are_together<R: Wait>(
     rt: &R,
     alloc: Global,

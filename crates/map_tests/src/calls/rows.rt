@@ -1,7 +1,7 @@
 //! A list of calls.
 use super::*;
 
-/// Nine calls on values of one byte, and what they reply.
+/// Nine calls on values of one byte, and their replies.
 const CALLS: [(&[u8], Method, Wanted); 9] = [
     (b"a", Method::Put(&[1]), Wanted::Nothing),
     (b"a", Method::PutIfAbsent(&[2]), Wanted::Bytes(&[1])),
@@ -18,7 +18,7 @@ const CALLS: [(&[u8], Method, Wanted); 9] = [
     (b"a", Method::Get, Wanted::Nothing),
 ];
 
-/// Tells whether these are the wanted replies.
+/// Tells whether these are the expected replies.
 fn are_wanted(replies: &[Reply]) -> bool {
     let mut right = replies.len() == CALLS.len();
     for (reply, (_, _, wanted)) in replies.iter().zip(&CALLS) {
@@ -27,7 +27,7 @@ fn are_wanted(replies: &[Reply]) -> bool {
     right
 }
 
-/// Tells whether an empty table replies as wanted to one call after the other.
+/// Tells whether an empty table gives the expected replies to one call after the other.
 fn reply_one_by_one(alloc: Global, stripes: u64, calls: &[Call<'_>]) -> Result<bool, Fail> {
     let mut table = Striped::open(alloc, stripes)?;
     let mut right = calls.len() == CALLS.len();
@@ -37,14 +37,14 @@ fn reply_one_by_one(alloc: Global, stripes: u64, calls: &[Call<'_>]) -> Result<b
     Ok(right)
 }
 
-/// Tells whether an empty table replies as wanted to all calls in one run.
+/// Tells whether an empty table gives the expected replies to all calls in one run.
 fn reply_in_one_run(alloc: Global, stripes: u64, calls: &[Call<'_>]) -> Result<bool, Fail> {
     let mut table = Striped::open(alloc, stripes)?;
     let replies = table.run(alloc, calls)?;
     Ok(are_wanted(&replies))
 }
 
-/// Makes what the calls lend.
+/// Makes the data that the calls borrow.
 fn lenders(alloc: Global) -> Result<Vec<Lender>, Fail> {
     let mut lenders = Vec::new(alloc);
     for (name, method, _) in CALLS {

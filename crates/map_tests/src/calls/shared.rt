@@ -1,4 +1,4 @@
-//! Each method by the calls that leave a reply's bytes in a place of the caller's.
+//! Each method by the calls that leave a reply's bytes with the caller.
 ghost use Rattle.std.specs.Prelude.{◌≡◌, All, IfSome};
 
 use super::methods::{BEGINNING, COMPUTING, Names, ONE_HASH, PLAIN, Row};
@@ -12,7 +12,7 @@ fn last_pass(map: &StripedMap, mut passes: Vec<Pass>) -> Option<Pass>
     requires { All (λ pass. pass.map ≡ map.now) passes.items }
     ensures { IfSome result (λ pass. pass.map ≡ map.now) }
 {
-    // For the clauses alone, which name the map.
+    // Only for the clauses, which name the map.
     let _ = map;
     let Some(pass) = passes.pop() else {
         return None;
@@ -20,7 +20,7 @@ fn last_pass(map: &StripedMap, mut passes: Vec<Pass>) -> Option<Pass>
     Some(pass)
 }
 
-/// Opens a map of so many stripes, with one pass; none where memory was refused.
+/// Opens a map with this many stripes and one pass. Returns `None` if memory was refused.
 pub(super) fn map_and_pass(alloc: Global, stripes: u64) -> Option<(StripedMap, Pass)>
     ensures { IfSome result (λ r. r.1.map ≡ r.0) }
 {
@@ -29,8 +29,8 @@ pub(super) fn map_and_pass(alloc: Global, stripes: u64) -> Option<(StripedMap, P
     Some((map, pass))
 }
 
-/// Tells whether the reply to the method on the key of this name is the wanted one. What an earlier reply left in the place
-/// stays there, where this one leaves no bytes.
+/// Tells whether the method on the key of this name gets the expected reply. If this reply leaves no bytes, those of an
+/// earlier one stay.
 fn replies<R: Wait>(
     rt: &R,
     map: &StripedMap,
@@ -65,7 +65,7 @@ fn enter(
     Ok(())
 }
 
-/// Plays a row on the key of a map, in which the key has a neighbour: whether each reply is the wanted one.
+/// Plays a row on the key of a map, in which the key has a neighbour. Tells whether each reply is the expected one.
 fn is_row_kept<R: Wait>(
     rt: &R,
     programs: &Programs,

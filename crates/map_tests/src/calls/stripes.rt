@@ -1,7 +1,7 @@
 //! Hashes, stripes, passes over a whole table, and refused memory.
 use super::*;
 
-/// Tells whether the key has this hash, and lies in this stripe of four.
+/// Tells whether the key has this hash, and is in this stripe of four.
 fn is_hashed(bytes: &[u8], hash: u32, stripe: u64) -> Result<bool, TooLong> {
     let key = key(bytes)?;
     Ok(hash_of(&key) == hash && is_stripe_count(4) && stripe_of(&key, 4) == stripe)
@@ -14,13 +14,13 @@ fn hashes_are_those_of_the_rows(rt: HostRuntime) -> Result<(), Fail> {
     Ok(())
 }
 
-/// Tells whether a table of so many stripes is opened without an entry.
+/// Tells whether a table of this many stripes opens without an entry.
 fn is_opened_empty(alloc: Global, stripes: u64) -> Result<bool, Fail> {
     let table = Striped::open(alloc, stripes)?;
     Ok(table.scan(alloc)?.is_empty())
 }
 
-/// Returns the number under which a table of so many stripes is refused, or 0 if it is opened.
+/// Returns the number of the error if a table of this many stripes is refused, or 0 if it opens.
 fn refusal(alloc: Global, stripes: u64) -> u8 {
     match Striped::open(alloc, stripes) {
         Ok(_) => 0,
@@ -83,7 +83,7 @@ fn has(table: &mut Striped, name: &[u8], bytes: &[u8]) -> Result<bool, Fail> {
     Ok(reply == Reply::Value(Some(value(bytes)?)))
 }
 
-/// Tells whether a pass over the three entries replaces the two that fit.
+/// Tells whether a replacement of the three values replaces the two that fit.
 fn are_replaced(alloc: Global, sum: &Verified, stripes: u64) -> Result<bool, Fail> {
     let counted = Counts {
         scanned: 3,
@@ -107,7 +107,7 @@ fn a_pass_replaces_what_fits(rt: HostRuntime) -> Result<(), Fail> {
     Ok(())
 }
 
-/// How many keys are put and asked for.
+/// This many keys are put and asked for.
 const KEYS: u8 = 40;
 
 /// Makes the key of one byte.
@@ -115,7 +115,7 @@ fn key_of(number: u8) -> Key {
     Key::from_slice(&[number]).unwrap()
 }
 
-/// Makes the value that each key has.
+/// Makes the value of each key.
 fn new_value() -> Value {
     Value::from_slice(b"new").unwrap()
 }
@@ -143,7 +143,7 @@ fn put(table: &mut Striped, number: u8) -> Result<Reply, NoMemory> {
     table.apply(&Call::Put { key, value })
 }
 
-/// Puts the keys below this one, each once more if it was refused.
+/// Puts the keys below this one, each again if it was refused.
 fn fill(table: &mut Striped, end: u8) -> Result<(), NoMemory> {
     for number in 0..end {
         if put(table, number).is_err() {
@@ -153,7 +153,7 @@ fn fill(table: &mut Striped, end: u8) -> Result<(), NoMemory> {
     Ok(())
 }
 
-/// Opens a table of so many stripes, once more if memory was refused.
+/// Opens a table of this many stripes, and again if memory was refused.
 fn opened(alloc: Global, stripes: u64) -> Result<Striped, OpenFault> {
     match Striped::open(alloc, stripes) {
         Err(OpenFault::NoMemory) => Striped::open(alloc, stripes),
@@ -161,7 +161,7 @@ fn opened(alloc: Global, stripes: u64) -> Result<Striped, OpenFault> {
     }
 }
 
-/// Also where one allocation fails. Each stripe asks for its bins: `tests/refused.sh` looks at how many requests there are.
+/// Also if one allocation fails. Each stripe asks for its bins: `tests/refused.sh` looks at the number of requests.
 #[test]
 fn a_refused_open_can_be_made_again(rt: HostRuntime) -> Result<(), Fail> {
     let table = opened(rt.alloc(), 64)?;
@@ -169,7 +169,7 @@ fn a_refused_open_can_be_made_again(rt: HostRuntime) -> Result<(), Fail> {
     Ok(())
 }
 
-/// Puts the key, and once more if it was refused; whether the table then had just the keys before it.
+/// Puts the key, and again if it was refused. Tells whether the table then had exactly the keys before it.
 fn is_refused_well(table: &mut Striped, number: u8) -> Result<bool, NoMemory> {
     if put(table, number).is_ok() {
         return Ok(true);
@@ -179,7 +179,7 @@ fn is_refused_well(table: &mut Striped, number: u8) -> Result<bool, NoMemory> {
     Ok(left)
 }
 
-/// Also where one allocation fails: that call leaves the table, and the same call once more enters.
+/// Also if one allocation fails: that call leaves the table, and the same call again enters.
 #[test]
 fn a_refused_call_leaves_the_table(rt: HostRuntime) -> Result<(), Fail> {
     let mut table = opened(rt.alloc(), 4)?;
@@ -193,7 +193,7 @@ fn a_refused_call_leaves_the_table(rt: HostRuntime) -> Result<(), Fail> {
 /// The nine keys that one run puts, and that are scanned.
 const RUN: [u8; 9] = [0, 1, 2, 3, 4, 5, 6, 7, 8];
 
-/// Puts nine keys in one run; the replies to the calls that were made.
+/// Puts nine keys in one run. Returns the replies to the calls that were made.
 fn replies_of_run(alloc: Global, table: &mut Striped) -> Vec<Reply> {
     let value = &new_value();
     let keys = [
@@ -226,7 +226,7 @@ fn count_of(replies: &[Reply]) -> Option<u8> {
     Some(count)
 }
 
-/// Also where one allocation fails: the calls that were replied to were made, and no other.
+/// Also if one allocation fails: exactly the calls with a reply were made.
 #[test]
 fn a_stopped_run_made_the_calls_that_were_replied_to(rt: HostRuntime) -> Result<(), Fail> {
     let mut table = opened(rt.alloc(), 4)?;
@@ -236,7 +236,7 @@ fn a_stopped_run_made_the_calls_that_were_replied_to(rt: HostRuntime) -> Result<
     Ok(())
 }
 
-/// Scans the table, and once more if memory was refused.
+/// Scans the table, and again if memory was refused.
 fn scanned(alloc: Global, table: &Striped) -> Result<Vec<(Key, Value)>, NoMemory> {
     match table.scan(alloc) {
         Err(NoMemory) => table.scan(alloc),
@@ -253,7 +253,7 @@ fn are_nine(found: &[(Key, Value)]) -> bool {
     right
 }
 
-/// Also where one allocation fails: a scan gives all entries, or none and can be made again.
+/// Also if one allocation fails: a scan gives all entries, or none and can be made again.
 #[test]
 fn a_refused_scan_leaves_the_table(rt: HostRuntime) -> Result<(), Fail> {
     let mut table = opened(rt.alloc(), 4)?;

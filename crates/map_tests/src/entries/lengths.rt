@@ -1,4 +1,4 @@
-//! Keys and values of the lengths at which an entry wants a wider or a narrower row.
+//! Keys and values of the lengths at which an entry needs a wider or a narrower row.
 
 use super::*;
 
@@ -8,7 +8,7 @@ const VALUE_LENGTHS: [usize; 14] = [
     0, 18, 19, 32, 33, 64, 65, 128, 129, 312, 313, 912, 913, 1_024,
 ];
 
-/// Makes a value of so many bytes.
+/// Makes a value of this many bytes.
 fn value_of(byte: u8, length: usize) -> Result<Value, Fail> {
     let bytes = [byte; 1_024];
     Ok(Value::from_slice(bytes.get(..length).unwrap_or(&[]))?)
@@ -21,7 +21,8 @@ fn put_value<B: Bins>(bins: &mut B, name: &[u8], byte: u8, length: usize) -> Res
     Ok(())
 }
 
-/// Removes a key that has a value of this byte and length; whether it was found and given back, and is then not there.
+/// Removes a key that has a value of this byte and length. Tells whether it was found and given back, and is then not
+/// there.
 fn is_taken<B: Bins>(bins: &mut B, name: &[u8], byte: u8, length: usize) -> Result<bool, Fail> {
     let key = Key::from_slice(name)?;
     let key = HashedKey::new(&key);
@@ -31,8 +32,8 @@ fn is_taken<B: Bins>(bins: &mut B, name: &[u8], byte: u8, length: usize) -> Resu
     Ok(found && removed && bins.find(&key).is_none())
 }
 
-/// Puts a value of the one length and then one of the other on a key between two entries of their own, and removes all
-/// three; whether each entry had what was put last.
+/// Puts a value of the one length and then one of the other on a key between two other entries, and removes all three.
+/// Tells whether each entry had its last value.
 fn is_replaced<B: Bins>(bins: &mut B, key: &[u8], lengths: (usize, usize)) -> Result<bool, Fail> {
     put_value(bins, b"first", 1, lengths.1)?;
     put_value(bins, key, 2, lengths.0)?;
@@ -64,7 +65,7 @@ fn fit_on_key<B: Bins>(bins: &mut B, length: usize) -> Result<bool, Fail> {
     Ok(right)
 }
 
-/// Replaces values of each length on keys of each length; whether none is left.
+/// Replaces values of each length on keys of each length. Tells whether none is left.
 pub(super) fn fit_each_length<B: Bins + Drop>(alloc: Global) -> Result<bool, Fail> {
     let mut bins = B::open(alloc, 4)?;
     let mut right = true;

@@ -1,4 +1,4 @@
-//! Made-up calls over 2,000 keys, beside a plain list of what each key should have.
+//! Made-up calls over 2,000 keys, compared with a plain list of the keys' values.
 ghost use Rattle.std.specs.Prelude.{◌<◌};
 
 use super::*;
@@ -45,7 +45,7 @@ fn put_both<B: Bins>(
     Ok(true)
 }
 
-/// Changes the value of the key, if it has one; whether bins and list agreed on it.
+/// Changes the value of the key, if it has one. Tells whether bins and list agreed on it.
 fn change_both<B: Bins>(
     bins: &mut B,
     key: &HashedKey<'_>,
@@ -62,7 +62,7 @@ fn change_both<B: Bins>(
     }
 }
 
-/// Makes one call on a made-up key, in the bins and in the list; whether they agree on what it found.
+/// Makes one call on a made-up key, in the bins and in the list. Tells whether they agree on what it found.
 fn step<B: Bins>(
     bins: &mut B,
     list: &mut [Option<Value>],
@@ -82,7 +82,7 @@ fn step<B: Bins>(
     }
 }
 
-/// Returns the entries that the list has, in key order.
+/// Returns the entries of the list, in key order.
 fn listed(alloc: Global, list: &[Option<Value>]) -> Result<Vec<(Key, Value)>, Fail> {
     let mut entries = Vec::new(alloc);
     for (number, value) in (0..KEYS).zip(list) {
@@ -102,7 +102,7 @@ fn empty_list(alloc: Global) -> Result<Vec<Option<Value>>, Fail> {
     Ok(list)
 }
 
-/// Makes so many calls; whether bins and list agreed on each, and have the same entries in the end.
+/// Makes `calls` calls. Tells whether bins and list agreed on each, and have the same entries in the end.
 fn agree<B: Bins + Drop>(alloc: Global, calls: u32) -> Result<bool, Fail> {
     let mut bins = B::open(alloc, 1)?;
     let mut list = empty_list(alloc)?;

@@ -3,7 +3,8 @@ use super::*;
 use crate::programs::{NINE, NOTHING, ONE, THREE, TWO, sizes, summing, verified};
 use verifier::Verified;
 
-/// Makes a pass with this program and argument, which is to find three entries; whether it counted as wanted and left these.
+/// Replaces values with this program and argument, which should find three entries. Tells whether it counted as expected and
+/// left these.
 fn is_made<B: Bins>(
     bins: &mut B,
     alloc: Global,
@@ -17,7 +18,8 @@ fn is_made<B: Bins>(
     Ok(counted && holds(bins, alloc, &after)?)
 }
 
-/// Makes one pass after another over three entries, the one of `c` too long; whether each counted and left what is wanted.
+/// Makes one replacement after another over three entries, the one of `c` too long. Tells whether each gave the expected
+/// counts and entries.
 pub(super) fn are_replaced<B: Bins + Drop>(alloc: Global) -> Result<bool, Fail> {
     let sum = summing(alloc)?;
     let nothing = verified(alloc, NOTHING, sizes(64, 8, 8, 8))?;

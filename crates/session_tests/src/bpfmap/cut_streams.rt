@@ -1,4 +1,4 @@
-//! Sessions whose input or output fails, or is cut anywhere. What is answered to frames has its rows in `tests/frames.txt`.
+//! Sessions whose input or output fails, or is cut anywhere. The answers to frames have their rows in `tests/frames.txt`.
 use super::memory::{Pieces, ROOM, Room, call};
 use map_server::{Alone, SessionEnd, StreamSink, StreamSource, session_alone};
 use std::sync::Wait;
@@ -18,7 +18,7 @@ const GET: &[u8] = b"\0\0\0\x02\0\x01\0\0\0\x03\x10\x01a";
 
 const GET_ANSWERED: &[u8] = b"\0\0\0\x02\x80\x01\0\0\0\x05\x82\0\x02xy";
 
-/// Tells how many bytes are answered to so many of the session's bytes, and the status.
+/// Returns the number of bytes in the answers to the session's first `cut` bytes, and the status.
 fn answered_to(cut: usize) -> (usize, u8) {
     match cut {
         0 => (0, 0),
@@ -31,7 +31,7 @@ fn answered_to(cut: usize) -> (usize, u8) {
     }
 }
 
-/// Tells whether a session over these bytes, after which the input ends or fails, is answered as wanted.
+/// Tests whether a session over these bytes is answered as wanted, if the input then ends or fails.
 fn is_cut_told<R: AllocGlobal + Wait>(rt: &R, input: Pieces<'_>) -> bool {
     let (written, status) = answered_to(input.rest.len());
     let told: &[u8] = if input.fails { b"failed read\n" } else { b"" };
@@ -52,7 +52,7 @@ fn an_input_that_ends_or_fails_is_told(rt: HostRuntime) {
     }
 }
 
-/// Tells whether the session is told that its output failed once it took so many bytes.
+/// Tests whether the session reports that its output failed after `room` bytes.
 fn is_failed_write_told<R: AllocGlobal + Wait>(rt: &R, room: usize, size: usize) -> bool {
     let input = Pieces {
         rest: &PUT_AND_GET,
@@ -75,7 +75,7 @@ fn an_output_that_fails_is_told(rt: HostRuntime) {
     }
 }
 
-/// Runs one session over a table that stays, with this room for what is written.
+/// Runs one session over a table that stays, with this much room for its output.
 pub(crate) fn session<R: AllocGlobal + Wait>(
     rt: &R,
     alone: &mut Alone,
@@ -92,7 +92,7 @@ pub(crate) fn session<R: AllocGlobal + Wait>(
     (end, writer.into_inner().bytes)
 }
 
-/// Tells whether a session over a table that stays is closed, and answered so.
+/// Tests whether a session over a table that stays is closed and has these answers.
 pub(crate) fn is_answered<R: AllocGlobal + Wait>(
     rt: &R,
     alone: &mut Alone,
@@ -103,7 +103,7 @@ pub(crate) fn is_answered<R: AllocGlobal + Wait>(
     end == SessionEnd::Closed && written.as_slice() == answers
 }
 
-/// Tells whether the Put stands whose answer found no room, and the session ended for that.
+/// Tests whether the Put stands, although its answer found no room and that ended the session.
 fn stands<R: AllocGlobal + Wait>(rt: &R, alone: &mut Alone, room: usize) -> bool {
     let (end, written) = session(rt, alone, &PUT_AND_GET, room);
     let answers = PUT_AND_GET_ANSWERED.get(..room).unwrap_or(&[]);

@@ -1,4 +1,4 @@
-//! Faults of devices, and words that are not there.
+//! Faults of devices, and a missing command line.
 use super::memory::{Interrupted, Outcome, Pieces, ROOM, Room, call};
 use map_server::{StreamSink, StreamSource, bpfmap_on, tell_unread_words};
 use std::alloc::Global;
@@ -35,7 +35,7 @@ fn failed_reads_end_with_status_3(rt: HostRuntime) {
     }
 }
 
-/// Tells whether the status is 3, the output is full, and this is all that is told.
+/// Tests whether the status is 3, the output is full, and only this is told.
 fn is_failed_write(found: &Outcome, room: usize, errors_room: usize) -> bool {
     let told = &b"failed write\n"[..errors_room.min(13)];
     found.status == 3 && found.output.len() == room && found.errors.as_slice() == told
@@ -87,7 +87,7 @@ fn what_is_told_of_a_failed_write_is_that_alone(rt: HostRuntime) {
     }
 }
 
-/// Tells of words that were not read; what that leaves.
+/// Tells of words that were not read. Returns the status and the output.
 fn tell(alloc: Global, kind: ErrorKind) -> Outcome {
     let mut writer = StreamSink::new(Room::new(alloc, ROOM));
     let mut errors = StreamSink::new(Room::new(alloc, ROOM));
@@ -107,7 +107,7 @@ fn unread_words_are_told(rt: HostRuntime) {
     assert!(rt; text.is(2, b"", b"error: the command line is not UTF-8\n"));
 }
 
-/// Makes a call whose reads and writes are each interrupted so many times.
+/// Makes a call whose reads and writes are each interrupted `times` times.
 fn interrupted<R: AllocGlobal + Wait>(rt: &R, times: u8) -> Outcome {
     let alloc = rt.alloc();
     let mut reader = StreamSource::new(Interrupted::new(pieces(NOTHING, 5, false), times));

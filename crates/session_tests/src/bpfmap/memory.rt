@@ -4,7 +4,7 @@ use std::alloc::Global;
 use std::io::{self, ErrorKind, Read, Write};
 use std::sync::Wait;
 
-/// Gives its bytes in pieces of at most this size, and then its end or a failure.
+/// Gives its bytes in pieces of at most this size, and then ends or fails.
 #[derive(Drop)]
 pub struct Pieces<'a> {
     pub rest: &'a [u8],
@@ -58,7 +58,7 @@ impl Write for Room {
     }
 }
 
-/// A device whose every call is interrupted this many times before it is made.
+/// A device whose calls are each interrupted `times` times before they are made.
 #[derive(Drop)]
 pub struct Interrupted<D> {
     pub inner: D,
@@ -67,7 +67,7 @@ pub struct Interrupted<D> {
 }
 
 impl<D> Interrupted<D> {
-    /// Makes the device's calls be interrupted this many times.
+    /// Makes a device whose calls are each interrupted this many times.
     pub fn new(inner: D, times: u8) -> Interrupted<D> {
         Interrupted {
             inner,
@@ -76,7 +76,7 @@ impl<D> Interrupted<D> {
         }
     }
 
-    /// Interrupts the call, or lets it be made if it was interrupted often enough.
+    /// Interrupts the call, or lets it through if it was interrupted often enough.
     fn interrupt(&mut self) -> io::Result<()> {
         if self.left == 0 {
             self.left = self.times;
@@ -105,7 +105,7 @@ impl<W: Write> Write for Interrupted<W> {
     }
 }
 
-/// What a call of `bpfmap_on` left.
+/// The status and the bytes that a call of `bpfmap_on` leaves.
 #[derive(Drop)]
 pub struct Outcome {
     pub status: u8,
@@ -114,7 +114,7 @@ pub struct Outcome {
 }
 
 impl Outcome {
-    /// Tells whether it has this status, output and errors.
+    /// Tests whether it has this status, output and errors.
     pub fn is(&self, status: u8, output: &[u8], errors: &[u8]) -> bool {
         self.status == status
             && self.output.as_slice() == output
@@ -124,7 +124,7 @@ impl Outcome {
 
 pub const ROOM: usize = 1 << 20;
 
-/// Makes one call, with this room in standard output and standard error.
+/// Makes one call, with this much room in standard output and standard error.
 pub fn call<R: AllocGlobal + Wait>(
     rt: &R,
     words: &[&str],

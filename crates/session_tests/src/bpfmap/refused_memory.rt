@@ -1,4 +1,4 @@
-//! Sessions of which one request for memory may be refused: `tests/refused.sh` refuses each in turn.
+//! Sessions in which one request for memory may be refused: `tests/refused.sh` refuses each in turn.
 use super::memory::{Pieces, ROOM};
 use arrayvec::ArrayVec;
 use atomic_methods::OpenFault;
@@ -10,7 +10,7 @@ use std::test::Fail;
 
 const KEPT_BYTES: usize = 512;
 
-/// Takes so many bytes without memory, and then fails.
+/// Takes up to `KEPT_BYTES` bytes without memory, and then fails.
 #[derive(Drop)]
 struct Kept {
     bytes: ArrayVec<u8, KEPT_BYTES>,
@@ -29,8 +29,8 @@ impl Write for Kept {
     }
 }
 
-/// A session behind a Hello: what is sent, what is answered to each request with ample memory, and what else may be
-/// answered where memory is refused to one of them.
+/// A session after a Hello: the frames, the answer to each with ample memory, and the other answers that may come if
+/// memory is refused to one of them.
 struct Row {
     name: &'static str,
     sent: &'static [u8],
@@ -102,7 +102,7 @@ const ROWS: [Row; 3] = [
     },
 ];
 
-/// Opens an empty table, once more if memory was refused.
+/// Opens an empty table, and tries once more if memory was refused.
 fn opened(alloc: Global) -> Result<Alone, OpenFault> {
     match Alone::open(alloc, 4) {
         Err(OpenFault::NoMemory) => Alone::open(alloc, 4),
@@ -110,7 +110,7 @@ fn opened(alloc: Global) -> Result<Alone, OpenFault> {
     }
 }
 
-/// The end of a session, and what was answered.
+/// The end of a session, and its answers.
 type Ended = (SessionEnd, ArrayVec<u8, KEPT_BYTES>);
 
 /// Runs one session, which reads a Hello and these frames in pieces of at most this size.
@@ -130,7 +130,7 @@ fn session(rt: &impl Wait, alloc: Global, alone: &mut Alone, frames: &[u8], size
     (end, writer.into_inner().bytes)
 }
 
-/// Tells whether the bytes are a welcome, these answers, and then the last.
+/// Tests whether the bytes are a welcome, these answers, and then the last.
 fn are(bytes: &[u8], answers: &[&[u8]], last: &[u8]) -> bool {
     let mut wanted = ArrayVec::<u8, KEPT_BYTES>::new();
     let _ = wanted.try_extend_from_slice(WELCOME);
@@ -141,7 +141,8 @@ fn are(bytes: &[u8], answers: &[&[u8]], last: &[u8]) -> bool {
     bytes == wanted.as_slice()
 }
 
-/// Tells whether a closed session answered as with ample memory, or refused one request, and one that memory ended the first of them.
+/// Tests the answers of a session. If it closed, they are as with ample memory, or one request was refused. If memory ended it, they
+/// are the first ones and a refusal.
 fn is_answered(row: &Row, ended: &Ended) -> bool {
     let bytes = ended.1.as_slice();
     match ended.0 {
@@ -156,7 +157,7 @@ fn is_answered(row: &Row, ended: &Ended) -> bool {
     }
 }
 
-/// Also where one request for memory is refused: the answer to it is a refusal, or it ends the session.
+/// If one request for memory is refused, the answer to that request is a refusal, or the session ends.
 #[test]
 fn a_refused_request_is_told(rt: HostRuntime) -> Result<(), Fail> {
     for row in &ROWS {
@@ -169,7 +170,7 @@ fn a_refused_request_is_told(rt: HostRuntime) -> Result<(), Fail> {
     Ok(())
 }
 
-/// Returns what a session with a Get is answered, or another one if memory ended it.
+/// Returns the answers of a session with a Get. If memory ended it, returns those of another one.
 fn got(rt: &impl Wait, alloc: Global, alone: &mut Alone, size: usize) -> ArrayVec<u8, KEPT_BYTES> {
     let (end, answered) = session(rt, alloc, alone, GET, size);
     if end == SessionEnd::NoMemory {
@@ -178,7 +179,7 @@ fn got(rt: &impl Wait, alloc: Global, alone: &mut Alone, size: usize) -> ArrayVe
     answered
 }
 
-/// Tells whether a Get is answered with the value of a Put that was answered for, and with none else.
+/// Tests whether a Get returns the value of a Put that was answered, and no other.
 fn is_left(rt: &impl Wait, alloc: Global, alone: &mut Alone, size: usize) -> bool {
     let (_, answered) = session(rt, alloc, alone, PUT, size);
     let is_put = answered.len() >= 13 && answered[12] == 0xFF;
@@ -187,7 +188,7 @@ fn is_left(rt: &impl Wait, alloc: Global, alone: &mut Alone, size: usize) -> boo
     are(answered.as_slice(), &[value], b"")
 }
 
-/// Also where one request for memory is refused: the table has the values that were answered for, and no other.
+/// If one request for memory is refused, the table has the values of the answered Puts, and no other.
 #[test]
 fn a_refused_request_leaves_the_table(rt: HostRuntime) -> Result<(), Fail> {
     for size in [ROOM, 9, 1] {

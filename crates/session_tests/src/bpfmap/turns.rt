@@ -1,4 +1,4 @@
-//! Sessions with a client that sends a frame only where it has the answers to those before.
+//! Sessions with a client that sends a frame only after it has the answers to those before.
 use atomic_methods::OpenFault;
 use client_protocol::ProtocolFault;
 use map_server::{Alone, SessionEnd, StreamSink, StreamSource, session_alone};
@@ -8,14 +8,14 @@ use std::io::{self, ErrorKind, Read, Write};
 use std::sync::Wait;
 use std::test::Fail;
 
-/// What is sent at once, and what is answered to it.
+/// Bytes that are sent at once, and the answers to them.
 struct Turn {
     sent: &'static [u8],
     answered: &'static [u8],
 }
 
-/// Gives the next turn's bytes, in pieces of at most this size, once so many bytes were passed on as were to be answered
-/// to the turns before; else it fails.
+/// Gives the next turn's bytes, in pieces of at most this size, once all answers to the turns before were passed on. If
+/// some weren't, it fails.
 #[derive(Drop)]
 struct Waiting<'a> {
     turns: &'a [Turn],
@@ -45,7 +45,7 @@ impl Read for Waiting<'_> {
     }
 }
 
-/// Keeps what is written until it is flushed, and counts the flushes.
+/// Holds what is written until it is flushed, and counts the flushes.
 #[derive(Drop)]
 struct Buffered<'a> {
     kept_back: Vec<u8>,
@@ -99,7 +99,7 @@ const CLOSED: [Turn; 4] = [HELLO_TURN, PUTS, GET, GET];
 
 const REFUSED: [Turn; 3] = [HELLO_TURN, GET_OF_NOTHING, UNKNOWN];
 
-/// Runs a session over these turns, in pieces of at most this size; how it ended, and what its sink was left with.
+/// Runs a session over these turns, in pieces of at most this size. Returns its end and its sink.
 fn session<'a, R: Wait>(
     rt: &R,
     alloc: Global,
@@ -125,7 +125,7 @@ fn session<'a, R: Wait>(
     Ok((end, writer.into_inner()))
 }
 
-/// A session over these turns, in pieces of at most this size: how it ends, and how often its answers are passed on.
+/// A session over these turns, in pieces of at most this size, with its end and the number of flushes.
 struct Row {
     turns: &'static [Turn],
     size: usize,
@@ -163,7 +163,7 @@ const ROWS: [Row; 4] = [
     },
 ];
 
-/// Tells whether all answers to the turns were passed on, and nothing else.
+/// Tests whether all answers to the turns were passed on, and nothing else.
 fn are_passed_on(alloc: Global, turns: &[Turn], sink: &Buffered<'_>) -> Result<bool, AllocError> {
     let mut wanted = Vec::new(alloc);
     for turn in turns {
@@ -172,7 +172,7 @@ fn are_passed_on(alloc: Global, turns: &[Turn], sink: &Buffered<'_>) -> Result<b
     Ok(sink.bytes.as_slice() == wanted.as_slice() && sink.kept_back.is_empty())
 }
 
-/// Tells whether the session ends as the row says, and its client has all answers.
+/// Tests whether the session ends as the row says, and its client has all answers.
 fn is_served<R: AllocGlobal + Wait>(rt: &R, row: &Row) -> Result<bool, Fail> {
     let alloc = rt.alloc();
     let passed_on = Cell::new(0);

@@ -1,9 +1,9 @@
-//! A session of version 1 over a table in which one of version 2 has put a value that is too long for it.
+//! A session of version 1 over a table with a value that is too long for it: one of version 2 has put it.
 use super::cut_streams::is_answered;
 use map_server::Alone;
 use std::test::Fail;
 
-/// A Hello of version 2, and a Put of 300 bytes but for the bytes themselves.
+/// A Hello of version 2, and a Put of 300 bytes without the bytes themselves.
 const PUT_300: [u8; 15] = [0, 0, 0, 2, 0, 2, 0, 0, 1, 0x31, 0x11, 1, 0x61, 1, 0x2c];
 
 /// The Hello, and no value before the Put.
@@ -15,7 +15,7 @@ const GET_REMOVE_GET: [u8; 27] = [
     0x61,
 ];
 
-/// The Hello, twice 65 in place of the value, and none.
+/// The Hello, 65 in place of the value twice, and nothing.
 const TOO_LONG_TWICE: [u8; 33] = [
     0, 0, 0, 2, 0x80, 1, 0, 0, 0, 6, 0x85, 0x41, 0, 0, 0, 0, 0, 0, 0, 6, 0x85, 0x41, 0, 0, 0, 0, 0,
     0, 0, 3, 0x82, 0xff, 0xff,

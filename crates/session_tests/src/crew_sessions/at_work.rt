@@ -1,4 +1,4 @@
-//! Two workers serve a client each at once: alone, and beside a thread that makes calls.
+//! Two workers serve one client each at the same time: alone, and while another thread makes calls.
 ghost use Rattle.std.specs.Prelude.{◌≡◌, All};
 ghost use Rattle.crews.specs.Crews.{IsCrewOf};
 
@@ -20,13 +20,13 @@ use std::thread::{self, Threads};
 /// The most turns that a thread waits for others.
 const TURNS: u64 = 10_000_000;
 
-/// The most calls that are made beside the sessions.
+/// The most calls that the other thread makes.
 const CALLS: u64 = 10_000_000;
 
 /// A Hello and a Count.
 const COUNT: &[u8] = b"\0\0\0\x02\0\x01\0\0\0\x01\x23";
 
-/// One entry, which is the caller's.
+/// One entry, the caller's.
 const COUNTED: &[u8] =
     b"\0\0\0\x02\x80\x01\0\0\0\x19\x87\0\0\0\0\0\0\0\x01\0\0\0\0\0\0\0\0\0\0\0\0\0\0\0\0";
 
@@ -69,7 +69,7 @@ impl Accept<StreamSource<Pieces<'static>>, StreamSink<Room>> for Clients {
 /// The bits of the workers 0 and 1.
 const BOTH: u64 = 3;
 
-/// Holds each worker before it answers until the workers 0 and 1 have come there.
+/// Holds each worker before it answers, until both workers, 0 and 1, are there.
 #[derive(Drop)]
 struct Meeting {
     come: AtomicU64,
@@ -92,7 +92,8 @@ impl Gate for Meeting {
     }
 }
 
-/// What a caller is to do, and has done: it puts 1, 2 and so on under the key `d`, so often at most, until it is told to stop.
+/// The caller's orders and its progress: it puts 1, 2 and so on under the key `d`, at most `most` times, until it is told to
+/// stop.
 #[derive(Drop)]
 struct Calls {
     most: u64,
@@ -102,7 +103,7 @@ struct Calls {
 }
 
 impl Calls {
-    /// Makes the calls, none of them made yet.
+    /// Makes the orders; no call was made yet.
     fn new(most: u64) -> Calls {
         Calls {
             most,
@@ -112,7 +113,7 @@ impl Calls {
         }
     }
 
-    /// Waits until the first call was made, where one is to be made.
+    /// Waits until the first call was made, if one is to be made.
     fn wait(&self) {
         for _ in 0..TURNS {
             if self.made.load(Ordering::SeqCst) >= self.most.min(1) {
@@ -124,7 +125,7 @@ impl Calls {
     }
 }
 
-/// Puts the number under the key `d`; whether the one before it was there.
+/// Puts the number under the key `d`. Returns whether the number before it was there.
 fn put<R: Wait>(rt: &R, map: &StripedMap, pass: &mut Pass, number: u64) -> bool
     requires { pass.old.map ≡ map.now }
     ensures { pass.new.map ≡ map.now }
@@ -141,7 +142,7 @@ fn put<R: Wait>(rt: &R, map: &StripedMap, pass: &mut Pass, number: u64) -> bool
     }
 }
 
-/// Makes the calls; whether each replied the number before its own. The pass comes back.
+/// Makes the calls. Returns the pass, and whether each call replied the number before its own.
 fn make_calls<R: Wait>(rt: &R, map: &StripedMap, mut pass: Pass, calls: &Calls) -> (Pass, bool)
     requires { pass.map ≡ map.now }
     ensures { result.0.map ≡ map.now }
@@ -157,7 +158,7 @@ fn make_calls<R: Wait>(rt: &R, map: &StripedMap, mut pass: Pass, calls: &Calls) 
     (pass, right)
 }
 
-/// What the sessions and the calls come to.
+/// The outcome of the sessions and the calls.
 #[derive(Drop)]
 struct Told {
     clients: Clients,
@@ -166,7 +167,7 @@ struct Told {
 }
 
 impl Told {
-    /// Makes what is told before anything was done.
+    /// Makes an outcome in which nothing has happened yet.
     fn new(alloc: Global, most: u64) -> Told {
         Told {
             clients: Clients {
@@ -182,8 +183,8 @@ impl Told {
         }
     }
 
-    /// Tells how many clients had the right answers, which workers came to the gate, how many of them did not meet there, and whether
-    /// the calls were late.
+    /// Returns how many clients had the right answers, which workers came to the gate, how many of them didn't meet there, and
+    /// whether the calls were late.
     fn found(&self) -> [u64; 4] {
         [
             self.clients.right.load(Ordering::SeqCst),
@@ -194,7 +195,7 @@ impl Told {
     }
 }
 
-/// Serves the clients, once the calls have begun; then the calls are to stop.
+/// Serves the clients once the calls have begun, and then stops the calls.
 fn serve_both<R: AllocGlobal + Threads + Wait + Sync>(
     rt: &R,
     map: &StripedMap,
@@ -218,7 +219,7 @@ fn serve_both<R: AllocGlobal + Threads + Wait + Sync>(
     back
 }
 
-/// Runs both at once, each in a thread of its own.
+/// Runs the sessions and the calls at once, each in its own thread.
 fn serve_beside<R: AllocGlobal + Threads + Wait + Sync>(
     rt: &R,
     map: &StripedMap,
@@ -243,7 +244,7 @@ fn serve_beside<R: AllocGlobal + Threads + Wait + Sync>(
     )
 }
 
-/// Tells whether the workers 0 and 1 are back.
+/// Tests whether the workers 0 and 1 are back.
 fn are_back(crews: &[Crew]) -> bool {
     match crews {
         [one, other] => one.worker == 0 && other.worker == 1,
@@ -251,7 +252,7 @@ fn are_back(crews: &[Crew]) -> bool {
     }
 }
 
-/// Tells whether the key `d` has this number.
+/// Tests whether the key `d` has this number.
 fn has_number<R: Wait>(rt: &R, map: &StripedMap, mut pass: Pass, number: u64) -> bool
     requires { pass.map ≡ map.now }
 {
@@ -264,7 +265,7 @@ fn has_number<R: Wait>(rt: &R, map: &StripedMap, mut pass: Pass, number: u64) ->
     }
 }
 
-/// Runs the two sessions beside so many calls at most.
+/// Runs the two sessions while another thread makes at most this many calls.
 fn meet_beside<R: AllocGlobal + Threads + Wait + Abort + Sync>(
     rt: &R,
     most: u64,

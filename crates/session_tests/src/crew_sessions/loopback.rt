@@ -1,4 +1,4 @@
-//! Two clients of one map on the loopback address, each served by a crew in a thread of its own.
+//! Two clients of one map on the loopback address. A crew serves each, in its own thread.
 ghost use Rattle.std.specs.Prelude.{◌≡◌, All, IfOk, IfSome};
 ghost use Rattle.crews.specs.Crews.{IsCrewOf};
 
@@ -23,15 +23,15 @@ const REGISTER: &[u8] = b"\0\0\0\x02\0\x01\
     \x79\x20\0\0\0\0\0\0\x79\x39\0\0\0\0\0\0\x0F\x90\0\0\0\0\0\0\
     \x7B\x04\0\0\0\0\0\0\xB7\0\0\0\x08\0\0\0\x95\0\0\0\0\0\0\0";
 
-/// Merge of 1 under the key `a`, by the program whose number is to stand in the last eight bytes.
+/// A Merge of 1 under the key `a`. The last eight bytes are for the program's number.
 const MERGE: [u8; 25] = *b"\0\0\0\x15\x1A\x01a\0\x08\x01\0\0\0\0\0\0\0\0\0\0\0\0\0\0\0";
 
-/// What the answer to a Merge begins with: a value of eight bytes.
+/// The beginning of the answer to a Merge: a value of eight bytes.
 const VALUE: &[u8] = b"\0\0\0\x0B\x82\0\x08";
 
 const MERGES: u32 = 100;
 
-/// Registers the sum as a client does, and merges 1 so many times; whether each answer was a value.
+/// Registers the sum as a client does, and merges 1 `MERGES` times. Returns whether each answer was a value.
 fn merge_by_ones<H: Net<Listener = TcpListener, Stream = TcpStream>>(
     rt: &H,
     address: &str,
@@ -53,7 +53,7 @@ fn merge_by_ones<H: Net<Listener = TcpListener, Stream = TcpStream>>(
     Ok(true)
 }
 
-/// Runs two clients at once; whether each answer was a value.
+/// Runs two clients at once. Returns whether each answer was a value.
 fn merge_twice<H: Threads + Net<Listener = TcpListener, Stream = TcpStream> + Sync>(
     rt: &H,
     address: &str,
@@ -66,7 +66,7 @@ fn merge_twice<H: Threads + Net<Listener = TcpListener, Stream = TcpStream> + Sy
     Ok(one? && other?)
 }
 
-/// Serves both clients; the crews, and whether the clients had the right answers.
+/// Serves both clients. Returns the crews, and whether the clients had the right answers.
 fn serve_beside<
     H: AllocGlobal + Threads + Wait + Net<Listener = TcpListener, Stream = TcpStream> + Sync,
     A: Accept<TcpReader, TcpWriter> + Sync,
@@ -106,7 +106,8 @@ fn joined_pass(map: &StripedMap, mut crews: Vec<Crew>) -> Option<Pass>
     Some(join_sessions(map, one.pass, other.pass))
 }
 
-/// Serves two clients, who merge; whether each answer was a value, and the crews' passes find the sum when they are joined.
+/// Serves two clients that merge. Returns whether each answer was a value, and the crews' passes find the sum after they
+/// are joined.
 fn serve_two<
     H: AllocGlobal + Threads + Wait + Net<Listener = TcpListener, Stream = TcpStream> + Sync,
     A: Accept<TcpReader, TcpWriter> + Sync,
@@ -127,7 +128,7 @@ fn serve_two<
     Ok(merged && sum)
 }
 
-/// Tells whether the key has the sum of all merges.
+/// Tests whether the key has the sum of all merges.
 fn is_sum<H: Wait>(rt: &H, map: &StripedMap, mut pass: Pass) -> bool
     requires { pass.map ≡ map.now }
 {
@@ -142,7 +143,7 @@ fn is_sum<H: Wait>(rt: &H, map: &StripedMap, mut pass: Pass) -> bool
     }
 }
 
-/// Listens on a port that is free; the listener and its address.
+/// Listens on a free port. Returns the listener and its address.
 fn listening<H: AllocGlobal + Net<Listener = TcpListener, Stream = TcpStream>>(
     rt: &H,
 ) -> io::Result<(TcpListener, String)> {

@@ -1,4 +1,4 @@
-//! Responses of great numbers, with their frames.
+//! Responses with large numbers, and their frames.
 use client_protocol::Response;
 use std::test::*;
 

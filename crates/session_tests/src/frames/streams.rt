@@ -1,4 +1,4 @@
-//! A feeder that failed, and one to which memory is refused.
+//! A feeder that failed, and one for which memory is refused.
 use client_protocol::{Feeder, ProtocolFault};
 use std::alloc::Global;
 use std::test::*;
@@ -6,13 +6,13 @@ use std::test::*;
 /// The frame that comes first.
 const HELLO: &[u8] = b"\0\0\0\x02\0\x01";
 
-/// Feeds the piece; whether nothing was asked, and the length is at fault.
+/// Feeds the piece. Returns whether there was no request and the length is at fault.
 fn is_refused(alloc: Global, feeder: &mut Feeder, piece: &[u8]) -> Result<bool, Fail> {
     let fed = feeder.feed(alloc, piece)?;
     Ok(fed.requests.is_empty() && fed.fault == Some(ProtocolFault::BadLength))
 }
 
-/// Pieces of which the first has a length of 0.
+/// The pieces of a stream; the first has a length of 0.
 const BAD_PIECES: [&[u8]; 4] = [b"\0\0\0\0", b"", HELLO, b"\0\0\0\x01\x7F"];
 
 #[test]
@@ -24,7 +24,7 @@ fn a_failed_feeder_stays_failed(rt: HostRuntime) -> Result<(), Fail> {
     Ok(())
 }
 
-/// Feeds the piece, and once more where it was refused.
+/// Feeds the piece, and once more if it was refused.
 fn fed_again(alloc: Global, feeder: &mut Feeder, piece: &[u8]) -> Result<usize, Fail> {
     if let Ok(fed) = feeder.feed(alloc, piece) {
         return Ok(fed.requests.len());

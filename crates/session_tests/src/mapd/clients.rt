@@ -21,12 +21,12 @@ const NOTHING: [u8; 7] = [0, 0, 0, 3, 0x82, 0xff, 0xff];
 
 const FOUND: [u8; 9] = [0, 0, 0, 5, 0x82, 0, 2, b'x', b'y'];
 
-/// The number of no request.
+/// A frame with a tag that no request has.
 const BAD: [u8; 5] = [0, 0, 0, 1, 0x7f];
 
 const REFUSED: [u8; 10] = [0, 0, 0, 6, 0x85, 61, 0, 0, 0, 0];
 
-/// Finds the address of a port that is free.
+/// Finds the address of a free port.
 fn free_address<R: Net<Listener = TcpListener, Stream = TcpStream> + AllocGlobal>(
     rt: &R,
 ) -> io::Result<String> {
@@ -35,7 +35,7 @@ fn free_address<R: Net<Listener = TcpListener, Stream = TcpStream> + AllocGlobal
     Ok(format!(in rt.alloc(); "{address}")?)
 }
 
-/// Has reads of the stream fail if nothing comes for 20 seconds.
+/// Makes reads of the stream fail if nothing comes for 20 seconds.
 fn impatient(stream: TcpStream) -> io::Result<TcpStream> {
     stream.set_read_timeout(Some(Duration::from_secs(20)))?;
     Ok(stream)
@@ -55,7 +55,7 @@ fn connect<R: Net<Listener = TcpListener, Stream = TcpStream> + Clock>(
     impatient(TcpStream::connect(rt, address)?)
 }
 
-/// Tells whether the answer to the request is this one.
+/// Tests whether the answer to the request is this one.
 fn is_answered(stream: &mut TcpStream, request: &[u8], answer: &[u8]) -> io::Result<bool> {
     stream.write_all(request)?;
     let mut found = [0; 16];
@@ -79,7 +79,7 @@ fn share<R: Net<Listener = TcpListener, Stream = TcpStream> + Clock>(
     Ok(greeted && put && is_answered(&mut second, &GET, &FOUND)?)
 }
 
-/// Sends much after a fault of a frame, and then reads all that is answered.
+/// Sends a lot after a faulty frame, and then reads all answers.
 fn hear_refusal<R: Net<Listener = TcpListener, Stream = TcpStream> + Clock + AllocGlobal>(
     rt: &R,
     address: &str,
@@ -93,7 +93,7 @@ fn hear_refusal<R: Net<Listener = TcpListener, Stream = TcpStream> + Clock + All
     Ok(greeted && rest.as_slice() == REFUSED.as_slice())
 }
 
-/// Serves one session by each of so many workers.
+/// Runs a server in which each of this many workers serves one session.
 fn serve_one_each<
     R: AllocGlobal
         + Clock
@@ -115,7 +115,7 @@ fn serve_one_each<
     call(rt, &words, 100)
 }
 
-/// Runs two workers, and beside them two clients that share their map.
+/// Runs two workers, and at the same time two clients that share their map.
 fn call_and_share<
     R: AllocGlobal
         + Clock
@@ -142,7 +142,7 @@ fn clients_share_a_map(rt: HostRuntime) -> Result<(), Fail> {
     Ok(())
 }
 
-/// Runs a worker, and beside it a client that is refused.
+/// Runs a worker, and at the same time a client that is refused.
 fn call_and_hear<
     R: AllocGlobal
         + Clock

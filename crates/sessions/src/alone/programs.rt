@@ -9,7 +9,7 @@ use std::alloc::Global;
 use std::marker::Model;
 use verifier::Verified;
 
-/// Programs under numbers: the first has 0, the next 1.
+/// Programs with their numbers: the first has 0, the next 1.
 #[derive(Drop)]
 pub struct Programs {
     list: Vec<Verified>,
@@ -25,7 +25,7 @@ impl Model for Programs {
 }
 
 impl Programs {
-    /// No programs. Takes no memory.
+    /// Makes an empty list. Takes no memory.
     pub fn new(alloc: Global) -> Programs
         ensures value { result ≡ [] }
     {
@@ -34,7 +34,7 @@ impl Programs {
         }
     }
 
-    /// Keeps the program under the next number, which is answered. `NoMemory` if the room for it was refused.
+    /// Gives the program the next number, keeps it, and returns the number. `NoMemory` if the room for it is refused.
     pub fn add(&mut self, program: Verified) -> Result<u64, NoMemory>
         ensures number { IfOk result (λ number. number ≡ length self.old) }
         ensures ok { OnOk result (self.new ≡ self.old ++ program ∷ []) }
@@ -45,14 +45,14 @@ impl Programs {
         Ok(number)
     }
 
-    /// The program under this number, if there is one. Takes no memory.
+    /// Returns the program with this number, if there is one. Takes no memory.
     pub fn get(&self, number: u64) -> Option<&Verified>
         ensures value { option_copied result ≡ slice_get self.now number }
     {
         self.list.get(number as usize)
     }
 
-    /// The program whose number the call names, if it names one and there is one. Takes no memory.
+    /// Returns the program whose number the call names, if it names one and there is one. Takes no memory.
     pub fn named_by(&self, request: &Request) -> Option<&Verified>
         requires { IsCall request.now }
         ensures { asked (λ number. slice_get self.now number) request.now ≡ asked (λ _. option_copied result) request.now }

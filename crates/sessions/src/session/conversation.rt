@@ -1,4 +1,4 @@
-//! A session between two of its reads, and how the next piece that is read is answered.
+//! A session between two of its reads, and how it answers the next piece.
 ghost use Rattle.std.specs.Prelude.{◌≡◌, ◌≢◌, ℕ, ◌++◌, List, [], None, Some, IsSome, OnOk, OnErr, flat_map};
 ghost use Rattle.client_protocol.specs.declared.fault.ProtocolFault.{ProtocolFault as TheFault};
 ghost use Rattle.client_protocol.specs.Requests.{Request as TheRequest};
@@ -20,16 +20,16 @@ use std::mem;
 /// Why a conversation ended at a piece.
 #[derive(Clone, Copy, Debug, PartialEq, Eq)]
 pub enum ConversationEnd {
-    /// What was read has this fault. The requests before it are answered.
+    /// The input has this fault. The requests before it are answered.
     Refused(ProtocolFault),
-    /// Memory was refused to the piece, which was not taken.
+    /// Memory for the piece was refused, and the piece was not taken.
     NoMemory,
-    /// A write failed. The sink has a beginning of what it was owed.
+    /// A write failed. The sink has a beginning of the answers owed to it.
     WriteFailed,
 }
 
-/// What a session is between two reads: the Hello that was taken and the beginning of a frame, or the fault of what was read.
-/// The room for a piece's requests and for a value serves the next piece again.
+/// A session between two reads: the Hello that was taken and the beginning of a frame, or the fault of the input. The next
+/// piece uses the room for requests and for a value again.
 #[derive(Drop)]
 pub struct Conversation {
     feeder: Feeder,
@@ -46,7 +46,7 @@ impl Model for Conversation {
 }
 
 impl Conversation {
-    /// A conversation of which nothing was read. Takes no memory.
+    /// Starts a conversation. Takes no memory.
     pub fn new(alloc: Global) -> Conversation
         ensures { result ≡ open_at None [] }
     {
@@ -57,15 +57,15 @@ impl Conversation {
         }
     }
 
-    /// Whether what was read ends inside a frame.
+    /// Tests whether the input so far ends inside a frame.
     pub fn is_inside(&self) -> bool
         ensures { result ≡ is_inside self.now }
     {
         self.feeder.is_inside()
     }
 
-    /// Goes on with the conversation that the feeder stands for, and leaves there the one that it was. So the room of one serves the
-    /// pieces of many.
+    /// Goes on with the feeder's conversation, and leaves the current one in the feeder. So the room of one serves the pieces of
+    /// many.
     pub fn resume(&mut self, feeder: &mut Feeder)
         ensures here { self.new ≡ feeder.old }
         ensures there { feeder.new ≡ self.old }
@@ -73,9 +73,9 @@ impl Conversation {
         mem::swap(&mut self.feeder, feeder);
     }
 
-    /// Answers the requests that are whole with this piece, in order and each into the sink before the next one is looked at. What
-    /// `answer` is lent is the state, the Hello that came before the request, the request, and room for a value. An `Err`
-    /// tells why the conversation ended.
+    /// Answers the requests that this piece completes, in order, each into the sink before it looks at the next one. `answer` gets
+    /// the state, the Hello that came before the request, the request, and room for a value. An `Err` says why the conversation
+    /// ended.
     pub fn take<
         S: Service,
         F: Fn(&mut S, Option<Version>, &Request, &mut Value) -> Answer,
@@ -123,7 +123,7 @@ impl Conversation {
 }
 
 /// Answers the requests, which came after this Hello, in order: each answer is written before the next request is looked at.
-/// Values that are found are left in `value`, one after the other.
+/// Found values are left in `value`, one after the other.
 fn answer_all<S: Service, F: Fn(&mut S, Option<Version>, &Request, &mut Value) -> Answer, W: Sink>(
     state: &mut S,
     answer: &F,
@@ -150,7 +150,7 @@ fn answer_all<S: Service, F: Fn(&mut S, Option<Version>, &Request, &mut Value) -
     Ok(())
 }
 
-/// Two pieces that are taken one after the other are taken as one, whether the answers to the later are all written or break off.
+/// Taking two pieces one after the other is taking them as one, whether the answers to the later are all written or break off.
 pub fn pieces_join<S: Service>()
     ensures whole { (held mid next : Held) (old between new : S) (first later written more : List ℕ)
         → AnswersPiece S.answers held old first written mid between
@@ -162,8 +162,8 @@ pub fn pieces_join<S: Service>()
         → BreaksPiece S.answers held old (first ++ later) (written ++ more) next new }
 {}
 
-/// The pieces of a conversation's exchanges are requests by the grammar, in order, and each of them was answered in its exchange.
-/// Others may have changed the state between two exchanges.
+/// The pieces of a conversation's exchanges are requests by the grammar, in order, and each was answered in its exchange. Others
+/// may have changed the state between two exchanges.
 pub fn exchanges_join<S: Service>()
     ensures { (exchanges : List (Exchange S)) (next : Held) → Converses S.answers (open_at None []) exchanges next
         → (requests : List TheRequest) × Frames None (flat_map (λ exchange. exchange.piece) exchanges) requests next

@@ -1,4 +1,4 @@
-//! Responses on their way to a writer.
+//! Writes responses.
 ghost use Rattle.std.specs.Prelude.{◌≡◌, ◌≢◌, ◌≤◌, ◌⊎◌, ◌∷◌, ◌++◌, [], false, length, map, Some, OnOk, OnErr};
 ghost use Rattle.bpf_model.specs.declared.limits.TheConstants.{KEY_BYTES, VALUE_BYTES};
 ghost use Rattle.client_protocol.specs.declared.response.Response.TheVariants.{Value as Answered, Item};
@@ -15,7 +15,7 @@ use bpf_model::Value;
 use client_protocol::{Limits, ShortResponse, Version, item_head, value_head};
 use devices::{Failed, Sink, write_all};
 
-/// The refusal that stands for responses with a value that is too long for the session's version.
+/// This refusal replaces the responses if a value is too long for the session's version.
 const VALUE_TOO_LONG: u8 = 65;
 
 /// Writes the response's frame.
@@ -28,7 +28,7 @@ fn send_one<W: Sink>(writer: &mut W, response: &ShortResponse) -> Result<(), Fai
     write_all(writer, frame.as_slice())
 }
 
-/// Writes the frame that stands for responses with a value that is too long.
+/// Writes the frame that replaces the responses if a value is too long.
 fn send_too_long<W: Sink>(writer: &mut W) -> Result<(), Failed>
     requires { CanWrite (W.state writer.old) }
     ensures ok { OnOk result (TakesBytes (W.state writer.old) (W.state writer.new) (refusal 65)) }
@@ -38,7 +38,7 @@ fn send_too_long<W: Sink>(writer: &mut W) -> Result<(), Failed>
     send_one(writer, &ShortResponse::Refused { number, place: 0 })
 }
 
-/// Writes the bytes before a value's own in a frame, and then the value, from where it lies.
+/// Writes the bytes before a value in a frame, and then the value, in place.
 fn send_parts<W: Sink>(writer: &mut W, head: &[u8], value: &[u8]) -> Result<(), Failed>
     requires { CanWrite (W.state writer.old) }
     ensures ok { OnOk result (TakesBytes (W.state writer.old) (W.state writer.new) (head.now ++ value.now)) }
@@ -74,7 +74,7 @@ fn send_items<W: Sink>(writer: &mut W, items: &MergedEntries) -> Result<(), Fail
     Ok(())
 }
 
-/// Whether the value of an item is longer than may be sent after this Hello.
+/// Tests whether the value of an item is longer than may be sent after this Hello.
 fn have_too_long(hello: Option<Version>, items: &MergedEntries) -> bool
     ensures { result ≡ has_too_long hello (map item_of items.now) }
 {
@@ -88,7 +88,7 @@ fn have_too_long(hello: Option<Version>, items: &MergedEntries) -> bool
     false
 }
 
-/// The response after the items of a walk.
+/// Returns the response after the items of a walk.
 pub fn end_of(counts: Counts) -> ShortResponse
     ensures { response_of result ≡ end_of counts }
 {
@@ -99,8 +99,7 @@ pub fn end_of(counts: Counts) -> ShortResponse
     }
 }
 
-/// Writes the frame of the response with this value, whose bytes are written from where they lie; or one refusal if it is too
-/// long.
+/// Writes the frame of the response with this value, in place; or one refusal if it is too long.
 fn send_value<W: Sink>(writer: &mut W, hello: Option<Version>, value: &Value) -> Result<(), Failed>
     requires { CanWrite (W.state writer.old) }
     ensures ok { OnOk result (TakesBytes (W.state writer.old) (W.state writer.new)
@@ -144,8 +143,8 @@ fn send_walk<W: Sink>(
     send_whole(writer, reply)
 }
 
-/// Writes the frames of all responses of an answer to a request after this Hello; that of a value that was found has this one.
-/// A value that is longer than the version allows is not sent: one refusal stands for all responses then.
+/// Writes the frames of all responses of an answer to a request after this Hello; if a value was found, it is this one. A
+/// value that is longer than the version allows is not sent: one refusal then replaces all responses.
 pub fn send<W: Sink>(
     writer: &mut W,
     hello: Option<Version>,
@@ -165,7 +164,7 @@ pub fn send<W: Sink>(
     }
 }
 
-/// Writes the frame of a refusal, and passes on all that the sink took.
+/// Writes the frame of a refusal, and flushes the sink.
 fn send_refusal<W: Sink>(writer: &mut W, number: u8) -> Result<(), Failed>
     requires { CanWrite (W.state writer.old) }
     ensures ok { OnOk result (TakesBytes (W.state writer.old) (W.state writer.new) (refusal number)) }
@@ -177,7 +176,7 @@ fn send_refusal<W: Sink>(writer: &mut W, number: u8) -> Result<(), Failed>
     Ok(())
 }
 
-/// Writes and passes on a refusal at the end of a session, and answers that end, or that the write failed.
+/// Writes and flushes a refusal at the end of a session. Returns that end, or that the write failed.
 pub fn refuse<W: Sink>(writer: &mut W, number: u8, end: SessionEnd) -> SessionEnd
     requires count { CanWrite (W.state writer.old) }
     requires end { end ≢ SessionEnd.WriteFailed }

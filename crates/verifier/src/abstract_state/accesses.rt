@@ -22,7 +22,7 @@ use bpf_model::{AccessSize, Insn, LoadKind, Operand, Reg, Sizes, Window};
 use stack_slots::{Access, RegValue, loadable};
 
 impl AbstractState {
-    /// The window that the instruction's address register points into; the result's where it has none.
+    /// Returns the window that the instruction's address register points into, or the result's if it points into none.
     pub(crate) fn window(&self, insn: Insn) -> Window
         ensures value { result ≡ window_of insn self.now }
     {
@@ -86,7 +86,7 @@ impl AbstractState {
         self.write_bytes(sizes, span, size, value)
     }
 
-    /// Tests the end of a run.
+    /// Checks the end of a run.
     pub(crate) fn exit(&self) -> Result<(), StepFault>
         ensures ok { OnOk result (Exits self.now) }
         ensures accepts { CanExit self.now → result ≡ Ok tt }
@@ -152,7 +152,7 @@ fn is_signed(kind: LoadKind) -> bool
     )
 }
 
-/// The span of an access through this value, where all its bytes are in the window.
+/// Returns the span of an access through this value, if all its bytes are in the window.
 fn locate(sizes: Sizes, base: RegValue, offset: i16, size: AccessSize) -> Result<Span, StepFault>
     ensures address { IfOk result (λ span. (w : ℕ) → StandsFor base (Some w)
         → IsInSpan span (address_of w offset)) }
@@ -177,7 +177,7 @@ fn locate(sizes: Sizes, base: RegValue, offset: i16, size: AccessSize) -> Result
     })
 }
 
-/// The distance from the window's first byte; none before it.
+/// Returns the distance from the window's first byte, or `None` if it is before that byte.
 fn distance_inside(from: i64, offset: i16) -> Option<usize>
     ensures value { IfSome result (λ n. pos n ≡ from +ℤ offset) }
     ensures some { from ≤ℤ pos (2 ^ 62) → pos 0 ≤ℤ (from +ℤ offset) → IsSome result }

@@ -1,4 +1,4 @@
-//! What is known on one side of a condition, and where two ways meet.
+//! The state on one side of a condition, and the state where two ways meet.
 ghost use Rattle.std.specs.Prelude.{◌≡◌, ◌≢◌, ℕ, IsOk, IfOk, length, slice_index_or};
 ghost use Rattle.bpf_model.specs.declared.instruction.Operand.TheVariants.{Register as TheRegister};
 ghost use Rattle.stack_slots.specs.declared.reg_value.RegValue.TheVariants.{Unwritten};
@@ -17,13 +17,14 @@ use value_ranges::{Range, join, refine};
 /// A side of a condition, on which a run may go on.
 #[derive(Clone, Copy, Debug, PartialEq, Eq)]
 pub enum Side {
-    /// Where the condition holds.
+    /// The condition holds.
     Holding(Condition),
-    /// Where it holds, and where it does not.
+    /// The condition holds or doesn't.
     Either(Condition),
 }
 
-/// What is known of the registers of a condition's operands; of the first one twice where the second is no register.
+/// The values of the registers of a condition's operands. If the second operand isn't a register, both are the first
+/// one's value.
 #[derive(Clone, Copy, Debug, PartialEq, Eq)]
 pub struct Operands {
     dst: RegValue,
@@ -31,7 +32,7 @@ pub struct Operands {
 }
 
 impl AbstractState {
-    /// What is known of the only registers that a condition of these operands narrows.
+    /// Returns the values of the only registers that a condition on these operands narrows.
     pub(crate) fn operands(&self, dst: Reg, src: Operand) -> Operands
         ensures dst { result.dst ≡ known self.now dst }
         ensures src { result.src ≡ known self.now (second_register dst src) }
@@ -42,7 +43,7 @@ impl AbstractState {
         }
     }
 
-    /// Goes back to what was known before a condition of these operands narrowed it.
+    /// Undoes the narrowing by a condition on these operands.
     pub(crate) fn put_back(&mut self, dst: Reg, src: Operand, operands: Operands)
         ensures back { (before : AbstractState) → length before.registers ≡ 11
             → operands.dst ≡ known before dst → operands.src ≡ known before (second_register dst src)
@@ -53,7 +54,7 @@ impl AbstractState {
         self.registers[dst.number() as usize] = operands.dst;
     }
 
-    /// Goes on to what is known of two operands on a side of a condition; false where no state is on that side.
+    /// Narrows the two operands to a side of a condition. Returns false if no state is on that side.
     pub(crate) fn assume(
         &mut self,
         side: Side,
@@ -94,7 +95,7 @@ impl AbstractState {
         }
     }
 
-    /// Goes on to what is known where a run may also come with this other state.
+    /// Becomes a state that describes whatever this one or the other describes.
     pub(crate) fn join(&mut self, other: &AbstractState)
         ensures first { Includes self.old self.new }
         ensures second { Includes other.now self.new }
@@ -106,7 +107,7 @@ impl AbstractState {
     }
 }
 
-/// the register of the second operand; that of the first where it is none
+/// the register of the second operand, or that of the first if the second isn't a register
 fn source(dst: Reg, src: Operand) -> Reg
     ensures value { result ≡ second_register dst src }
 {
@@ -116,7 +117,7 @@ fn source(dst: Reg, src: Operand) -> Reg
     }
 }
 
-/// the ranges of the words on a side of a condition; none where no pair of words is on it
+/// the ranges of the words on a side of a condition, or none if no pair of words is on it
 fn narrowed(side: Side, width: Width, a: Range, b: Range) -> Option<(Range, Range)>
     ensures { KeepsPairs (lies_on side width) a b result }
 {
@@ -129,7 +130,7 @@ fn narrowed(side: Side, width: Width, a: Range, b: Range) -> Option<(Range, Rang
     }
 }
 
-/// the ranges of the words that are in the ones or in the others
+/// the ranges of the words that are in either pair of ranges
 fn either(one: Option<(Range, Range)>, other: Option<(Range, Range)>) -> Option<(Range, Range)>
     ensures first { (x y : ℕ) → AreInSome x y one → AreInSome x y result }
     ensures second { (x y : ℕ) → AreInSome x y other → AreInSome x y result }

@@ -1,4 +1,4 @@
-//! What is known at entry.
+//! The state at entry.
 ghost use Rattle.std.specs.Prelude.{◌+◌, pos, Some};
 ghost use Rattle.bpf_model.specs.Memory.{first_address};
 ghost use Rattle.stack_slots.specs.Values.{StandsFor, IsPointerIn};
@@ -13,7 +13,7 @@ use stack_slots::{Frame, Pointer, RegValue};
 use value_ranges::Range;
 
 impl AbstractState {
-    /// What is known at entry.
+    /// Returns the state at entry.
     pub(crate) fn entry(sizes: Sizes) -> AbstractState
         ensures describes { DescribesEntry sizes result }
         ensures exact { IsEntry sizes result }

@@ -1,4 +1,4 @@
-//! Registers that are read and written.
+//! Reads and writes of registers.
 ghost use Rattle.std.specs.Prelude.{◌≡◌, ◌≢◌, ◌≤◌, ◌<◌, ◌^◌, ℕ, ℤ, pos, Ok, Err, OnOk, IfOk, IsOk, nat_eq, if◌then◌else◌};
 ghost use Rattle.verifier.specs.declared.fault.StepFault.TheVariants.{UnwrittenRegister, WriteToR10};
 ghost use Rattle.bpf_model.specs.declared.instruction.Operand.TheVariants.{Register as TheRegister, Immediate as TheImmediate};

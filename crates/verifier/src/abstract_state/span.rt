@@ -1,9 +1,9 @@
-//! Where accesses may be.
+//! The place of an access.
 ghost use Rattle.std.specs.Prelude.{◌≤◌};
 
 use bpf_model::Window;
 
-/// Where an access may be: its first byte is `least` to `greatest` bytes behind the window's.
+/// The possible places of an access: its first byte is `least` to `greatest` bytes after the window's first byte.
 #[derive(Clone, Copy, Debug)]
 pub struct Span {
     pub window: Window,

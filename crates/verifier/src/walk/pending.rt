@@ -5,18 +5,18 @@ ghost use Rattle.verifier.specs.Walks.{boxed, kept_at, IncludesSome, MeetsKnown}
 use crate::abstract_state::AbstractState;
 use std::alloc::{AllocError, Global};
 
-/// What is known at units to which some jump leads and to which the walk has not come yet.
+/// The states at units that some jump leads to and that the walk hasn't reached yet.
 #[derive(Drop)]
 pub struct Pending {
     alloc: Global,
-    // by unit, up to the last one to which a jump led so far
+    // by unit, up to the greatest one that a jump led to so far
     states: Vec<Option<Box<AbstractState>>>,
-    // room of a state that is kept no more, for the next one
+    // the box of a state that is no longer needed, for the next one
     spare: Option<Box<AbstractState>>,
 }
 
 impl Pending {
-    /// Nothing is kept. Takes no memory.
+    /// Keeps nothing yet. Takes no memory.
     pub fn new(alloc: Global) -> Pending
         ensures none { (unit : ℕ) → kept_at result unit ≡ None }
     {
@@ -27,7 +27,7 @@ impl Pending {
         }
     }
 
-    /// Gives up what is kept for a unit.
+    /// Removes and returns the state that is kept for a unit.
     pub fn take(&mut self, unit: usize) -> Option<Box<AbstractState>>
         ensures value { boxed result ≡ kept_at self.old unit }
         ensures empty { kept_at self.new unit ≡ None }
@@ -41,7 +41,7 @@ impl Pending {
         }
     }
 
-    /// Takes back what was given up, so that its room serves again.
+    /// Takes back what `take` returned, to use its box again.
     pub fn give_back(&mut self, kept: Option<Box<AbstractState>>)
         ensures same { (unit : ℕ) → kept_at self.new unit ≡ kept_at self.old unit }
     {
@@ -50,7 +50,7 @@ impl Pending {
         }
     }
 
-    /// Keeps a state for a unit, joined with what is kept for it.
+    /// Keeps a state for a unit. If one is kept there already, joins the two. Fails if a request for memory is refused.
     pub fn send(&mut self, unit: usize, state: &AbstractState) -> Result<(), AllocError>
         ensures sent { OnOk result (IncludesSome (Some state.now) (kept_at self.new unit)) }
         ensures keeps { OnOk result ((other : ℕ)
@@ -70,7 +70,7 @@ impl Pending {
         Ok(())
     }
 
-    /// a copy of the state, in room that was given back if there is some
+    /// a copy of the state, in the spare box if there is one
     fn boxed(&mut self, state: &AbstractState) -> Result<Box<AbstractState>, AllocError>
         ensures value { IfOk result (λ copy. copy.value ≡ state.now) }
         ensures same { self.new.states ≡ self.old.states }

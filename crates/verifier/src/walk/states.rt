@@ -1,4 +1,4 @@
-//! What a walk knows at each instruction, for who wants to read it.
+//! The abstract state at each instruction, for readers outside the walk.
 ghost use Rattle.std.specs.Prelude.{◌≡◌, ◌≤◌, IfOk, length};
 ghost use Rattle.bpf_model.specs.Fits.{AreWithinLimits};
 ghost use Rattle.bpf_model.specs.Program.{IsProgram};
@@ -55,9 +55,10 @@ fn states_of(
     Ok(states)
 }
 
-/// What the walk of `verify` knows where it comes to an instruction, for one after the other in the program's order, up to
-/// the one that is refused: every run on an input that fits, when it comes there, is in a state that the answer at this
-/// index describes; none comes where there is no answer. Asks for memory for each of them, and as `verify` does.
+/// Returns the abstract state that the walk of `verify` has at each instruction, in the program's order, up to the one
+/// that is refused. If a run on an input that fits comes to an instruction, the answer at this index describes the run's
+/// state; if that answer is `None`, no run comes there. Asks for memory for each answer, and as `verify` does. Returns
+/// `NoMemory` if such a request is refused.
 pub fn known_states(
     alloc: Global,
     shaped: &Shaped,

@@ -3,7 +3,7 @@ ghost use Rattle.std.specs.Prelude.{◌≡◌, All, IfOk};
 
 use super::*;
 
-/// The most turns that a thread waits, and the most tries of a call.
+/// A thread waits at most this many turns, and tries a call at most this often.
 const TURNS: u64 = 10_000_000;
 
 /// A gate that holds a worker at `Held` until it is opened.
@@ -24,7 +24,7 @@ impl Shut {
         }
     }
 
-    /// Waits until a worker is held; whether one came.
+    /// Waits until a worker is held. Returns whether one came.
     fn wait(&self) -> bool {
         for _ in 0..TURNS {
             if self.come.load(Ordering::SeqCst) > 0 {
@@ -52,7 +52,7 @@ impl Gate for Shut {
     }
 }
 
-/// Replaces the values of stripe 0, behind the gate.
+/// Replaces the values of stripe 0, at the gate.
 fn hold<R: Wait>(rt: &R, map: &StripedMap, mut pass: Pass, program: &Verified, gate: &Shut)
     requires { pass.map ≡ map.now }
 {
@@ -61,8 +61,8 @@ fn hold<R: Wait>(rt: &R, map: &StripedMap, mut pass: Pass, program: &Verified, g
     }
 }
 
-/// Tells, while stripe 0 is held, whether a call on the key of stripe 1 is made, and one on the key of stripe 0 refused as busy.
-/// Then the gate opens.
+/// While stripe 0 is held, tells whether a call on the key of stripe 1 is made, and one on the key of stripe 0 is refused as
+/// busy. Then opens the gate.
 fn beside(map: &StripedMap, mut pass: Pass, gate: &Shut) -> (bool, bool)
     requires { pass.map ≡ map.now }
 {
@@ -109,7 +109,7 @@ fn stripes_apart(rt: HostRuntime) -> Result<(), Fail> {
     let program = summing(rt.alloc())?;
     let (map, mut passes) = opened(rt.alloc(), 2, 2)?;
     let (other, holder) = next_two(&map, &mut passes)?;
-    // The key 61 lies in stripe 0, and 62 in stripe 1.
+    // The key 61 is in stripe 0, and 62 in stripe 1.
     let gate = Shut::new();
     let (answered, busy) = hold_beside(&rt, &map, holder, other, &program, &gate);
     let alone = gate.alone.load(Ordering::SeqCst);
@@ -120,7 +120,7 @@ fn stripes_apart(rt: HostRuntime) -> Result<(), Fail> {
     Ok(())
 }
 
-/// Tries the call until it is made; whether it was.
+/// Tries the call until it is made. Returns whether it was.
 fn tried(map: &StripedMap, pass: &mut Pass, call: &Call) -> bool
     requires { pass.old.map ≡ map.now }
     ensures { pass.new.map ≡ map.now }
@@ -143,7 +143,7 @@ struct Merging {
 }
 
 impl Merging {
-    /// Makes the merging of no call yet.
+    /// Makes a `Merging` without calls yet.
     fn new(program: Verified) -> Merging {
         Merging {
             program,
@@ -175,7 +175,7 @@ fn merge_one<R: Wait>(rt: &R, map: &StripedMap, pass: &mut Pass, merging: &Mergi
     }
 }
 
-/// Merges 1 so many times, each second one by tries, and gives the pass back.
+/// Merges 1 this often, each second time by tries, and returns the pass.
 fn merges<R: Wait>(rt: &R, map: &StripedMap, mut pass: Pass, merging: &Merging, times: u64) -> Pass
     requires { pass.map ≡ map.now }
     ensures { result.map ≡ map.now }
@@ -213,7 +213,7 @@ fn merged_by_two<R: Threads + Wait + Sync>(
     map.join(one, other)
 }
 
-/// Tells whether so many calls were made, and their sum stands at the key.
+/// Tells whether this many calls were made, and the key has their sum.
 fn is_sum<R: Wait>(
     rt: &R,
     map: &StripedMap,

@@ -22,7 +22,7 @@ fn open_refuses_by_the_first_test_that_fails(rt: HostRuntime) -> Result<(), Fail
     Ok(())
 }
 
-/// Puts by the one pass, which is told to the other; whether that one finds the value.
+/// Puts by the one pass, which is told to the other. Tells whether that one finds the value.
 fn sees_what_was_put<R: Wait>(
     rt: &R,
     map: &StripedMap,
@@ -56,7 +56,7 @@ fn are_both(entries: &[(Key, Value)]) -> bool {
     right
 }
 
-/// Gives the map up by a pass that is both joined; whether these were its entries.
+/// Closes the map by a pass that joins both. Tells whether these were its entries.
 fn is_closed_with_both<R: Wait>(
     rt: &R,
     alloc: Global,
@@ -83,7 +83,7 @@ fn last_entries_are_in_key_order(rt: HostRuntime) -> Result<(), Fail> {
     Ok(())
 }
 
-/// Tries a call, a scan and a replacement, on a key of stripe 0; whether each was made on that entry.
+/// Tries a call, a scan and a replacement, on a key of stripe 0. Tells whether each was made on that entry.
 fn are_made(
     alloc: Global,
     map: &StripedMap,
@@ -104,7 +104,7 @@ fn are_made(
     Ok(found.len() == 1 && (counts.scanned, counts.given, counts.unfit) == (1, 1, 0))
 }
 
-/// Tries the same so many times; whether each was always made.
+/// Tries the same this often. Tells whether each was always made.
 fn are_always_made(
     alloc: Global,
     map: &StripedMap,
@@ -145,7 +145,7 @@ fn is_replaced<R: Wait>(rt: &R, map: &StripedMap, pass: &mut Pass, program: &Ver
     (counts.scanned, counts.given, counts.unfit) == (1, 1, 0)
 }
 
-/// Tells whether the stripe has so many entries.
+/// Tells whether the stripe has this many entries.
 fn has_entries<R: Wait>(
     rt: &R,
     alloc: Global,
@@ -163,13 +163,13 @@ fn has_entries<R: Wait>(
     }
 }
 
-/// Tells whether the map has four stripes, and the two keys lie in 1 and 2.
+/// Tells whether the map has four stripes, and the two keys are in 1 and 2.
 fn are_placed(map: &StripedMap) -> Result<bool, TooLong> {
     let places = (map.stripe_of(&key(b"")?), map.stripe_of(&key(b"ab")?));
     Ok(map.stripes() == 4 && places == (1, 2))
 }
 
-/// Puts an entry into stripe 1 and one into stripe 2; whether the four stripes have these alone.
+/// Puts an entry into stripe 1 and one into stripe 2. Tells whether the four stripes have only these.
 fn are_dealt<R: Wait>(
     rt: &R,
     alloc: Global,
@@ -188,7 +188,7 @@ fn are_dealt<R: Wait>(
     Ok(first && second && third && fourth)
 }
 
-/// Replaces the values of stripe 1; whether its key has another value then, and the key of stripe 2 the one that it had.
+/// Replaces the values of stripe 1. Tells whether its key then has another value, and the key of stripe 2 its old one.
 fn is_replaced_alone<R: Wait>(
     rt: &R,
     map: &StripedMap,
@@ -226,7 +226,7 @@ fn put_one<R: Wait>(rt: &R, map: &StripedMap, pass: &mut Pass) -> Result<Reply, 
     map.call(rt, pass, &Call::Put { key, value })
 }
 
-/// Puts an entry, and once more if memory was refused; whether nothing was made of the refused call.
+/// Puts an entry, and again if memory was refused. Tells whether the refused call changed nothing.
 fn is_put_again<R: Wait>(rt: &R, map: &StripedMap, pass: &mut Pass) -> Result<bool, Fail>
     requires { pass.old.map ≡ map.now }
     ensures { pass.new.map ≡ map.now }
@@ -239,7 +239,7 @@ fn is_put_again<R: Wait>(rt: &R, map: &StripedMap, pass: &mut Pass) -> Result<bo
     Ok(matches!(none, Reply::Value(None)))
 }
 
-/// Scans stripe 0, once more if memory was refused; whether it has one entry.
+/// Scans stripe 0, and again if memory was refused. Tells whether it has one entry.
 fn has_one_again<R: Wait>(rt: &R, alloc: Global, map: &StripedMap, pass: &mut Pass) -> bool
     requires { pass.old.map ≡ map.now }
     ensures { pass.new.map ≡ map.now }
@@ -250,7 +250,7 @@ fn has_one_again<R: Wait>(rt: &R, alloc: Global, map: &StripedMap, pass: &mut Pa
     }
 }
 
-/// Opens a map of two stripes with one pass, once more if memory was refused.
+/// Opens a map of two stripes with one pass, and again if memory was refused.
 fn opened_again(alloc: Global) -> Result<(StripedMap, Vec<Pass>), OpenFault>
     ensures all { IfOk result (λ made. All (λ pass. pass.map ≡ made.0) made.1.items) }
 {
@@ -260,7 +260,7 @@ fn opened_again(alloc: Global) -> Result<(StripedMap, Vec<Pass>), OpenFault>
     }
 }
 
-/// Also where one request for memory is refused: each call is then as if it was not made, and succeeds the next time.
+/// Also if one request for memory is refused: the call then changes nothing, and succeeds the next time.
 #[test]
 fn a_refused_call_changes_nothing(rt: HostRuntime) -> Result<(), Fail> {
     let (map, mut passes) = opened_again(rt.alloc())?;

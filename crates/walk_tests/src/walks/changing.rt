@@ -1,18 +1,18 @@
 //! Walks while eight threads put and remove.
 //!
-//! Thread j has two keys of one stripe, the bytes j and j + 8. At its turn t it puts t under the lower, then under the upper,
-//! and removes the lower, then the upper. So one scan of its stripe finds neither, the lower alone, both of one turn, or the
-//! upper alone; and a later scan finds no earlier state. The program adds 1 to each value.
+//! Thread j has two keys of one stripe, the bytes j and j + 8. At its turn t it puts t at the lower, then at the upper, and
+//! removes the lower, then the upper. So one scan of its stripe finds neither, only the lower, both of one turn, or only the
+//! upper; and a later scan finds no earlier state. The program adds 1 to each value.
 ghost use Rattle.std.specs.Prelude.{◌≡◌, All, IfOk};
 
 use super::*;
 
 const THREADS: u8 = 8;
 
-/// How often each thread puts and removes its keys.
+/// Each thread puts and removes its keys this often.
 const TURNS: u64 = 300;
 
-/// How many walks of each kind are made meanwhile.
+/// This many walks of each kind are made meanwhile.
 const WALKS: u64 = 40;
 
 /// Makes the key of one byte.
@@ -20,7 +20,7 @@ fn key_of(byte: u8) -> Key {
     Key::from_slice(&[byte]).unwrap()
 }
 
-/// Puts the turn under the key.
+/// Puts the turn at the key.
 fn put_turn<R: Wait>(
     rt: &R,
     map: &StripedMap,
@@ -76,7 +76,7 @@ fn take_turns<R: Wait>(rt: &R, map: &StripedMap, pass: &mut Pass, low: u8) -> Re
     Ok(())
 }
 
-/// Takes the turns of all threads; how many took all of theirs.
+/// Takes the turns of all threads. Returns how many took all of theirs.
 fn change<R: Threads + Wait + Sync>(rt: &R, map: &StripedMap, mut passes: Vec<Pass>) -> u64
     requires { All (λ pass. pass.map ≡ map.now) passes.items }
 {
@@ -105,8 +105,8 @@ fn number_at(reply: &WalkReply, key: u8) -> Option<u64> {
     None
 }
 
-/// Tells which state of its thread's stripe was found, counted from the first; 0 if neither key was there. None if the thread
-/// leaves no such state.
+/// Returns which state of its thread's stripe was found, counted from the first; 0 if neither key was there. `None` if the
+/// thread leaves no such state.
 fn state_of(reply: &WalkReply, low: u8) -> Option<u64> {
     let high = low.wrapping_add(THREADS);
     match (number_at(reply, low), number_at(reply, high)) {
@@ -118,7 +118,7 @@ fn state_of(reply: &WalkReply, low: u8) -> Option<u64> {
     }
 }
 
-/// Tells whether a state of each stripe was found, none of them before the one that was found last.
+/// Tells whether a state of each stripe was found, none earlier than the one found last.
 fn are_states(reply: &WalkReply, last: &mut [u64; 8]) -> bool {
     for low in 0..THREADS {
         let place = &mut last[usize::from(low)];
@@ -143,12 +143,12 @@ fn keys_rise(items: &MergedEntries) -> bool {
     true
 }
 
-/// Tells whether so many entries may be there: those of the threads, and the one that does not fit.
+/// Tells whether there may be this many entries: those of the threads, and the one that does not fit.
 fn may_be(entries: u64) -> bool {
     entries >= 1 && entries <= 17
 }
 
-/// Tells whether the reply gives all entries but one, in key order, of states that were there.
+/// Tells whether the reply gives all entries but one, in key order, from states that occurred.
 fn is_all(reply: &Result<WalkReply, NoMemory>, last: &mut [u64; 8]) -> bool {
     let Ok(reply) = reply else { return false };
     let given = reply.items.len() as u64;
@@ -158,7 +158,7 @@ fn is_all(reply: &Result<WalkReply, NoMemory>, last: &mut [u64; 8]) -> bool {
         && are_states(reply, last)
 }
 
-/// Tells whether the reply gives one entry where more were scanned than the one that does not fit.
+/// Tells whether the reply gives one entry if more were scanned than the one that does not fit.
 fn is_first(reply: &Result<WalkReply, NoMemory>) -> bool {
     let Ok(reply) = reply else { return false };
     let given = reply.items.len() as u64;
@@ -182,7 +182,7 @@ fn is_replacement(reply: &Result<WalkReply, NoMemory>) -> bool {
     is_reply(reply, &[], (scanned, scanned.saturating_sub(1), 1)) && may_be(scanned)
 }
 
-/// Makes one walk of each kind; whether each reply is right. The one that replaces adds 0 to each value.
+/// Makes one walk of each kind. Tells whether each reply is right. The one that replaces adds 0 to each value.
 fn walk_once<R: AllocGlobal + Threads + Wait + Sync>(
     rt: &R,
     map: &StripedMap,
@@ -201,7 +201,7 @@ fn walk_once<R: AllocGlobal + Threads + Wait + Sync>(
     (team, right && is_replacement(&replaced))
 }
 
-/// Makes walks of each kind; in how many turns all replies were right.
+/// Makes walks of each kind. Returns in how many turns all replies were right.
 fn walk_on<R: AllocGlobal + Threads + Wait + Sync>(
     rt: &R,
     map: &StripedMap,
@@ -220,7 +220,8 @@ fn walk_on<R: AllocGlobal + Threads + Wait + Sync>(
     right
 }
 
-/// Runs both at once: how many threads took all their turns, and in how many turns of the walks all replies were right.
+/// Runs both at once. Returns how many threads took all their turns, and in how many turns of the walks all replies
+/// were right.
 fn walk_beside<R: AllocGlobal + Threads + Wait + Sync>(
     rt: &R,
     map: &StripedMap,
@@ -248,7 +249,7 @@ fn parted(alloc: Global, map: &StripedMap, team: Team) -> Result<(Vec<Pass>, Tea
     ensures passes { IfOk result (λ r. All (λ pass. pass.map ≡ map.now) r.0.items) }
     ensures team { IfOk result (λ r. All (λ pass. pass.map ≡ map.now) r.1.passes.items) }
 {
-    // For the clauses alone, which name the map.
+    // Only for the clauses, which name the map.
     let _ = map;
     let mut passes = team.into_passes();
     let mut pair = Vec::new(alloc);

@@ -1,23 +1,23 @@
-//! Two workers are at one place at once, each under its own number: alone, and beside a thread that makes calls.
+//! Two workers are at one place at once, each with its own number: alone, and beside a thread that makes calls.
 ghost use Rattle.std.specs.Prelude.{◌≡◌, All, IfSome};
 
 use super::*;
 use std::process::Abort;
 
-/// The most turns that a thread waits for others.
+/// A thread waits for others at most this many turns.
 const TURNS: u64 = 10_000_000;
 
-/// The most calls that are made beside walks.
+/// At most this many calls are made beside walks.
 const CALLS: u64 = 10_000_000;
 
 /// The bits of the workers 0 and 1.
 const BOTH: u64 = 3;
 
-/// Holds each worker at a place until the workers 0 and 1 have come there.
+/// Holds each worker at a place until the workers 0 and 1 are there.
 #[derive(Drop)]
 struct Meeting {
     place: Place,
-    // A bit for each worker that has come, by its number: bit 2 for every number above 1.
+    // A bit for each worker that has arrived, by its number: bit 2 for every number above 1.
     come: AtomicU64,
     passed: AtomicU64,
     gone_alone: AtomicU64,
@@ -34,14 +34,14 @@ impl Meeting {
         }
     }
 
-    /// Tells whether the workers 0 and 1 came, nobody else, each as often as the other; and met.
+    /// Tells whether exactly the workers 0 and 1 came, equally often, and met.
     fn was_of_both(&self) -> bool {
         self.come.load(Ordering::SeqCst) == BOTH
             && self.passed.load(Ordering::SeqCst) == 2
             && self.gone_alone.load(Ordering::SeqCst) == 0
     }
 
-    /// Tells the same, and whether their walk replied this.
+    /// Tells the same, and whether their walk gave this reply.
     fn gave(&self, reply: &Result<WalkReply, NoMemory>, wanted: Wanted) -> bool {
         self.was_of_both() && replied(reply, wanted)
     }
@@ -64,7 +64,7 @@ impl Gate for Meeting {
     }
 }
 
-/// What a caller is to do, and has done: it merges 1 on the key `d`, so often at most, until it is told to stop.
+/// A caller's work: it merges 1 on the key `d`, at most this often, until it is told to stop.
 #[derive(Drop)]
 struct Calls {
     program: Verified,
@@ -75,7 +75,7 @@ struct Calls {
 }
 
 impl Calls {
-    /// Makes the calls, none of them made yet.
+    /// Starts with no calls made.
     fn new(program: Verified, most: u64) -> Calls {
         Calls {
             program,
@@ -86,7 +86,7 @@ impl Calls {
         }
     }
 
-    /// Waits until the first call was made, where one is to be made.
+    /// Waits until the first call was made, if one is to be made.
     fn wait(&self) {
         for _ in 0..TURNS {
             if self.made.load(Ordering::SeqCst) >= self.most.min(1) {
@@ -98,7 +98,7 @@ impl Calls {
     }
 }
 
-/// The walk whose workers did not meet, or whose reply was another.
+/// The walk whose workers did not meet, or whose reply was wrong.
 #[derive(Clone, Copy, Debug)]
 enum Wrong {
     Search,
@@ -106,7 +106,7 @@ enum Wrong {
     Replacement,
 }
 
-/// Merges 1 on the key `d`; the sum.
+/// Merges 1 on the key `d`, and returns the sum.
 fn merge<R: Wait>(rt: &R, map: &StripedMap, pass: &mut Pass, program: &Verified) -> Option<u64>
     requires { pass.old.map ≡ map.now }
     ensures { pass.new.map ≡ map.now }
@@ -124,7 +124,7 @@ fn merge<R: Wait>(rt: &R, map: &StripedMap, pass: &mut Pass, program: &Verified)
     }
 }
 
-/// Makes the calls; whether each replied a greater number than the one before it. The pass comes back.
+/// Makes the calls. Tells whether each replied a greater number than the one before it. Returns the pass.
 fn make_calls<R: Wait>(rt: &R, map: &StripedMap, mut pass: Pass, calls: &Calls) -> (Pass, bool)
     requires { pass.map ≡ map.now }
     ensures { result.0.map ≡ map.now }
@@ -162,7 +162,7 @@ fn replace_at<R: AllocGlobal + Threads + Wait + Sync>(
     }
 }
 
-/// Makes a walk of each kind, whose workers meet as they start; else which was not so.
+/// Makes a walk of each kind, whose workers meet as they start. Otherwise returns the one that failed.
 fn start_each<R: AllocGlobal + Threads + Wait + Sync>(
     rt: &R,
     map: &StripedMap,
@@ -184,7 +184,7 @@ fn start_each<R: AllocGlobal + Threads + Wait + Sync>(
     replace_at(rt, map, team, program, Place::WalkStart)
 }
 
-/// Makes the walks whose workers meet at the place, once the calls have begun; then the calls are to stop.
+/// Makes the walks whose workers meet at the place, after the calls have begun; then stops the calls.
 fn meet<R: AllocGlobal + Threads + Wait + Sync>(
     rt: &R,
     map: &StripedMap,
@@ -249,7 +249,7 @@ fn filled_with_d<R: Wait>(rt: &R, alloc: Global) -> Option<(StripedMap, Pass, Te
     Some((map, pass, team))
 }
 
-/// Makes the walks whose workers meet at the place, beside so many calls at most. In the end each call and the one replacement have
+/// Makes the walks whose workers meet at the place, beside at most `most` calls. In the end each call and the one replacement have
 /// added 1 to the number at `d`.
 fn meet_beside<R: AllocGlobal + Threads + Wait + Abort + Sync>(
     rt: &R,

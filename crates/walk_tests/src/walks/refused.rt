@@ -1,5 +1,5 @@
-//! Walks of which one request for memory is refused: it leaves the entries, and the walk is made the next time. Where no
-//! request is refused, the walks are as any.
+//! Walks in which one request for memory is refused: the entries are unchanged, and the walk succeeds the next time. If
+//! no request is refused, these are ordinary walks.
 ghost use Rattle.std.specs.Prelude.{◌≡◌, All};
 
 use super::*;
@@ -16,7 +16,7 @@ fn has<R: Wait>(rt: &R, map: &StripedMap, pass: &mut Pass, name: u8, wanted: &[u
     }
 }
 
-/// Tells whether `a` and `b` have these values, and `c` the one that it was put with.
+/// Tells whether `a` and `b` have these values, and `c` its first one.
 fn have<R: Wait>(rt: &R, map: &StripedMap, pass: &mut Pass, a: &[u8], b: &[u8]) -> bool
     requires { pass.old.map ≡ map.now }
     ensures { pass.new.map ≡ map.now }
@@ -27,7 +27,7 @@ fn have<R: Wait>(rt: &R, map: &StripedMap, pass: &mut Pass, a: &[u8], b: &[u8]) 
     first && second && third
 }
 
-/// Makes the walk twice; whether it replied this both times, but for one refusal.
+/// Makes the walk twice. Tells whether it gave this reply both times, except for one refusal.
 fn is_made_again<R: AllocGlobal + Threads + Wait + Sync>(
     rt: &R,
     map: &StripedMap,
@@ -47,7 +47,7 @@ fn is_made_again<R: AllocGlobal + Threads + Wait + Sync>(
     (team, right)
 }
 
-/// Makes each walk twice that changes nothing; whether the list, the search and the count were right.
+/// Makes each walk that changes nothing twice. Tells whether the list, the search and the count were right.
 fn are_made_again<R: AllocGlobal + Threads + Wait + Sync>(
     rt: &R,
     map: &StripedMap,
@@ -63,7 +63,8 @@ fn are_made_again<R: AllocGlobal + Threads + Wait + Sync>(
     (team, [list, search, count])
 }
 
-/// Replaces the values, once more if that was refused; whether it left the entries if it was, and replied what is wanted.
+/// Replaces the values, and again if that was refused. Tells whether a refusal left the entries, and the reply was the
+/// expected one.
 fn are_replaced_again<R: AllocGlobal + Threads + Wait + Sync>(
     rt: &R,
     map: &StripedMap,
@@ -84,7 +85,7 @@ fn are_replaced_again<R: AllocGlobal + Threads + Wait + Sync>(
     left && replied(&reply, REPLACED)
 }
 
-/// Makes each walk, again if memory was refused; whether the list, the search and the count were right, and whether they left the
+/// Makes each walk, and again if memory was refused. Tells whether the list, the search and the count were right and left the
 /// entries, and the replacement was right and changed them.
 fn tried_again<R: AllocGlobal + Threads + Wait + Sync>(
     rt: &R,
@@ -103,7 +104,7 @@ fn tried_again<R: AllocGlobal + Threads + Wait + Sync>(
     (right, [unchanged, replacement, replaced])
 }
 
-/// Makes the program, once more if memory was refused.
+/// Makes the program, and again if memory was refused.
 fn program_again(alloc: Global) -> Result<Verified, NoMemory> {
     match summed(alloc) {
         Some(program) => Ok(program),

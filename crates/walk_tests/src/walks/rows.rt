@@ -6,7 +6,7 @@ use std::process::Abort;
 
 const TEAMS: [(u64, u64); 6] = [(1, 1), (1, 2), (1, 8), (4, 1), (4, 2), (4, 8)];
 
-/// Each walk over the three entries, and what it replies.
+/// Each walk over the three entries, and its reply.
 const ROWS: [(&str, Task, Wanted); 8] = [
     ("for_each at 0", Task::List(0), LISTED),
     ("for_each at 3", Task::List(3), LISTED),
@@ -18,7 +18,7 @@ const ROWS: [(&str, Task, Wanted); 8] = [
     ("replace_all", Task::Replace, REPLACED),
 ];
 
-/// What a search finds behind a replacement.
+/// What a search finds after a replacement.
 const FOUND_REPLACED: Wanted = Wanted(&[(b"a", &THREE)], (3, 1, 1));
 
 #[test]
@@ -37,7 +37,7 @@ fn passes_come_back(rt: HostRuntime) -> Result<(), Fail> {
     Ok(())
 }
 
-/// Makes the walk by a new team over a new map of three entries; whether it replied this.
+/// Makes the walk by a new team over a new map of three entries. Tells whether it gave this reply.
 fn is_made<R: AllocGlobal + Threads + Wait + Sync>(
     rt: &R,
     program: &Verified,
@@ -50,7 +50,7 @@ fn is_made<R: AllocGlobal + Threads + Wait + Sync>(
     Some(replied(&reply, wanted))
 }
 
-/// Plays each row by a team of this size, over a map of so many stripes.
+/// Plays each row by a team of this size, over a map of this many stripes.
 fn play<R: AllocGlobal + Threads + Wait + Abort + Sync>(
     rt: &R,
     program: &Verified,
@@ -76,7 +76,8 @@ fn each_walk_is_as_wanted_by_each_team(rt: HostRuntime) -> Result<(), Fail> {
     Ok(())
 }
 
-/// Counts the entries, replaces their values, and searches, by one team; whether each walk replied what is wanted.
+/// Counts the entries, replaces their values, and searches, by one team. Tells whether each walk gave the expected
+/// reply.
 fn count_replace_search<R: AllocGlobal + Threads + Wait + Sync>(
     rt: &R,
     map: &StripedMap,

@@ -2,7 +2,7 @@ use Rattle.std.proofs.Common.{arith, inr, refl}
 use Rattle.bpf_model.proofs.ProgramLemmas.{length-unit_count}
 use Rattle.admission.proofs.gate.admit.Goals as goal
 
--- the bytes spell a program whose flow is right, and a size is too large
+-- the bytes spell a program with a right flow, and a size is too large
 pub returns-then-has_large_window-clause-err : goal.returns-then-has_large_window-clause-err
 returns-then-has_large_window-clause-err c =
     let spelled = c.in_ok-program.ensures.found in

@@ -3,7 +3,7 @@ use Rattle.atomic_methods.specs.declared.reply.Reply.TheVariants.{Value}
 use Rattle.atomic_methods.proofs.ProgramLemmas.{runs_to}
 use Rattle.atomic_methods.proofs.methods.apply_into.Goals as goal
 
--- the value that is given is entered and replied
+-- the given value is entered and replied
 pub returns-in_ok-put-in-Give-clause-ok : goal.returns-in_ok-put-in-Give-clause-ok
 returns-in_ok-put-in-Give-clause-ok g c =
     let rule = rw (c.call.ensures.value) at c.in-Give.ensures.rule in

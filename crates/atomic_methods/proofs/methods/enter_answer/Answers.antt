@@ -14,13 +14,13 @@ returns-in_err-put-in-Ok-true-clause-memory g c =
     let came = rw (c.in-Ok-true.is, c.in-Ok-true.field-0-test) at c.requires.came_to in
     on_err_anyway _ (bytes_add _ _ _ came (rw (← c.key.ensures.value) c.in_err-put-in-Ok-true.ensures.memory))
 
--- it answered nothing: the key goes
+-- it answered nothing: the key is removed
 pub returns-in-Ok-false-clause-ok : goal.returns-in-Ok-false-clause-ok
 returns-in-Ok-false-clause-ok g c =
     let came = rw (c.in-Ok-false.is, c.in-Ok-false.field-0-test) at c.requires.came_to in
     nothing_left _ _ _ came (rw (← c.key-in-Ok-false.ensures.value) c.discard.ensures.others)
 
--- a window is too small: the key keeps what it has
+-- a window is too small: the key keeps its value
 pub returns-in-Err-clause-ok : goal.returns-in-Err-clause-ok
 returns-in-Err-clause-ok g c =
     let came = rw c.in-Err.is at c.requires.came_to in

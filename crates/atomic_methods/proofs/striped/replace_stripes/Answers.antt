@@ -2,7 +2,7 @@ use Rattle.std.proofs.Common.{arith, refl, ap, ◌<◌, length}
 use Rattle.atomic_methods.proofs.ReplaceLemmas.{replaced_more, bounded_counts}
 use Rattle.atomic_methods.proofs.striped.replace_stripes.Goals as goal
 
--- there is room for one more count of a stripe
+-- there is room for the count of one more stripe
 pub overflow_add-scanned : goal.overflow_add-scanned
 overflow_add-scanned c =
     let all = ap length c.deref_mut-stripe-items.ensures.value in

@@ -2,7 +2,7 @@ use Rattle.std.proofs.Common.{◌≡◌, ◌≤◌, ◌*◌, ◌^◌, take, drop
 use Rattle.atomic_methods.specs.Whole.{ReplacesStripes}
 use Rattle.atomic_methods.proofs.striped.replace_stripes.Given as goal
 
--- the stripes before this one were replaced and counted, and the others are as they were
+-- the stripes before this one were replaced and counted, the others are unchanged
 abbrev pub invariant-loop-stripe : goal.invariant-loop-stripe
 invariant-loop-stripe l = record {
   done : ReplacesStripes l.fn.program l.fn.arg (take l.stripe-index l.fn.stripes.items) (take l.stripe-index l.stripe-items) (record { scanned = l.scanned; given = l.given; unfit = l.unfit });

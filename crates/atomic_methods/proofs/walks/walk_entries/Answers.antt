@@ -16,7 +16,7 @@ loop-position-init c = record {
   bounded = omega arith;
 }
 
--- one entry more: its answer is kept where the walk gives it
+-- one more entry: its answer is kept if the walk gives it
 pub loop-position-preserved : goal.loop-position-preserved
 loop-position-preserved c =
     let before = c.loop-position.invariant in

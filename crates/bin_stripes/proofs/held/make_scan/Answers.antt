@@ -32,7 +32,7 @@ let_go-requires-in-Err-clause-made g c = let v = c.args.seat.now.me.0 in let the
     let found = found_is g.B.Bins.table c.args.table.now.table_id.slots c.args.stripe c.args.seat.now.me c.in-Some.bins (rest c.args.seat.now.me.1) c.requires.held (c.slot_mut.ensures.value ∙ ap (λ s. (c.args.stripe, s) ∷ rest c.args.seat.now.me.1) c.in-Some.is) in
     (c.in-Some.bins, (rest c.args.seat.now.me.1, (refl, nothing_made c.args.table.now.table_id.slots c.args.stripe v v there there refl refl found)))
 
--- the scan found just the entries that are handed out
+-- the scan found exactly the entries that it returns
 pub returns-in-Ok-clause-ok : goal.returns-in-Ok-clause-ok
 returns-in-Ok-clause-ok g c = let n = c.args.table.now.table_id.slots in let k = c.args.stripe in
     lets_as n k _ _ c.args.seat.now.me c.let_go.new.seat.me

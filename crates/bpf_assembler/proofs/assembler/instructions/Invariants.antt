@@ -5,7 +5,7 @@ use Rattle.bpf_model.specs.Spelling.{AreInstructions}
 use Rattle.bpf_assembler.specs.Text.{text_of}
 use Rattle.bpf_assembler.proofs.assembler.instructions.Given as goal
 
--- what was read are the lines of the instructions so far
+-- the text read so far is the lines of the instructions so far
 abbrev pub invariant-loop-cursor : goal.invariant-loop-cursor
 invariant-loop-cursor l = record {
   fits : AreInstructions l.instructions.items;

@@ -7,7 +7,7 @@ use Rattle.bulk_walks.proofs.TeamLemmas.{at_most_64, counts_fit, counts_all, hea
 use Rattle.bulk_walks.proofs.count.mapping_count.Goals as goal
 use Rattle.bulk_walks.proofs.count.mapping_count.Goals.{After-deref}
 
--- what worker i did
+-- the work of worker i
 abbrev Does : TableId → ℕ → ℕ → PassState → ℕ → PassState → Type 0
 Does map workers i x count y = (y.map ≡ map) × CountsTurns (stripes_of map) workers i x.view y.view count
 

@@ -10,7 +10,7 @@ use Rattle.bulk_walks.proofs.FoundLemmas.{all_of}
 use Rattle.bulk_walks.proofs.finding.find.Goals as goal
 use Rattle.bulk_walks.proofs.finding.find.Goals.{In-Ok}
 
--- what worker i did
+-- the work of worker i
 abbrev Does : TableId → ℕ → ℕ → PassState → Result (List Entry) NoMemory → PassState → Type 0
 Does map workers i x r y = (y.map ≡ map) × IfOk r (λ found. FindsInOrder (stripes_of map) workers i x.view y.view found) × Walked (stripes_of map) workers i MayScan x.view y.view
 

@@ -5,7 +5,7 @@ use Rattle.bulk_walks.specs.declared.answering.Part.{Part}
 use Rattle.bulk_walks.specs.Turns.{found_in, found_of}
 use Rattle.bulk_walks.proofs.finding.parts_of.Goals as goal
 
--- a part more
+-- one more part
 pub loop-answer-preserved : goal.loop-answer-preserved
 loop-answer-preserved c =
     let before = c.loop-answer.invariant in

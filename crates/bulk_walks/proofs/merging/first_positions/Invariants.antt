@@ -7,7 +7,8 @@ use Rattle.bulk_walks.specs.Turns.{items_in}
 use Rattle.bulk_walks.proofs.MergeLemmas.{Left}
 use Rattle.bulk_walks.proofs.merging.first_positions.Given as goal
 
--- the items at the positions so far begin each list in key order that has all items, and the rest of it has what is left
+-- the items at the positions so far begin each list in key order that has all items, and the rest of it has the
+-- remaining items
 abbrev pub invariant-loop-given : goal.invariant-loop-given
 invariant-loop-given l = record {
   lists : lists_of l.rests.items ≡ items_in l.replies;

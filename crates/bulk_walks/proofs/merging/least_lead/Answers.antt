@@ -10,7 +10,7 @@ use Rattle.bulk_walks.proofs.MergeLemmas.{comes_first-itself, comes_first-by_lea
 use Rattle.bulk_walks.proofs.merging.least_lead.Goals as goal
 use Rattle.bulk_walks.proofs.merging.least_lead.Goals.{then-lead-least, else-lead-least}
 
--- one lead more
+-- one more lead
 pub loop-other-preserved : goal.loop-other-preserved
 loop-other-preserved c =
     let before = c.loop-other.invariant in
@@ -53,7 +53,7 @@ loop-other-preserved c =
       })
     ]
 
--- the least lead is alone, where the others are not less than one that is greater
+-- the least lead is alone if the others are not less than a greater one
 pub returns-clause-alone : goal.returns-clause-alone
 returns-clause-alone c less k d low =
     let inv = c.loop-other.invariant in

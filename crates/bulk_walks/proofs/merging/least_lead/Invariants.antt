@@ -5,7 +5,7 @@ use Rattle.bins.specs.Table.{Entry}
 use Rattle.bulk_walks.specs.Merges.{lead_of, lefts_of}
 use Rattle.bulk_walks.proofs.merging.least_lead.Given as goal
 
--- of the leads so far, the least one and one that is not greater than the others
+-- among the leads so far, the least one and one that is not greater than the others
 abbrev pub invariant-loop-other : goal.invariant-loop-other
 invariant-loop-other l = record {
   inside : l.position < length l.rests;

@@ -9,7 +9,7 @@ use Rattle.bulk_walks.proofs.ReplaceLemmas.{none_counted, scanned_fit, given_fit
 use Rattle.bulk_walks.proofs.replace.replace_all.Goals as goal
 use Rattle.bulk_walks.proofs.replace.replace_all.Goals.{After-deref}
 
--- what worker i did
+-- the work of worker i
 abbrev Does : TableId → Checked → Option (List ℕ) → ℕ → ℕ → PassState → Counts → PassState → Type 0
 Does map checked arg workers i x r y = (y.map ≡ map) × ReplacesTurns (stripes_of map) checked arg (stripes_of map) workers i x.view y.view r
 

@@ -2,7 +2,7 @@ use Rattle.std.proofs.Common.{◌≡◌, ◌++◌, take}
 use Rattle.client_protocol.proofs.HeldLaws.{refused_if}
 use Rattle.client_protocol.proofs.feeder.complete.Goals as goal
 
--- what is refused with the bytes that it lacked is refused
+-- if the frame with its missing bytes is refused, so is the stream
 pub returns-in-Err-clause-fault : goal.returns-in-Err-clause-fault
 returns-in-Err-clause-fault c =
     let (same, begun, grown, all) = c.loop-piece.invariant in

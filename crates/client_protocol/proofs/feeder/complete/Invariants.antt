@@ -1,4 +1,4 @@
--- what is held has begun a frame, and what was taken of the piece stands behind what was held
+-- the held bytes have begun a frame, and the bytes taken from the piece come after those held before
 use Rattle.std.proofs.Common.{◌≡◌, ◌++◌, length, take}
 use Rattle.client_protocol.specs.Frames.{IsBeginning}
 use Rattle.client_protocol.proofs.feeder.complete.Given as goal

@@ -2,7 +2,7 @@ use Rattle.std.proofs.Common.{arith, inr, ap}
 use Rattle.client_protocol.specs.declared.limits.Limits.{Limits}
 use Rattle.client_protocol.proofs.frames.next.Goals as goal
 
--- less than the body is there
+-- not all of the body is there
 pub returns-then-rest-len-clause-begun : goal.returns-then-rest-len-clause-begun
 returns-then-rest-len-clause-begun c =
     let body = ap (λ (limits : Limits). limits.body) c.after.ensures in

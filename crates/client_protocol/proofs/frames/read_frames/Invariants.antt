@@ -1,4 +1,4 @@
--- the requests so far, and then what is left
+-- the requests so far, and then the rest
 use Rattle.std.proofs.Common.{◌≡◌, List, ◌++◌, length}
 use Rattle.client_protocol.specs.Requests.{Request}
 use Rattle.client_protocol.specs.Frames.{frames_of, Follow}

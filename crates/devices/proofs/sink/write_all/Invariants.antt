@@ -1,4 +1,4 @@
--- what is gone from `rest` was taken
+-- the bytes that are gone from `rest` were taken
 use Rattle.std.proofs.Common.{◌≡◌, ℕ, List, ◌++◌, length}
 use Rattle.std.specs.Io.KnownBytes.{Appends}
 use Rattle.devices.proofs.sink.write_all.Given as goal

@@ -1,4 +1,4 @@
--- the bytes so far are those that were taken, one at least in each turn
+-- the bytes so far are those that were taken, at least one in each turn
 use Rattle.std.proofs.Common.{◌≡◌, ◌≤◌, vec_len}
 use Rattle.std.specs.Io.KnownBytes.{Consumes}
 use Rattle.devices.proofs.source.read_all.Given as goal

@@ -1,4 +1,4 @@
--- what was read is answered so far
+-- the requests read so far are answered
 use Rattle.std.proofs.Common.{◌≡◌, ℕ, List, None}
 use Rattle.std.specs.Io.KnownBytes.{Appends, Consumes}
 use Rattle.client_protocol.specs.Frames.{held_fault}

@@ -2,7 +2,7 @@ use Rattle.std.proofs.Common.{◌≡◌, ℕ, ◌+◌, ◌<◌, ◌≤◌, get_o
 use Rattle.std.specs.Fork.{ChangesAt}
 use Rattle.workers.proofs.apart.in_turn.Given as goal
 
--- the first elements were changed, and the others are as they were
+-- the first elements were changed, the others not yet
 abbrev pub invariant-loop-k : goal.invariant-loop-k
 invariant-loop-k g l = record {
   len : length l.s ≡ length l.initial.s;

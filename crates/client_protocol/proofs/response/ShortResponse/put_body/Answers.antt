@@ -4,7 +4,7 @@ use Rattle.client_protocol.specs.Responses.{response_body, response_of}
 use Rattle.client_protocol.proofs.FieldLaws.{four_behind}
 use Rattle.client_protocol.proofs.response.ShortResponse.put_body.Goals as goal
 
--- the tag and the three counts stand behind each other
+-- the tag and the three counts follow each other
 pub returns-in-End : goal.returns-in-End
 returns-in-End c =
     let out = c.args.out.now.items in

@@ -1,4 +1,4 @@
--- what is gone was taken
+-- the bytes that are gone were taken
 use Rattle.std.proofs.Common.{length}
 use Rattle.devices.specs.Channels.{TakesOwed}
 use Rattle.devices.proofs.owed.Owed.send_to.Given as goal

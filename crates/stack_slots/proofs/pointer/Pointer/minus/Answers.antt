@@ -6,7 +6,7 @@ use Rattle.std.proofs.lemmas.Option.{IfSome_then}
 use Rattle.stack_slots.proofs.PointerLemmas.{points_minus}
 use Rattle.stack_slots.proofs.pointer.Pointer.minus.Goals as goal
 
--- what the checked operation gives is read as it stands
+-- the result of the checked operation is read unchanged
 reads : (a b r : ℤ) → SFits w64 a → SFits w64 b → (SFits w64 (to_z w64 (of_z w64 a) -ℤ to_z w64 (of_z w64 b)) × (r ≡ to_z w64 (of_z w64 a) -ℤ to_z w64 (of_z w64 b))) → to_z w64 (of_z w64 r) ≡ a -ℤ b
 reads a b r first second is =
     let fits : SFits w64 r = rw is.1 is.0 in

@@ -5,7 +5,7 @@ use Rattle.std.proofs.lemmas.Int.{ints, to_z-of_z}
 use Rattle.stack_slots.proofs.ValueLemmas.{min_above, max_below, min_first, max_first}
 use Rattle.stack_slots.proofs.pointer.Pointer.over.Goals as goal
 
--- the bounds of two are read as they stand
+-- the bounds of two are read unchanged
 reads_least : (a b r : ℤ) → SFits w64 a → SFits w64 b → SFits w64 r → r ≡ int_min (to_z w64 (of_z w64 a)) (to_z w64 (of_z w64 b)) → to_z w64 (of_z w64 r) ≡ int_min a b
 reads_least a b r first second fits is = to_z-of_z w64 r fits ∙ (rw (to_z-of_z w64 a first, to_z-of_z w64 b second) at is)
 
