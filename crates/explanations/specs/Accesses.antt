@@ -1,5 +1,5 @@
 -- What is known of a load or store that is refused, in words.
-use Rattle.std.specs.Prelude.{ℕ, zero, suc, ◌+◌, ◌-◌, Bool, ◌&&◌, ◌||◌, not, List, [], ◌++◌, codes, decimal, nat_eq, nat_lt, Option, Some, None, ℤ, pos, ◌+ℤ◌, int_le, unsigned_abs, if◌then◌else◌}
+use Rattle.std.specs.Prelude.{ℕ, zero, suc, ◌+◌, ◌-◌, Bool, ◌&&◌, ◌||◌, not, List, [], ◌++◌, codes, decimal, nat_eq, nat_lt, Option, Some, None, ℤ, pos, ◌+ℤ◌, int_lt, unsigned_abs, if◌then◌else◌}
 use Rattle.std.specs.Fmt.{signed_decimal}
 use Rattle.std.specs.Ordering.{int_eq}
 use Rattle.bpf_model.specs.declared.input.Sizes.{Sizes}
@@ -43,10 +43,13 @@ access_text sizes (Number r) offset count = []
 access_text sizes (PointerInto p) offset count = reach_text p offset ++ extent_text count (window_size sizes p.window)
 
 -- into which window a store goes, and into which ones it may
+abbrev pub store_text : ℕ → Pointer → List ℕ
+store_text r p = codes ": r" ++ decimal r ++ codes " is " ++ pointer_text p ++ codes "; result and stack alone may be written"
+
 abbrev pub read_only_text : ℕ → RegValue → List ℕ
 read_only_text r Unwritten = []
 read_only_text r (Number n) = []
-read_only_text r (PointerInto p) = codes ": r" ++ decimal r ++ codes " is " ++ pointer_text p ++ codes "; result and stack alone may be written"
+read_only_text r (PointerInto p) = store_text r p
 
 -- ---- bytes that are read
 
@@ -77,9 +80,11 @@ between_text f w first end =
     if nat_lt (kept_bytes w) end then [] else read_text w first end ++ unwritten_below f w first end (end - first)
 
 -- so of a load that may be at several places: from the first byte at the least to the last byte at the greatest
+abbrev pub load_text : Frame → Window → ℤ → ℤ → ℕ → List ℕ
+load_text f w least greatest count =
+    if int_lt least (pos 0) then [] else between_text f w (unsigned_abs least) (unsigned_abs greatest + count)
+
 abbrev pub unwritten_text : Frame → RegValue → ℤ → ℕ → List ℕ
 unwritten_text f Unwritten offset count = []
 unwritten_text f (Number r) offset count = []
-unwritten_text f (PointerInto p) offset count =
-    if int_le (pos 0) (p.least +ℤ offset) then between_text f p.window (unsigned_abs (p.least +ℤ offset)) (unsigned_abs (p.greatest +ℤ offset) + count)
-    else []
+unwritten_text f (PointerInto p) offset count = load_text f p.window (p.least +ℤ offset) (p.greatest +ℤ offset) count

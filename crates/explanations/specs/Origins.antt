@@ -44,11 +44,14 @@ operands_below i a zero = []
 operands_below i a (suc r) = operands_below i a r ++ operand_text i a r
 
 -- the write, with its unit, its text and what it read
+abbrev pub told_write : ℕ → Insn → AbstractState → List ℕ
+told_write unit i a = codes "; unit " ++ decimal unit ++ codes " wrote it last: " ++ instruction_text i ++ operands_below i a 11
+
 abbrev pub write_text : ℕ → Option Insn → Option (Option AbstractState) → List ℕ
 write_text unit None known = []
 write_text unit (Some i) None = []
 write_text unit (Some i) (Some None) = []
-write_text unit (Some i) (Some (Some a)) = codes "; unit " ++ decimal unit ++ codes " wrote it last: " ++ instruction_text i ++ operands_below i a 11
+write_text unit (Some i) (Some (Some a)) = told_write unit i a
 
 -- ---- registers that are read
 
@@ -57,10 +60,14 @@ is_unwritten Unwritten = true
 is_unwritten (Number r) = false
 is_unwritten (Pointer p) = false
 
--- the last of the first registers that an instruction reads and that was perhaps not written
+-- an instruction reads a register that was perhaps not written
+abbrev pub reads_unwritten : Insn → AbstractState → ℕ → Bool
+reads_unwritten i a r = reads i r && is_unwritten (register a r)
+
+-- the last of the first registers of which that holds
 unfoldable pub unwritten_read : Insn → AbstractState → ℕ → Option ℕ
 unwritten_read i a zero = None
-unwritten_read i a (suc r) = if reads i r && is_unwritten (register a r) then Some r else unwritten_read i a r
+unwritten_read i a (suc r) = if reads_unwritten i a r then Some r else unwritten_read i a r
 
 -- ---- ways past it
 
@@ -71,12 +78,16 @@ is_past s from target = nat_lt from s.written && (int_lt (pos s.written) target 
 abbrev pub passes : Stretch → ℕ → Insn → Bool
 passes s from i = option_map_or (λ distance. is_past s from (target_of from distance)) (distance_of i) false
 
--- such a jump, to which some run may come, and what was known of the register there
+-- such a jump, and what was known of the register there
+abbrev pub told_pass : Stretch → ℕ → Insn → AbstractState → List ℕ
+told_pass s from i a =
+    if passes s from i then codes "; unit " ++ decimal from ++ codes " jumps past that: " ++ instruction_text i ++ was_text s.register (register a s.register) else []
+
+-- so if some run may come to it
 abbrev pub pass_text : Stretch → ℕ → Insn → Option (Option AbstractState) → List ℕ
 pass_text s from i None = []
 pass_text s from i (Some None) = []
-pass_text s from i (Some (Some a)) =
-    if passes s from i then codes "; unit " ++ decimal from ++ codes " jumps past that: " ++ instruction_text i ++ was_text s.register (register a s.register) else []
+pass_text s from i (Some (Some a)) = told_pass s from i a
 
 abbrev pub pass_at : List Insn → List (Option AbstractState) → Stretch → ℕ → List ℕ
 pass_at before states s k = option_map_or (λ i. pass_text s (unit_count (take k before)) i (slice_get states k)) (slice_get before k) []

@@ -46,23 +46,30 @@ abbrev pub unwritten_reason : List Insn → List (Option AbstractState) → Abst
 unwritten_reason before states a None = []
 unwritten_reason before states a (Some r) = register_text before states r (register a r)
 
--- where a load or store may lie, its window, or its bytes
-abbrev pub touch_text : Sizes → VerifyFault → AbstractState → Touch → List ℕ
-touch_text sizes (OutOfWindow unit) a t = access_text sizes (register a t.register) t.offset (byte_count t.size)
-touch_text sizes (ReadOnly unit) a t = read_only_text t.register (register a t.register)
-touch_text sizes (UnwrittenBytes unit) a t = unwritten_text a.frame (register a t.register) t.offset (byte_count t.size)
-touch_text sizes fault a t = []
+-- where a load or store may lie
+abbrev pub access_reason : Sizes → AbstractState → Option Touch → List ℕ
+access_reason sizes a None = []
+access_reason sizes a (Some t) = access_text sizes (register a t.register) t.offset (byte_count t.size)
 
-abbrev pub touch_reason : Sizes → VerifyFault → AbstractState → Option Touch → List ℕ
-touch_reason sizes fault a None = []
-touch_reason sizes fault a (Some t) = touch_text sizes fault a t
+-- into which window a store goes
+abbrev pub store_reason : AbstractState → Option Touch → List ℕ
+store_reason a None = []
+store_reason a (Some t) = read_only_text t.register (register a t.register)
+
+-- which bytes a load reads
+abbrev pub load_reason : AbstractState → Option Touch → List ℕ
+load_reason a None = []
+load_reason a (Some t) = unwritten_text a.frame (register a t.register) t.offset (byte_count t.size)
 
 -- what is told of an instruction by what is known of those before it and of itself
 abbrev pub IsReason : List Insn → List (Option AbstractState) → Sizes → VerifyFault → Insn → AbstractState → List ℕ → Type 0
 IsReason before states sizes (UnwrittenRegister unit) i a text = text ≡ unwritten_reason before states a (unwritten_read i a 11)
 IsReason before states sizes (NotAWindow unit) i a text = text ≡ address_reason before states a (touch_of i)
+IsReason before states sizes (OutOfWindow unit) i a text = text ≡ access_reason sizes a (touch_of i)
+IsReason before states sizes (ReadOnly unit) i a text = text ≡ store_reason a (touch_of i)
+IsReason before states sizes (UnwrittenBytes unit) i a text = text ≡ load_reason a (touch_of i)
 IsReason before states sizes (BadExitValue unit) i a text = IsExitReason a text
-IsReason before states sizes fault i a text = text ≡ touch_reason sizes fault a (touch_of i)
+IsReason before states sizes fault i a text = ⊥
 
 -- so if it was come to
 pub record IsReasonAfter (before : List Insn) (states : List (Option AbstractState)) (sizes : Sizes) (fault : VerifyFault) (insn : Insn) (text : List ℕ) : Type 0 where

@@ -1,8 +1,8 @@
 //! What is known of a load or store that is refused, in words.
-ghost use Rattle.std.specs.Prelude.{◌≡◌, ◌<◌, ◌≤◌, ◌++◌, IfSome, OnOk, ◌+ℤ◌, string_bytes};
+ghost use Rattle.std.specs.Prelude.{◌≡◌, ◌-◌, ◌<◌, ◌≤◌, ◌++◌, IfSome, OnOk, ◌+ℤ◌, string_bytes};
 ghost use Rattle.bpf_model.specs.Accesses.{byte_count};
 ghost use Rattle.stack_slots.specs.Kept.{kept_bytes};
-ghost use Rattle.explanations.specs.Accesses.{touch_of, count_text, span_text, reach_text, extent_text, access_text, read_only_text, opens, closes, unwritten_byte, unwritten_below, read_text, between_text, unwritten_text};
+ghost use Rattle.explanations.specs.Accesses.{touch_of, count_text, span_text, reach_text, extent_text, access_text, store_text, read_only_text, opens, closes, unwritten_byte, unwritten_below, read_text, between_text, load_text, unwritten_text};
 
 use crate::known::{is_written, window_name, write_pointer};
 use bpf_model::limits::{STACK_BYTES, VALUE_BYTES};
@@ -132,17 +132,25 @@ pub fn write_access(
     write_extent(text, size.bytes(), pointer.window.size(sizes))
 }
 
+/// Writes into which window a store goes, and into which ones it may.
+fn write_store(text: &mut String, register: u8, pointer: Pointer) -> Result<(), AllocError>
+    ensures { OnOk result
+        (string_bytes text.new ≡ string_bytes text.old ++ store_text register pointer) }
+{
+    write!(text, ": r{register} is ")?;
+    write_pointer(text, pointer)?;
+    text.push_str("; result and stack alone may be written")
+}
+
 /// Writes into which window a store goes, and into which ones it may. Writes nothing if its register is no pointer.
 pub fn write_read_only(text: &mut String, register: u8, value: RegValue) -> Result<(), AllocError>
     ensures { OnOk result
         (string_bytes text.new ≡ string_bytes text.old ++ read_only_text register value) }
 {
-    let RegValue::Pointer(pointer) = value else {
-        return Ok(());
-    };
-    write!(text, ": r{register} is ")?;
-    write_pointer(text, pointer)?;
-    text.push_str("; result and stack alone may be written")
+    match value {
+        RegValue::Unwritten | RegValue::Number(_) => Ok(()),
+        RegValue::Pointer(pointer) => write_store(text, register, pointer),
+    }
 }
 
 /// How many bytes of a window a frame keeps.
@@ -236,6 +244,28 @@ fn write_between(text: &mut String, frame: &Frame, bytes: Bytes) -> Result<(), A
     write_unwritten(text, frame, bytes)
 }
 
+/// Writes which bytes a load reads from this reach on, and which of them were perhaps not written.
+fn write_load(
+    text: &mut String,
+    frame: &Frame,
+    window: Window,
+    reach: Reach,
+    size: AccessSize,
+) -> Result<(), AllocError>
+    ensures { OnOk result (string_bytes text.new ≡ string_bytes text.old
+        ++ load_text frame.now window reach.least reach.greatest (byte_count size)) }
+{
+    if reach.least < 0 {
+        return Ok(());
+    }
+    let bytes = Bytes {
+        window,
+        first: reach.least.unsigned_abs() as usize,
+        end: reach.greatest.unsigned_abs() as usize + size.bytes(),
+    };
+    write_between(text, frame, bytes)
+}
+
 /// Writes which bytes a load reads, and which of them were perhaps not written. Writes nothing if its register is no
 /// pointer.
 pub fn write_unread(
@@ -252,13 +282,5 @@ pub fn write_unread(
         return Ok(());
     };
     let reach = reach_of(pointer, offset);
-    if reach.least < 0 {
-        return Ok(());
-    }
-    let bytes = Bytes {
-        window: pointer.window,
-        first: reach.least.unsigned_abs() as usize,
-        end: reach.greatest.unsigned_abs() as usize + size.bytes(),
-    };
-    write_between(text, frame, bytes)
+    write_load(text, frame, pointer.window, reach, size)
 }

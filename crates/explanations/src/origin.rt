@@ -1,9 +1,9 @@
 //! From which instructions a register has its value, in words.
-ghost use Rattle.std.specs.Prelude.{◌≡◌, ◌<◌, ◌≤◌, ◌++◌, IfSome, OnOk, length, option_map, slice_get, take, string_bytes};
+ghost use Rattle.std.specs.Prelude.{◌≡◌, ◌<◌, ◌≤◌, ◌++◌, Some, IfSome, OnOk, length, option_map, slice_get, take, string_bytes};
 ghost use Rattle.bpf_model.specs.declared.limits.TheConstants.{PROGRAM_UNITS};
 ghost use Rattle.bpf_model.specs.Program.{unit_count};
 ghost use Rattle.verifier.specs.Instructions.{reads, written_by, operand_reads};
-ghost use Rattle.explanations.specs.Origins.{was_text, writes, is_write, last_write, operand_text, operands_below, write_text, passes, pass_text, passes_below, origin_text, origin_of, register_text, is_unwritten, unwritten_read};
+ghost use Rattle.explanations.specs.Origins.{was_text, writes, is_write, last_write, operand_text, operands_below, told_write, write_text, passes, told_pass, pass_text, passes_below, origin_text, origin_of, register_text, is_unwritten, reads_unwritten, unwritten_read};
 
 use crate::known::write_value;
 use bpf_assembler::instruction_text;
@@ -139,6 +139,23 @@ fn write_operands(text: &mut String, insn: &Insn, state: &AbstractState) -> Resu
     Ok(())
 }
 
+/// Writes a write's unit, its text and what it read.
+fn write_told_write(
+    alloc: Global,
+    text: &mut String,
+    unit: usize,
+    insn: &Insn,
+    state: &AbstractState,
+) -> Result<(), NoMemory>
+    ensures { OnOk result (string_bytes text.new
+        ≡ string_bytes text.old ++ told_write unit insn.now state.now) }
+{
+    let instruction = instruction_text(alloc, insn)?;
+    write!(text, "; unit {unit} wrote it last: {instruction}")?;
+    write_operands(text, insn, state)?;
+    Ok(())
+}
+
 /// Writes a write's unit, its text and what it read. Writes nothing if no run comes to it.
 fn write_write(
     alloc: Global,
@@ -150,13 +167,10 @@ fn write_write(
     ensures { OnOk result (string_bytes text.new ≡ string_bytes text.old
         ++ write_text unit (option_map (λ i. i.now) insn.entry) (option_map (λ k. k.now) known.entry)) }
 {
-    let (Some(insn), Some(Some(state))) = (insn, known) else {
-        return Ok(());
-    };
-    let instruction = instruction_text(alloc, insn)?;
-    write!(text, "; unit {unit} wrote it last: {instruction}")?;
-    write_operands(text, insn, state)?;
-    Ok(())
+    match (insn, known) {
+        (Some(insn), Some(Some(state))) => write_told_write(alloc, text, unit, insn, state),
+        _ => Ok(()),
+    }
 }
 
 /// Tells whether the instruction at a unit jumps from before the write to behind it, and no further than to the read.
@@ -169,11 +183,37 @@ fn passes(stretch: Stretch, unit: usize, insn: &Insn) -> bool
     let Some(distance) = distance(insn) else {
         return false;
     };
-    let target = unit as i64 + 1 + i64::from(distance);
+    let next = unit + 1;
+    let target = next as i64 + i64::from(distance);
     unit < stretch.written && (stretch.written as i64) < target && target <= stretch.read as i64
 }
 
 /// Writes a jump past the write, with what was known of the register there. Writes nothing of another instruction.
+fn write_told_pass(
+    alloc: Global,
+    text: &mut String,
+    stretch: Stretch,
+    unit: usize,
+    insn: &Insn,
+    state: &AbstractState,
+) -> Result<(), NoMemory>
+    requires register { stretch.register < 11 }
+    requires inside { unit ≤ PROGRAM_UNITS }
+    requires written { stretch.written ≤ PROGRAM_UNITS }
+    requires read { stretch.read ≤ PROGRAM_UNITS }
+    ensures { OnOk result (string_bytes text.new
+        ≡ string_bytes text.old ++ told_pass stretch unit insn.now state.now) }
+{
+    if !passes(stretch, unit, insn) {
+        return Ok(());
+    }
+    let instruction = instruction_text(alloc, insn)?;
+    write!(text, "; unit {unit} jumps past that: {instruction}")?;
+    write_was(text, stretch.register, state.registers()[stretch.register])?;
+    Ok(())
+}
+
+/// Writes a jump past the write, if some run may come to it.
 fn write_pass(
     alloc: Global,
     text: &mut String,
@@ -189,16 +229,10 @@ fn write_pass(
     ensures { OnOk result (string_bytes text.new ≡ string_bytes text.old
         ++ pass_text stretch unit insn.now (option_map (λ k. k.now) known.entry)) }
 {
-    let Some(Some(state)) = known else {
-        return Ok(());
-    };
-    if !passes(stretch, unit, insn) {
-        return Ok(());
+    match known {
+        Some(Some(state)) => write_told_pass(alloc, text, stretch, unit, insn, state),
+        _ => Ok(()),
     }
-    let instruction = instruction_text(alloc, insn)?;
-    write!(text, "; unit {unit} jumps past that: {instruction}")?;
-    write_was(text, stretch.register, state.registers()[stretch.register])?;
-    Ok(())
 }
 
 /// Writes each of these instructions that jumps past the write.
@@ -224,6 +258,31 @@ fn write_passes(
     Ok(())
 }
 
+/// Writes the write at this index, and each jump past it.
+fn write_origin_at(
+    alloc: Global,
+    text: &mut String,
+    before: &[Insn],
+    states: &[Option<AbstractState>],
+    register: usize,
+    index: usize,
+) -> Result<(), NoMemory>
+    requires register { register < 11 }
+    requires units { unit_count before.now ≤ PROGRAM_UNITS }
+    requires inside { index < length before.now }
+    ensures { OnOk result (string_bytes text.new ≡ string_bytes text.old
+        ++ origin_of before.now states.now register (Some index)) }
+{
+    let written = Insn::count_units(&before[..index]);
+    write_write(alloc, text, written, before.get(index), states.get(index))?;
+    let stretch = Stretch {
+        register,
+        written,
+        read: Insn::count_units(before),
+    };
+    write_passes(alloc, text, before, states, stretch)
+}
+
 /// Writes where the register's value comes from, on each way through these instructions to the one after them.
 #[tactic(auto, unfolding(crate::specs::Origins::origin_text))]
 fn write_origin(
@@ -242,14 +301,7 @@ fn write_origin(
         text.push_str("; nothing above writes it")?;
         return Ok(());
     };
-    let written = Insn::count_units(&before[..index]);
-    write_write(alloc, text, written, before.get(index), states.get(index))?;
-    let stretch = Stretch {
-        register,
-        written,
-        read: Insn::count_units(before),
-    };
-    write_passes(alloc, text, before, states, stretch)
+    write_origin_at(alloc, text, before, states, register, index)
 }
 
 /// Tells whether this is what is known of a register that was perhaps not written.
@@ -259,15 +311,22 @@ fn is_unwritten(value: RegValue) -> bool
     matches!(value, RegValue::Unwritten)
 }
 
+/// Tells whether the instruction reads a register that was perhaps not written.
+fn reads_unwritten(insn: &Insn, state: &AbstractState, register: usize) -> bool
+    requires { register < 11 }
+    ensures { result ≡ reads_unwritten insn.now state.now register }
+{
+    reads(insn, register) && is_unwritten(state.registers()[register])
+}
+
 /// A register that the instruction reads and that was perhaps not written, the last one.
 pub fn unwritten_read(insn: &Insn, state: &AbstractState) -> Option<usize>
     ensures value { result ≡ unwritten_read insn.now state.now 11 }
     ensures inside { IfSome result (λ register. register < 11) }
 {
-    let values = state.registers();
     let mut last = None;
     for register in 0..11 {
-        if reads(insn, register) && is_unwritten(values[register]) {
+        if reads_unwritten(insn, state, register) {
             last = Some(register);
         }
     }

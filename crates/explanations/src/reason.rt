@@ -1,18 +1,18 @@
 //! What the verifier knew of an instruction that it refuses, in words.
-ghost use Rattle.std.specs.Prelude.{◌≡◌, ◌≤◌, ◌⊎◌, ◌++◌, [], IfOk, IfSome, OnOk, length, take, string_bytes};
+ghost use Rattle.std.specs.Prelude.{◌≡◌, ◌≤◌, ◌⊎◌, [], IfOk, IfSome, length, take, string_bytes};
 ghost use Rattle.bpf_model.specs.declared.limits.TheConstants.{PROGRAM_UNITS};
 ghost use Rattle.bpf_model.specs.Program.{unit_count, IsProgram};
 ghost use Rattle.verifier.specs.Walks.{KnowsRuns};
 ghost use Rattle.explanations.specs.Accesses.{touch_of};
 ghost use Rattle.explanations.specs.Origins.{unwritten_read as unwritten_register};
-ghost use Rattle.explanations.specs.Reasons.{address_reason, unwritten_reason, touch_reason, touch_text, is_told, IsExitReason, IsReasonAfter, IsKnownReason};
+ghost use Rattle.explanations.specs.Reasons.{address_reason, unwritten_reason, access_reason, store_reason, load_reason, is_told, IsExitReason, IsReasonAfter, IsKnownReason};
 
 use crate::access::{Touch, write_access, write_count, write_read_only, write_unread};
 use crate::known::write_value;
 use crate::origin::{unwritten_read, write_register};
 use bpf_model::{Insn, NoMemory, Program, Sizes};
 use flow_shape::shape;
-use std::alloc::{AllocError, Global};
+use std::alloc::Global;
 use verifier::{AbstractState, VerifyFault, known_states};
 
 /// What an address is that does not point into a window, and where that comes from.
@@ -72,45 +72,48 @@ fn exit_reason(alloc: Global, state: &AbstractState) -> Result<String, NoMemory>
     Ok(text)
 }
 
-/// Writes where a load or store may lie, its window, or its bytes, by its refusal. Writes nothing for another refusal.
-fn write_touch(
-    text: &mut String,
-    sizes: Sizes,
-    fault: VerifyFault,
-    state: &AbstractState,
-    touch: Touch,
-) -> Result<(), AllocError>
-    requires register { touch.register ≤ 10 }
-    ensures { OnOk result (string_bytes text.new
-        ≡ string_bytes text.old ++ touch_text sizes fault state.now touch) }
-{
-    let value = state.registers()[usize::from(touch.register)];
-    match fault {
-        VerifyFault::OutOfWindow(_) => write_access(text, sizes, value, touch.offset, touch.size),
-        VerifyFault::ReadOnly(_) => write_read_only(text, touch.register, value),
-        VerifyFault::UnwrittenBytes(_) => {
-            write_unread(text, state.frame(), value, touch.offset, touch.size)
-        }
-        _ => Ok(()),
-    }
-}
-
-/// Where a load or store may lie, its window, or its bytes, by its refusal.
-fn touch_reason(
+/// Where a load or store may lie.
+fn access_reason(
     alloc: Global,
     sizes: Sizes,
-    fault: VerifyFault,
     state: &AbstractState,
     insn: Insn,
 ) -> Result<String, NoMemory>
-    ensures { IfOk result (λ text. string_bytes text
-        ≡ touch_reason sizes fault state.now (touch_of insn)) }
+    ensures { IfOk result (λ text.
+        string_bytes text ≡ access_reason sizes state.now (touch_of insn)) }
 {
     let mut text = String::new(alloc);
     let Some(touch) = Touch::of(insn) else {
         return Ok(text);
     };
-    write_touch(&mut text, sizes, fault, state, touch)?;
+    let value = state.registers()[usize::from(touch.register)];
+    write_access(&mut text, sizes, value, touch.offset, touch.size)?;
+    Ok(text)
+}
+
+/// Into which window a store goes.
+fn store_reason(alloc: Global, state: &AbstractState, insn: Insn) -> Result<String, NoMemory>
+    ensures { IfOk result (λ text. string_bytes text ≡ store_reason state.now (touch_of insn)) }
+{
+    let mut text = String::new(alloc);
+    let Some(touch) = Touch::of(insn) else {
+        return Ok(text);
+    };
+    let value = state.registers()[usize::from(touch.register)];
+    write_read_only(&mut text, touch.register, value)?;
+    Ok(text)
+}
+
+/// Which bytes a load reads.
+fn load_reason(alloc: Global, state: &AbstractState, insn: Insn) -> Result<String, NoMemory>
+    ensures { IfOk result (λ text. string_bytes text ≡ load_reason state.now (touch_of insn)) }
+{
+    let mut text = String::new(alloc);
+    let Some(touch) = Touch::of(insn) else {
+        return Ok(text);
+    };
+    let value = state.registers()[usize::from(touch.register)];
+    write_unread(&mut text, state.frame(), value, touch.offset, touch.size)?;
     Ok(text)
 }
 
@@ -133,8 +136,11 @@ fn reason_after(
     match fault {
         VerifyFault::UnwrittenRegister(_) => unwritten_reason(alloc, before, states, state, insn),
         VerifyFault::NotAWindow(_) => address_reason(alloc, before, states, state, insn),
+        VerifyFault::OutOfWindow(_) => access_reason(alloc, sizes, state, insn),
+        VerifyFault::ReadOnly(_) => store_reason(alloc, state, insn),
+        VerifyFault::UnwrittenBytes(_) => load_reason(alloc, state, insn),
         VerifyFault::BadExitValue(_) => exit_reason(alloc, state),
-        _ => touch_reason(alloc, sizes, fault, state, insn),
+        _ => Ok(String::new(alloc)),
     }
 }
 

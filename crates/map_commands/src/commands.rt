@@ -126,7 +126,8 @@ fn listed(alloc: Global, text: &[u8], sizes: Sizes) -> Result<String, NoMemory>
 {
     // The text spelled a program before, so memory alone can be wanting.
     let program = program_of(alloc, text).map_err(|_| NoMemory)?;
-    explanation(alloc, program.instructions(), &[], sizes)
+    let lines = explanation(alloc, program.instructions(), &[], sizes)?;
+    Ok(lines)
 }
 
 /// What the verifier knows at each instruction of the program that hex text spells, a line each. The lines are the

@@ -11,6 +11,11 @@ pub loop-index-init : goal.loop-index-init
 unfolding passes_below unit_count
 loop-index-init c = record { counted = refl; told = sym (append-nil (string_bytes c.args.text.now)) }
 
+pub write_pass-requires-clause-inside : goal.write_pass-requires-clause-inside
+write_pass-requires-clause-inside c =
+    let bounded = unit_count-take c.args.before.now c.loop-index.index in
+    omega (arith, bounded, c.requires.units, c.loop-index.invariant.counted)
+
 pub overflow_add-unit : goal.overflow_add-unit
 overflow_add-unit c =
     let bounded = unit_count-take c.args.before.now c.loop-index.index in
