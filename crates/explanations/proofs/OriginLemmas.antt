@@ -12,23 +12,23 @@ module _ (before : List Insn) (states : List (Option AbstractState)) (r k : ℕ)
   -- the next instruction writes it
   pub write_here : is_write insn known r ≡ true → Some k ≡ last_write before states r (suc k)
   unfolding last_write
-  write_here yes = rw (at, seen, yes) refl
+  write_here holds = rw (at, seen, holds) refl
 
   -- or the last write so far is the last still
   pub no_write_here : (last : Option ℕ) → last ≡ last_write before states r k → is_write insn known r ≡ false → last ≡ last_write before states r (suc k)
   unfolding last_write
-  no_write_here last so_far no = rw (at, seen, no) so_far
+  no_write_here last so_far fails = rw (at, seen, fails) so_far
 
 module _ (i : Insn) (a : AbstractState) (r : ℕ) where
   -- the next register is read without a value
   pub unwritten_here : reads_unwritten i a r ≡ true → Some r ≡ unwritten_read i a (suc r)
   unfolding unwritten_read
-  unwritten_here yes = rw yes refl
+  unwritten_here holds = rw holds refl
 
   -- or the last one so far is the last still
   pub not_unwritten_here : (last : Option ℕ) → last ≡ unwritten_read i a r → reads_unwritten i a r ≡ false → last ≡ unwritten_read i a (suc r)
   unfolding unwritten_read
-  not_unwritten_here last so_far no = rw no so_far
+  not_unwritten_here last so_far fails = rw fails so_far
 
 -- what is told of the instruction at the index
 pub pass_is : (before : List Insn) (states : List (Option AbstractState)) (s : Stretch) (k : ℕ) (i : Insn) (unit : ℕ) (known : Option (Option AbstractState))

@@ -15,7 +15,7 @@ use Rattle.stack_slots.specs.declared.reg_value.RegValue.TheVariants.{Unwritten,
 use Rattle.stack_slots.specs.Frames.{is_written}
 use Rattle.stack_slots.specs.Kept.{kept_bytes}
 use Rattle.explanations.specs.declared.access.Touch.{Touch}
-use Rattle.explanations.specs.Known.{pointer_text, window_name}
+use Rattle.explanations.specs.Known.{name_text, pointer_text, window_name}
 
 -- the load or store of an instruction
 abbrev pub touch_of : Insn → Option Touch
@@ -44,7 +44,7 @@ access_text sizes (PointerInto p) offset count = reach_text p offset ++ extent_t
 
 -- into which window a store goes, and into which ones it may
 abbrev pub store_text : ℕ → Pointer → List ℕ
-store_text r p = codes ": r" ++ decimal r ++ codes " is " ++ pointer_text p ++ codes "; result and stack alone may be written"
+store_text r p = name_text r ++ (pointer_text p ++ codes "; result and stack alone may be written")
 
 abbrev pub read_only_text : ℕ → RegValue → List ℕ
 read_only_text r Unwritten = []

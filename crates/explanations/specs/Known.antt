@@ -54,6 +54,10 @@ value_text Unwritten = codes "perhaps unwritten"
 value_text (Number r) = range_text r
 value_text (PointerInto p) = pointer_text p
 
+-- what stands before the value of a register
+unfoldable pub name_text : ℕ → List ℕ
+name_text r = codes ": r" ++ decimal r ++ codes " is "
+
 -- whether the same is known of two words
 abbrev pub is_same : RegValue → RegValue → Bool
 is_same Unwritten Unwritten = true

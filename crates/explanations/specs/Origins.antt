@@ -11,7 +11,7 @@ use Rattle.verifier.specs.declared.abstract_state.AbstractState.{AbstractState}
 use Rattle.verifier.specs.Instructions.{reads, written_by}
 use Rattle.verifier.specs.Joins.{register}
 use Rattle.explanations.specs.declared.origin.Stretch.{Stretch}
-use Rattle.explanations.specs.Known.{value_text}
+use Rattle.explanations.specs.Known.{name_text, value_text}
 
 -- what was known of a register
 abbrev pub was_text : ℕ → RegValue → List ℕ
@@ -43,9 +43,12 @@ unfoldable pub operands_below : Insn → AbstractState → ℕ → List ℕ
 operands_below i a zero = []
 operands_below i a (suc r) = operands_below i a r ++ operand_text i a r
 
+unfoldable pub wrote_text : ℕ → List ℕ
+wrote_text unit = codes "; unit " ++ decimal unit ++ codes " wrote it last: "
+
 -- the write, with its unit, its text and what it read
 abbrev pub told_write : ℕ → Insn → AbstractState → List ℕ
-told_write unit i a = codes "; unit " ++ decimal unit ++ codes " wrote it last: " ++ instruction_text i ++ operands_below i a 11
+told_write unit i a = wrote_text unit ++ instruction_text i ++ operands_below i a 11
 
 abbrev pub write_text : ℕ → Option Insn → Option (Option AbstractState) → List ℕ
 write_text unit None known = []
@@ -114,4 +117,4 @@ origin_text before states r = origin_of before states r (last_write before state
 
 -- what a register is, and where that comes from
 abbrev pub register_text : List Insn → List (Option AbstractState) → ℕ → RegValue → List ℕ
-register_text before states r value = codes ": r" ++ decimal r ++ codes " is " ++ value_text value ++ origin_text before states r
+register_text before states r value = name_text r ++ value_text value ++ origin_text before states r

@@ -4,7 +4,7 @@ ghost use Rattle.bpf_model.specs.Accesses.{byte_count};
 ghost use Rattle.stack_slots.specs.Kept.{kept_bytes};
 ghost use Rattle.explanations.specs.Accesses.{touch_of, count_text, span_text, reach_text, extent_text, access_text, store_text, read_only_text, opens, closes, unwritten_byte, unwritten_below, read_text, between_text, load_text, unwritten_text};
 
-use crate::known::{is_written, window_name, write_pointer};
+use crate::known::{is_written, window_name, write_name, write_pointer};
 use bpf_model::limits::{STACK_BYTES, VALUE_BYTES};
 use bpf_model::{AccessSize, Insn, Sizes, Window};
 use stack_slots::{Frame, Pointer, RegValue};
@@ -14,7 +14,7 @@ use std::fmt::Write;
 /// A load or store: the register with its address, the offset, and the number of bytes.
 #[derive(Clone, Copy)]
 pub struct Touch {
-    pub register: u8,
+    pub register: usize,
     pub offset: i16,
     pub size: AccessSize,
 }
@@ -32,7 +32,7 @@ impl Touch {
                 offset,
                 ..
             } => Some(Touch {
-                register: src.number(),
+                register: usize::from(src.number()),
                 offset,
                 size: kind.size(),
             }),
@@ -42,7 +42,7 @@ impl Touch {
                 offset,
                 ..
             } => Some(Touch {
-                register: dst.number(),
+                register: usize::from(dst.number()),
                 offset,
                 size,
             }),
@@ -133,17 +133,21 @@ pub fn write_access(
 }
 
 /// Writes into which window a store goes, and into which ones it may.
-fn write_store(text: &mut String, register: u8, pointer: Pointer) -> Result<(), AllocError>
+fn write_store(text: &mut String, register: usize, pointer: Pointer) -> Result<(), AllocError>
     ensures { OnOk result
         (string_bytes text.new ≡ string_bytes text.old ++ store_text register pointer) }
 {
-    write!(text, ": r{register} is ")?;
+    write_name(text, register)?;
     write_pointer(text, pointer)?;
     text.push_str("; result and stack alone may be written")
 }
 
 /// Writes into which window a store goes, and into which ones it may. Writes nothing if its register is no pointer.
-pub fn write_read_only(text: &mut String, register: u8, value: RegValue) -> Result<(), AllocError>
+pub fn write_read_only(
+    text: &mut String,
+    register: usize,
+    value: RegValue,
+) -> Result<(), AllocError>
     ensures { OnOk result
         (string_bytes text.new ≡ string_bytes text.old ++ read_only_text register value) }
 {

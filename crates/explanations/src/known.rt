@@ -3,7 +3,7 @@ ghost use Rattle.std.specs.Prelude.{◌≡◌, ◌<◌, ◌≤◌, ◌++◌, OnO
 ghost use Rattle.bpf_assembler.specs.Text.{offset};
 ghost use Rattle.stack_slots.specs.Frames.{is_written};
 ghost use Rattle.stack_slots.specs.Kept.{kept_bytes};
-ghost use Rattle.explanations.specs.Known.{window_name, is_unsigned_any, is_any, reads_alike, unsigned_text, range_text, pointer_text, value_text, is_same, begins, ends, byte_text, bytes_below};
+ghost use Rattle.explanations.specs.Known.{window_name, is_unsigned_any, is_any, reads_alike, unsigned_text, range_text, pointer_text, value_text, name_text, is_same, begins, ends, byte_text, bytes_below};
 
 use bpf_model::{AccessSize, Window};
 use stack_slots::{Access, Frame, Pointer, RegValue};
@@ -101,6 +101,14 @@ pub(crate) fn write_value(text: &mut String, value: RegValue) -> Result<(), Allo
         RegValue::Number(range) => write_range(text, range),
         RegValue::Pointer(pointer) => write_pointer(text, pointer),
     }
+}
+
+/// Writes what stands before the value of a register.
+#[tactic(auto, unfolding(crate::specs::Known::name_text))]
+pub(crate) fn write_name(text: &mut String, register: usize) -> Result<(), AllocError>
+    ensures { OnOk result (string_bytes text.new ≡ string_bytes text.old ++ name_text register) }
+{
+    write!(text, ": r{register} is ")
 }
 
 /// Whether the same is known of two words.

@@ -3,9 +3,9 @@ ghost use Rattle.std.specs.Prelude.{◌≡◌, ◌<◌, ◌≤◌, ◌++◌, Som
 ghost use Rattle.bpf_model.specs.declared.limits.TheConstants.{PROGRAM_UNITS};
 ghost use Rattle.bpf_model.specs.Program.{unit_count};
 ghost use Rattle.verifier.specs.Instructions.{reads, written_by, operand_reads};
-ghost use Rattle.explanations.specs.Origins.{was_text, writes, is_write, last_write, operand_text, operands_below, told_write, write_text, passes, told_pass, pass_text, passes_below, origin_text, origin_of, register_text, is_unwritten, reads_unwritten, unwritten_read};
+ghost use Rattle.explanations.specs.Origins.{was_text, writes, is_write, last_write, operand_text, operands_below, wrote_text, told_write, write_text, passes, told_pass, pass_text, passes_below, origin_text, origin_of, register_text, is_unwritten, reads_unwritten, unwritten_read};
 
-use crate::known::write_value;
+use crate::known::{write_name, write_value};
 use bpf_assembler::instruction_text;
 use bpf_model::{Insn, NoMemory, Operand, Reg};
 use flow_shape::distance;
@@ -139,6 +139,14 @@ fn write_operands(text: &mut String, insn: &Insn, state: &AbstractState) -> Resu
     Ok(())
 }
 
+/// Writes the unit of a write.
+#[tactic(auto, unfolding(crate::specs::Origins::wrote_text))]
+fn write_wrote(text: &mut String, unit: usize) -> Result<(), AllocError>
+    ensures { OnOk result (string_bytes text.new ≡ string_bytes text.old ++ wrote_text unit) }
+{
+    write!(text, "; unit {unit} wrote it last: ")
+}
+
 /// Writes a write's unit, its text and what it read.
 fn write_told_write(
     alloc: Global,
@@ -151,7 +159,8 @@ fn write_told_write(
         ≡ string_bytes text.old ++ told_write unit insn.now state.now) }
 {
     let instruction = instruction_text(alloc, insn)?;
-    write!(text, "; unit {unit} wrote it last: {instruction}")?;
+    write_wrote(text, unit)?;
+    text.push_str(&instruction)?;
     write_operands(text, insn, state)?;
     Ok(())
 }
@@ -347,7 +356,7 @@ pub fn write_register(
     ensures { OnOk result (string_bytes text.new
         ≡ string_bytes text.old ++ register_text before.now states.now register value) }
 {
-    write!(text, ": r{register} is ")?;
+    write_name(text, register)?;
     write_value(text, value)?;
     write_origin(alloc, text, before, states, register)
 }

@@ -31,9 +31,8 @@ fn address_reason(
     let Some(touch) = Touch::of(insn) else {
         return Ok(text);
     };
-    let register = usize::from(touch.register);
-    let value = state.registers()[register];
-    write_register(alloc, &mut text, before, states, register, value)?;
+    let value = state.registers()[touch.register];
+    write_register(alloc, &mut text, before, states, touch.register, value)?;
     Ok(text)
 }
 
@@ -86,7 +85,7 @@ fn access_reason(
     let Some(touch) = Touch::of(insn) else {
         return Ok(text);
     };
-    let value = state.registers()[usize::from(touch.register)];
+    let value = state.registers()[touch.register];
     write_access(&mut text, sizes, value, touch.offset, touch.size)?;
     Ok(text)
 }
@@ -99,7 +98,7 @@ fn store_reason(alloc: Global, state: &AbstractState, insn: Insn) -> Result<Stri
     let Some(touch) = Touch::of(insn) else {
         return Ok(text);
     };
-    let value = state.registers()[usize::from(touch.register)];
+    let value = state.registers()[touch.register];
     write_read_only(&mut text, touch.register, value)?;
     Ok(text)
 }
@@ -112,7 +111,7 @@ fn load_reason(alloc: Global, state: &AbstractState, insn: Insn) -> Result<Strin
     let Some(touch) = Touch::of(insn) else {
         return Ok(text);
     };
-    let value = state.registers()[usize::from(touch.register)];
+    let value = state.registers()[touch.register];
     write_unread(&mut text, state.frame(), value, touch.offset, touch.size)?;
     Ok(text)
 }
