@@ -17,6 +17,11 @@ use Rattle.explanations.specs.Listings.{line_text, told_line, lines_below, value
 pub told_more : (start done told piece new : List ℕ) → told ≡ start ++ done → new ≡ told ++ piece → new ≡ start ++ (done ++ piece)
 told_more start done told piece new before grown = grown ∙ ap (λ (xs : List ℕ). xs ++ piece) before ∙ append_assoc start done piece
 
+-- three pieces, one after the other
+pub three_told : (start a b c one two new : List ℕ) → one ≡ start ++ a → two ≡ one ++ b → new ≡ two ++ c → new ≡ start ++ (a ++ (b ++ c))
+three_told start a b c one two new first second third =
+    third ∙ ap (λ (xs : List ℕ). xs ++ c) (second ∙ ap (λ (xs : List ℕ). xs ++ b) first) ∙ append_assoc (start ++ a) b c ∙ append_assoc start a (b ++ c)
+
 -- what a list has at an index, as a reference to it
 pub got : {A : Type 0} (xs : List A) (k : ℕ) (r : Option (Bor A)) → is_some r ≡ ltb k (length xs) → IfSome r (λ x. x.now ≡ get_or xs k x.now)
     → option_map (λ x. x.now) r ≡ slice_get xs k

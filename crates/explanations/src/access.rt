@@ -139,7 +139,8 @@ fn write_store(text: &mut String, register: usize, pointer: Pointer) -> Result<(
 {
     write_name(text, register)?;
     write_pointer(text, pointer)?;
-    text.push_str("; result and stack alone may be written")
+    text.push_str("; result and stack alone may be written")?;
+    Ok(())
 }
 
 /// Writes into which window a store goes, and into which ones it may. Writes nothing if its register is no pointer.
