@@ -4,5 +4,4 @@ pub mod ShownLemmas
 pub mod UnitLineLemmas
 pub mod WordLemmas
 pub mod ExecutionLemmas
-pub mod ExplanationLemmas
 pub mod AdmittedLemmas

@@ -32,7 +32,7 @@ use Rattle.map_commands.specs.declared.report.Report.{Report}
 use Rattle.map_commands.specs.declared.report.Report.TheVariants.{Text, Accepted, Answered, Unfit, Refused, Explained}
 use Rattle.verifier.specs.declared.abstract_state.AbstractState.{AbstractState}
 use Rattle.verifier.specs.Walks.{KnowsRuns}
-use Rattle.map_commands.specs.Explanations.{lines_below}
+use Rattle.explanations.specs.Listings.{lines_below}
 use Rattle.map_commands.specs.Reports.{unit_lines, report_text}
 
 -- hex text spells the bytes of this program

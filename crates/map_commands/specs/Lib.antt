@@ -3,9 +3,6 @@ pub mod HexFaults
 pub mod Refusals
 pub mod Reports
 pub mod CommandLine
-pub mod Known
-pub mod Explanations
-pub mod Reasons
 pub mod Commands
 pub mod Meanings
 pub mod Shown

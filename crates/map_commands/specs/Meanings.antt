@@ -7,15 +7,18 @@ use Rattle.bpf_assembler.specs.Text.{instruction_text}
 use Rattle.bpf_assembler.specs.Faults as assemble
 use Rattle.verifier.specs.Faults.{verify_fault_unit}
 use Rattle.verifier.specs.Messages as verify
+use Rattle.flow_shape.specs.FlowShape.{flow_fault_unit}
+use Rattle.flow_shape.specs.Messages as flow
+use Rattle.flow_shape.specs.declared.fault.FlowFault.{FlowFault}
 use Rattle.verifier.specs.declared.fault.VerifyFault.{VerifyFault}
 use Rattle.admission.specs.Admissions.{fault_message}
-use Rattle.admission.specs.declared.fault.AdmissionFault.TheVariants.{Verify}
+use Rattle.admission.specs.declared.fault.AdmissionFault.TheVariants.{Flow, Verify}
 use Rattle.map_commands.specs.declared.refusal.Refusal.{Refusal}
 use Rattle.map_commands.specs.declared.refusal.Refusal.TheVariants.{TooLong, NoMemory, NotHex, Assemble, Program}
 use Rattle.map_commands.specs.declared.words.Command.{Command}
 use Rattle.map_commands.specs.declared.words.Command.TheVariants.{Asm, Disasm, Check, Explain, Run}
 use Rattle.map_commands.specs.Commands.{SpellsProgram}
-use Rattle.map_commands.specs.Reasons.{IsKnownReason}
+use Rattle.explanations.specs.Reasons.{IsKnownReason}
 
 -- the sizes with which a command verifies
 abbrev pub sizes_asked : Command → Option Sizes
@@ -56,7 +59,17 @@ abbrev pub IsVerdict : Command → List ℕ → VerifyFault → List ℕ → Typ
 IsVerdict command text fault line =
     (program : List Insn) × SpellsProgram text program × TellsInstruction program (sizes_asked command) fault (refused_instruction program fault) line
 
+-- a refused jump, or a last instruction that is none, is told with its text
+abbrev pub TellsFlow : FlowFault → Option Insn → List ℕ → Type 0
+TellsFlow fault None line = line ≡ flow.flow_fault_message fault ++ codes "\n"
+TellsFlow fault (Some insn) line = line ≡ flow.flow_fault_message fault ++ codes ": " ++ instruction_text insn ++ codes "\n"
+
+abbrev pub IsFlowVerdict : List ℕ → FlowFault → List ℕ → Type 0
+IsFlowVerdict text fault line =
+    (program : List Insn) × SpellsProgram text program × TellsFlow fault (instruction_at program (flow_fault_unit fault)) line
+
 -- the line that tells a command's refusal of this text
 abbrev pub IsMeaning : Command → List ℕ → Refusal → List ℕ → Type 0
+IsMeaning command text (Program (Flow fault)) line = IsFlowVerdict text fault line
 IsMeaning command text (Program (Verify fault)) line = IsVerdict command text fault line
 IsMeaning command text refusal line = line ≡ refusal_message refusal ++ codes "\n"

@@ -1,9 +1,9 @@
 //! What comes of a command on a text: the steps from hex text to an answer.
 ghost use Rattle.std.specs.Prelude.{◌≡◌, IfOk, IfErr, OnErr, string_bytes};
 ghost use Rattle.bpf_model.specs.declared.limits.TheConstants.{KEY_BYTES};
+ghost use Rattle.bpf_model.specs.Fits.{AreWithinLimits};
 ghost use Rattle.map_commands.specs.Commands.{SpellsProgram, SpellsSafe, SpellsKey, SpellsValue, SpellsInput, IsBytesRefused, IsProgramRefused, IsTextRefused, IsValueRefused, IsInputRefused, IsAsmReport, IsDisasmReport, IsCheckReport, IsExplanation, EndsExplanation, IsExplainReport, IsRunReport, verdict_line, IsUnreadable, IsReport};
 
-use crate::explanation::explanation;
 use crate::hex::hex_bytes;
 use crate::refusal::Refusal;
 use crate::report::{Line, Report, unit_lines};
@@ -14,6 +14,7 @@ use bpf_decode::{decode, encode};
 use bpf_machine::run;
 use bpf_model::{Input, Key, NoMemory, Program, Sizes, Value, fits};
 use devices::Failed;
+use explanations::explanation;
 use flow_shape::shape;
 use std::alloc::Global;
 use verifier::{Verified, known_states};
@@ -118,8 +119,19 @@ fn check_report(alloc: Global, text: &[u8], sizes: Sizes) -> Report
     }
 }
 
-/// What the verifier knows at each instruction of the program that hex text spells, a line each; nothing if no program
-/// is spelled, or it is refused before the verifier comes to its instructions.
+/// The lines of the instructions of the program that hex text spells. Nothing is known of them.
+fn listed(alloc: Global, text: &[u8], sizes: Sizes) -> Result<String, NoMemory>
+    requires limits { AreWithinLimits sizes }
+    ensures { IfOk result (λ lines. IsExplanation text.now sizes (string_bytes lines)) }
+{
+    // The text spelled a program before, so memory alone can be wanting.
+    let program = program_of(alloc, text).map_err(|_| NoMemory)?;
+    let lines = explanation(alloc, program.instructions(), &[], sizes)?;
+    Ok(lines)
+}
+
+/// What the verifier knows at each instruction of the program that hex text spells, a line each. The lines are the
+/// instructions alone if a jump is refused, and there are none if no program is spelled or the sizes are refused.
 fn explained(alloc: Global, text: &[u8], sizes: Sizes) -> Result<String, NoMemory>
     ensures { IfOk result (λ lines. IsExplanation text.now sizes (string_bytes lines)) }
 {
@@ -128,12 +140,12 @@ fn explained(alloc: Global, text: &[u8], sizes: Sizes) -> Result<String, NoMemor
         Err(refusal) if refusal.number() == NoMemory::NUMBER => return Err(NoMemory),
         Err(_) => return Ok(String::new(alloc)),
     };
-    let Ok(shaped) = shape(program) else {
-        return Ok(String::new(alloc));
-    };
     if !sizes.are_within_limits() {
         return Ok(String::new(alloc));
     }
+    let Ok(shaped) = shape(program) else {
+        return listed(alloc, text, sizes);
+    };
     let states = known_states(alloc, &shaped, sizes)?;
     let lines = explanation(alloc, shaped.program().instructions(), &states, sizes)?;
     Ok(lines)

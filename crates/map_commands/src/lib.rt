@@ -10,12 +10,9 @@
 mod commands;
 mod ending;
 mod exec;
-mod explanation;
 mod hex;
-mod known;
 mod meaning;
 mod program;
-mod reason;
 mod refusal;
 mod report;
 mod shown;

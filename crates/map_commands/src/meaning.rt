@@ -1,15 +1,17 @@
 //! What a refusal means, in words: a line for standard error.
 ghost use Rattle.std.specs.Prelude.{◌≡◌, Some, IfOk, string_bytes};
 ghost use Rattle.bpf_model.specs.Program.{instruction_at};
-ghost use Rattle.map_commands.specs.Meanings.{refused_instruction, verdict, IsKnownText, TellsInstruction, IsMeaning};
+ghost use Rattle.flow_shape.specs.FlowShape.{flow_fault_unit};
+ghost use Rattle.map_commands.specs.Meanings.{refused_instruction, verdict, IsKnownText, TellsInstruction, TellsFlow, IsMeaning};
 
 use crate::commands::program_of;
-use crate::reason::known_reason;
 use crate::refusal::Refusal;
 use crate::words::Command;
 use admission::AdmissionFault;
 use bpf_assembler::instruction_text;
 use bpf_model::{Insn, NoMemory, Program, Sizes};
+use explanations::known_reason;
+use flow_shape::FlowFault;
 use std::alloc::Global;
 use verifier::VerifyFault;
 
@@ -94,8 +96,20 @@ fn verdict(
     }
 }
 
-/// The line that tells a command's refusal of this text. A program that the verifier refused is read once more for it, so
-/// that nothing is kept of programs that are accepted.
+/// Returns the line of a program whose flow is refused.
+fn flow_verdict(alloc: Global, program: &Program, fault: FlowFault) -> Result<String, NoMemory>
+    ensures { IfOk result (λ line. TellsFlow fault
+        (instruction_at program.now (flow_fault_unit fault)) (string_bytes line)) }
+{
+    let Some(insn) = instruction_at(program.instructions(), fault.unit()) else {
+        return Ok(format!(in alloc; "{fault}\n")?);
+    };
+    let text = instruction_text(alloc, &insn)?;
+    Ok(format!(in alloc; "{fault}: {text}\n")?)
+}
+
+/// The line that tells a command's refusal of this text. A program whose flow was refused, or that the verifier refused, is
+/// read once more for it, so that nothing is kept of programs that are accepted.
 pub(crate) fn meaning_of(
     alloc: Global,
     command: &Command<'_>,
@@ -109,6 +123,10 @@ pub(crate) fn meaning_of(
             // The text spelled a program before, so memory alone can be wanting.
             let program = program_of(alloc, text).map_err(|_| NoMemory)?;
             verdict(alloc, program, command.sizes(), fault)
+        }
+        Refusal::Program(AdmissionFault::Flow(fault)) => {
+            let program = program_of(alloc, text).map_err(|_| NoMemory)?;
+            flow_verdict(alloc, &program, fault)
         }
         _ => Ok(format!(in alloc; "{refusal}\n")?),
     }

@@ -1,0 +1,3 @@
+pub mod ListingLemmas
+pub mod OriginLemmas
+pub mod ReasonLemmas

@@ -1,0 +1,12 @@
+use Rattle.std.proofs.Common.{sym, append-nil, add-one, string_bytes}
+use Rattle.explanations.specs.Origins.{operands_below}
+use Rattle.explanations.proofs.ListingLemmas.{told_more}
+use Rattle.explanations.proofs.origin.write_operands.Goals as goal
+
+pub loop-register-init : goal.loop-register-init
+unfolding operands_below
+loop-register-init c = sym (append-nil (string_bytes c.args.text.now))
+
+pub loop-register-preserved : goal.loop-register-preserved
+unfolding operands_below
+loop-register-preserved c = rw add-one (told_more _ _ _ _ _ c.loop-register.invariant c.in_ok-write_operand.ensures)

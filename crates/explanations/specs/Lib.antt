@@ -1,0 +1,5 @@
+pub mod Known
+pub mod Listings
+pub mod Accesses
+pub mod Origins
+pub mod Reasons
