@@ -124,8 +124,10 @@ fn listed(alloc: Global, text: &[u8], sizes: Sizes) -> Result<String, NoMemory>
     requires limits { AreWithinLimits sizes }
     ensures { IfOk result (λ lines. IsExplanation text.now sizes (string_bytes lines)) }
 {
-    // The text spelled a program before, so memory alone can be wanting.
-    let program = program_of(alloc, text).map_err(|_| NoMemory)?;
+    // The text spelled a program before, so only memory can be wanting.
+    let Ok(program) = program_of(alloc, text) else {
+        return Err(NoMemory);
+    };
     let lines = explanation(alloc, program.instructions(), &[], sizes)?;
     Ok(lines)
 }
@@ -135,15 +137,15 @@ fn listed(alloc: Global, text: &[u8], sizes: Sizes) -> Result<String, NoMemory>
 fn explained(alloc: Global, text: &[u8], sizes: Sizes) -> Result<String, NoMemory>
     ensures { IfOk result (λ lines. IsExplanation text.now sizes (string_bytes lines)) }
 {
-    let program = match program_of(alloc, text) {
-        Ok(program) => program,
+    let spelled = match program_of(alloc, text) {
+        Ok(spelled) => spelled,
         Err(refusal) if refusal.number() == NoMemory::NUMBER => return Err(NoMemory),
         Err(_) => return Ok(String::new(alloc)),
     };
     if !sizes.are_within_limits() {
         return Ok(String::new(alloc));
     }
-    let Ok(shaped) = shape(program) else {
+    let Ok(shaped) = shape(spelled) else {
         return listed(alloc, text, sizes);
     };
     let states = known_states(alloc, &shaped, sizes)?;
