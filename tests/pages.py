@@ -1,7 +1,7 @@
 #!/usr/bin/env python3
-"""Reads each page (*.md) of the repository, and fails if one breaks a rule. It runs nothing.
+"""Reads each page (*.md) of the repository, and fails if one breaks a rule. It runs nothing. The rules:
 
-Each relative link and anchor of every page must lead somewhere. The pages that are held to plain English also keep these rules:
+  - Each relative link and anchor leads somewhere.
   - A path of this repository in backquotes leads somewhere.
   - No sentence has more than 30 words. A sentence ends at a full stop, a question mark or an exclamation mark; a list item, a heading
     and a cell of a table each begin anew. Blocks of code are no sentences, and inline code is one word.
@@ -9,8 +9,7 @@ Each relative link and anchor of every page must lead somewhere. The pages that 
   - None of the phrases of BANNED comes.
   - The README has at most 700 words, with all that is in blocks and tables.
 
-Pages that nobody has rewritten yet are in NOT_YET; take a page off the list when it keeps the rules. python3 tests/pages.py [--count]
-[PAGE..]: with --count it prints each page's figures too."""
+python3 tests/pages.py [--count] [PAGE..]: with --count it prints each page's figures too."""
 from __future__ import annotations
 
 import argparse
@@ -26,9 +25,6 @@ LEAST_IFS = 4
 LEAST_PAGE = 300
 MOST_OF_README = 700
 
-# Pages that are only looked at for their links: nobody has rewritten them yet.
-NOT_YET = ("docs/SERVER.md", "docs/C.md", "docs/REFUSALS.md", "crates/crews/", "crates/explanations/",
-           "crates/map_commands/", "crates/map_server/", "crates/verifier/")
 # A list of what was done needs no conditions.
 WITHOUT_IFS = ("CHANGELOG.md",)
 
@@ -59,11 +55,6 @@ class Page(NamedTuple):
     name: str
     text: str
     lines: list[str]
-
-    @property
-    def is_held(self) -> bool:
-        """Whether it is held to plain English."""
-        return not self.name.startswith(NOT_YET)
 
     @property
     def words(self) -> int:
@@ -187,13 +178,11 @@ def main() -> int:
         if given.page and page.name not in given.page:
             continue
         count += 1
-        told = [*faults_of_links(page)]
-        if page.is_held:
-            told += [*faults_of_paths(page), *faults_of_style(page)]
+        told = [*faults_of_links(page), *faults_of_paths(page), *faults_of_style(page)]
         faults += len(told)
         if given.count:
             figures = f"{page.words:6} words, {often(page, 'if'):5.1f} if, {often(page, 'where'):4.1f} where"
-            print(f"{figures}, {'held' if page.is_held else 'not yet'}: {page.name}")
+            print(f"{figures}: {page.name}")
         for fault in told:
             print(f"{page.name}: {fault}")
     print(f"pages: {count} read, {faults} faults")
