@@ -276,9 +276,9 @@ static inline const char *bpfmap_sentence(uint8_t number)
     case 47: return "declare less";
     case 60: return "a length of 0, or above 32,777 (in version 1 and before a Hello 8,192)";
     case 61: return "a tag that is not in the table";
-    case 62: return "fields that are cut short, a key above 64 bytes, a value above 1,024 (in version 1 and before a Hello 256), "
-                    "or ff ff where a value must be";
-    case 63: return "bytes behind the last field";
+    case 62: return "cut fields, a key above 64 bytes, a value above 1,024 (in version 1 and before a Hello 256), "
+                    "or ff ff in place of a value";
+    case 63: return "bytes after the last field";
     case 64: return "a Hello of a version other than 1 and 2, a first request that is no Hello, or a second Hello";
     case 65: return "the answer has a value of more than 256 bytes, which version 1 does not carry; the call was made";
     case 66: return "no program has this number";

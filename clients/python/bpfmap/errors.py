@@ -55,10 +55,10 @@ REFUSALS: Dict[int, Tuple[str, str]] = {
     61: ("UnknownRequest", "a tag that is not in the table"),
     62: (
         "BadField",
-        "fields that are cut short, a key above 64 bytes, a value above 1,024 (in version 1 and before a Hello 256), "
-        "or ff ff where a value must be",
+        "cut fields, a key above 64 bytes, a value above 1,024 (in version 1 and before a Hello 256), "
+        "or ff ff in place of a value",
     ),
-    63: ("TrailingBytes", "bytes behind the last field"),
+    63: ("TrailingBytes", "bytes after the last field"),
     64: (
         "WrongVersion",
         "a Hello of a version other than 1 and 2, a first request that is no Hello, or a second Hello",

@@ -56,9 +56,9 @@ public final class RefusedException extends RuntimeException {
             meaning(47, "SizesTooLarge", "declare less"),
             meaning(60, "BadLength", "a length of 0, or above 32,777 (in version 1 and before a Hello 8,192)"),
             meaning(61, "UnknownRequest", "a tag that is not in the table"),
-            meaning(62, "BadField", "fields that are cut short, a key above 64 bytes, a value above 1,024 (in version 1 and before "
-                    + "a Hello 256), or ff ff where a value must be"),
-            meaning(63, "TrailingBytes", "bytes behind the last field"),
+            meaning(62, "BadField", "cut fields, a key above 64 bytes, a value above 1,024 (in version 1 and before a Hello 256), "
+                    + "or ff ff in place of a value"),
+            meaning(63, "TrailingBytes", "bytes after the last field"),
             meaning(64, "WrongVersion", "a Hello of a version other than 1 and 2, a first request that is no Hello, or a second "
                     + "Hello"),
             meaning(65, "ValueTooLong", "the answer has a value of more than 256 bytes, which version 1 does not carry; the call "
