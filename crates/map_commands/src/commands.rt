@@ -1,7 +1,6 @@
 //! What comes of a command on a text: the steps from hex text to an answer.
 ghost use Rattle.std.specs.Prelude.{◌≡◌, IfOk, IfErr, OnErr, string_bytes};
 ghost use Rattle.bpf_model.specs.declared.limits.TheConstants.{KEY_BYTES};
-ghost use Rattle.bpf_model.specs.Fits.{AreWithinLimits};
 ghost use Rattle.map_commands.specs.Commands.{SpellsProgram, SpellsSafe, SpellsKey, SpellsValue, SpellsInput, IsBytesRefused, IsProgramRefused, IsTextRefused, IsValueRefused, IsInputRefused, IsAsmReport, IsDisasmReport, IsCheckReport, IsExplanation, EndsExplanation, IsExplainReport, IsRunReport, verdict_line, IsUnreadable, IsReport};
 
 use crate::hex::hex_bytes;
@@ -119,13 +118,18 @@ fn check_report(alloc: Global, text: &[u8], sizes: Sizes) -> Report
     }
 }
 
-/// The lines of the instructions of the program that hex text spells. Nothing is known of them.
+/// The lines of the instructions of the program that hex text spells, of which nothing is known; nothing if the sizes are
+/// above their limits.
 fn listed(alloc: Global, text: &[u8], sizes: Sizes) -> Result<String, NoMemory>
-    requires limits { AreWithinLimits sizes }
     ensures { IfOk result (λ lines. IsExplanation text.now sizes (string_bytes lines)) }
 {
-    // The text spelled a program before, so memory alone can be wanting.
-    let program = program_of(alloc, text).map_err(|_| NoMemory)?;
+    if !sizes.are_within_limits() {
+        return Ok(String::new(alloc));
+    }
+    let Ok(program) = program_of(alloc, text) else {
+        // The text spelled a program before, so memory alone can be wanting.
+        return Err(NoMemory);
+    };
     let lines = explanation(alloc, program.instructions(), &[], sizes)?;
     Ok(lines)
 }
@@ -140,12 +144,12 @@ fn explained(alloc: Global, text: &[u8], sizes: Sizes) -> Result<String, NoMemor
         Err(refusal) if refusal.number() == NoMemory::NUMBER => return Err(NoMemory),
         Err(_) => return Ok(String::new(alloc)),
     };
-    if !sizes.are_within_limits() {
-        return Ok(String::new(alloc));
-    }
     let Ok(shaped) = shape(program) else {
         return listed(alloc, text, sizes);
     };
+    if !sizes.are_within_limits() {
+        return Ok(String::new(alloc));
+    }
     let states = known_states(alloc, &shaped, sizes)?;
     let lines = explanation(alloc, shaped.program().instructions(), &states, sizes)?;
     Ok(lines)
