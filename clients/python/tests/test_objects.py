@@ -100,7 +100,7 @@ class ExamplesTest(MapdTest):
                 if sizes is not None:
                     self._register(client, file, sizes.group(1).split())
                     accepted += 1
-        self.assertEqual(accepted, 17)
+        self.assertEqual(accepted, 18)
 
     def _register(self, client: Client, file: Path, words: "list[str]") -> None:
         sizes = {name[2:]: int(number) for name, number in zip(words[::2], words[1::2])}
