@@ -75,22 +75,24 @@ impl<'a, 'b, H: Wait + Clock, E: Sink> Entrance<'a, 'b, H, E> {
         clients.saturating_mul(self.quotas.workers()) <= self.arrivals.here()
     }
 
-    /// Looks for the worker's next client.
+    /// Looks for the worker's next client. One worker accepts at a time: no other one may take the descriptor in reserve while it is
+    /// given up to refuse a client.
     pub(crate) fn next(&self, worker: u32, patience: &mut Patience) -> Arrival {
         if !self.quotas.has_left(worker) {
             return Arrival::Never;
         }
+        let mut spare = self.spare.lock(self.arrivals.rt);
         match self.listener.accept() {
             Ok((stream, _)) => {
                 self.arrivals.tell_plenty(patience);
-                self.keep_spare();
+                self.keep_spare(&mut *spare);
                 self.received(worker, Connection::new(stream))
             }
             Err(error) if error.kind() == ErrorKind::WouldBlock => {
                 self.arrivals.tell_plenty(patience);
                 Arrival::Nobody
             }
-            Err(error) => self.after_fault(worker, patience, &error),
+            Err(error) => self.after_fault(worker, patience, &error, &mut *spare),
         }
     }
 
@@ -106,9 +108,15 @@ impl<'a, 'b, H: Wait + Clock, E: Sink> Entrance<'a, 'b, H, E> {
     }
 
     /// What follows from the error of an accept.
-    fn after_fault(&self, worker: u32, patience: &mut Patience, error: &io::Error) -> Arrival {
+    fn after_fault(
+        &self,
+        worker: u32,
+        patience: &mut Patience,
+        error: &io::Error,
+        spare: &mut Option<OwnedFd>,
+    ) -> Arrival {
         if is_of_descriptors(error)
-            && let Some(arrival) = self.refuse_one(error)
+            && let Some(arrival) = self.refuse_one(error, spare)
         {
             return arrival;
         }
@@ -124,8 +132,7 @@ impl<'a, 'b, H: Wait + Clock, E: Sink> Entrance<'a, 'b, H, E> {
 
     /// Takes the descriptor in reserve to tell one client that there is none for it, and closes its connection. None if that can't
     /// be done.
-    fn refuse_one(&self, error: &io::Error) -> Option<Arrival> {
-        let mut spare = self.spare.lock(self.arrivals.rt);
+    fn refuse_one(&self, error: &io::Error, spare: &mut Option<OwnedFd>) -> Option<Arrival> {
         let descriptor = spare.take()?;
         drop(descriptor);
         let arrival = match self.listener.accept() {
@@ -144,8 +151,7 @@ impl<'a, 'b, H: Wait + Clock, E: Sink> Entrance<'a, 'b, H, E> {
     }
 
     /// Takes a descriptor in reserve again, if it was lost.
-    fn keep_spare(&self) {
-        let mut spare = self.spare.lock(self.arrivals.rt);
+    fn keep_spare(&self, spare: &mut Option<OwnedFd>) {
         if spare.is_none() {
             *spare = spare_of(&self.listener);
         }
