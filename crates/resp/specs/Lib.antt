@@ -1,0 +1,5 @@
+pub mod Streams
+pub mod Grammar
+pub mod Reading
+pub mod Faults
+pub mod Replies

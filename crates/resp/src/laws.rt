@@ -1,0 +1,2 @@
+//! Laws of the grammar.
+ghost use Rattle.std.specs.Prelude.{◌≡◌, ◌++◌, ℕ, List};

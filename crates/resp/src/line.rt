@@ -1,0 +1,96 @@
+//! Commands in a line.
+ghost use Rattle.std.specs.Prelude.{◌≡◌, ◌≢◌, ◌++◌, ◌∷◌, ◌↔◌, ◌≤◌, [], ℕ, List, length, IsTrue, IfOk, IfErr, IfSome, IfNone, OnOk};
+ghost use Rattle.resp.specs.Streams.{HasNo, StopsAt};
+ghost use Rattle.resp.specs.Grammar.{texts, is_blank as is_a_blank, ends_quoted, HasWords, IsFaultyLine};
+ghost use Rattle.resp.specs.Reading.{Reads, Refuses, IfFaulty, BeginsWord, NoText, NoQuoted, is_no_blank};
+
+use crate::command::Next;
+use crate::fault::{NextFault, RespFault};
+use crate::limits::{COMMAND_WORDS, LINE_BYTES};
+use crate::span::{after_blanks, before_newline, is_blank, is_quote, plain_word, quoted_word};
+
+/// Tests whether a word may end before these bytes.
+fn is_end(bytes: &[u8]) -> bool
+    ensures { IsTrue result ↔ StopsAt is_a_blank bytes.now }
+{
+    let [first, ..] = bytes else {
+        return true;
+    };
+    is_blank(*first)
+}
+
+/// Returns the word before the other quote, and the bytes after that.
+fn word_in_quotes(bytes: &[u8], quote: u8) -> Option<(&[u8], &[u8])>
+    ensures word { IfSome result (λ r. HasNo (ends_quoted quote) r.0.now) }
+    ensures some { IfSome result (λ r. bytes.now ≡ r.0.now ++ quote ∷ r.1.now) }
+    ensures none { IfNone result (NoQuoted quote bytes.now) }
+{
+    let (word, tail) = quoted_word(bytes, quote);
+    let [other, rest @ ..] = tail else {
+        return None;
+    };
+    if *other != quote {
+        return None;
+    }
+    Some((word, rest))
+}
+
+/// Returns the word that the bytes begin with, and the bytes after its text, if a word may end there.
+fn word_of(bytes: &[u8]) -> Option<(&[u8], &[u8])>
+    requires some { 1 ≤ length bytes.now }
+    requires word { StopsAt is_no_blank bytes.now }
+    ensures some { IfSome result (λ r. BeginsWord bytes.now r.0.now r.1.now) }
+    ensures none { IfNone result (NoText bytes.now) }
+{
+    let (word, rest) = if is_quote(bytes[0]) {
+        word_in_quotes(&bytes[1..], bytes[0])?
+    } else {
+        plain_word(bytes)
+    };
+    if !is_end(rest) {
+        return None;
+    }
+    Some((word, rest))
+}
+
+/// Adds the words of the line.
+fn split_line<'b>(line: &'b [u8], words: &mut Vec<&'b [u8]>) -> Result<(), NextFault>
+    requires { words.old.items ≡ [] }
+    ensures ok { OnOk result (HasWords line.now (texts words.new.items)) }
+    ensures err { IfErr result (λ fault. IfFaulty fault (λ f. IsFaultyLine f line.now)) }
+{
+    let (_, first) = after_blanks(line);
+    let mut rest = first;
+    while !rest.is_empty() {
+        let (word, tail) = word_of(rest).ok_or(RespFault::UnbalancedQuotes)?;
+        words.reserve(1)?;
+        words.push_reserved(word);
+        let (_, next) = after_blanks(tail);
+        rest = next;
+    }
+    Ok(())
+}
+
+/// Reads the command of the line that begins the bytes.
+pub fn line_at<'b>(bytes: &'b [u8], words: &mut Vec<&'b [u8]>) -> Result<Next<'b>, NextFault>
+    requires none { words.old.items ≡ [] }
+    requires line { (rest : List ℕ) → bytes.now ≢ 42 ∷ rest }
+    ensures read { IfOk result (λ next. Reads bytes.now (texts words.new.items) next) }
+    ensures err { IfErr result (λ fault. Refuses bytes.now fault) }
+{
+    let (line, tail) = before_newline(bytes);
+    if line.len() > LINE_BYTES {
+        return Err(NextFault::Faulty(RespFault::TooBigLine));
+    }
+    let [_, rest @ ..] = tail else {
+        return Ok(Next::More);
+    };
+    split_line(line, words)?;
+    if words.is_empty() {
+        return Ok(Next::Nothing(rest));
+    }
+    if words.len() > COMMAND_WORDS as usize {
+        return Err(NextFault::Faulty(RespFault::TooManyWords));
+    }
+    Ok(Next::Command(rest))
+}
