@@ -1,3 +1,5 @@
 pub mod StreamLemmas
 pub mod NumberLemmas
+pub mod WordLemmas
+pub mod ArrayLemmas
 pub mod WriteLemmas

@@ -6,6 +6,7 @@ ghost use Rattle.resp.specs.Reading.{Reads, Refuses, IfFaulty, IsPositiveLine, L
 
 use crate::command::Next;
 use crate::fault::{NextFault, RespFault};
+use crate::front::after;
 use crate::limits::COMMAND_WORDS;
 use crate::number::{NoNumber, number_at};
 use crate::word::word_at;
@@ -19,7 +20,7 @@ fn after_positive(bytes: &[u8]) -> Result<Option<&[u8]>, NoNumber>
     ensures none { IfOk result (λ read. IfNone read (IsFrontOf IsPositiveLine bytes.now)) }
     ensures err { OnErr result (NeverBegins IsPositiveLine bytes.now) }
 {
-    if let [b'0', ..] = bytes {
+    if let Some(_) = after(bytes, b'0') {
         return Err(NoNumber);
     }
     match number_at(bytes, MOST_NEGATIVE) {
@@ -96,10 +97,8 @@ pub fn array_at<'b>(head: &'b [u8], words: &mut Vec<&'b [u8]>) -> Result<Next<'b
     ensures read { IfOk result (λ next. Reads (42 ∷ head.now) (texts words.new.items) next) }
     ensures err { IfErr result (λ fault. Refuses (42 ∷ head.now) fault) }
 {
-    if let [sign, digits @ ..] = head {
-        if *sign == b'-' {
-            return empty_array_at(digits);
-        }
+    match after(head, b'-') {
+        Some(digits) => empty_array_at(digits),
+        None => full_array_at(head, words),
     }
-    full_array_at(head, words)
 }

@@ -5,6 +5,7 @@ ghost use Rattle.resp.specs.Reading.{Reads, Refuses};
 
 use crate::array::array_at;
 use crate::fault::NextFault;
+use crate::front::after;
 use crate::line::line_at;
 
 /// What a stream begins with.
@@ -29,12 +30,8 @@ pub fn next_command<'b>(
     ensures err { IfErr result (λ fault. Refuses bytes.now fault) }
 {
     words.clear();
-    let [mark, head @ ..] = bytes else {
-        return Ok(Next::More);
-    };
-    if *mark == b'*' {
-        array_at(head, words)
-    } else {
-        line_at(bytes, words)
+    match after(bytes, b'*') {
+        Some(head) => array_at(head, words),
+        None => line_at(bytes, words),
     }
 }

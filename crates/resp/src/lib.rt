@@ -8,12 +8,12 @@
 mod array;
 mod command;
 mod fault;
+mod front;
 pub mod laws;
 mod limits;
 mod line;
 mod number;
 mod reply;
-mod span;
 mod word;
 
 pub use command::{Next, next_command};

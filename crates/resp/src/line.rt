@@ -6,17 +6,18 @@ ghost use Rattle.resp.specs.Reading.{Reads, Refuses, IfFaulty, BeginsWord, NoTex
 
 use crate::command::Next;
 use crate::fault::{NextFault, RespFault};
+use crate::front::{after, after_blanks, before_newline, first_of, is_blank, is_quote, plain_word, quoted_word};
 use crate::limits::{COMMAND_WORDS, LINE_BYTES};
-use crate::span::{after_blanks, before_newline, is_blank, is_quote, plain_word, quoted_word};
+
 
 /// Tests whether a word may end before these bytes.
 fn is_end(bytes: &[u8]) -> bool
     ensures { IsTrue result ↔ StopsAt is_a_blank bytes.now }
 {
-    let [first, ..] = bytes else {
-        return true;
-    };
-    is_blank(*first)
+    match first_of(bytes) {
+        Some((first, _)) => is_blank(first),
+        None => true,
+    }
 }
 
 /// Returns the word before the other quote, and the bytes after that.
@@ -26,24 +27,19 @@ fn word_in_quotes(bytes: &[u8], quote: u8) -> Option<(&[u8], &[u8])>
     ensures none { IfNone result (NoQuoted quote bytes.now) }
 {
     let (word, tail) = quoted_word(bytes, quote);
-    let [other, rest @ ..] = tail else {
-        return None;
-    };
-    if *other != quote {
-        return None;
-    }
+    let rest = after(tail, quote)?;
     Some((word, rest))
 }
 
 /// Returns the word that the bytes begin with, and the bytes after its text, if a word may end there.
 fn word_of(bytes: &[u8]) -> Option<(&[u8], &[u8])>
-    requires some { 1 ≤ length bytes.now }
-    requires word { StopsAt is_no_blank bytes.now }
+    requires { StopsAt is_no_blank bytes.now }
     ensures some { IfSome result (λ r. BeginsWord bytes.now r.0.now r.1.now) }
     ensures none { IfNone result (NoText bytes.now) }
 {
-    let (word, rest) = if is_quote(bytes[0]) {
-        word_in_quotes(&bytes[1..], bytes[0])?
+    let (first, tail) = first_of(bytes)?;
+    let (word, rest) = if is_quote(first) {
+        word_in_quotes(tail, first)?
     } else {
         plain_word(bytes)
     };
@@ -82,7 +78,7 @@ pub fn line_at<'b>(bytes: &'b [u8], words: &mut Vec<&'b [u8]>) -> Result<Next<'b
     if line.len() > LINE_BYTES {
         return Err(NextFault::Faulty(RespFault::TooBigLine));
     }
-    let [_, rest @ ..] = tail else {
+    let Some(rest) = after(tail, b'\n') else {
         return Ok(Next::More);
     };
     split_line(line, words)?;

@@ -1,10 +1,12 @@
 //! Numbers in text.
-ghost use Rattle.std.specs.Prelude.{◌≡◌, ◌≢◌, ◌+◌, ◌≤◌, ◌^◌, ◌++◌, ◌∷◌, ℕ, ℤ, List, decimal, length, FitsSigned, IfOk, IfSome, IfNone, OnErr};
+ghost use Rattle.std.specs.Prelude.{◌≡◌, ◌≢◌, ◌+◌, ◌≤◌, ◌^◌, ◌++◌, ◌∷◌, ℕ, ℤ, decimal, length, FitsSigned, IfOk, IfSome, IfNone, OnErr};
 ghost use Rattle.std.specs.Fmt.{signed_decimal};
 ghost use Rattle.std.specs.Int.{w64};
 ghost use Rattle.resp.specs.Streams.{IsFrontOf, NeverBegins, StopsAt};
 ghost use Rattle.resp.specs.Grammar.{newline, number_line, IsNewline, IsNumberLine};
 ghost use Rattle.resp.specs.Reading.{is_other, NoDigits};
+
+use crate::front::{after, first_of};
 
 /// The text is no number, or one above the limit.
 #[derive(Clone, Copy, Debug, PartialEq, Eq)]
@@ -14,32 +16,16 @@ pub struct NoNumber;
 #[derive(Clone, Copy, Debug, PartialEq, Eq)]
 pub struct NoEnd;
 
-/// Returns the bytes after this byte, if they begin with it.
-pub fn after(bytes: &[u8], byte: u8) -> Option<&[u8]>
-    ensures some { IfSome result (λ rest. bytes.now ≡ byte ∷ rest.now) }
-    ensures none { IfNone result ((rest : List ℕ) → bytes.now ≢ byte ∷ rest) }
-{
-    let [first, rest @ ..] = bytes else {
-        return None;
-    };
-    if *first != byte {
-        return None;
-    }
-    Some(rest)
-}
-
 /// Returns the digit that the bytes begin with, and the bytes after it.
 fn digit_at(bytes: &[u8]) -> Option<(u8, &[u8])>
     ensures some { IfSome result (λ r. (r.0 ≤ 9) × (bytes.now ≡ (48 + r.0) ∷ r.1.now)) }
     ensures none { IfNone result (StopsAt is_other bytes.now) }
 {
-    let [first, rest @ ..] = bytes else {
-        return None;
-    };
+    let (first, rest) = first_of(bytes)?;
     if !first.is_ascii_digit() {
         return None;
     }
-    Some((*first - b'0', rest))
+    Some((first - b'0', rest))
 }
 
 /// Returns the number up to this one whose digits the bytes begin with, and the bytes after its last digit.

@@ -1,7 +1,32 @@
-//! Bytes cut before the first of a kind.
-ghost use Rattle.std.specs.Prelude.{◌≡◌};
+//! Fronts of bytes.
+ghost use Rattle.std.specs.Prelude.{◌≡◌, ◌≢◌, ◌∷◌, [], ℕ, List, IfSome, IfNone};
 ghost use Rattle.resp.specs.Grammar.{is_blank as is_a_blank, is_quote as is_a_quote, ends_plain, ends_quoted, is_newline};
 ghost use Rattle.resp.specs.Reading.{CutsBefore, is_no_blank};
+
+/// Returns the first byte, and the others.
+pub fn first_of(bytes: &[u8]) -> Option<(u8, &[u8])>
+    ensures some { IfSome result (λ r. bytes.now ≡ r.0 ∷ r.1.now) }
+    ensures none { IfNone result (bytes.now ≡ []) }
+{
+    let [first, rest @ ..] = bytes else {
+        return None;
+    };
+    Some((*first, rest))
+}
+
+/// Returns the bytes after this byte, if they begin with it.
+pub fn after(bytes: &[u8], byte: u8) -> Option<&[u8]>
+    ensures some { IfSome result (λ rest. bytes.now ≡ byte ∷ rest.now) }
+    ensures none { IfNone result ((rest : List ℕ) → bytes.now ≢ byte ∷ rest) }
+{
+    let [first, rest @ ..] = bytes else {
+        return None;
+    };
+    if *first != byte {
+        return None;
+    }
+    Some(rest)
+}
 
 /// Tests whether the byte is a space, a tab or a `\r`.
 pub fn is_blank(byte: u8) -> bool
