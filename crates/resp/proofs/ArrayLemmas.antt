@@ -7,9 +7,11 @@ use Rattle.std.proofs.lemmas.Fmt.{decimal_digit, decimal_injective}
 use Rattle.resp.specs.declared.limits.TheConstants.{COMMAND_WORDS, WORD_BYTES}
 use Rattle.resp.specs.declared.fault.RespFault.{RespFault}
 use Rattle.resp.specs.declared.fault.RespFault.TheVariants.{BadCount, NoDollar, BadLength, NoNewline, TooBigLine, UnbalancedQuotes, TooManyWords}
+use Rattle.resp.specs.declared.fault.NextFault.{NextFault}
+use Rattle.resp.specs.declared.fault.NextFault.TheVariants.{Faulty, NoMemory}
 use Rattle.resp.specs.Streams.{IsFrontOf, NeverBegins, StopsAt, HasNo}
 use Rattle.resp.specs.Grammar.{newline, number_line, word_bytes, words_bytes, array_bytes, texts, IsWord, AreWords, IsArray, IsEmptyArray, IsSomeArray, IsCountLine, IsNumberLine, IsOpenArray, IsFaultyWord, IsFaulty, IsBegun, Spells, IsIgnored}
-use Rattle.resp.specs.Reading.{IsPositiveLine, IsWordText, LacksWords, HasFaultyWord, is_other}
+use Rattle.resp.specs.Reading.{IsPositiveLine, IsWordText, LacksWords, HasFaultyWord, IfFaulty, Refuses, is_other}
 use Rattle.resp.proofs.StreamLemmas.{heads, tails, true_or_false}
 use Rattle.resp.proofs.NumberLemmas.{at_least, zero_alone, decimal_digits}
 
@@ -82,9 +84,9 @@ pub no_count : (head : List ℕ) → ((t : List ℕ) → head ≢ 45 ∷ t) → 
 no_count head sign never = (head, refl, none head sign never)
   where
     none : (h : List ℕ) → ((t : List ℕ) → h ≢ 45 ∷ t) → NeverBegins (IsNumberLine COMMAND_WORDS) h → NeverBegins IsCountLine h
-    none h other no more text rest (inl is) e = no more text rest is e
-    none [] other no more text rest (inr is) e = no (number_line 0) (number_line 0) [] (0, omega arith, refl) (sym (append-nil (number_line 0)))
-    none (b ∷ h) other no more text rest (inr (n, some, within, is)) e =
+    none h other bad more text rest (inl is) e = bad more text rest is e
+    none [] other bad more text rest (inr is) e = absurd (bad (number_line 0) (number_line 0) [] (0, omega arith, refl) (sym (append-nil (number_line 0))))
+    none (b ∷ h) other bad more text rest (inr (n, some, within, is)) e =
         other h (ap (λ (k : ℕ). k ∷ h) (heads b 45 (h ++ more) (number_line n ++ rest) (e ∙ ap (λ (t : List ℕ). t ++ rest) is)))
 
 pub count_goes_on : (head : List ℕ) → IsFrontOf (IsNumberLine COMMAND_WORDS) head → IsBegun (42 ∷ head)
@@ -93,7 +95,7 @@ count_goes_on head (more, (some, (suc n, within, is))) =
     let (ws, len, all) = blanks_are (suc n) in
     let whole : 42 ∷ (head ++ (more ++ words_bytes ws)) ≡ array_bytes ws =
         ap (λ (t : List ℕ). 42 ∷ t) (sym (append_assoc head more (words_bytes ws)) ∙ ap (λ (t : List ℕ). t ++ words_bytes ws) is ∙ ap (λ (k : ℕ). number_line k ++ words_bytes ws) (sym len)) in
-    inl (more ++ words_bytes ws, (omega (arith, some, length-append more (words_bytes ws)), inl (ws, (omega (arith, len), omega (arith, len, within)), all, whole)))
+    inl (more ++ words_bytes ws, (omega (arith, some, length-append more (words_bytes ws)), inl (ws, ((omega (arith, len), omega (arith, len, within)), all, whole))))
 
 pub zero_ignored : (head rest : List ℕ) (n : ℕ) → n ≡ 0 → head ≡ number_line n ++ rest → (front : List ℕ) × IsIgnored front × (42 ∷ head ≡ front ++ rest)
 zero_ignored head rest n none e = (42 ∷ number_line 0, inl (inl refl), ap (λ (t : List ℕ). 42 ∷ t) (e ∙ ap (λ (k : ℕ). number_line k ++ rest) none))
@@ -123,7 +125,7 @@ array_goes_on head body count within e (ws, part, less, all, f, (more, (some, (w
             ∙ ap (λ (k : ℕ). number_line k ++ words_bytes words) (sym same)) in
     let many : 1 ≤ length words = omega (arith, same, less) in
     inl (end, (omega (arith, some, length-append more (words_bytes later)),
-        inl (words, (many, omega (arith, same, within)), All-append IsWord ws (word ∷ later) all (All-cons IsWord word later is fill), whole)))
+        inl (words, ((many, omega (arith, same, within)), All-append IsWord ws (word ∷ later) all (All-cons IsWord word later is fill), whole))))
 
 pub array_faulty : (head body : List ℕ) (count : ℕ) (fault : RespFault) → count ≤ COMMAND_WORDS → head ≡ number_line count ++ body → HasFaultyWord count fault body → IsFaulty fault (42 ∷ head)
 array_faulty head body count BadCount within e (ws, part, less, all, f, is) = absurd is
@@ -136,6 +138,10 @@ array_faulty head body count NoNewline within e (ws, part, less, all, f, is) =
 array_faulty head body count TooBigLine within e (ws, part, less, all, f, is) = absurd is
 array_faulty head body count UnbalancedQuotes within e (ws, part, less, all, f, is) = absurd is
 array_faulty head body count TooManyWords within e (ws, part, less, all, f, is) = absurd is
+
+pub array_refused : (head body : List ℕ) (count : ℕ) (next : NextFault) → count ≤ COMMAND_WORDS → head ≡ number_line count ++ body → IfFaulty next (λ fault. HasFaultyWord count fault body) → Refuses (42 ∷ head) next
+array_refused head body count (Faulty fault) within e has = array_faulty head body count fault within e has
+array_refused head body count NoMemory within e has = tt
 
 -- ---- one word more
 

@@ -2,4 +2,5 @@ pub mod StreamLemmas
 pub mod NumberLemmas
 pub mod WordLemmas
 pub mod ArrayLemmas
+pub mod LineLemmas
 pub mod WriteLemmas

@@ -60,7 +60,7 @@ digit_more n d bytes rest tail some small fits e f =
     e ∙ ap (λ (t : List ℕ). decimal n ++ t) f ∙ sym (append_assoc (decimal n) ((48 + d) ∷ []) tail) ∙ ap (λ (t : List ℕ). t ++ tail) (sym step)
 
 -- a number whose digits begin with these is no less than they
-at_least : (m : ℕ) (ds tail more rest bytes : List ℕ) → m < 2 ^ 64 → HasNo is_other ds → bytes ≡ ds ++ tail → StopsAt is_other rest → bytes ++ more ≡ decimal m ++ rest → (es : List ℕ) × (decimal m ≡ ds ++ es) × (read_on 0 ds ≤ m)
+pub at_least : (m : ℕ) (ds tail more rest bytes : List ℕ) → m < 2 ^ 64 → HasNo is_other ds → bytes ≡ ds ++ tail → StopsAt is_other rest → bytes ++ more ≡ decimal m ++ rest → (es : List ℕ) × (decimal m ≡ ds ++ es) × (read_on 0 ds ≤ m)
 at_least m ds tail more rest bytes small digits e stops f =
     let whole : ds ++ (tail ++ more) ≡ decimal m ++ rest = sym (append_assoc ds tail more) ∙ ap (λ (t : List ℕ). t ++ more) (sym e) ∙ f in
     let (es, same) = front_goes_on is_other ds (tail ++ more) (decimal m) rest digits stops whole in
@@ -73,7 +73,7 @@ above n most bytes rest less small e m more tail within stops f =
     let (es, same, up) = at_least m (decimal n) rest more tail bytes (omega (arith, within, less, small)) (decimal_digits n small) e stops f in
     absurd (omega (arith, up, value n small, within, less))
 
-zero_alone : (m : ℕ) (es : List ℕ) → m < 2 ^ 64 → decimal m ≡ 48 ∷ es → es ≡ []
+pub zero_alone : (m : ℕ) (es : List ℕ) → m < 2 ^ 64 → decimal m ≡ 48 ∷ es → es ≡ []
 zero_alone m es small e =
     let zero : m ≡ 0 = by_first (omega_or m) in
     tails 48 48 es [] (sym e ∙ ap decimal zero ∙ decimal_digit 0 (omega arith))

@@ -7,7 +7,7 @@ use Rattle.resp.specs.declared.fault.RespFault.{RespFault}
 use Rattle.resp.specs.declared.fault.NextFault.{NextFault}
 use Rattle.resp.specs.declared.fault.NextFault.TheVariants.{Faulty, NoMemory}
 use Rattle.resp.specs.Streams.{StopsAt, HasNo, IsFrontOf}
-use Rattle.resp.specs.Grammar.{number_line, word_bytes, words_bytes, is_blank, ends_quoted, IsWord, IsText, Spells, IsIgnored, IsBegun, IsFaulty, IsFaultyWord}
+use Rattle.resp.specs.Grammar.{number_line, word_bytes, words_bytes, is_blank, ends_plain, ends_quoted, IsWord, IsText, Spells, IsIgnored, IsBegun, IsFaulty, IsFaultyWord}
 
 -- what the bytes begin with, and the words of a command
 abbrev pub Reads : List ℕ → List (List ℕ) → Next → Type 0
@@ -65,10 +65,14 @@ is_no_blank b = not (is_blank b)
 abbrev pub BeginsWord : List ℕ → List ℕ → List ℕ → Type 0
 BeginsWord bytes word rest = (text : List ℕ) × IsText text word × StopsAt is_blank rest × (bytes ≡ text ++ rest)
 
--- the bytes begin with no word
-abbrev pub NoText : List ℕ → Type 0
-NoText bytes = (word rest : List ℕ) → BeginsWord bytes word rest → ⊥
+-- the bytes are this word, this quote and the rest
+abbrev pub BeginsQuoted : ℕ → List ℕ → List ℕ → List ℕ → Type 0
+BeginsQuoted quote bytes word rest = HasNo (ends_quoted quote) word × StopsAt is_blank rest × (bytes ≡ word ++ quote ∷ rest)
 
--- the bytes begin with no word and this quote
-abbrev pub NoQuoted : ℕ → List ℕ → Type 0
-NoQuoted quote bytes = (word rest : List ℕ) → HasNo (ends_quoted quote) word → bytes ≢ word ++ quote ∷ rest
+-- the bytes are this word and the rest
+abbrev pub BeginsPlain : List ℕ → List ℕ → List ℕ → Type 0
+BeginsPlain bytes word rest = HasNo ends_plain word × StopsAt is_blank rest × (bytes ≡ word ++ rest)
+
+-- the bytes begin with no word
+abbrev pub NoWord : List ℕ → Type 0
+NoWord bytes = (word rest : List ℕ) → BeginsWord bytes word rest → ⊥

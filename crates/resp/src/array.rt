@@ -45,8 +45,10 @@ fn words_at<'b>(
 {
     let mut rest = bytes;
     for _ in 0..count {
-        let Some((word, next)) = word_at(rest)? else {
-            return Ok(None);
+        let (word, next) = match word_at(rest) {
+            Ok(Some(read)) => read,
+            Ok(None) => return Ok(None),
+            Err(fault) => return Err(NextFault::Faulty(fault)),
         };
         words.reserve(1)?;
         words.push_reserved(word);
@@ -85,9 +87,10 @@ fn full_array_at<'b>(
     if count == 0 {
         return Ok(Next::Nothing(rest));
     }
-    match words_at(count, rest, words)? {
-        Some(after) => Ok(Next::Command(after)),
-        None => Ok(Next::More),
+    match words_at(count, rest, words) {
+        Ok(Some(after)) => Ok(Next::Command(after)),
+        Ok(None) => Ok(Next::More),
+        Err(fault) => Err(fault),
     }
 }
 

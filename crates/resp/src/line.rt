@@ -1,8 +1,8 @@
 //! Commands in a line.
 ghost use Rattle.std.specs.Prelude.{◌≡◌, ◌≢◌, ◌++◌, ◌∷◌, ◌↔◌, ◌≤◌, [], ℕ, List, length, IsTrue, IfOk, IfErr, IfSome, IfNone, OnOk};
-ghost use Rattle.resp.specs.Streams.{HasNo, StopsAt};
-ghost use Rattle.resp.specs.Grammar.{texts, is_blank as is_a_blank, ends_quoted, HasWords, IsFaultyLine};
-ghost use Rattle.resp.specs.Reading.{Reads, Refuses, IfFaulty, BeginsWord, NoText, NoQuoted, is_no_blank};
+ghost use Rattle.resp.specs.Streams.{StopsAt};
+ghost use Rattle.resp.specs.Grammar.{texts, is_blank as is_a_blank, HasWords, IsFaultyLine};
+ghost use Rattle.resp.specs.Reading.{Reads, Refuses, IfFaulty, BeginsWord, BeginsQuoted, BeginsPlain, NoWord, is_no_blank};
 
 use crate::command::Next;
 use crate::fault::{NextFault, RespFault};
@@ -20,33 +20,42 @@ fn is_end(bytes: &[u8]) -> bool
     }
 }
 
-/// Returns the word before the other quote, and the bytes after that.
+/// Returns the word before the other quote, and the bytes after that, if a word may end there.
 fn word_in_quotes(bytes: &[u8], quote: u8) -> Option<(&[u8], &[u8])>
-    ensures word { IfSome result (λ r. HasNo (ends_quoted quote) r.0.now) }
-    ensures some { IfSome result (λ r. bytes.now ≡ r.0.now ++ quote ∷ r.1.now) }
-    ensures none { IfNone result (NoQuoted quote bytes.now) }
+    ensures some { IfSome result (λ r. BeginsQuoted quote bytes.now r.0.now r.1.now) }
+    ensures none { IfNone result ((word rest : List ℕ) → BeginsQuoted quote bytes.now word rest → ⊥) }
 {
     let (word, tail) = quoted_word(bytes, quote);
     let rest = after(tail, quote)?;
-    Some((word, rest))
-}
-
-/// Returns the word that the bytes begin with, and the bytes after its text, if a word may end there.
-fn word_of(bytes: &[u8]) -> Option<(&[u8], &[u8])>
-    requires { StopsAt is_no_blank bytes.now }
-    ensures some { IfSome result (λ r. BeginsWord bytes.now r.0.now r.1.now) }
-    ensures none { IfNone result (NoText bytes.now) }
-{
-    let (first, tail) = first_of(bytes)?;
-    let (word, rest) = if is_quote(first) {
-        word_in_quotes(tail, first)?
-    } else {
-        plain_word(bytes)
-    };
     if !is_end(rest) {
         return None;
     }
     Some((word, rest))
+}
+
+/// Returns the bytes before a blank or a quote, and those after, if a word may end there.
+fn word_without_quotes(bytes: &[u8]) -> Option<(&[u8], &[u8])>
+    ensures some { IfSome result (λ r. BeginsPlain bytes.now r.0.now r.1.now) }
+    ensures none { IfNone result ((word rest : List ℕ) → BeginsPlain bytes.now word rest → ⊥) }
+{
+    let (word, rest) = plain_word(bytes);
+    if !is_end(rest) {
+        return None;
+    }
+    Some((word, rest))
+}
+
+/// Returns the word that the bytes begin with, and the bytes after its text.
+fn word_of(bytes: &[u8]) -> Option<(&[u8], &[u8])>
+    requires { StopsAt is_no_blank bytes.now }
+    ensures some { IfSome result (λ r. BeginsWord bytes.now r.0.now r.1.now) }
+    ensures none { IfNone result (NoWord bytes.now) }
+{
+    let (first, tail) = first_of(bytes)?;
+    if is_quote(first) {
+        return word_in_quotes(tail, first);
+    }
+    word_without_quotes(bytes)
 }
 
 /// Adds the words of the line.
@@ -58,7 +67,9 @@ fn split_line<'b>(line: &'b [u8], words: &mut Vec<&'b [u8]>) -> Result<(), NextF
     let (_, first) = after_blanks(line);
     let mut rest = first;
     while !rest.is_empty() {
-        let (word, tail) = word_of(rest).ok_or(RespFault::UnbalancedQuotes)?;
+        let Some((word, tail)) = word_of(rest) else {
+            return Err(NextFault::Faulty(RespFault::UnbalancedQuotes));
+        };
         words.reserve(1)?;
         words.push_reserved(word);
         let (_, next) = after_blanks(tail);
@@ -81,7 +92,9 @@ pub fn line_at<'b>(bytes: &'b [u8], words: &mut Vec<&'b [u8]>) -> Result<Next<'b
     let Some(rest) = after(tail, b'\n') else {
         return Ok(Next::More);
     };
-    split_line(line, words)?;
+    if let Err(fault) = split_line(line, words) {
+        return Err(fault);
+    }
     if words.is_empty() {
         return Ok(Next::Nothing(rest));
     }
