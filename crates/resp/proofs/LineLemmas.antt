@@ -245,7 +245,7 @@ line_goes_on bytes line [] star cut short none =
     let whole : line ≡ bytes = sym (append-nil line) ∙ sym cut.0 in
     inr (subst IsLineFront whole (line_front bytes line [] star cut), subst (λ (t : List ℕ). length t ≤ LINE_BYTES) whole short)
 line_goes_on bytes line (b ∷ tail) star cut short none =
-    absurd (none tail (ap (λ (c : ℕ). c ∷ tail) (same_byte b 10 cut.2.1)))
+    absurd (none tail (ap (λ (c : ℕ). c ∷ tail) (same_byte b 10 cut.2)))
 
 whole_line : (bytes line tail rest : List ℕ) → CutsBefore is_newline bytes line tail → tail ≡ 10 ∷ rest → bytes ≡ (line ++ 10 ∷ []) ++ rest
 whole_line bytes line tail rest cut f = cut.0 ∙ ap (λ (t : List ℕ). line ++ t) f ∙ sym (append_assoc line (10 ∷ []) rest)

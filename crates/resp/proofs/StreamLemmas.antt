@@ -1,5 +1,5 @@
 -- Fronts of bytes up to a byte of a kind.
-use Rattle.std.proofs.Common.{arith, ◌≡◌, ◌≢◌, ℕ, ◌≤◌, ◌<◌, Option, None, Some, IfNone, Bool, true, false, List, [], ◌∷◌, ◌++◌, length, drop, refl, ◌==◌, sym, ap, ◌∙◌, All, append_assoc}
+use Rattle.std.proofs.Common.{arith, ◌≡◌, ◌≢◌, ℕ, ◌≤◌, ◌<◌, Option, None, Some, IfNone, IfSome, Bool, true, false, List, [], ◌∷◌, ◌++◌, length, drop, refl, ◌==◌, sym, ap, ◌∙◌, All, append_assoc}
 use Rattle.std.proofs.lemmas.Bool.Decides.{nat_tests}
 use Rattle.std.proofs.lemmas.List.{length-append}
 use Rattle.std.proofs.lemmas.List.Elements.{All-nil, All-head, All-tail, All-append}
@@ -63,6 +63,14 @@ pub not_empty : (bytes : List ℕ) → (length bytes == 0) ≡ false → 1 ≤ l
 not_empty [] some = absurd cc
 not_empty (b ∷ bytes) some = omega arith
 
+pub empty_list : {A : Type 0} (xs : List A) (n : ℕ) → n ≡ length xs → (n == 0) ≡ true → xs ≡ []
+empty_list [] n len none = refl
+empty_list (x ∷ xs) n len none = absurd (grind (arith, nat_tests, len, none))
+
+pub some_list : {A : Type 0} (xs : List A) (n : ℕ) → n ≡ length xs → (n == 0) ≡ false → 1 ≤ length xs
+some_list [] n len some = absurd (grind (arith, nat_tests, len, some))
+some_list (x ∷ xs) n len some = omega arith
+
 -- ends of lines
 pub no_end : (bytes : List ℕ) → 1 ≤ length bytes → ((rest : List ℕ) → bytes ≢ 13 ∷ rest) → NeverBegins IsNewline bytes
 no_end [] some none more text rest is e = absurd (omega (arith, some))
@@ -80,3 +88,7 @@ second_to_come bytes tail first none = (10 ∷ [], (omega arith, ap (λ (t : Lis
 
 pub both_to_come : (bytes : List ℕ) → bytes ≡ [] → IsFrontOf IsNewline bytes
 both_to_come bytes none = (newline, (omega arith, ap (λ (t : List ℕ). t ++ newline) none))
+
+pub if_some : {A : Type 0} (r : Option A) (P Q : A → Type 0) → ((x : A) → P x → Q x) → IfSome r P → IfSome r Q
+if_some None P Q f h = tt
+if_some (Some x) P Q f h = f x h
