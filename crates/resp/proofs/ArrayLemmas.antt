@@ -56,7 +56,7 @@ positive_goes_on (b ∷ bytes) none (more, (some, (suc n, within, is))) = (more,
 pub never_positive : (bytes : List ℕ) → NeverBegins (IsNumberLine (2 ^ 63)) bytes → NeverBegins IsPositiveLine bytes
 never_positive bytes never more text rest (n, some, within, is) e = never more text rest (n, within, is) e
 
-no_sign : (n : ℕ) (x y : List ℕ) → n < 2 ^ 64 → 45 ∷ x ≢ number_line n ++ y
+pub no_sign : (n : ℕ) (x y : List ℕ) → n < 2 ^ 64 → 45 ∷ x ≢ number_line n ++ y
 no_sign n x y small e = by_digits (decimal n) (decimal_digits n small) (e ∙ append_assoc (decimal n) newline y)
   where
     by_digits : (ds : List ℕ) → HasNo is_other ds → 45 ∷ x ≢ ds ++ (newline ++ y)
@@ -94,7 +94,7 @@ count_goes_on head (more, (some, (zero, within, is))) = inl (more, (some, inr (i
 count_goes_on head (more, (some, (suc n, within, is))) =
     let (ws, len, all) = blanks_are (suc n) in
     let whole : 42 ∷ (head ++ (more ++ words_bytes ws)) ≡ array_bytes ws =
-        ap (λ (t : List ℕ). 42 ∷ t) (sym (append_assoc head more (words_bytes ws)) ∙ ap (λ (t : List ℕ). t ++ words_bytes ws) is ∙ ap (λ (k : ℕ). number_line k ++ words_bytes ws) (sym len)) in
+    ap (λ (t : List ℕ). 42 ∷ t) (sym (append_assoc head more (words_bytes ws)) ∙ ap (λ (t : List ℕ). t ++ words_bytes ws) is ∙ ap (λ (k : ℕ). number_line k ++ words_bytes ws) (sym len)) in
     inl (more ++ words_bytes ws, (omega (arith, some, length-append more (words_bytes ws)), inl (ws, ((omega (arith, len), omega (arith, len, within)), all, whole))))
 
 pub zero_ignored : (head rest : List ℕ) (n : ℕ) → n ≡ 0 → head ≡ number_line n ++ rest → (front : List ℕ) × IsIgnored front × (42 ∷ head ≡ front ++ rest)
@@ -106,9 +106,11 @@ open_array head body part count ws e f = ap (λ (t : List ℕ). 42 ∷ t) (e ∙
 
 pub whole_array : (head body rest : List ℕ) (count : ℕ) (ws : List (Bor (List ℕ))) → 1 ≤ count → count ≤ COMMAND_WORDS → head ≡ number_line count ++ body → length ws ≡ count → All IsWord (texts ws) → body ≡ words_bytes (texts ws) ++ rest → (front : List ℕ) × Spells (texts ws) front × (42 ∷ head ≡ front ++ rest)
 whole_array head body rest count ws some within e len all f =
-    let same : length (texts ws) ≡ count = length-map ws (λ word. word.now) ∙ len in
-    (array_bytes (texts ws), inl ((omega (arith, same, some), omega (arith, same, within)), all, refl),
-        open_array head body rest count (texts ws) e f ∙ ap (λ (k : ℕ). (42 ∷ (number_line k ++ words_bytes (texts ws))) ++ rest) (sym same))
+    let same : length (texts ws) ≡ count = length-map ws (λ word. word.now) ∙ len in (
+      array_bytes (texts ws),
+      inl ((omega (arith, same, some), omega (arith, same, within)), all, refl),
+      open_array head body rest count (texts ws) e f ∙ ap (λ (k : ℕ). (42 ∷ (number_line k ++ words_bytes (texts ws))) ++ rest) (sym same),
+    )
 
 pub array_goes_on : (head body : List ℕ) (count : ℕ) → count ≤ COMMAND_WORDS → head ≡ number_line count ++ body → LacksWords count body → IsBegun (42 ∷ head)
 array_goes_on head body count within e (ws, part, less, all, f, (more, (some, (word, is, g)))) =
@@ -119,13 +121,18 @@ array_goes_on head body count within e (ws, part, less, all, f, (more, (some, (w
     let end = more ++ words_bytes later in
     let body_whole : part ++ end ≡ word_bytes word ++ words_bytes later = sym (append_assoc part more (words_bytes later)) ∙ ap (λ (t : List ℕ). t ++ words_bytes later) g in
     let whole : (42 ∷ head) ++ end ≡ array_bytes words =
-        ap (λ (t : List ℕ). t ++ end) (open_array head body part count ws e f)
-        ∙ ap (λ (t : List ℕ). 42 ∷ t) (append_assoc (number_line count ++ words_bytes ws) part end ∙ append_assoc (number_line count) (words_bytes ws) (part ++ end)
-            ∙ ap (λ (t : List ℕ). number_line count ++ t) (ap (λ (t : List ℕ). words_bytes ws ++ t) body_whole ∙ sym spelled)
-            ∙ ap (λ (k : ℕ). number_line k ++ words_bytes words) (sym same)) in
+    ap (λ (t : List ℕ). t ++ end) (open_array head body part count ws e f)
+    ∙ ap (λ (t : List ℕ). 42 ∷ t) (append_assoc (number_line count ++ words_bytes ws) part end ∙ append_assoc (number_line count) (words_bytes ws) (part ++ end)
+    ∙ ap (λ (t : List ℕ). number_line count ++ t) (ap (λ (t : List ℕ). words_bytes ws ++ t) body_whole ∙ sym spelled)
+    ∙ ap (λ (k : ℕ). number_line k ++ words_bytes words) (sym same)) in
     let many : 1 ≤ length words = omega (arith, same, less) in
-    inl (end, (omega (arith, some, length-append more (words_bytes later)),
-        inl (words, ((many, omega (arith, same, within)), All-append IsWord ws (word ∷ later) all (All-cons IsWord word later is fill), whole))))
+    inl (
+      end,
+      (
+        omega (arith, some, length-append more (words_bytes later)),
+        inl (words, ((many, omega (arith, same, within)), All-append IsWord ws (word ∷ later) all (All-cons IsWord word later is fill), whole)),
+      ),
+    )
 
 pub array_faulty : (head body : List ℕ) (count : ℕ) (fault : RespFault) → count ≤ COMMAND_WORDS → head ≡ number_line count ++ body → HasFaultyWord count fault body → IsFaulty fault (42 ∷ head)
 array_faulty head body count BadCount within e (ws, part, less, all, f, is) = absurd is

@@ -51,26 +51,26 @@ are_blanks [] none = All-nil (λ b. is_blank b ≡ true)
 are_blanks (b ∷ xs) none =
     All-cons (λ c. is_blank c ≡ true) b xs (not_false (is_blank b) (All-head (λ c. is_no_blank c ≡ false) b xs none)) (are_blanks xs (All-tail (λ c. is_no_blank c ≡ false) b xs none))
 
-no_others : (xs : List ℕ) → AreBlanks xs → HasNo is_no_blank xs
+pub no_others : (xs : List ℕ) → AreBlanks xs → HasNo is_no_blank xs
 no_others [] all = All-nil (λ b. is_no_blank b ≡ false)
 no_others (b ∷ xs) all =
     All-cons (λ c. is_no_blank c ≡ false) b xs (not_true (is_blank b) (All-head (λ c. is_blank c ≡ true) b xs all)) (no_others xs (All-tail (λ c. is_blank c ≡ true) b xs all))
 
-blanks_after : (xs ys : List ℕ) → AreBlanks (xs ++ ys) → AreBlanks ys
+pub blanks_after : (xs ys : List ℕ) → AreBlanks (xs ++ ys) → AreBlanks ys
 blanks_after [] ys all = all
 blanks_after (b ∷ xs) ys all = blanks_after xs ys (All-tail (λ c. is_blank c ≡ true) b (xs ++ ys) all)
 
 -- ---- the text of a word
 
 -- it begins with no blank
-text_stops : (text word rest : List ℕ) → IsText text word → StopsAt is_no_blank (text ++ rest)
+pub text_stops : (text word rest : List ℕ) → IsText text word → StopsAt is_no_blank (text ++ rest)
 text_stops text [] rest (inl (is, some, none)) = absurd (omega (arith, some))
 text_stops text (b ∷ word) rest (inl (is, some, none)) =
     subst (λ (t : List ℕ). StopsAt is_no_blank (t ++ rest)) (sym is) (ap not ((false_both (is_blank b) (is_quote b) (All-head (λ c. ends_plain c ≡ false) b word none)).0))
 text_stops text word rest (inr (quote, is, e, none)) =
     subst (λ (t : List ℕ). StopsAt is_no_blank (t ++ rest)) (sym e) (ap not (quote_is quote is))
 
-text_no_blanks : (text word rest : List ℕ) → IsText text word → AreBlanks (text ++ rest) → ⊥
+pub text_no_blanks : (text word rest : List ℕ) → IsText text word → AreBlanks (text ++ rest) → ⊥
 text_no_blanks text [] rest (inl (is, some, none)) all = absurd (omega (arith, some))
 text_no_blanks text (b ∷ word) rest (inl (is, some, none)) all =
     let blank = All-head (λ c. is_blank c ≡ true) b (word ++ rest) (subst (λ (t : List ℕ). AreBlanks (t ++ rest)) is all) in
@@ -96,7 +96,7 @@ plain_and_quoted text (c ∷ word) rest bytes b (is, some, none) quote e =
     true_or_false (is_quote b) quote (ap is_quote (sym same) ∙ (false_both (is_blank c) (is_quote c) (All-head (λ d. ends_plain d ≡ false) c word none)).1)
 
 -- bytes begin with one word
-one_text : (s v x t w y : List ℕ) → IsText s v → StopsAt is_blank x → IsText t w → StopsAt is_blank y → s ++ x ≡ t ++ y → (v ≡ w) × (x ≡ y)
+pub one_text : (s v x t w y : List ℕ) → IsText s v → StopsAt is_blank x → IsText t w → StopsAt is_blank y → s ++ x ≡ t ++ y → (v ≡ w) × (x ≡ y)
 one_text s v x t w y (inl (is, some, none)) stops (inl (other, more, clean)) ends e =
     one_cut ends_plain v x w y none (blank_stops x stops) clean (blank_stops y ends) (ap (λ (a : List ℕ). a ++ x) (sym is) ∙ e ∙ ap (λ (a : List ℕ). a ++ y) other)
 one_text s v x t w y (inl plain) stops (inr (quote, is, f, clean)) ends e =
@@ -107,8 +107,8 @@ one_text s v x t w y (inr (quote, is, f, none)) stops (inr (other, too, g, clean
     let whole : quote ∷ (v ++ quote ∷ x) ≡ other ∷ (w ++ other ∷ y) = sym (quoted_parts s v x quote f) ∙ e ∙ quoted_parts t w y other g in
     let same : quote ≡ other = heads quote other (v ++ quote ∷ x) (w ++ other ∷ y) whole in
     one_quoted quote (v ++ quote ∷ x) v x w y none refl
-        (subst (λ (q : ℕ). HasNo (ends_quoted q) w) (sym same) clean)
-        (tails quote other (v ++ quote ∷ x) (w ++ other ∷ y) whole ∙ ap (λ (q : ℕ). w ++ q ∷ y) (sym same))
+    (subst (λ (q : ℕ). HasNo (ends_quoted q) w) (sym same) clean)
+    (tails quote other (v ++ quote ∷ x) (w ++ other ∷ y) whole ∙ ap (λ (q : ℕ). w ++ q ∷ y) (sym same))
 
 -- ---- a word at the front
 
@@ -121,8 +121,11 @@ no_quoted bytes tail first e is none word rest (text, inl plain, stops, f) = pla
 no_quoted bytes tail first e is none word rest (text, inr (quote, too, g, clean), stops, f) =
     let whole : first ∷ tail ≡ quote ∷ (word ++ quote ∷ rest) = sym e ∙ f ∙ quoted_parts text word rest quote g in
     let same : first ≡ quote = heads first quote tail (word ++ quote ∷ rest) whole in
-    none word rest (subst (λ (q : ℕ). HasNo (ends_quoted q) word) (sym same) clean, stops,
-        tails first quote tail (word ++ quote ∷ rest) whole ∙ ap (λ (q : ℕ). word ++ q ∷ rest) (sym same))
+    none word rest (
+      subst (λ (q : ℕ). HasNo (ends_quoted q) word) (sym same) clean,
+      stops,
+      tails first quote tail (word ++ quote ∷ rest) whole ∙ ap (λ (q : ℕ). word ++ q ∷ rest) (sym same),
+    )
 
 pub begins_plain : (bytes tail word rest : List ℕ) (first : ℕ) → StopsAt is_no_blank bytes → bytes ≡ first ∷ tail → BeginsPlain bytes word rest → BeginsWord bytes word rest
 begins_plain bytes tail [] rest first start e (none, stops, f) =
@@ -168,11 +171,11 @@ GoesOn line words rest =
 
 pub goes_on_then : (a b c : List ℕ) (u v : List (List ℕ)) → GoesOn a u b → GoesOn b v c → GoesOn a (u ++ v) c
 goes_on_then a b c u v (on, back) (later, before) = (
-    λ more has. subst (HasWords a) (sym (append_assoc u v more)) (on (v ++ more) (later more has)),
-    λ all has.
-        let (more, e, rest) = back all has in
-        let (last, f, end) = before more rest in
-        (last, e ∙ ap (λ (t : List (List ℕ)). u ++ t) f ∙ sym (append_assoc u v last), end)
+  λ more has. subst (HasWords a) (sym (append_assoc u v more)) (on (v ++ more) (later more has)),
+  λ all has.
+      let (more, e, rest) = back all has in
+      let (last, f, end) = before more rest in
+      (last, e ∙ ap (λ (t : List (List ℕ)). u ++ t) f ∙ sym (append_assoc u v last), end),
 )
 
 -- the first word, if no blank comes before it
@@ -186,9 +189,17 @@ goes_on_blanks line blanks rest (e, none, stops) = (on, back)
   where
     on : (more : List (List ℕ)) → HasWords rest more → HasWords line more
     on [] has = subst AreBlanks (sym e) (All-append (λ b. is_blank b ≡ true) blanks rest (are_blanks blanks none) has)
-    on (w ∷ ws) (gap, text, tail, all, is, ends, f, later) =
-        (blanks ++ gap, text, tail, All-append (λ b. is_blank b ≡ true) blanks gap (are_blanks blanks none) all, is, ends,
-            e ∙ ap (λ (t : List ℕ). blanks ++ t) f ∙ sym (append_assoc blanks gap (text ++ tail)), later)
+    on (w ∷ ws) (gap, text, tail, all, is, ends, f, later) = (
+      blanks ++ gap,
+      text,
+      tail,
+      All-append (λ b. is_blank b ≡ true) blanks gap (are_blanks blanks none) all,
+      is,
+      ends,
+      e ∙ ap (λ (t : List ℕ). blanks ++ t) f ∙ sym (append_assoc blanks gap (text ++ tail)),
+      later,
+    )
+
     back : (all : List (List ℕ)) → HasWords line all → (more : List (List ℕ)) × (all ≡ more) × HasWords rest more
     back [] has = ([], refl, blanks_after blanks rest (subst AreBlanks e has))
     back (w ∷ ws) (gap, text, tail, all, is, ends, f, later) =
@@ -200,6 +211,7 @@ goes_on_word bytes word rest start (text, is, stops, e) = (on, back)
   where
     on : (more : List (List ℕ)) → HasWords rest more → HasWords bytes (word ∷ more)
     on more has = ([], text, rest, All-nil (λ b. is_blank b ≡ true), is, stops, e, has)
+
     back : (all : List (List ℕ)) → HasWords bytes all → (more : List (List ℕ)) × (all ≡ word ∷ more) × HasWords rest more
     back [] has = absurd (text_no_blanks text word rest is (subst AreBlanks e has))
     back (w ∷ ws) has =
@@ -228,6 +240,7 @@ no_words line rest words (on, back) some start none all has =
     blank [] more stops is = absurd (omega (arith, more))
     blank (b ∷ bytes) more stops is =
         true_or_false (is_no_blank b) stops (ap not (All-head (λ c. is_blank c ≡ true) b bytes is))
+
     by_more : (more : List (List ℕ)) → HasWords rest more → ⊥
     by_more [] is = blank rest some start is
     by_more (w ∷ ws) is = let (tail, begins, later) = first_word rest w ws start is in none w tail begins

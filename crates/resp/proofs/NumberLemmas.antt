@@ -80,6 +80,7 @@ zero_alone m es small e =
   where
     omega_or : (k : ℕ) → (k ≡ 0) ⊎ (0 < k)
     omega_or k = grind arith
+
     by_first : (m ≡ 0) ⊎ (0 < m) → m ≡ 0
     by_first (inl is) = is
     by_first (inr some) =
@@ -132,7 +133,7 @@ pub no_line_end : (most n : ℕ) (bytes tail : List ℕ) → most ≤ 2 ^ 63 →
 no_line_end most n bytes [] bound within e stops none more text rest is f = absurd (none newline newline [] refl refl)
 no_line_end most n bytes (b ∷ tail) bound within e stops none more text rest (m, below, is) f =
     let whole : decimal n ++ ((b ∷ tail) ++ more) ≡ decimal m ++ (newline ++ rest) =
-        sym (append_assoc (decimal n) (b ∷ tail) more) ∙ ap (λ (t : List ℕ). t ++ more) (sym e) ∙ f ∙ ap (λ (t : List ℕ). t ++ rest) is ∙ append_assoc (decimal m) newline rest in
+    sym (append_assoc (decimal n) (b ∷ tail) more) ∙ ap (λ (t : List ℕ). t ++ more) (sym e) ∙ f ∙ ap (λ (t : List ℕ). t ++ rest) is ∙ append_assoc (decimal m) newline rest in
     let (same, left) = one_cut is_other (decimal n) ((b ∷ tail) ++ more) (decimal m) (newline ++ rest) (decimal_digits n (omega (arith, within, bound))) stops (decimal_digits m (omega (arith, below, bound))) refl whole in
     none more newline rest refl left
 

@@ -29,8 +29,8 @@ length_goes_on bytes head e (more, (some, (n, within, line))) =
     let (word, len) = filler n in
     let all = more ++ (word ++ newline) in
     let whole : bytes ++ all ≡ word_bytes word =
-        ap (λ (t : List ℕ). t ++ all) e
-        ∙ ap (λ (t : List ℕ). 36 ∷ t) (sym (append_assoc head more (word ++ newline)) ∙ ap (λ (t : List ℕ). t ++ (word ++ newline)) line ∙ ap (λ (k : ℕ). number_line k ++ (word ++ newline)) (sym len)) in
+    ap (λ (t : List ℕ). t ++ all) e
+    ∙ ap (λ (t : List ℕ). 36 ∷ t) (sym (append_assoc head more (word ++ newline)) ∙ ap (λ (t : List ℕ). t ++ (word ++ newline)) line ∙ ap (λ (k : ℕ). number_line k ++ (word ++ newline)) (sym len)) in
     (all, (omega (arith, some, length-append more (word ++ newline)), (word, omega (arith, len, within), whole)))
 
 pub word_goes_on : (bytes head body : List ℕ) (n : ℕ) → bytes ≡ 36 ∷ head → head ≡ number_line n ++ body → n ≤ WORD_BYTES → length body < n → IsFrontOf IsWordText bytes
@@ -39,9 +39,9 @@ word_goes_on bytes head body n e line within less =
     let word = body ++ rest in
     let all : length word ≡ n = length-append body rest ∙ omega (arith, len, less) in
     let whole : bytes ++ (rest ++ newline) ≡ word_bytes word =
-        ap (λ (t : List ℕ). t ++ (rest ++ newline)) e
-        ∙ ap (λ (t : List ℕ). 36 ∷ t) (ap (λ (t : List ℕ). t ++ (rest ++ newline)) line ∙ append_assoc (number_line n) body (rest ++ newline)
-            ∙ ap (λ (t : List ℕ). number_line n ++ t) (sym (append_assoc body rest newline)) ∙ ap (λ (k : ℕ). number_line k ++ (word ++ newline)) (sym all)) in
+    ap (λ (t : List ℕ). t ++ (rest ++ newline)) e
+    ∙ ap (λ (t : List ℕ). 36 ∷ t) (ap (λ (t : List ℕ). t ++ (rest ++ newline)) line ∙ append_assoc (number_line n) body (rest ++ newline)
+    ∙ ap (λ (t : List ℕ). number_line n ++ t) (sym (append_assoc body rest newline)) ∙ ap (λ (k : ℕ). number_line k ++ (word ++ newline)) (sym all)) in
     (rest ++ newline, (omega (arith, len, less, length-append rest newline), (word, omega (arith, all, within), whole)))
 
 -- a word's parts
@@ -53,9 +53,9 @@ pub end_goes_on : (bytes head body word end : List ℕ) (n : ℕ) → bytes ≡ 
 end_goes_on bytes head body word end n e line within split (more, (some, left)) =
     let (both, len) = split_is body word end n split in
     let whole : bytes ++ more ≡ word_bytes word =
-        ap (λ (t : List ℕ). t ++ more) (parts bytes head body word end n e line both len)
-        ∙ ap (λ (t : List ℕ). 36 ∷ t) (append_assoc (number_line (length word)) (word ++ end) more
-            ∙ ap (λ (t : List ℕ). number_line (length word) ++ t) (append_assoc word end more ∙ ap (λ (t : List ℕ). word ++ t) left)) in
+    ap (λ (t : List ℕ). t ++ more) (parts bytes head body word end n e line both len)
+    ∙ ap (λ (t : List ℕ). 36 ∷ t) (append_assoc (number_line (length word)) (word ++ end) more
+    ∙ ap (λ (t : List ℕ). number_line (length word) ++ t) (append_assoc word end more ∙ ap (λ (t : List ℕ). word ++ t) left)) in
     (more, (some, (word, omega (arith, len, within), whole)))
 
 pub no_word_end : (bytes head body word end : List ℕ) (n : ℕ) → bytes ≡ 36 ∷ head → head ≡ number_line n ++ body → n ≤ WORD_BYTES → IsSplitAt body n word end → NeverBegins IsNewline end → IsFaultyWord NoNewline bytes
@@ -65,8 +65,9 @@ no_word_end bytes head body word end n e line within split never =
 
 pub whole_word : (bytes head body word end rest : List ℕ) (n : ℕ) → bytes ≡ 36 ∷ head → head ≡ number_line n ++ body → n ≤ WORD_BYTES → IsSplitAt body n word end → end ≡ newline ++ rest → IsWord word × (bytes ≡ word_bytes word ++ rest)
 whole_word bytes head body word end rest n e line within split left =
-    let (both, len) = split_is body word end n split in
-    (omega (arith, len, within),
-        parts bytes head body word end n e line both len
-        ∙ ap (λ (t : List ℕ). 36 ∷ t) (ap (λ (t : List ℕ). number_line (length word) ++ t) (ap (λ (t : List ℕ). word ++ t) left ∙ sym (append_assoc word newline rest))
-            ∙ sym (append_assoc (number_line (length word)) (word ++ newline) rest)))
+    let (both, len) = split_is body word end n split in (
+      omega (arith, len, within),
+      parts bytes head body word end n e line both len
+          ∙ ap (λ (t : List ℕ). 36 ∷ t) (ap (λ (t : List ℕ). number_line (length word) ++ t) (ap (λ (t : List ℕ). word ++ t) left ∙ sym (append_assoc word newline rest))
+          ∙ sym (append_assoc (number_line (length word)) (word ++ newline) rest)),
+    )

@@ -70,10 +70,7 @@ fn empty_array_at<'b>(digits: &'b [u8]) -> Result<Next<'b>, NextFault>
 }
 
 /// Reads the array after its `*`.
-fn full_array_at<'b>(
-    head: &'b [u8],
-    words: &mut Vec<&'b [u8]>,
-) -> Result<Next<'b>, NextFault>
+fn full_array_at<'b>(head: &'b [u8], words: &mut Vec<&'b [u8]>) -> Result<Next<'b>, NextFault>
     requires none { words.old.items ≡ [] }
     requires sign { (digits : List ℕ) → head.now ≢ 45 ∷ digits }
     ensures read { IfOk result (λ next. Reads (42 ∷ head.now) (texts words.new.items) next) }

@@ -22,10 +22,7 @@ pub enum Next<'b> {
 /// Reads the command that the bytes begin with, and makes the list its words. The words that were in the list are lost.
 /// Returns `Faulty` if no command can begin the bytes, whatever follows them, and `NoMemory` if a request for memory is
 /// refused; then the list may have any words.
-pub fn next_command<'b>(
-    bytes: &'b [u8],
-    words: &mut Vec<&'b [u8]>,
-) -> Result<Next<'b>, NextFault>
+pub fn next_command<'b>(bytes: &'b [u8], words: &mut Vec<&'b [u8]>) -> Result<Next<'b>, NextFault>
     ensures read { IfOk result (λ next. Reads bytes.now (texts words.new.items) next) }
     ensures err { IfErr result (λ fault. Refuses bytes.now fault) }
 {

@@ -1,13 +1,10 @@
 //! Why a stream of commands is refused.
-ghost use Rattle.std.specs.Prelude.{◌≡◌, ◌+◌, ◌≤◌, ◌++◌, length};
-ghost use Rattle.arrayvec.specs.ArrayVec.{array_vec_len};
+ghost use Rattle.std.specs.Prelude.{◌≡◌};
 ghost use Rattle.resp.specs.Faults.{fault_message, shown as shown_as};
 
+use crate::short::{SHORT_BYTES, put};
 use arrayvec::ArrayVec;
 use std::alloc::AllocError;
-
-/// A fault's message has at most this many bytes.
-pub const MESSAGE_BYTES: usize = 64;
 
 /// What is wrong with the bytes of a command. After a fault nothing more is read from the stream.
 #[derive(Clone, Copy, Debug, PartialEq, Eq)]
@@ -70,20 +67,9 @@ fn shown(byte: u8) -> u8
     }
 }
 
-/// Adds bytes.
-fn put(message: &mut ArrayVec<u8, MESSAGE_BYTES>, bytes: &[u8])
-    requires { array_vec_len message.old + length bytes.now ≤ MESSAGE_BYTES }
-    ensures items { message.new.items ≡ message.old.items ++ bytes.now }
-    ensures len { array_vec_len message.new ≡ array_vec_len message.old + length bytes.now }
-{
-    for byte in bytes {
-        message.push(*byte);
-    }
-}
-
 impl RespFault {
     /// Returns the message that Redis sends for the fault, without the mark of an error and the end of its line.
-    pub fn message(self) -> ArrayVec<u8, MESSAGE_BYTES>
+    pub fn message(self) -> ArrayVec<u8, SHORT_BYTES>
         ensures { result.items ≡ fault_message self }
     {
         let mut message = ArrayVec::new();

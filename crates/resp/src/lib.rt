@@ -1,8 +1,9 @@
 //! Commands and replies of RESP, version 2, the protocol of Redis.
 //!
-//! The promise to the layers above: `next_command` reads the command that the bytes begin with, and no other reading exists
-//! (`laws::one_reading`). It waits only for bytes that can come, and a fault is final (`laws::faults_are_final`). A reply's
-//! bytes are its spelling. What spells what: `specs/Grammar.antt` and `specs/Replies.antt`. Only the list of words takes memory.
+//! The promise to the layers above: `next_command` gives the reading that the bytes have (`read`, `err`). No bytes have two
+//! (`laws::one_reading`), and a command or a fault stays as it is, whatever follows (`laws::readings_stay`). A reply's bytes
+//! are its spelling. `specs/Grammar.antt` says how commands are spelled, `specs/Replies.antt` how replies are. Only the
+//! list of words takes memory. Nothing waits.
 #![tactic(auto)]
 
 mod array;
@@ -14,10 +15,14 @@ mod limits;
 mod line;
 mod number;
 mod reply;
+mod short;
+#[cfg(test)]
+mod tests;
 mod word;
 
 pub use command::{Next, next_command};
-pub use fault::{MESSAGE_BYTES, NextFault, RespFault};
+pub use fault::{NextFault, RespFault};
 pub use limits::{COMMAND_WORDS, LINE_BYTES, WORD_BYTES};
 pub use number::integer;
 pub use reply::{put_array, put_error, put_integer, put_nothing, put_simple, put_value};
+pub use short::SHORT_BYTES;

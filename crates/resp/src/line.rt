@@ -6,9 +6,10 @@ ghost use Rattle.resp.specs.Reading.{Reads, Refuses, IfFaulty, BeginsWord, Begin
 
 use crate::command::Next;
 use crate::fault::{NextFault, RespFault};
-use crate::front::{after, after_blanks, before_newline, first_of, is_blank, is_quote, plain_word, quoted_word};
+use crate::front::{
+    after, after_blanks, before_newline, first_of, is_blank, is_quote, plain_word, quoted_word,
+};
 use crate::limits::{COMMAND_WORDS, LINE_BYTES};
-
 
 /// Tests whether a word may end before these bytes.
 fn is_end(bytes: &[u8]) -> bool

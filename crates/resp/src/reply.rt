@@ -1,16 +1,12 @@
 //! Replies, written to a sink.
-ghost use Rattle.std.specs.Prelude.{◌≡◌, ◌++◌, ◌∷◌, ◌≤◌, ◌+◌, ◌^◌, [], length, decimal, OnOk, OnErr};
-ghost use Rattle.arrayvec.specs.ArrayVec.{array_vec_len};
+ghost use Rattle.std.specs.Prelude.{◌≡◌, ◌++◌, ◌≤◌, ◌+◌, length, OnOk, OnErr};
 ghost use Rattle.devices.specs.Devices.{CanWrite, TakesBytes, TakesPart};
-ghost use Rattle.resp.specs.Grammar.{newline};
 ghost use Rattle.resp.specs.Replies.{simple_bytes, error_bytes, integer_bytes, value_bytes, nothing_bytes, array_head, marked_line};
 
+use crate::short::{SHORT_BYTES, put};
 use arrayvec::ArrayVec;
 use devices::{Failed, Sink, write_all};
 use itoa::Buffer;
-
-/// A line of at most this many bytes is one write.
-const SHORT_BYTES: usize = 64;
 
 /// Writes three pieces.
 fn put_three<W: Sink>(sink: &mut W, head: &[u8], body: &[u8], end: &[u8]) -> Result<(), Failed>
@@ -22,17 +18,6 @@ fn put_three<W: Sink>(sink: &mut W, head: &[u8], body: &[u8], end: &[u8]) -> Res
     write_all(sink, body)?;
     write_all(sink, end)?;
     Ok(())
-}
-
-/// Adds bytes.
-fn put(line: &mut ArrayVec<u8, SHORT_BYTES>, bytes: &[u8])
-    requires { array_vec_len line.old + length bytes.now ≤ SHORT_BYTES }
-    ensures items { line.new.items ≡ line.old.items ++ bytes.now }
-    ensures len { array_vec_len line.new ≡ array_vec_len line.old + length bytes.now }
-{
-    for byte in bytes {
-        line.push(*byte);
-    }
 }
 
 /// Returns a line of this text after a mark.
@@ -47,7 +32,7 @@ fn short_line(mark: u8, text: &[u8]) -> ArrayVec<u8, SHORT_BYTES>
     line
 }
 
-/// Writes a line of this text after a mark.
+/// Writes a line of this text after a mark, in one write if it is short.
 fn put_line<W: Sink>(sink: &mut W, mark: u8, text: &[u8]) -> Result<(), Failed>
     requires { CanWrite (W.state sink.old) }
     ensures ok { OnOk result (TakesBytes (W.state sink.old) (W.state sink.new) (marked_line mark text.now)) }

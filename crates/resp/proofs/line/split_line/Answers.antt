@@ -18,7 +18,7 @@ loop-rest-preserved c =
     let cut = c.after_blanks-in-loop-rest in
     let word = c.in-Some.word in
     let items : c.push_reserved.new.self.items ≡ c.loop-rest.words.items ++ word ∷ [] =
-        c.push_reserved.ensures.items ∙ ap (λ (ws : List (Bor (List ℕ))). ws ++ word ∷ []) c.reserve.ensures.items in
+    c.push_reserved.ensures.items ∙ ap (λ (ws : List (Bor (List ℕ))). ws ++ word ∷ []) c.reserve.ensures.items in
     (rw items (goes_on_more c.args.line.now c.loop-rest.rest.now c.in-Some.tail.now cut.result.0.now cut.result.1.now c.loop-rest.words.items word c.loop-rest.invariant.0 c.loop-rest.invariant.1 c.in-Some.ensures.some cut.ensures), cut.ensures.2)
 
 pub returns-clause-ok : goal.returns-clause-ok

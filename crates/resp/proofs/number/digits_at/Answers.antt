@@ -10,7 +10,7 @@ use Rattle.resp.proofs.number.digits_at.Goals as goal
 pub returns-in_err-first-clause-none : goal.returns-in_err-first-clause-none
 returns-in_err-first-clause-none c =
     if_none c.from_residual.result (1 ≤ length c.args.bytes.now → NoDigits c.args.most c.args.bytes.now)
-        (λ some. no_first c.args.most c.args.bytes.now c.requires c.in_err-first.ensures.none some)
+    (λ some. no_first c.args.most c.args.bytes.now c.requires c.in_err-first.ensures.none some)
 
 pub loop-digit-init : goal.loop-digit-init
 loop-digit-init c =
@@ -22,7 +22,7 @@ returns-then-n-eq0-clause-none c =
     let (small, e) = c.in-Some.ensures.some in
     let (front, near) = c.loop-digit.invariant in
     let big : (c.loop-digit.n ≡ 0) ⊎ (c.args.most / 10 < c.loop-digit.n) =
-        elim c.then-n-eq0.branch [ then-n-eq0-via-then-n-eq0 w ↦ inl (omega (arith, w.if-n-eq0)) | then-n-eq0-via-else-n-eq0+then-n-most w ↦ inr (omega (arith, w.if-n-most)) ] in
+    elim c.then-n-eq0.branch [ then-n-eq0-via-then-n-eq0 w ↦ inl (omega (arith, w.if-n-eq0)) | then-n-eq0-via-else-n-eq0+then-n-most w ↦ inr (omega (arith, w.if-n-most)) ] in
     λ some. above_later c.loop-digit.n c.in-Some.digit c.args.most c.args.bytes.now c.loop-digit.rest.now c.in-Some.tail.now c.requires near big small front e
 
 pub loop-digit-preserved : goal.loop-digit-preserved

@@ -9,7 +9,7 @@ use Rattle.resp.proofs.number.integer.Goals as goal
 pub returns-in_err-n-clause-none : goal.returns-in_err-n-clause-none
 returns-in_err-n-clause-none c =
     if_none c.from_residual.result ((n : ℤ) → FitsSigned w64 n → c.args.text.now ≢ signed_decimal n)
-        (no_negative c.args.text.now c.in-Some.digits.now c.in-Some.ensures.some (λ n some within. c.in_err-n.ensures.none n within))
+    (no_negative c.args.text.now c.in-Some.digits.now c.in-Some.ensures.some (λ n some within. c.in_err-n.ensures.none n within))
 
 pub returns-then-n-eq0-clause-none : goal.returns-then-n-eq0-clause-none
 returns-then-n-eq0-clause-none c =

@@ -7,7 +7,7 @@ use Rattle.resp.proofs.number.whole_number.Goals as goal
 pub returns-in_err-n-clause-none : goal.returns-in_err-n-clause-none
 returns-in_err-n-clause-none c =
     if_none c.from_residual.result ((n : ℕ) → n ≤ c.args.most → c.args.text.now ≢ decimal n)
-        (λ n within. no_text c.args.most n c.args.text.now c.requires c.in_err-n.ensures.none within)
+    (λ n within. no_text c.args.most n c.args.text.now c.requires c.in_err-n.ensures.none within)
 
 pub returns-then-not-is_empty-clause-none : goal.returns-then-not-is_empty-clause-none
 returns-then-not-is_empty-clause-none c =

@@ -14,11 +14,11 @@ returns-in_err-write_all-2-clause-err g c =
     let p = err_from_is_err_and c.from_residual-in_err-write_all-2.result c.from_residual-in_err-write_all-2.ensures.1 in
     rw p.1
     (part_after (g.W.Sink.state c.args.sink.now) (g.W.Sink.state c.write_all.new.writer) (g.W.Sink.state c.write_all-2.new.writer) c.args.head.now (c.args.body.now ++ c.args.end.now) c.in_ok-write_all.ensures.ok
-        (part_more (g.W.Sink.state c.write_all.new.writer) (g.W.Sink.state c.write_all-2.new.writer) c.args.body.now c.args.end.now c.in_err-write_all-2.ensures.err))
+    (part_more (g.W.Sink.state c.write_all.new.writer) (g.W.Sink.state c.write_all-2.new.writer) c.args.body.now c.args.end.now c.in_err-write_all-2.ensures.err))
 
 pub returns-in_err-write_all-3-clause-err : goal.returns-in_err-write_all-3-clause-err
 returns-in_err-write_all-3-clause-err g c =
     let p = err_from_is_err_and c.from_residual-in_err-write_all-3.result c.from_residual-in_err-write_all-3.ensures.1 in
     rw p.1
     (part_after (g.W.Sink.state c.args.sink.now) (g.W.Sink.state c.write_all.new.writer) (g.W.Sink.state c.write_all-3.new.writer) c.args.head.now (c.args.body.now ++ c.args.end.now) c.in_ok-write_all.ensures.ok
-        (part_after (g.W.Sink.state c.write_all.new.writer) (g.W.Sink.state c.write_all-2.new.writer) (g.W.Sink.state c.write_all-3.new.writer) c.args.body.now c.args.end.now c.in_ok-write_all-2.ensures.ok c.in_err-write_all-3.ensures.err))
+    (part_after (g.W.Sink.state c.write_all.new.writer) (g.W.Sink.state c.write_all-2.new.writer) (g.W.Sink.state c.write_all-3.new.writer) c.args.body.now c.args.end.now c.in_ok-write_all-2.ensures.ok c.in_err-write_all-3.ensures.err))
