@@ -29,15 +29,17 @@ digits_in code = filter (λ c. not (is_space c)) code
 abbrev pub GivesBytes : List ℕ → List ℕ → Type 0
 GivesBytes code bytes = (decode_of (digits_in code) ≡ Ok bytes) ⊎ ((program : List Insn) × IsTextOf code program × Spells bytes program)
 
--- the script of this text is called so, and has this program, which is safe with its sizes
-pub record IsText (text : List ℕ) (method : Method) (reply : ReplyKind) (program : Checked) : Type 0 where
+-- the text says this: its first line how the script is called, its code a program that is safe with the sizes
+pub record Says (text : List ℕ) (method : Method) (reply : ReplyKind) (program : Checked) : Type 0 where
   pub bytes : List ℕ
   pub head : IsHead (first_line text) (record { method = method; reply = reply; sizes = program.sizes })
   pub code : GivesBytes (code_of_all (other_lines text)) bytes
   pub admitted : IsAdmitted bytes program.sizes program.program
 
+-- the same, without the bytes
+abbrev pub IsText : List ℕ → Method → ReplyKind → Checked → Type 0
+IsText text method reply program = ∥ Says text method reply program ∥₁
+
 -- a text with this digest says so
-pub record IsScript (digest : List ℕ) (method : Method) (reply : ReplyKind) (program : Checked) : Type 0 where
-  pub text : List ℕ
-  pub named : digest ≡ sha1 text
-  pub says : IsText text method reply program
+abbrev pub IsScript : List ℕ → Method → ReplyKind → Checked → Type 0
+IsScript digest method reply program = ∥ (text : List ℕ) × (digest ≡ sha1 text) × Says text method reply program ∥₁

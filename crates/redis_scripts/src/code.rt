@@ -1,6 +1,6 @@
 //! The code of a script: without comments, blanks at the ends of lines and empty lines.
 ghost use Rattle.std.specs.Prelude.{◌≡◌, ◌++◌, length, option_copied, OnOk, IfOk};
-ghost use Rattle.redis_scripts.specs.Pieces.{pieces_after};
+ghost use Rattle.redis_scripts.specs.Pieces.{pieces, pieces_after};
 ghost use Rattle.redis_scripts.specs.Code.{is_blank, begins_with, begins_comment, before_comment, without_front_blanks, without_end_blanks, code_of, code_line, code_of_all, line_with_code};
 
 use crate::pieces::cut;
@@ -108,13 +108,13 @@ pub(crate) fn code_of_all(alloc: Global, lines: Option<&[u8]>) -> Result<Vec<u8>
     Ok(code)
 }
 
-/// Returns the number of the line that has the `nth` code, if the first of the lines has number 2.
-pub(crate) fn line_with_code(lines: Option<&[u8]>, nth: usize) -> usize
-    ensures { result ≡ line_with_code 2 nth (pieces_after 10 (option_copied lines.entry)) }
+/// Returns the number of the text's line that has the `nth` code, if the first line has number 2.
+fn line_in(text: &[u8], nth: usize) -> usize
+    ensures { result ≡ line_with_code 2 nth (pieces 10 text.now) }
 {
     let mut number = 2;
     let mut left = nth;
-    let mut rest = lines;
+    let mut rest = Some(text);
     while let Some(text) = rest {
         let (line, after) = cut(text, b'\n');
         if !code_of(line).is_empty() {
@@ -127,4 +127,14 @@ pub(crate) fn line_with_code(lines: Option<&[u8]>, nth: usize) -> usize
         rest = after;
     }
     number
+}
+
+/// The same for lines that may be none.
+pub(crate) fn line_with_code(lines: Option<&[u8]>, nth: usize) -> usize
+    ensures { result ≡ line_with_code 2 nth (pieces_after 10 (option_copied lines.entry)) }
+{
+    match lines {
+        Some(text) => line_in(text, nth),
+        None => 2,
+    }
 }
