@@ -66,14 +66,29 @@ fn reply_named(word: &[u8]) -> Option<ReplyKind>
 }
 
 /// Returns the number of 16 bits whose decimal text this is.
+fn number_in(text: &str) -> Option<u16>
+    ensures some { IfSome result (λ n. text.now ≡ decimal n) }
+    ensures none { IfNone result ((n : ℕ) → n < 2 ^ 16 → text.now ≢ decimal n) }
+{
+    match text.parse::<u16>() {
+        Ok(number) => {
+            let mut buffer = Buffer::new();
+            let is_decimal = buffer.format(number) == text;
+            if is_decimal { Some(number) } else { None }
+        }
+        Err(_) => None,
+    }
+}
+
+/// The same for bytes.
 fn size_in(word: &[u8]) -> Option<u16>
     ensures some { IfSome result (λ n. word.now ≡ decimal n) }
     ensures none { IfNone result ((n : ℕ) → n < 2 ^ 16 → word.now ≢ decimal n) }
 {
-    let text = str::from_utf8(word).ok()?;
-    let number: u16 = text.parse().ok()?;
-    let mut buffer = Buffer::new();
-    if buffer.format(number) == text { Some(number) } else { None }
+    match str::from_utf8(word) {
+        Ok(text) => number_in(text),
+        Err(_) => None,
+    }
 }
 
 /// Takes the next word of a line, and returns what is after it.
