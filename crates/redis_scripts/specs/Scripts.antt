@@ -42,4 +42,4 @@ IsText text method reply program = ∥ Says text method reply program ∥₁
 
 -- a text with this digest says so
 abbrev pub IsScript : List ℕ → Method → ReplyKind → Checked → Type 0
-IsScript digest method reply program = ∥ (text : List ℕ) × (digest ≡ sha1 text) × Says text method reply program ∥₁
+IsScript digest method reply program = ∥ ((text : List ℕ) × (digest ≡ sha1 text) × Says text method reply program) ∥₁

@@ -6,7 +6,7 @@ ghost use Rattle.hex.specs.Hex.{decode_of, encode_lower, is_hex_digit};
 
 use hex::{FromHex, encode_to_slice};
 use program_registry::Digest;
-use sha1::Sha1;
+use sha1::{DIGEST_LEN, Sha1};
 
 /// The bytes of a digest's name.
 pub const NAME_LEN: usize = 40;
@@ -25,8 +25,10 @@ pub fn digest_in(word: &[u8]) -> Option<Digest>
     ensures value { IfSome result (λ digest. decode_of word.now ≡ Ok digest.bytes) }
     ensures found { IsSome result ↔ ((length word.now ≡ 40) × AllPass is_hex_digit word.now) }
 {
-    let bytes = <[u8; 20] as FromHex>::from_hex(word).ok()?;
-    Some(Digest { bytes })
+    match <[u8; DIGEST_LEN] as FromHex>::from_hex(word) {
+        Ok(bytes) => Some(Digest { bytes }),
+        Err(_) => None,
+    }
 }
 
 /// Returns the digest's name, in lower case. Takes no memory.

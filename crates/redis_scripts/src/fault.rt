@@ -1,13 +1,16 @@
 //! Why a text is refused as a script.
-ghost use Rattle.std.specs.Prelude.{◌≡◌, OnOk, OnErr};
-ghost use Rattle.devices.specs.Devices.{CanWrite, TakesBytes, TakesPart};
+ghost use Rattle.std.specs.Prelude.{◌≡◌, ◌≤◌, ◌+◌, ◌++◌, length};
+ghost use Rattle.arrayvec.specs.ArrayVec.{array_vec_len};
 ghost use Rattle.redis_scripts.specs.Faults.{fault_text, line_fault_words};
 
 use admission::AdmissionFault;
+use arrayvec::ArrayVec;
 use bpf_assembler::AsmFault;
 use bpf_model::NoMemory;
-use devices::{Failed, Sink, write_all};
 use itoa::Buffer;
+
+/// A message has at most this many bytes.
+pub const MESSAGE_BYTES: usize = 256;
 
 /// Why a text is refused as a script: its first fault.
 #[derive(Clone, Copy, Debug, PartialEq, Eq)]
@@ -51,52 +54,65 @@ fn line_fault_words(fault: &AsmFault) -> &'static [u8]
     }
 }
 
-/// Writes the fault of a line.
-fn put_line_fault<W: Sink>(sink: &mut W, fault: &AsmFault) -> Result<(), Failed>
-    requires { CanWrite (W.state sink.old) }
-    ensures ok { OnOk result (TakesBytes (W.state sink.old) (W.state sink.new) (fault_text (ScriptFault.Assembler fault.now))) }
-    ensures err { OnErr result (TakesPart (W.state sink.old) (W.state sink.new) (fault_text (ScriptFault.Assembler fault.now))) }
+/// Adds bytes to a message.
+fn put(message: &mut ArrayVec<u8, MESSAGE_BYTES>, bytes: &[u8])
+    requires { array_vec_len message.old + length bytes.now ≤ MESSAGE_BYTES }
+    ensures items { message.new.items ≡ message.old.items ++ bytes.now }
+    ensures len { array_vec_len message.new ≡ array_vec_len message.old + length bytes.now }
 {
-    let mut buffer = Buffer::new();
-    write_all(sink, b"ERR the script's line ")?;
-    write_all(sink, buffer.format(fault.line()).as_bytes())?;
-    write_all(sink, b": ")?;
-    write_all(sink, line_fault_words(fault))?;
-    Ok(())
+    message.try_extend_from_slice(bytes).unwrap();
 }
 
-/// Writes the refusal of a program.
-fn put_refusal<W: Sink>(sink: &mut W, fault: &AdmissionFault) -> Result<(), Failed>
-    requires { CanWrite (W.state sink.old) }
-    ensures ok { OnOk result (TakesBytes (W.state sink.old) (W.state sink.new) (fault_text (ScriptFault.Admission fault.now))) }
-    ensures err { OnErr result (TakesPart (W.state sink.old) (W.state sink.new) (fault_text (ScriptFault.Admission fault.now))) }
+/// Returns the message on the fault of a line.
+fn line_message(fault: &AsmFault) -> ArrayVec<u8, MESSAGE_BYTES>
+    ensures { result.items ≡ fault_text (ScriptFault.Assembler fault.now) }
+{
+    let mut buffer = Buffer::new();
+    let mut message = ArrayVec::new();
+    put(&mut message, b"ERR the script's line ");
+    put(&mut message, buffer.format(fault.line()).as_bytes());
+    put(&mut message, b": ");
+    put(&mut message, line_fault_words(fault));
+    message
+}
+
+/// Returns the message on the refusal of a program.
+fn refusal_message(fault: &AdmissionFault) -> ArrayVec<u8, MESSAGE_BYTES>
+    ensures { result.items ≡ fault_text (ScriptFault.Admission fault.now) }
 {
     let mut number = Buffer::new();
     let mut unit = Buffer::new();
-    write_all(sink, b"ERR the script is refused: ")?;
-    write_all(sink, number.format(fault.number()).as_bytes())?;
-    write_all(sink, b" at ")?;
-    write_all(sink, unit.format(fault.unit()).as_bytes())?;
-    Ok(())
+    let mut message = ArrayVec::new();
+    put(&mut message, b"ERR the script is refused: ");
+    put(&mut message, number.format(fault.number()).as_bytes());
+    put(&mut message, b" at ");
+    put(&mut message, unit.format(fault.unit()).as_bytes());
+    message
+}
+
+/// Returns a message of these bytes.
+fn message_of(bytes: &[u8]) -> ArrayVec<u8, MESSAGE_BYTES>
+    requires { length bytes.now ≤ MESSAGE_BYTES }
+    ensures { result.items ≡ bytes.now }
+{
+    let mut message = ArrayVec::new();
+    put(&mut message, bytes);
+    message
 }
 
 impl ScriptFault {
-    /// Writes the text that tells a client of the fault: the line of an error, without the mark in front and the newline. Takes no
+    /// Returns the text that tells a client of the fault: the line of an error, without the mark in front and the newline. Takes no
     /// memory.
-    pub fn put_text<W: Sink>(&self, sink: &mut W) -> Result<(), Failed>
-        requires { CanWrite (W.state sink.old) }
-        ensures ok { OnOk result (TakesBytes (W.state sink.old) (W.state sink.new) (fault_text self.now)) }
-        ensures err { OnErr result (TakesPart (W.state sink.old) (W.state sink.new) (fault_text self.now)) }
+    pub fn message(&self) -> ArrayVec<u8, MESSAGE_BYTES>
+        ensures { result.items ≡ fault_text self.now }
     {
         match self {
-            ScriptFault::NotServed => write_all(sink, NOT_SERVED),
-            ScriptFault::NotText => write_all(sink, b"ERR the script's code is not UTF-8"),
-            ScriptFault::OddDigits => {
-                write_all(sink, b"ERR the script has an odd number of hex digits")
-            }
-            ScriptFault::Assembler(fault) => put_line_fault(sink, fault),
-            ScriptFault::Admission(fault) => put_refusal(sink, fault),
-            ScriptFault::NoMemory => write_all(sink, NO_MEMORY),
+            ScriptFault::NotServed => message_of(NOT_SERVED),
+            ScriptFault::NotText => message_of(b"ERR the script's code is not UTF-8"),
+            ScriptFault::OddDigits => message_of(b"ERR the script has an odd number of hex digits"),
+            ScriptFault::Assembler(fault) => line_message(fault),
+            ScriptFault::Admission(fault) => refusal_message(fault),
+            ScriptFault::NoMemory => message_of(NO_MEMORY),
         }
     }
 }

@@ -16,8 +16,8 @@ mod pieces;
 mod reading;
 mod scripts;
 
-pub use digest::{digest_in, digest_of, hex_of};
-pub use fault::ScriptFault;
+pub use digest::{NAME_LEN, digest_in, digest_of, hex_of};
+pub use fault::{MESSAGE_BYTES, ScriptFault};
 pub use head::{Method, ReplyKind};
 pub use known::Script;
 pub use lua::LockAct;

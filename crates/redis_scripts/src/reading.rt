@@ -16,6 +16,7 @@ use crate::head::{Head, head_in};
 use crate::pieces::cut;
 use bpf_assembler::{AsmFault, assemble};
 use bpf_decode::encode;
+use bpf_model::NoMemory;
 use std::alloc::Global;
 use std::str;
 
@@ -40,13 +41,25 @@ fn is_hex(code: &[u8]) -> bool
     code.iter().all(|c| c.is_ascii_hexdigit() || is_space(*c))
 }
 
-/// Returns the bytes that the digits give.
-fn bytes_of_hex(alloc: Global, code: Vec<u8>) -> Result<Vec<u8>, ScriptFault>
-    ensures ok { IfOk result (λ bytes. decode_of (digits_in code.items) ≡ Ok bytes.items) }
-    ensures err { IfErr result (λ fault. (fault ≡ ScriptFault.NoMemory) ⊎ ((fault ≡ ScriptFault.OddDigits) × (length (digits_in code.items) % 2 ≡ 1))) }
+/// Returns the code without blank space.
+fn digits_in(alloc: Global, code: &[u8]) -> Result<Vec<u8>, NoMemory>
+    ensures { IfOk result (λ digits. digits.items ≡ digits_in code.now) }
 {
-    let mut digits = code;
-    digits.retain(|c| !is_space(*c));
+    let mut digits = Vec::new(alloc);
+    for c in code {
+        if !is_space(*c) {
+            digits.push(*c)?;
+        }
+    }
+    Ok(digits)
+}
+
+/// Returns the bytes that the digits give.
+fn bytes_of_hex(alloc: Global, code: &[u8]) -> Result<Vec<u8>, ScriptFault>
+    ensures ok { IfOk result (λ bytes. decode_of (digits_in code.now) ≡ Ok bytes.items) }
+    ensures err { IfErr result (λ fault. (fault ≡ ScriptFault.NoMemory) ⊎ ((fault ≡ ScriptFault.OddDigits) × (length (digits_in code.now) % 2 ≡ 1))) }
+{
+    let digits = digits_in(alloc, code)?;
     if digits.len() % 2 == 1 {
         return Err(ScriptFault::OddDigits);
     }
@@ -88,7 +101,7 @@ fn program_bytes(alloc: Global, lines: Option<&[u8]>) -> Result<Vec<u8>, ScriptF
 {
     let code = code_of_all(alloc, lines)?;
     if is_hex(&code) {
-        return bytes_of_hex(alloc, code);
+        return bytes_of_hex(alloc, &code);
     }
     let Ok(text) = str::from_utf8(&code) else {
         return Err(ScriptFault::NotText);
