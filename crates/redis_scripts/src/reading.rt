@@ -1,5 +1,5 @@
 //! Reads a script: its first line, and the bytes of its program.
-ghost use Rattle.std.specs.Prelude.{◌≡◌, ◌⊎◌, ◌%◌, Ok, true, false, length, option_copied, IfOk, IfErr, List};
+ghost use Rattle.std.specs.Prelude.{◌≡◌, ◌≢◌, ◌⊎◌, ◌%◌, Ok, true, false, length, option_copied, IfOk, IfErr, List};
 ghost use Rattle.hex.specs.Hex.{decode_of};
 ghost use Rattle.bpf_model.specs.declared.instruction.Insn.{Insn};
 ghost use Rattle.bpf_model.specs.Spelling.{Spells};
@@ -86,7 +86,7 @@ fn at_line(line: usize, fault: AsmFault) -> AsmFault
 
 /// Returns the assembler's fault as one of the script, whose lines after the first these are.
 fn fault_in(lines: Option<&[u8]>, fault: AsmFault) -> ScriptFault
-    ensures { (result ≡ ScriptFault.NoMemory) ⊎ (result ≡ ScriptFault.Assembler (at_line (line_with_code 2 (line_number fault) (pieces_after 10 (option_copied lines.entry))) fault)) }
+    ensures { (result ≡ ScriptFault.NoMemory) ⊎ ((fault ≢ AsmFault.NoMemory) × (result ≡ ScriptFault.Assembler (at_line (line_with_code 2 (line_number fault) (pieces_after 10 (option_copied lines.entry))) fault))) }
 {
     if fault == AsmFault::NoMemory {
         return ScriptFault::NoMemory;
