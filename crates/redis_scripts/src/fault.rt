@@ -118,7 +118,8 @@ impl ScriptFault {
 }
 
 /// What is served, for a client that sent something else.
-const NOT_SERVED: &[u8] = b"ERR not a script that is served: its first line has to be '#!bpf METHOD REPLY KEY OLD ARGUMENT RESULT' (METHOD: compute, if-absent, if-present or merge; REPLY: bytes or integer; four sizes)";
+const NOT_SERVED: &[u8] =
+    b"ERR not a script that is served: its first line has to be '#!bpf METHOD REPLY KEY OLD ARGUMENT RESULT' (METHOD: compute, if-absent, if-present or merge; REPLY: bytes or integer; four sizes)";
 
 /// The text of Redis if memory runs out.
 const NO_MEMORY: &[u8] = b"OOM command not allowed when used memory > 'maxmemory'.";

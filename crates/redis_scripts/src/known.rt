@@ -52,7 +52,11 @@ impl<'a> Known<'a> {
     {
         let noted = self.scripts.get(&digest)?;
         let script = noted.script;
-        if script.digest == digest { Some(script) } else { None }
+        if script.digest == digest {
+            Some(script)
+        } else {
+            None
+        }
     }
 
     /// Returns the script of this very text, if it was loaded.

@@ -43,7 +43,9 @@ impl LuaTexts {
 }
 
 /// The text by which `Lock.release` of redis-py releases a lock.
-const REDIS_PY_RELEASE: &[u8] = b"\n        local token = redis.call('get', KEYS[1])\n        if not token or token ~= ARGV[1] then\n            return 0\n        end\n        redis.call('del', KEYS[1])\n        return 1\n    ";
+const REDIS_PY_RELEASE: &[u8] =
+    b"\n        local token = redis.call('get', KEYS[1])\n        if not token or token ~= ARGV[1] then\n            return 0\n        end\n        redis.call('del', KEYS[1])\n        return 1\n    ";
 
 /// The text on the page of Redis on distributed locks.
-const REDLOCK_RELEASE: &[u8] = b"if redis.call(\"get\",KEYS[1]) == ARGV[1] then\n    return redis.call(\"del\",KEYS[1])\nelse\n    return 0\nend";
+const REDLOCK_RELEASE: &[u8] =
+    b"if redis.call(\"get\",KEYS[1]) == ARGV[1] then\n    return redis.call(\"del\",KEYS[1])\nelse\n    return 0\nend";

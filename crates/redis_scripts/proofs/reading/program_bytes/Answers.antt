@@ -13,6 +13,6 @@ returns-in-Err-clause-err c =
     elim c.fault_in.ensures [
       | inl none ↦ rw none tt
       | inr (known, is) ↦
-          let first : IsFirstAsmFault code c.in-Err.fault = elim c.in-Err.ensures.first_fault [ | inl none ↦ absurd (known none) | inr first ↦ rw text at first ] in
+          let first : IsFirstAsmFault code c.in-Err.fault = elim c.in-Err.ensures.first_fault [ inl none ↦ absurd (known none) | inr first ↦ rw text at first ] in
           rw is (other, (c.in-Err.fault, first, refl))
     ]
