@@ -1,5 +1,5 @@
 -- Cutting a text at its first separator.
-use Rattle.std.proofs.Common.{◌≡◌, ℕ, zero, suc, ◌+◌, ◌<◌, ◌≤◌, List, [], ◌∷◌, length, take, drop, get_or, refl, ap, sym, ◌∙◌, arith, Bool, true, false, inl, inr}
+use Rattle.std.proofs.Common.{◌≡◌, ℕ, zero, suc, ◌+◌, ◌<◌, ◌≤◌, List, [], ◌∷◌, length, take, drop, get_or, refl, ap, arith, true, false, inl, inr}
 use Rattle.std.specs.Prelude.{nat_eq, Option, Some, None, is_some, option_copied}
 use Rattle.std.specs.Borrow.{Bor}
 use Rattle.bpf_model.proofs.Options.{test_of}

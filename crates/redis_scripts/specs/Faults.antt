@@ -1,7 +1,6 @@
 -- Why a text is refused as a script, and the text that tells it.
 use Rattle.std.specs.Prelude.{◌≡◌, ◌%◌, ℕ, List, ◌++◌, length, true, false, codes, decimal}
 use Rattle.std.specs.Str.{IsUtf8}
-use Rattle.bpf_model.specs.declared.limits.TheConstants.{PROGRAM_UNITS}
 use Rattle.bpf_assembler.specs.declared.fault.AsmFault.{AsmFault}
 use Rattle.bpf_assembler.specs.declared.fault.AsmFault.TheVariants as asm
 use Rattle.bpf_assembler.specs.Faults.{IsFirstAsmFault, line_number}

@@ -108,7 +108,9 @@ fn first_fault_is_told(rt: HostRuntime) -> Result<(), Fail> {
         ),
     ];
     for (text, message) in rows {
-        let fault = loaded(&rt, rt.alloc(), &scripts, text).err().expect(&rt, "a fault");
+        let fault = loaded(&rt, rt.alloc(), &scripts, text)
+            .err()
+            .expect(&rt, "a fault");
         assert!(rt; fault.message().as_slice().starts_with(message), "{text:?}");
     }
     Ok(())

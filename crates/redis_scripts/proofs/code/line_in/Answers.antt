@@ -1,7 +1,7 @@
-use Rattle.std.proofs.Common.{◌≡◌, ◌<◌, ◌≤◌, ◌+◌, ◌-◌, ◌∙◌, ◌∷◌, ◌^◌, ℕ, suc, List, true, false, sym, ap, length, arith, option_copied, nat_eq, add-one}
+use Rattle.std.proofs.Common.{◌≡◌, ◌∙◌, ◌∷◌, suc, true, false, sym, ap, length, arith, option_copied}
 use Rattle.std.specs.Prelude.{not}
-use Rattle.redis_scripts.specs.Pieces.{pieces, pieces_after}
-use Rattle.redis_scripts.specs.Code.{has_code, line_with_code}
+use Rattle.redis_scripts.specs.Pieces.{pieces_after}
+use Rattle.redis_scripts.specs.Code.{has_code}
 use Rattle.redis_scripts.proofs.PieceLemmas.{pieces-count}
 use Rattle.redis_scripts.proofs.CodeLemmas.{number-here, number-later, number-empty, number-none}
 use Rattle.redis_scripts.proofs.code.line_in.Goals as goal

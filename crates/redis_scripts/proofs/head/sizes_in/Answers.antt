@@ -1,4 +1,4 @@
-use Rattle.std.proofs.Common.{◌≡◌, ◌∙◌, ◌∷◌, sym, ap, drop}
+use Rattle.std.proofs.Common.{◌∙◌, sym, ap, drop}
 use Rattle.redis_scripts.proofs.PieceLemmas.{pieces_after-some}
 use Rattle.redis_scripts.proofs.head.sizes_in.Goals as goal
 

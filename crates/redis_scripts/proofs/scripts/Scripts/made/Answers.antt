@@ -1,4 +1,4 @@
-use Rattle.std.proofs.Common.{◌≡◌, sym}
+use Rattle.std.proofs.Common.{sym}
 use Rattle.redis_scripts.specs.Scripts.{Says}
 use Rattle.redis_scripts.proofs.ScriptLemmas.{says-admitted}
 use Rattle.redis_scripts.proofs.scripts.Scripts.made.Goals as goal
