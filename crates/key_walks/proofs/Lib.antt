@@ -1,1 +1,5 @@
-
+pub mod ChainLemmas
+pub mod FindingLemmas
+pub mod ClearingLemmas
+pub mod ChoiceLemmas
+pub mod PageLemmas

@@ -49,8 +49,8 @@ stripes_from place i = place / 2 ^ 32 + i
 pub record IsPage (old : PassState) (cursor most : ℕ) (keys : List (List ℕ)) (next : ℕ) (new : PassState) : Type 0 where
   pub parts : List Part
   pub until : ℕ
-  pub turns : InTurn (Takes (max 1 most)) (stripes_from cursor) old parts new
+  pub turns : InTurn (Takes (max most 1)) (stripes_from cursor) old parts new
   pub follow : Follow cursor 0 parts until
   pub keys_are : keys ≡ flat_map (λ part. part.keys) parts
-  pub enough : (max 1 most ≤ length keys) ⊎ (start_of (stripes_of old.map) ≤ until)
+  pub enough : (max most 1 ≤ length keys) ⊎ (start_of (stripes_of old.map) ≤ until)
   pub next_is : next ≡ cursor_of (stripes_of old.map) until

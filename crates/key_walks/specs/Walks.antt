@@ -43,7 +43,7 @@ pub record ClearsAll (old new : PassState) : Type 0 where
 
 -- the stripes from the one of this number on, and after the last one the first
 abbrev pub each_from : ℕ → ℕ → ℕ → ℕ
-each_from stripes number i = (number + i) % stripes
+each_from stripes number i = (number % stripes + i) % stripes
 
 -- stripes were scanned in turn until one had a key, and that is the choice; or all of them had none
 pub record Chooses (number : ℕ) (old : PassState) (choice : Option (List ℕ)) (new : PassState) : Type 0 where

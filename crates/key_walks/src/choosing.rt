@@ -39,9 +39,8 @@ pub fn random_key<R: Wait>(
     let first = number % stripes;
     for turn in 0..stripes {
         let keys = stripe_keys(rt, alloc, map, pass, (first + turn) % stripes)?;
-        let choice = choose(&keys, number / stripes);
-        if choice.is_some() {
-            return Ok(choice);
+        if let Some(key) = choose(&keys, number / stripes) {
+            return Ok(Some(key));
         }
     }
     Ok(None)

@@ -47,7 +47,8 @@ pub(crate) fn stripe_keys<R: Wait>(
 {
     let mut found = EntryList::new(alloc);
     map.copy_stripe(rt, pass, stripe, &mut found)?;
-    keys_of(alloc, &found)
+    let keys = keys_of(alloc, &found)?;
+    Ok(keys)
 }
 
 /// Adds these keys after the others.

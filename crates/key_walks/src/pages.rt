@@ -6,7 +6,7 @@ ghost use Rattle.key_walks.specs.Turns.{MayScan, Stops};
 ghost use Rattle.key_walks.specs.Pages.{IsPage, Takes, TakesMore, stripes_from};
 
 use crate::finding::key_at;
-use crate::places::{PLACES, place_of, places_of};
+use crate::places::{PLACES, cursor_of, place_of, places_of};
 use bin_stripes::{Pass, StripedMap};
 use bins::EntryList;
 use bpf_model::{Key, NoMemory};
@@ -22,13 +22,20 @@ pub struct Page {
     pub next: u64,
 }
 
+/// Returns whether a place is this one or comes after it, and comes before the other.
+fn is_between(place: u64, from: u64, until: u64) -> bool
+    ensures { result ≡ (leb from place && ltb place until) }
+{
+    from <= place && place < until
+}
+
 /// Counts the places from one on up to another.
 fn count_between(places: &[u64], from: u64, until: u64) -> u64
     ensures value { result ≡ count_by (λ place. leb from place && ltb place until) places.now }
 {
     let mut count = 0;
     for place in places {
-        if from <= *place && *place < until {
+        if is_between(*place, from, until) {
             count += 1;
         }
     }
@@ -71,7 +78,7 @@ fn add_between(
 {
     for position in 0..found.len() {
         let place = place_of(stripe, found.key(position));
-        if from <= place && place < until {
+        if is_between(place, from, until) {
             keys.push(key_at(found, position))?;
         }
     }
@@ -121,19 +128,17 @@ pub fn scan_some<R: Wait>(
     requires map { pass.old.map ≡ map.now }
     ensures same { ServesSameMap pass.old pass.new }
     ensures ok { IfOk result (λ page. IsPage pass.old cursor most page.keys.items page.next pass.new) }
-    ensures err { OnErr result (Stops (Takes (max 1 most)) (stripes_from cursor) pass.old pass.new) }
+    ensures err { OnErr result (Stops (Takes (max most 1)) (stripes_from cursor) pass.old pass.new) }
 {
-    let end = map.stripes() * PLACES;
-    let most = most.max(1);
+    let stripes = map.stripes();
+    let wanted = most.max(1);
     let mut page = Page {
         keys: Vec::new(alloc),
         next: cursor,
     };
-    while (page.keys.len() as u64) < most && page.next < end {
-        take_part(rt, alloc, map, pass, most, &mut page)?;
+    while (page.keys.len() as u64) < wanted && page.next < stripes * PLACES {
+        take_part(rt, alloc, map, pass, wanted, &mut page)?;
     }
-    if page.next >= end {
-        page.next = 0;
-    }
+    page.next = cursor_of(stripes, page.next);
     Ok(page)
 }

@@ -1,6 +1,6 @@
 //! The order in which a walk comes to keys.
 ghost use Rattle.std.specs.Prelude.{◌≡◌, ◌<◌, ◌≤◌, ◌^◌, IfOk, map};
-ghost use Rattle.key_walks.specs.Places.{fnv, place_of as place_is};
+ghost use Rattle.key_walks.specs.Places.{fnv, place_of as place_is, cursor_of as cursor_is};
 
 use bins::EntryList;
 use bpf_model::NoMemory;
@@ -42,4 +42,12 @@ pub(crate) fn places_of(
         places.push(place_of(stripe, found.key(position)))?;
     }
     Ok(places)
+}
+
+/// Returns the cursor of a place, in a map of this many stripes.
+pub(crate) fn cursor_of(stripes: u64, place: u64) -> u64
+    requires { stripes < 2 ^ 31 }
+    ensures { result ≡ cursor_is stripes place }
+{
+    if place < stripes * PLACES { place } else { 0 }
 }
