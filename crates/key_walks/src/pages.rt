@@ -96,6 +96,7 @@ fn take_part<R: Wait>(
     page: &mut Page,
 ) -> Result<(), NoMemory>
     requires map { pass.old.map ≡ map.now }
+    requires stripes { stripes_of map.now ≤ 64 }
     requires place { page.old.next < start_of (stripes_of map.now) }
     requires most { length page.old.keys.items < most }
     ensures same { ServesSameMap pass.old pass.new }

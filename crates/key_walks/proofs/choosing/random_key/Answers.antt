@@ -18,7 +18,7 @@ loop-turn-preserved g c =
     let e = c.in_ok-keys.ensures in
     let inv = c.loop-turn.invariant in
     let whole = c.stripes-stripes.ensures.value ∙ sym (ap (λ (m : TableId). stripes_of m) c.requires.map) in
-    let none : c.in_ok-keys.keys.items ≡ [] = let h = c.in_default in let h2 = c.deref.ensures in ? in
+    let none : c.in_ok-keys.keys.items ≡ [] = sym c.deref.ensures.value ∙ c.in_default.ensures in
     record {
       map = e.same.map ∙ inv.map;
       same = same_on p q r inv.same e.same;
