@@ -3,3 +3,4 @@ pub mod FindingLemmas
 pub mod ClearingLemmas
 pub mod ChoiceLemmas
 pub mod PageLemmas
+pub mod IterationLemmas

@@ -37,7 +37,7 @@ count_places k from until found places are =
     ∙ sum_by_mapped (λ place. cond (leb from place && ltb place until) 1 0) (λ (e : Entry). place_of k e.0) found
 
 -- what passes weighs as much as what passes in the list
-filtered : (weight : Entry → ℕ) (p : Entry → Bool) (xs : List Entry) → sum_by weight (filter p xs) ≡ sum_by (λ x. cond (p x) (weight x) 0) xs
+pub filtered : (weight : Entry → ℕ) (p : Entry → Bool) (xs : List Entry) → sum_by weight (filter p xs) ≡ sum_by (λ x. cond (p x) (weight x) 0) xs
 filtered weight p [] = refl
 filtered weight p (x ∷ xs) =
     let rest = filtered weight p xs in

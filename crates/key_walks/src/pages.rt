@@ -1,8 +1,9 @@
 //! A walk by pages.
-ghost use Rattle.std.specs.Prelude.{◌≡◌, ◌<◌, ◌≤◌, ◌+◌, ◌-◌, ◌/◌, ◌^◌, ◌++◌, ◌&&◌, max, leb, ltb, count_by, filter, map, length, IfOk, OnOk, OnErr};
+ghost use Rattle.std.specs.Prelude.{◌≡◌, ◌↔◌, ℕ, List, IsTrue, ◌<◌, ◌≤◌, ◌+◌, ◌-◌, ◌/◌, ◌^◌, ◌++◌, ◌&&◌, max, leb, ltb, count_by, filter, map, length, IfOk, OnOk, OnErr};
 ghost use Rattle.bin_stripes.specs.Passes.{ServesSameMap, stripes_of};
 ghost use Rattle.key_walks.specs.Places.{place_of, stands_in, start_of};
 ghost use Rattle.key_walks.specs.Turns.{MayScan, Stops};
+ghost use Rattle.key_walks.specs.Iterations.{PageCall, IsWhole, AreShown};
 ghost use Rattle.key_walks.specs.Pages.{IsPage, Takes, TakesMore, stripes_from};
 
 use crate::finding::key_at;
@@ -20,6 +21,17 @@ pub struct Page {
     pub keys: Vec<Key>,
     /// The cursor at which the walk goes on; 0 if it is over.
     pub next: u64,
+}
+
+impl Page {
+    /// Returns whether this is the last page of a walk. In the pages of a whole walk each key has its turn: one of them scanned its
+    /// stripe, and has the key if that scan found it.
+    pub fn is_last(&self) -> bool
+        ensures exact { IsTrue result ↔ (self.now.next ≡ 0) }
+        ensures whole { (stripes k : ℕ) (key : List ℕ) (pages : List PageCall) → IsWhole stripes pages → k < stripes → AreShown k key pages }
+    {
+        self.next == 0
+    }
 }
 
 /// Returns whether a place is this one or comes after it, and comes before the other.
@@ -115,7 +127,7 @@ fn take_part<R: Wait>(
 }
 
 /// Returns some keys from a cursor on, and the cursor of the next page. Begin with the cursor 0, and go on with the cursor of the
-/// last page until it is 0: a key that is there all along comes in one of these pages (`is_over`). A page has at least `most` keys
+/// last page until it is 0: a key that is there all along comes in one of these pages (`Page::is_last`). A page has at least `most` keys
 /// unless the walk is over, and more only if keys have the same hash; 0 stands for 1. Any number is allowed as a cursor. Returns
 /// `NoMemory` if a request for memory is refused. Scans a stripe at a time, and waits until each is free.
 pub fn scan_some<R: Wait>(
