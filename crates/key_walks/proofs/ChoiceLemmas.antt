@@ -1,5 +1,5 @@
 -- Stripes that were found empty.
-use Rattle.std.proofs.Common.{◌≡◌, ℕ, ◌+◌, ◌<◌, List, [], ◌∷◌, ◌++◌, Some, None, All, inr, refl, sym, ap, ◌∙◌, subst, arith, length, length-append}
+use Rattle.std.proofs.Common.{◌≡◌, ℕ, ◌+◌, ◌<◌, List, [], ◌∷◌, ◌++◌, Some, None, All, refl, sym, ap, ◌∙◌, subst, arith, length, length-append}
 use Rattle.std.specs.List.{Contains}
 use Rattle.std.proofs.lemmas.List.Elements.{All-nil, All-push}
 use Rattle.bin_stripes.specs.Passes.{PassState, ServesSameMap, stripes_of}
@@ -45,8 +45,10 @@ chosen number n k p q r keys key f low at finds has =
       empty = f.empty;
       between = q;
       turns = f.turns;
-      choice_is = (omega (arith, some, low),
-          (keys, (subst (λ m. FindsKeys q m keys r) (at ∙ ap (λ i. each_from (stripes_of p.map) number i) (sym f.some)) finds, has)));
+      choice_is = (
+        omega (arith, some, low),
+        (keys, (subst (λ m. FindsKeys q m keys r) (at ∙ ap (λ i. each_from (stripes_of p.map) number i) (sym f.some)) finds, has)),
+      );
     }
 
 pub empty_stops : (stripes number n k : ℕ) (p q r : PassState) → Empty stripes number n p q → k ≡ each_from stripes number n → MayScan q k r

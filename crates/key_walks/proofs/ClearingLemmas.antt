@@ -1,5 +1,5 @@
 -- Stripes that were cleared.
-use Rattle.std.proofs.Common.{◌≡◌, ℕ, ◌+◌, List, [], ◌∷◌, ◌++◌, Option, Some, None, Result, Ok, Err, IfOk, OnErr, inr, refl, sym, ap, ◌∙◌, subst, arith, length, length-append}
+use Rattle.std.proofs.Common.{◌≡◌, ℕ, ◌+◌, List, [], ◌∷◌, ◌++◌, Some, None, Result, Ok, Err, IfOk, OnErr, refl, sym, ◌∙◌, subst, arith, length, length-append}
 use Rattle.bpf_model.specs.declared.memory.NoMemory.{NoMemory}
 use Rattle.atomic_methods.specs.declared.reply.ReplyKind.{ReplyKind}
 use Rattle.atomic_methods.specs.Invocations.{on_key, remove}

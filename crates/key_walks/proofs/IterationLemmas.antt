@@ -1,20 +1,20 @@
 -- The pages of a whole walk come to each place.
-use Rattle.std.proofs.Common.{◌≡◌, ◌≢◌, ℕ, zero, suc, ◌+◌, ◌-◌, ◌*◌, ◌/◌, ◌%◌, ◌^◌, ◌<◌, ◌≤◌, ◌⊎◌, Bool, true, false, cond, leb, ltb, ◌&&◌, max, List, [], ◌∷◌, ◌++◌, inl, inr, refl, sym, ap, ◌∙◌, subst, arith, length, sum_by, count_by, filter, length-append}
+use Rattle.std.proofs.Common.{◌≡◌, ◌≢◌, ℕ, zero, suc, ◌+◌, ◌/◌, ◌^◌, ◌<◌, ◌≤◌, ◌⊎◌, Bool, true, false, cond, max, List, [], ◌∷◌, ◌++◌, inl, inr, refl, sym, ap, ◌∙◌, subst, arith, length, sum_by, count_by, filter}
 use Rattle.std.specs.List.{flat_map, fold}
 use Rattle.std.specs.Str.{bytes_eq}
-use Rattle.std.proofs.lemmas.Bool.{cases_lt, cond_both, lt-ltb, le-ltb}
+use Rattle.std.proofs.lemmas.Bool.{cases_lt, cond_both, lt-ltb}
 use Rattle.std.proofs.lemmas.Bool.Decides.{nat_tests}
 use Rattle.std.proofs.lemmas.List.Sums.{sum_by-cons, sum_by-append}
 use Rattle.std.proofs.lemmas.Slice.Eq.{bytes_eq-Decides}
 use Rattle.stripe_rule.specs.declared.view.Event.{Event}
 use Rattle.stripe_rule.specs.declared.view.View.{View}
 use Rattle.stripe_rule.specs.History.{AreOthers}
-use Rattle.stripe_rule.specs.Gains.{Gains, Keeps, Adds}
+use Rattle.stripe_rule.specs.Gains.{Gains, Keeps}
 use Rattle.bins.specs.Table.{Entry}
 use Rattle.bin_stripes.specs.declared.ghost_action.GhostAction.{GhostAction}
 use Rattle.bin_stripes.specs.Actions.{Action, scanned}
 use Rattle.bin_stripes.specs.Histories.{own_events}
-use Rattle.bin_stripes.specs.Passes.{PassState, ServesSameMap, stripes_of}
+use Rattle.bin_stripes.specs.Passes.{PassState}
 use Rattle.key_walks.specs.Places.{fnv, fnv_more, place_of, start_of, stands_in, cursor_of}
 use Rattle.key_walks.specs.Turns.{InTurn, AreKeysOf}
 use Rattle.key_walks.specs.Pages.{Part, Takes, Follow, IsPage, stripes_from}
@@ -59,8 +59,8 @@ same_weight : (k from until : ℕ) (key : List ℕ) → from ≤ place_of k key 
 same_weight k from until key low high entry =
     cond_both {A = ℕ} (bytes_eq key entry.0) 1 0 (λ (x : ℕ). cond (stands_in k from until entry.0) x 0 ≡ x)
     (λ eq.
-        let stands = subst (λ (other : List ℕ). stands_in k from until other ≡ true) ((bytes_eq-Decides key entry.0).0 eq) (stands_here k from until key low high) in
-        ap (λ (b : Bool). cond b (suc zero) zero) stands)
+    let stands = subst (λ (other : List ℕ). stands_in k from until other ≡ true) ((bytes_eq-Decides key entry.0).0 eq) (stands_here k from until key low high) in
+    ap (λ (b : Bool). cond b (suc zero) zero) stands)
     (λ ne. no_weight (stands_in k from until entry.0))
 
 sums_same : (f g : Entry → ℕ) (xs : List Entry) → ((x : Entry) → f x ≡ g x) → sum_by f xs ≡ sum_by g xs
@@ -188,9 +188,9 @@ shown_on stripes k key inside cursor (page ∷ pages) some goes low =
           let small = fnv_below key in
           let left : is.until < start_of stripes = omega (arith, past, inside, small) in
           let on = further page.most stripes (stripes_from page.cursor) page.old page.new is.parts page.cursor is.until page.keys is.turns is.follow is.keys_are
-              (subst (λ s. (max page.most 1 ≤ length page.keys) ⊎ (start_of s ≤ is.until)) goes.0 is.enough) left in
+          (subst (λ s. (max page.most 1 ≤ length page.keys) ⊎ (start_of s ≤ is.until)) goes.0 is.enough) left in
           let next : page.next ≡ is.until =
-              is.next_is ∙ ap (λ s. cursor_of s is.until) goes.0 ∙ ap (λ (b : Bool). cond b is.until zero) (lt-ltb is.until (start_of stripes) left) in
+          is.next_is ∙ ap (λ s. cursor_of s is.until) goes.0 ∙ ap (λ (b : Bool). cond b is.until zero) (lt-ltb is.until (start_of stripes) left) in
           let rest = shown_on stripes k key inside page.next pages (inr (λ e. omega (arith, e, next, on))) goes.1.1.1 (omega (arith, next, past)) in
           (suc rest.0, rest.1, (let low' = rest.2 in omega (arith, low')), rest.3, rest.4)
     ]

@@ -1,12 +1,10 @@
 -- Pages and their parts.
-use Rattle.std.proofs.Common.{◌≡◌, ℕ, zero, suc, ◌+◌, ◌-◌, ◌*◌, ◌/◌, ◌^◌, ◌<◌, ◌≤◌, Bool, true, false, cond, leb, ltb, ◌&&◌, List, [], ◌∷◌, ◌++◌, ◌⊎◌, max, inl, inr, refl, sym, ap, ◌∙◌, subst, arith, map, take, get_or, length, sum_by, count_by, filter, length-append}
+use Rattle.std.proofs.Common.{◌≡◌, ℕ, zero, suc, ◌+◌, ◌-◌, ◌/◌, ◌^◌, ◌<◌, ◌≤◌, Bool, false, cond, leb, ltb, ◌&&◌, List, [], ◌∷◌, ◌++◌, ◌⊎◌, max, inl, inr, refl, sym, ap, ◌∙◌, subst, arith, map, length, sum_by, count_by, filter, length-append}
 use Rattle.std.specs.List.{flat_map}
 use Rattle.std.proofs.lemmas.Bool.{cases_lt, cond_both}
 use Rattle.std.proofs.lemmas.Bool.Decides.{nat_tests}
-use Rattle.std.proofs.lemmas.List.{flat_map_more, map_push, append-nil, length-map}
-use Rattle.std.proofs.lemmas.List.Elements.{filter_more}
+use Rattle.std.proofs.lemmas.List.{flat_map_more, length-map}
 use Rattle.std.proofs.lemmas.List.Sums.{sum_by-cons, length-filter}
-use Rattle.bins.specs.Entries.{entry_of}
 use Rattle.bins.specs.Copies.{WeighSame}
 use Rattle.bins.specs.Table.{Entry}
 use Rattle.bin_stripes.specs.Invoked.{CopiesStripe}

@@ -1,5 +1,5 @@
 -- A whole walk by pages.
-use Rattle.std.specs.Prelude.{◌≡◌, ◌≢◌, ℕ, ◌<◌, ◌≤◌, List, [], ◌∷◌, count_by, Any}
+use Rattle.std.specs.Prelude.{◌≡◌, ◌≢◌, ℕ, ◌≤◌, List, [], ◌∷◌, count_by, Any}
 use Rattle.std.specs.Str.{bytes_eq}
 use Rattle.stripe_rule.specs.Gains.{Gains}
 use Rattle.bins.specs.Table.{Entry}

@@ -1,6 +1,5 @@
 -- The order in which a walk comes to keys: by stripe, and in a stripe by a hash of the key. The hash is FNV-1a with 32 bits.
 use Rattle.std.specs.Prelude.{ℕ, ◌+◌, ◌*◌, ◌%◌, ◌^◌, Bool, leb, ltb, ◌&&◌, if◌then◌else◌, List, fold, bit_xor}
-use Rattle.bins.specs.Table.{Entry}
 
 -- the hash so far, and one byte more
 abbrev pub fnv_more : ℕ → ℕ → ℕ

@@ -29,11 +29,7 @@ pub(crate) fn place_of(stripe: u64, key: &[u8]) -> u64
 }
 
 /// Returns the places of the keys of these entries, which are of one stripe, in their order.
-pub(crate) fn places_of(
-    alloc: Global,
-    stripe: u64,
-    found: &EntryList,
-) -> Result<Vec<u64>, NoMemory>
+pub(crate) fn places_of(alloc: Global, stripe: u64, found: &EntryList) -> Result<Vec<u64>, NoMemory>
     requires stripe { stripe < 2 ^ 31 }
     ensures value { IfOk result (λ places. places.items ≡ map (λ entry. place_is stripe entry.0) found.now) }
 {

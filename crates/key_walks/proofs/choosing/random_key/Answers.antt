@@ -1,10 +1,10 @@
-use Rattle.std.proofs.Common.{◌≡◌, ℕ, ◌+◌, List, [], refl, sym, ap, subst, ◌∙◌, arith}
+use Rattle.std.proofs.Common.{◌≡◌, [], refl, sym, ap, subst, ◌∙◌}
 use Rattle.atomic_table.specs.Seated.{TableId}
-use Rattle.bin_stripes.specs.Passes.{PassState, stripes_of}
+use Rattle.bin_stripes.specs.Passes.{stripes_of}
 use Rattle.key_walks.specs.Turns.{FindsKeys, Stops}
 use Rattle.key_walks.specs.Walks.{each_from}
 use Rattle.key_walks.proofs.ChainLemmas.{same_map, same_on, on_err}
-use Rattle.key_walks.proofs.ChoiceLemmas.{empty_none, empty_more, empty_all, empty_stops, chosen}
+use Rattle.key_walks.proofs.ChoiceLemmas.{empty_none, empty_more, empty_stops}
 use Rattle.key_walks.proofs.choosing.random_key.Goals as goal
 
 pub loop-turn-init : goal.loop-turn-init

@@ -1,6 +1,6 @@
-use Rattle.std.proofs.Common.{◌≡◌, ◌+◌, ◌^◌, ◌*◌, refl, sym, ap, ◌∙◌, arith}
+use Rattle.std.proofs.Common.{◌≡◌, refl, sym, ap, ◌∙◌, arith}
 use Rattle.atomic_table.specs.Seated.{TableId}
-use Rattle.bin_stripes.specs.Passes.{PassState, stripes_of}
+use Rattle.bin_stripes.specs.Passes.{stripes_of}
 use Rattle.key_walks.proofs.ChainLemmas.{same_map, same_on, counted_none, counted_more, counted_all}
 use Rattle.key_walks.proofs.counting.count_all.Goals as goal
 

@@ -1,6 +1,6 @@
-use Rattle.std.proofs.Common.{◌≡◌, ℕ, ◌+◌, ◌^◌, ◌*◌, List, refl, sym, ap, subst, ◌∙◌, arith}
+use Rattle.std.proofs.Common.{◌≡◌, ℕ, ◌+◌, List, refl, sym, ap, subst, ◌∙◌, arith}
 use Rattle.atomic_table.specs.Seated.{TableId}
-use Rattle.bin_stripes.specs.Passes.{PassState, stripes_of}
+use Rattle.bin_stripes.specs.Passes.{stripes_of}
 use Rattle.key_walks.proofs.ChainLemmas.{same_map, same_on, on_err}
 use Rattle.key_walks.proofs.FindingLemmas.{Found, found_none, found_more, found_at, found_all, found_stops, scanned_once}
 use Rattle.key_walks.proofs.finding.all_keys.Goals as goal

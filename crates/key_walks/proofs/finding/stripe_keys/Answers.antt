@@ -1,4 +1,4 @@
-use Rattle.std.proofs.Common.{inl, inr, sym, ap, ◌∙◌}
+use Rattle.std.proofs.Common.{inl, inr}
 use Rattle.key_walks.proofs.ChainLemmas.{on_err}
 use Rattle.key_walks.proofs.FindingLemmas.{finds_keys}
 use Rattle.key_walks.proofs.finding.stripe_keys.Goals as goal

@@ -1,4 +1,4 @@
-use Rattle.std.proofs.Common.{◌≡◌, ◌-◌, ◌+◌, ◌<◌, ◌≤◌, leb, ltb, ◌&&◌, count_by, refl, arith, subst, sym}
+use Rattle.std.proofs.Common.{◌≡◌, ◌-◌, ◌<◌, leb, ltb, ◌&&◌, count_by, refl, arith, subst}
 use Rattle.key_walks.proofs.PageLemmas.{none_between}
 use Rattle.key_walks.proofs.pages.end_of.Goals as goal
 

@@ -1,4 +1,4 @@
-use Rattle.std.proofs.Common.{◌≡◌, ◌-◌, ◌*◌, ◌^◌, max}
+use Rattle.std.proofs.Common.{◌≡◌, ◌-◌, ◌*◌, ◌^◌}
 use Rattle.bin_stripes.specs.Passes.{ServesSameMap}
 use Rattle.key_walks.proofs.PageLemmas.{Came}
 use Rattle.key_walks.proofs.pages.scan_some.Given as goal

@@ -1,5 +1,4 @@
-use Rattle.std.proofs.Common.{◌≡◌, ◌<◌, ◌≤◌, ◌+◌, ◌-◌, ◌/◌, ◌^◌, ◌*◌, leb, ltb, ◌&&◌, count_by, map, length, ℕ, ◌∙◌, arith}
-use Rattle.std.proofs.lemmas.Nat.{div-mul-add}
+use Rattle.std.proofs.Common.{◌-◌, ◌/◌, ◌^◌, ◌∙◌, arith}
 use Rattle.key_walks.proofs.PageLemmas.{count_places, takes_more}
 use Rattle.key_walks.proofs.pages.take_part.Goals as goal
 
