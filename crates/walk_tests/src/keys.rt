@@ -53,7 +53,7 @@ struct Paged {
 }
 
 /// Walks by pages of `most` keys, and gives up after a hundred pages.
-fn paged<R: AllocGlobal + Wait>(
+fn walk_pages<R: AllocGlobal + Wait>(
     rt: &R,
     map: &StripedMap,
     pass: &mut Pass,
@@ -87,7 +87,7 @@ fn paged<R: AllocGlobal + Wait>(
 fn pages_have_each_key_once(rt: HostRuntime) -> Result<(), Fail> {
     let (map, mut pass) = opened(rt.alloc())?;
     fill(&rt, &map, &mut pass)?;
-    let paged = paged(&rt, &map, &mut pass, 3)?;
+    let paged = walk_pages(&rt, &map, &mut pass, 3)?;
     let wanted = Paged {
         keys: 40,
         pages: 14,

@@ -1,5 +1,5 @@
 use Rattle.std.proofs.Common.{◌≡◌}
-use Rattle.walk_tests.proofs.keys.paged.Given as goal
+use Rattle.walk_tests.proofs.keys.walk_pages.Given as goal
 
 -- the pass serves the same map
 abbrev pub invariant-loop : goal.invariant-loop
