@@ -1,5 +1,5 @@
 //! Some key.
-ghost use Rattle.std.specs.Prelude.{◌≡◌, Contains, IfOk, OnErr, IfSome, IsNone, ◌↔◌, [], MatchOption};
+ghost use Rattle.std.specs.Prelude.{◌≡◌, [], Contains, IfOk, OnErr, MatchOption};
 ghost use Rattle.bin_stripes.specs.Passes.{ServesSameMap, stripes_of};
 ghost use Rattle.key_walks.specs.Turns.{FindsKeys, Stops};
 ghost use Rattle.key_walks.specs.Walks.{Chooses, each_from};

@@ -1,7 +1,7 @@
 //! The removal of all keys.
-ghost use Rattle.std.specs.Prelude.{◌≡◌, ◌<◌, OnOk, OnErr, vec_items};
-ghost use Rattle.bin_stripes.specs.Passes.{ServesSameMap, stripes_of};
-ghost use Rattle.key_walks.specs.Turns.{Chain, MayScan, Stops};
+ghost use Rattle.std.specs.Prelude.{◌≡◌, OnOk, OnErr};
+ghost use Rattle.bin_stripes.specs.Passes.{ServesSameMap};
+ghost use Rattle.key_walks.specs.Turns.{Chain, Stops};
 ghost use Rattle.key_walks.specs.Walks.{Clears, ClearsAll, Removes, each};
 
 use crate::finding::stripe_keys;

@@ -1,7 +1,7 @@
 //! A walk by pages.
 ghost use Rattle.std.specs.Prelude.{◌≡◌, ◌↔◌, ℕ, List, IsTrue, ◌<◌, ◌≤◌, ◌+◌, ◌-◌, ◌/◌, ◌^◌, ◌++◌, ◌&&◌, max, leb, ltb, count_by, filter, map, length, IfOk, OnOk, OnErr};
 ghost use Rattle.bin_stripes.specs.Passes.{ServesSameMap, stripes_of};
-ghost use Rattle.key_walks.specs.Places.{place_of, stands_in, start_of};
+ghost use Rattle.key_walks.specs.Places.{stands_in, start_of};
 ghost use Rattle.key_walks.specs.Turns.{MayScan, Stops};
 ghost use Rattle.key_walks.specs.Iterations.{PageCall, IsWhole, AreShown};
 ghost use Rattle.key_walks.specs.Pages.{IsPage, Takes, TakesMore, stripes_from};

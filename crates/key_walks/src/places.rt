@@ -1,5 +1,5 @@
 //! The order in which a walk comes to keys.
-ghost use Rattle.std.specs.Prelude.{◌≡◌, ◌<◌, ◌≤◌, ◌^◌, IfOk, map};
+ghost use Rattle.std.specs.Prelude.{◌≡◌, ◌<◌, ◌^◌, IfOk, map};
 ghost use Rattle.key_walks.specs.Places.{fnv, place_of as place_is, cursor_of as cursor_is};
 
 use bins::EntryList;
