@@ -1,4 +1,4 @@
-use Rattle.std.proofs.Common.{◌<◌, length, List, ℕ, inl, inr, refl, sym, ap, subst, ◌∙◌, arith}
+use Rattle.std.proofs.Common.{◌<◌, length, List, ℕ, inl, inr, refl, sym, ap, subst, max, ◌∙◌, arith}
 use Rattle.atomic_table.specs.Seated.{TableId}
 use Rattle.bin_stripes.specs.Passes.{stripes_of}
 use Rattle.key_walks.specs.Turns.{Stops}
@@ -37,7 +37,7 @@ returns-in_err-take_part-clause-err g c =
     let p = c.args.pass.now in
     let keys = c.loop-alloc.page.keys.items in
     let some : length keys < c.max-wanted.result = omega (arith, c.loop-alloc-test.true, c.len.ensures) in
-    on_err _ (subst (λ m. Stops (Takes m) (stripes_from c.args.cursor) p c.take_part.new.pass) c.max-wanted.ensures
+    on_err _ (subst (λ m. Stops (Takes m) (stripes_from c.args.cursor) p c.take_part.new.pass) {y = max c.args.most 1} c.max-wanted.ensures
     (came_stops c.max-wanted.result c.args.cursor p c.loop-alloc.pass c.take_part.new.pass keys c.loop-alloc.page.next c.loop-alloc.invariant.done some c.in_err-take_part.ensures.err))
 
 -- there are enough keys, or no stripe is left
