@@ -1,17 +1,17 @@
 -- Arrays that are whole, begun or refused.
-use Rattle.std.proofs.Common.{arith, ◌≡◌, ◌≢◌, ◌⊎◌, inl, inr, ℕ, zero, suc, ◌+◌, ◌-◌, ◌<◌, ◌≤◌, ◌^◌, true, false, List, [], ◌∷◌, ◌++◌, length, replicate, map, flat_map, refl, sym, ap, subst, ◌∙◌, append_assoc, append-nil, decimal, All, Bor}
-use Rattle.std.proofs.lemmas.List.{length-append, length-map, length-replicate, map-append}
+use Rattle.std.proofs.Common.{arith, ◌≡◌, ◌≢◌, inl, inr, ℕ, zero, suc, ◌-◌, ◌<◌, ◌≤◌, ◌^◌, false, List, [], ◌∷◌, ◌++◌, length, refl, sym, ap, subst, ◌∙◌, append_assoc, append-nil, decimal, All, Bor}
+use Rattle.std.proofs.lemmas.List.{length-append, length-map, map-append}
 use Rattle.std.proofs.lemmas.List.Elements.{All-append, All-nil, All-cons, All-head}
 use Rattle.std.proofs.lemmas.List.Concat.{flat_map-append}
 use Rattle.std.proofs.lemmas.Fmt.{decimal_digit, decimal_injective}
-use Rattle.resp.specs.declared.limits.TheConstants.{COMMAND_WORDS, WORD_BYTES}
+use Rattle.resp.specs.declared.limits.TheConstants.{COMMAND_WORDS}
 use Rattle.resp.specs.declared.fault.RespFault.{RespFault}
 use Rattle.resp.specs.declared.fault.RespFault.TheVariants.{BadCount, NoDollar, BadLength, NoNewline, TooBigLine, UnbalancedQuotes, TooManyWords}
 use Rattle.resp.specs.declared.fault.NextFault.{NextFault}
 use Rattle.resp.specs.declared.fault.NextFault.TheVariants.{Faulty, NoMemory}
-use Rattle.resp.specs.Streams.{IsFrontOf, NeverBegins, StopsAt, HasNo}
-use Rattle.resp.specs.Grammar.{newline, number_line, word_bytes, words_bytes, array_bytes, texts, IsWord, AreWords, IsArray, IsEmptyArray, IsSomeArray, IsCountLine, IsNumberLine, IsOpenArray, IsFaultyWord, IsFaulty, IsBegun, Spells, IsIgnored}
-use Rattle.resp.specs.Reading.{IsPositiveLine, IsWordText, LacksWords, HasFaultyWord, IfFaulty, Refuses, is_other}
+use Rattle.resp.specs.Streams.{IsFrontOf, NeverBegins, HasNo}
+use Rattle.resp.specs.Grammar.{newline, number_line, word_bytes, words_bytes, array_bytes, texts, IsWord, IsCountLine, IsNumberLine, IsFaulty, IsBegun, Spells, IsIgnored}
+use Rattle.resp.specs.Reading.{IsPositiveLine, LacksWords, HasFaultyWord, IfFaulty, Refuses, is_other}
 use Rattle.resp.proofs.StreamLemmas.{heads, tails, true_or_false}
 use Rattle.resp.proofs.NumberLemmas.{at_least, zero_alone, decimal_digits}
 

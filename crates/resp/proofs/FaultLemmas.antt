@@ -1,18 +1,18 @@
 -- Faults: each is final, and bytes have one.
-use Rattle.std.proofs.Common.{arith, ◌≡◌, ◌≢◌, ◌⊎◌, inl, inr, ℕ, ◌+◌, ◌<◌, ◌≤◌, ◌^◌, Bool, true, false, List, [], ◌∷◌, ◌++◌, length, refl, sym, ap, subst, ◌∙◌, append_assoc, append-nil, All}
+use Rattle.std.proofs.Common.{arith, ◌≡◌, ◌≢◌, ◌⊎◌, inl, inr, ℕ, ◌<◌, ◌≤◌, List, [], ◌∷◌, ◌++◌, length, refl, sym, ap, subst, ◌∙◌, append_assoc, append-nil, All}
 use Rattle.std.proofs.lemmas.List.{length-append}
 use Rattle.std.proofs.lemmas.List.Elements.{All-head}
 use Rattle.resp.specs.declared.limits.TheConstants.{COMMAND_WORDS, WORD_BYTES, LINE_BYTES}
 use Rattle.resp.specs.declared.fault.RespFault.{RespFault}
 use Rattle.resp.specs.declared.fault.RespFault.TheVariants.{BadCount, NoDollar, BadLength, NoNewline, TooBigLine, UnbalancedQuotes, TooManyWords}
-use Rattle.resp.specs.Streams.{IsFrontOf, NeverBegins, StopsAt, HasNo}
-use Rattle.resp.specs.Grammar.{newline, number_line, word_bytes, words_bytes, array_bytes, is_newline, IsWord, IsSomeArray, IsCountLine, IsNumberLine, IsNewline, IsOpenArray, IsLineFront, IsLine, HasWords, IsWhole, IsBegun, IsFaultyWord, IsFaultyLine, IsFaulty}
+use Rattle.resp.specs.Streams.{NeverBegins, HasNo}
+use Rattle.resp.specs.Grammar.{newline, number_line, word_bytes, words_bytes, is_newline, IsWord, IsSomeArray, IsCountLine, IsNumberLine, IsNewline, IsOpenArray, IsLineFront, IsLine, HasWords, IsWhole, IsBegun, IsFaultyWord, IsFaultyLine, IsFaulty}
 use Rattle.resp.specs.Readings.{Reading, IsReading, with_more}
 use Rattle.resp.specs.Readings.Reading.{command, nothing, part, faulty}
 use Rattle.resp.proofs.StreamLemmas.{heads, tails, front_is, one_cut, front_goes_on}
 use Rattle.resp.proofs.NumberLemmas.{one_number}
 use Rattle.resp.proofs.ArrayLemmas.{no_sign}
-use Rattle.resp.proofs.WholeLemmas.{more_words, one_count, array_parts, star, front_no_star, line_no_star, line_parts, lines, one_split, commands, command_ignored, ignored, array_whole, whole_kind, has_newline, begun_whole}
+use Rattle.resp.proofs.WholeLemmas.{more_words, one_count, array_parts, star, front_no_star, line_no_star, line_parts, one_split, commands, command_ignored, ignored, array_whole, whole_kind, has_newline, begun_whole}
 
 -- ---- the four kinds of faults
 

@@ -1,15 +1,14 @@
 -- Words of a line.
-use Rattle.std.proofs.Common.{rules, arith, ◌≡◌, ◌≢◌, ◌⊎◌, inl, inr, ℕ, ◌<◌, ◌≤◌, Bool, true, false, not, ◌||◌, nat_eq, List, [], ◌∷◌, ◌++◌, length, map, refl, sym, ap, subst, ◌∙◌, append_assoc, append-nil, All, Bor}
+use Rattle.std.proofs.Common.{arith, ◌≡◌, ◌≢◌, inl, inr, ℕ, ◌<◌, ◌≤◌, Bool, true, false, not, ◌||◌, nat_eq, List, [], ◌∷◌, ◌++◌, length, refl, sym, ap, subst, ◌∙◌, append_assoc, append-nil, Bor}
 use Rattle.std.proofs.lemmas.Bool.Decides.{nat_tests}
 use Rattle.std.proofs.lemmas.List.{map-append}
 use Rattle.std.proofs.lemmas.List.Elements.{All-append, All-nil, All-cons, All-head, All-tail}
-use Rattle.resp.specs.declared.limits.TheConstants.{COMMAND_WORDS, LINE_BYTES}
-use Rattle.resp.specs.declared.fault.RespFault.{RespFault}
+use Rattle.resp.specs.declared.limits.TheConstants.{LINE_BYTES}
 use Rattle.resp.specs.declared.fault.RespFault.TheVariants.{BadCount, NoDollar, BadLength, NoNewline, TooBigLine, UnbalancedQuotes, TooManyWords}
 use Rattle.resp.specs.declared.fault.NextFault.{NextFault}
 use Rattle.resp.specs.declared.fault.NextFault.TheVariants.{Faulty, NoMemory}
 use Rattle.resp.specs.Streams.{StopsAt, HasNo}
-use Rattle.resp.specs.Grammar.{texts, is_newline, is_blank, is_quote, ends_quoted, ends_plain, IsPlain, IsQuoted, IsText, AreBlanks, HasWords, IsLineFront, IsLine, AreWords, Spells, IsIgnored, IsBegun, IsFaultyLine, IsFaulty}
+use Rattle.resp.specs.Grammar.{texts, is_newline, is_blank, is_quote, ends_quoted, ends_plain, IsPlain, IsText, AreBlanks, HasWords, IsLineFront, AreWords, Spells, IsIgnored, IsBegun, IsFaultyLine, IsFaulty}
 use Rattle.resp.specs.Reading.{CutsBefore, is_no_blank, BeginsWord, BeginsQuoted, BeginsPlain, NoWord, IfFaulty, Refuses}
 use Rattle.resp.proofs.StreamLemmas.{heads, tails, true_or_false, one_cut}
 

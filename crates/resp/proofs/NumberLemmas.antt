@@ -1,17 +1,16 @@
 -- Decimal numbers at the front of bytes.
-use Rattle.std.proofs.Common.{rules, arith, ◌≡◌, ◌≢◌, ◌⊎◌, inl, inr, ℕ, suc, ℤ, pos, negsuc, FitsSigned, ◌+◌, ◌-◌, ◌*◌, ◌/◌, ◌%◌, ◌<◌, ◌≤◌, ◌^◌, Bool, true, false, ◌&&◌, not, List, [], ◌∷◌, ◌++◌, length, get_or, refl, sym, ap, subst, ◌∙◌, append_assoc, append-nil, decimal, All}
+use Rattle.std.proofs.Common.{rules, arith, ◌≡◌, ◌≢◌, ◌⊎◌, inl, inr, ℕ, suc, ℤ, pos, negsuc, FitsSigned, ◌+◌, ◌-◌, ◌*◌, ◌/◌, ◌%◌, ◌<◌, ◌≤◌, ◌^◌, Bool, true, false, ◌&&◌, not, List, [], ◌∷◌, ◌++◌, length, get_or, refl, sym, ap, subst, ◌∙◌, append_assoc, append-nil, decimal}
 use Rattle.std.specs.Char.{is_ascii_digit}
 use Rattle.std.specs.Str.{all_ascii_digits}
 use Rattle.std.specs.Fmt.{signed_decimal}
 use Rattle.std.specs.Int.{w64}
-use Rattle.std.proofs.lemmas.List.{length-append, append_cancel_left}
 use Rattle.std.proofs.lemmas.List.Elements.{All-nil, All-cons, All-head, All-append}
 use Rattle.std.proofs.lemmas.Str.Parse.{IsNumeralModel, numerals_by_fold}
 use Rattle.std.proofs.lemmas.Fmt.{decimal_digit, decimal_step, decimal_nonempty, decimal_injective, first_decimal, digits_decimal, digits_value-decimal}
 use Rattle.resp.specs.Streams.{IsFrontOf, NeverBegins, StopsAt, HasNo}
 use Rattle.resp.specs.Grammar.{newline, number_line, IsNumberLine, IsNewline}
-use Rattle.resp.specs.Reading.{is_other, NoDigits, IsPositiveLine}
-use Rattle.resp.proofs.StreamLemmas.{front_goes_on, one_cut, heads, tails, true_or_false}
+use Rattle.resp.specs.Reading.{is_other, NoDigits}
+use Rattle.resp.proofs.StreamLemmas.{front_goes_on, one_cut, tails, true_or_false}
 
 abbrev read_on : ℕ → List ℕ → ℕ
 read_on n [] = n

@@ -1,11 +1,9 @@
 -- Fronts of bytes up to a byte of a kind.
-use Rattle.std.proofs.Common.{arith, ◌≡◌, ◌≢◌, ℕ, ◌≤◌, ◌<◌, Option, None, Some, IfNone, IfSome, Bool, true, false, List, [], ◌∷◌, ◌++◌, length, drop, refl, ◌==◌, sym, ap, ◌∙◌, All, append_assoc}
+use Rattle.std.proofs.Common.{arith, ◌≡◌, ◌≢◌, ℕ, ◌≤◌, Option, None, Some, IfNone, IfSome, Bool, true, false, List, [], ◌∷◌, ◌++◌, length, drop, refl, ◌==◌, sym, ap, ◌∙◌}
 use Rattle.std.proofs.lemmas.Bool.Decides.{nat_tests}
-use Rattle.std.proofs.lemmas.List.{length-append}
-use Rattle.std.proofs.lemmas.List.Elements.{All-nil, All-head, All-tail, All-append}
+use Rattle.std.proofs.lemmas.List.Elements.{All-head, All-tail}
 use Rattle.resp.specs.Streams.{IsFrontOf, NeverBegins, StopsAt, HasNo}
 use Rattle.resp.specs.Grammar.{newline, IsNewline}
-use Rattle.resp.specs.Reading.{CutsBefore}
 
 pub true_or_false : (b : Bool) → b ≡ true → b ≡ false → ⊥
 true_or_false true is not = absurd cc

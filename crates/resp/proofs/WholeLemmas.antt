@@ -1,10 +1,10 @@
 -- What begins bytes begins them in one way.
-use Rattle.std.proofs.Common.{arith, ◌≡◌, ◌≢◌, ◌⊎◌, inl, inr, ℕ, ◌+◌, ◌<◌, ◌≤◌, ◌^◌, Bool, true, false, List, [], ◌∷◌, ◌++◌, length, drop, flat_map, refl, sym, ap, subst, ◌∙◌, append_assoc, append-nil, decimal, All}
+use Rattle.std.proofs.Common.{arith, ◌≡◌, ◌⊎◌, inl, inr, ℕ, ◌<◌, ◌≤◌, ◌^◌, false, List, [], ◌∷◌, ◌++◌, length, refl, sym, ap, subst, ◌∙◌, append_assoc, append-nil, All}
 use Rattle.std.proofs.lemmas.List.{length-append}
-use Rattle.std.proofs.lemmas.List.Elements.{All-head, All-tail, All-append}
-use Rattle.resp.specs.declared.limits.TheConstants.{COMMAND_WORDS, WORD_BYTES, LINE_BYTES}
-use Rattle.resp.specs.Streams.{IsFrontOf, NeverBegins, StopsAt, HasNo}
-use Rattle.resp.specs.Grammar.{newline, number_line, word_bytes, words_bytes, array_bytes, is_newline, is_blank, IsWord, AreWords, IsArray, IsEmptyArray, IsSomeArray, IsLineFront, IsLine, HasWords, AreBlanks, Spells, IsIgnored, IsWhole, IsBegun}
+use Rattle.std.proofs.lemmas.List.Elements.{All-head, All-tail}
+use Rattle.resp.specs.declared.limits.TheConstants.{COMMAND_WORDS}
+use Rattle.resp.specs.Streams.{HasNo}
+use Rattle.resp.specs.Grammar.{newline, number_line, word_bytes, words_bytes, array_bytes, is_newline, IsWord, IsArray, IsEmptyArray, IsSomeArray, IsLineFront, IsLine, HasWords, AreBlanks, Spells, IsIgnored, IsWhole, IsBegun}
 use Rattle.resp.specs.Reading.{is_no_blank}
 use Rattle.resp.proofs.StreamLemmas.{heads, tails, front_is, one_cut, true_or_false}
 use Rattle.resp.proofs.NumberLemmas.{one_number}

@@ -1,16 +1,12 @@
 -- Words of an array.
-use Rattle.std.proofs.Common.{rules, arith, ◌≡◌, ◌≢◌, ℕ, ◌+◌, ◌-◌, ◌<◌, ◌≤◌, List, [], ◌∷◌, ◌++◌, length, replicate, take, drop, flat_map, map, refl, sym, ap, subst, ◌∙◌, append_assoc, append-nil, All, Bor}
+use Rattle.std.proofs.Common.{arith, ◌≡◌, ℕ, ◌-◌, ◌<◌, ◌≤◌, List, [], ◌∷◌, ◌++◌, length, replicate, drop, sym, ap, ◌∙◌, append_assoc}
 use Rattle.std.specs.List.{IsSplitAt}
 use Rattle.std.proofs.lemmas.List.{length-append, length-replicate, take-append-drop}
-use Rattle.std.proofs.lemmas.List.Elements.{All-append, All-nil, All-head, All-tail, All-cons}
-use Rattle.std.proofs.lemmas.List.Concat.{flat_map-append}
-use Rattle.resp.specs.declared.limits.TheConstants.{COMMAND_WORDS, WORD_BYTES}
-use Rattle.resp.specs.declared.fault.RespFault.TheVariants.{NoNewline, BadLength, NoDollar}
-use Rattle.resp.specs.Streams.{IsFrontOf, NeverBegins, StopsAt, HasNo}
-use Rattle.resp.specs.Grammar.{newline, number_line, word_bytes, words_bytes, texts, IsWord, IsNumberLine, IsNewline, IsFaultyWord}
+use Rattle.resp.specs.declared.limits.TheConstants.{WORD_BYTES}
+use Rattle.resp.specs.declared.fault.RespFault.TheVariants.{NoNewline}
+use Rattle.resp.specs.Streams.{IsFrontOf, NeverBegins}
+use Rattle.resp.specs.Grammar.{newline, number_line, word_bytes, IsWord, IsNumberLine, IsNewline, IsFaultyWord}
 use Rattle.resp.specs.Reading.{IsWordText}
-use Rattle.resp.proofs.StreamLemmas.{heads, tails, front_is}
-use Rattle.resp.proofs.NumberLemmas.{one_number}
 
 filler : (n : ℕ) → (w : List ℕ) × (length w ≡ n)
 filler n = (replicate n 0, length-replicate n 0)

@@ -1,5 +1,5 @@
 -- Pieces written one after the other.
-use Rattle.std.proofs.Common.{arith, ◌≡◌, ℕ, ◌+◌, List, ◌++◌, length, ap, sym, ◌∙◌, append_assoc}
+use Rattle.std.proofs.Common.{arith, ℕ, ◌+◌, List, ◌++◌, ap, sym, ◌∙◌, append_assoc}
 use Rattle.std.proofs.lemmas.List.{length-append}
 use Rattle.std.proofs.KnownBytes.{Appends-trans}
 use Rattle.devices.specs.Devices.{SinkState, TakesBytes, TakesPart}

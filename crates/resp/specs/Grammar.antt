@@ -1,5 +1,5 @@
 -- How a command is spelled, and which bytes begin none.
-use Rattle.std.specs.Prelude.{◌≡◌, ◌≢◌, ℕ, ◌≤◌, ◌<◌, ◌^◌, ◌⊎◌, ◌||◌, Bool, true, false, nat_eq, List, [], ◌∷◌, ◌++◌, length, flat_map, map, All, decimal}
+use Rattle.std.specs.Prelude.{◌≡◌, ◌≢◌, ℕ, ◌≤◌, ◌<◌, ◌^◌, ◌⊎◌, ◌||◌, Bool, true, nat_eq, List, [], ◌∷◌, ◌++◌, length, flat_map, map, All, decimal}
 use Rattle.std.specs.Borrow.{Bor}
 use Rattle.resp.specs.declared.limits.TheConstants.{COMMAND_WORDS, WORD_BYTES, LINE_BYTES}
 use Rattle.resp.specs.declared.fault.RespFault.{RespFault}

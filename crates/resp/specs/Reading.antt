@@ -1,5 +1,5 @@
 -- The results of reading.
-use Rattle.std.specs.Prelude.{◌≡◌, ◌≢◌, ◌≤◌, ◌<◌, ◌^◌, ℕ, Bool, not, true, List, [], ◌∷◌, ◌++◌, length, All, decimal}
+use Rattle.std.specs.Prelude.{◌≡◌, ◌≢◌, ◌≤◌, ◌<◌, ◌^◌, ℕ, Bool, not, List, ◌∷◌, ◌++◌, length, All, decimal}
 use Rattle.std.specs.Char.{is_ascii_digit}
 use Rattle.resp.specs.declared.command.Next.{Next}
 use Rattle.resp.specs.declared.command.Next.TheVariants.{Command, Nothing, More}

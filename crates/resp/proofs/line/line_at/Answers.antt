@@ -1,5 +1,5 @@
 -- lines with words and without
-use Rattle.std.proofs.Common.{ap, sym, ◌∙◌, arith, length}
+use Rattle.std.proofs.Common.{ap, sym, ◌∙◌, arith}
 use Rattle.std.proofs.lemmas.List.{length-map}
 use Rattle.resp.specs.Grammar.{texts}
 use Rattle.resp.proofs.StreamLemmas.{empty_list, some_list}

@@ -1,5 +1,5 @@
 -- texts of no negative number
-use Rattle.std.proofs.Common.{ℤ, FitsSigned, ◌≢◌, arith}
+use Rattle.std.proofs.Common.{ℤ, FitsSigned, ◌≢◌}
 use Rattle.std.specs.Fmt.{signed_decimal}
 use Rattle.std.specs.Int.{w64}
 use Rattle.resp.proofs.StreamLemmas.{if_none}
