@@ -9,4 +9,6 @@ pub mod States
 pub mod Answers
 pub mod Connections
 pub mod Commands
+pub mod Reads
 pub mod Talks
+pub mod Stops

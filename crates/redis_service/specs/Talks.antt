@@ -55,15 +55,15 @@ Ends (faulty fault) rest talk written next =
     IsFaulty fault rest × (talk.is_over ≡ false) × (written ≡ error_bytes (fault_message fault)) × (next ≡ ended talk)
 Ends no_memory rest talk written next = (talk.is_over ≡ false) × (written ≡ no_memory_line) × (next ≡ ended talk)
 
--- the talk took the piece, and all commands that it completes are answered by these bytes; the pass then knows the last state
-pub record AnswersPiece (held : TalkState) (old : PassState) (piece written : List ℕ) (next : TalkState) (new : PassState) : Type 0 where
-  pub talk : TalkState
+-- commands that begin the bytes are answered, and what is told then; no command begins the rest
+pub record AnswersBytes (talk : TalkState) (old : PassState) (bytes written : List ℕ) (next : TalkState) (new : PassState) : Type 0 where
+  pub last : TalkState
   pub before : List ℕ
   pub rest : List ℕ
-  pub some : AnswersSome (without_rest held) old (held.rest ++ piece) before talk new rest
+  pub some : AnswersSome talk old bytes before last new rest
   pub ending : Ending
   pub tail : List ℕ
-  pub ends : Ends ending rest talk tail next
+  pub ends : Ends ending rest last tail next
   pub written_is : written ≡ before ++ tail
 
 -- the answer that breaks off: that to the next command, or what is told at the end
@@ -73,17 +73,25 @@ AnswersNext talk old rest whole next new =
     × AnswersSaid talk old said mid new × (next ≡ ended mid))
     ⊎ ((ending : Ending) × Ends ending rest talk whole next × (new ≡ old))
 
--- the talk took the piece, but the answers break off: one command was made, or an end told, whose answer is not wholly written,
--- and none after it. The talk is over
-pub record BreaksPiece (held : TalkState) (old : PassState) (piece written : List ℕ) (next : TalkState) (new : PassState) : Type 0 where
-  pub talk : TalkState
+-- the same, but the answers break off: one command was made, or an end told, whose answer is not wholly written, and none after
+-- it. The talk is over
+pub record BreaksBytes (talk : TalkState) (old : PassState) (bytes written : List ℕ) (next : TalkState) (new : PassState) : Type 0 where
+  pub last : TalkState
   pub between : PassState
   pub before : List ℕ
   pub rest : List ℕ
-  pub some : AnswersSome (without_rest held) old (held.rest ++ piece) before talk between rest
+  pub some : AnswersSome talk old bytes before last between rest
   pub whole : List ℕ
-  pub answers : AnswersNext talk between rest whole next new
+  pub answers : AnswersNext last between rest whole next new
   pub part : List ℕ
   pub cut : IsPart part whole
   pub written_is : written ≡ before ++ part
   pub over : next.is_over ≡ true
+
+-- the talk took the piece, and all commands that it completes are answered by these bytes; the pass then knows the last state
+abbrev pub AnswersPiece : TalkState → PassState → List ℕ → List ℕ → TalkState → PassState → Type 0
+AnswersPiece held old piece written next new = AnswersBytes (without_rest held) old (held.rest ++ piece) written next new
+
+-- the talk took the piece, but the answers to its commands break off
+abbrev pub BreaksPiece : TalkState → PassState → List ℕ → List ℕ → TalkState → PassState → Type 0
+BreaksPiece held old piece written next new = BreaksBytes (without_rest held) old (held.rest ++ piece) written next new

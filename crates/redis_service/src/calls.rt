@@ -22,6 +22,7 @@ pub fn make<H: Wait>(
 ) -> Result<ReplyKind, NoMemory>
     requires map { pass.old.map ≡ map.now }
     ensures same { pass.new.map ≡ map.now }
+    ensures passes { pass.new.view.passes ≡ pass.old.view.passes }
     ensures made { Made result pass.old (invocation_of call.now) found.new pass.new }
 {
     map.call_into(rt, pass, call, found)
@@ -55,6 +56,7 @@ pub fn get<H: Wait>(
 ) -> bool
     requires map { pass.old.map ≡ map.now }
     ensures same { pass.new.map ≡ map.now }
+    ensures passes { pass.new.view.passes ≡ pass.old.view.passes }
     ensures finds { Finds pass.old key.now (where_true result found.new) pass.new }
 {
     match make(rt, map, pass, &Call::Get { key }, found) {
@@ -74,6 +76,7 @@ pub fn remove<H: Wait>(
 ) -> bool
     requires map { pass.old.map ≡ map.now }
     ensures same { pass.new.map ≡ map.now }
+    ensures passes { pass.new.view.passes ≡ pass.old.view.passes }
     ensures removes { Removes pass.old key.now (where_true result found.new) pass.new }
 {
     match make(rt, map, pass, &Call::Remove { key }, found) {

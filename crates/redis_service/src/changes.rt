@@ -181,6 +181,7 @@ fn try_change<H: Wait>(
     requires map { pass.old.map ≡ map.now }
     requires within { IsWithin change.now }
     ensures same { pass.new.map ≡ map.now }
+    ensures passes { pass.new.view.passes ≡ pass.old.view.passes }
     ensures key { room.new.key ≡ room.old.key }
     ensures tried { MatchOption result (LosesTry room.old.key (Does change.now) pass.old pass.new)
         (λ replied. EndsTry room.old.key (Does change.now) pass.old (replied_bytes replied room.new.found) pass.new) }
@@ -216,6 +217,7 @@ fn try_often<H: Wait>(
     requires map { pass.old.map ≡ map.now }
     requires within { IsWithin change.now }
     ensures same { pass.new.map ≡ map.now }
+    ensures passes { pass.new.view.passes ≡ pass.old.view.passes }
     ensures key { room.new.key ≡ room.old.key }
     ensures tried { (before : PassState) → (tries : ℕ) → LosesTries room.old.key (Does change.now) tries before pass.old
         → MatchOption result ((more : ℕ) × LosesTries room.old.key (Does change.now) more before pass.new)
@@ -241,6 +243,7 @@ pub fn make_change<H: Wait>(
     requires map { pass.old.map ≡ map.now }
     requires within { IsWithin change.now }
     ensures same { pass.new.map ≡ map.now }
+    ensures passes { pass.new.view.passes ≡ pass.old.view.passes }
     ensures changes { AnswersChange room.old.key (Does change.now) pass.old (replied_bytes result room.new.found) pass.new }
 {
     for _ in rt.forever() {

@@ -15,6 +15,7 @@ use crate::calls::{get, make, remove, text_of};
 use crate::changes::{Change, make_change};
 use crate::reply::Replied;
 use crate::room::Room;
+use crate::several::found_if;
 use crate::telling::{
     say_ok, say_ok_if_done, say_ok_if_none, say_ok_if_some, say_one_if_done, say_one_if_none,
     say_value,
@@ -26,17 +27,6 @@ use bpf_model::Value;
 use redis_commands::{Condition, KeyAct};
 use std::mem;
 use std::sync::Wait;
-
-/// The value that was found, or nothing.
-fn found_if(was: bool) -> Replied
-    ensures { (found : List ℕ) → replied_bytes result found ≡ bulk (where_true was found) }
-{
-    if was {
-        Replied::Found
-    } else {
-        Replied::Nothing
-    }
-}
 
 /// The length of the value that was found.
 fn length_of(was: bool, found: &Value) -> Replied
@@ -87,6 +77,7 @@ fn set_always<H: Wait>(
 ) -> Replied
     requires map { pass.old.map ≡ map.now }
     ensures same { pass.new.map ≡ map.now }
+    ensures passes { pass.new.view.passes ≡ pass.old.view.passes }
     ensures answers { AnswersSet pass.old room.old.key room.old.value Always wants_old (replied_bytes result room.new.found) pass.new }
 {
     let Room {
@@ -106,6 +97,7 @@ fn set_if_absent<H: Wait>(
 ) -> Replied
     requires map { pass.old.map ≡ map.now }
     ensures same { pass.new.map ≡ map.now }
+    ensures passes { pass.new.view.passes ≡ pass.old.view.passes }
     ensures answers { AnswersSet pass.old room.old.key room.old.value IfAbsent wants_old (replied_bytes result room.new.found) pass.new }
 {
     let Room {
@@ -129,6 +121,7 @@ fn set_if_present<H: Wait>(
 ) -> Replied
     requires map { pass.old.map ≡ map.now }
     ensures same { pass.new.map ≡ map.now }
+    ensures passes { pass.new.view.passes ≡ pass.old.view.passes }
     ensures answers { AnswersSet pass.old room.old.key room.old.value IfPresent wants_old (replied_bytes result room.new.found) pass.new }
 {
     let Room {
@@ -153,6 +146,7 @@ fn set_if_equal<H: Wait>(
     requires map { pass.old.map ≡ map.now }
     requires expected { length expected.now ≤ VALUE_BYTES }
     ensures same { pass.new.map ≡ map.now }
+    ensures passes { pass.new.view.passes ≡ pass.old.view.passes }
     ensures answers { AnswersSet pass.old room.old.key room.old.value (IfEqual expected.now) false (replied_bytes result room.new.found) pass.new }
 {
     let Room {
@@ -181,6 +175,7 @@ fn set<H: Wait>(
     requires map { pass.old.map ≡ map.now }
     requires limits { longest (Set act.value.now (condition_by act.condition) act.wants_old) ≤ VALUE_BYTES }
     ensures same { pass.new.map ≡ map.now }
+    ensures passes { pass.new.view.passes ≡ pass.old.view.passes }
     ensures answers { AnswersSet pass.old room.old.key act.entry.value.now (condition_by act.entry.condition) act.entry.wants_old (replied_bytes result room.new.found) pass.new }
 {
     room.value.set_from(act.value);
@@ -210,6 +205,7 @@ fn put_new<H: Wait>(
     requires map { pass.old.map ≡ map.now }
     requires limits { length new.now ≤ VALUE_BYTES }
     ensures same { pass.new.map ≡ map.now }
+    ensures passes { pass.new.view.passes ≡ pass.old.view.passes }
     ensures answers { AnswersKey pass.old room.old.key (SetIfAbsent new.now) (replied_bytes result room.new.found) pass.new }
 {
     let Room {
@@ -230,6 +226,7 @@ fn get_and_put<H: Wait>(
     requires map { pass.old.map ≡ map.now }
     requires limits { length new.now ≤ VALUE_BYTES }
     ensures same { pass.new.map ≡ map.now }
+    ensures passes { pass.new.view.passes ≡ pass.old.view.passes }
     ensures answers { AnswersKey pass.old room.old.key (GetAndSet new.now) (replied_bytes result room.new.found) pass.new }
 {
     let Room {
@@ -250,6 +247,7 @@ fn remove_equal<H: Wait>(
     requires map { pass.old.map ≡ map.now }
     requires limits { length expected.now ≤ VALUE_BYTES }
     ensures same { pass.new.map ≡ map.now }
+    ensures passes { pass.new.view.passes ≡ pass.old.view.passes }
     ensures answers { AnswersKey pass.old room.old.key (DeleteIfEqual expected.now) (replied_bytes result room.new.found) pass.new }
 {
     let Room {
@@ -267,6 +265,7 @@ fn remove_equal<H: Wait>(
 fn look<H: Wait>(rt: &H, map: &StripedMap, pass: &mut Pass, room: &mut Room) -> bool
     requires map { pass.old.map ≡ map.now }
     ensures same { pass.new.map ≡ map.now }
+    ensures passes { pass.new.view.passes ≡ pass.old.view.passes }
     ensures finds { Finds pass.old room.old.key (where_true result room.new.found) pass.new }
 {
     get(rt, map, pass, &room.key, &mut room.found)
@@ -283,6 +282,7 @@ pub fn answer_key<H: Wait>(
     requires map { pass.old.map ≡ map.now }
     requires limits { longest (act_by act.now) ≤ VALUE_BYTES }
     ensures same { pass.new.map ≡ map.now }
+    ensures passes { pass.new.view.passes ≡ pass.old.view.passes }
     ensures answers { AnswersKey pass.old room.old.key (act_by act.now) (replied_bytes result room.new.found) pass.new }
 {
     match *act {

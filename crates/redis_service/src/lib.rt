@@ -7,11 +7,14 @@
 
 mod calls;
 mod changes;
+mod connection;
 mod desk;
 mod keyed;
 mod lines;
+mod reader;
 mod reply;
 mod room;
+mod several;
 mod talk;
 mod telling;
 mod texts;

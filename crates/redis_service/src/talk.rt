@@ -1,6 +1,6 @@
 //! A talk with one client between two pieces.
-ghost use Rattle.std.specs.Prelude.{◌≡◌, [], ◌↔◌, ◌≢◌, IsTrue};
-ghost use Rattle.redis_service.specs.Talks.{begun};
+ghost use Rattle.std.specs.Prelude.{◌≡◌, [], ◌↔◌, ◌≢◌, IsTrue, IsFalse};
+ghost use Rattle.redis_service.specs.States.{begun, ended, renamed};
 
 use std::alloc::Global;
 use std::marker::Model;
@@ -16,7 +16,7 @@ pub struct RedisTalk {
 }
 
 impl Model for RedisTalk {
-    ghost use Rattle.redis_service.specs.Talks.{TalkState};
+    ghost use Rattle.redis_service.specs.States.{TalkState};
 
     ghost Value = { TalkState };
 
@@ -41,5 +41,41 @@ impl RedisTalk {
         ensures { IsTrue result ↔ (self.now.rest ≢ []) }
     {
         !self.rest.is_empty()
+    }
+
+    /// Ends the talk.
+    pub(crate) fn end(&mut self, alloc: Global)
+        ensures { self.new ≡ ended self.old }
+    {
+        self.rest = Vec::new(alloc);
+        self.is_over = true;
+    }
+
+    /// Keeps the beginning of a command, and returns whether memory was there.
+    pub(crate) fn keep(&mut self, alloc: Global, rest: &[u8]) -> bool
+        ensures kept { IsTrue result → self.new ≡ record self.old { rest = rest.now } }
+        ensures same { IsFalse result → self.new ≡ self.old }
+    {
+        match Vec::from_slice(alloc, rest) {
+            Ok(kept) => {
+                self.rest = kept;
+                true
+            }
+            Err(_) => false,
+        }
+    }
+
+    /// Keeps the client's name, and returns whether memory was there.
+    pub(crate) fn rename(&mut self, alloc: Global, name: &[u8]) -> bool
+        ensures kept { IsTrue result → self.new ≡ renamed self.old name.now }
+        ensures same { IsFalse result → self.new ≡ self.old }
+    {
+        match Vec::from_slice(alloc, name) {
+            Ok(kept) => {
+                self.name = kept;
+                true
+            }
+            Err(_) => false,
+        }
     }
 }

@@ -8,6 +8,7 @@ use Rattle.redis_service.proofs.changes.try_often.Given as goal
 abbrev pub invariant-loop : goal.invariant-loop
 invariant-loop g l = record {
   map : l.pass.map ≡ l.map;
+  passes : l.pass.view.passes ≡ l.fn.pass.view.passes;
   key : l.room.key ≡ l.fn.room.key;
   lost : (before : PassState) (tries : ℕ) → LosesTries l.fn.room.key (Does l.change) tries before l.fn.pass
       → (more : ℕ) × LosesTries l.fn.room.key (Does l.change) more before l.pass;
