@@ -1,0 +1,335 @@
+//! What answers the commands of a worker's clients.
+ghost use Rattle.std.specs.Prelude.{◌≡◌, ◌≢◌, ℕ, List, true, false, All, OnOk, OnErr, IfOk};
+ghost use Rattle.bin_stripes.specs.Passes.{ServesSameMap};
+ghost use Rattle.devices.specs.Devices.{CanWrite, TakesBytes, TakesThenFails};
+ghost use Rattle.redis_commands.specs.Commands.{asked_by, act_by, texts};
+ghost use Rattle.redis_commands.specs.Commands.Asked.{OnKey};
+ghost use Rattle.redis_commands.specs.Limits.{IsKey, IsWithinLimits};
+ghost use Rattle.redis_service.specs.Answers.{AnswersKey, AnswersKeys};
+ghost use Rattle.redis_service.specs.Commands.{AnswersCommand, AnswersWords};
+ghost use Rattle.redis_service.specs.Sending.{Sends};
+ghost use Rattle.redis_service.specs.Stops.{Stops, AnswersAll, FailsAt, TellsEnd, FailsEnd};
+ghost use Rattle.redis_service.specs.Talks.{AnswersBytes, BreaksBytes, AnswersPiece, BreaksPiece};
+
+use crate::connection::answer_connection;
+use crate::keyed::answer_key;
+use crate::lines::no_memory_line;
+use crate::reader::{Came, Reader};
+use crate::reply::Replied;
+use crate::room::Room;
+use crate::several::{count_each, get_each, put_each, remove_each};
+use crate::talk::RedisTalk;
+use bin_stripes::{Pass, StripedMap};
+use devices::{Failed, Sink, write_all};
+use redis_commands::{Command, CommandFault, KeyAct, KeysAct, command_of};
+use redis_scripts::Scripts;
+use resp::put_error;
+use std::alloc::Global;
+use std::marker::Model;
+use std::mem;
+use std::sync::Wait;
+
+/// Why a talk ended at a piece.
+#[derive(Clone, Copy, Debug, PartialEq, Eq)]
+pub enum TalkEnd {
+    /// The client asked for it, or its bytes can't be read as commands, or memory to read on or to keep them was refused. All is
+    /// answered that is owed.
+    Over,
+    /// Memory for the piece was refused, and the piece was not taken.
+    NoMemory,
+    /// A write failed. The sink has a beginning of the answers owed to it.
+    WriteFailed,
+}
+
+/// Room of a worker for the commands of all its clients, and the map that they are about.
+#[derive(Drop)]
+pub struct RedisDesk<'a> {
+    alloc: Global,
+    map: &'a StripedMap,
+    scripts: &'a Scripts<'a>,
+    room: Room,
+}
+
+impl<'a> Model for RedisDesk<'a> {
+    ghost use Rattle.atomic_table.specs.Seated.{TableId, table_id_coded};
+
+    ghost Value = { TableId };
+
+    ghost coded = { table_id_coded };
+
+    ghost view = { λ d. d.map.now };
+}
+
+/// Tells why nothing more is read from this rest, if it is to be told, and keeps the rest if a command begins in it. Returns whether
+/// the talk is over.
+fn finish<W: Sink>(
+    alloc: Global,
+    talk: &mut RedisTalk,
+    came: Came,
+    rest: &[u8],
+    sink: &mut W,
+) -> Result<bool, Failed>
+    requires sink { CanWrite (W.state sink.old) }
+    requires stops { Stops came talk.old rest.now }
+    ensures ok { IfOk result (λ over. TellsEnd (W.state sink.old) (W.state sink.new) rest.now talk.old talk.new × (talk.new.is_over ≡ over)) }
+    ensures err { OnErr result (FailsEnd (W.state sink.old) (W.state sink.new) rest.now talk.old talk.new × (talk.new.is_over ≡ true)) }
+    ensures number { talk.new.number ≡ talk.old.number }
+{
+    if talk.is_over {
+        talk.end(alloc);
+        return Ok(true);
+    }
+    if let Came::Faulty(fault) = came {
+        talk.end(alloc);
+        put_error(sink, fault.message().as_slice())?;
+        return Ok(true);
+    }
+    if let Came::More = came {
+        if talk.keep(alloc, rest) {
+            return Ok(false);
+        }
+    }
+    talk.end(alloc);
+    write_all(sink, no_memory_line())?;
+    Ok(true)
+}
+
+impl<'a> RedisDesk<'a> {
+    /// Makes the room. Takes no memory.
+    pub fn new(alloc: Global, map: &'a StripedMap, scripts: &'a Scripts<'a>) -> RedisDesk<'a>
+        ensures { result ≡ map.now }
+    {
+        RedisDesk {
+            alloc,
+            map,
+            scripts,
+            room: Room::new(),
+        }
+    }
+
+    /// Answers a command about one key.
+    fn answer_key<H: Wait, W: Sink>(
+        &mut self,
+        rt: &H,
+        pass: &mut Pass,
+        key: &[u8],
+        act: &KeyAct<'_>,
+        sink: &mut W,
+    ) -> Result<(), Failed>
+        requires map { pass.old.map ≡ self.old }
+        requires limits { IsWithinLimits (OnKey key.now (act_by act.now)) }
+        requires sink { CanWrite (W.state sink.old) }
+        ensures desk { self.new ≡ self.old }
+        ensures same { pass.new.map ≡ self.old }
+        ensures passes { pass.new.view.passes ≡ pass.old.view.passes }
+        ensures answers { (written : List ℕ) × Sends result (W.state sink.old) (W.state sink.new) written
+            × AnswersKey pass.old key.now (act_by act.now) written pass.new }
+    {
+        self.room.key.set_from(key);
+        let replied = answer_key(rt, self.map, pass, &mut self.room, act);
+        replied.send(self.room.found.as_slice(), sink)
+    }
+
+    /// Answers a command about several keys.
+    fn answer_keys<H: Wait, W: Sink>(
+        &mut self,
+        rt: &H,
+        pass: &mut Pass,
+        keys: &[&[u8]],
+        act: KeysAct,
+        sink: &mut W,
+    ) -> Result<(), Failed>
+        requires map { pass.old.map ≡ self.old }
+        requires keys { All IsKey (texts keys.now) }
+        requires sink { CanWrite (W.state sink.old) }
+        ensures desk { self.new ≡ self.old }
+        ensures same { pass.new.map ≡ self.old }
+        ensures passes { pass.new.view.passes ≡ pass.old.view.passes }
+        ensures answers { (written : List ℕ) × Sends result (W.state sink.old) (W.state sink.new) written
+            × AnswersKeys pass.old (texts keys.now) act written pass.new }
+    {
+        let room = &mut self.room;
+        match act {
+            KeysAct::GetEach => get_each(rt, self.map, pass, room, keys, sink),
+            KeysAct::Delete => {
+                let count = remove_each(rt, self.map, pass, room, keys);
+                Replied::Integer(count as i64).send(&[], sink)
+            }
+            KeysAct::CountPresent => {
+                let count = count_each(rt, self.map, pass, room, keys);
+                Replied::Integer(count as i64).send(&[], sink)
+            }
+        }
+    }
+
+    /// Answers a command.
+    fn answer_command<H: Wait, W: Sink>(
+        &mut self,
+        rt: &H,
+        pass: &mut Pass,
+        talk: &mut RedisTalk,
+        command: &Command<'_>,
+        sink: &mut W,
+    ) -> Result<(), Failed>
+        requires map { pass.old.map ≡ self.old }
+        requires limits { IsWithinLimits (asked_by command.now) }
+        requires sink { CanWrite (W.state sink.old) }
+        ensures desk { self.new ≡ self.old }
+        ensures same { pass.new.map ≡ self.old }
+        ensures passes { pass.new.view.passes ≡ pass.old.view.passes }
+        ensures number { talk.new.number ≡ talk.old.number }
+        ensures answers { (written : List ℕ) × Sends result (W.state sink.old) (W.state sink.new) written
+            × AnswersCommand talk.old pass.old (asked_by command.now) written talk.new pass.new }
+    {
+        match *command {
+            Command::OnKey { key, act } => self.answer_key(rt, pass, key, &act, sink),
+            Command::OnKeys { keys, act } => self.answer_keys(rt, pass, keys, act, sink),
+            Command::SetEach { words } => {
+                put_each(rt, self.map, pass, &mut self.room, words).send(&[], sink)
+            }
+            Command::Connection(command) => answer_connection(self.alloc, talk, &command, sink),
+            _ => put_error(sink, b"ERR not served"),
+        }
+    }
+
+    /// Answers the words of a command.
+    fn answer<H: Wait, W: Sink>(
+        &mut self,
+        rt: &H,
+        pass: &mut Pass,
+        talk: &mut RedisTalk,
+        words: &[&[u8]],
+        sink: &mut W,
+    ) -> Result<(), Failed>
+        requires map { pass.old.map ≡ self.old }
+        requires sink { CanWrite (W.state sink.old) }
+        ensures desk { self.new ≡ self.old }
+        ensures same { pass.new.map ≡ self.old }
+        ensures passes { pass.new.view.passes ≡ pass.old.view.passes }
+        ensures number { talk.new.number ≡ talk.old.number }
+        ensures answers { (written : List ℕ) × Sends result (W.state sink.old) (W.state sink.new) written
+            × AnswersWords talk.old pass.old (texts words.now) written talk.new pass.new }
+    {
+        match command_of(words) {
+            Ok(command) => self.answer_command(rt, pass, talk, &command, sink),
+            Err(CommandFault::WebRequest) => {
+                talk.is_over = true;
+                Ok(())
+            }
+            Err(fault) => put_error(sink, fault.text().as_slice()),
+        }
+    }
+
+    /// Answers the commands that the reader reads, one after the other, until the talk is over or there is none. Returns why there is
+    /// none.
+    fn answer_all<'b, H: Wait, W: Sink>(
+        &mut self,
+        rt: &H,
+        pass: &mut Pass,
+        talk: &mut RedisTalk,
+        reader: &mut Reader<'b>,
+        sink: &mut W,
+    ) -> Result<Came, Failed>
+        requires map { pass.old.map ≡ self.old }
+        requires sink { CanWrite (W.state sink.old) }
+        ensures desk { self.new ≡ self.old }
+        ensures same { pass.new.map ≡ self.old }
+        ensures passes { pass.new.view.passes ≡ pass.old.view.passes }
+        ensures number { talk.new.number ≡ talk.old.number }
+        ensures ok { IfOk result (λ came. AnswersAll (W.state sink.old) (W.state sink.new) talk.old pass.old reader.old.rest.now came talk.new pass.new reader.new.rest.now) }
+        ensures err { OnErr result (FailsAt (W.state sink.old) (W.state sink.new) talk.old pass.old reader.old.rest.now talk.new pass.new) }
+    {
+        while !talk.is_over {
+            match reader.next() {
+                Came::Command => {
+                    let Ok(()) = self.answer(rt, pass, talk, &reader.words, sink) else {
+                        return Err(Failed);
+                    };
+                }
+                Came::Nothing => {}
+                came => return Ok(came),
+            }
+        }
+        Ok(Came::More)
+    }
+
+    /// Answers the commands that the bytes begin with, and keeps what follows the last whole one.
+    fn take_bytes<H: Wait, W: Sink>(
+        &mut self,
+        rt: &H,
+        pass: &mut Pass,
+        talk: &mut RedisTalk,
+        bytes: &[u8],
+        sink: &mut W,
+    ) -> Result<(), TalkEnd>
+        requires map { pass.old.map ≡ self.old }
+        requires sink { CanWrite (W.state sink.old) }
+        ensures desk { self.new ≡ self.old }
+        ensures same { pass.new.map ≡ self.old }
+        ensures passes { pass.new.view.passes ≡ pass.old.view.passes }
+        ensures number { talk.new.number ≡ talk.old.number }
+        ensures ok { OnOk result ((talk.new.is_over ≡ false) × ((written : List ℕ)
+            × TakesBytes (W.state sink.old) (W.state sink.new) written
+            × AnswersBytes talk.old pass.old bytes.now written talk.new pass.new)) }
+        ensures over { result ≡ Err TalkEnd.Over → (talk.new.is_over ≡ true) × ((written : List ℕ)
+            × TakesBytes (W.state sink.old) (W.state sink.new) written
+            × AnswersBytes talk.old pass.old bytes.now written talk.new pass.new) }
+        ensures memory { result ≢ Err TalkEnd.NoMemory }
+        ensures write { result ≡ Err TalkEnd.WriteFailed → ((written : List ℕ)
+            × TakesThenFails (W.state sink.old) (W.state sink.new) written
+            × BreaksBytes talk.old pass.old bytes.now written talk.new pass.new) }
+    {
+        let mut reader = Reader::new(self.alloc, bytes);
+        let Ok(came) = self.answer_all(rt, pass, talk, &mut reader, sink) else {
+            talk.end(self.alloc);
+            return Err(TalkEnd::WriteFailed);
+        };
+        match finish(self.alloc, talk, came, reader.rest, sink) {
+            Ok(true) => Err(TalkEnd::Over),
+            Ok(false) => Ok(()),
+            Err(Failed) => Err(TalkEnd::WriteFailed),
+        }
+    }
+
+    /// Answers the commands that this piece completes, in order, each into the sink before it looks at the next one. Keeps what
+    /// follows the last whole command. An `Err` says why the talk ended. Waits until the stripes of the commands' keys are free.
+    pub fn take<H: Wait, W: Sink>(
+        &mut self,
+        rt: &H,
+        pass: &mut Pass,
+        talk: &mut RedisTalk,
+        piece: &[u8],
+        sink: &mut W,
+    ) -> Result<(), TalkEnd>
+        requires map { pass.old.map ≡ self.old }
+        requires sink { CanWrite (W.state sink.old) }
+        requires open { talk.old.is_over ≡ false }
+        ensures desk { self.new ≡ self.old }
+        ensures same { ServesSameMap pass.old pass.new }
+        ensures number { talk.new.number ≡ talk.old.number }
+        // The piece was taken, and all its commands are answered.
+        ensures ok { OnOk result ((talk.new.is_over ≡ false) × ((written : List ℕ)
+            × TakesBytes (W.state sink.old) (W.state sink.new) written
+            × AnswersPiece talk.old pass.old piece.now written talk.new pass.new)) }
+        // The client asked for the end, or its bytes have a fault, whose text ends the answers.
+        ensures over { result ≡ Err TalkEnd.Over → (talk.new.is_over ≡ true) × ((written : List ℕ)
+            × TakesBytes (W.state sink.old) (W.state sink.new) written
+            × AnswersPiece talk.old pass.old piece.now written talk.new pass.new) }
+        ensures memory { result ≡ Err TalkEnd.NoMemory
+            → (talk.new ≡ talk.old) × (pass.new ≡ pass.old) × (W.state sink.new ≡ W.state sink.old) }
+        // One command was made whose answer is not wholly written, and none after it.
+        ensures write { result ≡ Err TalkEnd.WriteFailed → ((written : List ℕ)
+            × TakesThenFails (W.state sink.old) (W.state sink.new) written
+            × BreaksPiece talk.old pass.old piece.now written talk.new pass.new) }
+    {
+        if talk.rest.is_empty() {
+            return self.take_bytes(rt, pass, talk, piece, sink);
+        }
+        let mut held = mem::replace(&mut talk.rest, Vec::new(self.alloc));
+        if held.extend_from_slice(piece).is_err() {
+            talk.rest = held;
+            return Err(TalkEnd::NoMemory);
+        }
+        self.take_bytes(rt, pass, talk, &held, sink)
+    }
+}
