@@ -30,6 +30,10 @@ some_is x y is = cc
 none_some : {A : Type 0} (slot : Option A) (x : A) → slot ≡ None → slot ≡ Some x → ⊥
 none_some slot x none some = absurd cc
 
+-- it came with this connection, to the port of this protocol
+abbrev pub arrived : {C : Type 0} → C → Protocol → Arrival C
+arrived channel protocol = record { channel = channel; protocol = protocol }
+
 -- a talk that begins is in its protocol, and nothing was said in it
 begins_in : (number : ℕ) (protocol : Protocol) → protocol_of (begins_so number protocol) ≡ protocol
 begins_in number protocols.Frames = refl
@@ -278,12 +282,12 @@ module _ {C : Type 0} (state : C → ChannelState) (gave : PassState → C → P
       )
 
   -- a client comes, and takes a seat
-  pub one_comes : (old : Known) (turns : List Turn) (new : Known) (n number : ℕ) (seats room after : Slab (Client C)) (seat : ℕ) (came : Arrival C) (now : C) (client : Client C) → gave new.pass came.channel came.protocol
-      → state now ≡ state came.channel
-      → client ≡ record { number = n; channel = now; talk = begins_so number came.protocol; tokens = []; owed = record { rest = []; failures = 0 }; leaving = None }
+  pub one_comes : (old : Known) (turns : List Turn) (new : Known) (n number : ℕ) (seats room after : Slab (Client C)) (seat : ℕ) (came : Arrival C) (now : C) (talk : Talk) (client : Client C) → gave new.pass came.channel came.protocol
+      → state now ≡ state came.channel → talk ≡ begins_so number came.protocol
+      → client ≡ record { number = n; channel = now; talk = talk; tokens = []; owed = record { rest = []; failures = 0 }; leaving = None }
       → room ≡ record seats { capacity = room.capacity } → Updates room after seat (Some client)
       → IsAttended state gave old turns new n seats → IsAttended state gave old turns new (n + 1) after
-  one_comes old turns new n number seats room after seat came now client given same is grown updates (life, seated) = (
+  one_comes old turns new n number seats room after seat came now talk client given same begins is grown updates (life, seated) = (
     one_more_lives old turns new n number came now life given same,
     takes_seat old turns new (n + 1) seats after seat client (more_seated old turns new n seats seated) none stands (record {
       changed = updates.changed;
@@ -295,7 +299,7 @@ module _ {C : Type 0} (state : C → ChannelState) (gave : PassState → C → P
 
     stands : IsClient state gave old turns new (n + 1) client
     stands = subst (λ (c : Client C). IsClient state gave old turns new (n + 1) c) (sym is)
-        (omega arith, (came, comes_now old turns new n came life.moves given (life.no_other n (omega arith)), first_stands turns n number came now (life.no_other n (omega arith)) same))
+        (omega arith, (came, comes_now old turns new n came life.moves given (life.no_other n (omega arith)), subst (λ (t : Talk). Stands state came now (exchanges_of n turns) [] t (record { rest = []; failures = 0 }) None) (sym begins) (first_stands turns n number came now (life.no_other n (omega arith)) same)))
 
   -- nothing was told to it
   told_none : (pass : PassState) (came : Arrival C) (now next : C) → gave pass came.channel came.protocol → state now ≡ state came.channel → Keeps (state now).left (state next).left → Keeps (state now).held (state next).held
@@ -368,8 +372,9 @@ module _ {C : Type 0} (state : C → ChannelState) (gave : PassState → C → P
     nothing : (i : ℕ) → get seats i ≡ None
     nothing i = ap (λ (slots : List (Option (Client C))). slice_index_or slots i None) empty
 
-  pub begins : (start first : Known) → start ≡ first → (seats : Slab (Client C)) → seats.slots ≡ [] → IsAttended state gave start [] first 0 seats
-  begins start first same seats empty = subst (λ (k : Known). IsAttended state gave start [] k 0 seats) same (none_came start seats empty)
+  pub begins : (start first : Known) (n : ℕ) → first ≡ start → n ≡ 0 → (seats : Slab (Client C)) → seats.slots ≡ [] → IsAttended state gave start [] first n seats
+  begins start first n same none seats empty =
+      subst (λ (k : Known). IsAttended state gave start [] k n seats) (sym same) (subst (λ (m : ℕ). IsAttended state gave start [] start m seats) (sym none) (none_came start seats empty))
 
   -- no turn, and turns after turns
   pub no_more : (old : Known) (turns : List Turn) (new : Known) (n : ℕ) (seats : Slab (Client C)) → IsAttended state gave old turns new n seats

@@ -5,3 +5,9 @@ use Rattle.crews.proofs.turn.parting_of.Goals as goal
 
 pub returns-in_default : goal.returns-in_default
 returns-in_default c talk exchanges read written rest long says = cut_front (protocol_of talk) exchanges read written rest (any_cut c.args.leaving talk exchanges read (written ++ rest) says)
+
+pub returns-in_default-2 : goal.returns-in_default-2
+returns-in_default-2 c talk exchanges read written rest long says = cut_front (protocol_of talk) exchanges read written rest (any_cut c.args.leaving talk exchanges read (written ++ rest) says)
+
+pub returns-in_default-4 : goal.returns-in_default-4
+returns-in_default-4 c talk exchanges read written rest long says = cut_front (protocol_of talk) exchanges read written rest (any_cut c.args.leaving talk exchanges read (written ++ rest) says)
