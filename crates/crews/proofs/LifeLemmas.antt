@@ -1,12 +1,11 @@
 -- Turns one after the other.
-use Rattle.std.proofs.Common.{◌≡◌, ◌≢◌, ◌==◌, if◌then◌else◌, ℕ, ◌<◌, ◌≤◌, List, [], ◌∷◌, ◌++◌, length, map, Bool, true, false, Option, Some, None, flat_map, refl, sym, ap, subst, ◌∙◌, append-nil, append_assoc, eq-eqb, ne_eqb, inl, inr}
+use Rattle.std.proofs.Common.{◌≡◌, ◌≢◌, ◌==◌, if◌then◌else◌, ℕ, List, [], ◌∷◌, ◌++◌, Bool, true, false, refl, sym, ap, subst, ◌∙◌, append-nil, append_assoc, eq-eqb, ne_eqb}
 use Rattle.std.proofs.lemmas.List.{map-append}
-use Rattle.std.proofs.lemmas.List.Concat.{flat_map-append}
 use Rattle.bin_stripes.specs.Passes.{PassState}
 use Rattle.client_protocol.specs.Frames.{Held}
 use Rattle.program_registry.specs.declared.registry.ProgramToken.{ProgramToken}
 use Rattle.redis_service.specs.Talks.{TalkState}
-use Rattle.sessions.specs.Conversations.{AnswersPiece, Exchange, Converses}
+use Rattle.sessions.specs.Conversations.{Exchange, Converses}
 use Rattle.crews.specs.Stations.{Station}
 use Rattle.crews.specs.Steps.{CrewServes}
 use Rattle.crews.specs.Talks.{AnswersEach}

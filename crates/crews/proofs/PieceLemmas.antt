@@ -1,5 +1,5 @@
 -- What a piece of a client's bytes adds to what the client was told.
-use Rattle.std.proofs.Common.{◌≡◌, ◌⊎◌, ℕ, ◌≤◌, List, [], ◌∷◌, ◌++◌, length, Bool, true, false, Option, Some, None, Result, Ok, Err, OnOk, MatchResult, flat_map, refl, sym, ap, subst, ◌∙◌, append-nil, append_assoc, inl, inr}
+use Rattle.std.proofs.Common.{◌≡◌, ◌⊎◌, ℕ, ◌≤◌, List, [], ◌∷◌, ◌++◌, length, true, false, Option, Some, None, Result, Ok, Err, OnOk, MatchResult, flat_map, refl, sym, ap, subst, ◌∙◌, append-nil, append_assoc, inl, inr}
 use Rattle.std.proofs.lemmas.List.Concat.{flat_map-append}
 use Rattle.bin_stripes.specs.Passes.{PassState, ServesSameMap}
 use Rattle.client_protocol.specs.declared.fault.ProtocolFault.{ProtocolFault}
@@ -22,13 +22,13 @@ use Rattle.sessions.specs.declared.session.SessionEnd.TheVariants as session
 use Rattle.sessions.specs.declared.session.conversation.ConversationEnd.{ConversationEnd}
 use Rattle.sessions.specs.declared.session.conversation.ConversationEnd.TheVariants.{Refused, NoMemory, WriteFailed}
 use Rattle.crews.specs.declared.clients.Parting.{Parting}
-use Rattle.crews.specs.declared.clients.Parting.TheVariants.{Ended, Over}
+use Rattle.crews.specs.declared.clients.Parting.TheVariants.{Ended}
 use Rattle.crews.specs.declared.talk.Talk.{Talk}
 use Rattle.crews.specs.declared.talk.Talk.TheVariants.{Frames, Commands}
 use Rattle.crews.specs.Stations.{Station}
 use Rattle.crews.specs.Steps.{CrewServes}
-use Rattle.crews.specs.Talks.{protocol_of, IsOpen, IsOver, HasFault, AnswersCommands, BreaksCommands, Talked, Breaks}
-use Rattle.crews.specs.Partings.{AllSaid, LacksPiece, SaidInPart, SaysSo, no_memory_told, pieces_of, answers_of}
+use Rattle.crews.specs.Talks.{protocol_of, IsOpen, AnswersCommands, Talked, Breaks}
+use Rattle.crews.specs.Partings.{AllSaid, LacksPiece, SaidInPart, SaysSo, no_memory_told}
 use Rattle.crews.specs.Lives.{Known, known, KeepsNumbers}
 use Rattle.crews.specs.Turns.{TellsLast, LeavesAt, LeavesTalk, SaysMore}
 use Rattle.crews.proofs.LifeLemmas.{converses_on, each_on, numbers_stay}

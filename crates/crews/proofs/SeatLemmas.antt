@@ -1,5 +1,5 @@
 -- Clients that leave their seats, have turns, and take seats.
-use Rattle.std.proofs.Common.{◌≡◌, ◌≢◌, ◌⊎◌, ℕ, ◌+◌, ◌<◌, ◌≤◌, List, [], ◌∷◌, ◌++◌, length, take, drop, Option, Some, None, refl, sym, ap, subst, ◌∙◌, append-nil, append_assoc, take-append-drop, slice_index_or, inl, inr, arith}
+use Rattle.std.proofs.Common.{◌≡◌, ◌≢◌, ℕ, ◌+◌, ◌<◌, List, [], ◌++◌, take, drop, Option, Some, None, refl, sym, ap, subst, ◌∙◌, append-nil, append_assoc, take-append-drop, slice_index_or, inl, inr, arith}
 use Rattle.std.proofs.lemmas.Bool.{cases_eq}
 use Rattle.std.proofs.KnownBytes.{Appends-nil, Appends-kept, Appends-trans, Consumes-nil, Consumes-kept}
 use Rattle.std.specs.Io.KnownBytes.{Appends, Consumes, Keeps}
@@ -19,7 +19,7 @@ use Rattle.crews.specs.declared.turn.Client.{Client}
 use Rattle.crews.specs.Stations.{Station}
 use Rattle.crews.specs.Talks.{protocol_of, begins_so, IsOpen}
 use Rattle.crews.specs.Partings.{SaysSo, not_kept_told}
-use Rattle.crews.specs.Lives.{Arrival, Known, Moves, KeepsNumbers, Turn, all_exchanges, exchanges_of, Stands, HasCome, HasParted, IsOfClient, Life}
+use Rattle.crews.specs.Lives.{Arrival, Known, Moves, Turn, all_exchanges, exchanges_of, Stands, HasCome, HasParted, IsOfClient, Life}
 use Rattle.crews.specs.Turns.{TurnsTo}
 use Rattle.crews.specs.Seats.{IsClient, Seated, HasNone, IsAttended}
 use Rattle.crews.proofs.LifeLemmas.{moves_by_turns, numbers_stay, numbers_go_on, turns_of, exchanges_grow, exchanges_stay}

@@ -1,13 +1,12 @@
 -- How a client stands after a turn.
-use Rattle.std.proofs.Common.{◌≡◌, ℕ, List, [], ◌∷◌, ◌++◌, length, Bool, true, false, Option, Some, None, is_some, refl, sym, ap, subst, ◌∙◌, append-nil, append_assoc, inl, inr}
-use Rattle.std.specs.Io.KnownBytes.{Appends, Consumes, Keeps}
+use Rattle.std.proofs.Common.{◌≡◌, ℕ, List, [], ◌∷◌, ◌++◌, length, Bool, false, Option, Some, None, is_some, refl, sym, ap, subst, ◌∙◌, append-nil, append_assoc, inl, inr}
+use Rattle.std.specs.Io.KnownBytes.{Consumes, Keeps}
 use Rattle.std.proofs.KnownBytes.{Appends-trans, Appends-kept, Consumes-trans, Consumes-kept}
 use Rattle.client_protocol.specs.Faults.{protocol_fault_number}
 use Rattle.program_registry.specs.declared.registry.ProgramToken.{ProgramToken}
 use Rattle.devices.specs.Channels.{ChannelState, OwedState, TakesOwed, IsKept}
 use Rattle.sessions.specs.Conversations.{Exchange}
 use Rattle.sessions.specs.Sessions.{refusal}
-use Rattle.sessions.specs.declared.session.SessionEnd.{SessionEnd}
 use Rattle.sessions.specs.declared.session.SessionEnd.TheVariants as session
 use Rattle.crews.specs.declared.clients.Parting.{Parting}
 use Rattle.crews.specs.declared.clients.Parting.TheVariants.{Ended, Over, LetGo, NotKept}
@@ -15,8 +14,8 @@ use Rattle.crews.specs.declared.clients.Protocol.{Protocol}
 use Rattle.crews.specs.declared.talk.Talk.{Talk}
 use Rattle.crews.specs.Stations.{Station}
 use Rattle.crews.specs.Talks.{protocol_of, IsOpen, IsBetween, IsInside}
-use Rattle.crews.specs.Partings.{IsCutShort, EndsSo, PartsSo, SaysSo, no_memory_told}
-use Rattle.crews.specs.Lives.{Arrival, Known, Moves, KeepsTokens, KeepsNumbers, Stands}
+use Rattle.crews.specs.Partings.{IsCutShort, PartsSo, SaysSo, no_memory_told}
+use Rattle.crews.specs.Lives.{Arrival, Known, Stands}
 use Rattle.crews.specs.Turns.{SaysMore, TurnsTo}
 use Rattle.crews.proofs.LifeLemmas.{tokens_go_on, numbers_stay}
 use Rattle.crews.proofs.PieceLemmas.{front_all, front_of_front}

@@ -1,4 +1,4 @@
-use Rattle.std.proofs.Common.{◌≡◌, ◌≤◌, List, length, take, refl, sym, ap, subst, arith, ◌++◌}
+use Rattle.std.proofs.Common.{List, take, sym, ap, subst, arith, ◌++◌}
 use Rattle.bin_stripes.specs.Passes.{PassState}
 use Rattle.crews.specs.declared.talk.Talk.TheVariants.{Commands}
 use Rattle.crews.specs.Lives.{known}

@@ -1,4 +1,4 @@
-use Rattle.std.proofs.Common.{◌≡◌, ◌≤◌, ℕ, List, length, take, refl, sym, ap, subst, ◌∙◌, arith, ◌++◌, None}
+use Rattle.std.proofs.Common.{take, sym, subst, arith, ◌++◌, None}
 use Rattle.client_protocol.specs.Frames.{Held}
 use Rattle.crews.specs.declared.talk.Talk.TheVariants.{Frames}
 use Rattle.crews.specs.Lives.{known}

@@ -1,6 +1,6 @@
-use Rattle.std.proofs.Common.{◌≡◌, [], refl, ap}
+use Rattle.std.proofs.Common.{[], refl, ap}
 use Rattle.crews.specs.Crews.{station}
-use Rattle.crews.specs.Lives.{Known, known}
+use Rattle.crews.specs.Lives.{known}
 use Rattle.crews.proofs.LifeLemmas.{known_same}
 use Rattle.crews.proofs.attending.begun.Goals as goal
 

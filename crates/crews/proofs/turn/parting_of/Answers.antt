@@ -1,6 +1,6 @@
-use Rattle.std.proofs.Common.{◌≡◌, sym, subst, ap, ◌∙◌, arith, Some, ◌++◌}
+use Rattle.std.proofs.Common.{◌++◌}
 use Rattle.crews.specs.Talks.{protocol_of}
-use Rattle.crews.proofs.TurnLemmas.{any_cut, cut_front, none_owed}
+use Rattle.crews.proofs.TurnLemmas.{any_cut, cut_front}
 use Rattle.crews.proofs.turn.parting_of.Goals as goal
 
 pub returns-in_default : goal.returns-in_default

@@ -1,4 +1,4 @@
-use Rattle.std.proofs.Common.{◌≡◌, ◌≤◌, false, true, Option, Some, None, is_some, refl, sym, subst, take, ap, ◌∙◌}
+use Rattle.std.proofs.Common.{◌≡◌, Option, Some, None, subst, take}
 use Rattle.sessions.specs.declared.session.SessionEnd.TheVariants.{Cut, Closed, ReadFailed}
 use Rattle.crews.specs.declared.clients.Parting.{Parting}
 use Rattle.crews.specs.declared.clients.Parting.TheVariants.{Ended}

@@ -1,4 +1,3 @@
-use Rattle.std.proofs.Common.{◌≡◌, refl, sym, subst}
 use Rattle.crews.specs.declared.clients.Parting.TheVariants.{LetGo}
 use Rattle.crews.proofs.TurnLemmas.{stands_leaving}
 use Rattle.crews.proofs.turn.Client.let_go.Goals as goal

@@ -1,4 +1,4 @@
-use Rattle.std.proofs.Common.{◌≡◌, refl, sym, subst}
+use Rattle.std.proofs.Common.{refl, sym, subst}
 use Rattle.devices.specs.Channels.{OwedState, TakesOwed}
 use Rattle.sessions.specs.declared.session.SessionEnd.TheVariants.{WriteFailed}
 use Rattle.crews.specs.declared.clients.Parting.TheVariants.{Ended}
