@@ -15,7 +15,7 @@ use Rattle.crews.specs.Crews.{AllCarrySame}
 use Rattle.map_server.specs.declared.server.Server.{Server}
 use Rattle.map_server.specs.declared.server.Served.{Served}
 use Rattle.map_server.specs.Servers.{IsAsked}
-use Rattle.map_server.specs.ServerWords.{AsksServer, mapd}
+use Rattle.map_server.specs.ServerWords.{AsksServer, reader_of}
 use Rattle.map_commands.specs.Shown.{IsShown}
 
 -- what words come to that ask for no server, by clap's kind of error, in whose text words are shown; memory may be refused to it
@@ -25,8 +25,8 @@ EndsServerWords words (Refused refusal meaning) = ⊥
 EndsServerWords words (Explained printed meaning) = ⊥
 EndsServerWords words NoMemory = Unit {0}
 EndsServerWords words BadStripes = ⊥
-EndsServerWords words (Shown text) = (kind : ErrorKind) × IsAmong kind (fault_of mapd words) × IsHelpOrVersion kind × IsShown words text.items
-EndsServerWords words (Faulty text) = (kind : ErrorKind) × IsAmong kind (fault_of mapd words) × (IsHelpOrVersion kind → ⊥) × IsShown words text.items
+EndsServerWords words (Shown text) = (kind : ErrorKind) × IsAmong kind (fault_of (reader_of words) words) × IsHelpOrVersion kind × IsShown words text.items
+EndsServerWords words (Faulty text) = (kind : ErrorKind) × IsAmong kind (fault_of (reader_of words) words) × (IsHelpOrVersion kind → ⊥) × IsShown words text.items
 EndsServerWords words Unread = ⊥
 EndsServerWords words NotUtf8 = ⊥
 
