@@ -5,7 +5,7 @@ use Rattle.crews.specs.declared.clients.Event.TheVariants.{Came, Ready, LetGo, O
 
 -- how many came by this
 abbrev pub came_by : {C : Type 0} → Event C → ℕ
-came_by (Came channel) = 1
+came_by (Came channel protocol) = 1
 came_by (Ready seat) = 0
 came_by (LetGo seat) = 0
 came_by Over = 0

@@ -3,6 +3,7 @@ pub mod Steps
 pub mod Crews
 pub mod Served
 pub mod Collected
+pub mod Talks
 pub mod Partings
 pub mod Lives
 pub mod Arrivals

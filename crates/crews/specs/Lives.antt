@@ -2,15 +2,17 @@
 use Rattle.std.specs.Prelude.{◌≡◌, ◌==◌, ℕ, ◌<◌, ◌≤◌, List, [], ◌∷◌, ◌++◌, map, Option, None, if◌then◌else◌}
 use Rattle.std.specs.Io.KnownBytes.{Appends, Consumes}
 use Rattle.bin_stripes.specs.Passes.{PassState}
-use Rattle.client_protocol.specs.Frames.{Held}
 use Rattle.program_registry.specs.declared.registry.ProgramToken.{ProgramToken}
 use Rattle.devices.specs.Channels.{ChannelState, OwedState}
 use Rattle.sessions.specs.Conversations.{Exchange}
 use Rattle.crews.specs.declared.clients.Parting.{Parting}
+use Rattle.crews.specs.declared.clients.Protocol.{Protocol}
 use Rattle.crews.specs.declared.crew.Crew.{Crew}
+use Rattle.crews.specs.declared.talk.Talk.{Talk}
 use Rattle.crews.specs.Crews.{station, team_numbers}
 use Rattle.crews.specs.Stations.{Station}
 use Rattle.crews.specs.Partings.{PartsSo, SaysSo}
+use Rattle.crews.specs.Talks.{protocol_of}
 
 -- what a crew's passes know
 pub record Known : Type 0 where
@@ -50,35 +52,41 @@ abbrev pub exchanges_of : ℕ → List Turn → List (Exchange Station)
 exchanges_of client [] = []
 exchanges_of client (turn ∷ turns) = (if turn.client == client then turn.exchange ∷ [] else []) ++ exchanges_of client turns
 
+-- a client as it came: its connection, and the protocol of the port that it came to
+pub record Arrival (C : Type 0) : Type 0 where
+  pub channel : C
+  pub protocol : Protocol
+
 -- over what connections tell
 module _ {C : Type 0} (state : C → ChannelState) where
-  -- a client that came with one connection: what was read of it is answered in these exchanges, each with the tokens of the one
-  -- before it, and what was written to it, with what is owed, are the answers
-  pub record Stands (came now : C) (exchanges : List (Exchange Station)) (tokens : List ProgramToken) (held : Held) (owed : OwedState) (leaving : Option Parting) : Type 0 where
+  -- a client that came so speaks the protocol of its port: what was read of it is answered in these exchanges, each with the tokens of
+  -- the one before it, and what was written to it, with what is owed, are the answers
+  pub record Stands (came : Arrival C) (now : C) (exchanges : List (Exchange Station)) (tokens : List ProgramToken) (talk : Talk) (owed : OwedState) (leaving : Option Parting) : Type 0 where
+    pub speaks : protocol_of talk ≡ came.protocol
     pub read : List ℕ
     pub written : List ℕ
-    pub consumed : Consumes (state came).left (state now).left read
-    pub appended : Appends (state came).held (state now).held written
+    pub consumed : Consumes (state came.channel).left (state now).left read
+    pub appended : Appends (state came.channel).held (state now).held written
     pub keeps : KeepsTokens [] exchanges tokens
-    pub says : SaysSo leaving held exchanges read (written ++ owed.rest)
+    pub says : SaysSo leaving talk exchanges read (written ++ owed.rest)
     pub unfailed : leaving ≡ None → owed.failures ≡ 0
 
--- over which connections were given to the worker, and what its pass knew then
-module _ {C : Type 0} (gave : PassState → C → Type 0) where
-  -- the turns lead from what the passes knew to what they know, and the client of this number came among them with this connection:
-  -- none of the earlier ones is its own
-  pub record HasCome (old : Known) (turns : List Turn) (new : Known) (client : ℕ) (came : C) : Type 0 where
+-- over which connections were given to the worker, what its pass knew then, and by which protocol
+module _ {C : Type 0} (gave : PassState → C → Protocol → Type 0) where
+  -- the turns lead from what the passes knew to what they know, and the client of this number came among them so: none of the earlier
+  -- ones is its own
+  pub record HasCome (old : Known) (turns : List Turn) (new : Known) (client : ℕ) (came : Arrival C) : Type 0 where
     pub earlier : List Turn
     pub later : List Turn
     pub order : turns ≡ earlier ++ later
     pub mid : Known
     pub before : Moves old (all_exchanges earlier) mid
     pub since : Moves mid (all_exchanges later) new
-    pub given : gave mid.pass came
+    pub given : gave mid.pass came.channel came.protocol
     pub none : exchanges_of client earlier ≡ []
 
 -- and over what they tell
-module _ {C : Type 0} (state : C → ChannelState) (gave : PassState → C → Type 0) where
+module _ {C : Type 0} (state : C → ChannelState) (gave : PassState → C → Protocol → Type 0) where
   -- a client left so, and this is its connection now: its exchanges are turns among those that led to what the pass knows
   pub record HasParted (pass : PassState) (now : C) (parting : Parting) : Type 0 where
     pub old : Known
@@ -86,19 +94,19 @@ module _ {C : Type 0} (state : C → ChannelState) (gave : PassState → C → T
     pub new : Known
     pub knows : new.pass ≡ pass
     pub client : ℕ
-    pub came : C
+    pub came : Arrival C
     pub come : HasCome gave old turns new client came
     pub read : List ℕ
     pub written : List ℕ
-    pub consumed : Consumes (state came).left (state now).left read
-    pub appended : Appends (state came).held (state now).held written
-    pub parts : PartsSo parting (exchanges_of client turns) read written
+    pub consumed : Consumes (state came.channel).left (state now).left read
+    pub appended : Appends (state came.channel).held (state now).held written
+    pub parts : PartsSo came.protocol parting (exchanges_of client turns) read written
 
   -- a client came and has had its turns among these
   abbrev pub IsOfClient : Known → List Turn → Known → ℕ → Type 0
   IsOfClient old turns new client =
-      (came : C) × (now : C) × (tokens : List ProgramToken) × (held : Held) × (owed : OwedState) × (leaving : Option Parting)
-      × HasCome gave old turns new client came × Stands state came now (exchanges_of client turns) tokens held owed leaving
+      (came : Arrival C) × (now : C) × (tokens : List ProgramToken) × (talk : Talk) × (owed : OwedState) × (leaving : Option Parting)
+      × HasCome gave old turns new client came × Stands state came now (exchanges_of client turns) tokens talk owed leaving
 
   -- the turns of this number of clients lead from what the passes knew to what they know
   pub record Life (old : Known) (turns : List Turn) (new : Known) (clients : ℕ) : Type 0 where

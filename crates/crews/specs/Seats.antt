@@ -2,17 +2,18 @@
 use Rattle.std.specs.Prelude.{◌≡◌, ◌≢◌, ℕ, ◌<◌, List, Option, Some}
 use Rattle.slab.specs.Slab.{Slab, get}
 use Rattle.devices.specs.Channels.{ChannelState}
+use Rattle.crews.specs.declared.clients.Protocol.{Protocol}
 use Rattle.crews.specs.declared.turn.Client.{Client}
 use Rattle.bin_stripes.specs.Passes.{PassState}
-use Rattle.crews.specs.Lives.{Known, Turn, exchanges_of, HasCome, Life, Stands}
+use Rattle.crews.specs.Lives.{Known, Turn, exchanges_of, Arrival, HasCome, Life, Stands}
 
-module _ {C : Type 0} (state : C → ChannelState) (gave : PassState → C → Type 0) where
+module _ {C : Type 0} (state : C → ChannelState) (gave : PassState → C → Protocol → Type 0) where
   -- this is how the client of these turns stands
   abbrev pub IsClient : Known → List Turn → Known → ℕ → Client C → Type 0
   IsClient old turns new clients client =
       (client.number < clients)
-      × ((came : C) × HasCome gave old turns new client.number came
-      × Stands state came client.channel (exchanges_of client.number turns) client.tokens client.feeder client.owed client.leaving)
+      × ((came : Arrival C) × HasCome gave old turns new client.number came
+      × Stands state came client.channel (exchanges_of client.number turns) client.tokens client.talk client.owed client.leaving)
 
   -- each seat has a client of the life, no two the same
   pub record Seated (old : Known) (turns : List Turn) (new : Known) (clients : ℕ) (seats : Slab (Client C)) : Type 0 where

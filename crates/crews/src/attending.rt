@@ -1,28 +1,36 @@
 //! A worker's whole life, with any number of clients.
 ghost use Rattle.std.specs.Prelude.{◌≡◌, ◌+◌, ◌++◌, ℕ, List, [], None};
-ghost use Rattle.bin_stripes.specs.Passes.{PassState};
 ghost use Rattle.slab.specs.Slab.{get, slab_len, HasRoomFor};
+ghost use Rattle.devices.specs.Channels.{Sends};
 ghost use Rattle.crews.specs.Arrivals.{CountGoes};
 ghost use Rattle.crews.specs.Crews.{IsCrewOf, CarriesSame, station};
-ghost use Rattle.crews.specs.Lives.{Known, known, Turn, HasLived};
+ghost use Rattle.crews.specs.Lives.{Arrival, Known, known, Turn, HasLived};
+ghost use Rattle.crews.specs.Partings.{not_kept_told};
 ghost use Rattle.crews.specs.Seats.{HasNone, IsAttended, IsClient};
 
-use crate::clients::{Clients, Event, Parting, Standing};
+use crate::answering::{PIECE_BYTES, Room};
+use crate::clients::{Clients, Event, Parting, Protocol, Standing};
 use crate::crew::Crew;
 use crate::serving::Serving;
-use crate::turn::{Client, PIECE_BYTES, Room};
+use crate::talk::Talk;
+use crate::turn::Client;
 use crate::worker::Worker;
 use bin_stripes::{Gate, Pass};
 use bpf_model::NoMemory;
 use bulk_walks::Team;
 use client_protocol::ShortResponse;
-use devices::Channel;
+use devices::{Channel, Sent};
 use program_registry::Registry;
+use redis_scripts::Scripts;
+use redis_service::{NO_ROOM_LINE, RedisDesk};
 use sessions::Conversation;
 use slab::Slab;
 use std::alloc::Global;
 use std::sync::Wait;
 use std::thread::Threads;
+
+/// No map has passes for more workers.
+const MOST_WORKERS: u64 = 64;
 
 /// What a worker has at hand: the registry of programs, the room of all turns, the clients in their seats, and how many
 /// came.
@@ -35,22 +43,46 @@ struct Attendant<'a, C> {
     came: u64,
 }
 
-/// A client that came can't be kept: it is told 9, as far as its connection takes that at once, and given up.
-fn turn_away<C: Channel, P: Clients<C>>(clients: &mut P, pass: &Pass, channel: C)
-    requires { (came : C) × P.gave pass.now came × (C.state channel ≡ C.state came) }
+/// Tells a client of this protocol that it can't be kept, as far as its connection takes that at once.
+fn tell_away<C: Channel>(channel: &mut C, protocol: Protocol) -> Sent
+    ensures { Sends (C.state channel.old) (C.state channel.new) result (not_kept_told protocol) }
+{
+    match protocol {
+        Protocol::Frames => {
+            let number = NoMemory::NUMBER;
+            let frame = ShortResponse::Refused { number, place: 0 }.frame();
+            channel.send(frame.as_slice())
+        }
+        Protocol::Commands => channel.send(NO_ROOM_LINE),
+    }
+}
+
+/// A client that came can't be kept: it is told so, and given up.
+fn turn_away<C: Channel, P: Clients<C>>(
+    clients: &mut P,
+    pass: &Pass,
+    channel: C,
+    protocol: Protocol,
+)
+    requires { (came : C) × P.gave pass.now came protocol × (C.state channel ≡ C.state came) }
     ensures { CountGoes P.there clients.old 1 clients.new 0 }
 {
     let mut channel = channel;
-    let number = NoMemory::NUMBER;
-    let frame = ShortResponse::Refused { number, place: 0 }.frame();
-    let _ = channel.send(frame.as_slice());
+    let _ = tell_away(&mut channel, protocol);
     clients.ended(pass, None, channel, Parting::NotKept);
 }
 
 impl<'a, C: Channel + Drop> Attendant<'a, C> {
-    /// A client came with this connection, and takes a seat.
-    fn take_in<P: Clients<C>>(&mut self, clients: &mut P, channel: C)
-        requires { P.gave self.old.room.serving.pass channel }
+    /// The number that tells the next client from others, also from those of other workers.
+    fn next_number(&self) -> u64 {
+        let own = u64::from(self.room.number).wrapping_add(1);
+        self.came.wrapping_mul(MOST_WORKERS).wrapping_add(own)
+    }
+
+    /// A client came with this connection, speaks this protocol, and takes a seat.
+    fn take_in<P: Clients<C>>(&mut self, clients: &mut P, channel: C, protocol: Protocol)
+        requires { P.gave self.old.room.serving.pass channel protocol }
+        ensures desk { self.new.room.desk ≡ self.old.room.desk }
         ensures there { CountGoes P.there clients.old (slab_len self.old.seats + 1) clients.new (slab_len self.new.seats) }
         ensures attended { (old : Known) (turns : List Turn)
             → IsAttended C.state P.gave old turns (known self.old.room.serving) self.old.came self.old.seats
@@ -58,16 +90,17 @@ impl<'a, C: Channel + Drop> Attendant<'a, C> {
     {
         let mut channel = channel;
         let Some(came) = self.came.checked_add(1) else {
-            return turn_away(clients, self.room.serving.pass(), channel);
+            return turn_away(clients, self.room.serving.pass(), channel, protocol);
         };
         let Ok(()) = self.seats.reserve(1) else {
-            return turn_away(clients, self.room.serving.pass(), channel);
+            return turn_away(clients, self.room.serving.pass(), channel, protocol);
         };
         let seat = self.seats.vacant_key();
         let Ok(()) = clients.watch(seat, &mut channel) else {
-            return turn_away(clients, self.room.serving.pass(), channel);
+            return turn_away(clients, self.room.serving.pass(), channel, protocol);
         };
-        let client = Client::new(self.alloc, self.came, self.registry, channel);
+        let talk = Talk::new(self.alloc, self.next_number(), protocol);
+        let client = Client::new(self.alloc, self.came, self.registry, channel, talk);
         let _ = self.seats.insert_reserved(client);
         self.came = came;
     }
@@ -83,6 +116,7 @@ impl<'a, C: Channel + Drop> Attendant<'a, C> {
         requires room { HasRoomFor self.old.seats 1 }
         requires client { (old : Known) × (turns : List Turn)
             × IsClient C.state P.gave old turns (known self.old.room.serving) self.old.came client }
+        ensures desk { self.new.room.desk ≡ self.old.room.desk }
         ensures there { CountGoes P.there clients.old (slab_len self.old.seats + 1) clients.new (slab_len self.new.seats) }
         ensures attended { (old : Known) (turns : List Turn)
             → IsAttended C.state P.gave old turns (known self.old.room.serving) self.old.came self.old.seats
@@ -107,6 +141,8 @@ impl<'a, C: Channel + Drop> Attendant<'a, C> {
     )
         requires attended { (old : Known) × (turns : List Turn)
             × IsAttended C.state P.gave old turns (known self.old.room.serving) self.old.came self.old.seats }
+        requires desk { self.old.room.serving.pass.map ≡ self.old.room.desk }
+        ensures desk { self.new.room.desk ≡ self.old.room.desk }
         ensures there { CountGoes P.there clients.old (slab_len self.old.seats) clients.new (slab_len self.new.seats) }
         ensures attended { (old : Known) (turns : List Turn)
             → IsAttended C.state P.gave old turns (known self.old.room.serving) self.old.came self.old.seats
@@ -124,6 +160,7 @@ impl<'a, C: Channel + Drop> Attendant<'a, C> {
     fn let_go<P: Clients<C>>(&mut self, clients: &mut P, seat: usize)
         requires attended { (old : Known) × (turns : List Turn)
             × IsAttended C.state P.gave old turns (known self.old.room.serving) self.old.came self.old.seats }
+        ensures desk { self.new.room.desk ≡ self.old.room.desk }
         ensures there { CountGoes P.there clients.old (slab_len self.old.seats) clients.new (slab_len self.new.seats) }
         ensures attended { (old : Known) (turns : List Turn)
             → IsAttended C.state P.gave old turns (known self.old.room.serving) self.old.came self.old.seats
@@ -181,6 +218,7 @@ impl<'a, C: Channel + Drop> Attendant<'a, C> {
         requires attended { (old : Known) × (turns : List Turn)
             × IsAttended C.state P.gave old turns (known self.old.room.serving) self.old.came self.old.seats }
         requires serves { P.serves self.old.room.serving.pass.map }
+        requires desk { self.old.room.serving.pass.map ≡ self.old.room.desk }
         ensures there { CountGoes P.there clients.old (slab_len self.old.seats) clients.new (slab_len self.new.seats) }
         ensures attended { (old : Known) (turns : List Turn)
             → IsAttended C.state P.gave old turns (known self.old.room.serving) self.old.came self.old.seats
@@ -189,7 +227,7 @@ impl<'a, C: Channel + Drop> Attendant<'a, C> {
     {
         for _ in worker.rt.forever() {
             match clients.next(self.room.serving.pass()) {
-                Event::Came(channel) => self.take_in(clients, channel),
+                Event::Came(channel, protocol) => self.take_in(clients, channel, protocol),
                 Event::Ready(seat) => self.serve_one(worker, clients, seat),
                 Event::LetGo(seat) => self.let_go(clients, seat),
                 Event::Over => return,
@@ -199,22 +237,18 @@ impl<'a, C: Channel + Drop> Attendant<'a, C> {
     }
 }
 
-/// Serves a worker's clients until it is told that this is over, any number of them at once: what each sends is read in pieces, one
-/// in each of its turns, and answered by the crew with the tokens of that client. Gives the crew back. What moved it is the turns of
-/// the clients alone, in one chain. Each client's turns are one conversation, as `session` has it: its requests are those that it sent,
-/// in order, each answered once, and what is written to it are their answers. Each client that came is told to `clients` when it leaves
-/// (`there`). Waits as `clients` does, and for stripes that others hold.
-pub fn attend<H: Threads + Wait + Sync, C: Channel + Drop, P: Clients<C>, G: Gate + Sync>(
-    worker: &Worker<'_, H, G>,
-    clients: &mut P,
+/// A worker that begins: nobody came yet.
+fn begun<'a, H, C: Channel + Drop, G>(
+    worker: &Worker<'a, H, G>,
+    scripts: &'a Scripts<'a>,
     crew: Crew,
-) -> Crew
-    requires crew { IsCrewOf worker.now.map.now crew }
-    requires serves { P.serves worker.now.map.now }
-    ensures life { HasLived C.state P.gave crew result }
-    ensures there { CountGoes P.there clients.old 0 clients.new 0 }
-    ensures crew { IsCrewOf worker.now.map.now result }
-    ensures same { CarriesSame crew result }
+) -> Attendant<'a, C>
+    requires { IsCrewOf worker.now.map.now crew }
+    ensures number { result.room.number ≡ crew.worker }
+    ensures knows { known result.room.serving ≡ known (station crew []) }
+    ensures desk { result.room.desk ≡ worker.now.map.now }
+    ensures came { result.came ≡ 0 }
+    ensures empty { result.seats.slots ≡ [] }
 {
     let Crew {
         worker: number,
@@ -228,18 +262,42 @@ pub fn attend<H: Threads + Wait + Sync, C: Channel + Drop, P: Clients<C>, G: Gat
         team: team.into_passes(),
         tokens: Vec::new(worker.alloc),
     };
-    let mut attendant = Attendant {
+    Attendant {
         alloc: worker.alloc,
         registry: worker.registry,
         room: Room {
             number,
             serving,
             conversation: Conversation::new(worker.alloc),
+            desk: RedisDesk::new(worker.alloc, worker.map, scripts),
             piece: [0; PIECE_BYTES],
         },
         seats: Slab::new(worker.alloc),
         came: 0,
-    };
+    }
+}
+
+/// Serves a worker's clients until it is told that this is over, any number of them at once: what each sends is read in pieces, one
+/// in each of its turns, and answered by the crew, in the client's protocol and with the tokens of that client. Gives the crew back.
+/// What moved it is the turns of the clients alone, in one chain. Each client's turns are one conversation, as `session` has it, or one
+/// talk of the crate redis_service: its requests are those that it sent, in order, each answered once, and what is written to it are
+/// their answers. Each client that came is told to `clients` when it leaves (`there`). Scripts that clients of commands load are kept in
+/// `scripts`. Waits as `clients` does, and for stripes that others hold.
+pub fn attend<'a, H: Threads + Wait + Sync, C: Channel + Drop, P: Clients<C>, G: Gate + Sync>(
+    worker: &Worker<'a, H, G>,
+    scripts: &'a Scripts<'a>,
+    clients: &mut P,
+    crew: Crew,
+) -> Crew
+    requires crew { IsCrewOf worker.now.map.now crew }
+    requires serves { P.serves worker.now.map.now }
+    ensures life { HasLived C.state P.gave crew result }
+    ensures there { CountGoes P.there clients.old 0 clients.new 0 }
+    ensures crew { IsCrewOf worker.now.map.now result }
+    ensures same { CarriesSame crew result }
+{
+    let number = crew.worker;
+    let mut attendant: Attendant<'a, C> = begun(worker, scripts, crew);
     attendant.attend_all(worker, clients);
     attendant.drop_all(clients);
     let Attendant { room, .. } = attendant;

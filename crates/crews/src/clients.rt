@@ -6,11 +6,20 @@ use bpf_model::NoMemory;
 use devices::Channel;
 use sessions::SessionEnd;
 
+/// How a client speaks: by the port that it came to.
+#[derive(Clone, Copy, Debug, PartialEq, Eq)]
+pub enum Protocol {
+    /// In frames of requests and responses, as the crate client_protocol has them.
+    Frames,
+    /// In commands of RESP2, the protocol of Redis, as the crate redis_service has them.
+    Commands,
+}
+
 /// What a worker does next.
 #[derive(Drop)]
 pub enum Event<C> {
-    /// A client came with this connection.
-    Came(C),
+    /// A client came with this connection, and speaks this protocol.
+    Came(C, Protocol),
     /// The client of this seat has a turn.
     Ready(usize),
     /// The client of this seat is let go. It is not read any more, and is gone when it has taken what it is owed; at once if it
@@ -33,11 +42,14 @@ pub enum Standing {
 /// How a client left.
 #[derive(Clone, Copy, Debug, PartialEq, Eq)]
 pub enum Parting {
-    /// Its session ended so. All that it was owed is written then, unless a write failed.
+    /// Its session ended so. All that it was owed is written then, unless a write failed. A client of commands is never `Refused`.
     Ended(SessionEnd),
+    /// It speaks commands, and asked for the end or has a fault, whose text is the last answer. All that it was owed is written then.
+    Over,
     /// It was let go.
     LetGo,
-    /// It came and could not be kept. It was told 9, as far as its connection took that at once.
+    /// It came and could not be kept. It was told so, as far as its connection took that at once: 9, or by a line that ends with
+    /// `max number of clients reached` if it speaks commands.
     NotKept,
 }
 
@@ -48,13 +60,15 @@ pub trait Clients<C: Channel> {
     ghost use Rattle.atomic_table.specs.Seated.{TableId};
     ghost use Rattle.bin_stripes.specs.Passes.{PassState};
     ghost use Rattle.crews.specs.Arrivals.{came_by, CountGoes};
+    ghost use Rattle.crews.specs.declared.clients.Protocol.{Protocol as TheProtocol};
     ghost use Rattle.crews.specs.Lives.{HasParted};
 
     /// The clients are of this map.
     ghost serves: { TableId → Type 0 } = { λ _. Unit {0} };
 
-    /// The worker was given this connection, as it was then, when its pass knew this. Nothing but `next` tells it.
-    ghost gave: { PassState → C → Type 0 } = { λ _ _. Unit {0} };
+    /// The worker was given this connection, as it was then, when its pass knew this, from the port of this protocol. Nothing but
+    /// `next` tells it.
+    ghost gave: { PassState → C → TheProtocol → Type 0 } = { λ _ _ _. Unit {0} };
 
     /// This number of clients came, and have not ended. Nothing but `next` and `ended` changes it.
     ghost there: { Self → ℕ → Type 0 } = { λ _ _. Unit {0} };
@@ -62,7 +76,7 @@ pub trait Clients<C: Channel> {
     /// The next thing to do, for the worker whose pass this is. It may wait.
     fn next(&mut self, pass: &Pass) -> Event<C>
         requires { serves pass.now.map }
-        ensures gave { (channel : C) → result ≡ Event.Came channel → gave pass.now channel }
+        ensures gave { (channel : C) (protocol : TheProtocol) → result ≡ Event.Came channel protocol → gave pass.now channel protocol }
         ensures there { CountGoes there self.old 0 self.new (came_by result) };
 
     /// The client that came last is in this seat from now on. `NoMemory` if it can't be kept.
@@ -75,8 +89,8 @@ pub trait Clients<C: Channel> {
         ensures { CountGoes there self.old 0 self.new 0 };
 
     /// The client left so, which this worker was given with this connection, and had this seat if it was kept. What was read of it
-    /// is answered by turns among those that led to what the worker's pass knows, and what was written to it are the answers, as
-    /// its parting says. The connection is given up.
+    /// is answered, in its protocol, by turns among those that led to what the worker's pass knows, and what was written to it are the
+    /// answers, as its parting says. The connection is given up.
     fn ended(&mut self, pass: &Pass, seat: Option<usize>, channel: C, parting: Parting)
         requires { HasParted C.state gave pass.now channel parting }
         ensures { CountGoes there self.old 1 self.new 0 };

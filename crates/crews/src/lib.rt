@@ -2,10 +2,12 @@
 //!
 //! The promise to the layers above: `session` answers what it reads by a chain of steps on what its crew knows (`CrewServes` of
 //! `specs/Steps.antt`, `Ended` of the crate sessions); `serve` gives its crews back in order, each with the numbers that it
-//! carried, and `attend_each` its posts. A session waits for its reader and for stripes that others hold; its walks start threads.
+//! carried, and `attend_each` its posts. A client that is attended speaks frames, or the commands of Redis (crate redis_service).
+//! A session waits for its reader and for stripes that others hold; its walks start threads.
 #![tactic(auto)]
 
 mod accept;
+mod answering;
 mod attending;
 mod client;
 mod clients;
@@ -15,6 +17,7 @@ mod seats;
 mod server;
 mod serving;
 mod shared;
+mod talk;
 mod team;
 mod tokens;
 mod turn;
@@ -23,7 +26,7 @@ mod worker;
 pub use accept::Accept;
 pub use attending::attend;
 pub use client::session;
-pub use clients::{Clients, Event, Parting, Standing};
+pub use clients::{Clients, Event, Parting, Protocol, Standing};
 pub use crew::Crew;
 pub use posts::{Post, attend_each};
 pub use server::serve;

@@ -14,6 +14,7 @@ use crate::worker::Worker;
 use bin_stripes::Gate;
 use bpf_model::NoMemory;
 use devices::Channel;
+use redis_scripts::Scripts;
 use std::sync::Wait;
 use std::thread::Threads;
 use workers::work;
@@ -26,15 +27,20 @@ pub struct Post<P> {
 }
 
 /// Runs one worker a post, each in a thread of its own if one can be made, and each attending its clients, any number at once, until
-/// they are over. Gives the posts back in their order: each crew is of this map with the numbers that it carried, nothing but turns of
+/// they are over, by scripts that all share. Gives the posts back in their order: each crew is of this map with the numbers that it carried, nothing but turns of
 /// its own clients moved it (`lived`), and each client that came was told to its `Clients` when it left (`there`). `NoMemory` if a
 /// request for the lists of workers was refused: nobody is attended then, and the posts are given up. Waits for clients.
 pub fn attend_each<
+    'a,
     H: Threads + Wait + Sync,
     C: Channel + Drop + Sync,
     P: Clients<C> + Send + Sync + Drop,
     G: Gate + Sync,
->(worker: &Worker<'_, H, G>, posts: Vec<Post<P>>) -> Result<Vec<Post<P>>, NoMemory>
+>(
+    worker: &Worker<'a, H, G>,
+    scripts: &'a Scripts<'a>,
+    posts: Vec<Post<P>>,
+) -> Result<Vec<Post<P>>, NoMemory>
     requires crews { All (λ post. IsCrewOf worker.now.map.now post.crew) posts.items }
     requires serves { P.serves worker.now.map.now }
     ensures same { IfOk result (λ back. Pairwise (λ old new. CarriesSame old.crew new.crew) posts.items back.items) }
@@ -53,7 +59,7 @@ pub fn attend_each<
     {
         if let Some(post) = seat.take() {
             let Post { crew, mut clients } = post;
-            let crew = attend(worker, &mut clients, crew);
+            let crew = attend(worker, scripts, &mut clients, crew);
             *seat = Some(Post { crew, clients });
         }
     };

@@ -1,8 +1,11 @@
 //! What answers the requests of a session: the crew's passes, and the programs that the session registered.
-ghost use Rattle.std.specs.Prelude.{◌≡◌, ℕ, List, [], ◌∷◌, All, IfOk, IfErr, MatchResult, Option, option_copied};
+ghost use Rattle.std.specs.Prelude.{◌≡◌, ℕ, List, [], ◌∷◌, true, false, All, IfOk, IfErr, OnOk, Err, MatchResult, Option, option_copied};
 ghost use Rattle.std.specs.Bool.{OnTrue};
 ghost use Rattle.bpf_model.specs.Meaning.{IsSafe};
+ghost use Rattle.bin_stripes.specs.Passes.{ServesSameMap};
 ghost use Rattle.program_registry.specs.Tokens.{IsOf, program_of};
+ghost use Rattle.devices.specs.Devices.{CanWrite, TakesBytes, TakesThenFails};
+ghost use Rattle.redis_service.specs.Talks.{AnswersPiece, BreaksPiece};
 ghost use Rattle.client_protocol.specs.declared.limits.Version.{Version as TheVersion};
 ghost use Rattle.client_protocol.specs.Responses.{response_of};
 ghost use Rattle.sessions.specs.Answering.{responses_of, walk_responses};
@@ -18,7 +21,9 @@ use bin_stripes::{Gate, Pass, Place, StripedMap};
 use bpf_model::{NoMemory, Sizes, Value};
 use bulk_walks::{Walk, mapping_count, replace_all, walk_map};
 use client_protocol::{Request, RequestView, ShortResponse, Version};
+use devices::Sink;
 use program_registry::{ProgramToken, Registry, SentProgram};
+use redis_service::{RedisDesk, RedisTalk, TalkEnd};
 use sessions::{
     Answer, Service, answer_to, argument_of, call_of, may_be_sent, named_program, no_memory,
     program_sent, unknown_program,
@@ -168,6 +173,38 @@ impl<'a> Serving<'a> {
     {
         mem::swap(&mut self.registry, &mut tokens.registry);
         mem::swap(&mut self.tokens, &mut tokens.items);
+    }
+
+    /// Answers the commands that this piece completes by calls of the pass, and keeps the rest of it. Team and tokens stay as they are.
+    pub fn answer_commands<H: Wait, W: Sink>(
+        &mut self,
+        rt: &H,
+        desk: &mut RedisDesk<'a>,
+        talk: &mut RedisTalk,
+        piece: &[u8],
+        sink: &mut W,
+    ) -> Result<(), TalkEnd>
+        requires map { self.old.pass.map ≡ desk.old }
+        requires sink { CanWrite (W.state sink.old) }
+        requires is_open { talk.old.is_over ≡ false }
+        ensures desk { desk.new ≡ desk.old }
+        ensures team { self.new.team ≡ self.old.team }
+        ensures tokens { self.new.tokens ≡ self.old.tokens }
+        ensures same { ServesSameMap self.old.pass self.new.pass }
+        ensures numbers { self.new.pass.view.numbers ≡ self.old.pass.view.numbers }
+        ensures ok { OnOk result ((talk.new.is_over ≡ false) × ((written : List ℕ)
+            × TakesBytes (W.state sink.old) (W.state sink.new) written
+            × AnswersPiece talk.old self.old.pass piece.now written talk.new self.new.pass)) }
+        ensures over { result ≡ Err TalkEnd.Over → (talk.new.is_over ≡ true) × ((written : List ℕ)
+            × TakesBytes (W.state sink.old) (W.state sink.new) written
+            × AnswersPiece talk.old self.old.pass piece.now written talk.new self.new.pass) }
+        ensures memory { result ≡ Err TalkEnd.NoMemory
+            → (talk.new ≡ talk.old) × (self.new ≡ self.old) × (W.state sink.new ≡ W.state sink.old) }
+        ensures write { result ≡ Err TalkEnd.WriteFailed → ((written : List ℕ)
+            × TakesThenFails (W.state sink.old) (W.state sink.new) written
+            × BreaksPiece talk.old self.old.pass piece.now written talk.new self.new.pass) }
+    {
+        desk.take(rt, &mut self.pass, talk, piece, sink)
     }
 
     /// Answers the number of the program that the bytes spell, which came after this Hello, and keeps its token, unless one of

@@ -1,25 +1,24 @@
 //! One of many clients between its turns, and what a turn makes of it.
-ghost use Rattle.std.specs.Prelude.{◌≡◌, ◌≢◌, ◌≤◌, ℕ, List, [], ◌++◌, length, take, Option, None, Some, MatchResult};
-ghost use Rattle.client_protocol.specs.Frames.{Held};
-ghost use Rattle.client_protocol.specs.Frames.Held.{open_at};
+ghost use Rattle.std.specs.Prelude.{◌≡◌, ◌≤◌, ℕ, List, [], ◌++◌, length, take, Option, None, Some};
 ghost use Rattle.sessions.specs.Conversations.{Exchange as TheExchange};
+ghost use Rattle.crews.specs.declared.talk.Talk.{Talk as TheTalk};
 ghost use Rattle.crews.specs.Stations.{Station};
+ghost use Rattle.crews.specs.Talks.{protocol_of, IsOpen};
 ghost use Rattle.crews.specs.Partings.{SaysSo, PartsSo};
 ghost use Rattle.crews.specs.Arrivals.{CountGoes};
-ghost use Rattle.crews.specs.Lives.{Known, known, Turn, Stands};
+ghost use Rattle.crews.specs.Lives.{Arrival, Known, known, Turn, Stands};
 ghost use Rattle.crews.specs.Seats.{IsClient};
-ghost use Rattle.crews.specs.Turns.{TellsRefusal, LeavesAt, SaysMore, TurnsTo};
+ghost use Rattle.crews.specs.Turns.{SaysMore, TurnsTo};
 
+use crate::answering::{PIECE_BYTES, Room, answer_commands, answer_frames};
 use crate::clients::{Clients, Parting, Standing};
-use crate::serving::Serving;
+use crate::talk::Talk;
 use crate::tokens::Tokens;
 use crate::worker::Worker;
 use bin_stripes::{Gate, Pass};
-use bpf_model::{NoMemory, Value};
-use client_protocol::{Feeder, Request};
 use devices::{Channel, Owed, Received, Taking};
 use program_registry::Registry;
-use sessions::{Conversation, ConversationEnd, SessionEnd, refuse};
+use sessions::SessionEnd;
 use std::alloc::Global;
 use std::sync::Wait;
 use std::thread::Threads;
@@ -27,54 +26,16 @@ use std::thread::Threads;
 /// The most bytes that are owed to a client that is read on.
 const OWED_BYTES: usize = 65536;
 
-/// The most bytes that are read in one turn.
-pub const PIECE_BYTES: usize = 16384;
-
-/// What the turns of a worker's clients share: the worker's number, its passes, and the room for a piece, its requests and a value.
-#[derive(Drop)]
-pub struct Room<'a> {
-    pub number: u32,
-    pub serving: Serving<'a>,
-    pub conversation: Conversation,
-    pub piece: [u8; PIECE_BYTES],
-}
-
-/// A client between its turns: its number among the worker's clients, its connection, what of its frames was read, the tokens of its
-/// programs, what it is owed, and how it is leaving, if it is.
+/// A client between its turns: its number among the worker's clients, its connection, how it speaks and what of that was read, the
+/// tokens of its programs, what it is owed, and how it is leaving, if it is.
 #[derive(Drop)]
 pub struct Client<'a, C> {
     pub number: u64,
     pub channel: C,
-    pub feeder: Feeder,
+    pub talk: Talk,
     pub tokens: Tokens<'a>,
     pub owed: Owed,
     pub leaving: Option<Parting>,
-}
-
-/// Owes a refusal at the end of a conversation, and answers how the client leaves then.
-fn refusal_owed(owed: &mut Owed, number: u8, end: SessionEnd) -> Option<Parting>
-    requires count { owed.old.failures ≡ 0 }
-    requires end { end ≢ SessionEnd.WriteFailed }
-    ensures { TellsRefusal number end result owed.old.rest owed.new.rest }
-{
-    Some(Parting::Ended(refuse(owed, number, end)))
-}
-
-/// How a client leaves when its conversation took a piece so; what it is owed then has grown by the refusal that this asks for.
-fn leaving_after(owed: &mut Owed, taken: Result<(), ConversationEnd>) -> Option<Parting>
-    requires { taken ≢ Err ConversationEnd.WriteFailed → owed.old.failures ≡ 0 }
-    ensures { MatchResult taken (λ _. (result ≡ None) × (owed.new ≡ owed.old)) (λ end. LeavesAt end result owed.old.rest owed.new.rest) }
-{
-    match taken {
-        Ok(()) => None,
-        Err(ConversationEnd::Refused(fault)) => {
-            refusal_owed(owed, fault.number(), SessionEnd::Refused(fault))
-        }
-        Err(ConversationEnd::NoMemory) => {
-            refusal_owed(owed, NoMemory::NUMBER, SessionEnd::NoMemory)
-        }
-        Err(ConversationEnd::WriteFailed) => Some(Parting::Ended(SessionEnd::WriteFailed)),
-    }
 }
 
 /// How a client stands after a piece of this many bytes. If the piece fills its room, more may be there.
@@ -88,23 +49,30 @@ fn standing_after_piece(count: usize) -> Standing {
 
 /// How a client left that is given up now, when it is still owed this number of bytes.
 fn parting_of(leaving: Option<Parting>, owed: usize) -> Parting
-    ensures { (held : Held) (exchanges : List (TheExchange Station)) (read written rest : List ℕ) → length rest ≡ owed
-        → SaysSo leaving held exchanges read (written ++ rest) → PartsSo result exchanges read written }
+    ensures { (talk : TheTalk) (exchanges : List (TheExchange Station)) (read written rest : List ℕ) → length rest ≡ owed
+        → SaysSo leaving talk exchanges read (written ++ rest) → PartsSo (protocol_of talk) result exchanges read written }
 {
     match leaving {
         Some(Parting::Ended(SessionEnd::WriteFailed)) => Parting::Ended(SessionEnd::WriteFailed),
         Some(Parting::Ended(end)) if owed == 0 => Parting::Ended(end),
+        Some(Parting::Over) if owed == 0 => Parting::Over,
         _ => Parting::LetGo,
     }
 }
 
 impl<'a, C: Channel> Client<'a, C> {
-    /// A client that came with this connection. Takes no memory.
-    pub fn new(alloc: Global, number: u64, registry: &'a Registry, channel: C) -> Client<'a, C>
+    /// A client that came with this connection, and talks so. Takes no memory.
+    pub fn new(
+        alloc: Global,
+        number: u64,
+        registry: &'a Registry,
+        channel: C,
+        talk: Talk,
+    ) -> Client<'a, C>
         ensures { result ≡ record {
           number = number;
           channel = channel;
-          feeder = open_at None [];
+          talk = talk;
           tokens = [];
           owed = record { rest = []; failures = 0 };
           leaving = None;
@@ -113,14 +81,14 @@ impl<'a, C: Channel> Client<'a, C> {
         Client {
             number,
             channel,
-            feeder: Feeder::new(alloc),
+            talk,
             tokens: Tokens::new(alloc, registry),
             owed: Owed::new(alloc),
             leaving: None,
         }
     }
 
-    /// Answers the whole requests of a piece, of this number of bytes, and owes the answers.
+    /// Answers what is whole in a piece of this number of bytes, and owes the answers.
     fn answer_piece<H: Threads + Wait + Sync, G: Gate + Sync>(
         &mut self,
         worker: &Worker<'_, H, G>,
@@ -130,29 +98,28 @@ impl<'a, C: Channel> Client<'a, C> {
         requires unfailed { self.old.owed.failures ≡ 0 }
         requires some { 1 ≤ count }
         requires within { count ≤ length room.old.piece }
+        requires desk { room.old.serving.pass.map ≡ room.old.desk }
+        requires is_open { IsOpen self.old.talk }
         ensures number { self.new.number ≡ self.old.number }
         ensures channel { self.new.channel ≡ self.old.channel }
+        ensures desk { room.new.desk ≡ room.old.desk }
+        ensures speaks { protocol_of self.new.talk ≡ protocol_of self.old.talk }
         ensures unfailed { self.new.leaving ≡ None → self.new.owed.failures ≡ 0 }
-        ensures says { (exchanges : List (TheExchange Station)) (read said : List ℕ) → SaysSo None self.old.feeder exchanges read said
+        ensures says { (exchanges : List (TheExchange Station)) (read said : List ℕ) → SaysSo None self.old.talk exchanges read said
             → SaysMore (known room.old.serving) (known room.new.serving) exchanges self.old.tokens self.new.tokens
-            self.new.feeder self.new.leaving (read ++ take count room.old.piece) said self.old.owed.rest self.new.owed.rest }
+            self.new.talk self.new.leaving (read ++ take count room.old.piece) said self.old.owed.rest self.new.owed.rest }
     {
-        let number = room.number;
-        let answer = |serving: &mut Serving<'_>, hello, request: &Request, value: &mut Value| {
-            serving.answer(worker, number, hello, request, value)
+        self.leaving = match &mut self.talk {
+            Talk::Frames(feeder) => answer_frames(
+                worker,
+                room,
+                count,
+                feeder,
+                &mut self.tokens,
+                &mut self.owed,
+            ),
+            Talk::Commands(talk) => answer_commands(worker.rt, room, count, talk, &mut self.owed),
         };
-        room.serving.lend(&mut self.tokens);
-        room.conversation.resume(&mut self.feeder);
-        let taken = room.conversation.take(
-            worker.alloc,
-            &mut room.serving,
-            &answer,
-            &room.piece[..count],
-            &mut self.owed,
-        );
-        room.conversation.resume(&mut self.feeder);
-        room.serving.lend(&mut self.tokens);
-        self.leaving = leaving_after(&mut self.owed, taken);
     }
 
     /// Whether the client is owed so much that it is not read.
@@ -176,11 +143,14 @@ impl<'a, C: Channel> Client<'a, C> {
         room: &mut Room<'a>,
     ) -> Standing
         requires unfailed { self.old.leaving ≡ None → self.old.owed.failures ≡ 0 }
+        requires is_open { self.old.leaving ≡ None → IsOpen self.old.talk }
+        requires desk { room.old.serving.pass.map ≡ room.old.desk }
         ensures number { self.new.number ≡ self.old.number }
-        ensures turns { (came : C) (exchanges : List (TheExchange Station))
-            → Stands C.state came self.old.channel exchanges self.old.tokens self.old.feeder self.old.owed self.old.leaving
+        ensures desk { room.new.desk ≡ room.old.desk }
+        ensures turns { (came : Arrival C) (exchanges : List (TheExchange Station))
+            → Stands C.state came self.old.channel exchanges self.old.tokens self.old.talk self.old.owed self.old.leaving
             → TurnsTo C.state (known room.old.serving) (known room.new.serving) came self.new.channel exchanges
-            self.new.tokens self.new.feeder self.new.owed self.new.leaving }
+            self.new.tokens self.new.talk self.new.owed self.new.leaving }
     {
         if self.leaving.is_some() || self.is_held_back() {
             return Standing::Waits;
@@ -191,7 +161,7 @@ impl<'a, C: Channel> Client<'a, C> {
                 standing_after_piece(count)
             }
             Received::NotNow => Standing::Waits,
-            Received::Ended if self.feeder.is_inside() => {
+            Received::Ended if self.talk.is_inside() => {
                 self.leaving = Some(Parting::Ended(SessionEnd::Cut));
                 Standing::Waits
             }
@@ -209,9 +179,9 @@ impl<'a, C: Channel> Client<'a, C> {
     /// Sends what is owed, as far as the connection takes it now.
     fn tell(&mut self, alloc: Global)
         ensures number { self.new.number ≡ self.old.number }
-        ensures stands { (came : C) (exchanges : List (TheExchange Station))
-            → Stands C.state came self.old.channel exchanges self.old.tokens self.old.feeder self.old.owed self.old.leaving
-            → Stands C.state came self.new.channel exchanges self.new.tokens self.new.feeder self.new.owed self.new.leaving }
+        ensures stands { (came : Arrival C) (exchanges : List (TheExchange Station))
+            → Stands C.state came self.old.channel exchanges self.old.tokens self.old.talk self.old.owed self.old.leaving
+            → Stands C.state came self.new.channel exchanges self.new.tokens self.new.talk self.new.owed self.new.leaving }
     {
         let taking = self.owed.send_to(&mut self.channel);
         self.owed.settle(alloc);
@@ -220,18 +190,21 @@ impl<'a, C: Channel> Client<'a, C> {
         }
     }
 
-    /// One turn: reads a piece, if less is owed than may be, answers its whole requests, and sends what is owed.
+    /// One turn: reads a piece, if less is owed than may be, answers what is whole in it, and sends what is owed.
     pub fn turn<H: Threads + Wait + Sync, G: Gate + Sync>(
         &mut self,
         worker: &Worker<'_, H, G>,
         room: &mut Room<'a>,
     ) -> Standing
         requires unfailed { self.old.leaving ≡ None → self.old.owed.failures ≡ 0 }
+        requires is_open { self.old.leaving ≡ None → IsOpen self.old.talk }
+        requires desk { room.old.serving.pass.map ≡ room.old.desk }
         ensures number { self.new.number ≡ self.old.number }
-        ensures turns { (came : C) (exchanges : List (TheExchange Station))
-            → Stands C.state came self.old.channel exchanges self.old.tokens self.old.feeder self.old.owed self.old.leaving
+        ensures desk { room.new.desk ≡ room.old.desk }
+        ensures turns { (came : Arrival C) (exchanges : List (TheExchange Station))
+            → Stands C.state came self.old.channel exchanges self.old.tokens self.old.talk self.old.owed self.old.leaving
             → TurnsTo C.state (known room.old.serving) (known room.new.serving) came self.new.channel exchanges
-            self.new.tokens self.new.feeder self.new.owed self.new.leaving }
+            self.new.tokens self.new.talk self.new.owed self.new.leaving }
     {
         let was_held_back = self.is_held_back();
         let standing = self.hear(worker, room);
@@ -242,9 +215,9 @@ impl<'a, C: Channel> Client<'a, C> {
     /// The client is not read any more. Sends what it is owed, as far as the connection takes it now.
     pub fn let_go(&mut self, alloc: Global)
         ensures number { self.new.number ≡ self.old.number }
-        ensures stands { (came : C) (exchanges : List (TheExchange Station))
-            → Stands C.state came self.old.channel exchanges self.old.tokens self.old.feeder self.old.owed self.old.leaving
-            → Stands C.state came self.new.channel exchanges self.new.tokens self.new.feeder self.new.owed self.new.leaving }
+        ensures stands { (came : Arrival C) (exchanges : List (TheExchange Station))
+            → Stands C.state came self.old.channel exchanges self.old.tokens self.old.talk self.old.owed self.old.leaving
+            → Stands C.state came self.new.channel exchanges self.new.tokens self.new.talk self.new.owed self.new.leaving }
     {
         if self.leaving.is_none() {
             self.leaving = Some(Parting::LetGo);

@@ -1,0 +1,151 @@
+//! How a piece of a client's bytes is answered, by the protocol that the client speaks.
+ghost use Rattle.std.specs.Prelude.{◌≡◌, ◌≢◌, ◌≤◌, ℕ, List, ◌++◌, length, take, None, Some, Err, MatchResult, false};
+ghost use Rattle.client_protocol.specs.Faults.{protocol_fault_number};
+ghost use Rattle.program_registry.specs.declared.registry.ProgramToken.{ProgramToken};
+ghost use Rattle.redis_service.specs.Lines.{no_memory_line};
+ghost use Rattle.sessions.specs.Conversations.{Exchange as TheExchange};
+ghost use Rattle.sessions.specs.Sessions.{refusal};
+ghost use Rattle.crews.specs.Stations.{Station};
+ghost use Rattle.crews.specs.Partings.{SaysSo};
+ghost use Rattle.crews.specs.Lives.{known};
+ghost use Rattle.crews.specs.Turns.{TellsLast, LeavesAt, LeavesTalk, SaysMore};
+
+use crate::clients::Parting;
+use crate::serving::Serving;
+use crate::talk::Talk;
+use crate::tokens::Tokens;
+use crate::worker::Worker;
+use bin_stripes::Gate;
+use bpf_model::{NoMemory, Value};
+use client_protocol::{Feeder, Request};
+use devices::{Failed, Owed, write_all};
+use redis_service::{NO_MEMORY_LINE, RedisDesk, RedisTalk, TalkEnd};
+use sessions::{Conversation, ConversationEnd, SessionEnd, refuse};
+use std::sync::Wait;
+use std::thread::Threads;
+
+/// The most bytes that are read in one turn.
+pub const PIECE_BYTES: usize = 16384;
+
+/// What the turns of a worker's clients share: the worker's number, its passes, and the room for a piece, its requests and commands,
+/// and their values.
+#[derive(Drop)]
+pub struct Room<'a> {
+    pub number: u32,
+    pub serving: Serving<'a>,
+    pub conversation: Conversation,
+    pub desk: RedisDesk<'a>,
+    pub piece: [u8; PIECE_BYTES],
+}
+
+/// Owes a refusal at the end of a conversation, and answers how the client leaves then.
+fn refusal_owed(owed: &mut Owed, number: u8, end: SessionEnd) -> Option<Parting>
+    requires count { owed.old.failures ≡ 0 }
+    requires end { end ≢ SessionEnd.WriteFailed }
+    ensures { TellsLast (refusal number) end result owed.old.rest owed.new.rest }
+{
+    Some(Parting::Ended(refuse(owed, number, end)))
+}
+
+/// How a client leaves when its conversation took a piece so; what it is owed then has grown by the refusal that this asks for.
+fn leaving_after(owed: &mut Owed, taken: Result<(), ConversationEnd>) -> Option<Parting>
+    requires { taken ≢ Err ConversationEnd.WriteFailed → owed.old.failures ≡ 0 }
+    ensures { MatchResult taken (λ _. (result ≡ None) × (owed.new ≡ owed.old)) (λ end. LeavesAt end result owed.old.rest owed.new.rest) }
+{
+    match taken {
+        Ok(()) => None,
+        Err(ConversationEnd::Refused(fault)) => {
+            refusal_owed(owed, fault.number(), SessionEnd::Refused(fault))
+        }
+        Err(ConversationEnd::NoMemory) => {
+            refusal_owed(owed, NoMemory::NUMBER, SessionEnd::NoMemory)
+        }
+        Err(ConversationEnd::WriteFailed) => Some(Parting::Ended(SessionEnd::WriteFailed)),
+    }
+}
+
+/// Owes the line that says that memory was refused, and answers how the client leaves then.
+fn no_memory_owed(owed: &mut Owed) -> Option<Parting>
+    requires count { owed.old.failures ≡ 0 }
+    ensures { TellsLast no_memory_line SessionEnd.NoMemory result owed.old.rest owed.new.rest }
+{
+    match write_all(owed, NO_MEMORY_LINE) {
+        Ok(()) => Some(Parting::Ended(SessionEnd::NoMemory)),
+        Err(Failed) => Some(Parting::Ended(SessionEnd::WriteFailed)),
+    }
+}
+
+/// How a client leaves when its talk took a piece so; what it is owed then has grown by the line that this asks for.
+fn leaving_talk(owed: &mut Owed, taken: Result<(), TalkEnd>) -> Option<Parting>
+    requires { taken ≢ Err TalkEnd.WriteFailed → owed.old.failures ≡ 0 }
+    ensures { MatchResult taken (λ _. (result ≡ None) × (owed.new ≡ owed.old)) (λ end. LeavesTalk end result owed.old.rest owed.new.rest) }
+{
+    match taken {
+        Ok(()) => None,
+        Err(TalkEnd::Over) => Some(Parting::Over),
+        Err(TalkEnd::NoMemory) => no_memory_owed(owed),
+        Err(TalkEnd::WriteFailed) => Some(Parting::Ended(SessionEnd::WriteFailed)),
+    }
+}
+
+/// Answers the whole requests of a piece of frames, of this number of bytes, with the tokens of the client, and owes the answers.
+/// Returns how the client leaves, if it does.
+pub fn answer_frames<'a, H: Threads + Wait + Sync, G: Gate + Sync>(
+    worker: &Worker<'_, H, G>,
+    room: &mut Room<'a>,
+    count: usize,
+    feeder: &mut Feeder,
+    tokens: &mut Tokens<'a>,
+    owed: &mut Owed,
+) -> Option<Parting>
+    requires unfailed { owed.old.failures ≡ 0 }
+    requires some { 1 ≤ count }
+    requires within { count ≤ length room.old.piece }
+    ensures desk { room.new.desk ≡ room.old.desk }
+    ensures unfailed { result ≡ None → owed.new.failures ≡ 0 }
+    ensures says { (exchanges : List (TheExchange Station)) (read said : List ℕ) → SaysSo None (Talk.Frames feeder.old) exchanges read said
+        → SaysMore (known room.old.serving) (known room.new.serving) exchanges tokens.old tokens.new
+        (Talk.Frames feeder.new) result (read ++ take count room.old.piece) said owed.old.rest owed.new.rest }
+{
+    let number = room.number;
+    let answer = |serving: &mut Serving<'_>, hello, request: &Request, value: &mut Value| {
+        serving.answer(worker, number, hello, request, value)
+    };
+    room.serving.lend(tokens);
+    room.conversation.resume(feeder);
+    let taken = room.conversation.take(
+        worker.alloc,
+        &mut room.serving,
+        &answer,
+        &room.piece[..count],
+        owed,
+    );
+    room.conversation.resume(feeder);
+    room.serving.lend(tokens);
+    leaving_after(owed, taken)
+}
+
+/// Answers the whole commands of a piece, of this number of bytes, and owes the answers. Returns how the client leaves, if it does.
+pub fn answer_commands<'a, H: Wait>(
+    rt: &H,
+    room: &mut Room<'a>,
+    count: usize,
+    talk: &mut RedisTalk,
+    owed: &mut Owed,
+) -> Option<Parting>
+    requires unfailed { owed.old.failures ≡ 0 }
+    requires some { 1 ≤ count }
+    requires within { count ≤ length room.old.piece }
+    requires desk { room.old.serving.pass.map ≡ room.old.desk }
+    requires is_open { talk.old.is_over ≡ false }
+    ensures desk { room.new.desk ≡ room.old.desk }
+    ensures unfailed { result ≡ None → owed.new.failures ≡ 0 }
+    ensures says { (exchanges : List (TheExchange Station)) (tokens : List ProgramToken) (read said : List ℕ) → SaysSo None (Talk.Commands talk.old) exchanges read said
+        → SaysMore (known room.old.serving) (known room.new.serving) exchanges tokens tokens
+        (Talk.Commands talk.new) result (read ++ take count room.old.piece) said owed.old.rest owed.new.rest }
+{
+    let taken = room
+        .serving
+        .answer_commands(rt, &mut room.desk, talk, &room.piece[..count], owed);
+    leaving_talk(owed, taken)
+}
