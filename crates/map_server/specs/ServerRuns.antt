@@ -71,7 +71,7 @@ EndsServing served old new before status =
     ((text : List ℕ) × IsLastLine served text status × PrintsAll old new (before ++ text))
     ⊎ ((status ≡ 3) × ((text : List ℕ) × (meant : ℕ) × IsLastLine served text meant × TakesFront old new (before ++ text)))
 
--- the port could not be bound, of which standard error is told, with why
+-- a port could not be bound, of which standard error is told, with why
 abbrev pub FailsToListen : Outputs → Outputs → ℕ → Type 0
 FailsToListen old new status =
     (status ≡ 3) × (new.output ≡ old.output) × ((why : List ℕ) × TakesIfItCan old.errors new.errors (codes "failed listen\n" ++ why))
@@ -86,7 +86,7 @@ ServesClients asked old new status =
     ((status ≡ 3) × TakesFront old new (codes "ready\n"))
     ⊎ ((server : Server) × IsAsked asked server × ((served : Served) × ServedBy server served × EndsServing served old new (codes "ready\n") status))
 
--- the port could not be bound; or it was, and clients are served
+-- a port could not be bound; or all were, and clients are served
 abbrev pub Listens : MapdWords → Outputs → Outputs → ℕ → Type 0
 Listens asked old new status = FailsToListen old new status ⊎ ServesClients asked old.output new.output status
 

@@ -100,6 +100,7 @@ fn server_of(
         crews,
         quotas,
         limits,
+        protocols: asked.protocols(),
     })
 }
 

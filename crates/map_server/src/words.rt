@@ -3,8 +3,10 @@ ghost use Rattle.std.specs.Prelude.{◌≡◌, true, false, Some, IfOk, IfErr, c
 ghost use Rattle.clap.specs.Words.{app_of, fault_of, first_of, found_of, one_of, rows_of, rule_of, HasKind};
 ghost use Rattle.clap.specs.Walk.{texts};
 ghost use Rattle.map_commands.specs.CommandLine.{size_option, spelled_size};
+ghost use Rattle.map_server.specs.Servers.{protocols_of};
 ghost use Rattle.map_server.specs.ServerWords.{address_option, gives_redis, mapd, reader_of, AsksFor, AsksServer, IsFaultOf, IsInRange, IsWordsFault};
 
+use crate::server::Protocols;
 use bpf_model::NoMemory;
 use clap::builder::ValueParser;
 use clap::error::ErrorKind;
@@ -35,6 +37,18 @@ pub struct MapdWords {
     pub idle: Option<u64>,
     /// How many different programs clients may register.
     pub programs: u64,
+}
+
+impl MapdWords {
+    /// The protocols of the ports that are asked for.
+    pub fn protocols(&self) -> Protocols
+        ensures { result ≡ protocols_of self.now }
+    {
+        Protocols {
+            frames: self.listen.is_some(),
+            commands: self.redis.is_some(),
+        }
+    }
 }
 
 /// Why words ask for no server.
@@ -96,9 +110,11 @@ const PROGRAMS_DEFAULT: u64 = 65_536;
 
 /// What the options cost.
 const COSTS: &str = "\
+At least one of --listen and --redis is given. One map is behind both.
 Each worker serves any number of clients at once, and waits for none of them.
 Threads: one for each worker, and one more if there are several; while a worker walks with a team of several, as
-many more. Passes of the map: workers * (1 + team), at most 64. Descriptors: 5, one a worker and one a client.
+many more. Passes of the map: workers * (1 + team), at most 64. Descriptors: 4, one a port, one a worker and one a
+client.
 Memory: 2 KB for each client, and up to 7 MB for each worker, beside the threads' stacks, answers that are not read
 yet, what walks answer, and the map. A registered program stays.
 Status: 0 all sessions were served, 1 refused, 2 a fault of the words, 3 a failed listen, accept or write.";
