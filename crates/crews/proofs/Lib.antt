@@ -9,4 +9,5 @@ pub mod TokenLemmas
 pub mod LifeLemmas
 pub mod CountLemmas
 pub mod SeatLemmas
+pub mod PieceLemmas
 pub mod TurnLemmas

@@ -1,13 +1,14 @@
 -- Turns one after the other.
-use Rattle.std.proofs.Common.{◌≡◌, ◌≢◌, ◌==◌, if◌then◌else◌, ℕ, ◌<◌, ◌≤◌, List, [], ◌∷◌, ◌++◌, length, map, Bool, true, false, Option, Some, None, flat_map, refl, sym, ap, subst, ◌∙◌, append-nil, append_assoc, eq-eqb, ne_eqb, inl, inr}
+use Rattle.std.proofs.Common.{◌≡◌, ◌≢◌, ◌==◌, if◌then◌else◌, ℕ, List, [], ◌∷◌, ◌++◌, Bool, true, false, refl, sym, ap, subst, ◌∙◌, append-nil, append_assoc, eq-eqb, ne_eqb}
 use Rattle.std.proofs.lemmas.List.{map-append}
-use Rattle.std.proofs.lemmas.List.Concat.{flat_map-append}
 use Rattle.bin_stripes.specs.Passes.{PassState}
 use Rattle.client_protocol.specs.Frames.{Held}
 use Rattle.program_registry.specs.declared.registry.ProgramToken.{ProgramToken}
-use Rattle.sessions.specs.Conversations.{AnswersPiece, Exchange, Converses}
+use Rattle.redis_service.specs.Talks.{TalkState}
+use Rattle.sessions.specs.Conversations.{Exchange, Converses}
 use Rattle.crews.specs.Stations.{Station}
 use Rattle.crews.specs.Steps.{CrewServes}
+use Rattle.crews.specs.Talks.{AnswersEach}
 use Rattle.crews.specs.Lives.{Known, known, Moves, KeepsTokens, KeepsNumbers, Turn, all_exchanges, exchanges_of}
 
 pub moves_on : (a b c : Known) (xs ys : List (Exchange Station)) → Moves a xs b → Moves b ys c → Moves a (xs ++ ys) c
@@ -21,6 +22,10 @@ tokens_go_on a b c (x ∷ xs) ys (begins, one) more = (begins, tokens_go_on x.ne
 pub converses_on : (a b c : Held) (xs ys : List (Exchange Station)) → Converses CrewServes a xs b → Converses CrewServes b ys c → Converses CrewServes a (xs ++ ys) c
 converses_on a b c [] ys one more = subst (λ (k : Held). Converses CrewServes k ys c) one more
 converses_on a b c (x ∷ xs) ys (mid, first, one) more = (mid, first, converses_on mid b c xs ys one more)
+
+pub each_on : (a b c : TalkState) (xs ys : List (Exchange Station)) → AnswersEach a xs b → AnswersEach b ys c → AnswersEach a (xs ++ ys) c
+each_on a b c [] ys one more = subst (λ (k : TalkState). AnswersEach k ys c) one more
+each_on a b c (x ∷ xs) ys (mid, first, one) more = (mid, first, each_on mid b c xs ys one more)
 
 pub numbers_stay : (a : Known) → KeepsNumbers a a
 numbers_stay a = record { map_is = refl; pass = refl; team = refl }

@@ -1,10 +1,8 @@
 -- Clients that leave their seats, have turns, and take seats.
-use Rattle.std.proofs.Common.{◌≡◌, ◌≢◌, ◌⊎◌, ℕ, ◌+◌, ◌<◌, ◌≤◌, List, [], ◌∷◌, ◌++◌, length, take, drop, Option, Some, None, refl, sym, ap, subst, ◌∙◌, append-nil, append_assoc, take-append-drop, slice_index_or, inl, inr, arith}
+use Rattle.std.proofs.Common.{◌≡◌, ◌≢◌, ℕ, ◌+◌, ◌<◌, List, [], ◌++◌, take, drop, Option, Some, None, refl, sym, ap, subst, ◌∙◌, append-nil, append_assoc, take-append-drop, slice_index_or, inl, inr, arith}
 use Rattle.std.proofs.lemmas.Bool.{cases_eq}
 use Rattle.std.proofs.KnownBytes.{Appends-nil, Appends-kept, Appends-trans, Consumes-nil, Consumes-kept}
 use Rattle.std.specs.Io.KnownBytes.{Appends, Consumes, Keeps}
-use Rattle.client_protocol.specs.Frames.{Held}
-use Rattle.client_protocol.specs.Frames.Held.{open_at}
 use Rattle.bin_stripes.specs.Passes.{PassState}
 use Rattle.slab.specs.Slab.{Slab, get, Updates}
 use Rattle.program_registry.specs.declared.registry.ProgramToken.{ProgramToken}
@@ -12,12 +10,16 @@ use Rattle.devices.specs.Channels.{ChannelState, OwedState, Sends}
 use Rattle.devices.specs.declared.channel.Sent.{Sent}
 use Rattle.devices.specs.declared.channel.Sent.TheVariants.{Took, NotNow, Failed}
 use Rattle.sessions.specs.Conversations.{Exchange}
-use Rattle.sessions.specs.Sessions.{refusal}
 use Rattle.crews.specs.declared.clients.Parting.{Parting}
 use Rattle.crews.specs.declared.clients.Parting.TheVariants.{NotKept}
+use Rattle.crews.specs.declared.clients.Protocol.{Protocol}
+use Rattle.crews.specs.declared.clients.Protocol.TheVariants as protocols
+use Rattle.crews.specs.declared.talk.Talk.{Talk}
 use Rattle.crews.specs.declared.turn.Client.{Client}
 use Rattle.crews.specs.Stations.{Station}
-use Rattle.crews.specs.Lives.{Known, Moves, KeepsNumbers, Turn, all_exchanges, exchanges_of, Stands, HasCome, HasParted, IsOfClient, Life}
+use Rattle.crews.specs.Talks.{protocol_of, begins_so, IsOpen}
+use Rattle.crews.specs.Partings.{SaysSo, not_kept_told}
+use Rattle.crews.specs.Lives.{Arrival, Known, Moves, Turn, all_exchanges, exchanges_of, Stands, HasCome, HasParted, IsOfClient, Life}
 use Rattle.crews.specs.Turns.{TurnsTo}
 use Rattle.crews.specs.Seats.{IsClient, Seated, HasNone, IsAttended}
 use Rattle.crews.proofs.LifeLemmas.{moves_by_turns, numbers_stay, numbers_go_on, turns_of, exchanges_grow, exchanges_stay}
@@ -28,7 +30,20 @@ some_is x y is = cc
 none_some : {A : Type 0} (slot : Option A) (x : A) → slot ≡ None → slot ≡ Some x → ⊥
 none_some slot x none some = absurd cc
 
-module _ {C : Type 0} (state : C → ChannelState) (gave : PassState → C → Type 0) where
+-- it came with this connection, to the port of this protocol
+abbrev pub arrived : {C : Type 0} → C → Protocol → Arrival C
+arrived channel protocol = record { channel = channel; protocol = protocol }
+
+-- a talk that begins is in its protocol, and nothing was said in it
+begins_in : (number : ℕ) (protocol : Protocol) → protocol_of (begins_so number protocol) ≡ protocol
+begins_in number protocols.Frames = refl
+begins_in number protocols.Commands = refl
+
+begins_saying : (number : ℕ) (protocol : Protocol) → SaysSo None (begins_so number protocol) [] [] []
+begins_saying number protocols.Frames = ((None, [], refl), record { talked = refl; read_is = refl; said_is = refl })
+begins_saying number protocols.Commands = (refl, record { talked = (number, refl); read_is = refl; said_is = refl })
+
+module _ {C : Type 0} (state : C → ChannelState) (gave : PassState → C → Protocol → Type 0) where
   -- the client leaves its seat
   pub stays_out : (old : Known) (turns : List Turn) (new : Known) (n : ℕ) (seats after : Slab (Client C)) (seat : ℕ) → Seated state gave old turns new n seats → Updates seats after seat None → Seated state gave old turns new n after
   stays_out old turns new n seats after seat seated updates = record {
@@ -73,7 +88,7 @@ module _ {C : Type 0} (state : C → ChannelState) (gave : PassState → C → T
   -- ---- turns go on
 
   -- the client came among more turns
-  pub come_on : (old : Known) (turns : List Turn) (mid new : Known) (client k : ℕ) (came : C) (xs : List (Exchange Station)) → HasCome gave old turns mid client came → Moves mid xs new
+  pub come_on : (old : Known) (turns : List Turn) (mid new : Known) (client k : ℕ) (came : Arrival C) (xs : List (Exchange Station)) → HasCome gave old turns mid client came → Moves mid xs new
       → HasCome gave old (turns ++ turns_of k xs) new client came
   come_on old turns mid new client k came xs come moves = record {
     earlier = come.earlier;
@@ -96,7 +111,7 @@ module _ {C : Type 0} (state : C → ChannelState) (gave : PassState → C → T
           (
             came,
             come_on old turns mid new client.number k came xs come moves,
-            subst (λ (es : List (Exchange Station)). Stands state came client.channel es client.tokens client.feeder client.owed client.leaving)
+            subst (λ (es : List (Exchange Station)). Stands state came client.channel es client.tokens client.talk client.owed client.leaving)
                 (sym (exchanges_stay k client.number turns xs (λ same. none i client is (sym same)))) stands,
           ),
         );
@@ -106,21 +121,21 @@ module _ {C : Type 0} (state : C → ChannelState) (gave : PassState → C → T
   -- another client's turns are those that it had
   others_on : (old : Known) (turns : List Turn) (mid new : Known) (k i : ℕ) (xs : List (Exchange Station)) → Moves mid xs new → k ≢ i
       → IsOfClient state gave old turns mid i → IsOfClient state gave old (turns ++ turns_of k xs) new i
-  others_on old turns mid new k i xs moves other (came, now, tokens, held, owed, leaving, come, stands) = (
+  others_on old turns mid new k i xs moves other (came, now, tokens, talk, owed, leaving, come, stands) = (
     came,
     now,
     tokens,
-    held,
+    talk,
     owed,
     leaving,
     come_on old turns mid new i k came xs come moves,
-    subst (λ (es : List (Exchange Station)). Stands state came now es tokens held owed leaving) (sym (exchanges_stay k i turns xs other)) stands,
+    subst (λ (es : List (Exchange Station)). Stands state came now es tokens talk owed leaving) (sym (exchanges_stay k i turns xs other)) stands,
   )
 
-  pub lives_on : (old : Known) (turns : List Turn) (mid new : Known) (n k : ℕ) (came now : C) (tokens : List ProgramToken) (held : Held) (owed : OwedState) (leaving : Option Parting)
-      → Life state gave old turns mid n → k < n → HasCome gave old turns mid k came → (t : TurnsTo state mid new came now (exchanges_of k turns) tokens held owed leaving)
+  pub lives_on : (old : Known) (turns : List Turn) (mid new : Known) (n k : ℕ) (came : Arrival C) (now : C) (tokens : List ProgramToken) (talk : Talk) (owed : OwedState) (leaving : Option Parting)
+      → Life state gave old turns mid n → k < n → HasCome gave old turns mid k came → (t : TurnsTo state mid new came now (exchanges_of k turns) tokens talk owed leaving)
       → Life state gave old (turns ++ turns_of k t.more) new n
-  lives_on old turns mid new n k came now tokens held owed leaving life low come t = record {
+  lives_on old turns mid new n k came now tokens talk owed leaving life low come t = record {
     moves = moves_by_turns old mid new turns k t.more life.moves t.moves;
     each = λ i below. elim (cases_eq k i) [
       | inl here ↦ subst (λ (j : ℕ). IsOfClient state gave old (turns ++ turns_of k t.more) new j) here own
@@ -134,28 +149,31 @@ module _ {C : Type 0} (state : C → ChannelState) (gave : PassState → C → T
       came,
       now,
       tokens,
-      held,
+      talk,
       owed,
       leaving,
       come_on old turns mid new k k came t.more come t.moves,
-      subst (λ (es : List (Exchange Station)). Stands state came now es tokens held owed leaving) (sym (exchanges_grow k turns t.more)) t.stands,
+      subst (λ (es : List (Exchange Station)). Stands state came now es tokens talk owed leaving) (sym (exchanges_grow k turns t.more)) t.stands,
     )
 
   -- ---- a client more came, and has had no turn
 
-  pub new_stands : (came now : C) → state now ≡ state came → Stands state came now [] [] (open_at None []) (record { rest = []; failures = 0 }) None
-  new_stands came now same = record {
+  pub new_stands : (number : ℕ) (came : Arrival C) (now : C) → state now ≡ state came.channel
+      → Stands state came now [] [] (begins_so number came.protocol) (record { rest = []; failures = 0 }) None
+  new_stands number came now same = record {
+    speaks = begins_in number came.protocol;
     read = [];
     written = [];
-    consumed = subst (λ (s : ChannelState). Consumes (state came).left s.left []) (sym same) (Consumes-nil (state came).left);
-    appended = subst (λ (s : ChannelState). Appends (state came).held s.held []) (sym same) (Appends-nil (state came).held);
+    consumed = subst (λ (s : ChannelState). Consumes (state came.channel).left s.left []) (sym same) (Consumes-nil (state came.channel).left);
+    appended = subst (λ (s : ChannelState). Appends (state came.channel).held s.held []) (sym same) (Appends-nil (state came.channel).held);
     keeps = refl;
-    says = ((None, [], refl), record { converses = refl; read_is = refl; said_is = refl });
+    says = begins_saying number came.protocol;
     unfailed = λ is. refl;
   }
 
   -- it came after all turns so far
-  pub comes_now : (old : Known) (turns : List Turn) (new : Known) (n : ℕ) (came : C) → Moves old (all_exchanges turns) new → gave new.pass came → exchanges_of n turns ≡ [] → HasCome gave old turns new n came
+  pub comes_now : (old : Known) (turns : List Turn) (new : Known) (n : ℕ) (came : Arrival C) → Moves old (all_exchanges turns) new → gave new.pass came.channel came.protocol → exchanges_of n turns ≡ []
+      → HasCome gave old turns new n came
   comes_now old turns new n came moves given none = record {
     earlier = turns;
     later = [];
@@ -167,8 +185,15 @@ module _ {C : Type 0} (state : C → ChannelState) (gave : PassState → C → T
     none = none;
   }
 
-  pub one_more_lives : (old : Known) (turns : List Turn) (new : Known) (n : ℕ) (came now : C) → Life state gave old turns new n → gave new.pass came → state now ≡ state came → Life state gave old turns new (n + 1)
-  one_more_lives old turns new n came now life given same = record {
+  -- so it stands among the turns so far, of which none is its own
+  first_stands : (turns : List Turn) (n number : ℕ) (came : Arrival C) (now : C) → exchanges_of n turns ≡ [] → state now ≡ state came.channel
+      → Stands state came now (exchanges_of n turns) [] (begins_so number came.protocol) (record { rest = []; failures = 0 }) None
+  first_stands turns n number came now none same =
+      subst (λ (es : List (Exchange Station)). Stands state came now es [] (begins_so number came.protocol) (record { rest = []; failures = 0 }) None) (sym none) (new_stands number came now same)
+
+  pub one_more_lives : (old : Known) (turns : List Turn) (new : Known) (n number : ℕ) (came : Arrival C) (now : C) → Life state gave old turns new n → gave new.pass came.channel came.protocol → state now ≡ state came.channel
+      → Life state gave old turns new (n + 1)
+  one_more_lives old turns new n number came now life given same = record {
     moves = life.moves;
     each = λ i below. elim (cases_eq n i) [
       | inl here ↦ subst (λ (j : ℕ). IsOfClient state gave old turns new j) here own
@@ -182,11 +207,11 @@ module _ {C : Type 0} (state : C → ChannelState) (gave : PassState → C → T
       came,
       now,
       [],
-      open_at None [],
+      begins_so number came.protocol,
       record { rest = []; failures = 0 },
       None,
       comes_now old turns new n came life.moves given (life.no_other n (omega arith)),
-      subst (λ (es : List (Exchange Station)). Stands state came now es [] (open_at None []) (record { rest = []; failures = 0 }) None) (sym (life.no_other n (omega arith))) (new_stands came now same),
+      first_stands turns n number came now (life.no_other n (omega arith)) same,
     )
 
   pub more_seated : (old : Known) (turns : List Turn) (new : Known) (n : ℕ) (seats : Slab (Client C)) → Seated state gave old turns new n seats → Seated state gave old turns new (n + 1) seats
@@ -207,12 +232,17 @@ module _ {C : Type 0} (state : C → ChannelState) (gave : PassState → C → T
   pub client_unfailed : (old : Known) (turns : List Turn) (new : Known) (n : ℕ) (client : Client C) → IsClient state gave old turns new n client → client.leaving ≡ None → client.owed.failures ≡ 0
   client_unfailed old turns new n client (low, (came, come, stands)) = stands.unfailed
 
+  pub client_open : (old : Known) (turns : List Turn) (new : Known) (n : ℕ) (client : Client C) → IsClient state gave old turns new n client → client.leaving ≡ None → IsOpen client.talk
+  client_open old turns new n client (low, (came, come, stands)) none =
+      let (opened, all) = subst (λ (leaving : Option Parting). SaysSo leaving client.talk (exchanges_of client.number turns) stands.read (stands.written ++ client.owed.rest)) none stands.says in
+      opened
+
   -- it stands otherwise, with no exchange
   pub client_still : (old : Known) (turns : List Turn) (new : Known) (n : ℕ) (was is : Client C) → is.number ≡ was.number
-      → ((came : C) (exchanges : List (Exchange Station)) → Stands state came was.channel exchanges was.tokens was.feeder was.owed was.leaving → Stands state came is.channel exchanges is.tokens is.feeder is.owed is.leaving)
+      → ((came : Arrival C) (exchanges : List (Exchange Station)) → Stands state came was.channel exchanges was.tokens was.talk was.owed was.leaving → Stands state came is.channel exchanges is.tokens is.talk is.owed is.leaving)
       → IsClient state gave old turns new n was → IsClient state gave old turns new n is
   client_still old turns new n was is same goes (low, (came, come, stands)) =
-      (subst (λ (k : ℕ). k < n) (sym same) low, (came, subst (λ (k : ℕ). HasCome gave old turns new k came) (sym same) come, subst (λ (k : ℕ). Stands state came is.channel (exchanges_of k turns) is.tokens is.feeder is.owed is.leaving) (sym same) (goes came (exchanges_of was.number turns) stands)))
+      (subst (λ (k : ℕ). k < n) (sym same) low, (came, subst (λ (k : ℕ). HasCome gave old turns new k came) (sym same) come, subst (λ (k : ℕ). Stands state came is.channel (exchanges_of k turns) is.tokens is.talk is.owed is.leaving) (sym same) (goes came (exchanges_of was.number turns) stands)))
 
   pub seat_left : (old : Known) (turns : List Turn) (new : Known) (n : ℕ) (seats after : Slab (Client C)) (seat : ℕ) → Updates seats after seat None → IsAttended state gave old turns new n seats → IsAttended state gave old turns new n after
   seat_left old turns new n seats after seat updates (life, seated) = (life, stays_out old turns new n seats after seat seated updates)
@@ -229,7 +259,7 @@ module _ {C : Type 0} (state : C → ChannelState) (gave : PassState → C → T
   -- the client, which is out of its seat, has had a turn
   pub has_turn : (old : Known) (turns : List Turn) (mid new : Known) (n : ℕ) (seats out : Slab (Client C)) (seat : ℕ) (was is : Client C)
       → Some was ≡ get seats seat → Updates seats out seat None → is.number ≡ was.number
-      → ((came : C) (exchanges : List (Exchange Station)) → Stands state came was.channel exchanges was.tokens was.feeder was.owed was.leaving → TurnsTo state mid new came is.channel exchanges is.tokens is.feeder is.owed is.leaving)
+      → ((came : Arrival C) (exchanges : List (Exchange Station)) → Stands state came was.channel exchanges was.tokens was.talk was.owed was.leaving → TurnsTo state mid new came is.channel exchanges is.tokens is.talk is.owed is.leaving)
       → IsAttended state gave old turns mid n seats
       → (more : List Turn) × IsAttended state gave old (turns ++ more) new n out × HasNone state gave out is.number × IsClient state gave old (turns ++ more) new n is
   has_turn old turns mid new n seats out seat was is here updates same goes (life, seated) =
@@ -238,26 +268,27 @@ module _ {C : Type 0} (state : C → ChannelState) (gave : PassState → C → T
       let t = goes came (exchanges_of k turns) stands in
       let none : HasNone state gave out k = none_left old turns mid n seats out seat was seated (sym here) updates in
       let more = turns_of k t.more in
-      let grown = subst (λ (es : List (Exchange Station)). Stands state came is.channel es is.tokens is.feeder is.owed is.leaving) (sym (exchanges_grow k turns t.more)) t.stands in (
+      let grown = subst (λ (es : List (Exchange Station)). Stands state came is.channel es is.tokens is.talk is.owed is.leaving) (sym (exchanges_grow k turns t.more)) t.stands in (
         more,
         (
-          lives_on old turns mid new n k came is.channel is.tokens is.feeder is.owed is.leaving life low come t,
+          lives_on old turns mid new n k came is.channel is.tokens is.talk is.owed is.leaving life low come t,
           seated_on old turns mid new n k t.more out t.moves (stays_out old turns mid n seats out seat seated updates) none,
         ),
         subst (λ (j : ℕ). HasNone state gave out j) (sym same) none,
         (
           subst (λ (j : ℕ). j < n) (sym same) low,
-          (came, subst (λ (j : ℕ). HasCome gave old (turns ++ more) new j came) (sym same) (come_on old turns mid new k k came t.more come t.moves), subst (λ (j : ℕ). Stands state came is.channel (exchanges_of j (turns ++ more)) is.tokens is.feeder is.owed is.leaving) (sym same) grown),
+          (came, subst (λ (j : ℕ). HasCome gave old (turns ++ more) new j came) (sym same) (come_on old turns mid new k k came t.more come t.moves), subst (λ (j : ℕ). Stands state came is.channel (exchanges_of j (turns ++ more)) is.tokens is.talk is.owed is.leaving) (sym same) grown),
         ),
       )
 
   -- a client comes, and takes a seat
-  pub one_comes : (old : Known) (turns : List Turn) (new : Known) (n : ℕ) (seats room after : Slab (Client C)) (seat : ℕ) (came now : C) (client : Client C) → gave new.pass came → state now ≡ state came
-      → client ≡ record { number = n; channel = now; feeder = open_at None []; tokens = []; owed = record { rest = []; failures = 0 }; leaving = None }
+  pub one_comes : (old : Known) (turns : List Turn) (new : Known) (n number : ℕ) (seats room after : Slab (Client C)) (seat : ℕ) (came : Arrival C) (now : C) (talk : Talk) (client : Client C) → gave new.pass came.channel came.protocol
+      → state now ≡ state came.channel → talk ≡ begins_so number came.protocol
+      → client ≡ record { number = n; channel = now; talk = talk; tokens = []; owed = record { rest = []; failures = 0 }; leaving = None }
       → room ≡ record seats { capacity = room.capacity } → Updates room after seat (Some client)
       → IsAttended state gave old turns new n seats → IsAttended state gave old turns new (n + 1) after
-  one_comes old turns new n seats room after seat came now client given same is grown updates (life, seated) = (
-    one_more_lives old turns new n came now life given same,
+  one_comes old turns new n number seats room after seat came now talk client given same begins is grown updates (life, seated) = (
+    one_more_lives old turns new n number came now life given same,
     takes_seat old turns new (n + 1) seats after seat client (more_seated old turns new n seats seated) none stands (record {
       changed = updates.changed;
       others = λ other differ. updates.others other differ ∙ ap (λ (s : Slab (Client C)). get s other) grown;
@@ -266,17 +297,16 @@ module _ {C : Type 0} (state : C → ChannelState) (gave : PassState → C → T
     none : HasNone state gave seats client.number
     none = subst (λ (c : Client C). HasNone state gave seats c.number) (sym is) (none_yet old turns new n seats seated)
 
-    first : Stands state came now (exchanges_of n turns) [] (open_at None []) (record { rest = []; failures = 0 }) None
-    first = subst (λ (es : List (Exchange Station)). Stands state came now es [] (open_at None []) (record { rest = []; failures = 0 }) None) (sym (life.no_other n (omega arith))) (new_stands came now same)
-
     stands : IsClient state gave old turns new (n + 1) client
-    stands = subst (λ (c : Client C). IsClient state gave old turns new (n + 1) c) (sym is) (omega arith, (came, comes_now old turns new n came life.moves given (life.no_other n (omega arith)), first))
+    stands = subst (λ (c : Client C). IsClient state gave old turns new (n + 1) c) (sym is)
+        (omega arith, (came, comes_now old turns new n came life.moves given (life.no_other n (omega arith)), subst (λ (t : Talk). Stands state came now (exchanges_of n turns) [] t (record { rest = []; failures = 0 }) None) (sym begins) (first_stands turns n number came now (life.no_other n (omega arith)) same)))
 
   -- nothing was told to it
-  told_none : (pass : PassState) (came now next : C) → gave pass came → state now ≡ state came → Keeps (state now).left (state next).left → Keeps (state now).held (state next).held → HasParted state gave pass next NotKept
+  told_none : (pass : PassState) (came : Arrival C) (now next : C) → gave pass came.channel came.protocol → state now ≡ state came.channel → Keeps (state now).left (state next).left → Keeps (state now).held (state next).held
+      → HasParted state gave pass next NotKept
   unfolding new_stands
   told_none pass came now next given same unread untold =
-      let stands = new_stands came now same in
+      let stands = new_stands 0 came now same in
       let here : Known = record { pass = pass; team = [] } in
       record {
         old = here;
@@ -288,16 +318,17 @@ module _ {C : Type 0} (state : C → ChannelState) (gave : PassState → C → T
         come = comes_now here [] here 0 came refl given refl;
         read = [];
         written = [];
-        consumed = Consumes-kept (state came).left (state now).left (state next).left [] stands.consumed unread;
-        appended = Appends-kept (state came).held (state now).held (state next).held [] stands.appended untold;
-        parts = (refl, refl, (refusal 9, refl));
+        consumed = Consumes-kept (state came.channel).left (state now).left (state next).left [] stands.consumed unread;
+        appended = Appends-kept (state came.channel).held (state now).held (state next).held [] stands.appended untold;
+        parts = (refl, refl, (not_kept_told came.protocol, refl));
       }
 
   -- a client that came can't be kept
-  pub turned_away : (pass : PassState) (came now next : C) (sent : Sent) (bytes : List ℕ) → gave pass came → state now ≡ state came → bytes ≡ refusal 9 → Sends (state now) (state next) sent bytes → HasParted state gave pass next NotKept
+  pub turned_away : (pass : PassState) (came : Arrival C) (now next : C) (sent : Sent) (bytes : List ℕ) → gave pass came.channel came.protocol → state now ≡ state came.channel → bytes ≡ not_kept_told came.protocol
+      → Sends (state now) (state next) sent bytes → HasParted state gave pass next NotKept
   unfolding new_stands
-  turned_away pass came now next (Took n) bytes given same frame (some, within, kept, taken) =
-      let stands = new_stands came now same in
+  turned_away pass came now next (Took n) bytes given same line (some, within, kept, taken) =
+      let stands = new_stands 0 came now same in
       let here : Known = record { pass = pass; team = [] } in
       record {
         old = here;
@@ -309,12 +340,12 @@ module _ {C : Type 0} (state : C → ChannelState) (gave : PassState → C → T
         come = comes_now here [] here 0 came refl given refl;
         read = [];
         written = take n bytes;
-        consumed = Consumes-kept (state came).left (state now).left (state next).left [] stands.consumed kept;
-        appended = Appends-trans (state came).held (state now).held (state next).held [] (take n bytes) stands.appended taken;
-        parts = (refl, refl, (drop n bytes, sym frame ∙ sym (take-append-drop n bytes)));
+        consumed = Consumes-kept (state came.channel).left (state now).left (state next).left [] stands.consumed kept;
+        appended = Appends-trans (state came.channel).held (state now).held (state next).held [] (take n bytes) stands.appended taken;
+        parts = (refl, refl, (drop n bytes, sym line ∙ sym (take-append-drop n bytes)));
       }
-  turned_away pass came now next NotNow bytes given same frame kept = told_none pass came now next given same kept.0 kept.1
-  turned_away pass came now next Failed bytes given same frame kept = told_none pass came now next given same kept.0 kept.1
+  turned_away pass came now next NotNow bytes given same line kept = told_none pass came now next given same kept.0 kept.1
+  turned_away pass came now next Failed bytes given same line kept = told_none pass came now next given same kept.0 kept.1
 
   -- there is more room
   pub room_made : (old : Known) (turns : List Turn) (new : Known) (n : ℕ) (seats room : Slab (Client C)) → room ≡ record seats { capacity = room.capacity }
@@ -341,8 +372,9 @@ module _ {C : Type 0} (state : C → ChannelState) (gave : PassState → C → T
     nothing : (i : ℕ) → get seats i ≡ None
     nothing i = ap (λ (slots : List (Option (Client C))). slice_index_or slots i None) empty
 
-  pub begins : (start first : Known) → start ≡ first → (seats : Slab (Client C)) → seats.slots ≡ [] → IsAttended state gave start [] first 0 seats
-  begins start first same seats empty = subst (λ (k : Known). IsAttended state gave start [] k 0 seats) same (none_came start seats empty)
+  pub begins : (start first : Known) (n : ℕ) → first ≡ start → n ≡ 0 → (seats : Slab (Client C)) → seats.slots ≡ [] → IsAttended state gave start [] first n seats
+  begins start first n same none seats empty =
+      subst (λ (k : Known). IsAttended state gave start [] k n seats) (sym same) (subst (λ (m : ℕ). IsAttended state gave start [] start m seats) (sym none) (none_came start seats empty))
 
   -- no turn, and turns after turns
   pub no_more : (old : Known) (turns : List Turn) (new : Known) (n : ℕ) (seats : Slab (Client C)) → IsAttended state gave old turns new n seats

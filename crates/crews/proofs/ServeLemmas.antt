@@ -1,5 +1,5 @@
 -- Crews before and after they served.
-use Rattle.std.proofs.Common.{◌≡◌, ℕ, List, [], Option, Some, None, IsSome, refl, ◌∙◌}
+use Rattle.std.proofs.Common.{ℕ, List, [], Option, Some, None, IsSome, refl, ◌∙◌}
 use Rattle.std.specs.Io.KnownBytes.{Appends, Consumes}
 use Rattle.atomic_table.specs.Seated.{TableId}
 use Rattle.program_registry.specs.declared.registry.ProgramToken.{ProgramToken}

@@ -1,5 +1,5 @@
 -- Where a worker's clients stand between their turns. No public contract cites this.
-use Rattle.std.specs.Prelude.{◌≡◌, ◌≢◌, ℕ, ◌<◌, List, Option, Some}
+use Rattle.std.specs.Prelude.{◌≡◌, ◌≢◌, ℕ, ◌<◌, List, Some}
 use Rattle.slab.specs.Slab.{Slab, get}
 use Rattle.devices.specs.Channels.{ChannelState}
 use Rattle.crews.specs.declared.clients.Protocol.{Protocol}

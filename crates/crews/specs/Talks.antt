@@ -2,7 +2,6 @@
 use Rattle.std.specs.Prelude.{◌≡◌, ◌≢◌, ℕ, true, false, List, [], ◌∷◌, Option, None}
 use Rattle.client_protocol.specs.declared.limits.Version.{Version}
 use Rattle.client_protocol.specs.declared.fault.ProtocolFault.{ProtocolFault}
-use Rattle.client_protocol.specs.Frames.{Held}
 use Rattle.client_protocol.specs.Frames.Held.{open_at, failed}
 use Rattle.redis_service.specs.Talks as redis
 use Rattle.redis_service.specs.Talks.{TalkState, begun}

@@ -44,7 +44,8 @@ pub enum Standing {
 pub enum Parting {
     /// Its session ended so. All that it was owed is written then, unless a write failed. A client of commands is never `Refused`.
     Ended(SessionEnd),
-    /// It speaks commands, and asked for the end or has a fault, whose text is the last answer. All that it was owed is written then.
+    /// It speaks commands, and asked for the end, or its talk can't go on, as the last answer says. All that it was owed is written
+    /// then.
     Over,
     /// It was let go.
     LetGo,

@@ -3,6 +3,7 @@ ghost use Rattle.std.specs.Prelude.{◌≡◌, ◌≤◌, All, IfOk, IfSome};
 ghost use Rattle.crews.specs.Crews.{IsCrewOf};
 
 mod at_work;
+mod both_protocols;
 mod loopback;
 
 use crate::bpfmap::memory::{Pieces, ROOM, Room};

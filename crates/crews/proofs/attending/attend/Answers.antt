@@ -12,47 +12,47 @@ use Rattle.crews.proofs.attending.attend.Goals as goal
 
 pub attend_all-requires-clause-attended : goal.attend_all-requires-clause-attended
 attend_all-requires-clause-attended g c κs within =
-    let state = g.C.Channel.state in
-    let gave = g.P.Clients.gave in
-    let crew = c.args.crew in
-    let start = known (station crew []) in
-    let begun = begins state gave start (record { pass = crew.pass; team = c.into_passes.result.items }) (known_same start (record { pass = crew.pass; team = c.into_passes.result.items }) refl (sym (ap (λ ps. ps.items) c.into_passes.ensures))) c.new-3.result c.new-3.ensures.empty in
-    (start, [], begun)
+    let start = known (station c.args.crew []) in
+    let first = c.begun-attendant.result in
+    let is = c.begun-attendant.ensures in
+    (start, [], begins g.C.Channel.state g.P.Clients.gave start (known first.room.serving) first.came is.knows is.came first.seats is.empty)
+
+pub attend_all-requires-clause-serves : goal.attend_all-requires-clause-serves
+attend_all-requires-clause-serves g c κs within =
+    subst (λ (id : TableId). g.P.Clients.serves id) (sym (ap (λ (k : Known). k.pass.map) c.begun-attendant.ensures.knows ∙ c.requires.crew.pass)) c.requires.serves
+
+pub attend_all-requires-clause-desk : goal.attend_all-requires-clause-desk
+attend_all-requires-clause-desk g c κs within =
+    ap (λ (k : Known). k.pass.map) c.begun-attendant.ensures.knows ∙ c.requires.crew.pass ∙ sym c.begun-attendant.ensures.desk
 
 pub drop_all-requires : goal.drop_all-requires
 drop_all-requires g c =
-    let state = g.C.Channel.state in
-    let gave = g.P.Clients.gave in
-    let crew = c.args.crew in
-    let start = known (station crew []) in
-    let begun = begins state gave start (record { pass = crew.pass; team = c.into_passes.result.items }) (known_same start (record { pass = crew.pass; team = c.into_passes.result.items }) refl (sym (ap (λ ps. ps.items) c.into_passes.ensures))) c.new-3.result c.new-3.ensures.empty in
-    let (more, now) = c.attend_all.ensures.attended start [] begun in
+    let start = known (station c.args.crew []) in
+    let first = c.begun-attendant.result in
+    let is = c.begun-attendant.ensures in
+    let (more, now) = c.attend_all.ensures.attended start [] (begins g.C.Channel.state g.P.Clients.gave start (known first.room.serving) first.came is.knows is.came first.seats is.empty) in
     record { attended = (start, more, now) }
 
 pub returns-clause-life : goal.returns-clause-life
 returns-clause-life g c =
-    let state = g.C.Channel.state in
-    let gave = g.P.Clients.gave in
-    let crew = c.args.crew in
-    let start = known (station crew []) in
-    let begun = begins state gave start (record { pass = crew.pass; team = c.into_passes.result.items }) (known_same start (record { pass = crew.pass; team = c.into_passes.result.items }) refl (sym (ap (λ ps. ps.items) c.into_passes.ensures))) c.new-3.result c.new-3.ensures.empty in
-    let (more, now) = c.attend_all.ensures.attended start [] begun in
+    let start = known (station c.args.crew []) in
+    let first = c.begun-attendant.result in
+    let is = c.begun-attendant.ensures in
+    let (more, now) = c.attend_all.ensures.attended start [] (begins g.C.Channel.state g.P.Clients.gave start (known first.room.serving) first.came is.knows is.came first.seats is.empty) in
     let (life, seated) = c.drop_all.ensures.attended start more now in
     let end = c.drop_all.new.self in (
       more,
       end.came,
-      subst (λ (k : Known). Life state gave start more k end.came) (sym (known_same (record { pass = c.serving.inside.pass; team = c.in-Ok.team.passes.items }) (known end.room.serving)
+      subst (λ (k : Known). Life g.C.Channel.state g.P.Clients.gave start more k end.came) (sym (known_same (record { pass = c.serving.inside.pass; team = c.in-Ok.team.passes.items }) (known end.room.serving)
           (ap (λ (t : Station). t.pass) c.serving.view_is) (ap (λ ps. ps.items) c.in-Ok.ensures.team ∙ ap (λ (t : Station). t.team) c.serving.view_is))) life,
     )
 
 pub returns-clause-crew : goal.returns-clause-crew
 returns-clause-crew g c =
-    let state = g.C.Channel.state in
-    let gave = g.P.Clients.gave in
-    let crew = c.args.crew in
-    let start = known (station crew []) in
-    let begun = begins state gave start (record { pass = crew.pass; team = c.into_passes.result.items }) (known_same start (record { pass = crew.pass; team = c.into_passes.result.items }) refl (sym (ap (λ ps. ps.items) c.into_passes.ensures))) c.new-3.result c.new-3.ensures.empty in
-    let (more, now) = c.attend_all.ensures.attended start [] begun in
+    let start = known (station c.args.crew []) in
+    let first = c.begun-attendant.result in
+    let is = c.begun-attendant.ensures in
+    let (more, now) = c.attend_all.ensures.attended start [] (begins g.C.Channel.state g.P.Clients.gave start (known first.room.serving) first.came is.knows is.came first.seats is.empty) in
     let (life, seated) = c.drop_all.ensures.attended start more now in
     let pass = ap (λ (t : Station). t.pass.map) c.serving.view_is ∙ life.numbers.map_is ∙ c.requires.crew.pass in
     let here : c.serving.inside.map.now ≡ c.args.worker.now.map.now = sym c.serving.invariant.0 ∙ pass in
@@ -64,12 +64,10 @@ returns-clause-crew g c =
 
 pub returns-clause-same : goal.returns-clause-same
 returns-clause-same g c =
-    let state = g.C.Channel.state in
-    let gave = g.P.Clients.gave in
-    let crew = c.args.crew in
-    let start = known (station crew []) in
-    let begun = begins state gave start (record { pass = crew.pass; team = c.into_passes.result.items }) (known_same start (record { pass = crew.pass; team = c.into_passes.result.items }) refl (sym (ap (λ ps. ps.items) c.into_passes.ensures))) c.new-3.result c.new-3.ensures.empty in
-    let (more, now) = c.attend_all.ensures.attended start [] begun in
+    let start = known (station c.args.crew []) in
+    let first = c.begun-attendant.result in
+    let is = c.begun-attendant.ensures in
+    let (more, now) = c.attend_all.ensures.attended start [] (begins g.C.Channel.state g.P.Clients.gave start (known first.room.serving) first.came is.knows is.came first.seats is.empty) in
     let (life, seated) = c.drop_all.ensures.attended start more now in
     record {
       worker = refl;
@@ -80,8 +78,9 @@ returns-clause-same g c =
 pub returns-clause-there : goal.returns-clause-there
 returns-clause-there g c =
     let there = g.P.Clients.there in
+    let start = slab_len c.begun-attendant.result.seats in
     let mid = slab_len c.attend_all.new.self.seats in
     let end = slab_len c.drop_all.new.self.seats in
-    let none = ap (count_by is_some) c.new-3.ensures.empty in
-    counts_by there c.args.clients.now c.drop_all.new.clients (slab_len c.new-3.result) end 0 0 0 (omega (arith, none)) (omega (arith, c.drop_all.ensures.empty))
-    (counts_on there c.args.clients.now c.attend_all.new.clients c.drop_all.new.clients (slab_len c.new-3.result) mid end c.attend_all.ensures.there c.drop_all.ensures.there)
+    let none = ap (count_by is_some) c.begun-attendant.ensures.empty in
+    counts_by there c.args.clients.now c.drop_all.new.clients start end 0 0 0 (omega (arith, none)) (omega (arith, c.drop_all.ensures.empty))
+    (counts_on there c.args.clients.now c.attend_all.new.clients c.drop_all.new.clients start mid end c.attend_all.ensures.there c.drop_all.ensures.there)

@@ -1,7 +1,7 @@
 use Rattle.std.proofs.Common.{◌≡◌, ◌<◌, List, Option, Some, length, map, sym, subst, slice_index_or}
 use Rattle.crews.specs.declared.crew.Crew.{Crew}
 use Rattle.crews.specs.Crews.{IsCrewOf, IsServed, CarriesSame}
-use Rattle.crews.specs.Served.{ServesClients, HasServedClients}
+use Rattle.crews.specs.Served.{HasServedClients}
 use Rattle.crews.proofs.ServeLemmas.{served_some}
 use Rattle.crews.proofs.ThreadLemmas.{EachSeat, pairwise_of, all_of, each_seated, each_left}
 use Rattle.crews.proofs.server.serve.Goals as goal

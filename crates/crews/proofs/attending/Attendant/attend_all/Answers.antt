@@ -12,6 +12,7 @@ loop-init g c = record {
   attended = λ old turns attended.
       let s = c.args.self.now in
       no_more g.C.Channel.state g.P.Clients.gave old turns (known s.room.serving) s.came s.seats attended;
+  desk = refl;
   there = counts_stay g.P.Clients.there c.args.clients.now (slab_len c.args.self.now.seats) (slab_len c.args.self.now.seats) refl;
 }
 
@@ -22,13 +23,19 @@ next-requires-in-loop g c =
     subst (λ (id : TableId). g.P.Clients.serves id) (attended.0.numbers.map_is ∙ sym now.0.numbers.map_is ∙ sym (ap (λ (p : PassState). p.map) c.pass.ensures)) c.requires.serves
 
 pub take_in-requires : goal.take_in-requires
-take_in-requires g c = subst (λ (p : PassState). g.P.Clients.gave p c.in-Came.channel) c.pass.ensures (c.in-Came.ensures.gave c.in-Came.channel refl)
+take_in-requires g c = subst (λ (p : PassState). g.P.Clients.gave p c.in-Came.channel c.in-Came.protocol) c.pass.ensures (c.in-Came.ensures.gave c.in-Came.channel c.in-Came.protocol refl)
 
 pub serve_one-requires-clause-attended : goal.serve_one-requires-clause-attended
 serve_one-requires-clause-attended g c κs within =
     let (old, turns, attended) = c.requires.attended in
     let (more, now) = c.loop.invariant.attended old turns attended in
     (old, turns ++ more, now)
+
+pub serve_one-requires-clause-desk : goal.serve_one-requires-clause-desk
+serve_one-requires-clause-desk g c κs within =
+    let (old, turns, attended) = c.requires.attended in
+    let (more, now) = c.loop.invariant.attended old turns attended in
+    now.0.numbers.map_is ∙ sym attended.0.numbers.map_is ∙ c.requires.desk ∙ sym c.loop.invariant.desk
 
 pub let_go-requires : goal.let_go-requires
 let_go-requires g c =
@@ -39,6 +46,7 @@ let_go-requires g c =
 pub loop-preserved-in-Came : goal.loop-preserved-in-Came
 loop-preserved-in-Came g c = record {
   attended = λ old turns attended. let (more, now) = c.loop.invariant.attended old turns attended in (more, c.take_in.ensures.attended old (turns ++ more) now);
+  desk = c.take_in.ensures.desk ∙ c.loop.invariant.desk;
   there =
       let there = g.P.Clients.there in
       let n = slab_len c.loop.self.seats in
@@ -54,6 +62,7 @@ loop-preserved-in-Ready g c = record {
       let (last, then) = c.serve_one.ensures.attended old (turns ++ more) now in
       let s = c.serve_one.new.self in
       and_more g.C.Channel.state g.P.Clients.gave old turns more last (known s.room.serving) s.came s.seats then;
+  desk = c.serve_one.ensures.desk ∙ c.loop.invariant.desk;
   there =
       let there = g.P.Clients.there in
       let n = slab_len c.loop.self.seats in
@@ -65,6 +74,7 @@ loop-preserved-in-Ready g c = record {
 pub loop-preserved : goal.loop-preserved
 loop-preserved g c = record {
   attended = λ old turns attended. let (more, now) = c.loop.invariant.attended old turns attended in (more, c.let_go.ensures.attended old (turns ++ more) now);
+  desk = c.let_go.ensures.desk ∙ c.loop.invariant.desk;
   there =
       let there = g.P.Clients.there in
       let n = slab_len c.loop.self.seats in

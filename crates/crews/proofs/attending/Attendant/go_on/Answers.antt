@@ -1,4 +1,4 @@
-use Rattle.std.proofs.Common.{◌+◌, sym, ap, arith}
+use Rattle.std.proofs.Common.{◌+◌, sym, arith}
 use Rattle.slab.specs.Slab.{slab_len}
 use Rattle.crews.specs.Lives.{known}
 use Rattle.crews.proofs.CountLemmas.{counts_by}

@@ -2,7 +2,7 @@ use Rattle.std.proofs.Common.{◌++◌, ◌+◌, arith}
 use Rattle.slab.specs.Slab.{slab_len}
 use Rattle.crews.specs.Lives.{known}
 use Rattle.crews.proofs.CountLemmas.{counts_by}
-use Rattle.crews.proofs.SeatLemmas.{client_in, client_unfailed, has_turn, no_more, seat_left}
+use Rattle.crews.proofs.SeatLemmas.{client_in, client_open, client_unfailed, has_turn, no_more, seat_left}
 use Rattle.crews.proofs.attending.Attendant.serve_one.Goals as goal
 
 pub turn-standing-requires-clause-unfailed : goal.turn-standing-requires-clause-unfailed
@@ -12,6 +12,14 @@ turn-standing-requires-clause-unfailed g c κs within =
     let s = c.args.self.now in
     let (old, turns, attended) = c.requires.attended in
     client_unfailed state gave old turns (known s.room.serving) s.came c.in-Some.client (client_in state gave old turns (known s.room.serving) s.came s.seats c.args.seat c.in-Some.client attended c.in-Some.ensures.value)
+
+pub turn-standing-requires-clause-is_open : goal.turn-standing-requires-clause-is_open
+turn-standing-requires-clause-is_open g c κs within =
+    let state = g.C.Channel.state in
+    let gave = g.P.Clients.gave in
+    let s = c.args.self.now in
+    let (old, turns, attended) = c.requires.attended in
+    client_open state gave old turns (known s.room.serving) s.came c.in-Some.client (client_in state gave old turns (known s.room.serving) s.came s.seats c.args.seat c.in-Some.client attended c.in-Some.ensures.value)
 
 pub go_on-requires-clause-client : goal.go_on-requires-clause-client
 go_on-requires-clause-client g c =

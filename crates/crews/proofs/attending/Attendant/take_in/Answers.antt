@@ -4,17 +4,17 @@ use Rattle.slab.specs.Slab.{slab_len}
 use Rattle.crews.specs.Lives.{known}
 use Rattle.crews.specs.Seats.{IsAttended}
 use Rattle.crews.proofs.CountLemmas.{counts_by, counts_on}
-use Rattle.crews.proofs.SeatLemmas.{one_comes, room_made}
+use Rattle.crews.proofs.SeatLemmas.{arrived, one_comes, room_made}
 use Rattle.crews.proofs.attending.Attendant.take_in.Goals as goal
 
 pub turn_away-requires : goal.turn_away-requires
-turn_away-requires g c = (c.args.channel, subst (λ (p : PassState). g.P.Clients.gave p c.args.channel) (sym c.pass.ensures) c.requires, refl)
+turn_away-requires g c = (c.args.channel, subst (λ (p : PassState). g.P.Clients.gave p c.args.channel c.args.protocol) (sym c.pass.ensures) c.requires, refl)
 
 pub turn_away-requires-in_default-reserve : goal.turn_away-requires-in_default-reserve
-turn_away-requires-in_default-reserve g c = (c.args.channel, subst (λ (p : PassState). g.P.Clients.gave p c.args.channel) (sym c.pass-in_default-reserve.ensures) c.requires, refl)
+turn_away-requires-in_default-reserve g c = (c.args.channel, subst (λ (p : PassState). g.P.Clients.gave p c.args.channel c.args.protocol) (sym c.pass-in_default-reserve.ensures) c.requires, refl)
 
 pub turn_away-requires-in_default-watch : goal.turn_away-requires-in_default-watch
-turn_away-requires-in_default-watch g c = (c.args.channel, subst (λ (p : PassState). g.P.Clients.gave p c.args.channel) (sym c.pass-in_default-watch.ensures) c.requires, c.watch.ensures.channel)
+turn_away-requires-in_default-watch g c = (c.args.channel, subst (λ (p : PassState). g.P.Clients.gave p c.args.channel c.args.protocol) (sym c.pass-in_default-watch.ensures) c.requires, c.watch.ensures.channel)
 
 pub returns-in_default-clause-there : goal.returns-in_default-clause-there
 returns-in_default-clause-there g c =
@@ -56,5 +56,5 @@ returns-clause-attended g c old turns attended =
     let s = c.args.self.now in
     let one : c.in-Some.came ≡ s.came + 1 = omega (arith, c.in-Some.ensures) in
     subst (λ (n : ℕ). IsAttended g.C.Channel.state g.P.Clients.gave old turns (known s.room.serving) n c.insert_reserved.new.self) (sym one)
-    (one_comes g.C.Channel.state g.P.Clients.gave old turns (known s.room.serving) s.came s.seats c.reserve.new.self c.insert_reserved.new.self c.insert_reserved.result c.args.channel c.watch.new.channel c.new-client.result
-    c.requires c.watch.ensures.channel c.new-client.ensures c.reserve.ensures.rest_kept c.insert_reserved.ensures.updates attended)
+    (one_comes g.C.Channel.state g.P.Clients.gave old turns (known s.room.serving) s.came c.next_number.result s.seats c.reserve.new.self c.insert_reserved.new.self c.insert_reserved.result (arrived c.args.channel c.args.protocol) c.watch.new.channel c.new-talk.result c.new-client.result
+    c.requires c.watch.ensures.channel c.new-talk.ensures c.new-client.ensures c.reserve.ensures.rest_kept c.insert_reserved.ensures.updates attended)

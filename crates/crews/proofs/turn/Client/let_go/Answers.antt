@@ -1,4 +1,3 @@
-use Rattle.std.proofs.Common.{◌≡◌, refl, sym, subst}
 use Rattle.crews.specs.declared.clients.Parting.TheVariants.{LetGo}
 use Rattle.crews.proofs.TurnLemmas.{stands_leaving}
 use Rattle.crews.proofs.turn.Client.let_go.Goals as goal
@@ -8,6 +7,6 @@ pub returns-clause-stands : goal.returns-clause-stands
 returns-clause-stands g c came exchanges stands =
     let s = c.args.self.now in
     elim c.if-is_none.branch [
-      | then-is_none w ↦ c.tell.ensures.stands came exchanges (rw w.self-is (stands_leaving g.C.Channel.state came s.channel exchanges s.tokens s.feeder s.owed s.leaving LetGo (λ es read said cut. cut) stands))
+      | then-is_none w ↦ c.tell.ensures.stands came exchanges (rw w.self-is (stands_leaving g.C.Channel.state came s.channel exchanges s.tokens s.talk s.owed s.leaving LetGo (λ es read said cut. cut) stands))
       | else-is_none w ↦ c.tell.ensures.stands came exchanges (rw w.self-is stands)
     ]

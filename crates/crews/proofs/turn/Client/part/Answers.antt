@@ -1,4 +1,6 @@
-use Rattle.std.proofs.Common.{sym}
+use Rattle.std.proofs.Common.{sym, subst}
+use Rattle.crews.specs.declared.clients.Protocol.{Protocol}
+use Rattle.crews.specs.Partings.{PartsSo}
 use Rattle.crews.specs.Lives.{exchanges_of}
 use Rattle.crews.proofs.turn.Client.part.Goals as goal
 
@@ -18,5 +20,5 @@ ended-requires g c =
       written = stands.written;
       consumed = stands.consumed;
       appended = stands.appended;
-      parts = c.parting_of-parting.ensures s.feeder (exchanges_of s.number turns) stands.read stands.written s.owed.rest (sym c.len.ensures) stands.says;
+      parts = subst (λ (protocol : Protocol). PartsSo protocol c.parting_of-parting.result (exchanges_of s.number turns) stands.read stands.written) stands.speaks (c.parting_of-parting.ensures s.talk (exchanges_of s.number turns) stands.read stands.written s.owed.rest (sym c.len.ensures) stands.says);
     }

@@ -1,4 +1,4 @@
-use Rattle.std.proofs.Common.{◌≡◌, refl, sym, subst}
+use Rattle.std.proofs.Common.{refl, sym, subst}
 use Rattle.devices.specs.Channels.{OwedState, TakesOwed}
 use Rattle.sessions.specs.declared.session.SessionEnd.TheVariants.{WriteFailed}
 use Rattle.crews.specs.declared.clients.Parting.TheVariants.{Ended}
@@ -10,8 +10,8 @@ returns-in-Failed-clause-stands g c came exchanges stands =
     let s = c.args.self.now in
     let state = g.C.Channel.state in
     let taken = subst (λ (o : OwedState). TakesOwed (state s.channel) (state c.send_to-taking.new.channel) s.owed o) (sym c.settle.ensures) c.send_to-taking.ensures.taken in
-    stands_leaving state came c.send_to-taking.new.channel exchanges s.tokens s.feeder c.settle.new.self s.leaving (Ended WriteFailed) (λ es read said cut. cut)
-    (stands_told state came s.channel c.send_to-taking.new.channel exchanges s.tokens s.feeder s.owed c.settle.new.self s.leaving taken stands)
+    stands_leaving state came c.send_to-taking.new.channel exchanges s.tokens s.talk c.settle.new.self s.leaving (Ended WriteFailed) (λ es read said cut. cut)
+    (stands_told state came s.channel c.send_to-taking.new.channel exchanges s.tokens s.talk s.owed c.settle.new.self s.leaving taken stands)
 
 pub returns-in_default : goal.returns-in_default
 returns-in_default g c = record {
@@ -20,5 +20,5 @@ returns-in_default g c = record {
       let s = c.args.self.now in
       let state = g.C.Channel.state in
       let taken = subst (λ (o : OwedState). TakesOwed (state s.channel) (state c.send_to-taking.new.channel) s.owed o) (sym c.settle.ensures) c.send_to-taking.ensures.taken in
-      stands_told state came s.channel c.send_to-taking.new.channel exchanges s.tokens s.feeder s.owed c.settle.new.self s.leaving taken stands;
+      stands_told state came s.channel c.send_to-taking.new.channel exchanges s.tokens s.talk s.owed c.settle.new.self s.leaving taken stands;
 }

@@ -8,5 +8,5 @@ returns-clause-turns g c came exchanges stands =
     let heard = c.hear-standing.ensures.turns came exchanges stands in
     let h = c.hear-standing.new.self in
     let t = c.tell.new.self in
-    then_stands g.C.Channel.state (known c.args.room.now.serving) (known c.hear-standing.new.room.serving) came h.channel t.channel exchanges h.tokens t.tokens h.feeder t.feeder h.owed t.owed h.leaving t.leaving
+    then_stands g.C.Channel.state (known c.args.room.now.serving) (known c.hear-standing.new.room.serving) came h.channel t.channel exchanges h.tokens t.tokens h.talk t.talk h.owed t.owed h.leaving t.leaving
     heard (c.tell.ensures.stands came (exchanges ++ heard.more))
