@@ -23,7 +23,8 @@ pub record HasPorts (protocols : Protocols) (ports : Ports) : Type 0 where
   pub commands : is_some ports.commands ≡ protocols.commands
 
 -- the map has the stripes that are asked for; the crews are those that are asked for; each of them may serve as many sessions
--- as are asked for, within the limits that are; and clients speak the protocols of the ports that are
+-- as are asked for, within the limits that are; clients speak the protocols of the ports that are, and may load as many scripts
+-- as programs
 pub record IsAsked (asked : MapdWords) (server : Server) : Type 0 where
   pub stripes : stripes_of server.map ≡ asked.stripes
   pub crews : AreAsked asked.workers asked.team server.crews.items
@@ -32,3 +33,4 @@ pub record IsAsked (asked : MapdWords) (server : Server) : Type 0 where
   pub clients : server.limits.clients ≡ asked.clients
   pub idle : server.limits.idle ≡ asked.idle
   pub protocols : server.protocols ≡ protocols_of asked
+  pub scripts : server.scripts ≡ asked.programs

@@ -101,6 +101,7 @@ fn server_of(
         quotas,
         limits,
         protocols: asked.protocols(),
+        scripts: asked.programs,
     })
 }
 

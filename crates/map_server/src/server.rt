@@ -27,6 +27,8 @@ pub struct Server {
     pub quotas: Quotas,
     pub limits: Limits,
     pub protocols: Protocols,
+    /// How many scripts clients of commands may load.
+    pub scripts: u64,
     ghost serve: { All (λ crew. IsCrewOf map crew) crews.items },
 }
 

@@ -79,11 +79,12 @@ pub(crate) fn serve_ports<'a, H: Threads + Wait + Clock + Sync, E: Sink + Send>(
         crews,
         quotas,
         limits,
+        scripts,
         ..
     } = server;
     let Bound { ports, polls, .. } = bound;
     let entrance = Entrance::new(rt, alloc, ports, quotas, limits, errors);
-    let scripts = Scripts::new(alloc, &registry);
+    let scripts = Scripts::bounded(alloc, &registry, scripts as usize);
     let worker = Worker {
         rt,
         alloc,

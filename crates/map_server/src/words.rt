@@ -35,7 +35,7 @@ pub struct MapdWords {
     pub clients: u64,
     /// After how many seconds in which nothing comes from a client, or it takes nothing, it is let go; none: never.
     pub idle: Option<u64>,
-    /// How many different programs clients may register.
+    /// How many different programs clients may register, and how many scripts they may load.
     pub programs: u64,
 }
 
