@@ -110,7 +110,7 @@ const PROGRAMS_DEFAULT: u64 = 65_536;
 
 /// What the options cost.
 const COSTS: &str = "\
-At least one of --listen and --redis is given. One map is behind both.
+At least one of --listen and --redis is given. Both ports serve one map.
 Each worker serves any number of clients at once, and waits for none of them.
 Threads: one for each worker, and one more if there are several; while a worker walks with a team of several, as
 many more. Passes of the map: workers * (1 + team), at most 64. Descriptors: 4, one a port, one a worker and one a
