@@ -49,10 +49,10 @@ play() {
     return 1
 }
 
-# Whether the server ended with this status, this output and errors of this pattern behind the address.
+# Whether the server ended with this status, this output and errors of this pattern behind the addresses.
 ended() {
     # shellcheck disable=SC2053
-    [ "$got" = "$1" ] && [ "$(cat "$work/out")" = "$2" ] && [[ $(grep -v '^listening on ' "$work/err") == $3 ]]
+    [ "$got" = "$1" ] && [ "$(cat "$work/out")" = "$2" ] && [[ $(grep -Ev '^(listening|redis) on ' "$work/err") == $3 ]]
 }
 
 # Name, the part and its words, then the server's words: it serves until it is stopped.
@@ -85,9 +85,27 @@ expect() {
     judge "$name" ended "$status" "$output" "$errors"
 }
 
+# Whether standard error has just these lines, each of its pattern.
+told_alone() {
+    [ "$(wc -l < "$work/err")" = "$#" ] || return 1
+    local line pattern
+    while read -r line; do
+        pattern=$1
+        shift
+        [[ $line =~ ^$pattern$ ]] || return 1
+    done < "$work/err"
+}
+
 : > "$work/in"
 expect "no sessions" 0 "ready"$'\n'"served 0" "" --listen 127.0.0.1:0 --sessions 0
 judge "the address is told" grep -Eqx 'listening on 127\.0\.0\.1:[1-9][0-9]*' "$work/err"
+expect "a Redis port alone" 0 "ready"$'\n'"served 0" "" --redis 127.0.0.1:0 --sessions 0
+judge "its address is told, and no other" told_alone 'redis on 127\.0\.0\.1:[1-9][0-9]*'
+expect "both ports" 0 "ready"$'\n'"served 0" "" --redis 127.0.0.1:0 --sessions 0 --listen 127.0.0.1:0
+judge "both addresses are told, that of --listen first" told_alone 'listening on 127\.0\.0\.1:[1-9][0-9]*' 'redis on 127\.0\.0\.1:[1-9][0-9]*'
+expect "a Redis port, and 33 workers" 2 "" "error: *33*" --redis 127.0.0.1:0 --workers 33
+expect "a Redis port, and an unknown option" 2 "" "error: *--sesions*" --redis 127.0.0.1:0 --sesions 0
+expect "two Redis ports" 2 "" "error: *--redis*" --redis 127.0.0.1:0 --redis 127.0.0.1:0
 expect "33 workers" 2 "" "error: *33*" --listen 127.0.0.1:0 --workers 33
 expect "no workers" 2 "" "error: *0*" --listen 127.0.0.1:0 --workers 0
 expect "a team of 9" 2 "" "error: *9*" --listen 127.0.0.1:0 --team 9
@@ -101,13 +119,15 @@ expect "more than 64 passes" 1 "refused 51 at 0" "?*" --listen 127.0.0.1:0 --wor
 expect "three stripes and too many passes" 1 "refused 50 at 0" "?*" --listen 127.0.0.1:0 --stripes 3 --workers 32 --team 8
 expect "64 passes" 0 "ready"$'\n'"served 0" "" --listen 127.0.0.1:0 --workers 32 --team 1 --sessions 0
 for address in nowhere 127.0.0.1 127.0.0.1:65536 127.0.0.1:x 192.0.2.1:0; do
-    expect "$address, where nothing can listen" 3 "" "failed listen*" --listen "$address"
+    expect "$address, where nothing can listen" 3 "" "failed listen"$'\n'"$address: ?*" --listen "$address"
+    expect "$address, where nothing can listen, for Redis" 3 "" "failed listen"$'\n'"$address: ?*" --listen 127.0.0.1:0 --redis "$address"
 done
 sink=/dev/full expect "an output that can't be written" 3 "" "failed write" --listen 127.0.0.1:0 --sessions 0
 expect "the version" 0 "mapd 0.1.0" "" --version
 
 start --workers 1
 expect "a port that is taken" 3 "" "failed listen*" --listen "$address"
+expect "a port that is taken, for Redis" 3 "" "failed listen*" --redis "$address"
 stop
 
 start --workers 1

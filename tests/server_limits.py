@@ -106,6 +106,18 @@ def failed_accepts_end_the_server(program: Path) -> None:
         same("who ended", [line.split(":")[0] for line in told], ["worker 0 ended", "worker 1 ended"])
 
 
+def a_failed_port_ends_the_server(program: Path) -> None:
+    """There are two ports, and accepts at one of them fail: no worker takes a client from either port any more."""
+    with started(program, "--workers", "2", "--redis", "127.0.0.1:0") as server:
+        with wire.opened(server.address) as client:
+            same("a Put", client.ask(wire.put(b"a", b"1")), wire.NOTHING)
+        stop_listening(server)
+        same("the status", server.finish(), 3)
+        same("what is printed", server.printed, b"ready\nserved 1\n")
+        told = sorted(server.told.decode().splitlines())
+        same("who ended", [line.split(":")[0] for line in told[2:]], ["worker 0 ended", "worker 1 ended"])
+
+
 def with_few_threads(most: int) -> Callable[[], None]:
     """What lets a process of nobody have so many threads."""
     def limit() -> None:
@@ -240,8 +252,8 @@ def one_worker_answers_each(program: Path) -> None:
         same("what is printed", server.printed, b"ready\nserved 2\n")
 
 
-PARTS = (accepts_are_tried_again, failed_accepts_end_the_server, missing_threads_are_told, clients_beyond_the_limit_are_told,
-         silent_clients_are_let_go, deaf_clients_are_let_go, drips_end, one_worker_answers_each, sessions_are_counted_at_once,
+PARTS = (accepts_are_tried_again, failed_accepts_end_the_server, a_failed_port_ends_the_server, missing_threads_are_told,
+         clients_beyond_the_limit_are_told, silent_clients_are_let_go, deaf_clients_are_let_go, drips_end, one_worker_answers_each, sessions_are_counted_at_once,
          workers_without_descriptors_are_told)
 
 

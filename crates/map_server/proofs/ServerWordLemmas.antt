@@ -1,5 +1,5 @@
 -- What the options of `mapd` are read as, if clap finds no fault.
-use Rattle.std.proofs.Common.{◌≡◌, ◌∙◌, ◌<◌, ◌≤◌, subst, ℕ, zero, suc, List, [], ◌∷◌, Bool, true, false, Option, Some, None, refl, sym, ap, not, length, is_some, inl, inr, arith, true≢false}
+use Rattle.std.proofs.Common.{◌≡◌, ◌∙◌, ◌<◌, ◌≤◌, ◌⊎◌, subst, String, string_bytes, ℕ, zero, suc, List, [], ◌∷◌, Bool, true, false, Option, Some, None, refl, sym, ap, not, length, is_some, inl, inr, arith, true≢false}
 use Rattle.std.specs.Prelude.{◌^◌, ◌&&◌, ℤ, pos, codes, map, unwrap_or, option_map, option_and_then, slice_get, nat_lt}
 use Rattle.std.specs.Borrow.{Bor}
 use Rattle.std.specs.List.{All, slice_index_or}
@@ -17,7 +17,9 @@ use Rattle.clap.specs.ValueTests.{is_numeral}
 use Rattle.clap.specs.Values.{Accepts, IsSignedIn, NarrowsTo, read_as, reading_of, signed_between}
 use Rattle.std.specs.Int.{int_max, int_min}
 use Rattle.clap.specs.Walk.{Rule, is_empty, is_free_arg, is_simple_arg, rows_of, rule_of}
-use Rattle.clap.specs.Words.{HasKind, fault_of, is_simple_and_free}
+use Rattle.clap.specs.Words.{HasKind, IsAmong, Kinds, Row, fault_of, first_of, kind_of, is_simple_and_free}
+use Rattle.clap.specs.declared.error.ErrorKind.{ErrorKind}
+use Rattle.clap.specs.declared.error.ErrorKind.TheVariants.{OutOfMemory}
 use Rattle.clap.specs.declared.ArgMatches.{ArgMatches}
 use Rattle.clap.specs.declared.Error.{Error}
 use Rattle.clap.specs.declared.builder.Arg.{Arg}
@@ -33,31 +35,73 @@ use Rattle.clap.proofs.CallerReads.{signed_reads}
 use Rattle.clap.proofs.OnLiterals.{clap_on_literals}
 use Rattle.clap.proofs.WalkLemmas.{one_text-rows}
 use Rattle.map_commands.specs.CommandLine.{given_size, spelled_size}
-use Rattle.map_server.specs.ServerWords.{mapd, mapd_options}
+use Rattle.map_server.specs.ServerWords.{mapd, mapd_options, gives_redis, reader_of, AsksFor, AsksServer, IsInRange}
+use Rattle.map_server.specs.declared.words.MapdWords.{MapdWords}
 use Rattle.map_commands.proofs.WordLemmas.{both, cases_is, digits_are, size_in-parsed}
 
 -- ---- a parse of `mapd`
 
-is_free : is_simple_and_free mapd ≡ true
+is_free : (wanted : Bool) → is_simple_and_free (mapd wanted) ≡ true
 unfolding clap_on_literals
-is_free = refl
+is_free true = refl
+is_free false = refl
 
-is_plain : is_simple mapd ≡ true
+is_plain : (wanted : Bool) → is_simple (mapd wanted) ≡ true
 unfolding clap_on_literals
-is_plain = refl
+is_plain true = refl
+is_plain false = refl
 
-module _ (app : App) (is : app ≡ mapd) (words : List (List ℕ)) where
+module _ (wanted : Bool) (app : App) (is : app ≡ mapd wanted) (words : List (List ℕ)) where
   -- the kinds of its error
-  pub server_parse_fails : (e : Error) → (is_simple_and_free app ≡ true → HasKind (fault_of app words) e) → HasKind (fault_of mapd words) e
-  server_parse_fails e kinds = subst (λ (a : App). HasKind (fault_of a words) e) is (kinds (ap is_simple_and_free is ∙ is_free))
+  pub server_parse_fails : (e : Error) → (is_simple_and_free app ≡ true → HasKind (fault_of app words) e) → HasKind (fault_of (mapd wanted) words) e
+  server_parse_fails e kinds = subst (λ (a : App). HasKind (fault_of a words) e) is (kinds (ap is_simple_and_free is ∙ is_free wanted))
 
   -- if it succeeds there is no fault
-  pub server_parse_succeeds : (is_simple_and_free app ≡ true → fault_of app words ≡ []) → fault_of mapd words ≡ []
-  server_parse_succeeds kinds = ap (λ (a : App). fault_of a words) (sym is) ∙ kinds (ap is_simple_and_free is ∙ is_free)
+  pub server_parse_succeeds : (is_simple_and_free app ≡ true → fault_of app words ≡ []) → fault_of (mapd wanted) words ≡ []
+  server_parse_succeeds kinds = ap (λ (a : App). fault_of a words) (sym is) ∙ kinds (ap is_simple_and_free is ∙ is_free wanted)
 
   -- and the rows are those of the words
-  pub server_rows : (m : ArgMatches) → HasMatchesOf app words m → rows_of (found_of m) ≡ matches_of mapd words
-  server_rows m matches = (matches (ap is_simple is ∙ is_plain)).0 ∙ ap (λ (a : App). matches_of a words) is
+  pub server_rows : (m : ArgMatches) → HasMatchesOf app words m → rows_of (found_of m) ≡ matches_of (mapd wanted) words
+  server_rows m matches = (matches (ap is_simple is ∙ is_plain wanted)).0 ∙ ap (λ (a : App). matches_of a words) is
+
+-- ---- the command line that reads the words
+
+module _ (wanted : Bool) (words : List (List ℕ)) where
+  pub fails_by : (e : Error) → not (gives_redis words) ≡ wanted → HasKind (fault_of (mapd wanted) words) e → HasKind (fault_of (reader_of words) words) e
+  fails_by e is fails = subst (λ (b : Bool). HasKind (fault_of (mapd b) words) e) (sym is) fails
+
+  pub asks_by : (rows : List Row) (asked : MapdWords) → not (gives_redis words) ≡ wanted → fault_of (mapd wanted) words ≡ [] → rows ≡ matches_of (mapd wanted) words
+      → AsksFor rows asked → AsksServer words asked
+  asks_by rows asked is none rows_are asks =
+      subst (λ (b : Bool). (fault_of (mapd b) words ≡ []) × AsksFor (matches_of (mapd b) words) asked) (sym is) (none, subst (λ (rows : List Row). AsksFor rows asked) rows_are asks)
+
+pub mapped : {T U : Type 0} (f : T → U) (o : Option T) → is_some (option_map f o) ≡ is_some o
+mapped f None = refl
+mapped f (Some x) = refl
+
+-- a text that is given is there
+pub address_given : {A : Type 0} (given : Option (String A)) {text : Option (List ℕ)} → option_map string_bytes given ≡ text → is_some text ≡ true → is_some given ≡ true
+address_given None e some = ap is_some e ∙ some
+address_given (Some s) e some = refl
+
+-- without a fault, words that the command line reads give --redis exactly if it finds its text
+pub redis_given : (words : List (List ℕ)) (rows : List Row) (text : Option (List ℕ)) → fault_of (mapd false) words ≡ [] → rows ≡ matches_of (mapd false) words
+    → text ≡ first_of (codes "redis") rows → gives_redis words ≡ is_some text
+redis_given words rows text none rows_are is =
+    ap (λ (kinds : Kinds). is_empty kinds && is_some (first_of (codes "redis") (matches_of (mapd false) words))) none
+    ∙ ap (λ (rows : List Row). is_some (first_of (codes "redis") rows)) (sym rows_are)
+    ∙ ap is_some (sym is)
+
+some_kind : (kinds : Kinds) (kind : ErrorKind) → IsAmong kind kinds → is_empty kinds ≡ false
+some_kind [] kind among = absurd among
+some_kind (k ∷ ks) kind among = ne_eqb (length (k ∷ ks)) 0 (λ z. omega (arith, z))
+
+-- and words with a fault don't, if it is no want of memory
+pub redis_not_given : (words : List (List ℕ)) (e : Error) → HasKind (fault_of (mapd false) words) e → (kind_of e ≡ OutOfMemory → ⊥) → gives_redis words ≡ false
+redis_not_given words e fails other = elim fails [
+  | inl memory ↦ absurd (other memory)
+  | inr among ↦ ap (λ (b : Bool). b && is_some (first_of (codes "redis") (matches_of (mapd false) words))) (some_kind _ _ among)
+]
 
 -- ---- the options
 
@@ -82,66 +126,72 @@ map_length : (xs : List Arg) → length (map rule_of xs) ≡ length xs
 map_length [] = refl
 map_length (x ∷ xs) = ap suc (map_length xs)
 
-abbrev option_at : ℕ → Rule → Rule
-option_at k other = slice_index_or mapd_options k other
+module _ (wanted : Bool) where
+  abbrev option_at : ℕ → Rule → Rule
+  option_at k other = slice_index_or (mapd_options wanted) k other
 
-plain_rule : (k : ℕ) (r : Rule) → k < 8 → ((option_at k r).is_simple ≡ true) × ((option_at k r).is_free ≡ true)
-plain_rule zero r lt = (refl, refl)
-plain_rule (suc zero) r lt = (refl, refl)
-plain_rule (suc (suc zero)) r lt = (refl, refl)
-plain_rule (suc (suc (suc zero))) r lt = (refl, refl)
-plain_rule (suc (suc (suc (suc zero)))) r lt = (refl, refl)
-plain_rule (suc (suc (suc (suc (suc zero))))) r lt = (refl, refl)
-plain_rule (suc (suc (suc (suc (suc (suc zero)))))) r lt = (refl, refl)
-plain_rule (suc (suc (suc (suc (suc (suc (suc zero))))))) r lt = (refl, refl)
-plain_rule (suc (suc (suc (suc (suc (suc (suc (suc k)))))))) r lt = absurd (omega arith)
+  plain_rule : (k : ℕ) (r : Rule) → k < 9 → ((option_at k r).is_simple ≡ true) × ((option_at k r).is_free ≡ true)
+  plain_rule zero r lt = (refl, refl)
+  plain_rule (suc zero) r lt = (refl, refl)
+  plain_rule (suc (suc zero)) r lt = (refl, refl)
+  plain_rule (suc (suc (suc zero))) r lt = (refl, refl)
+  plain_rule (suc (suc (suc (suc zero)))) r lt = (refl, refl)
+  plain_rule (suc (suc (suc (suc (suc zero))))) r lt = (refl, refl)
+  plain_rule (suc (suc (suc (suc (suc (suc zero)))))) r lt = (refl, refl)
+  plain_rule (suc (suc (suc (suc (suc (suc (suc zero))))))) r lt = (refl, refl)
+  plain_rule (suc (suc (suc (suc (suc (suc (suc (suc zero)))))))) r lt = (refl, refl)
+  plain_rule (suc (suc (suc (suc (suc (suc (suc (suc (suc k))))))))) r lt = absurd (omega arith)
 
-abbrev IsOnly : ℕ → Type 0
-IsOnly k = (j : ℕ) (r s : Rule) → j < 8 → bytes_eq (option_at j r).id (option_at k s).id ≡ true → j ≡ k
+  abbrev IsOnly : ℕ → Type 0
+  IsOnly k = (j : ℕ) (r s : Rule) → j < 9 → bytes_eq (option_at j r).id (option_at k s).id ≡ true → j ≡ k
 
-only_listen : IsOnly 0
-only_listen zero r s lt same = refl
-only_listen (suc zero) r s lt same = absurd (true≢false (sym same))
-only_listen (suc (suc zero)) r s lt same = absurd (true≢false (sym same))
-only_listen (suc (suc (suc zero))) r s lt same = absurd (true≢false (sym same))
-only_listen (suc (suc (suc (suc zero)))) r s lt same = absurd (true≢false (sym same))
-only_listen (suc (suc (suc (suc (suc zero))))) r s lt same = absurd (true≢false (sym same))
-only_listen (suc (suc (suc (suc (suc (suc zero)))))) r s lt same = absurd (true≢false (sym same))
-only_listen (suc (suc (suc (suc (suc (suc (suc zero))))))) r s lt same = absurd (true≢false (sym same))
-only_listen (suc (suc (suc (suc (suc (suc (suc (suc j)))))))) r s lt same = absurd (omega arith)
+  only_listen : IsOnly 0
+  only_listen zero r s lt same = refl
+  only_listen (suc zero) r s lt same = absurd (true≢false (sym same))
+  only_listen (suc (suc zero)) r s lt same = absurd (true≢false (sym same))
+  only_listen (suc (suc (suc zero))) r s lt same = absurd (true≢false (sym same))
+  only_listen (suc (suc (suc (suc zero)))) r s lt same = absurd (true≢false (sym same))
+  only_listen (suc (suc (suc (suc (suc zero))))) r s lt same = absurd (true≢false (sym same))
+  only_listen (suc (suc (suc (suc (suc (suc zero)))))) r s lt same = absurd (true≢false (sym same))
+  only_listen (suc (suc (suc (suc (suc (suc (suc zero))))))) r s lt same = absurd (true≢false (sym same))
+  only_listen (suc (suc (suc (suc (suc (suc (suc (suc zero)))))))) r s lt same = absurd (true≢false (sym same))
+  only_listen (suc (suc (suc (suc (suc (suc (suc (suc (suc j))))))))) r s lt same = absurd (omega arith)
 
-only_workers : IsOnly 2
-only_workers zero r s lt same = absurd (true≢false (sym same))
-only_workers (suc zero) r s lt same = absurd (true≢false (sym same))
-only_workers (suc (suc zero)) r s lt same = refl
-only_workers (suc (suc (suc zero))) r s lt same = absurd (true≢false (sym same))
-only_workers (suc (suc (suc (suc zero)))) r s lt same = absurd (true≢false (sym same))
-only_workers (suc (suc (suc (suc (suc zero))))) r s lt same = absurd (true≢false (sym same))
-only_workers (suc (suc (suc (suc (suc (suc zero)))))) r s lt same = absurd (true≢false (sym same))
-only_workers (suc (suc (suc (suc (suc (suc (suc zero))))))) r s lt same = absurd (true≢false (sym same))
-only_workers (suc (suc (suc (suc (suc (suc (suc (suc j)))))))) r s lt same = absurd (omega arith)
+  only_workers : IsOnly 3
+  only_workers zero r s lt same = absurd (true≢false (sym same))
+  only_workers (suc zero) r s lt same = absurd (true≢false (sym same))
+  only_workers (suc (suc zero)) r s lt same = absurd (true≢false (sym same))
+  only_workers (suc (suc (suc zero))) r s lt same = refl
+  only_workers (suc (suc (suc (suc zero)))) r s lt same = absurd (true≢false (sym same))
+  only_workers (suc (suc (suc (suc (suc zero))))) r s lt same = absurd (true≢false (sym same))
+  only_workers (suc (suc (suc (suc (suc (suc zero)))))) r s lt same = absurd (true≢false (sym same))
+  only_workers (suc (suc (suc (suc (suc (suc (suc zero))))))) r s lt same = absurd (true≢false (sym same))
+  only_workers (suc (suc (suc (suc (suc (suc (suc (suc zero)))))))) r s lt same = absurd (true≢false (sym same))
+  only_workers (suc (suc (suc (suc (suc (suc (suc (suc (suc j))))))))) r s lt same = absurd (omega arith)
 
-only_team : IsOnly 3
-only_team zero r s lt same = absurd (true≢false (sym same))
-only_team (suc zero) r s lt same = absurd (true≢false (sym same))
-only_team (suc (suc zero)) r s lt same = absurd (true≢false (sym same))
-only_team (suc (suc (suc zero))) r s lt same = refl
-only_team (suc (suc (suc (suc zero)))) r s lt same = absurd (true≢false (sym same))
-only_team (suc (suc (suc (suc (suc zero))))) r s lt same = absurd (true≢false (sym same))
-only_team (suc (suc (suc (suc (suc (suc zero)))))) r s lt same = absurd (true≢false (sym same))
-only_team (suc (suc (suc (suc (suc (suc (suc zero))))))) r s lt same = absurd (true≢false (sym same))
-only_team (suc (suc (suc (suc (suc (suc (suc (suc j)))))))) r s lt same = absurd (omega arith)
+  only_team : IsOnly 4
+  only_team zero r s lt same = absurd (true≢false (sym same))
+  only_team (suc zero) r s lt same = absurd (true≢false (sym same))
+  only_team (suc (suc zero)) r s lt same = absurd (true≢false (sym same))
+  only_team (suc (suc (suc zero))) r s lt same = absurd (true≢false (sym same))
+  only_team (suc (suc (suc (suc zero)))) r s lt same = refl
+  only_team (suc (suc (suc (suc (suc zero))))) r s lt same = absurd (true≢false (sym same))
+  only_team (suc (suc (suc (suc (suc (suc zero)))))) r s lt same = absurd (true≢false (sym same))
+  only_team (suc (suc (suc (suc (suc (suc (suc zero))))))) r s lt same = absurd (true≢false (sym same))
+  only_team (suc (suc (suc (suc (suc (suc (suc (suc zero)))))))) r s lt same = absurd (true≢false (sym same))
+  only_team (suc (suc (suc (suc (suc (suc (suc (suc (suc j))))))))) r s lt same = absurd (omega arith)
 
-only_clients : IsOnly 5
-only_clients zero r s lt same = absurd (true≢false (sym same))
-only_clients (suc zero) r s lt same = absurd (true≢false (sym same))
-only_clients (suc (suc zero)) r s lt same = absurd (true≢false (sym same))
-only_clients (suc (suc (suc zero))) r s lt same = absurd (true≢false (sym same))
-only_clients (suc (suc (suc (suc zero)))) r s lt same = absurd (true≢false (sym same))
-only_clients (suc (suc (suc (suc (suc zero))))) r s lt same = refl
-only_clients (suc (suc (suc (suc (suc (suc zero)))))) r s lt same = absurd (true≢false (sym same))
-only_clients (suc (suc (suc (suc (suc (suc (suc zero))))))) r s lt same = absurd (true≢false (sym same))
-only_clients (suc (suc (suc (suc (suc (suc (suc (suc j)))))))) r s lt same = absurd (omega arith)
+  only_clients : IsOnly 6
+  only_clients zero r s lt same = absurd (true≢false (sym same))
+  only_clients (suc zero) r s lt same = absurd (true≢false (sym same))
+  only_clients (suc (suc zero)) r s lt same = absurd (true≢false (sym same))
+  only_clients (suc (suc (suc zero))) r s lt same = absurd (true≢false (sym same))
+  only_clients (suc (suc (suc (suc zero)))) r s lt same = absurd (true≢false (sym same))
+  only_clients (suc (suc (suc (suc (suc zero))))) r s lt same = absurd (true≢false (sym same))
+  only_clients (suc (suc (suc (suc (suc (suc zero)))))) r s lt same = refl
+  only_clients (suc (suc (suc (suc (suc (suc (suc zero))))))) r s lt same = absurd (true≢false (sym same))
+  only_clients (suc (suc (suc (suc (suc (suc (suc (suc zero)))))))) r s lt same = absurd (true≢false (sym same))
+  only_clients (suc (suc (suc (suc (suc (suc (suc (suc (suc j))))))))) r s lt same = absurd (omega arith)
 
 plain_arg : (a : Arg) → is_simple_arg a ≡ true → is_free_arg a ≡ true → IsPlainArg a
 plain_arg a simple free =
@@ -228,21 +278,21 @@ size_of_text most default text fits passed =
     let (n, is, low, high) = spelled_in most text fits passed in
     (rw is low, rw is high)
 
-module _ (c : Command) (is : app_of c ≡ mapd) where
-  rules_are : map rule_of (args_of c) ≡ mapd_options
+module _ (wanted : Bool) (c : Command) (is : app_of c ≡ mapd wanted) where
+  rules_are : map rule_of (args_of c) ≡ mapd_options wanted
   rules_are = ap (λ (a : App). a.top.rules) is
 
-  eight : length (args_of c) ≡ 8
-  eight = sym (map_length (args_of c)) ∙ ap length rules_are
+  nine : length (args_of c) ≡ 9
+  nine = sym (map_length (args_of c)) ∙ ap length rules_are
 
-  rule_is : (k : ℕ) (d : Arg) → rule_of (slice_index_or (args_of c) k d) ≡ option_at k (rule_of d)
+  rule_is : (k : ℕ) (d : Arg) → rule_of (slice_index_or (args_of c) k d) ≡ option_at wanted k (rule_of d)
   rule_is k d = rule_at (args_of c) k d ∙ ap (λ (rs : List Rule). slice_index_or rs k (rule_of d)) rules_are
 
   simple_is : (k : ℕ) (d : Arg) → k < length (args_of c) → is_simple_arg (slice_index_or (args_of c) k d) ≡ true
-  simple_is k d lt = ap (λ (r : Rule). r.is_simple) (rule_is k d) ∙ (plain_rule k (rule_of d) (subst (λ (n : ℕ). k < n) eight lt)).0
+  simple_is k d lt = ap (λ (r : Rule). r.is_simple) (rule_is k d) ∙ (plain_rule wanted k (rule_of d) (subst (λ (n : ℕ). k < n) nine lt)).0
 
   args_plain : All IsPlainArg (args_of c)
-  args_plain = λ k d lt. plain_arg (slice_index_or (args_of c) k d) (simple_is k d lt) (ap (λ (r : Rule). r.is_free) (rule_is k d) ∙ (plain_rule k (rule_of d) (subst (λ (n : ℕ). k < n) eight lt)).1)
+  args_plain = λ k d lt. plain_arg (slice_index_or (args_of c) k d) (simple_is k d lt) (ap (λ (r : Rule). r.is_free) (rule_is k d) ∙ (plain_rule wanted k (rule_of d) (subst (λ (n : ℕ). k < n) nine lt)).1)
 
   command_plain : IsPlain c
   command_plain = (args_plain, is_nil _ (both _ _ (ap (λ (a : App). a.top.is_plain) is)).0)
@@ -253,17 +303,17 @@ module _ (c : Command) (is : app_of c ≡ mapd) where
       let (external, rest-1) = both _ _ rest in
       not_so _ (both _ _ rest-1).0
 
-  unique : (k : ℕ) (d : Arg) → IsOnly k → (j : ℕ) (e : Arg) → j < length (args_of c)
+  unique : (k : ℕ) (d : Arg) → IsOnly wanted k → (j : ℕ) (e : Arg) → j < length (args_of c)
       → bytes_eq (slice_index_or (args_of c) j e).id.now (slice_index_or (args_of c) k d).id.now ≡ true → j ≡ k
   unique k d only j e lt same =
       let first = ap (λ (r : Rule). r.id) (rule_is j e) in
       let second = ap (λ (r : Rule). r.id) (rule_is k d) in
-      only j (rule_of e) (rule_of d) (subst (λ (n : ℕ). j < n) eight lt) (subst (λ (t : List ℕ). bytes_eq (option_at j (rule_of e)).id t ≡ true) second (subst (λ (t : List ℕ). bytes_eq t (slice_index_or (args_of c) k d).id.now ≡ true) first same))
+      only j (rule_of e) (rule_of d) (subst (λ (n : ℕ). j < n) nine lt) (subst (λ (t : List ℕ). bytes_eq (option_at wanted j (rule_of e)).id t ≡ true) second (subst (λ (t : List ℕ). bytes_eq t (slice_index_or (args_of c) k d).id.now ≡ true) first same))
 
-  -- the address is there
-  pub listen_given : (m : ArgMatches) → IsParsedFrom c m → is_some (first_value (found_of m) (codes "listen")) ≡ true
-  listen_given m p =
-      let lt : 0 < length (args_of c) = rw eight (omega arith) in
+  -- the address is there, if it is wanted
+  pub listen_given : wanted ≡ true → (m : ArgMatches) → IsParsedFrom c m → is_some (first_value (found_of m) (codes "listen")) ≡ true
+  listen_given so m p =
+      let lt : 0 < length (args_of c) = rw nine (omega arith) in
       let d = some_arg (args_of c) lt in
       let a = slice_index_or (args_of c) 0 d in
       let r = rule_is 0 d in
@@ -271,7 +321,7 @@ module _ (c : Command) (is : app_of c ≡ mapd) where
       let least : 1 ≤ least_values a = subst (λ v. 1 ≤ (unwrap_or_range v).start_inclusive) (sym (ap (λ (r : Rule). r.range) r)) (omega arith) in
       let head : (t : List ℕ) → a.id.now ≡ t → slice_index_or t 0 0 ≡ 108 = λ t e. ap (λ (u : List ℕ). slice_index_or u 0 0) (sym e ∙ id) in
       let has = required_has_value c m p command_plain no_globals (ap (λ (a : App). a.top.subcommand_negates_reqs) is) 0 d lt
-      (ap (λ (r : Rule). r.required) r) (ap (λ (r : Rule). r.action) r) (no_delimiter a (simple_is 0 d lt)) least (unique 0 d only_listen)
+      (ap (λ (r : Rule). r.required) r ∙ so) (ap (λ (r : Rule). r.action) r) (no_delimiter a (simple_is 0 d lt)) least (unique 0 d (only_listen wanted))
       (λ e. let bad : 0 ≡ 108 = head [] e in absurd (omega arith))
       (λ auto. elim auto [
         | inl h ↦ let bad : 104 ≡ 108 = head _ h in absurd (omega arith)
@@ -279,7 +329,7 @@ module _ (c : Command) (is : app_of c ≡ mapd) where
       ]) in
       subst (λ (t : List ℕ). is_some (first_value (found_of m) t) ≡ true) id has
 
-  module _ (m : ArgMatches) (p : IsParsedFrom c m) (k : ℕ) (only : IsOnly k) (most : ℕ) (id : List ℕ) where
+  module _ (m : ArgMatches) (p : IsParsedFrom c m) (k : ℕ) (only : IsOnly wanted k) (most : ℕ) (id : List ℕ) where
     abbrev arg : Arg → Arg
     arg d = slice_index_or (args_of c) k d
 
@@ -323,11 +373,11 @@ module _ (c : Command) (is : app_of c ≡ mapd) where
             (subst (λ (a : MatchedArg). All (λ v. IsSignedIn (pos 1) (pos most) v.now) a.vals.items) got.1 (λ i d lt. values _ (all i d lt)))
 
     -- what the option is read as, or its default, lies in the range
-    range_given : (default : ℕ) → 1 ≤ default → default ≤ most → most < 2 ^ 16 → k < 8 → ((r : Rule) → (option_at k r).parser ≡ Some (Signed (pos 1) (pos most)))
-        → ((r : Rule) → (option_at k r).id ≡ id) → (id ≡ [] → ⊥) → (id ≡ codes "help" → ⊥) → (id ≡ codes "version" → ⊥)
+    range_given : (default : ℕ) → 1 ≤ default → default ≤ most → most < 2 ^ 16 → k < 9 → ((r : Rule) → (option_at wanted k r).parser ≡ Some (Signed (pos 1) (pos most)))
+        → ((r : Rule) → (option_at wanted k r).id ≡ id) → (id ≡ [] → ⊥) → (id ≡ codes "help" → ⊥) → (id ≡ codes "version" → ⊥)
         → (1 ≤ given_size (rows_of (found_of m)) id default) × (given_size (rows_of (found_of m)) id default ≤ most)
     range_given default low high fits inside parser named some help version =
-        let lt : k < length (args_of c) = rw eight inside in
+        let lt : k < length (args_of c) = rw nine inside in
         let d = some_arg (args_of c) (omega arith) in
         let is_named : (arg d).id.now ≡ id = ap (λ (r : Rule). r.id) (rule_is k d) ∙ named (rule_of d) in
         let is_parsed : (arg d).value_parser ≡ Some (Signed (pos 1) (pos most)) = ap (λ (r : Rule). r.parser) (rule_is k d) ∙ parser (rule_of d) in
@@ -336,11 +386,23 @@ module _ (c : Command) (is : app_of c ≡ mapd) where
         subst (HasSize most default) (one_text-rows (found_of m) id) text
 
   module _ (m : ArgMatches) (p : IsParsedFrom c m) where
-    pub workers_given : (1 ≤ given_size (rows_of (found_of m)) (codes "workers") 4) × (given_size (rows_of (found_of m)) (codes "workers") 4 ≤ 32)
-    workers_given = range_given m p 2 only_workers 32 (codes "workers") 4 (omega arith) (omega arith) (omega arith) (omega arith) (λ r. refl) (λ r. refl) (differ _ _ refl) (differ _ _ refl) (differ _ _ refl)
+    workers_given : (1 ≤ given_size (rows_of (found_of m)) (codes "workers") 4) × (given_size (rows_of (found_of m)) (codes "workers") 4 ≤ 32)
+    workers_given = range_given m p 3 (only_workers wanted) 32 (codes "workers") 4 (omega arith) (omega arith) (omega arith) (omega arith) (λ r. refl) (λ r. refl) (differ _ _ refl) (differ _ _ refl) (differ _ _ refl)
 
-    pub team_given : (1 ≤ given_size (rows_of (found_of m)) (codes "team") 1) × (given_size (rows_of (found_of m)) (codes "team") 1 ≤ 8)
-    team_given = range_given m p 3 only_team 8 (codes "team") 1 (omega arith) (omega arith) (omega arith) (omega arith) (λ r. refl) (λ r. refl) (differ _ _ refl) (differ _ _ refl) (differ _ _ refl)
+    team_given : (1 ≤ given_size (rows_of (found_of m)) (codes "team") 1) × (given_size (rows_of (found_of m)) (codes "team") 1 ≤ 8)
+    team_given = range_given m p 4 (only_team wanted) 8 (codes "team") 1 (omega arith) (omega arith) (omega arith) (omega arith) (λ r. refl) (λ r. refl) (differ _ _ refl) (differ _ _ refl) (differ _ _ refl)
 
-    pub clients_given : (1 ≤ given_size (rows_of (found_of m)) (codes "clients") 1000) × (given_size (rows_of (found_of m)) (codes "clients") 1000 ≤ 65535)
-    clients_given = range_given m p 5 only_clients 65535 (codes "clients") 1000 (omega arith) (omega arith) (omega arith) (omega arith) (λ r. refl) (λ r. refl) (differ _ _ refl) (differ _ _ refl) (differ _ _ refl)
+    clients_given : (1 ≤ given_size (rows_of (found_of m)) (codes "clients") 1000) × (given_size (rows_of (found_of m)) (codes "clients") 1000 ≤ 65535)
+    clients_given = range_given m p 6 (only_clients wanted) 65535 (codes "clients") 1000 (omega arith) (omega arith) (omega arith) (omega arith) (λ r. refl) (λ r. refl) (differ _ _ refl) (differ _ _ refl) (differ _ _ refl)
+
+    -- what the options ask for lies in its ranges
+    pub in_range : (asked : MapdWords) → AsksFor (rows_of (found_of m)) asked → (is_some asked.listen ≡ true) ⊎ (is_some asked.redis ≡ true) → IsInRange asked
+    in_range asked asks some = record {
+      some_address = some;
+      some_worker = rw asks.workers workers_given.0;
+      workers = rw asks.workers workers_given.1;
+      some_member = rw asks.team team_given.0;
+      team = rw asks.team team_given.1;
+      some_client = rw asks.clients clients_given.0;
+      clients = rw asks.clients clients_given.1;
+    }

@@ -15,7 +15,7 @@ use Rattle.crews.specs.Crews.{AllCarrySame}
 use Rattle.map_server.specs.declared.server.Server.{Server}
 use Rattle.map_server.specs.declared.server.Served.{Served}
 use Rattle.map_server.specs.Servers.{IsAsked}
-use Rattle.map_server.specs.ServerWords.{AsksServer, mapd}
+use Rattle.map_server.specs.ServerWords.{AsksServer, reader_of}
 use Rattle.map_commands.specs.Shown.{IsShown}
 
 -- what words come to that ask for no server, by clap's kind of error, in whose text words are shown; memory may be refused to it
@@ -25,8 +25,8 @@ EndsServerWords words (Refused refusal meaning) = ⊥
 EndsServerWords words (Explained printed meaning) = ⊥
 EndsServerWords words NoMemory = Unit {0}
 EndsServerWords words BadStripes = ⊥
-EndsServerWords words (Shown text) = (kind : ErrorKind) × IsAmong kind (fault_of mapd words) × IsHelpOrVersion kind × IsShown words text.items
-EndsServerWords words (Faulty text) = (kind : ErrorKind) × IsAmong kind (fault_of mapd words) × (IsHelpOrVersion kind → ⊥) × IsShown words text.items
+EndsServerWords words (Shown text) = (kind : ErrorKind) × IsAmong kind (fault_of (reader_of words) words) × IsHelpOrVersion kind × IsShown words text.items
+EndsServerWords words (Faulty text) = (kind : ErrorKind) × IsAmong kind (fault_of (reader_of words) words) × (IsHelpOrVersion kind → ⊥) × IsShown words text.items
 EndsServerWords words Unread = ⊥
 EndsServerWords words NotUtf8 = ⊥
 
@@ -71,7 +71,7 @@ EndsServing served old new before status =
     ((text : List ℕ) × IsLastLine served text status × PrintsAll old new (before ++ text))
     ⊎ ((status ≡ 3) × ((text : List ℕ) × (meant : ℕ) × IsLastLine served text meant × TakesFront old new (before ++ text)))
 
--- the port could not be bound, of which standard error is told, with why
+-- a port could not be bound, of which standard error is told, with why
 abbrev pub FailsToListen : Outputs → Outputs → ℕ → Type 0
 FailsToListen old new status =
     (status ≡ 3) × (new.output ≡ old.output) × ((why : List ℕ) × TakesIfItCan old.errors new.errors (codes "failed listen\n" ++ why))
@@ -86,7 +86,7 @@ ServesClients asked old new status =
     ((status ≡ 3) × TakesFront old new (codes "ready\n"))
     ⊎ ((server : Server) × IsAsked asked server × ((served : Served) × ServedBy server served × EndsServing served old new (codes "ready\n") status))
 
--- the port could not be bound; or it was, and clients are served
+-- a port could not be bound; or all were, and clients are served
 abbrev pub Listens : MapdWords → Outputs → Outputs → ℕ → Type 0
 Listens asked old new status = FailsToListen old new status ⊎ ServesClients asked old.output new.output status
 

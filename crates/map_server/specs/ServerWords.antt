@@ -1,6 +1,7 @@
 -- The command line of `mapd`: its options and defaults. How words are read is clap's (clap_builder 4.6).
-use Rattle.std.specs.Prelude.{◌≡◌, ◌≢◌, ◌≤◌, ℕ, ℤ, true, List, [], ◌∷◌, Some, codes, pos, option_and_then, string_bytes}
+use Rattle.std.specs.Prelude.{◌≡◌, ◌≢◌, ◌≤◌, ◌⊎◌, ◌&&◌, ℕ, ℤ, Bool, true, false, not, List, [], ◌∷◌, Some, codes, is_some, pos, option_and_then, option_map, string_bytes}
 use Rattle.clap.specs.Words.{App, IsAmong, Row, Rule, fault_of, first_of, matches_of, new_rule, one_of}
+use Rattle.clap.specs.Walk.{is_empty}
 use Rattle.clap.specs.Simple.{new_shape}
 use Rattle.clap.specs.Values.{kind_of}
 use Rattle.clap.specs.declared.Error.{Error}
@@ -12,17 +13,19 @@ use Rattle.map_server.specs.declared.words.MapdWords.{MapdWords}
 use Rattle.map_server.specs.declared.words.WordsFault.{WordsFault}
 use Rattle.map_server.specs.declared.words.WordsFault.TheVariants as fault
 
--- the address, which is wanted
-abbrev pub listen_option : Rule
-listen_option = record (new_rule (codes "listen")) { long = Some (codes "listen"); value_names = 1; action = Some Set; required = true }
+-- an option that takes an address, and is wanted or not
+abbrev pub address_option : List ℕ → Bool → Rule
+address_option name wanted = record (new_rule name) { long = Some name; value_names = 1; action = Some Set; required = wanted }
 
 -- an option that takes a number from 1 to a greatest one
 abbrev pub range_option : List ℕ → ℤ → Rule
 range_option name most = record (size_option name) { parser = Some (Signed (pos 1) most) }
 
-abbrev pub mapd_options : List Rule
-mapd_options =
-    listen_option
+-- the address of --listen is wanted or not
+abbrev pub mapd_options : Bool → List Rule
+mapd_options wanted =
+    address_option (codes "listen") wanted
+    ∷ address_option (codes "redis") false
     ∷ size_option (codes "stripes")
     ∷ range_option (codes "workers") (pos 32)
     ∷ range_option (codes "team") (pos 8)
@@ -33,12 +36,21 @@ mapd_options =
     ∷ []
 
 -- a command without subcommands
-abbrev pub mapd : App
-mapd = record { top = record (new_shape (codes "mapd")) { rules = mapd_options; has_version = true }; subs = [] }
+abbrev pub mapd : Bool → App
+mapd wanted = record { top = record (new_shape (codes "mapd")) { rules = mapd_options wanted; has_version = true }; subs = [] }
 
--- what the options ask for: each is given, or has its default; the number of sessions and the seconds have none
+-- the words give --redis, and there is no fault in them if --listen is not wanted
+abbrev pub gives_redis : List (List ℕ) → Bool
+gives_redis words = is_empty (fault_of (mapd false) words) && is_some (first_of (codes "redis") (matches_of (mapd false) words))
+
+-- the command line that reads the words: --listen is wanted, unless they give --redis
+abbrev pub reader_of : List (List ℕ) → App
+reader_of words = mapd (not (gives_redis words))
+
+-- what the options ask for: each is given, or has its default; the addresses, the number of sessions and the seconds have none
 pub record AsksFor (rows : List Row) (asked : MapdWords) : Type 0 where
-  pub listen : Some (string_bytes asked.listen) ≡ first_of (codes "listen") rows
+  pub listen : option_map string_bytes asked.listen ≡ first_of (codes "listen") rows
+  pub redis : option_map string_bytes asked.redis ≡ first_of (codes "redis") rows
   pub stripes : asked.stripes ≡ given_size rows (codes "stripes") 16
   pub workers : asked.workers ≡ given_size rows (codes "workers") 4
   pub team : asked.team ≡ given_size rows (codes "team") 1
@@ -49,10 +61,11 @@ pub record AsksFor (rows : List Row) (asked : MapdWords) : Type 0 where
 
 -- what the words ask for, of which the first is the program's name: clap finds no fault in them, and they ask for this
 abbrev pub AsksServer : List (List ℕ) → MapdWords → Type 0
-AsksServer words asked = (fault_of mapd words ≡ []) × AsksFor (matches_of mapd words) asked
+AsksServer words asked = (fault_of (reader_of words) words ≡ []) × AsksFor (matches_of (reader_of words) words) asked
 
--- there is a worker, a thread for each of its walks, and a client; and there are not too many
+-- there is an address, a worker, a thread for each of its walks, and a client; and there are not too many
 pub record IsInRange (asked : MapdWords) : Type 0 where
+  pub some_address : (is_some asked.listen ≡ true) ⊎ (is_some asked.redis ≡ true)
   pub some_worker : 1 ≤ asked.workers
   pub workers : asked.workers ≤ 32
   pub some_member : 1 ≤ asked.team
@@ -62,7 +75,7 @@ pub record IsInRange (asked : MapdWords) : Type 0 where
 
 -- the error is of a kind that clap gives these words; want of memory says nothing
 abbrev pub IsWordsFault : List (List ℕ) → WordsFault → Type 0
-IsWordsFault words (fault.Words error) = IsAmong (kind_of error) (fault_of mapd words)
+IsWordsFault words (fault.Words error) = IsAmong (kind_of error) (fault_of (reader_of words) words)
 IsWordsFault words fault.NoMemory = Unit {0}
 
 -- clap's error as a fault: want of memory if it tells that, else the error

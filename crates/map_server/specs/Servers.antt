@@ -1,8 +1,10 @@
 -- What `mapd` serves, as its words ask for it.
-use Rattle.std.specs.Prelude.{◌≡◌, ℕ, List, All, map, vec_len}
+use Rattle.std.specs.Prelude.{◌≡◌, ℕ, List, All, is_some, map, vec_len}
 use Rattle.stripe_rule.specs.Rule.{from_on}
 use Rattle.bin_stripes.specs.Passes.{stripes_of}
 use Rattle.crews.specs.declared.crew.Crew.{Crew}
+use Rattle.map_server.specs.declared.ports.Ports.{Ports}
+use Rattle.map_server.specs.declared.server.Protocols.{Protocols}
 use Rattle.map_server.specs.declared.server.Server.{Server}
 use Rattle.map_server.specs.declared.words.MapdWords.{MapdWords}
 
@@ -11,8 +13,18 @@ pub record AreAsked (workers team : ℕ) (crews : List Crew) : Type 0 where
   pub numbered : map (λ crew. crew.worker) crews ≡ from_on 0 workers
   pub teams : All (λ crew. vec_len crew.team.passes ≡ team) crews
 
--- the map has the stripes that are asked for; the crews are those that are asked for; and each of them may serve as many
--- sessions as are asked for, within the limits that are
+-- clients speak frames if there is an address of --listen, and commands if there is one of --redis
+abbrev pub protocols_of : MapdWords → Protocols
+protocols_of asked = record { frames = is_some asked.listen; commands = is_some asked.redis }
+
+-- there is a port for each of these protocols, and no other
+pub record HasPorts (protocols : Protocols) (ports : Ports) : Type 0 where
+  pub frames : is_some ports.frames ≡ protocols.frames
+  pub commands : is_some ports.commands ≡ protocols.commands
+
+-- the map has the stripes that are asked for; the crews are those that are asked for; each of them may serve as many sessions
+-- as are asked for, within the limits that are; clients speak the protocols of the ports that are, and may load as many scripts
+-- as programs
 pub record IsAsked (asked : MapdWords) (server : Server) : Type 0 where
   pub stripes : stripes_of server.map ≡ asked.stripes
   pub crews : AreAsked asked.workers asked.team server.crews.items
@@ -20,3 +32,5 @@ pub record IsAsked (asked : MapdWords) (server : Server) : Type 0 where
   pub sessions : server.quotas.most ≡ asked.sessions
   pub clients : server.limits.clients ≡ asked.clients
   pub idle : server.limits.idle ≡ asked.idle
+  pub protocols : server.protocols ≡ protocols_of asked
+  pub scripts : server.scripts ≡ asked.programs

@@ -8,7 +8,7 @@ use crate::quotas::Quotas;
 use crate::shared_stream::SharedStream;
 use crate::sockets::{hear_out, set_up, tell_no_room};
 use crate::telling::Telling;
-use crews::{Accept, Crew};
+use crews::{Accept, Crew, Protocol};
 use devices::{Sink, Source, StreamSink, StreamSource};
 use sessions::SessionEnd;
 use std::alloc::Global;
@@ -27,7 +27,7 @@ pub type TcpReader = StreamSource<SharedStream>;
 /// What it writes the answers to.
 pub type TcpWriter = StreamSink<BufWriter<SharedStream>>;
 
-/// The clients of one port. Each worker takes its next client by itself, until it has served as many as it may. It counts
+/// The clients of one port, which speak frames. Each worker takes its next client by itself, until it has served as many as it may. It counts
 /// the clients. If an accept fails of a want that may pass, the worker waits and accepts again, for an hour at most. Any other failed
 /// accept ends its worker. Standard error is told of both.
 #[derive(Drop)]
@@ -137,7 +137,7 @@ impl<'a, 'b, H: Wait + Clock, E: Sink> TcpAccept<'a, 'b, H, E> {
                 return Ok(stream);
             }
             let mut told = &stream;
-            tell_no_room(&mut told);
+            tell_no_room(&mut told, Protocol::Frames);
             hear_out(self.arrivals.rt, &stream);
         }
         Err(io::Error::from(ErrorKind::Interrupted))

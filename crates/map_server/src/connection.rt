@@ -1,6 +1,7 @@
 //! A client's connection, which never blocks.
 
 use crate::sockets::{discard_piece, keep_alive, tell_no_room};
+use crews::Protocol;
 use devices::{Channel, Received, Sent};
 use mio::net::TcpStream;
 use std::io::{ErrorKind, Read, Write};
@@ -26,10 +27,10 @@ impl Connection {
         &mut self.stream
     }
 
-    /// Tells the client that there is no room for it.
-    pub(crate) fn refuse(&self) {
+    /// Tells the client, which speaks this protocol, that there is no room for it.
+    pub(crate) fn refuse(&self, protocol: Protocol) {
         let mut stream = &self.stream;
-        tell_no_room(&mut stream);
+        tell_no_room(&mut stream, protocol);
     }
 
     /// Ends what is written to the client. Returns whether the system did.

@@ -9,7 +9,7 @@ const MOST_LOOKS: u32 = 64;
 /// A worker that has more clients than others leaves a new one to them for this long, in milliseconds.
 const COURTESY_MILLIS: u64 = 1;
 
-/// How a worker stands with the port.
+/// How a worker stands with a port.
 #[derive(Clone, Copy, Debug, PartialEq, Eq)]
 enum State {
     /// Nobody waits, as far as is known.
@@ -24,7 +24,16 @@ enum State {
     Shut,
 }
 
-/// A worker's door: when it looks for its next client, and how long it waited for what was wanting.
+/// The shorter of two times; none is for ever.
+pub(crate) fn sooner(one: Option<Duration>, other: Option<Duration>) -> Option<Duration> {
+    match (one, other) {
+        (Some(one), Some(other)) => Some(one.min(other)),
+        (one, None) => one,
+        (None, other) => other,
+    }
+}
+
+/// A worker's door to a port: when it looks for its next client, and how long it waited for what was wanting.
 #[derive(Drop)]
 pub(crate) struct Door {
     state: State,

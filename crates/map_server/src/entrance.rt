@@ -1,18 +1,26 @@
-//! What the workers of a port share: its listener, and what is counted and told of those who come.
+//! What the workers share: the ports, and what is counted and told of those who come.
 
 use crate::arrivals::{Arrivals, Limits, Then};
 use crate::connection::Connection;
 use crate::patience::{Patience, is_of_descriptors};
+use crate::ports::Ports;
 use crate::quotas::Quotas;
 use crate::telling::Telling;
+use crews::Protocol;
 use devices::Sink;
-use mio::net::TcpListener;
 use std::alloc::Global;
 use std::io::{self, ErrorKind};
 use std::os::fd::{AsFd, OwnedFd};
 use std::rt::Clock;
 use std::sync::{Mutex, Wait};
 use std::time::Duration;
+
+/// A worker's look at the port of a protocol.
+#[derive(Clone, Copy, Debug, PartialEq, Eq)]
+pub(crate) struct Look {
+    pub(crate) worker: u32,
+    pub(crate) protocol: Protocol,
+}
 
 /// What a look for the next client gave.
 #[derive(Drop)]
@@ -31,35 +39,35 @@ pub(crate) enum Arrival {
     Never,
 }
 
-/// The listener of a port, which every worker watches; what is counted and told of clients; how many sessions the workers may
-/// begin; and a descriptor in reserve, so that one client more than there are descriptors for can be told.
+/// The ports, which every worker watches; what is counted and told of clients, whichever port they came to; how many sessions the
+/// workers may begin; and a descriptor in reserve, so that one client more than there are descriptors for can be told.
 #[derive(Drop)]
 pub(crate) struct Entrance<'a, 'b, H: Wait + Clock, E: Sink> {
     pub(crate) arrivals: Arrivals<'a, 'b, H, E>,
-    listener: TcpListener,
+    pub(crate) ports: Ports,
     quotas: Quotas,
     spare: Mutex<Option<OwnedFd>>,
 }
 
-/// A descriptor in reserve, a second one of the listener; none if the system has none.
-fn spare_of(listener: &TcpListener) -> Option<OwnedFd> {
-    listener.as_fd().try_clone_to_owned().ok()
+/// A descriptor in reserve, a second one of a listener; none if the system has none.
+fn spare_of(ports: &Ports) -> Option<OwnedFd> {
+    ports.first()?.as_fd().try_clone_to_owned().ok()
 }
 
 impl<'a, 'b, H: Wait + Clock, E: Sink> Entrance<'a, 'b, H, E> {
-    /// The entrance of the port that the listener is bound to, for the workers of these quotas, within these limits.
+    /// The entrance by these ports, for the workers of these quotas, within these limits.
     pub(crate) fn new(
         rt: &'a H,
         alloc: Global,
-        listener: TcpListener,
+        ports: Ports,
         quotas: Quotas,
         limits: Limits,
         errors: Telling<'b, E>,
     ) -> Entrance<'a, 'b, H, E> {
-        let spare = Mutex::new(spare_of(&listener));
+        let spare = Mutex::new(spare_of(&ports));
         Entrance {
             arrivals: Arrivals::new(rt, alloc, limits, errors),
-            listener,
+            ports,
             quotas,
             spare,
         }
@@ -75,34 +83,43 @@ impl<'a, 'b, H: Wait + Clock, E: Sink> Entrance<'a, 'b, H, E> {
         clients.saturating_mul(self.quotas.workers()) <= self.arrivals.here()
     }
 
-    /// Looks for the worker's next client. One worker accepts at a time: no other one may take the descriptor in reserve while it is
-    /// given up to refuse a client.
-    pub(crate) fn next(&self, worker: u32, patience: &mut Patience) -> Arrival {
-        if !self.quotas.has_left(worker) {
+    /// The next connection that waits at the port of this protocol.
+    fn accept(&self, protocol: Protocol) -> io::Result<Connection> {
+        let Some(listener) = self.ports.listener(protocol) else {
+            return Err(io::Error::from(ErrorKind::WouldBlock));
+        };
+        let (stream, _) = listener.accept()?;
+        Ok(Connection::new(stream))
+    }
+
+    /// Looks for the worker's next client at a port. One worker accepts at a time: no other one may take the descriptor in reserve
+    /// while it is given up to refuse a client.
+    pub(crate) fn next(&self, look: Look, patience: &mut Patience) -> Arrival {
+        if !self.quotas.has_left(look.worker) {
             return Arrival::Never;
         }
         let mut spare = self.spare.lock(self.arrivals.rt);
-        match self.listener.accept() {
-            Ok((stream, _)) => {
+        match self.accept(look.protocol) {
+            Ok(connection) => {
                 self.arrivals.tell_plenty(patience);
                 self.keep_spare(&mut *spare);
-                self.received(worker, Connection::new(stream))
+                self.received(look, connection)
             }
             Err(error) if error.kind() == ErrorKind::WouldBlock => {
                 self.arrivals.tell_plenty(patience);
                 Arrival::Nobody
             }
-            Err(error) => self.after_fault(worker, patience, &error, &mut *spare),
+            Err(error) => self.after_fault(look, patience, &error, &mut *spare),
         }
     }
 
     /// A client came. It is counted, if there is room for it.
-    fn received(&self, worker: u32, connection: Connection) -> Arrival {
+    fn received(&self, look: Look, connection: Connection) -> Arrival {
         if !self.arrivals.comes() {
-            connection.refuse();
+            connection.refuse(look.protocol);
             return Arrival::Refused(connection);
         }
-        self.quotas.begin(worker);
+        self.quotas.begin(look.worker);
         self.arrivals.is_handed_out();
         Arrival::Came(connection)
     }
@@ -110,13 +127,13 @@ impl<'a, 'b, H: Wait + Clock, E: Sink> Entrance<'a, 'b, H, E> {
     /// What follows from the error of an accept.
     fn after_fault(
         &self,
-        worker: u32,
+        look: Look,
         patience: &mut Patience,
         error: &io::Error,
         spare: &mut Option<OwnedFd>,
     ) -> Arrival {
         if is_of_descriptors(error)
-            && let Some(arrival) = self.refuse_one(error, spare)
+            && let Some(arrival) = self.refuse_one(look.protocol, error, spare)
         {
             return arrival;
         }
@@ -124,21 +141,25 @@ impl<'a, 'b, H: Wait + Clock, E: Sink> Entrance<'a, 'b, H, E> {
             Then::Again => Arrival::Again,
             Then::After(wait) => Arrival::After(wait),
             Then::Never => {
-                self.arrivals.tell_failure(worker, error);
+                self.arrivals.tell_failure(look.worker, error);
                 Arrival::Never
             }
         }
     }
 
-    /// Takes the descriptor in reserve to tell one client that there is none for it, and closes its connection. None if that can't
-    /// be done.
-    fn refuse_one(&self, error: &io::Error, spare: &mut Option<OwnedFd>) -> Option<Arrival> {
+    /// Takes the descriptor in reserve to tell one client of this protocol that there is none for it, and closes its connection. None
+    /// if that can't be done.
+    fn refuse_one(
+        &self,
+        protocol: Protocol,
+        error: &io::Error,
+        spare: &mut Option<OwnedFd>,
+    ) -> Option<Arrival> {
         let descriptor = spare.take()?;
         drop(descriptor);
-        let arrival = match self.listener.accept() {
-            Ok((stream, _)) => {
-                let connection = Connection::new(stream);
-                connection.refuse();
+        let arrival = match self.accept(protocol) {
+            Ok(connection) => {
+                connection.refuse(protocol);
                 let _ = connection.discard();
                 self.arrivals.tell_refused(error);
                 Some(Arrival::Again)
@@ -146,14 +167,14 @@ impl<'a, 'b, H: Wait + Clock, E: Sink> Entrance<'a, 'b, H, E> {
             Err(error) if error.kind() == ErrorKind::WouldBlock => Some(Arrival::Nobody),
             Err(_) => None,
         };
-        *spare = spare_of(&self.listener);
+        *spare = spare_of(&self.ports);
         arrival
     }
 
     /// Takes a descriptor in reserve again, if it was lost.
     fn keep_spare(&self, spare: &mut Option<OwnedFd>) {
         if spare.is_none() {
-            *spare = spare_of(&self.listener);
+            *spare = spare_of(&self.ports);
         }
     }
 }

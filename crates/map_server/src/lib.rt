@@ -11,9 +11,11 @@ mod arrivals;
 mod connection;
 mod departures;
 mod door;
+mod doors;
 mod entrance;
 mod opening;
 mod patience;
+mod ports;
 mod posts;
 mod program;
 mod quotas;
@@ -39,9 +41,10 @@ pub use map_commands::{
     Command, Ending, HexFault, LINE_BYTES, Line, Refusal, Report, RunTexts, Task, bpfmap_on,
     hex_bytes, parse_words, report_of, tell_unread_words, unit_lines,
 };
+pub use ports::Ports;
 pub use program::mapd_on;
 pub use quotas::Quotas;
-pub use server::{Served, Server};
+pub use server::{Protocols, Served, Server};
 pub use sessions::{Alone, Answer, Service, SessionEnd, run_session, session_alone};
 pub use shared_stream::SharedStream;
 pub use telling::Telling;

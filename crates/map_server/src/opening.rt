@@ -100,6 +100,8 @@ fn server_of(
         crews,
         quotas,
         limits,
+        protocols: asked.protocols(),
+        scripts: asked.programs,
     })
 }
 

@@ -1,4 +1,4 @@
-//! The workers of a port, each with clients of its own.
+//! The workers, each with clients of its own.
 ghost use Rattle.std.specs.Prelude.{◌≡◌, ◌≤◌, [], IfOk, All, map, vec_len, vec_capacity};
 ghost use Rattle.crews.specs.Crews.{AllCarrySame, IsCrewOf};
 
@@ -9,6 +9,7 @@ use bpf_model::NoMemory;
 use crews::{Crew, Post, Worker, attend_each};
 use devices::Sink;
 use mio::Poll;
+use redis_scripts::Scripts;
 use std::alloc::Global;
 use std::rt::Clock;
 use std::sync::Wait;
@@ -49,10 +50,11 @@ fn crews_of<P: Drop>(posts: Vec<Post<P>>, mut crews: Vec<Crew>) -> Vec<Crew>
     crews
 }
 
-/// Has each crew attend clients that come in by this entrance, until they are over. Gives the crews back in their order. `NoMemory`
-/// if a request for memory was refused.
-pub(crate) fn attend_all<H: Threads + Wait + Clock + Sync, E: Sink + Send>(
-    worker: &Worker<'_, H, OpenGate>,
+/// Has each crew attend clients that come in by this entrance, until they are over, by scripts that all share. Gives the crews back
+/// in their order. `NoMemory` if a request for memory was refused.
+pub(crate) fn attend_all<'a, H: Threads + Wait + Clock + Sync, E: Sink + Send>(
+    worker: &Worker<'a, H, OpenGate>,
+    scripts: &'a Scripts<'a>,
     entrance: &Entrance<'_, '_, H, E>,
     crews: Vec<Crew>,
     polls: Vec<Poll>,
@@ -64,6 +66,6 @@ pub(crate) fn attend_all<H: Threads + Wait + Clock + Sync, E: Sink + Send>(
 {
     let back = Vec::with_capacity(worker.alloc, crews.len())?;
     let posts = posts_of(worker.alloc, entrance, crews, polls)?;
-    let attended = attend_each(worker, posts)?;
+    let attended = attend_each(worker, scripts, posts)?;
     Ok(crews_of(attended, back))
 }

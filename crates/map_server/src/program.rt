@@ -4,13 +4,14 @@ ghost use Rattle.clap.specs.Walk.{texts};
 ghost use Rattle.clap.specs.Words.{fault_of, HasKind};
 ghost use Rattle.devices.specs.Devices.{CanWrite, TakesFront, TakesIfItCan};
 ghost use Rattle.map_commands.specs.Endings.{outputs};
-ghost use Rattle.map_server.specs.Servers.{IsAsked};
+ghost use Rattle.map_server.specs.Servers.{HasPorts, IsAsked};
 ghost use Rattle.map_server.specs.ServerRuns.{EndsServerWords, EndsServing, IsLastLine, Listens, PrintsAll, RunsMapd, ServesClients, TellsOpenFault};
-ghost use Rattle.map_server.specs.ServerWords.{mapd, IsWordsFault};
+ghost use Rattle.map_server.specs.ServerWords.{reader_of, IsWordsFault};
 
 use crate::opening::open_server;
+use crate::ports::ListenFault;
 use crate::server::{Served, Server};
-use crate::tcp::{Port, bind, serve_port};
+use crate::tcp::{Bound, bind, serve_ports};
 use crate::telling::Telling;
 use crate::threads::tell_running;
 use crate::words::{MapdWords, WordsFault, mapd_words};
@@ -24,7 +25,6 @@ use map_commands::{
     Ending, FAILED_DEVICE, Line, REFUSED, append, refuse, text_line, told_error, warn,
 };
 use std::alloc::{AllocError, Global};
-use std::io;
 use std::net::Net;
 use std::random::RandomSource;
 use std::rt::Clock;
@@ -50,7 +50,7 @@ fn tell_fault<W: Sink, E: Sink>(fault: OpenFault, writer: &mut W, errors: &mut E
 
 /// What words come to that ask for no server. If there is no memory for clap's text, that is refused.
 fn ending_of_error(alloc: Global, error: &clap::Error, words: &[&str]) -> Ending
-    ensures { HasKind (fault_of mapd (texts words.now)) error.now
+    ensures { HasKind (fault_of (reader_of (texts words.now)) (texts words.now)) error.now
         → EndsServerWords (texts words.now) result }
 {
     if error.kind() == ErrorKind::OutOfMemory {
@@ -63,28 +63,32 @@ fn ending_of_error(alloc: Global, error: &clap::Error, words: &[&str]) -> Ending
     }
 }
 
-/// Why the port could not be bound, in a line.
-fn reason_line(alloc: Global, error: &io::Error) -> Result<String, AllocError> {
-    format!(in alloc; "{error}\n")
+/// Why a port could not be bound, in a line.
+fn reason_line(alloc: Global, fault: &ListenFault<'_>) -> Result<String, AllocError> {
+    let error = &fault.error;
+    match fault.address {
+        Some(address) => format!(in alloc; "{address}: {error}\n"),
+        None => format!(in alloc; "{error}\n"),
+    }
 }
 
-/// The text that tells that the port could not be bound. If there is no memory for the reason, it is left out.
-fn listen_failure(alloc: Global, error: &io::Error) -> Result<Vec<u8>, AllocError>
+/// The text that tells that a port could not be bound. If there is no memory for the reason, it is left out.
+fn listen_failure(alloc: Global, fault: &ListenFault<'_>) -> Result<Vec<u8>, AllocError>
     ensures { IfOk result (λ text. (why : List ℕ) × (text.items ≡ codes "failed listen\n" ++ why)) }
 {
     let mut text = Vec::new(alloc);
     text.extend_from_slice(b"failed listen\n")?;
-    text.extend_from_slice(reason_line(alloc, error)?.as_bytes())?;
+    text.extend_from_slice(reason_line(alloc, fault)?.as_bytes())?;
     Ok(text)
 }
 
-/// Tells that the port could not be bound, and why, and answers the status.
-fn tell_failed_listen<E: Sink>(alloc: Global, error: &io::Error, errors: &mut E) -> u8
+/// Tells that a port could not be bound, and why, and answers the status.
+fn tell_failed_listen<E: Sink>(alloc: Global, fault: &ListenFault<'_>, errors: &mut E) -> u8
     requires { CanWrite (E.state errors.old) }
     ensures status { result ≡ 3 }
     ensures errors { (why : List ℕ) × TakesIfItCan (E.state errors.old) (E.state errors.new) (codes "failed listen\n" ++ why) }
 {
-    match listen_failure(alloc, error) {
+    match listen_failure(alloc, fault) {
         Ok(text) => warn(&text, FAILED_DEVICE, errors),
         Err(_) => warn(b"failed listen\n", FAILED_DEVICE, errors),
     }
@@ -142,12 +146,12 @@ fn tell_failed_write<E: Sink>(errors: &mut Telling<'_, E>) -> u8
     FAILED_DEVICE
 }
 
-/// Tells the address that was bound, prints `ready`, serves clients until each worker has ended, and answers the status.
+/// Tells the addresses that were bound, prints `ready`, serves clients until each worker has ended, and answers the status.
 fn serve_bound<H: Threads + Wait + Clock + Sync, W: Sink, E: Sink + Send>(
     rt: &H,
     alloc: Global,
     asked: &MapdWords,
-    bound: (Port, Server),
+    bound: (Bound, Server),
     writer: &mut W,
     errors: &mut E,
 ) -> u8
@@ -155,18 +159,19 @@ fn serve_bound<H: Threads + Wait + Clock + Sync, W: Sink, E: Sink + Send>(
     requires warns { CanWrite (E.state errors.old) }
     requires asked { IsAsked asked.now bound.1 }
     requires polls { vec_len bound.0.polls ≡ vec_len bound.1.crews }
+    requires ports { HasPorts bound.1.protocols bound.0.ports }
     ensures { ServesClients asked.now (W.state writer.old) (W.state writer.new) result }
 {
     // For the proof alone: the clauses name what is asked for.
     let _ = asked;
-    let (port, server) = bound;
+    let (bound, server) = bound;
     let mut telling = Telling::new(errors);
-    telling.tell(port.line.as_bytes());
+    telling.tell(bound.lines.as_bytes());
     tell_running(rt, alloc, server.crews.len() as u64, &mut telling);
     if let Err(Failed) = print_at_once(writer, b"ready\n") {
         return tell_failed_write(&mut telling);
     }
-    let (served, mut telling) = serve_port(rt, alloc, port, server, telling);
+    let (served, mut telling) = serve_ports(rt, alloc, bound, server, telling);
     finish(&served, writer, &mut telling)
 }
 
@@ -185,9 +190,9 @@ fn listen<H: Threads + Wait + Clock + Net + Sync, W: Sink, E: Sink + Send>(
     ensures { Listens asked.now (outputs (W.state writer.old) (E.state errors.old))
         (outputs (W.state writer.new) (E.state errors.new)) result }
 {
-    match bind(rt, alloc, asked.listen.as_str(), server.crews.len()) {
-        Ok(port) => serve_bound(rt, alloc, asked, (port, server), writer, errors),
-        Err(error) => tell_failed_listen(alloc, &error, errors),
+    match bind(rt, alloc, asked, server.crews.len()) {
+        Ok(bound) => serve_bound(rt, alloc, asked, (bound, server), writer, errors),
+        Err(fault) => tell_failed_listen(alloc, &fault, errors),
     }
 }
 

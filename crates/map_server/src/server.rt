@@ -9,7 +9,16 @@ use bpf_model::NoMemory;
 use crews::Crew;
 use program_registry::Registry;
 
-/// What is served, who serves it, how often, and to how many.
+/// Which protocols clients speak. There is a port for each.
+#[derive(Clone, Copy, Debug, PartialEq, Eq)]
+pub struct Protocols {
+    /// Some clients speak frames.
+    pub frames: bool,
+    /// Some clients speak the commands of Redis.
+    pub commands: bool,
+}
+
+/// What is served, who serves it, how often, to how many, and in which protocols.
 #[derive(Drop)]
 pub struct Server {
     pub map: StripedMap,
@@ -17,6 +26,9 @@ pub struct Server {
     pub crews: Vec<Crew>,
     pub quotas: Quotas,
     pub limits: Limits,
+    pub protocols: Protocols,
+    /// How many scripts clients of commands may load.
+    pub scripts: u64,
     ghost serve: { All (λ crew. IsCrewOf map crew) crews.items },
 }
 

@@ -2,7 +2,9 @@
 
 use bpf_model::NoMemory;
 use client_protocol::ShortResponse;
+use crews::Protocol;
 use libc::net::{IPPROTO_TCP, SO_KEEPALIVE, SOL_SOCKET, TCP_KEEPIDLE, setsockopt};
+use redis_service::NO_ROOM_LINE;
 use std::io::{self, Read, Write};
 use std::net::{Shutdown, TcpStream};
 use std::os::fd::{AsRawFd, RawFd};
@@ -59,11 +61,14 @@ fn time_left<H: Clock>(rt: &H, start: Instant) -> Option<Duration> {
     if left.is_zero() { None } else { Some(left) }
 }
 
-/// Tells a client that there is no room for it.
-pub(crate) fn tell_no_room<W: Write>(stream: &mut W) {
+/// Tells a client, which speaks this protocol, that there is no room for it.
+pub(crate) fn tell_no_room<W: Write>(stream: &mut W, protocol: Protocol) {
     let number = NoMemory::NUMBER;
     let refusal = ShortResponse::Refused { number, place: 0 };
-    let _ = stream.write_all(refusal.frame().as_slice());
+    let _ = match protocol {
+        Protocol::Frames => stream.write_all(refusal.frame().as_slice()),
+        Protocol::Commands => stream.write_all(NO_ROOM_LINE),
+    };
 }
 
 /// Reads a piece, and throws it away. Returns the number of its bytes.

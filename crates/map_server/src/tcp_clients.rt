@@ -2,13 +2,15 @@
 
 use crate::connection::Connection;
 use crate::departures::{Departures, is_departure};
-use crate::door::Door;
-use crate::entrance::{Arrival, Entrance};
+use crate::door::sooner;
+use crate::doors::Doors;
+use crate::entrance::{Arrival, Entrance, Look};
+use crate::ports::{COMMANDS_PORT, FRAMES_PORT};
 use crate::seats::{Seats, Stirring};
 use crate::stopwatch::Stopwatch;
 use bin_stripes::Pass;
 use bpf_model::NoMemory;
-use crews::{Clients, Event, Parting, Standing};
+use crews::{Clients, Event, Parting, Protocol, Standing};
 use devices::Sink;
 use mio::{Events, Interest, Poll, Token};
 use sessions::SessionEnd;
@@ -18,16 +20,13 @@ use std::rt::Clock;
 use std::sync::Wait;
 use std::time::Duration;
 
-/// The token of the listener, which is no seat and no departure's.
-pub(crate) const LISTENER: Token = Token(usize::MAX >> 1);
-
 /// At most this many connections are told of at once.
 const MOST_EVENTS: usize = 256;
 
 /// How long it is between two looks for silent clients, in milliseconds.
 const SWEEP_MILLIS: u64 = 500;
 
-/// The clients of one worker: it takes them from the entrance, tells which has a turn, lets silent ones go, and hears out those
+/// The clients of one worker, of both ports: it takes them from the entrance, tells which has a turn, lets silent ones go, and hears out those
 /// that were refused. What the system tells is no premise of it: a seat that it tells of for no reason has a turn for nothing.
 #[derive(Drop)]
 pub(crate) struct TcpClients<'a, 'b, 'c, H: Wait + Clock, E: Sink> {
@@ -39,14 +38,14 @@ pub(crate) struct TcpClients<'a, 'b, 'c, H: Wait + Clock, E: Sink> {
     seats: Seats,
     clients: u64,
     turns: usize,
-    door: Door,
+    doors: Doors,
     departures: Departures,
     next_sweep: Duration,
 }
 
 impl<'a, 'b, 'c, H: Wait + Clock, E: Sink> TcpClients<'a, 'b, 'c, H, E> {
-    /// The clients of this worker, which come in by this entrance. The poll watches its listener. `NoMemory` if a request for
-    /// memory was refused.
+    /// The clients of this worker, which come in by this entrance. The poll watches its ports. `NoMemory` if a request for memory
+    /// was refused.
     pub(crate) fn new(
         alloc: Global,
         entrance: &'a Entrance<'b, 'c, H, E>,
@@ -62,7 +61,7 @@ impl<'a, 'b, 'c, H: Wait + Clock, E: Sink> TcpClients<'a, 'b, 'c, H, E> {
             seats: Seats::new(alloc),
             clients: 0,
             turns: 0,
-            door: Door::new(),
+            doors: Doors::of(&entrance.ports),
             departures: Departures::new(alloc),
             next_sweep: Duration::ZERO,
         })
@@ -87,14 +86,18 @@ impl<'a, 'b, 'c, H: Wait + Clock, E: Sink> TcpClients<'a, 'b, 'c, H, E> {
         self.seats.next_turn()
     }
 
-    /// The next client that comes in, if one is looked for now.
-    fn next_client(&mut self) -> Option<Connection> {
+    /// The next client that comes in by the port of this protocol, if one is looked for now.
+    fn next_of(&mut self, protocol: Protocol) -> Option<Connection> {
         let now = self.stopwatch.now();
+        let worker = self.worker;
         for _ in 0..u64::MAX {
-            if !self.door.looks(self.entrance.is_turn_of(self.clients), now) {
+            let is_its_turn = self.entrance.is_turn_of(self.clients);
+            let door = self.doors.door(protocol);
+            if !door.looks(is_its_turn, now) {
                 return None;
             }
-            match self.entrance.next(self.worker, &mut self.door.patience) {
+            let look = Look { worker, protocol };
+            match self.entrance.next(look, &mut door.patience) {
                 Arrival::Came(connection) => {
                     self.clients = self.clients.saturating_add(1);
                     return Some(connection);
@@ -103,12 +106,21 @@ impl<'a, 'b, 'c, H: Wait + Clock, E: Sink> TcpClients<'a, 'b, 'c, H, E> {
                     self.departures.add(self.poll.registry(), connection, now)
                 }
                 Arrival::Again => {}
-                Arrival::After(wait) => self.door.close_until(now.saturating_add(wait)),
-                Arrival::Nobody => self.door.quiet(),
-                Arrival::Never => self.door.shut(),
+                Arrival::After(wait) => door.close_until(now.saturating_add(wait)),
+                Arrival::Nobody => door.quiet(),
+                Arrival::Never => self.doors.shut(),
             }
         }
         None
+    }
+
+    /// The next client that comes in, if one is looked for now.
+    fn next_client(&mut self) -> Option<Event<Connection>> {
+        if let Some(connection) = self.next_of(Protocol::Frames) {
+            return Some(Event::Came(connection, Protocol::Frames));
+        }
+        let connection = self.next_of(Protocol::Commands)?;
+        Some(Event::Came(connection, Protocol::Commands))
     }
 
     /// What is to be done now; none if the system is to be asked.
@@ -116,8 +128,8 @@ impl<'a, 'b, 'c, H: Wait + Clock, E: Sink> TcpClients<'a, 'b, 'c, H, E> {
         if let Some(seat) = self.next_silent() {
             return Some(Event::LetGo(seat));
         }
-        if let Some(connection) = self.next_client() {
-            return Some(Event::Came(connection));
+        if let Some(came) = self.next_client() {
+            return Some(came);
         }
         if let Some(seat) = self.next_turn() {
             return Some(Event::Ready(seat));
@@ -127,7 +139,7 @@ impl<'a, 'b, 'c, H: Wait + Clock, E: Sink> TcpClients<'a, 'b, 'c, H, E> {
 
     /// No client is there, and none will come.
     fn is_over(&self) -> bool {
-        self.door.is_shut() && self.clients == 0 && self.departures.is_empty()
+        self.doors.are_shut() && self.clients == 0 && self.departures.is_empty()
     }
 
     /// How long the system may be waited for; none: for ever.
@@ -141,7 +153,7 @@ impl<'a, 'b, 'c, H: Wait + Clock, E: Sink> TcpClients<'a, 'b, 'c, H, E> {
             _ => None,
         };
         sooner(
-            sooner(self.door.wait(now), self.departures.wait(now)),
+            sooner(self.doors.wait(now), self.departures.wait(now)),
             sweep,
         )
     }
@@ -154,8 +166,10 @@ impl<'a, 'b, 'c, H: Wait + Clock, E: Sink> TcpClients<'a, 'b, 'c, H, E> {
         let now = self.stopwatch.now();
         for event in self.events.iter() {
             let token = event.token();
-            if token == LISTENER {
-                self.door.knock();
+            if token == FRAMES_PORT {
+                self.doors.door(Protocol::Frames).knock();
+            } else if token == COMMANDS_PORT {
+                self.doors.door(Protocol::Commands).knock();
             } else if is_departure(token.0) {
                 self.departures.hear(token.0);
             } else {
@@ -173,7 +187,7 @@ impl<'a, 'b, 'c, H: Wait + Clock, E: Sink> TcpClients<'a, 'b, 'c, H, E> {
     fn begin_round(&mut self) {
         let now = self.stopwatch.now();
         self.departures.close_overdue(now);
-        self.door.begin_round(now);
+        self.doors.begin_round(now);
         // A client whose piece filled the room, or whose end has come, has a second turn: no need to ask the system between them.
         self.turns = self.seats.queued().saturating_mul(2);
         // If it may not have told of all, somebody may seem silent who is not.
@@ -185,20 +199,13 @@ impl<'a, 'b, 'c, H: Wait + Clock, E: Sink> TcpClients<'a, 'b, 'c, H, E> {
     }
 }
 
-/// The shorter of two times; none is for ever.
-fn sooner(one: Option<Duration>, other: Option<Duration>) -> Option<Duration> {
-    match (one, other) {
-        (Some(one), Some(other)) => Some(one.min(other)),
-        (one, None) => one,
-        (None, other) => other,
-    }
-}
-
-/// Whether a client that left so is heard out: it was told a refusal last.
-fn was_refused(parting: Parting) -> bool {
+/// Whether a client that left so is heard out: its session or talk ended on this side, and it may not have read what it was told last.
+fn is_heard_out(parting: Parting) -> bool {
     matches!(
         parting,
-        Parting::NotKept | Parting::Ended(SessionEnd::Refused(_) | SessionEnd::NoMemory)
+        Parting::NotKept
+            | Parting::Over
+            | Parting::Ended(SessionEnd::Refused(_) | SessionEnd::NoMemory)
     )
 }
 
@@ -246,7 +253,7 @@ impl<'a, 'b, 'c, H: Wait + Clock, E: Sink> Clients<Connection> for TcpClients<'a
         }
         self.clients = self.clients.saturating_sub(1);
         self.entrance.arrivals.leaves();
-        if was_refused(parting) {
+        if is_heard_out(parting) {
             self.departures
                 .add(self.poll.registry(), channel, self.stopwatch.now());
         }

@@ -1,10 +1,12 @@
 //! The command line of `mapd`: clap reads the words.
-ghost use Rattle.std.specs.Prelude.{◌≡◌, true, false, Some, IfOk, IfErr, codes, is_some, option_and_then};
-ghost use Rattle.clap.specs.Words.{app_of, fault_of, first_value, found_of, one_of, rows_of, rule_of, HasKind};
+ghost use Rattle.std.specs.Prelude.{◌≡◌, true, false, Some, IfOk, IfErr, codes, is_some, option_and_then, option_map, string_bytes};
+ghost use Rattle.clap.specs.Words.{app_of, fault_of, first_of, found_of, one_of, rows_of, rule_of, HasKind};
 ghost use Rattle.clap.specs.Walk.{texts};
 ghost use Rattle.map_commands.specs.CommandLine.{size_option, spelled_size};
-ghost use Rattle.map_server.specs.ServerWords.{listen_option, mapd, AsksFor, AsksServer, IsFaultOf, IsInRange, IsWordsFault};
+ghost use Rattle.map_server.specs.Servers.{protocols_of};
+ghost use Rattle.map_server.specs.ServerWords.{address_option, gives_redis, mapd, reader_of, AsksFor, AsksServer, IsFaultOf, IsInRange, IsWordsFault};
 
+use crate::server::Protocols;
 use bpf_model::NoMemory;
 use clap::builder::ValueParser;
 use clap::error::ErrorKind;
@@ -17,8 +19,10 @@ use std::fmt;
 /// What `mapd` is asked to do.
 #[derive(Debug, PartialEq, Eq, Drop)]
 pub struct MapdWords {
-    /// The address to listen on, as HOST:PORT.
-    pub listen: String,
+    /// The address of the port whose clients speak frames, as HOST:PORT; none: there is no such port.
+    pub listen: Option<String>,
+    /// The address of the port whose clients speak the commands of Redis; none: there is no such port.
+    pub redis: Option<String>,
     /// The number of stripes: the map is divided into this many parts.
     pub stripes: u64,
     /// How many threads serve clients.
@@ -31,8 +35,20 @@ pub struct MapdWords {
     pub clients: u64,
     /// After how many seconds in which nothing comes from a client, or it takes nothing, it is let go; none: never.
     pub idle: Option<u64>,
-    /// How many different programs clients may register.
+    /// How many different programs clients may register, and how many scripts they may load.
     pub programs: u64,
+}
+
+impl MapdWords {
+    /// The protocols of the ports that are asked for.
+    pub fn protocols(&self) -> Protocols
+        ensures { result ≡ protocols_of self.now }
+    {
+        Protocols {
+            frames: self.listen.is_some(),
+            commands: self.redis.is_some(),
+        }
+    }
 }
 
 /// Why words ask for no server.
@@ -94,9 +110,11 @@ const PROGRAMS_DEFAULT: u64 = 65_536;
 
 /// What the options cost.
 const COSTS: &str = "\
+At least one of --listen and --redis is given. Both ports serve one map.
 Each worker serves any number of clients at once, and waits for none of them.
 Threads: one for each worker, and one more if there are several; while a worker walks with a team of several, as
-many more. Passes of the map: workers * (1 + team), at most 64. Descriptors: 5, one a worker and one a client.
+many more. Passes of the map: workers * (1 + team), at most 64. Descriptors: 4, one a port, one a worker and one a
+client.
 Memory: 2 KB for each client, and up to 7 MB for each worker, beside the threads' stacks, answers that are not read
 yet, what walks answer, and the map. A registered program stays.
 Status: 0 all sessions were served, 1 refused, 2 a fault of the words, 3 a failed listen, accept or write.";
@@ -119,28 +137,39 @@ fn range_option<'a>(
         .value_parser(range)
 }
 
-/// Makes the option of the address.
-fn listen_option<'a>(alloc: Global) -> Arg<'a>
-    ensures rule { rule_of result ≡ listen_option }
+/// An option that takes an address, and is wanted or not.
+fn address_option<'a>(alloc: Global, name: &'a str, wanted: bool, help: &'a str) -> Arg<'a>
+    ensures rule { rule_of result ≡ address_option name.entry.now wanted }
     ensures local { result.global ≡ false }
 {
-    Arg::new(alloc, "listen")
-        .long("listen")
+    Arg::new(alloc, name)
+        .long(name)
         .value_name("HOST:PORT")
-        .help("Address to listen on; port 0 takes a free one, which standard error is told")
+        .help(help)
         .action(ArgAction::Set)
-        .required(true)
+        .required(wanted)
 }
 
-/// Makes the command line of `mapd`.
-fn mapd_command<'a>(alloc: Global) -> Result<clap::Command<'a>, AllocError>
-    ensures { IfOk result (λ c. app_of c ≡ mapd) }
+/// Makes the command line of `mapd`, which wants `--listen` or doesn't.
+fn mapd_command<'a>(alloc: Global, wanted: bool) -> Result<clap::Command<'a>, AllocError>
+    ensures { IfOk result (λ c. app_of c ≡ mapd wanted) }
 {
     clap::Command::new(alloc, "mapd")
         .about("Serves a map to many clients over TCP")
         .version("0.1.0")
         .after_help(COSTS)
-        .arg(listen_option(alloc))?
+        .arg(address_option(
+            alloc,
+            "listen",
+            wanted,
+            "Address to listen on; port 0 takes a free one, which standard error is told",
+        ))?
+        .arg(address_option(
+            alloc,
+            "redis",
+            false,
+            "Address for clients of Redis; if it is given, --listen may be left out",
+        ))?
         .arg(size_option(
             alloc,
             "stripes",
@@ -203,16 +232,27 @@ fn widened(number: Option<u16>) -> Option<u64>
     number.map(u64::from)
 }
 
+/// Returns the text that the option gives; none if it is not given. `NoMemory` if a request for memory was refused.
+fn given_text(
+    alloc: Global,
+    matches: &ArgMatches<'_>,
+    name: &str,
+) -> Result<Option<String>, NoMemory>
+    ensures { IfOk result (λ text. option_map string_bytes text ≡ first_of name.now (rows_of (found_of matches.now))) }
+{
+    match matches.get_str(name) {
+        None => Ok(None),
+        Some(text) => Ok(Some(String::from_str(alloc, text)?)),
+    }
+}
+
 /// Returns what the options ask for.
 fn words_of(alloc: Global, matches: &ArgMatches<'_>) -> Result<MapdWords, NoMemory>
-    requires { is_some (first_value (found_of matches.now) (codes "listen")) ≡ true }
     ensures { IfOk result (λ asked. AsksFor (rows_of (found_of matches.now)) asked) }
 {
-    let Some(listen) = matches.get_str("listen") else {
-        unreachable!()
-    };
     Ok(MapdWords {
-        listen: String::from_str(alloc, listen)?,
+        listen: given_text(alloc, matches, "listen")?,
+        redis: given_text(alloc, matches, "redis")?,
         stripes: u64::from(given_size(matches, "stripes", STRIPES_DEFAULT)),
         workers: u64::from(given_size(matches, "workers", WORKERS_DEFAULT)),
         team: u64::from(given_size(matches, "team", TEAM_DEFAULT)),
@@ -225,7 +265,7 @@ fn words_of(alloc: Global, matches: &ArgMatches<'_>) -> Result<MapdWords, NoMemo
 
 /// Returns clap's error as a fault of the words, or as a refusal of memory.
 fn fault_of_error(error: clap::Error, words: &[&str]) -> WordsFault
-    requires { HasKind (fault_of mapd (texts words.now)) error }
+    requires { HasKind (fault_of (reader_of (texts words.now)) (texts words.now)) error }
     ensures kind { IsWordsFault (texts words.now) result }
     ensures exact { IsFaultOf error result }
 {
@@ -235,14 +275,33 @@ fn fault_of_error(error: clap::Error, words: &[&str]) -> WordsFault
     WordsFault::Words(error)
 }
 
-/// Reads what the words ask for. The first word is the program's name.
+/// Reads what the words ask for, which don't give `--redis`, or have a fault beside that.
+fn words_with_listen<'a>(alloc: Global, words: &'a [&'a str]) -> Result<MapdWords, WordsFault>
+    requires { gives_redis (texts words.now) ≡ false }
+    ensures ok { IfOk result (λ asked. AsksServer (texts words.entry.now) asked) }
+    ensures range { IfOk result IsInRange }
+    ensures err { IfErr result (λ fault. IsWordsFault (texts words.entry.now) fault) }
+{
+    match mapd_command(alloc, true)?.try_get_matches_from(words) {
+        Ok(matches) => Ok(words_of(alloc, &matches)?),
+        Err(error) => Err(fault_of_error(error, words)),
+    }
+}
+
+/// Reads what the words ask for. The first word is the program's name. `--listen` is wanted unless they give `--redis`.
 pub fn mapd_words<'a>(alloc: Global, words: &'a [&'a str]) -> Result<MapdWords, WordsFault>
     ensures ok { IfOk result (λ asked. AsksServer (texts words.entry.now) asked) }
     ensures range { IfOk result IsInRange }
     ensures err { IfErr result (λ fault. IsWordsFault (texts words.entry.now) fault) }
 {
-    match mapd_command(alloc)?.try_get_matches_from(words) {
-        Ok(matches) => Ok(words_of(alloc, &matches)?),
-        Err(error) => Err(fault_of_error(error, words)),
+    match mapd_command(alloc, false)?.try_get_matches_from(words) {
+        Ok(matches) => {
+            if matches.get_str("redis").is_none() {
+                return words_with_listen(alloc, words);
+            }
+            Ok(words_of(alloc, &matches)?)
+        }
+        Err(error) if error.kind() == ErrorKind::OutOfMemory => Err(WordsFault::NoMemory),
+        Err(_) => words_with_listen(alloc, words),
     }
 }

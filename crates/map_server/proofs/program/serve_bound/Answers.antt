@@ -13,9 +13,9 @@ returns g c =
       c.args.bound.1,
       c.requires.asked,
       (
-        c.serve_port-served.result.0,
-        IfOk-weaker c.serve_port-served.result.0.crews _ _ (λ back h. h.0) c.serve_port-served.ensures,
-        serving_after c.serve_port-served.result.0 (g.W.Sink.state c.args.writer.now) (g.W.Sink.state c.print_at_once.new.writer) (g.W.Sink.state c.finish.new.writer) (codes "ready\n") c.finish.result
+        c.serve_ports-served.result.0,
+        IfOk-weaker c.serve_ports-served.result.0.crews _ _ (λ back h. h.0) c.serve_ports-served.ensures,
+        serving_after c.serve_ports-served.result.0 (g.W.Sink.state c.args.writer.now) (g.W.Sink.state c.print_at_once.new.writer) (g.W.Sink.state c.finish.new.writer) (codes "ready\n") c.finish.result
             c.in_default.ensures.ok c.finish.ensures,
       ),
     )

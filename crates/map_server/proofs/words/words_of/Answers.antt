@@ -1,12 +1,11 @@
-use Rattle.std.proofs.Common.{◌∙◌, ap, Some}
+use Rattle.std.proofs.Common.{◌∙◌, ap}
 use Rattle.std.specs.Prelude.{unwrap_or}
-use Rattle.clap.specs.Words.{found_of}
-use Rattle.clap.proofs.WalkLemmas.{first_value-rows}
 use Rattle.map_server.proofs.words.words_of.Goals as goal
 
 pub returns : goal.returns
 returns c = record {
-  listen = ap Some c.in_ok-from_str.ensures.ok ∙ c.in-Some.ensures ∙ first_value-rows (found_of c.args.matches.now) _;
+  listen = c.in_ok-given_text.ensures;
+  redis = c.in_ok-given_text-2.ensures;
   stripes = c.from.ensures ∙ c.given_size.ensures;
   workers = c.from-2.ensures ∙ c.given_size-2.ensures;
   team = c.from-3.ensures ∙ c.given_size-3.ensures;

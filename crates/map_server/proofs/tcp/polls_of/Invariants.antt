@@ -1,5 +1,5 @@
 use Rattle.std.proofs.Common.{◌≡◌, vec_len}
-use Rattle.map_server.proofs.tcp.bind.Given as goal
+use Rattle.map_server.proofs.tcp.polls_of.Given as goal
 
 abbrev pub invariant-loop : goal.invariant-loop
 invariant-loop g l = vec_len l.polls ≡ l.counter
