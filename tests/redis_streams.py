@@ -102,9 +102,11 @@ def release(dice: random.Random) -> Words:
 
 
 def unknown_script(dice: random.Random) -> Words:
-    """A script that nobody loaded, by a digest or none."""
+    """A script that nobody loaded, by a digest or none; or a number of keys that can't be."""
     digest = dice.choice(("%040x" % dice.getrandbits(160), "0" * 40, "x" * 40, "a", ""))
-    return [dice.choice(("EVALSHA", "SCRIPT")), digest, 1, key(dice)] if dice.random() < 0.7 else ["SCRIPT", "EXISTS", digest, RELEASE[:39]]
+    return dice.choice((["EVALSHA", digest, 1, key(dice)], ["SCRIPT", "EXISTS", digest, RELEASE[:39]], ["EVALSHA", digest, "x", "a"],
+                        ["EVALSHA", digest, -1], ["EVALSHA", digest, 2, "a"], ["EVAL", "text", "x", "a"], ["EVAL", "text", -1, "a"],
+                        ["EVAL", "text", 3, "a", "b"]))
 
 
 def unknown(dice: random.Random) -> Words:
@@ -125,7 +127,8 @@ def connection(dice: random.Random) -> Words:
         ["PING"], ["PING", some_bytes(dice, 64)], ["PING", "a", "b"], ["ECHO", some_bytes(dice, 300)], ["ECHO"], ["SELECT", 0], ["SELECT", 1],
         ["SELECT", "x"], ["SELECT", -1], ["SELECT", b""], ["CLIENT", "SETNAME", dice.choice(("me", "a b", "", "x\ny", "\x7f", "a" * 64))],
         ["CLIENT", "GETNAME"], ["CLIENT"], ["CLIENT", "FOO"], ["CLIENT", "SETNAME"], ["CLIENT", "ID", "x"], ["AUTH", "x"],
-        ["AUTH"], ["HELLO", 4], ["HELLO", 1], ["HELLO", "x"], ["RESET"], ["SCRIPT"], ["SCRIPT", "FOO"], ["SCRIPT", "LOAD"], ["DBSIZE"],
+        ["AUTH"], ["AUTH", "a", "b"], ["AUTH", "default", "b"], ["HELLO", 2, "FOO"], ["HELLO", 2, "SETNAME"], ["HELLO", 4], ["HELLO", 1], ["HELLO", "x"], ["RESET"], ["SCRIPT"], ["SCRIPT", "FOO"], ["SCRIPT", "LOAD"], ["CONFIG"], ["CONFIG", "GET"],
+        ["COMMAND", "FOO"], ["CONFIG", "FOO"], ["DBSIZE"],
         ["DBSIZE", "x"], ["FLUSHALL", "x"], ["FLUSHDB", "SYNC", "x"], ["KEYS"], ["RANDOMKEY", "x"])))
 
 
