@@ -10,7 +10,9 @@ from __future__ import annotations
 import argparse
 import contextlib
 import os
+import random
 import re
+import socket
 import subprocess
 import sys
 import time
@@ -22,6 +24,7 @@ sys.path.insert(0, str(Path(__file__).resolve().parent))
 sys.dont_write_bytecode = True
 import crowd  # noqa: E402
 import redis_linear  # noqa: E402
+import redis_streams as streams  # noqa: E402
 import redis_wire as resp  # noqa: E402
 import sequential as model  # noqa: E402
 import wire  # noqa: E402
@@ -285,6 +288,43 @@ def thousand_clients_are_served(program: Path) -> None:
         same("the shared counts", sorted(int(shared[1:]) for _, shared in answers), list(range(1, len(clients) + 1)))
 
 
+def cut_commands_are_not_made(program: Path) -> None:
+    """A connection that ends, or is reset, in the middle of a command leaves that command undone, and those before it done."""
+    with started(program) as server, Client(server.address) as judge:
+        sent = resp.command("SET", "first", "1") + resp.command("SET", "second", "2")
+        for size in range(len(sent)):
+            same("a DEL", judge.ask("DEL", "first", "second")[:1], b":")
+            client = wire.Client(server.address)
+            client.socket.sendall(sent[:size])
+            if size % 2:
+                client.close_writing()
+                is_first = size >= len(sent) // 2
+                same(f"what is answered up to byte {size}", client.rest(), resp.OK if is_first else b"")
+                same(f"what is there after byte {size}", judge.ask("EXISTS", "first"), resp.integer(is_first))
+            else:
+                client.reset()
+            same(f"what is not there after byte {size}", judge.ask("EXISTS", "second"), b":0\r\n")
+
+
+def changed_bytes_end_nobody_else(program: Path) -> None:
+    """Streams of commands with bytes changed, left out or doubled: whatever comes of them, the server goes on and serves others."""
+    dice = random.Random(1)
+    with started(program, "--workers", "2") as server, Client(server.address) as neighbour:
+        until, count = time.monotonic() + 4, 0
+        while time.monotonic() < until:
+            sent = bytearray(b"".join(streams.spelled(dice, streams.some_command(dice)) for _ in range(dice.randrange(1, 8))))
+            for _ in range(dice.choice((1, 1, 2, 5))):
+                place = dice.randrange(len(sent))
+                sent[place:place + dice.randrange(3)] = dice.choice((b"", b"\r\n", b"*", b"$", b"-", b"1", b"\0", dice.randbytes(1), b"999999"))
+            with Client(server.address) as client:
+                client.socket.sendall(sent)
+                client.socket.shutdown(socket.SHUT_WR)
+                client.rest()
+            same("an ECHO by another", neighbour.ask("ECHO", count), resp.value(b"%d" % count))
+            count += 1
+        print(f"redis_front: {count} streams with changed bytes")
+
+
 def what_tools_ask(program: Path) -> None:
     """What libraries and tools ask at their start: HELLO, CLIENT, CONFIG GET and INFO."""
     with started(program) as server, Client(server.address) as client, Client(server.address) as other:
@@ -304,7 +344,7 @@ def what_tools_ask(program: Path) -> None:
 
 
 PARTS = (ports_are_told, both_ports_have_one_map, clients_are_counted_together, sessions_are_counted_together, silent_clients_are_let_go,
-         unread_answers_wait, memory_runs_out, scans_give_what_stays, thousand_clients_are_served, what_tools_ask)
+         cut_commands_are_not_made, changed_bytes_end_nobody_else, unread_answers_wait, memory_runs_out, scans_give_what_stays, thousand_clients_are_served, what_tools_ask)
 
 
 def main() -> None:

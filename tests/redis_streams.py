@@ -172,16 +172,21 @@ def some_command(dice: random.Random) -> list[bytes]:
     return [in_any_case(dice, words[0]), *map(as_word, words[1:])]
 
 
-def is_plain(word: bytes) -> bool:
-    """Whether a line may have the word as it is."""
-    return bool(word) and all(33 <= byte < 127 and byte not in b"\"'" for byte in word)
+def in_line(dice: random.Random, word: bytes) -> bytes | None:
+    """A word as it may stand in a line, in quotes or without; nothing if it can't. (mapd has no escapes in quotes.)"""
+    is_plain = word and all(33 <= byte < 127 and byte not in b"\"'" for byte in word)
+    if is_plain and dice.random() < 0.8:
+        return word
+    quote = dice.choice((b"\"", b"'"))
+    return None if any(byte < 32 or byte in b"\\" + quote for byte in word) else quote + word + quote
 
 
 def spelled(dice: random.Random, words: list[bytes]) -> bytes:
     """A command as an array, or sometimes as a line, if it can be one."""
-    first = words[0][:1]
-    if dice.random() < 0.15 and all(map(is_plain, words)) and first not in b"*$":
-        return dice.choice((b"", b" ")) + dice.choice((b" ", b"  ", b" \t")).join(words) + dice.choice((b"\r\n", b"\n", b" \r\n"))
+    if dice.random() < 0.15 and words[0][:1] not in b"*$":
+        told = [in_line(dice, word) for word in words]
+        if None not in told:
+            return dice.choice((b"", b" ")) + dice.choice((b" ", b"  ", b" \t")).join(told) + dice.choice((b"\r\n", b"\n", b" \r\n"))
     return command(*words)
 
 
@@ -202,4 +207,4 @@ def cut(dice: random.Random, sent: bytes) -> Iterator[bytes]:
 FAULTS = [
     b"*x\r\n", b"*1x\r\n", b"*01\r\n$4\r\nPING\r\n", b"* 1\r\n", b"*1\r\n+4\r\n", b"*1\r\n4\r\n", b"*2\r\n$3\r\nGET\r\nxx\r\n", b"*1\r\n$x\r\n",
     b"*1\r\n$-1\r\n", b"*1\r\n$04\r\n", b"*1\r\n$\r\n", b"*9999999999\r\n", b"*1\r\n$99999999999999999999\r\n", b"GET \"a\r\n", b"GET 'a\r\n",
-    b"SET a \"b\"c\r\n", b"a" * 70000, b"*" + b"1" * 70000, b"*1\r\n$" + b"1" * 70000, b"*1\r\n\r\n", b"*\r\n$4\r\nPING\r\n"]
+    b"SET a \"b\"c\r\n", b"a" * 70000, b"*1\r\n\r\n", b"*\r\n$4\r\nPING\r\n"]

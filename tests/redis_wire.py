@@ -196,6 +196,10 @@ def await_port(address: str) -> None:
     raise Wrong(f"nobody answers at {address}")
 
 
+class NotReady(Wrong):
+    """A mapd ended before it was ready: its status and what it printed, and what it told."""
+
+
 class Front:
     """A started mapd: `address` is that of its Redis port, and `frames` that of the port for frames, if it has one."""
 
@@ -210,7 +214,8 @@ class Front:
             count = len(ports) // 2 if self.printed == b"ready\n" else 0
             self.told = [self.process.stderr.readline().decode().strip() for _ in range(count)]
         if not count:
-            raise Wrong(f"{program} isn't ready: {self.printed!r} and {self.process.communicate()[1]!r}")
+            told = self.process.communicate(timeout=wire.PATIENCE)[1]
+            raise NotReady((self.process.returncode, self.printed), told)
         self.address = self.told[-1].removeprefix("redis on ")
         self.frames = self.told[0].removeprefix("listening on ") if has_frames else ""
 
