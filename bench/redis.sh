@@ -1,9 +1,10 @@
 #!/usr/bin/env bash
-# Times the Redis port of mapd beside redis-server on loopback, both in one run and by turns: GET, SET, INCR, MSET of ten keys and EVALSHA of a sum,
-# over 50 and 1,000 connections that each have 1 and 16 requests on their way. The client is redis_load.c, and at the end redis-benchmark. It prints
-# the server's processor time a request, in microseconds (medians of five rounds), thousands of requests a second, what ours come to of Redis', and
-# the memory of a connection. Client and servers share the machine. By hand, not by the gate; some four minutes. MAPD names another server than
-# the one that the gate built; WORKERS (2), ROUNDS (5) and MILLISECONDS (500) may be given too.
+# Times the Redis port of mapd beside redis-server on loopback, both in one run and by turns: GET, SET, INCR, MSET of ten keys and EVALSHA
+# of a sum, over 50 and 1,000 connections that each have 1 and 16 requests on their way. The client is redis_load.c, and at the end
+# redis-benchmark. It prints the server's processor time a request, in microseconds (medians of five rounds), thousands of requests a
+# second, what ours come to of Redis', and the memory of a connection. Client and servers share the machine. By hand, not by the gate;
+# some four minutes. MAPD names another server than the one that the gate built; WORKERS (2), ROUNDS (5) and MILLISECONDS (500) may be
+# given too.
 set -euo pipefail
 shopt -s inherit_errexit
 cd "$(dirname "$0")/.."
@@ -79,7 +80,8 @@ print_rows() {
         for load in "${loads[@]}"; do
             # shellcheck disable=SC2046,SC2086
             printf '%-10s %11s %5s %10.2f %8.1f %10.2f %8.1f %6.2f\n' "$operation" $load \
-                $({ median "mapd $operation $load"; median "redis $operation $load"; } | awk '{ print; us[NR] = $1 } END { print us[1] / us[2] }')
+                $({ median "mapd $operation $load"; median "redis $operation $load"; } |
+                    awk '{ print; us[NR] = $1 } END { print us[1] / us[2] }')
         done
     done
 }
@@ -116,7 +118,7 @@ start_mapd
 start_redis
 print_memory
 measure_all
-echo "microseconds of the server's processor time a request, and thousands of requests a second ($(nproc) cores, $workers workers; load before"
-echo "$before, after $(load_now); $SECONDS seconds)"
+echo "microseconds of the server's processor time a request, and thousands of requests a second"
+echo "($(nproc) cores, $workers workers; load before $before, after $(load_now); $SECONDS seconds)"
 print_rows
 ! command -v redis-benchmark > /dev/null || print_benchmark

@@ -1,8 +1,8 @@
-/* Loads a server that speaks RESP2 on loopback: one thread, epoll, plain sockets. Each connection sends as many requests as it is deep, reads all
-   replies, and begins again.
+/* Loads a server that speaks RESP2 on loopback: one thread, epoll, plain sockets. Each connection sends as many requests as it is deep,
+   reads all replies, and begins again.
    redis_load PORT get|set|incr|mset|evalsha CONNECTIONS DEPTH MILLISECONDS PROCESS bpf|lua
-   prints how many requests were answered, in how many nanoseconds, and how many nanoseconds of processor time the server's process had meanwhile.
-   The last word says in which language the script of evalsha is. What INCR and the script added is counted at the end.
+   prints how many requests were answered, in how many nanoseconds, and how many nanoseconds of processor time the server's process had
+   meanwhile. The last word says in which language the script of evalsha is. What INCR and the script added is counted at the end.
    redis_load PORT memory CONNECTIONS 1 0 PROCESS bpf|lua
    prints by how many bytes the server's memory grew with so many connections, each of which asked once. */
 #include <arpa/inet.h>
@@ -21,7 +21,8 @@
 
 enum { KEYS = 1000, MOST_CONNECTIONS = 20000, MOST_DEPTH = 64, REQUEST = 700, PIECE = 1 << 16, WAITING = 256, MSET_KEYS = 10 };
 
-static const char sum_in_bpf[] = "#!bpf merge integer 64 8 8 8\nldd r0, [r2+0]\nldd r9, [r3+0]\nadd64 r0, r9\nstxd [r4+0], r0\nmov64 r0, 8\nexit\n";
+static const char sum_in_bpf[] = "#!bpf merge integer 64 8 8 8\nldd r0, [r2+0]\nldd r9, [r3+0]\nadd64 r0, r9\nstxd [r4+0], r0\n"
+                                 "mov64 r0, 8\nexit\n";
 static const char sum_in_lua[] = "local sum = (redis.call('GET', KEYS[1]) or 0) + ARGV[1]; redis.call('SET', KEYS[1], sum); return sum";
 
 struct line {

@@ -1,7 +1,7 @@
 #!/usr/bin/env python3
-"""Plays redis-py against a server: python3 -I tests/redis_client.py PORT mapd|redis. By redis_tools.sh, which looks for a python3 that has redis-py.
-(-I keeps the folder tests, in which there is a redis.py, out of what is imported.) What stands in docs/REDIS.md is run as it stands, but for the
-port, if the server is mapd. It fails by an assertion."""
+"""Plays redis-py against a server: python3 -I tests/redis_client.py PORT mapd|redis. By redis_tools.sh, which looks for a python3 that
+has redis-py. (-I keeps the folder tests, in which there is a redis.py, out of what is imported.) What stands in docs/REDIS.md is run
+as it stands, but for the port, if the server is mapd. It fails by an assertion."""
 import contextlib
 import io
 import re
@@ -13,6 +13,7 @@ import redis
 from redis.exceptions import LockNotOwnedError, ResponseError
 
 PAGES = Path(__file__).resolve().parent.parent / "docs"
+SUM = "#!bpf merge integer 64 8 8 8\nldd r0, [r2+0]\nldd r9, [r3+0]\nadd64 r0, r9\nstxd [r4+0], r0\nmov64 r0, 8\nexit"
 BLOCK = re.compile(r"```(python|text)\n(.*?)```", re.DOTALL)
 
 
@@ -127,7 +128,7 @@ def scripts(client: redis.Redis, port: int) -> None:
     assert "line 2" in refusal(client.script_load, "#!bpf compute bytes 64 8 8 8\nfoo\nexit\n")
     assert refusal(client.set, "a", "1", 10) and refusal(client.lock("timed", timeout=10).acquire, False)
     line = client.pipeline(transaction=False)
-    count = client.register_script("#!bpf merge integer 64 8 8 8\nldd r0, [r2+0]\nldd r9, [r3+0]\nadd64 r0, r9\nstxd [r4+0], r0\nmov64 r0, 8\nexit")
+    count = client.register_script(SUM)
     for _ in range(10):
         count(keys=["sum"], args=[b"\1" + bytes(7)], client=line)
     assert line.execute() == list(range(1, 11))

@@ -1,10 +1,10 @@
 #!/usr/bin/env python3
-"""The built mapd with a Redis port: the rows of redis_rows.txt in one piece and in pieces, and parts that no row can show: both ports on one map,
-too many clients, memory that is refused, clients that don't read, scans beside changes, and the lines at the start.
+"""The built mapd with a Redis port: the rows of redis_rows.txt in one piece and in pieces, and parts that no row can show: both ports on
+one map, too many clients, memory that is refused, clients that don't read, scans beside changes, and the lines at the start.
 
-By hand, after `rt run` in crates/mapd: python3 tests/redis_front.py. Another server is tried by --program; if that is redis-server, only the
-rows below [redis] are tried. --only names a part. MAPD_IS_CHECKED says that the program is built with checks, so that its memory can't be
-bounded. By .ci/run behind the gate."""
+By hand, after `rt run` in crates/mapd: python3 tests/redis_front.py. Another server is tried by --program; if that is redis-server,
+only the rows below [redis] are tried. --only names a part. MAPD_IS_CHECKED says that the program is built with checks, so that its
+memory can't be bounded. By .ci/run behind the gate."""
 from __future__ import annotations
 
 import argparse
@@ -36,6 +36,8 @@ WORD = re.compile(r'"((?:[^"\\]|\\.)*)"|(\S+)')
 ESCAPE = re.compile(r"\\(x[0-9a-fA-F]{2}|.)|\{(.*?)\*(\d+)\}|@SUM")
 ESCAPES = {"r": b"\r", "n": b"\n", "t": b"\t", "0": b"\0"}
 ADD = model.PROGRAMS[model.ADD]
+# What stands in place of some bytes when a stream is changed.
+PIECES = (b"", b"\r\n", b"*", b"$", b"-", b"1", b"\0", b"999999")
 
 
 def unescaped(text: str) -> bytes:
@@ -202,7 +204,7 @@ def silent_clients_are_let_go(program: Path) -> None:
 
 
 def unread_answers_wait(program: Path) -> None:
-    """A client asks for 40 MB and reads none of them: the server keeps little of that, and serves others. Then it reads, and all are there."""
+    """A client asks for 40 MB and reads nothing: the server keeps little of that, and serves others. Then it reads, and all is there."""
     count = 40_000
     with started(program, "--workers", "1") as server, Client(server.address) as deaf, Client(server.address) as busy:
         same("a SET", busy.ask("SET", "a", b"v" * 1024), resp.OK)
@@ -249,7 +251,8 @@ def memory_runs_out(program: Path) -> None:
             there = [client.ask("EXISTS", f"key {number}") == b":1\r\n" for number in range(100_000)]
             same("which keys are there", there, [reply == resp.OK for reply in replies])
             same("a PING", client.ask("PING"), b"+PONG\r\n")
-            same("the number of removed keys", client.ask("DEL", *(f"key {number}" for number in range(1000))), resp.integer(sum(there[:1000])))
+            removed = client.ask("DEL", *(f"key {number}" for number in range(1000)))
+            same("the number of removed keys", removed, resp.integer(sum(there[:1000])))
     finally:
         server.end()
 
@@ -315,7 +318,7 @@ def changed_bytes_end_nobody_else(program: Path) -> None:
             sent = bytearray(b"".join(streams.spelled(dice, streams.some_command(dice)) for _ in range(dice.randrange(1, 8))))
             for _ in range(dice.choice((1, 1, 2, 5))):
                 place = dice.randrange(len(sent))
-                sent[place:place + dice.randrange(3)] = dice.choice((b"", b"\r\n", b"*", b"$", b"-", b"1", b"\0", dice.randbytes(1), b"999999"))
+                sent[place:place + dice.randrange(3)] = dice.choice((*PIECES, dice.randbytes(1)))
             with Client(server.address) as client:
                 client.socket.sendall(sent)
                 client.socket.shutdown(socket.SHUT_WR)
@@ -344,7 +347,8 @@ def what_tools_ask(program: Path) -> None:
 
 
 PARTS = (ports_are_told, both_ports_have_one_map, clients_are_counted_together, sessions_are_counted_together, silent_clients_are_let_go,
-         cut_commands_are_not_made, changed_bytes_end_nobody_else, unread_answers_wait, memory_runs_out, scans_give_what_stays, thousand_clients_are_served, what_tools_ask)
+         cut_commands_are_not_made, changed_bytes_end_nobody_else, unread_answers_wait, memory_runs_out, scans_give_what_stays,
+         thousand_clients_are_served, what_tools_ask)
 
 
 def main() -> None:

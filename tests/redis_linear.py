@@ -1,11 +1,11 @@
 #!/usr/bin/env python3
-"""Clients of both protocols make calls on the same keys of one map at once: those of the Redis port GET, SET with its conditions, SETNX, GETSET,
-GETDEL, DEL, INCRBY, APPEND, DELIFEQ, the release of a lock and EVALSHA of the sum; and those of the other port Get, Put, PutIfAbsent, Remove,
-ReplaceIf and Merge with the same sum. Each key's history must be linearizable: linear.py decides. So an INCRBY, which is a Get and a
-ReplaceIf until one takes, must look like one call.
+"""Clients of both protocols make calls on the same keys of one map at once: those of the Redis port GET, SET with its conditions, SETNX,
+GETSET, GETDEL, DEL, INCRBY, APPEND, DELIFEQ, the release of a lock and EVALSHA of the sum; and those of the other port Get, Put,
+PutIfAbsent, Remove, ReplaceIf and Merge with the same sum. Each key's history must be linearizable: linear.py decides. So an INCRBY,
+which is a Get and a ReplaceIf until one takes, must look like one call.
 
-By hand, after `rt run` in crates/mapd: python3 tests/redis_linear.py [SECONDS [SEED]]. Another server is tried by --program; if that is
-redis-server, the clients of the Redis port are alone, without what Redis hasn't."""
+By hand, after `rt run` in crates/mapd: python3 tests/redis_linear.py [SECONDS [SEED]]. Another server is tried by --program; if that
+is redis-server, the clients of the Redis port are alone, without what Redis hasn't."""
 from __future__ import annotations
 
 import argparse
@@ -152,7 +152,8 @@ class Both:
         """Whether a call that has this answer leaves the value as it is."""
         if isinstance(call, Call):
             return model.changes_nothing(call, answer)
-        return call.name == b"GET" or answer in (NO_INTEGER, OVERFLOW) or (call.name in (b"SETNX", b"DEL", b"DELIFEQ") and answer == b":0\r\n")
+        is_in_vain = call.name in (b"SETNX", b"DEL", b"DELIFEQ", b"RELEASE") and answer == resp.integer(0)
+        return call.name == b"GET" or is_in_vain or answer in (NO_INTEGER, OVERFLOW)
 
 
 def some_value(dice: random.Random) -> bytes:
@@ -303,8 +304,8 @@ def main() -> None:
             while time.monotonic() < until:
                 torture.round(min(ROUND, asked.seconds))
         clients = PROCESSES * CLIENTS
-        print(f"redis_linear: {torture.made} events of {clients} clients of the Redis port and {clients if server.frames else 0} of the other, on "
-              f"{len(KEYS)} keys in {torture.rounds} rounds, are linearizable")
+        print(f"redis_linear: {torture.made} events of {clients} clients of the Redis port and {clients if server.frames else 0} of the "
+              f"other, on {len(KEYS)} keys in {torture.rounds} rounds, are linearizable")
     except (Wrong, wire.Ended, OSError) as wrong:
         sys.exit(f"redis_linear: FAILED, seed {asked.seed}: {wrong}")
 

@@ -1,7 +1,8 @@
 #!/usr/bin/env python3
-"""Refuses each request for memory of the built mapd in turn, through a few clients of its Redis port, one after the other. Each reply is the one
-of ample memory, or `-OOM ..` if the command may ask for memory. Then nothing was done, but that a command on several keys may have done its first
-keys. If a connection ends, at most its first unanswered command was made. The next client finds just that. Or the server ends before it is ready.
+"""Refuses each request for memory of the built mapd in turn, through a few clients of its Redis port, one after the other. Each reply is
+the one of ample memory, or `-OOM ..` if the command may ask for memory. Then nothing was done, but that a command on several keys may
+have done its first keys. If a connection ends, at most its first unanswered command was made. The next client finds just that. Or the
+server ends before it is ready.
 
 By hand, after `rt run` in crates/mapd: python3 tests/redis_refused.py. It needs gcc, for refuse.c. By .ci/run behind the gate."""
 from __future__ import annotations

@@ -1,9 +1,9 @@
 #!/usr/bin/env python3
-"""Two servers with Redis ports and nutcracker before them, by the configuration that docs/SHARDING.md has, but for the ports: keys lie on both,
-commands on several keys are put together, programs are called by EVALSHA and EVAL, a thousand clients count, and a server is lost.
+"""Two servers with Redis ports and nutcracker before them, by the configuration that docs/SHARDING.md has, but for the ports: keys lie on
+both, commands on several keys are put together, programs are called by EVALSHA and EVAL, a thousand clients count, and a server is lost.
 
-By hand, after `rt run` in crates/mapd: python3 tests/redis_sharded.py. Another server is tried by --program; redis-server itself runs all but
-the programs. By redis_tools.sh. It needs Debian's nutcracker, and says so if that is missing."""
+By hand, after `rt run` in crates/mapd: python3 tests/redis_sharded.py. Another server is tried by --program; redis-server itself runs
+all but the programs. By redis_tools.sh. It needs Debian's nutcracker, and says so if that is missing."""
 from __future__ import annotations
 
 import argparse
@@ -75,7 +75,7 @@ def keys_lie_on_both(address: str, servers: list[Front | Redis]) -> None:
 
 
 def several_keys_are_put_together(address: str) -> None:
-    """MSET, MGET, TOUCH, DEL and UNLINK go to both servers, and their replies come as one. (Of EXISTS nutcracker 0.5.0 gives one server's.)"""
+    """MSET, MGET, TOUCH, DEL and UNLINK go to both servers, and their replies come as one. (Of EXISTS nutcracker gives one server's.)"""
     names = [f"several {number}" for number in range(100)]
     with Client(address) as client:
         same("an MSET", client.ask("MSET", *(word for name in names for word in (name, name))), resp.OK)

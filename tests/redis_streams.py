@@ -1,5 +1,5 @@
-"""Random commands for redis.py: each that mapd serves as Redis does, with words that are right, nearly right and wrong; and the pieces in
-which a client may send them."""
+"""Random commands for redis.py: each that mapd serves as Redis does, with words that are right, nearly right and wrong; and the pieces
+in which a client may send them."""
 from __future__ import annotations
 
 import random
@@ -121,24 +121,30 @@ def faulty_scan(dice: random.Random) -> Words:
                                   ["0", "COUNT", -1], ["0", "MATCH"], ["0", "FOO", "x"], ["0", "TYPE"], [" 0"], []))]
 
 
+def some_name(dice: random.Random) -> str:
+    """A name of a client, or what can't be one."""
+    return dice.choice(("me", "a b", "", "x\ny", "\x7f", "a" * 64, "\u00e4"))
+
+
 def connection(dice: random.Random) -> Words:
     """A command that touches no key."""
     return list(dice.choice((
-        ["PING"], ["PING", some_bytes(dice, 64)], ["PING", "a", "b"], ["ECHO", some_bytes(dice, 300)], ["ECHO"], ["SELECT", 0], ["SELECT", 1],
-        ["SELECT", "x"], ["SELECT", -1], ["SELECT", b""], ["CLIENT", "SETNAME", dice.choice(("me", "a b", "", "x\ny", "\x7f", "a" * 64))],
-        ["CLIENT", "GETNAME"], ["CLIENT"], ["CLIENT", "FOO"], ["CLIENT", "SETNAME"], ["CLIENT", "ID", "x"], ["AUTH", "x"],
-        ["AUTH"], ["AUTH", "a", "b"], ["AUTH", "default", "b"], ["HELLO", 2, "FOO"], ["HELLO", 2, "SETNAME"], ["HELLO", 4], ["HELLO", 1], ["HELLO", "x"], ["RESET"], ["SCRIPT"], ["SCRIPT", "FOO"], ["SCRIPT", "LOAD"], ["CONFIG"], ["CONFIG", "GET"],
-        ["COMMAND", "FOO"], ["CONFIG", "FOO"], ["DBSIZE"],
-        ["DBSIZE", "x"], ["FLUSHALL", "x"], ["FLUSHDB", "SYNC", "x"], ["KEYS"], ["RANDOMKEY", "x"])))
+        ["PING"], ["PING", some_bytes(dice, 64)], ["PING", "a", "b"], ["ECHO", some_bytes(dice, 300)], ["ECHO"], ["SELECT", 0],
+        ["SELECT", 1], ["SELECT", "x"], ["SELECT", -1], ["SELECT", b""], ["SELECT", 2**40], ["CLIENT", "SETNAME", some_name(dice)],
+        ["CLIENT", "SETNAME", some_name(dice)], ["CLIENT", "GETNAME"], ["CLIENT"], ["CLIENT", "FOO"], ["CLIENT", "SETNAME"],
+        ["CLIENT", "ID", "x"], ["AUTH", "x"], ["AUTH"], ["AUTH", "a", "b"], ["AUTH", "default", "b"], ["HELLO", 2, "FOO"],
+        ["HELLO", 2, "SETNAME"], ["HELLO", 4], ["HELLO", 1], ["HELLO", "x"], ["RESET"], ["SCRIPT"], ["SCRIPT", "FOO"], ["SCRIPT", "LOAD"],
+        ["CONFIG"], ["CONFIG", "GET"], ["COMMAND", "FOO"], ["CONFIG", "FOO"], ["DBSIZE"], ["DBSIZE", "x"], ["FLUSHALL", "x"],
+        ["FLUSHDB", "SYNC", "x"], ["KEYS"], ["RANDOMKEY", "x"])))
 
 
 def wrong_count(dice: random.Random) -> Words:
     """A command with words too few or too many."""
     name, least, most = dice.choice((
-        ("GET", 1, 1), ("SET", 2, 99), ("SETNX", 2, 2), ("GETSET", 2, 2), ("GETDEL", 1, 1), ("STRLEN", 1, 1), ("APPEND", 2, 2), ("TYPE", 1, 1),
-        ("TTL", 1, 1), ("PTTL", 1, 1), ("INCR", 1, 1), ("DECR", 1, 1), ("INCRBY", 2, 2), ("DECRBY", 2, 2), ("GETRANGE", 3, 3),
-        ("SUBSTR", 3, 3), ("SETRANGE", 3, 3), ("MGET", 1, 99), ("MSET", 2, 99), ("DEL", 1, 99), ("UNLINK", 1, 99), ("EXISTS", 1, 99),
-        ("TOUCH", 1, 99), ("EVALSHA", 2, 99), ("EVAL", 2, 99)))
+        ("GET", 1, 1), ("SET", 2, 99), ("SETNX", 2, 2), ("GETSET", 2, 2), ("GETDEL", 1, 1), ("STRLEN", 1, 1), ("APPEND", 2, 2),
+        ("TYPE", 1, 1), ("TTL", 1, 1), ("PTTL", 1, 1), ("INCR", 1, 1), ("DECR", 1, 1), ("INCRBY", 2, 2), ("DECRBY", 2, 2),
+        ("GETRANGE", 3, 3), ("SUBSTR", 3, 3), ("SETRANGE", 3, 3), ("MGET", 1, 99), ("MSET", 2, 99), ("DEL", 1, 99), ("UNLINK", 1, 99),
+        ("EXISTS", 1, 99), ("TOUCH", 1, 99), ("EVALSHA", 2, 99), ("EVAL", 2, 99)))
     count = dice.randrange(least) if most == 99 or dice.random() < 0.5 else most + dice.randrange(1, 4)
     return [name, *([b"x"] * count)]
 
@@ -205,6 +211,6 @@ def cut(dice: random.Random, sent: bytes) -> Iterator[bytes]:
 
 # Ends of a stream that are no command: what Redis calls each, it says in its reply, and ends the connection.
 FAULTS = [
-    b"*x\r\n", b"*1x\r\n", b"*01\r\n$4\r\nPING\r\n", b"* 1\r\n", b"*1\r\n+4\r\n", b"*1\r\n4\r\n", b"*2\r\n$3\r\nGET\r\nxx\r\n", b"*1\r\n$x\r\n",
-    b"*1\r\n$-1\r\n", b"*1\r\n$04\r\n", b"*1\r\n$\r\n", b"*9999999999\r\n", b"*1\r\n$99999999999999999999\r\n", b"GET \"a\r\n", b"GET 'a\r\n",
-    b"SET a \"b\"c\r\n", b"a" * 70000, b"*1\r\n\r\n", b"*\r\n$4\r\nPING\r\n"]
+    b"*x\r\n", b"*1x\r\n", b"*01\r\n$4\r\nPING\r\n", b"* 1\r\n", b"*1\r\n+4\r\n", b"*1\r\n4\r\n", b"*2\r\n$3\r\nGET\r\nxx\r\n",
+    b"*1\r\n$x\r\n", b"*1\r\n$-1\r\n", b"*1\r\n$04\r\n", b"*1\r\n$\r\n", b"*9999999999\r\n", b"*1\r\n$99999999999999999999\r\n",
+    b"GET \"a\r\n", b"GET 'a\r\n", b"SET a \"b\"c\r\n", b"a" * 70000, b"*1\r\n\r\n", b"*\r\n$4\r\nPING\r\n", b"*-0\r\n", b"*+1\r\n"]

@@ -1,7 +1,7 @@
 #!/usr/bin/env bash
 # Plays tools for Redis against the built mapd with a Redis port: redis-cli, redis-benchmark, redis-py, hiredis, and nutcracker before two
-# servers. Each is played if it is installed; a line says what is missing. By hand after `rt run` in crates/mapd; by .ci/run behind the gate.
-# MAPD names another program to try. If that is redis-server, what Redis has is tried on it.
+# servers. Each is played if it is installed; a line says what is missing. By hand after `rt run` in crates/mapd; by .ci/run behind the
+# gate. MAPD names another program to try. If that is redis-server, what Redis has is tried on it.
 set -euo pipefail
 cd "$(dirname "$0")/.."
 program=${MAPD:-crates/mapd/out/mapd}
@@ -18,7 +18,8 @@ input=/dev/null
 start() {
     if [ $kind = redis ]; then
         port=$((20000 + $$ % 10000))
-        "$program" --port $port --bind 127.0.0.1 --databases 1 --save '' --appendonly no --dir "$work" > "$work/ready" 2> "$work/listening" &
+        "$program" --port $port --bind 127.0.0.1 --databases 1 --save '' --appendonly no --dir "$work" \
+            > "$work/ready" 2> "$work/listening" &
     else
         "$program" --redis 127.0.0.1:0 > "$work/ready" 2> "$work/listening" &
     fi

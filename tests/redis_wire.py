@@ -1,5 +1,5 @@
-"""RESP2 for the tests of the Redis port: commands as bytes, replies as they came, a client on a socket, and the servers: `mapd --redis`, or
-a redis-server to compare with. It knows docs/REDIS.md and Redis' own description of its protocol alone."""
+"""RESP2 for the tests of the Redis port: commands as bytes, replies as they came, a client on a socket, and the servers: `mapd
+--redis`, or a redis-server to compare with. It knows docs/REDIS.md and Redis' own description of its protocol alone."""
 from __future__ import annotations
 
 import contextlib
