@@ -119,6 +119,15 @@ def page(port: int, name: str) -> int:
     return count
 
 
+def fall_back(client: redis.Redis) -> None:
+    """The function of docs/SHARDING.md, with a script that the server doesn't know, and then knows."""
+    text = (PAGES / "SHARDING.md").read_text(encoding="utf-8")
+    names: dict = {}
+    exec(next(code for kind, code in BLOCK.findall(text) if kind == "python"), names)
+    script = (SUM + "\n; for docs/SHARDING.md").encode()
+    assert [names["call"](client, script, "shard", (5).to_bytes(8, "little")) for _ in range(2)] == [5, 10]
+
+
 def scripts(client: redis.Redis, port: int) -> None:
     """The programs of docs/REDIS.md, and scripts that are refused."""
     client.flushall()
@@ -144,6 +153,7 @@ def main() -> None:
     locks(client)
     if not is_redis:
         scripts(client, port)
+        fall_back(client)
     print(f"redis-py {redis.__version__}: passed")
 
 
