@@ -217,7 +217,7 @@ def unread_answers_wait(program: Path) -> None:
                 asked += deaf.socket.send(sent[asked:asked + 65536])
             same("a GET beside it", busy.ask("STRLEN", "a"), resp.integer(1024))
         if "MAPD_IS_CHECKED" not in os.environ:
-            same("less than a megabyte was kept", resp.resident(server) - before < 1 << 20, True)
+            same("less than four megabytes are kept", resp.resident(server) - before < 4 << 20, True)
         read_all(deaf, sent, asked, count)
 
 
