@@ -12,6 +12,7 @@ import contextlib
 import os
 import random
 import re
+import resource
 import socket
 import subprocess
 import sys
@@ -257,6 +258,29 @@ def memory_runs_out(program: Path) -> None:
         server.end()
 
 
+def longest_commands_need_little_stack(program: Path) -> None:
+    """Commands of 4,096 words, the longest values and scripts, by workers whose stacks have 256 KiB."""
+    if "MAPD_IS_CHECKED" in os.environ:
+        return
+    server = Front(program, ["--workers", "2"], limit=lambda: resource.setrlimit(resource.RLIMIT_STACK, (256 << 10, 256 << 10)))
+    try:
+        with Client(server.address) as client:
+            names = [f"name {number}" for number in range(4095)]
+            same("an MSET of 2,047 keys", client.ask("MSET", *(word for name in names[:2047] for word in (name, name))), resp.OK)
+            values = [resp.value(name.encode()) for name in names[:2047]]
+            same("an MGET of 4,095 keys", client.ask("MGET", *names), resp.array(*values, *[resp.NOTHING] * 2048))
+            same("an EXISTS of 4,095 keys", client.ask("EXISTS", *names), resp.integer(2047))
+            same("a KEYS with many stars", client.ask("KEYS", "*n*a*m*e*?*?*?*?*x"), resp.array())
+            same("a DEL of 4,095 keys", client.ask("DEL", *names), resp.integer(2047))
+            same("the longest value", client.ask("SET", "long", b"v" * 1024), resp.OK)
+            same("a SETRANGE of it", client.ask("SETRANGE", "long", 1023, "w"), resp.integer(1024))
+            text = "#!bpf compute integer 64 1024 1024 1024\n" + "mov64 r0, 0\n" * 4094 + "mov64 r0, -1\nexit\n"
+            same("the longest script", client.ask("SCRIPT", "LOAD", text)[:4], b"$40\r")
+            same("a call of it", client.ask("EVAL", text, 1, "long"), resp.NOTHING)
+    finally:
+        server.end()
+
+
 def scans_give_what_stays(program: Path) -> None:
     """Keys come and go beside an iteration of SCAN: each key that is there all along is given, and no page is much longer than COUNT."""
     kept = {b"kept:%d" % number for number in range(5000)}
@@ -347,8 +371,8 @@ def what_tools_ask(program: Path) -> None:
 
 
 PARTS = (ports_are_told, both_ports_have_one_map, clients_are_counted_together, sessions_are_counted_together, silent_clients_are_let_go,
-         cut_commands_are_not_made, changed_bytes_end_nobody_else, unread_answers_wait, memory_runs_out, scans_give_what_stays,
-         thousand_clients_are_served, what_tools_ask)
+         cut_commands_are_not_made, changed_bytes_end_nobody_else, unread_answers_wait, memory_runs_out, longest_commands_need_little_stack,
+         scans_give_what_stays, thousand_clients_are_served, what_tools_ask)
 
 
 def main() -> None:

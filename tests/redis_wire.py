@@ -8,7 +8,7 @@ import socket
 import subprocess
 import tempfile
 import time
-from collections.abc import Iterator, Sequence
+from collections.abc import Callable, Iterator, Sequence
 from pathlib import Path
 from typing import Union
 
@@ -204,11 +204,11 @@ class Front:
     """A started mapd: `address` is that of its Redis port, and `frames` that of the port for frames, if it has one."""
 
     def __init__(self, program: Path, options: Sequence[str] = (), has_frames: bool = True, kib: int | None = None,
-                 environment: dict[str, str] | None = None) -> None:
+                 environment: dict[str, str] | None = None, limit: Callable[[], None] | None = None) -> None:
         ports = ["--listen", "127.0.0.1:0", "--redis", "127.0.0.1:0"] if has_frames else ["--redis", "127.0.0.1:0"]
         self.process = subprocess.Popen(
             [str(program), *ports, *options], stdin=subprocess.DEVNULL, stdout=subprocess.PIPE, stderr=subprocess.PIPE, bufsize=0,
-            env={**os.environ, **(environment or {})}, preexec_fn=wire.bound(kib) if kib else None)
+            env={**os.environ, **(environment or {})}, preexec_fn=wire.bound(kib) if kib else limit)
         with wire.killed_when_late(self.process):
             self.printed = self.process.stdout.readline()
             count = len(ports) // 2 if self.printed == b"ready\n" else 0
