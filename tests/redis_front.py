@@ -281,6 +281,17 @@ def longest_commands_need_little_stack(program: Path) -> None:
         server.end()
 
 
+def patterns_take_no_time(program: Path) -> None:
+    """Patterns of many stars on keys that nearly match them are decided at once."""
+    with started(program) as server, Client(server.address) as client:
+        client.socket.settimeout(5)
+        same("a SET", client.ask("SET", "a" * 64, "1"), resp.OK)
+        same("a KEYS of 31 stars", client.ask("KEYS", "*a" * 31 + "b"), resp.array())
+        same("a KEYS of 31 stars that match", client.ask("KEYS", "*a" * 31 + "*"), resp.array(resp.value(b"a" * 64)))
+        same("a KEYS of 20,000 stars", client.ask("KEYS", "*" * 20_000 + "b"), resp.array())
+        same("a SCAN of 31 stars", resp.members_of(client.ask("SCAN", 0, "MATCH", "*a*?" * 15 + "b", "COUNT", 1000))[1], resp.array())
+
+
 def scans_give_what_stays(program: Path) -> None:
     """Keys come and go beside an iteration of SCAN: each key that is there all along is given, and no page is much longer than COUNT."""
     kept = {b"kept:%d" % number for number in range(5000)}
@@ -372,7 +383,7 @@ def what_tools_ask(program: Path) -> None:
 
 PARTS = (ports_are_told, both_ports_have_one_map, clients_are_counted_together, sessions_are_counted_together, silent_clients_are_let_go,
          cut_commands_are_not_made, changed_bytes_end_nobody_else, unread_answers_wait, memory_runs_out, longest_commands_need_little_stack,
-         scans_give_what_stays, thousand_clients_are_served, what_tools_ask)
+         patterns_take_no_time, scans_give_what_stays, thousand_clients_are_served, what_tools_ask)
 
 
 def main() -> None:
