@@ -132,9 +132,7 @@ static int write_request(char *request, uint32_t number)
             length += sprintf(request + length, "$12\r\nkey:%08u\r\n$8\r\n10000000\r\n", (number + 7 * (uint32_t)i) % KEYS);
         return length;
     }
-    length = sprintf(request, "*5\r\n$7\r\nEVALSHA\r\n$40\r\n%s\r\n$1\r\n1\r\n$12\r\nsum:%08u\r\n", script_name, number);
-    memcpy(request + length, is_lua ? "$1\r\n1\r\n" : "$8\r\n\1\0\0\0\0\0\0\0\r\n", is_lua ? 7 : 14);
-    return length + (is_lua ? 7 : 14);
+    return sprintf(request, "*5\r\n$7\r\nEVALSHA\r\n$40\r\n%s\r\n$1\r\n1\r\n$12\r\nsum:%08u\r\n$1\r\n1\r\n", script_name, number);
 }
 
 /* Sends as many requests as a connection is deep. */
@@ -212,7 +210,7 @@ static uint64_t counted(int to)
             continue;
         /* an addition of nothing gives the number, whatever its bytes are */
         if (is_binary) {
-            length = sprintf(request, "*5\r\n$7\r\nEVALSHA\r\n$40\r\n%s\r\n$1\r\n1\r\n$12\r\nsum:%08u\r\n$0\r\n\r\n", script_name, key);
+            length = sprintf(request, "*5\r\n$7\r\nEVALSHA\r\n$40\r\n%s\r\n$1\r\n1\r\n$12\r\nsum:%08u\r\n$1\r\n0\r\n", script_name, key);
             all += strtoull(ask(to, request, (size_t)length, 1) + 1, NULL, 10);
             continue;
         }

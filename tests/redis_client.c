@@ -68,15 +68,14 @@ static void play_pipeline(redisContext *context)
 /* A program, loaded and called. */
 static void play_program(redisContext *context)
 {
-    static const char three[8] = {3};
     redisReply *loaded = redisCommand(context, "SCRIPT LOAD %b", sum, sizeof sum - 1), *reply;
     NEED(loaded && loaded->type == REDIS_REPLY_STRING && loaded->len == 40);
     for (int i = 1; i <= 3; i++) {
-        reply = redisCommand(context, "EVALSHA %s 1 hits %b", loaded->str, three, sizeof three);
+        reply = redisCommand(context, "EVALSHA %s 1 hits 3", loaded->str);
         NEED(is_number(reply, 3 * i));
         freeReplyObject(reply);
     }
-    reply = redisCommand(context, "EVAL %b 1 hits %b", sum, sizeof sum - 1, three, sizeof three);
+    reply = redisCommand(context, "EVAL %b 1 hits 3", sum, sizeof sum - 1);
     NEED(is_number(reply, 12));
     freeReplyObject(reply);
     freeReplyObject(loaded);

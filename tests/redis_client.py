@@ -125,7 +125,7 @@ def fall_back(client: redis.Redis) -> None:
     names: dict = {}
     exec(next(code for kind, code in BLOCK.findall(text) if kind == "python"), names)
     script = (SUM + "\n; for docs/SHARDING.md").encode()
-    assert [names["call"](client, script, "shard", (5).to_bytes(8, "little")) for _ in range(2)] == [5, 10]
+    assert [names["call"](client, script, "shard", 5) for _ in range(2)] == [5, 10]
 
 
 def scripts(client: redis.Redis, port: int) -> None:
@@ -139,7 +139,7 @@ def scripts(client: redis.Redis, port: int) -> None:
     line = client.pipeline(transaction=False)
     count = client.register_script(SUM)
     for _ in range(10):
-        count(keys=["sum"], args=[b"\1" + bytes(7)], client=line)
+        count(keys=["sum"], args=[1], client=line)
     assert line.execute() == list(range(1, 11))
 
 

@@ -148,7 +148,7 @@ def both_ports_have_one_map(program: Path) -> None:
         first = framed.ask(wire.register(ADD.sizes, ADD.code))
         number = int.from_bytes(first[1:], "big")
         same("a Merge", framed.ask(wire.merge(b"sum", model.spelled(2), number)), wire.value(model.spelled(2)))
-        same("an EVALSHA", client.ask("EVALSHA", digest, 1, "sum", model.spelled(3)), resp.integer(5))
+        same("an EVALSHA", client.ask("EVALSHA", digest, 1, "sum", 3), resp.integer(5))
         same("the program again", framed.ask(wire.register(ADD.sizes, ADD.code)), first)
 
 

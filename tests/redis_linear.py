@@ -47,6 +47,7 @@ exit
 SUM_NAME = b"69de85aeed5925512b910058036294c644f86338"
 RELEASE = b"c3f8721cbb97f72bc19e972846bd7aaf91901658"
 NO_INTEGER = resp.error("ERR value is not an integer or out of range")
+UNFIT = resp.error("ERR the value is longer than the script says")
 OVERFLOW = resp.error("ERR increment or decrement would overflow")
 
 
@@ -101,8 +102,11 @@ def add_step(words: tuple[bytes, ...], old: Held) -> Step:
 
 
 def sum_step(words: tuple[bytes, ...], old: Held) -> Step:
-    """The sum, which is a Merge: an absent value becomes the argument."""
-    new = words[0] if old is None else ADD.function(b"", old, words[0])
+    """The sum, which is a Merge of a number: an absent value becomes the argument, as 8 bytes. A value that doesn't fit stays."""
+    arg = model.spelled(int(words[0]))
+    if ADD.unfit(b"", old, arg):
+        return UNFIT, old
+    new = arg if old is None else ADD.function(b"", old, arg)
     return resp.integer(int.from_bytes(new, "little", signed=True)), new
 
 
@@ -153,7 +157,7 @@ class Both:
         if isinstance(call, Call):
             return model.changes_nothing(call, answer)
         is_in_vain = call.name in (b"SETNX", b"DEL", b"DELIFEQ", b"RELEASE") and answer == resp.integer(0)
-        return call.name == b"GET" or is_in_vain or answer in (NO_INTEGER, OVERFLOW)
+        return call.name == b"GET" or is_in_vain or answer in (NO_INTEGER, OVERFLOW, UNFIT)
 
 
 def some_value(dice: random.Random) -> bytes:
@@ -172,7 +176,7 @@ def some_command(dice: random.Random, key: bytes, is_redis: bool) -> Asked:
     if name == b"INCRBY":
         return Asked(name, key, (b"%d" % dice.choice((1, 1, -1, 5, 2**62)),))
     if name == b"EVALSHA":
-        return Asked(name, key, (model.spelled(dice.randrange(3)),))
+        return Asked(name, key, (b"%d" % dice.randrange(3),))
     options = dice.choice(((), (b"NX",), (b"XX",), (b"GET",), (b"NX", b"GET"), (b"IFEQ", some_value(dice)))) if name == b"SET" else ()
     return Asked(name, key, (some_value(dice), *(() if is_redis and b"IFEQ" in options else options)))
 

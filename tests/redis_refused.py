@@ -26,7 +26,7 @@ import wire  # noqa: E402
 from redis_linear import Asked  # noqa: E402
 from wire import Wrong  # noqa: E402
 
-THREE = b"\3" + bytes(7)
+THREE = b"3"
 LONGEST = bytes(range(256)) * 4
 MOST_REQUESTS = 5000
 NAME = linear.SUM_NAME

@@ -21,7 +21,6 @@ sys.dont_write_bytecode = True
 import crowd  # noqa: E402
 import redis_linear  # noqa: E402
 import redis_wire as resp  # noqa: E402
-import sequential as model  # noqa: E402
 import wire  # noqa: E402
 from redis_wire import Client, Front, Redis  # noqa: E402
 from wire import Wrong, same  # noqa: E402
@@ -91,7 +90,7 @@ def programs_are_called(address: str) -> None:
     with Client(address) as client:
         unknown = 0
         for number in range(50):
-            asked = (1, f"hits {number}", model.spelled(3))
+            asked = (1, f"hits {number}", 3)
             reply = client.ask("EVALSHA", redis_linear.SUM_NAME, *asked)
             if reply.startswith(b"-NOSCRIPT"):
                 unknown += 1
