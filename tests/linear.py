@@ -10,6 +10,7 @@ import sys
 from collections.abc import Sequence
 from dataclasses import dataclass
 from pathlib import Path
+from typing import Protocol
 
 sys.path.insert(0, str(Path(__file__).resolve().parent))
 sys.dont_write_bytecode = True
@@ -30,6 +31,19 @@ class Event:
     version: int = 2
 
 
+class Rules(Protocol):
+    """What calls do: those of sequential.py, or others in its place (redis_linear.py)."""
+
+    def step(self, call: Call, old: Held, /) -> tuple[Held, Held]:
+        """The answer where the key has this old value, and the value that it then has."""
+
+    def carried(self, answer: Held, version: int, /) -> Held:
+        """The answer as a session of this version has it."""
+
+    def changes_nothing(self, call: Call, answer: Held, /) -> bool:
+        """Whether a call that has this answer leaves every value as it is."""
+
+
 class Undecided(Exception):
     """The search has seen more places than it may."""
 
@@ -38,9 +52,10 @@ class Search:
     """A search for an order of the events of one key. A place is how many events of each client stand in the order so far, and the
     value that they leave; each client's events stand in the order in which it sent them."""
 
-    def __init__(self, clients: Sequence[Sequence[Event]], most: int = MOST_PLACES) -> None:
+    def __init__(self, clients: Sequence[Sequence[Event]], most: int = MOST_PLACES, rules: Rules = model) -> None:
         self.clients = clients
         self.most = most
+        self.rules = rules
         self.seen: set[tuple[tuple[int, ...], Held]] = set()
         self.furthest: tuple[tuple[int, ...], Held] = ((0,) * len(clients), None)
 
@@ -54,11 +69,11 @@ class Search:
         """The places one event further. An event that changes nothing, wherever it stands, may as well come at once."""
         places = []
         for client, event in self.open_events(taken):
-            answer, new = model.step(event.call, held)
-            if model.carried(answer, event.version) != event.answer:
+            answer, new = self.rules.step(event.call, held)
+            if self.rules.carried(answer, event.version) != event.answer:
                 continue
             place = taken[:client] + (taken[client] + 1,) + taken[client + 1:], new
-            if model.changes_nothing(event.call, answer):
+            if self.rules.changes_nothing(event.call, answer):
                 return [place]
             places.append(place)
         return places

@@ -40,4 +40,5 @@ run_where_built process.sh $bpfmap
 run_where_built server.sh $mapd
 run_where_built install.sh $bpfmap $mapd
 run_where_built tls.sh $mapd
+run_where_built redis_tools.sh $mapd
 [ ! -e "$work/failed" ]
