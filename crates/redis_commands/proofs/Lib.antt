@@ -1,2 +1,5 @@
 pub mod OptionLemmas
 pub mod NumberLemmas
+pub mod LimitLemmas
+pub mod NameLemmas
+pub mod AskedLemmas
