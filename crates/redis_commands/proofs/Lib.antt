@@ -3,3 +3,4 @@ pub mod NumberLemmas
 pub mod LimitLemmas
 pub mod NameLemmas
 pub mod AskedLemmas
+pub mod TextLemmas
