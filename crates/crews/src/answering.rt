@@ -30,11 +30,11 @@ pub const PIECE_BYTES: usize = 16384;
 /// What the turns of a worker's clients share: the worker's number, its passes, and the room for a piece, its requests and commands,
 /// and their values.
 #[derive(Drop)]
-pub struct Room<'a> {
+pub struct Room<'a, 'r> {
     pub number: u32,
     pub serving: Serving<'a>,
     pub conversation: Conversation,
-    pub desk: RedisDesk<'a>,
+    pub desk: RedisDesk<'a, 'r>,
     pub piece: [u8; PIECE_BYTES],
 }
 
@@ -90,9 +90,9 @@ fn leaving_talk(owed: &mut Owed, taken: Result<(), TalkEnd>) -> Option<Parting>
 
 /// Answers the whole requests of a piece of frames, of this number of bytes, with the tokens of the client, and owes the answers.
 /// Returns how the client leaves, if it does.
-pub fn answer_frames<'a, H: Threads + Wait + Sync, G: Gate + Sync>(
+pub fn answer_frames<'a, 'r, H: Threads + Wait + Sync, G: Gate + Sync>(
     worker: &Worker<'_, H, G>,
-    room: &mut Room<'a>,
+    room: &mut Room<'a, 'r>,
     count: usize,
     feeder: &mut Feeder,
     tokens: &mut Tokens<'a>,
@@ -126,9 +126,9 @@ pub fn answer_frames<'a, H: Threads + Wait + Sync, G: Gate + Sync>(
 }
 
 /// Answers the whole commands of a piece, of this number of bytes, and owes the answers. Returns how the client leaves, if it does.
-pub fn answer_commands<'a, H: Wait>(
+pub fn answer_commands<'a, 'r, H: Wait>(
     rt: &H,
-    room: &mut Room<'a>,
+    room: &mut Room<'a, 'r>,
     count: usize,
     talk: &mut RedisTalk,
     owed: &mut Owed,

@@ -35,10 +35,10 @@ const MOST_WORKERS: u64 = 64;
 /// What a worker has at hand: the registry of programs, the room of all turns, the clients in their seats, and how many
 /// came.
 #[derive(Drop)]
-struct Attendant<'a, C> {
+struct Attendant<'a, 'r, C> {
     alloc: Global,
     registry: &'a Registry,
-    room: Room<'a>,
+    room: Room<'a, 'r>,
     seats: Slab<Client<'a, C>>,
     came: u64,
 }
@@ -72,7 +72,7 @@ fn turn_away<C: Channel, P: Clients<C>>(
     clients.ended(pass, None, channel, Parting::NotKept);
 }
 
-impl<'a, C: Channel + Drop> Attendant<'a, C> {
+impl<'a, 'r, C: Channel + Drop> Attendant<'a, 'r, C> {
     /// The number that tells the next client from others, also from those of other workers.
     fn next_number(&self) -> u64 {
         let own = u64::from(self.room.number).wrapping_add(1);
@@ -238,11 +238,11 @@ impl<'a, C: Channel + Drop> Attendant<'a, C> {
 }
 
 /// A worker that begins: nobody came yet.
-fn begun<'a, H, C: Channel + Drop, G>(
+fn begun<'a, 'r, H, C: Channel + Drop, G>(
     worker: &Worker<'a, H, G>,
-    scripts: &'a Scripts<'a>,
+    scripts: &'a Scripts<'r>,
     crew: Crew,
-) -> Attendant<'a, C>
+) -> Attendant<'a, 'r, C>
     requires { IsCrewOf worker.now.map.now crew }
     ensures number { result.room.number ≡ crew.worker }
     ensures knows { known result.room.serving ≡ known (station crew []) }
@@ -283,9 +283,9 @@ fn begun<'a, H, C: Channel + Drop, G>(
 /// talk of the crate redis_service: its requests are those that it sent, in order, each answered once, and what is written to it are
 /// their answers. Each client that came is told to `clients` when it leaves (`there`). Scripts that clients of commands load are kept in
 /// `scripts`. Waits as `clients` does, and for stripes that others hold.
-pub fn attend<'a, H: Threads + Wait + Sync, C: Channel + Drop, P: Clients<C>, G: Gate + Sync>(
+pub fn attend<'a, 'r, H: Threads + Wait + Sync, C: Channel + Drop, P: Clients<C>, G: Gate + Sync>(
     worker: &Worker<'a, H, G>,
-    scripts: &'a Scripts<'a>,
+    scripts: &'a Scripts<'r>,
     clients: &mut P,
     crew: Crew,
 ) -> Crew
@@ -297,7 +297,7 @@ pub fn attend<'a, H: Threads + Wait + Sync, C: Channel + Drop, P: Clients<C>, G:
     ensures same { CarriesSame crew result }
 {
     let number = crew.worker;
-    let mut attendant: Attendant<'a, C> = begun(worker, scripts, crew);
+    let mut attendant: Attendant<'a, 'r, C> = begun(worker, scripts, crew);
     attendant.attend_all(worker, clients);
     attendant.drop_all(clients);
     let Attendant { room, .. } = attendant;

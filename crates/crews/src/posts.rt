@@ -32,13 +32,14 @@ pub struct Post<P> {
 /// request for the lists of workers was refused: nobody is attended then, and the posts are given up. Waits for clients.
 pub fn attend_each<
     'a,
+    'r,
     H: Threads + Wait + Sync,
     C: Channel + Drop + Sync,
     P: Clients<C> + Send + Sync + Drop,
     G: Gate + Sync,
 >(
     worker: &Worker<'a, H, G>,
-    scripts: &'a Scripts<'a>,
+    scripts: &'a Scripts<'r>,
     posts: Vec<Post<P>>,
 ) -> Result<Vec<Post<P>>, NoMemory>
     requires crews { All (λ post. IsCrewOf worker.now.map.now post.crew) posts.items }

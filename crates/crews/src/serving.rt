@@ -179,7 +179,7 @@ impl<'a> Serving<'a> {
     pub fn answer_commands<H: Wait, W: Sink>(
         &mut self,
         rt: &H,
-        desk: &mut RedisDesk<'a>,
+        desk: &mut RedisDesk<'a, '_>,
         talk: &mut RedisTalk,
         piece: &[u8],
         sink: &mut W,

@@ -92,7 +92,7 @@ impl<'a, C: Channel> Client<'a, C> {
     fn answer_piece<H: Threads + Wait + Sync, G: Gate + Sync>(
         &mut self,
         worker: &Worker<'_, H, G>,
-        room: &mut Room<'a>,
+        room: &mut Room<'a, '_>,
         count: usize,
     )
         requires unfailed { self.old.owed.failures ≡ 0 }
@@ -140,7 +140,7 @@ impl<'a, C: Channel> Client<'a, C> {
     fn hear<H: Threads + Wait + Sync, G: Gate + Sync>(
         &mut self,
         worker: &Worker<'_, H, G>,
-        room: &mut Room<'a>,
+        room: &mut Room<'a, '_>,
     ) -> Standing
         requires unfailed { self.old.leaving ≡ None → self.old.owed.failures ≡ 0 }
         requires is_open { self.old.leaving ≡ None → IsOpen self.old.talk }
@@ -194,7 +194,7 @@ impl<'a, C: Channel> Client<'a, C> {
     pub fn turn<H: Threads + Wait + Sync, G: Gate + Sync>(
         &mut self,
         worker: &Worker<'_, H, G>,
-        room: &mut Room<'a>,
+        room: &mut Room<'a, '_>,
     ) -> Standing
         requires unfailed { self.old.leaving ≡ None → self.old.owed.failures ≡ 0 }
         requires is_open { self.old.leaving ≡ None → IsOpen self.old.talk }
