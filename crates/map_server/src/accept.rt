@@ -27,9 +27,9 @@ pub type TcpReader = StreamSource<SharedStream>;
 /// What it writes the answers to.
 pub type TcpWriter = StreamSink<BufWriter<SharedStream>>;
 
-/// The clients of one port, which speak frames. Each worker takes its next client by itself, until it has served as many as it may. It counts
-/// the clients. If an accept fails of a want that may pass, the worker waits and accepts again, for an hour at most. Any other failed
-/// accept ends its worker. Standard error is told of both.
+/// The clients of one port, which speak frames. Each worker takes its next client by itself, until it has served as many as it may.
+/// It counts the clients. If an accept fails of a want that may pass, the worker waits and accepts again, for an hour at most. Any
+/// other failed accept ends its worker. Standard error is told of both.
 #[derive(Drop)]
 pub struct TcpAccept<'a, 'b, H: Wait + Clock, E: Sink> {
     arrivals: Arrivals<'a, 'b, H, E>,

@@ -1,5 +1,5 @@
-//! Connections that were refused, and are heard out: one that is closed with bytes unread is reset, and its client may then
-//! miss the last answer.
+//! Connections whose session or talk ended on this side, and are heard out: one that is closed with bytes unread is reset, and its
+//! client may then miss the last answer.
 
 use crate::connection::{Connection, Discarded};
 use crate::sockets::{LAST_PIECES, LAST_WAIT_MILLIS};

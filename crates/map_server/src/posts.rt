@@ -52,9 +52,9 @@ fn crews_of<P: Drop>(posts: Vec<Post<P>>, mut crews: Vec<Crew>) -> Vec<Crew>
 
 /// Has each crew attend clients that come in by this entrance, until they are over, by scripts that all share. Gives the crews back
 /// in their order. `NoMemory` if a request for memory was refused.
-pub(crate) fn attend_all<'a, H: Threads + Wait + Clock + Sync, E: Sink + Send>(
+pub(crate) fn attend_all<'a, 'r, H: Threads + Wait + Clock + Sync, E: Sink + Send>(
     worker: &Worker<'a, H, OpenGate>,
-    scripts: &'a Scripts<'a>,
+    scripts: &'a Scripts<'r>,
     entrance: &Entrance<'_, '_, H, E>,
     crews: Vec<Crew>,
     polls: Vec<Poll>,

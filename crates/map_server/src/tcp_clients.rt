@@ -26,8 +26,9 @@ const MOST_EVENTS: usize = 256;
 /// How long it is between two looks for silent clients, in milliseconds.
 const SWEEP_MILLIS: u64 = 500;
 
-/// The clients of one worker, of both ports: it takes them from the entrance, tells which has a turn, lets silent ones go, and hears out those
-/// that were refused. What the system tells is no premise of it: a seat that it tells of for no reason has a turn for nothing.
+/// The clients of one worker, of both ports. It takes them from the entrance, tells which has a turn, lets silent ones go, and hears
+/// out those whose session or talk ended on this side. What the system tells is no premise of it: a seat that it tells of for no
+/// reason has a turn for nothing.
 #[derive(Drop)]
 pub(crate) struct TcpClients<'a, 'b, 'c, H: Wait + Clock, E: Sink> {
     entrance: &'a Entrance<'b, 'c, H, E>,

@@ -52,7 +52,8 @@ fn asked(
     sessions: Option<u64>,
 ) -> Result<MapdWords, AllocError> {
     Ok(MapdWords {
-        listen: String::from_str(alloc, listen)?,
+        listen: Some(String::from_str(alloc, listen)?),
+        redis: None,
         stripes: sizes.0,
         workers: sizes.1,
         team: sizes.2,
@@ -71,11 +72,21 @@ fn words_have_defaults(rt: HostRuntime) -> Result<(), Fail> {
     Ok(())
 }
 
+#[test]
+fn a_redis_port_is_enough(rt: HostRuntime) -> Result<(), Fail> {
+    let words = mapd_words(rt.alloc(), &["mapd", "--redis", ANY_PORT])?;
+    let mut wanted = asked(rt.alloc(), ANY_PORT, (16, 4, 1), None)?;
+    wanted.redis = wanted.listen.take();
+    assert!(rt; words == wanted, "{words:?}");
+    Ok(())
+}
+
 /// Each word of `mapd` once.
-const ALL_WORDS: [&str; 14] = [
+const ALL_WORDS: [&str; 15] = [
     "mapd",
     "--listen",
     "[::1]:7",
+    "--redis=[::1]:8",
     "--stripes",
     "2",
     "--workers=32",
@@ -93,6 +104,7 @@ const ALL_WORDS: [&str; 14] = [
 fn words_are_taken(rt: HostRuntime) -> Result<(), Fail> {
     let words = mapd_words(rt.alloc(), &ALL_WORDS)?;
     let mut wanted = asked(rt.alloc(), "[::1]:7", (2, 32, 8), Some(65535))?;
+    wanted.redis = Some(String::from_str(rt.alloc(), "[::1]:8")?);
     wanted.clients = 65535;
     wanted.idle = Some(60);
     wanted.programs = 100;

@@ -1,4 +1,4 @@
-use Rattle.std.proofs.Common.{rules, ◌∙◌, ◌≡◌, ap, sym, refl, inr, false, not, is_some, true≢false}
+use Rattle.std.proofs.Common.{rules, ◌∙◌, ap, sym, inr, false, not, is_some}
 use Rattle.clap.specs.Walk.{texts}
 use Rattle.clap.specs.Words.{found_of, rows_of}
 use Rattle.clap.proofs.WalkLemmas.{first_value-rows}
