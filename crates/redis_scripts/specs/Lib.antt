@@ -1,0 +1,6 @@
+pub mod Pieces
+pub mod Code
+pub mod Heads
+pub mod Scripts
+pub mod Faults
+pub mod Lua
