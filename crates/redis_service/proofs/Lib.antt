@@ -5,3 +5,6 @@ pub mod SendLemmas
 pub mod EachLemmas
 pub mod SetLemmas
 pub mod ReadLemmas
+pub mod TalkLemmas
+pub mod FaultLemmas
+pub mod EndLemmas

@@ -32,7 +32,11 @@ use std::sync::Wait;
 fn length_of(was: bool, found: &Value) -> Replied
     ensures { replied_bytes result found.now ≡ length_line (where_true was found.now) }
 {
-    Replied::Integer(if was { found.as_slice().len() as i64 } else { 0 })
+    Replied::Integer(if was {
+        found.as_slice().len() as i64
+    } else {
+        0
+    })
 }
 
 /// The type of what was found.
@@ -78,13 +82,21 @@ fn set_always<H: Wait>(
     requires map { pass.old.map ≡ map.now }
     ensures same { pass.new.map ≡ map.now }
     ensures passes { pass.new.view.passes ≡ pass.old.view.passes }
+    ensures numbers { pass.new.view.numbers ≡ pass.old.view.numbers }
     ensures answers { AnswersSet pass.old room.old.key room.old.value Always wants_old (replied_bytes result room.new.found) pass.new }
 {
     let Room {
-        key, found, value, ..
+        key,
+        found,
+        value,
+        ..
     } = room;
     let made = make(rt, map, pass, &Call::Put { key, value }, found);
-    if wants_old { say_value(made) } else { say_ok(made) }
+    if wants_old {
+        say_value(made)
+    } else {
+        say_ok(made)
+    }
 }
 
 /// Sets the room's value if the key has none.
@@ -98,10 +110,14 @@ fn set_if_absent<H: Wait>(
     requires map { pass.old.map ≡ map.now }
     ensures same { pass.new.map ≡ map.now }
     ensures passes { pass.new.view.passes ≡ pass.old.view.passes }
+    ensures numbers { pass.new.view.numbers ≡ pass.old.view.numbers }
     ensures answers { AnswersSet pass.old room.old.key room.old.value IfAbsent wants_old (replied_bytes result room.new.found) pass.new }
 {
     let Room {
-        key, found, value, ..
+        key,
+        found,
+        value,
+        ..
     } = room;
     let made = make(rt, map, pass, &Call::PutIfAbsent { key, value }, found);
     if wants_old {
@@ -122,10 +138,14 @@ fn set_if_present<H: Wait>(
     requires map { pass.old.map ≡ map.now }
     ensures same { pass.new.map ≡ map.now }
     ensures passes { pass.new.view.passes ≡ pass.old.view.passes }
+    ensures numbers { pass.new.view.numbers ≡ pass.old.view.numbers }
     ensures answers { AnswersSet pass.old room.old.key room.old.value IfPresent wants_old (replied_bytes result room.new.found) pass.new }
 {
     let Room {
-        key, found, value, ..
+        key,
+        found,
+        value,
+        ..
     } = room;
     let made = make(rt, map, pass, &Call::Replace { key, value }, found);
     if wants_old {
@@ -147,6 +167,7 @@ fn set_if_equal<H: Wait>(
     requires expected { length expected.now ≤ VALUE_BYTES }
     ensures same { pass.new.map ≡ map.now }
     ensures passes { pass.new.view.passes ≡ pass.old.view.passes }
+    ensures numbers { pass.new.view.numbers ≡ pass.old.view.numbers }
     ensures answers { AnswersSet pass.old room.old.key room.old.value (IfEqual expected.now) false (replied_bytes result room.new.found) pass.new }
 {
     let Room {
@@ -176,6 +197,7 @@ fn set<H: Wait>(
     requires limits { longest (Set act.value.now (condition_by act.condition) act.wants_old) ≤ VALUE_BYTES }
     ensures same { pass.new.map ≡ map.now }
     ensures passes { pass.new.view.passes ≡ pass.old.view.passes }
+    ensures numbers { pass.new.view.numbers ≡ pass.old.view.numbers }
     ensures answers { AnswersSet pass.old room.old.key act.entry.value.now (condition_by act.entry.condition) act.entry.wants_old (replied_bytes result room.new.found) pass.new }
 {
     room.value.set_from(act.value);
@@ -206,10 +228,14 @@ fn put_new<H: Wait>(
     requires limits { length new.now ≤ VALUE_BYTES }
     ensures same { pass.new.map ≡ map.now }
     ensures passes { pass.new.view.passes ≡ pass.old.view.passes }
+    ensures numbers { pass.new.view.numbers ≡ pass.old.view.numbers }
     ensures answers { AnswersKey pass.old room.old.key (SetIfAbsent new.now) (replied_bytes result room.new.found) pass.new }
 {
     let Room {
-        key, found, value, ..
+        key,
+        found,
+        value,
+        ..
     } = room;
     value.set_from(new);
     say_one_if_none(make(rt, map, pass, &Call::PutIfAbsent { key, value }, found))
@@ -227,10 +253,14 @@ fn get_and_put<H: Wait>(
     requires limits { length new.now ≤ VALUE_BYTES }
     ensures same { pass.new.map ≡ map.now }
     ensures passes { pass.new.view.passes ≡ pass.old.view.passes }
+    ensures numbers { pass.new.view.numbers ≡ pass.old.view.numbers }
     ensures answers { AnswersKey pass.old room.old.key (GetAndSet new.now) (replied_bytes result room.new.found) pass.new }
 {
     let Room {
-        key, found, value, ..
+        key,
+        found,
+        value,
+        ..
     } = room;
     value.set_from(new);
     say_value(make(rt, map, pass, &Call::Put { key, value }, found))
@@ -248,10 +278,14 @@ fn remove_equal<H: Wait>(
     requires limits { length expected.now ≤ VALUE_BYTES }
     ensures same { pass.new.map ≡ map.now }
     ensures passes { pass.new.view.passes ≡ pass.old.view.passes }
+    ensures numbers { pass.new.view.numbers ≡ pass.old.view.numbers }
     ensures answers { AnswersKey pass.old room.old.key (DeleteIfEqual expected.now) (replied_bytes result room.new.found) pass.new }
 {
     let Room {
-        key, found, other, ..
+        key,
+        found,
+        other,
+        ..
     } = room;
     other.set_from(expected);
     let call = Call::RemoveIf {
@@ -266,6 +300,7 @@ fn look<H: Wait>(rt: &H, map: &StripedMap, pass: &mut Pass, room: &mut Room) -> 
     requires map { pass.old.map ≡ map.now }
     ensures same { pass.new.map ≡ map.now }
     ensures passes { pass.new.view.passes ≡ pass.old.view.passes }
+    ensures numbers { pass.new.view.numbers ≡ pass.old.view.numbers }
     ensures finds { Finds pass.old room.old.key (where_true result room.new.found) pass.new }
 {
     get(rt, map, pass, &room.key, &mut room.found)
@@ -283,6 +318,7 @@ pub fn answer_key<H: Wait>(
     requires limits { longest (act_by act.now) ≤ VALUE_BYTES }
     ensures same { pass.new.map ≡ map.now }
     ensures passes { pass.new.view.passes ≡ pass.old.view.passes }
+    ensures numbers { pass.new.view.numbers ≡ pass.old.view.numbers }
     ensures answers { AnswersKey pass.old room.old.key (act_by act.now) (replied_bytes result room.new.found) pass.new }
 {
     match *act {
