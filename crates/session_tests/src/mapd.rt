@@ -52,7 +52,8 @@ fn asked(
     sessions: Option<u64>,
 ) -> Result<MapdWords, AllocError> {
     Ok(MapdWords {
-        listen: String::from_str(alloc, listen)?,
+        listen: Some(String::from_str(alloc, listen)?),
+        redis: None,
         stripes: sizes.0,
         workers: sizes.1,
         team: sizes.2,
