@@ -87,6 +87,7 @@ refuse_between_marks map_tests calls::memory::a_call_that_adds_no_key_asks_for_n
 refuse_each map_tests registry::a_refused_program_comes_back
 refuse_each walk_tests passes::rows::a_refused_call_changes_nothing
 refuse_each walk_tests walks::refused::a_refused_walk_changes_nothing
+refuse_each walk_tests keys::a_refused_key_walk_succeeds_again
 refuse_each session_tests frames::streams::a_refused_piece_can_be_fed_again
 refuse_each session_tests bpfmap::refused_memory::a_refused_request_is_told
 refuse_each session_tests bpfmap::refused_memory::a_refused_request_leaves_the_table

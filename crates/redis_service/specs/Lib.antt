@@ -1,2 +1,14 @@
 pub mod Lines
+pub mod Sending
+pub mod Replied
+pub mod Calls
+pub mod Changes
+pub mod Texts
+pub mod Planned
+pub mod States
+pub mod Answers
+pub mod Connections
+pub mod Commands
+pub mod Reads
 pub mod Talks
+pub mod Stops

@@ -1,22 +1,38 @@
 //! What answers the commands of a worker's clients.
-ghost use Rattle.std.specs.Prelude.{◌≡◌, ℕ, List, true, false, OnOk};
-ghost use Rattle.bin_stripes.specs.Passes.{ServesSameMap};
+ghost use Rattle.std.specs.Prelude.{◌≡◌, ◌≢◌, ℕ, List, true, false, All, OnOk, OnErr, IfOk};
+ghost use Rattle.bin_stripes.specs.Passes.{PassState, ServesSameMap};
 ghost use Rattle.devices.specs.Devices.{CanWrite, TakesBytes, TakesThenFails};
-ghost use Rattle.redis_service.specs.Talks.{AnswersPiece, BreaksPiece};
+ghost use Rattle.redis_commands.specs.Commands.{asked_by, act_by, fault_by, texts};
+ghost use Rattle.redis_commands.specs.Commands.Asked.{OnKey};
+ghost use Rattle.redis_commands.specs.Limits.{IsKey, IsWithinLimits};
+ghost use Rattle.redis_service.specs.Answers.{AnswersKey, AnswersKeys};
+ghost use Rattle.redis_service.specs.Commands.{AnswersCommand, AnswersRead, AnswersWords};
+ghost use Rattle.redis_service.specs.Sending.{Sends};
+ghost use Rattle.redis_service.specs.Stops.{Stops, AnswersAll, FailsAt, TellsEnd, FailsEnd};
+ghost use Rattle.redis_service.specs.Talks.{AnswersBytes, BreaksBytes, AnswersPiece, BreaksPiece};
 
+use crate::connection::answer_connection;
+use crate::keyed::answer_key;
+use crate::lines::no_memory_line;
+use crate::reader::{Came, Reader};
+use crate::room::Room;
+use crate::several::{count_each, count_of, get_each, put_each, remove_each};
 use crate::talk::RedisTalk;
 use bin_stripes::{Pass, StripedMap};
-use bpf_model::Value;
-use devices::Sink;
+use devices::{Failed, Sink, write_all};
+use redis_commands::{Command, CommandFault, KeyAct, KeysAct, command_of};
 use redis_scripts::Scripts;
+use resp::put_error;
 use std::alloc::Global;
 use std::marker::Model;
+use std::mem;
 use std::sync::Wait;
 
 /// Why a talk ended at a piece.
 #[derive(Clone, Copy, Debug, PartialEq, Eq)]
 pub enum TalkEnd {
-    /// The client asked for it, or its bytes can't be read as commands. All is answered that is owed.
+    /// The client asked for it, or its bytes can't be read as commands, or memory to read on or to keep them was refused. All is
+    /// answered that is owed.
     Over,
     /// Memory for the piece was refused, and the piece was not taken.
     NoMemory,
@@ -26,14 +42,14 @@ pub enum TalkEnd {
 
 /// Room of a worker for the commands of all its clients, and the map that they are about.
 #[derive(Drop)]
-pub struct RedisDesk<'a> {
+pub struct RedisDesk<'a, 's> {
     alloc: Global,
     map: &'a StripedMap,
-    scripts: &'a Scripts<'a>,
-    value: Value,
+    scripts: &'a Scripts<'s>,
+    room: Room,
 }
 
-impl<'a> Model for RedisDesk<'a> {
+impl<'a, 's> Model for RedisDesk<'a, 's> {
     ghost use Rattle.atomic_table.specs.Seated.{TableId, table_id_coded};
 
     ghost Value = { TableId };
@@ -43,16 +59,261 @@ impl<'a> Model for RedisDesk<'a> {
     ghost view = { λ d. d.map.now };
 }
 
-impl<'a> RedisDesk<'a> {
+/// Tells why nothing more is read from this rest, if it is to be told, and keeps the rest if a command begins in it. Returns whether
+/// the talk is over.
+fn finish<W: Sink>(
+    alloc: Global,
+    talk: &mut RedisTalk,
+    came: Came,
+    rest: &[u8],
+    sink: &mut W,
+) -> Result<bool, Failed>
+    requires sink { CanWrite (W.state sink.old) }
+    requires stops { Stops came talk.old rest.now }
+    ensures ok { IfOk result (λ over. TellsEnd (W.state sink.old) (W.state sink.new) rest.now talk.old talk.new × (talk.new.is_over ≡ over)) }
+    ensures err { OnErr result (FailsEnd (W.state sink.old) (W.state sink.new) rest.now talk.old talk.new × (talk.new.is_over ≡ true)) }
+    ensures number { talk.new.number ≡ talk.old.number }
+{
+    if talk.is_over() {
+        talk.end(alloc);
+        return Ok(true);
+    }
+    if let Came::Faulty(fault) = came {
+        talk.end(alloc);
+        return match put_error(sink, fault.message().as_slice()) {
+            Ok(()) => Ok(true),
+            Err(Failed) => Err(Failed),
+        };
+    }
+    if let Came::More = came {
+        if talk.keep(alloc, rest) {
+            return Ok(false);
+        }
+    }
+    talk.end(alloc);
+    match write_all(sink, no_memory_line()) {
+        Ok(()) => Ok(true),
+        Err(Failed) => Err(Failed),
+    }
+}
+
+/// Says why words are no command. The talk is over after what looks like a request of the web, which is not answered.
+fn refuse<W: Sink>(
+    talk: &mut RedisTalk,
+    fault: &CommandFault<'_>,
+    sink: &mut W,
+) -> Result<(), Failed>
+    requires { CanWrite (W.state sink.old) }
+    ensures number { talk.new.number ≡ talk.old.number }
+    ensures answers { (pass : PassState) → (written : List ℕ) × Sends result (W.state sink.old) (W.state sink.new) written
+        × AnswersRead talk.old pass (Err (fault_by fault.now)) written talk.new pass }
+{
+    match fault {
+        CommandFault::WebRequest => {
+            talk.leave();
+            Ok(())
+        }
+        _ => put_error(sink, fault.text().as_slice()),
+    }
+}
+
+impl<'a, 's> RedisDesk<'a, 's> {
     /// Makes the room. Takes no memory.
-    pub fn new(alloc: Global, map: &'a StripedMap, scripts: &'a Scripts<'a>) -> RedisDesk<'a>
+    pub fn new(alloc: Global, map: &'a StripedMap, scripts: &'a Scripts<'s>) -> RedisDesk<'a, 's>
         ensures { result ≡ map.now }
     {
         RedisDesk {
             alloc,
             map,
             scripts,
-            value: Value::new(),
+            room: Room::new(),
+        }
+    }
+
+    /// Answers a command about one key.
+    fn answer_key<H: Wait, W: Sink>(
+        &mut self,
+        rt: &H,
+        pass: &mut Pass,
+        key: &[u8],
+        act: &KeyAct<'_>,
+        sink: &mut W,
+    ) -> Result<(), Failed>
+        requires map { pass.old.map ≡ self.old }
+        requires limits { IsWithinLimits (OnKey key.now (act_by act.now)) }
+        requires sink { CanWrite (W.state sink.old) }
+        ensures desk { self.new ≡ self.old }
+        ensures same { pass.new.map ≡ self.old }
+        ensures passes { pass.new.view.passes ≡ pass.old.view.passes }
+        ensures numbers { pass.new.view.numbers ≡ pass.old.view.numbers }
+        ensures answers { (written : List ℕ) × Sends result (W.state sink.old) (W.state sink.new) written
+            × AnswersKey pass.old key.now (act_by act.now) written pass.new }
+    {
+        self.room.key.set_from(key);
+        let replied = answer_key(rt, self.map, pass, &mut self.room, act);
+        replied.send(self.room.found.as_slice(), sink)
+    }
+
+    /// Answers a command about several keys.
+    fn answer_keys<H: Wait, W: Sink>(
+        &mut self,
+        rt: &H,
+        pass: &mut Pass,
+        keys: &[&[u8]],
+        act: KeysAct,
+        sink: &mut W,
+    ) -> Result<(), Failed>
+        requires map { pass.old.map ≡ self.old }
+        requires keys { All IsKey (texts keys.now) }
+        requires sink { CanWrite (W.state sink.old) }
+        ensures desk { self.new ≡ self.old }
+        ensures same { pass.new.map ≡ self.old }
+        ensures passes { pass.new.view.passes ≡ pass.old.view.passes }
+        ensures numbers { pass.new.view.numbers ≡ pass.old.view.numbers }
+        ensures answers { (written : List ℕ) × Sends result (W.state sink.old) (W.state sink.new) written
+            × AnswersKeys pass.old (texts keys.now) act written pass.new }
+    {
+        match act {
+            KeysAct::GetEach => get_each(rt, self.map, pass, &mut self.room, keys, sink),
+            KeysAct::Delete => {
+                let count = remove_each(rt, self.map, pass, &mut self.room, keys);
+                count_of(count).send(&[], sink)
+            }
+            KeysAct::CountPresent => {
+                let count = count_each(rt, self.map, pass, &mut self.room, keys);
+                count_of(count).send(&[], sink)
+            }
+        }
+    }
+
+    /// Answers a command.
+    fn answer_command<H: Wait, W: Sink>(
+        &mut self,
+        rt: &H,
+        pass: &mut Pass,
+        talk: &mut RedisTalk,
+        command: &Command<'_>,
+        sink: &mut W,
+    ) -> Result<(), Failed>
+        requires map { pass.old.map ≡ self.old }
+        requires limits { IsWithinLimits (asked_by command.now) }
+        requires sink { CanWrite (W.state sink.old) }
+        ensures desk { self.new ≡ self.old }
+        ensures same { pass.new.map ≡ self.old }
+        ensures passes { pass.new.view.passes ≡ pass.old.view.passes }
+        ensures numbers { pass.new.view.numbers ≡ pass.old.view.numbers }
+        ensures number { talk.new.number ≡ talk.old.number }
+        ensures answers { (written : List ℕ) × Sends result (W.state sink.old) (W.state sink.new) written
+            × AnswersCommand talk.old pass.old (asked_by command.now) written talk.new pass.new }
+    {
+        match *command {
+            Command::OnKey { key, act } => self.answer_key(rt, pass, key, &act, sink),
+            Command::OnKeys { keys, act } => self.answer_keys(rt, pass, keys, act, sink),
+            Command::SetEach { words } => {
+                put_each(rt, self.map, pass, &mut self.room, words).send(&[], sink)
+            }
+            Command::Connection(command) => answer_connection(self.alloc, talk, &command, sink),
+            Command::Walk(_) => put_error(sink, b"ERR not served"),
+            Command::Program(_) => put_error(sink, b"ERR not served"),
+        }
+    }
+
+    /// Answers the words of a command.
+    fn answer<H: Wait, W: Sink>(
+        &mut self,
+        rt: &H,
+        pass: &mut Pass,
+        talk: &mut RedisTalk,
+        words: &[&[u8]],
+        sink: &mut W,
+    ) -> Result<(), Failed>
+        requires map { pass.old.map ≡ self.old }
+        requires sink { CanWrite (W.state sink.old) }
+        ensures desk { self.new ≡ self.old }
+        ensures same { pass.new.map ≡ self.old }
+        ensures passes { pass.new.view.passes ≡ pass.old.view.passes }
+        ensures numbers { pass.new.view.numbers ≡ pass.old.view.numbers }
+        ensures number { talk.new.number ≡ talk.old.number }
+        ensures answers { (written : List ℕ) × Sends result (W.state sink.old) (W.state sink.new) written
+            × AnswersWords talk.old pass.old (texts words.now) written talk.new pass.new }
+    {
+        match command_of(words) {
+            Ok(command) => self.answer_command(rt, pass, talk, &command, sink),
+            Err(fault) => refuse(talk, &fault, sink),
+        }
+    }
+
+    /// Answers the commands that the reader reads, one after the other, until the talk is over or there is none. Returns why there is
+    /// none.
+    fn answer_all<'b, H: Wait, W: Sink>(
+        &mut self,
+        rt: &H,
+        pass: &mut Pass,
+        talk: &mut RedisTalk,
+        reader: &mut Reader<'b>,
+        sink: &mut W,
+    ) -> Result<Came, Failed>
+        requires map { pass.old.map ≡ self.old }
+        requires sink { CanWrite (W.state sink.old) }
+        ensures desk { self.new ≡ self.old }
+        ensures same { pass.new.map ≡ self.old }
+        ensures passes { pass.new.view.passes ≡ pass.old.view.passes }
+        ensures numbers { pass.new.view.numbers ≡ pass.old.view.numbers }
+        ensures number { talk.new.number ≡ talk.old.number }
+        ensures ok { IfOk result (λ came. AnswersAll (W.state sink.old) (W.state sink.new) talk.old pass.old reader.old.rest.now came talk.new pass.new reader.new.rest.now) }
+        ensures err { OnErr result (FailsAt (W.state sink.old) (W.state sink.new) talk.old pass.old reader.old.rest.now talk.new pass.new) }
+    {
+        while !talk.is_over() {
+            match reader.next() {
+                Came::Command => {
+                    match self.answer(rt, pass, talk, &reader.words, sink) {
+                        Ok(()) => {}
+                        Err(Failed) => return Err(Failed),
+                    }
+                }
+                Came::Nothing => {}
+                came => return Ok(came),
+            }
+        }
+        Ok(Came::More)
+    }
+
+    /// Answers the commands that the bytes begin with, and keeps what follows the last whole one.
+    fn take_bytes<H: Wait, W: Sink>(
+        &mut self,
+        rt: &H,
+        pass: &mut Pass,
+        talk: &mut RedisTalk,
+        bytes: &[u8],
+        sink: &mut W,
+    ) -> Result<(), TalkEnd>
+        requires map { pass.old.map ≡ self.old }
+        requires sink { CanWrite (W.state sink.old) }
+        ensures desk { self.new ≡ self.old }
+        ensures same { pass.new.map ≡ self.old }
+        ensures passes { pass.new.view.passes ≡ pass.old.view.passes }
+        ensures numbers { pass.new.view.numbers ≡ pass.old.view.numbers }
+        ensures number { talk.new.number ≡ talk.old.number }
+        ensures ok { OnOk result ((talk.new.is_over ≡ false) × ((written : List ℕ)
+            × TakesBytes (W.state sink.old) (W.state sink.new) written
+            × AnswersBytes talk.old pass.old bytes.now written talk.new pass.new)) }
+        ensures over { result ≡ Err TalkEnd.Over → (talk.new.is_over ≡ true) × ((written : List ℕ)
+            × TakesBytes (W.state sink.old) (W.state sink.new) written
+            × AnswersBytes talk.old pass.old bytes.now written talk.new pass.new) }
+        ensures memory { result ≢ Err TalkEnd.NoMemory }
+        ensures write { result ≡ Err TalkEnd.WriteFailed → ((written : List ℕ)
+            × TakesThenFails (W.state sink.old) (W.state sink.new) written
+            × BreaksBytes talk.old pass.old bytes.now written talk.new pass.new) }
+    {
+        let mut reader = Reader::new(self.alloc, bytes);
+        let Ok(came) = self.answer_all(rt, pass, talk, &mut reader, sink) else {
+            talk.end(self.alloc);
+            return Err(TalkEnd::WriteFailed);
+        };
+        match finish(self.alloc, talk, came, reader.rest, sink) {
+            Ok(true) => Err(TalkEnd::Over),
+            Ok(false) => Ok(()),
+            Err(Failed) => Err(TalkEnd::WriteFailed),
         }
     }
 
@@ -71,6 +332,7 @@ impl<'a> RedisDesk<'a> {
         requires open { talk.old.is_over ≡ false }
         ensures desk { self.new ≡ self.old }
         ensures same { ServesSameMap pass.old pass.new }
+        ensures numbers { pass.new.view.numbers ≡ pass.old.view.numbers }
         ensures number { talk.new.number ≡ talk.old.number }
         // The piece was taken, and all its commands are answered.
         ensures ok { OnOk result ((talk.new.is_over ≡ false) × ((written : List ℕ)
@@ -87,6 +349,14 @@ impl<'a> RedisDesk<'a> {
             × TakesThenFails (W.state sink.old) (W.state sink.new) written
             × BreaksPiece talk.old pass.old piece.now written talk.new pass.new) }
     {
-        Err(TalkEnd::NoMemory)
+        if talk.rest.is_empty() {
+            return self.take_bytes(rt, pass, talk, piece, sink);
+        }
+        let mut held = mem::replace(&mut talk.rest, Vec::new(self.alloc));
+        if held.extend_from_slice(piece).is_err() {
+            talk.rest = held;
+            return Err(TalkEnd::NoMemory);
+        }
+        self.take_bytes(rt, pass, talk, &held, sink)
     }
 }

@@ -1,6 +1,6 @@
 //! A talk with one client between two pieces.
-ghost use Rattle.std.specs.Prelude.{◌≡◌, [], ◌↔◌, ◌≢◌, IsTrue};
-ghost use Rattle.redis_service.specs.Talks.{begun};
+ghost use Rattle.std.specs.Prelude.{◌≡◌, [], ◌↔◌, ◌≢◌, IsTrue, IsFalse, true};
+ghost use Rattle.redis_service.specs.States.{begun, ended, renamed};
 
 use std::alloc::Global;
 use std::marker::Model;
@@ -16,7 +16,7 @@ pub struct RedisTalk {
 }
 
 impl Model for RedisTalk {
-    ghost use Rattle.redis_service.specs.Talks.{TalkState};
+    ghost use Rattle.redis_service.specs.States.{TalkState};
 
     ghost Value = { TalkState };
 
@@ -41,5 +41,76 @@ impl RedisTalk {
         ensures { IsTrue result ↔ (self.now.rest ≢ []) }
     {
         !self.rest.is_empty()
+    }
+
+    /// Tests whether the talk is over.
+    pub(crate) fn is_over(&self) -> bool
+        ensures { result ≡ self.now.is_over }
+    {
+        self.is_over
+    }
+
+    /// Returns the client's number.
+    pub(crate) fn number(&self) -> u64
+        ensures { result ≡ self.now.number }
+    {
+        self.number
+    }
+
+    /// Returns the client's name.
+    pub(crate) fn name(&self) -> &[u8]
+        ensures { result.now ≡ self.now.name }
+    {
+        &self.name
+    }
+
+    /// The client asked for the end.
+    pub(crate) fn leave(&mut self)
+        ensures { self.new ≡ record self.old { is_over = true } }
+    {
+        self.is_over = true;
+    }
+
+    /// Takes the client's name away.
+    pub(crate) fn forget_name(&mut self, alloc: Global)
+        ensures { self.new ≡ renamed self.old [] }
+    {
+        self.name = Vec::new(alloc);
+    }
+
+    /// Ends the talk.
+    pub(crate) fn end(&mut self, alloc: Global)
+        ensures { self.new ≡ ended self.old }
+    {
+        self.rest = Vec::new(alloc);
+        self.is_over = true;
+    }
+
+    /// Keeps the beginning of a command, and returns whether memory was there.
+    pub(crate) fn keep(&mut self, alloc: Global, rest: &[u8]) -> bool
+        ensures kept { IsTrue result → self.new ≡ record self.old { rest = rest.now } }
+        ensures same { IsFalse result → self.new ≡ self.old }
+    {
+        match Vec::from_slice(alloc, rest) {
+            Ok(kept) => {
+                self.rest = kept;
+                true
+            }
+            Err(_) => false,
+        }
+    }
+
+    /// Keeps the client's name, and returns whether memory was there.
+    pub(crate) fn rename(&mut self, alloc: Global, name: &[u8]) -> bool
+        ensures kept { IsTrue result → self.new ≡ renamed self.old name.now }
+        ensures same { IsFalse result → self.new ≡ self.old }
+    {
+        match Vec::from_slice(alloc, name) {
+            Ok(kept) => {
+                self.name = kept;
+                true
+            }
+            Err(_) => false,
+        }
     }
 }

@@ -1,6 +1,8 @@
-//! Tests of the map that threads share: its passes, and the walks of teams.
+//! Tests of the map that threads share: its passes, the walks of teams, and those of one pass.
 #![tactic(auto)]
 
+#[cfg(test)]
+mod keys;
 #[cfg(test)]
 mod passes;
 #[cfg(test)]

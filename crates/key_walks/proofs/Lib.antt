@@ -1,0 +1,6 @@
+pub mod ChainLemmas
+pub mod FindingLemmas
+pub mod ClearingLemmas
+pub mod ChoiceLemmas
+pub mod PageLemmas
+pub mod IterationLemmas

@@ -1,0 +1,54 @@
+-- Numbers and their decimal texts.
+use Rattle.std.proofs.Common.{rules, arith, ◌≡◌, ◌≢◌, ℕ, ◌+◌, ◌^◌, ◌<◌, Bool, true, false, ◌&&◌, List, Option, Some, None, Result, Ok, Err, ℤ, pos, negsuc, FitsSigned, nat_lt, bytes_eq, decimal, refl, sym, ap, subst, ◌∙◌, if◌then◌else◌}
+use Rattle.std.specs.Fmt.{signed_decimal}
+use Rattle.std.specs.Int.{w64}
+use Rattle.std.specs.Str.{IsUtf8, IsAscii}
+use Rattle.std.specs.Str.Parse.{signed_digits_value, digits_value, without_leading_plus, ParsesSigned, ParsesUnsigned}
+use Rattle.std.proofs.lemmas.Slice.Eq.{bytes_eq-Decides}
+use Rattle.std.proofs.lemmas.Str.{IsUtf8-from_ascii}
+use Rattle.std.proofs.lemmas.Fmt.{parse-signed_decimal, parse-decimal, IsAscii-signed, IsAscii-decimal}
+use Rattle.redis_commands.specs.Numbers.{integer_of, natural_of, fits_64}
+
+both : (a b : Bool) → (a && b) ≡ true → (a ≡ true) × (b ≡ true)
+both true true e = (refl, refl)
+both true false e = absurd cc
+both false b e = absurd cc
+
+refused : {A : Type 0} (b : Bool) (n : A) → (b ≡ true → ⊥) → (if b then Some n else None) ≡ None
+refused true n no_way = absurd (no_way refl)
+refused false n no_way = refl
+
+fits : (n : ℤ) → fits_64 n ≡ true → FitsSigned w64 n
+fits (pos n) e = record { sfits = grind (arith, e) }
+fits (negsuc n) e = record { sfits = grind (arith, e) }
+
+-- no number has the text
+integer_none : (text : List ℕ) → ((n : ℤ) → FitsSigned w64 n → text ≢ signed_decimal n) → integer_of text ≡ None
+integer_none text none =
+    let n = signed_digits_value 10 text in
+    refused (fits_64 n && bytes_eq (signed_decimal n) text) n
+        (λ e. let parts = both (fits_64 n) (bytes_eq (signed_decimal n) text) e in
+            none n (fits n parts.0) (sym ((bytes_eq-Decides (signed_decimal n) text).0 parts.1)))
+
+pub integer_unread : {E : Type 0} (text : List ℕ) (r : Result ℤ E) (e : E) → ParsesSigned w64 10 text r → r ≡ Err e → integer_of text ≡ None
+integer_unread text r e read is =
+    integer_none text (λ n fit same. let ok = parse-signed_decimal w64 n text r fit fit.sfits same read in absurd cc)
+
+pub integer_no_text : (text : List ℕ) → (IsUtf8 text → ⊥) → integer_of text ≡ None
+integer_no_text text none =
+    integer_none text (λ n fit same. none (IsUtf8-from_ascii text (subst IsAscii (sym same) (IsAscii-signed n fit.sfits))))
+
+natural_none : (text : List ℕ) → ((n : ℕ) → n < 2 ^ 64 → text ≢ decimal n) → natural_of text ≡ None
+natural_none text none =
+    let n = digits_value 10 (without_leading_plus text) in
+    refused (nat_lt n (2 ^ 64) && bytes_eq (decimal n) text) n
+        (λ e. let parts = both (nat_lt n (2 ^ 64)) (bytes_eq (decimal n) text) e in
+            none n (grind (arith, parts.0)) (sym ((bytes_eq-Decides (decimal n) text).0 parts.1)))
+
+pub natural_unread : {E : Type 0} (text : List ℕ) (r : Result ℕ E) (e : E) → ParsesUnsigned 64 10 text r → r ≡ Err e → natural_of text ≡ None
+natural_unread text r e read is =
+    natural_none text (λ n fit same. let ok = parse-decimal 64 n text r fit fit same read in absurd cc)
+
+pub natural_no_text : (text : List ℕ) → (IsUtf8 text → ⊥) → natural_of text ≡ None
+natural_no_text text none =
+    natural_none text (λ n fit same. none (IsUtf8-from_ascii text (subst IsAscii (sym same) (IsAscii-decimal n fit))))

@@ -1,0 +1,7 @@
+use Rattle.std.proofs.Common.{◌≡◌, drop}
+use Rattle.redis_commands.specs.Names.{first_named}
+use Rattle.redis_commands.proofs.name.first_named.Given as goal
+
+-- none of the names so far is the word
+abbrev pub invariant-loop-name : goal.invariant-loop-name
+invariant-loop-name l = first_named (drop l.name-index l.names) l.word ≡ first_named l.names l.word

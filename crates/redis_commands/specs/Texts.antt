@@ -1,0 +1,71 @@
+-- The texts of faults, as Redis 7.0 words them; what a client sent is shown up to 128 bytes.
+use Rattle.std.specs.Prelude.{ℕ, ◌+◌, ◌-◌, ◌||◌, Bool, List, [], ◌∷◌, ◌++◌, length, take, map, codes, nat_eq, nat_lt, if◌then◌else◌}
+use Rattle.redis_commands.specs.declared.name.Name.{Name}
+use Rattle.redis_commands.specs.declared.name.Sub.{Sub}
+use Rattle.redis_commands.specs.Names.{name_text, sub_word, parent_of, parent_text, parent_capitals}
+use Rattle.redis_commands.specs.Commands.{Fault}
+use Rattle.redis_commands.specs.Commands.Fault.{UnknownCommand, UnknownSub, WrongCount, WrongSubCount, Syntax, NotAnInteger, DecrementOverflow, OffsetOutOfRange, LongKey, LongValue, Deadline, BadCursor, BadIndex, WideIndex, BadVersion, NoProtocol, HelloOption, BadClientName, NoPassword, WrongPassword, NegativeKeys, TooManyKeys, ScriptShape, NoScript, WebRequest}
+
+-- up to the first byte 0
+abbrev pub until_0 : List ℕ → List ℕ
+until_0 [] = []
+until_0 (b ∷ bytes) = if nat_eq b 0 then [] else b ∷ until_0 bytes
+
+-- a blank for each end of a line
+abbrev pub blanked : ℕ → ℕ
+blanked b = if nat_eq b 10 || nat_eq b 13 then 32 else b
+
+-- what is shown of a word: its bytes up to a 0, and no more than so many
+abbrev pub shown : ℕ → List ℕ → List ℕ
+shown most word = map blanked (take most (until_0 word))
+
+abbrev pub shown_arg : ℕ → List ℕ → List ℕ
+shown_arg so_far arg = codes "'" ++ shown (128 - so_far) arg ++ codes "' "
+
+-- the arguments, until 128 bytes are shown; so many were shown before
+abbrev pub shown_args : ℕ → List (List ℕ) → List ℕ
+shown_args so_far [] = []
+shown_args so_far (arg ∷ args) =
+    if nat_lt so_far 128 then shown_arg so_far arg ++ shown_args (so_far + length (shown_arg so_far arg)) args else []
+
+abbrev pub wrong_count : List ℕ → List ℕ
+wrong_count name = codes "ERR wrong number of arguments for '" ++ name ++ codes "' command"
+
+-- the whole text, after the `-` and before the end of the line
+abbrev pub fault_text : Fault → List ℕ
+fault_text (UnknownCommand name args) =
+    codes "ERR unknown command '" ++ shown 128 name ++ codes "', with args beginning with: " ++ shown_args 0 args
+fault_text (UnknownSub parent word) =
+    codes "ERR unknown subcommand '" ++ shown 128 word ++ codes "'. Try " ++ parent_capitals parent ++ codes " HELP."
+fault_text (WrongCount name) = wrong_count (name_text name)
+fault_text (WrongSubCount sub) = wrong_count (parent_text (parent_of sub) ++ codes "|" ++ sub_word sub)
+fault_text Syntax = codes "ERR syntax error"
+fault_text NotAnInteger = codes "ERR value is not an integer or out of range"
+fault_text DecrementOverflow = codes "ERR decrement would overflow"
+fault_text OffsetOutOfRange = codes "ERR offset is out of range"
+fault_text LongKey = codes "ERR key exceeds maximum allowed size (64)"
+fault_text LongValue = codes "ERR string exceeds maximum allowed size (1024)"
+fault_text Deadline = codes "ERR deadlines are not served"
+fault_text BadCursor = codes "ERR invalid cursor"
+fault_text BadIndex = codes "ERR DB index is out of range"
+fault_text WideIndex = codes "ERR value is out of range, value must between -2147483648 and 2147483647"
+fault_text BadVersion = codes "ERR Protocol version is not an integer or out of range"
+fault_text NoProtocol = codes "NOPROTO unsupported protocol version"
+fault_text (HelloOption option) = codes "ERR Syntax error in HELLO option '" ++ shown 128 option ++ codes "'"
+fault_text BadClientName = codes "ERR Client names cannot contain spaces, newlines or special characters."
+fault_text NoPassword = codes "ERR AUTH <password> called without any password configured for the default user. Are you sure your configuration is correct?"
+fault_text WrongPassword = codes "WRONGPASS invalid username-password pair or user is disabled."
+fault_text NegativeKeys = codes "ERR Number of keys can't be negative"
+fault_text TooManyKeys = codes "ERR Number of keys can't be greater than number of args"
+fault_text ScriptShape = codes "ERR not served: a script is called with one key and at most one argument"
+fault_text NoScript = codes "NOSCRIPT No matching script. Please use EVAL."
+fault_text WebRequest = []
+
+-- the text shows nothing of the words
+abbrev pub IsFixed : Fault → Type 0
+IsFixed (UnknownCommand name args) = ⊥
+IsFixed (UnknownSub parent word) = ⊥
+IsFixed (WrongCount name) = ⊥
+IsFixed (WrongSubCount sub) = ⊥
+IsFixed (HelloOption option) = ⊥
+IsFixed fault = Unit {0}

@@ -1,0 +1,319 @@
+//! Words, and what they ask for.
+ghost use Rattle.std.specs.Prelude.{◌≡◌, ◌≤◌, true, IfOk, IfSome, length, if◌then◌else◌};
+ghost use Rattle.redis_commands.specs.Names.{walk_arity, connection_arity, sub_arity, arity_of, is_allowed};
+ghost use Rattle.redis_commands.specs.Commands.{answer_by, fault_by, asked_by, walk_by, connection_by, program_by, texts, text};
+ghost use Rattle.redis_commands.specs.Commands.Fault.{UnknownCommand, WebRequest};
+ghost use Rattle.redis_commands.specs.Options.{read_by, natural_by, call_by};
+ghost use Rattle.redis_commands.specs.Table.{cursor_of, flush, scan, walk_of, hello, auth, select, connection_of, call_of, call_with, program_of, asked_of_sub, asked_of_parent, asked_as, asked_of, is_web};
+ghost use Rattle.redis_commands.specs.Limits.{IsWithinLimits, IsProgramWithin, IsKey, IsValue};
+
+use crate::command::{Command, ConnectionCommand, ProgramCommand, WalkCommand};
+use crate::fault::CommandFault;
+use crate::keyed::{Answer, key_command, keys_command, word};
+use crate::name::{ConnectionName, Name, Parent, ProgramName, Sub, WalkName, is};
+use crate::number::{integer, natural};
+use crate::options::{HelloOptions, ScanOptions, is_client_name, is_default, number};
+use bpf_model::limits::{KEY_BYTES, VALUE_BYTES};
+
+/// Reads the cursor of `SCAN`.
+fn cursor_of<'a>(text: &[u8]) -> Result<u64, CommandFault<'a>>
+    ensures { natural_by result ≡ cursor_of text.now }
+{
+    natural(text).ok_or(CommandFault::BadCursor)
+}
+
+/// Returns what the arguments of `SCAN` ask for.
+fn scan<'a>(args: &'a [&'a [u8]]) -> Result<WalkCommand<'a>, CommandFault<'a>>
+    requires { 1 ≤ length args.now }
+    ensures { read_by walk_by result ≡ scan (texts args.now) }
+{
+    let cursor = cursor_of(word(args, 0))?;
+    let options = ScanOptions::read(&args[1..])?;
+    Ok(WalkCommand::Scan {
+        cursor,
+        pattern: options.pattern,
+        count: options.count,
+        is_string: options.is_string,
+    })
+}
+
+/// Returns what the arguments of `FLUSHALL` ask for.
+fn flush<'a>(args: &'a [&'a [u8]]) -> Result<WalkCommand<'a>, CommandFault<'a>>
+    ensures { read_by walk_by result ≡ flush (texts args.now) }
+{
+    match args {
+        [] => Ok(WalkCommand::RemoveAll),
+        [option] => {
+            if is("async", option) || is("sync", option) {
+                Ok(WalkCommand::RemoveAll)
+            } else {
+                Err(CommandFault::Syntax)
+            }
+        }
+        _ => Err(CommandFault::Syntax),
+    }
+}
+
+/// Returns what the arguments of a command of the whole map ask for.
+fn walk_command<'a>(name: WalkName, args: &'a [&'a [u8]]) -> Result<WalkCommand<'a>, CommandFault<'a>>
+    requires { is_allowed (walk_arity name) (length args.now) ≡ true }
+    ensures { read_by walk_by result ≡ walk_of name (texts args.now) }
+{
+    match name {
+        WalkName::DbSize => Ok(WalkCommand::CountAll),
+        WalkName::Scan => scan(args),
+        WalkName::Keys => Ok(WalkCommand::Keys {
+            pattern: word(args, 0),
+        }),
+        WalkName::RandomKey => Ok(WalkCommand::RandomKey),
+        WalkName::FlushAll | WalkName::FlushDb => flush(args),
+    }
+}
+
+/// Returns what the arguments of `HELLO` ask for.
+fn hello<'a>(args: &'a [&'a [u8]]) -> Result<ConnectionCommand<'a>, CommandFault<'a>>
+    ensures { read_by connection_by result ≡ hello (texts args.now) }
+{
+    let [version, options @ ..] = args else {
+        return Ok(ConnectionCommand::Hello { name: None });
+    };
+    let Some(version) = integer(version) else {
+        return Err(CommandFault::BadVersion);
+    };
+    if version != 2 {
+        return Err(CommandFault::NoProtocol);
+    }
+    let options = HelloOptions::read(options)?;
+    if options.is_stranger {
+        return Err(CommandFault::WrongPassword);
+    }
+    Ok(ConnectionCommand::Hello { name: options.name })
+}
+
+/// Returns what the arguments of `AUTH` ask for.
+fn auth<'a>(args: &'a [&'a [u8]]) -> Result<ConnectionCommand<'a>, CommandFault<'a>>
+    ensures { read_by connection_by result ≡ auth (texts args.now) }
+{
+    match args {
+        [_] => Err(CommandFault::NoPassword),
+        [user, _] => {
+            if is_default(user) {
+                Ok(ConnectionCommand::Auth)
+            } else {
+                Err(CommandFault::WrongPassword)
+            }
+        }
+        _ => Err(CommandFault::Syntax),
+    }
+}
+
+/// Selects the map of this number: there is number 0 alone.
+fn select<'a>(n: i64) -> Result<ConnectionCommand<'a>, CommandFault<'a>>
+    ensures { read_by connection_by result ≡ select n }
+{
+    if n == 0 {
+        Ok(ConnectionCommand::Select)
+    } else if i32::try_from(n).is_ok() {
+        Err(CommandFault::BadIndex)
+    } else {
+        Err(CommandFault::WideIndex)
+    }
+}
+
+/// Returns what the arguments of a command of the connection ask for.
+fn connection_command<'a>(
+    name: ConnectionName,
+    args: &'a [&'a [u8]],
+) -> Result<ConnectionCommand<'a>, CommandFault<'a>>
+    requires { is_allowed (connection_arity name) (length args.now) ≡ true }
+    ensures { read_by connection_by result ≡ connection_of name (texts args.now) }
+{
+    match name {
+        ConnectionName::Ping => match args {
+            [] => Ok(ConnectionCommand::Ping(None)),
+            [text, ..] => Ok(ConnectionCommand::Ping(Some(text))),
+        },
+        ConnectionName::Echo => Ok(ConnectionCommand::Echo(word(args, 0))),
+        ConnectionName::Quit => Ok(ConnectionCommand::Quit),
+        ConnectionName::Select => select(number(word(args, 0))?),
+        ConnectionName::Hello => hello(args),
+        ConnectionName::Auth => auth(args),
+        ConnectionName::Info => Ok(ConnectionCommand::Info),
+        ConnectionName::Reset => Ok(ConnectionCommand::Reset),
+    }
+}
+
+/// Returns the one key of a program and its argument or none.
+fn call_of<'a>(words: &'a [&'a [u8]]) -> Result<(&'a [u8], Option<&'a [u8]>), CommandFault<'a>>
+    ensures asked { call_by result ≡ call_of (texts words.now) }
+    ensures key { IfOk result (λ call. IsKey call.0.now) }
+    ensures argument { IfOk result (λ call. IfSome (text call.1) IsValue) }
+{
+    let (key, argument) = match words {
+        [key] => (*key, None),
+        [key, argument] => (*key, Some(*argument)),
+        _ => return Err(CommandFault::ScriptShape),
+    };
+    if key.len() > KEY_BYTES {
+        return Err(CommandFault::LongKey);
+    }
+    if let Some(argument) = argument {
+        if argument.len() > VALUE_BYTES {
+            return Err(CommandFault::LongValue);
+        }
+    }
+    Ok((key, argument))
+}
+
+/// The same of words of which so many are said to be keys.
+fn call_with<'a>(
+    keys: i64,
+    words: &'a [&'a [u8]],
+) -> Result<(&'a [u8], Option<&'a [u8]>), CommandFault<'a>>
+    ensures asked { call_by result ≡ call_with keys (texts words.now) }
+    ensures key { IfOk result (λ call. IsKey call.0.now) }
+    ensures argument { IfOk result (λ call. IfSome (text call.1) IsValue) }
+{
+    let Ok(keys) = u64::try_from(keys) else {
+        return Err(CommandFault::NegativeKeys);
+    };
+    if keys > words.len() as u64 {
+        return Err(CommandFault::TooManyKeys);
+    }
+    if keys != 1 {
+        return Err(CommandFault::ScriptShape);
+    }
+    call_of(words)
+}
+
+/// Returns what the arguments of a command of programs ask for.
+fn program_command<'a>(
+    name: ProgramName,
+    args: &'a [&'a [u8]],
+) -> Result<ProgramCommand<'a>, CommandFault<'a>>
+    requires { 2 ≤ length args.now }
+    ensures asked { read_by program_by result ≡ program_of name (texts args.now) }
+    ensures limits { IfOk result (λ p. IsProgramWithin (program_by p)) }
+{
+    let text = word(args, 0);
+    if matches!(name, ProgramName::EvalSha) && text.len() != 40 {
+        return Err(CommandFault::NoScript);
+    }
+    let keys = number(word(args, 1))?;
+    let (key, argument) = call_with(keys, &args[2..])?;
+    match name {
+        ProgramName::Eval => Ok(ProgramCommand::Eval {
+            text,
+            key,
+            argument,
+        }),
+        ProgramName::EvalSha => Ok(ProgramCommand::Call {
+            digest: text,
+            key,
+            argument,
+        }),
+    }
+}
+
+/// Returns what the arguments after the word that names it ask for.
+fn sub_command<'a>(sub: Sub, args: &'a [&'a [u8]]) -> Answer<'a>
+    requires { is_allowed (sub_arity sub) (length args.now) ≡ true }
+    ensures asked { answer_by result ≡ asked_of_sub sub (texts args.now) }
+    ensures limits { IfOk result (λ c. IsWithinLimits (asked_by c)) }
+{
+    let command = match sub {
+        Sub::ScriptLoad => return Ok(Command::Program(ProgramCommand::Load { text: word(args, 0) })),
+        Sub::ScriptExists => return Ok(Command::Program(ProgramCommand::Exists { digests: args })),
+        Sub::ClientId => ConnectionCommand::ClientId,
+        Sub::ClientGetName => ConnectionCommand::ClientName,
+        Sub::ClientSetName => {
+            if !is_client_name(word(args, 0)) {
+                return Err(CommandFault::BadClientName);
+            }
+            ConnectionCommand::SetClientName(word(args, 0))
+        }
+        Sub::ClientSetInfo => ConnectionCommand::SetClientInfo,
+        Sub::ClientList => {
+            if !args.is_empty() {
+                return Err(CommandFault::Syntax);
+            }
+            ConnectionCommand::ClientList
+        }
+        Sub::ClientInfo => ConnectionCommand::ClientList,
+        Sub::CommandCount => ConnectionCommand::CommandCount,
+        Sub::CommandDocs => ConnectionCommand::CommandDocs,
+        Sub::ConfigGet => ConnectionCommand::Config { parameters: args },
+    };
+    Ok(Command::Connection(command))
+}
+
+/// Returns what the arguments ask for, of which the first names what the command does.
+fn parent_command<'a>(parent: Parent, args: &'a [&'a [u8]]) -> Answer<'a>
+    ensures asked { answer_by result ≡ asked_of_parent parent (texts args.now) }
+    ensures limits { IfOk result (λ c. IsWithinLimits (asked_by c)) }
+{
+    let [first, rest @ ..] = args else {
+        return Ok(Command::Connection(ConnectionCommand::Commands));
+    };
+    let Some(sub) = parent.sub_named(first) else {
+        return Err(CommandFault::UnknownSub {
+            parent,
+            word: first,
+        });
+    };
+    if !sub.arity().allows(rest.len()) {
+        return Err(CommandFault::WrongSubCount(sub));
+    }
+    sub_command(sub, rest)
+}
+
+/// Returns what the arguments of the command of this name ask for.
+fn command_as<'a>(name: Name, args: &'a [&'a [u8]]) -> Answer<'a>
+    requires { is_allowed (arity_of name) (length args.now) ≡ true }
+    ensures asked { answer_by result ≡ asked_as name (texts args.now) }
+    ensures limits { IfOk result (λ c. IsWithinLimits (asked_by c)) }
+{
+    match name {
+        Name::Key(name) => key_command(name, args),
+        Name::Keys(name) => keys_command(name, args),
+        Name::Walk(name) => Ok(Command::Walk(walk_command(name, args)?)),
+        Name::Connection(name) => Ok(Command::Connection(connection_command(name, args)?)),
+        Name::Program(name) => Ok(Command::Program(program_command(name, args)?)),
+        Name::Parent(parent) => parent_command(parent, args),
+    }
+}
+
+/// Returns the fault of a name that no command has.
+fn unknown<'a>(name: &'a [u8], args: &'a [&'a [u8]]) -> CommandFault<'a>
+    ensures { fault_by result ≡ (if is_web name.now then WebRequest else UnknownCommand name.now (texts args.now)) }
+{
+    if is("post", name) || is("host:", name) {
+        CommandFault::WebRequest
+    } else {
+        CommandFault::UnknownCommand { name, args }
+    }
+}
+
+/// Returns what the words ask for, of which the first names a command, in any case. The command borrows the words. No
+/// memory is asked for.
+///
+/// An error has the text of the reply: `UnknownCommand` also for what Redis serves and this server doesn't, as `EXPIRE`
+/// and `MULTI`.
+pub fn command_of<'a>(words: &'a [&'a [u8]]) -> Result<Command<'a>, CommandFault<'a>>
+    ensures asked { answer_by result ≡ asked_of (texts words.now) }
+    ensures limits { IfOk result (λ c. IsWithinLimits (asked_by c)) }
+{
+    let [first, args @ ..] = words else {
+        return Err(CommandFault::UnknownCommand {
+            name: &[],
+            args: &[],
+        });
+    };
+    let Some(name) = Name::named(first) else {
+        return Err(unknown(first, args));
+    };
+    if !name.arity().allows(args.len()) {
+        return Err(CommandFault::WrongCount(name));
+    }
+    command_as(name, args)
+}

@@ -1,0 +1,187 @@
+//! Commands, as words of a client ask for them.
+
+/// When `SET` puts its value.
+#[derive(Clone, Copy, Debug, PartialEq, Eq)]
+pub enum Condition<'a> {
+    Always,
+    /// If the key has no value.
+    IfAbsent,
+    /// If the key has a value.
+    IfPresent,
+    /// If the key has this value.
+    IfEqual(&'a [u8]),
+}
+
+/// What is to be done with the value of one key.
+#[derive(Clone, Copy, Debug, PartialEq, Eq)]
+pub enum KeyAct<'a> {
+    /// `GET`
+    Get,
+    /// `SET`; the reply is the old value if that is wanted.
+    Set {
+        value: &'a [u8],
+        condition: Condition<'a>,
+        wants_old: bool,
+    },
+    /// `SETNX`
+    SetIfAbsent {
+        value: &'a [u8],
+    },
+    /// `GETSET`
+    GetAndSet {
+        value: &'a [u8],
+    },
+    /// `GETDEL`
+    GetAndDelete,
+    /// `STRLEN`
+    Length,
+    /// `TYPE`
+    TypeName,
+    /// `TTL` and `PTTL`: there are no deadlines, so the reply is -1, or -2 if the key has no value.
+    TimeToLive,
+    /// `INCR`, `DECR`, `INCRBY` and `DECRBY`
+    Add {
+        by: i64,
+    },
+    /// `APPEND`
+    Append {
+        value: &'a [u8],
+    },
+    /// `GETRANGE` and `SUBSTR`; numbers below 0 count from the end.
+    GetRange {
+        start: i64,
+        end: i64,
+    },
+    /// `SETRANGE`; an empty value changes nothing, wherever the offset is.
+    SetRange {
+        offset: u64,
+        value: &'a [u8],
+    },
+    /// `DELIFEQ`
+    DeleteIfEqual {
+        value: &'a [u8],
+    },
+}
+
+/// What is to be done with several keys.
+#[derive(Clone, Copy, Debug, PartialEq, Eq)]
+pub enum KeysAct {
+    /// `MGET`
+    GetEach,
+    /// `DEL` and `UNLINK`
+    Delete,
+    /// `EXISTS` and `TOUCH`
+    CountPresent,
+}
+
+/// What is asked of the whole map.
+#[derive(Clone, Copy, Debug, PartialEq, Eq)]
+pub enum WalkCommand<'a> {
+    /// `DBSIZE`
+    CountAll,
+    /// `SCAN`; of about `count` keys at a step those that match the pattern, if there is one. If another type than
+    /// `string` is asked for, no key is of that type.
+    Scan {
+        cursor: u64,
+        pattern: Option<&'a [u8]>,
+        count: u64,
+        is_string: bool,
+    },
+    /// `KEYS`
+    Keys {
+        pattern: &'a [u8],
+    },
+    /// `RANDOMKEY`
+    RandomKey,
+    /// `FLUSHALL` and `FLUSHDB`
+    RemoveAll,
+}
+
+/// What is asked of the connection or the server.
+#[derive(Clone, Copy, Debug, PartialEq, Eq)]
+pub enum ConnectionCommand<'a> {
+    /// `PING`, with the text that is to come back, if there is one.
+    Ping(Option<&'a [u8]>),
+    /// `ECHO`
+    Echo(&'a [u8]),
+    /// `QUIT`
+    Quit,
+    /// `SELECT 0`
+    Select,
+    /// `HELLO` or `HELLO 2`, with the client's name if it gives one.
+    Hello {
+        name: Option<&'a [u8]>,
+    },
+    /// `AUTH default` with any password, which a Redis without a password takes.
+    Auth,
+    /// `CLIENT ID`
+    ClientId,
+    /// `CLIENT GETNAME`
+    ClientName,
+    /// `CLIENT SETNAME`; each byte is from `!` to `~`. An empty name takes the name away.
+    SetClientName(&'a [u8]),
+    /// `CLIENT SETINFO`
+    SetClientInfo,
+    /// `CLIENT LIST` and `CLIENT INFO`
+    ClientList,
+    /// `COMMAND`
+    Commands,
+    /// `COMMAND COUNT`
+    CommandCount,
+    /// `COMMAND DOCS`
+    CommandDocs,
+    /// `CONFIG GET`
+    Config {
+        parameters: &'a [&'a [u8]],
+    },
+    /// `INFO`
+    Info,
+    /// `RESET`
+    Reset,
+}
+
+/// What is asked of programs.
+#[derive(Clone, Copy, Debug, PartialEq, Eq)]
+pub enum ProgramCommand<'a> {
+    /// `SCRIPT LOAD`
+    Load {
+        text: &'a [u8],
+    },
+    /// `SCRIPT EXISTS`
+    Exists {
+        digests: &'a [&'a [u8]],
+    },
+    /// `EVALSHA`; the digest has 40 bytes.
+    Call {
+        digest: &'a [u8],
+        key: &'a [u8],
+        argument: Option<&'a [u8]>,
+    },
+    /// `EVAL`
+    Eval {
+        text: &'a [u8],
+        key: &'a [u8],
+        argument: Option<&'a [u8]>,
+    },
+}
+
+/// A command. Its keys have at most `KEY_BYTES` bytes, and its values at most `VALUE_BYTES`, if it comes from
+/// `command_of`.
+#[derive(Clone, Copy, Debug, PartialEq, Eq)]
+pub enum Command<'a> {
+    OnKey {
+        key: &'a [u8],
+        act: KeyAct<'a>,
+    },
+    OnKeys {
+        keys: &'a [&'a [u8]],
+        act: KeysAct,
+    },
+    /// `MSET`: keys and values by turns.
+    SetEach {
+        words: &'a [&'a [u8]],
+    },
+    Walk(WalkCommand<'a>),
+    Connection(ConnectionCommand<'a>),
+    Program(ProgramCommand<'a>),
+}

@@ -1,0 +1,114 @@
+//! Why words are no command that is served, and the text of the reply.
+ghost use Rattle.std.specs.Prelude.{◌≡◌, ◌≤◌, length};
+ghost use Rattle.redis_commands.specs.Commands.{fault_by};
+ghost use Rattle.redis_commands.specs.Texts.{fault_text, IsFixed};
+
+use crate::name::{Name, Parent, Sub};
+use crate::text::FaultText;
+
+/// Why words are no command that is served.
+#[derive(Clone, Copy, Debug, PartialEq, Eq)]
+pub enum CommandFault<'a> {
+    /// No command that is served has this name.
+    UnknownCommand {
+        name: &'a [u8],
+        args: &'a [&'a [u8]],
+    },
+    /// The first argument names nothing that this command does.
+    UnknownSub {
+        parent: Parent,
+        word: &'a [u8],
+    },
+    /// This command takes another number of arguments.
+    WrongCount(Name),
+    /// The same, of a command whose first argument names what it does.
+    WrongSubCount(Sub),
+    /// An option is unknown, lacks its value, or goes against another one.
+    Syntax,
+    /// A number is no canonical decimal, or out of its range.
+    NotAnInteger,
+    /// `DECRBY` by the least number.
+    DecrementOverflow,
+    /// `SETRANGE` with an offset below 0.
+    OffsetOutOfRange,
+    /// A key is above `KEY_BYTES`.
+    LongKey,
+    /// A value, or what a range would make of it, is above `VALUE_BYTES`.
+    LongValue,
+    /// `SET` with `EX`, `PX`, `EXAT` or `PXAT`.
+    Deadline,
+    /// `SCAN` with a cursor that is no canonical decimal of 64 bits.
+    BadCursor,
+    /// `SELECT` of another map than 0.
+    BadIndex,
+    /// `SELECT` of a number that has more than 32 bits.
+    WideIndex,
+    /// `HELLO` with a version that is no number.
+    BadVersion,
+    /// `HELLO` with a version that is not 2.
+    NoProtocol,
+    /// An option of `HELLO` is unknown, or lacks its values.
+    HelloOption(&'a [u8]),
+    /// A client's name has a byte that is not from `!` to `~`.
+    BadClientName,
+    /// `AUTH` with a password alone.
+    NoPassword,
+    /// `AUTH` of a user that there is not.
+    WrongPassword,
+    /// `EVAL` or `EVALSHA` with a number of keys below 0.
+    NegativeKeys,
+    /// `EVAL` or `EVALSHA` with fewer arguments than keys.
+    TooManyKeys,
+    /// `EVAL` or `EVALSHA` with another number of keys than 1, or with several arguments.
+    ScriptShape,
+    /// `EVALSHA` with a digest that has not 40 bytes.
+    NoScript,
+    /// The name is `POST` or `HOST:`, as a browser sends it. Redis ends such a connection without a reply.
+    WebRequest,
+}
+
+impl CommandFault<'_> {
+    /// Returns the text of the error reply, without the `-` before it and the end of the line after it. It is a copy of
+    /// at most 320 bytes.
+    pub fn text(&self) -> FaultText
+        ensures { result ≡ fault_text (fault_by self.now) }
+    {
+        match self {
+            CommandFault::UnknownCommand { name, args } => FaultText::unknown_command(name, args),
+            CommandFault::UnknownSub { parent, word } => FaultText::unknown_sub(*parent, word),
+            CommandFault::WrongCount(name) => FaultText::wrong_count(*name),
+            CommandFault::WrongSubCount(sub) => FaultText::wrong_sub_count(*sub),
+            CommandFault::HelloOption(option) => FaultText::hello_option(option),
+            _ => FaultText::of(self.fixed_text()),
+        }
+    }
+
+    /// Returns the text of a fault that shows no word.
+    fn fixed_text(&self) -> &'static str
+        ensures value { IsFixed (fault_by self.now) → result.now ≡ fault_text (fault_by self.now) }
+        ensures short { length result.now ≤ 160 }
+    {
+        match self {
+            CommandFault::Syntax => "ERR syntax error",
+            CommandFault::NotAnInteger => "ERR value is not an integer or out of range",
+            CommandFault::DecrementOverflow => "ERR decrement would overflow",
+            CommandFault::OffsetOutOfRange => "ERR offset is out of range",
+            CommandFault::LongKey => "ERR key exceeds maximum allowed size (64)",
+            CommandFault::LongValue => "ERR string exceeds maximum allowed size (1024)",
+            CommandFault::Deadline => "ERR deadlines are not served",
+            CommandFault::BadCursor => "ERR invalid cursor",
+            CommandFault::BadIndex => "ERR DB index is out of range",
+            CommandFault::WideIndex => "ERR value is out of range, value must between -2147483648 and 2147483647",
+            CommandFault::BadVersion => "ERR Protocol version is not an integer or out of range",
+            CommandFault::NoProtocol => "NOPROTO unsupported protocol version",
+            CommandFault::BadClientName => "ERR Client names cannot contain spaces, newlines or special characters.",
+            CommandFault::NoPassword => "ERR AUTH <password> called without any password configured for the default user. Are you sure your configuration is correct?",
+            CommandFault::WrongPassword => "WRONGPASS invalid username-password pair or user is disabled.",
+            CommandFault::NegativeKeys => "ERR Number of keys can't be negative",
+            CommandFault::TooManyKeys => "ERR Number of keys can't be greater than number of args",
+            CommandFault::ScriptShape => "ERR not served: a script is called with one key and at most one argument",
+            CommandFault::NoScript => "NOSCRIPT No matching script. Please use EVAL.",
+            _ => "",
+        }
+    }
+}

@@ -1,0 +1,53 @@
+-- What is done with each of several keys, one after the other.
+use Rattle.std.proofs.Common.{◌≡◌, ℕ, ◌+◌, ◌<◌, ◌≤◌, List, [], ◌∷◌, ◌++◌, length, map, get_or, take, All, Option, is_some, count_by, flat_map, refl, sym, ap, subst, ◌∙◌, append_assoc, arith}
+use Rattle.std.specs.Borrow.{Bor}
+use Rattle.std.proofs.lemmas.List.{take_more, map-append, length-map, get_or-map, append-nil}
+use Rattle.std.proofs.lemmas.List.Concat.{flat_map-append}
+use Rattle.std.proofs.lemmas.List.Sums.{sum_by-append, count_by-le-length}
+use Rattle.bin_stripes.specs.Passes.{PassState}
+use Rattle.redis_commands.specs.Commands.{texts}
+use Rattle.redis_commands.specs.Limits.{IsKey}
+use Rattle.redis_service.specs.Calls.{Each, bulk}
+
+-- a word of several that are keys is one
+pub key_at : (words : List (Bor (List ℕ))) (i : ℕ) (d : Bor (List ℕ)) → i < length words → All IsKey (texts words) → IsKey (get_or words i d).now
+key_at words i d lt all =
+    let long : length (texts words) ≡ length words = length-map words (λ w. w.now) in
+    subst IsKey (get_or-map (λ (w : Bor (List ℕ)). w.now) words i d d.now lt) (all i d.now (omega (arith, long)))
+
+-- the texts of the words up to one, and of it
+pub texts_more : (words : List (Bor (List ℕ))) (i : ℕ) (d : Bor (List ℕ)) → i < length words → texts (take (i + 1) words) ≡ texts (take i words) ++ (get_or words i d).now ∷ []
+texts_more words i d lt = ap texts (take_more words i d lt) ∙ map-append (λ (w : Bor (List ℕ)). w.now) (take i words) (get_or words i d ∷ [])
+
+module _ {X Y : Type 0} (Does : PassState → X → Y → PassState → Type 0) where
+  -- one more item
+  pub each_more : (old mid new : PassState) (xs : List X) (ys : List Y) (x : X) (y : Y) → Each Does old xs ys mid → Does mid x y new
+      → Each Does old (xs ++ x ∷ []) (ys ++ y ∷ []) new
+  each_more old mid new [] [] x y same does = (new, subst (λ (p : PassState). Does p x y new) same does, refl)
+  each_more old mid new [] (z ∷ ys) x y none does = absurd none
+  each_more old mid new (w ∷ xs) [] x y none does = absurd none
+  each_more old mid new (w ∷ xs) (z ∷ ys) x y (next, first, later) does = (next, first, each_more next mid new xs ys x y later does)
+
+module _ {Y : Type 0} (Does : PassState → List ℕ → Y → PassState → Type 0) where
+  -- one more of the words
+  pub each_at : (old mid new : PassState) (words : List (Bor (List ℕ))) (i : ℕ) (d : Bor (List ℕ)) (ys : List Y) (y : Y) → i < length words
+      → Each Does old (texts (take i words)) ys mid → Does mid (get_or words i d).now y new → Each Does old (texts (take (i + 1) words)) (ys ++ y ∷ []) new
+  each_at old mid new words i d ys y lt each does =
+      subst (λ (t : List (List ℕ)). Each Does old t (ys ++ y ∷ []) new) (sym (texts_more words i d lt))
+      (each_more Does old mid new (texts (take i words)) ys (get_or words i d).now y each does)
+
+-- one more that may be there
+pub counted_more : (count more : ℕ) (founds : List (Option (List ℕ))) (found : Option (List ℕ)) → count ≡ count_by is_some founds → more ≡ count + count_by is_some (found ∷ [])
+    → more ≡ count_by is_some (founds ++ found ∷ [])
+counted_more count more founds found count-is more-is =
+    more-is ∙ ap (λ (n : ℕ). n + count_by is_some (found ∷ [])) count-is ∙ sym (sum_by-append _ founds (found ∷ []))
+
+pub counted_most : (count more place : ℕ) (found : Option (List ℕ)) → count ≤ place → more ≡ count + count_by is_some (found ∷ []) → more ≤ place + 1
+counted_most count more place found most more-is = omega (arith, count_by-le-length is_some (found ∷ []))
+
+-- one more value is told
+pub told_more : (head : List ℕ) (founds : List (Option (List ℕ))) (found : Option (List ℕ))
+    → (head ++ flat_map bulk founds) ++ bulk found ≡ head ++ flat_map bulk (founds ++ found ∷ [])
+told_more head founds found =
+    append_assoc head (flat_map bulk founds) (bulk found)
+    ∙ ap (λ (t : List ℕ). head ++ t) (ap (λ (t : List ℕ). flat_map bulk founds ++ t) (sym (append-nil (bulk found))) ∙ sym (flat_map-append bulk founds (found ∷ [])))

@@ -1,0 +1,16 @@
+-- all tries so far were lost
+use Rattle.std.proofs.Common.{◌≡◌, ℕ}
+use Rattle.bin_stripes.specs.Passes.{PassState}
+use Rattle.redis_service.specs.Changes.{LosesTries}
+use Rattle.redis_service.specs.Planned.{Does}
+use Rattle.redis_service.proofs.changes.try_often.Given as goal
+
+abbrev pub invariant-loop : goal.invariant-loop
+invariant-loop g l = record {
+  map : l.pass.map ≡ l.map;
+  passes : l.pass.view.passes ≡ l.fn.pass.view.passes;
+  numbers : l.pass.view.numbers ≡ l.fn.pass.view.numbers;
+  key : l.room.key ≡ l.fn.room.key;
+  lost : (before : PassState) (tries : ℕ) → LosesTries l.fn.room.key (Does l.change) tries before l.fn.pass
+      → (more : ℕ) × LosesTries l.fn.room.key (Does l.change) more before l.pass;
+}

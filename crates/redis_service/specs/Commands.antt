@@ -1,0 +1,35 @@
+-- What each command of words does, and the answer to words that are none.
+use Rattle.std.specs.Prelude.{◌≡◌, ℕ, List, [], true, Result, Ok, Err, codes}
+use Rattle.bin_stripes.specs.Passes.{PassState}
+use Rattle.resp.specs.Replies.{error_bytes}
+use Rattle.redis_commands.specs.Commands.{Asked, Fault}
+use Rattle.redis_commands.specs.Commands.Fault.{WebRequest}
+use Rattle.redis_commands.specs.Commands.Asked.{OnKey, OnKeys, SetEach, Walk, Connection, Program}
+use Rattle.redis_commands.specs.Table.{asked_of}
+use Rattle.redis_commands.specs.Texts.{fault_text}
+use Rattle.redis_service.specs.States.{TalkState}
+use Rattle.redis_service.specs.Answers.{AnswersKey, AnswersKeys, AnswersSetEach, pairs}
+use Rattle.redis_service.specs.Connections.{AnswersConnection}
+
+-- the talk stays as it is
+abbrev pub Same : TalkState → TalkState → Type 0
+Same talk next = next ≡ talk
+
+-- a command
+abbrev pub AnswersCommand : TalkState → PassState → Asked → List ℕ → TalkState → PassState → Type 0
+AnswersCommand talk old (OnKey key act) written next new = AnswersKey old key act written new × Same talk next
+AnswersCommand talk old (OnKeys keys act) written next new = AnswersKeys old keys act written new × Same talk next
+AnswersCommand talk old (SetEach words) written next new = AnswersSetEach old (pairs words) written new × Same talk next
+AnswersCommand talk old (Connection asked) written next new = AnswersConnection talk old asked written next new
+AnswersCommand talk old (Walk asked) written next new = (written ≡ error_bytes (codes "ERR not served")) × (new ≡ old) × Same talk next
+AnswersCommand talk old (Program asked) written next new = (written ≡ error_bytes (codes "ERR not served")) × (new ≡ old) × Same talk next
+
+-- a command, or the text that says why the words are none. What looks like a request of the web ends the talk
+abbrev pub AnswersRead : TalkState → PassState → Result Asked Fault → List ℕ → TalkState → PassState → Type 0
+AnswersRead talk old (Ok asked) written next new = AnswersCommand talk old asked written next new
+AnswersRead talk old (Err WebRequest) written next new = (written ≡ []) × (next ≡ record talk { is_over = true }) × (new ≡ old)
+AnswersRead talk old (Err fault) written next new = (written ≡ error_bytes (fault_text fault)) × (new ≡ old) × Same talk next
+
+-- words of a client
+abbrev pub AnswersWords : TalkState → PassState → List (List ℕ) → List ℕ → TalkState → PassState → Type 0
+AnswersWords talk old words written next new = AnswersRead talk old (asked_of words) written next new

@@ -1,0 +1,63 @@
+-- Commands of the connection and of the server.
+use Rattle.std.specs.Prelude.{◌≡◌, ◌⊎◌, ℕ, pos, List, [], ◌∷◌, ◌++◌, Option, Some, None, codes, true}
+use Rattle.bin_stripes.specs.Passes.{PassState}
+use Rattle.resp.specs.Replies.{simple_bytes, error_bytes, value_bytes, nothing_bytes, array_head}
+use Rattle.redis_commands.specs.Commands.{ConnectionAsked}
+use Rattle.redis_commands.specs.Commands.ConnectionAsked.{Ping, Echo, Quit, Select, Hello, Auth, ClientId, ClientName, SetClientName, SetClientInfo, ClientList, Commands, CommandCount, CommandDocs, Config, Info, Reset}
+use Rattle.redis_service.specs.States.{TalkState, renamed}
+use Rattle.redis_service.specs.Lines.{no_memory_line}
+use Rattle.redis_service.specs.Texts.{ok_line, count_line}
+
+-- an answer that changes nothing
+abbrev pub Says : TalkState → PassState → List ℕ → List ℕ → TalkState → PassState → Type 0
+Says talk old text written next new = (written ≡ text) × (next ≡ talk) × (new ≡ old)
+
+abbrev pub not_served : List ℕ
+not_served = error_bytes (codes "ERR not served")
+
+-- the client has this name now; or memory to keep it was refused
+abbrev pub Renames : TalkState → PassState → List ℕ → List ℕ → List ℕ → TalkState → PassState → Type 0
+Renames talk old name text written next new =
+    (((written ≡ text) × (next ≡ renamed talk name)) ⊎ ((written ≡ no_memory_line) × (next ≡ talk))) × (new ≡ old)
+
+-- what a client without a name is told of it
+abbrev pub name_line : List ℕ → List ℕ
+name_line [] = nothing_bytes
+name_line (b ∷ name) = value_bytes (b ∷ name)
+
+-- HELLO: names and values by turns, with the client's number
+abbrev pub hello_bytes : ℕ → List ℕ
+hello_bytes number =
+    codes "*14\r\n$6\r\nserver\r\n$5\r\nredis\r\n$7\r\nversion\r\n$6\r\n7.0.15\r\n$5\r\nproto\r\n:2\r\n$2\r\nid\r\n" ++ count_line number
+    ++ codes "$4\r\nmode\r\n$10\r\nstandalone\r\n$4\r\nrole\r\n$6\r\nmaster\r\n$7\r\nmodules\r\n*0\r\n"
+
+-- HELLO, with a name or without
+abbrev pub Greets : TalkState → PassState → Option (List ℕ) → List ℕ → TalkState → PassState → Type 0
+Greets talk old None written next new = Says talk old (hello_bytes talk.number) written next new
+Greets talk old (Some name) written next new = Renames talk old name (hello_bytes talk.number) written next new
+
+-- PING, with a text or without
+abbrev pub ping_line : Option (List ℕ) → List ℕ
+ping_line None = simple_bytes (codes "PONG")
+ping_line (Some text) = value_bytes text
+
+abbrev pub AnswersConnection : TalkState → PassState → ConnectionAsked → List ℕ → TalkState → PassState → Type 0
+AnswersConnection talk old (Ping text) written next new = Says talk old (ping_line text) written next new
+AnswersConnection talk old (Echo text) written next new = Says talk old (value_bytes text) written next new
+AnswersConnection talk old Quit written next new =
+    (written ≡ ok_line) × (next ≡ record talk { is_over = true }) × (new ≡ old)
+AnswersConnection talk old Select written next new = Says talk old ok_line written next new
+AnswersConnection talk old (Hello name) written next new = Greets talk old name written next new
+AnswersConnection talk old Auth written next new = Says talk old ok_line written next new
+AnswersConnection talk old ClientId written next new = Says talk old (count_line talk.number) written next new
+AnswersConnection talk old ClientName written next new = Says talk old (name_line talk.name) written next new
+AnswersConnection talk old (SetClientName name) written next new = Renames talk old name ok_line written next new
+AnswersConnection talk old SetClientInfo written next new = Says talk old ok_line written next new
+AnswersConnection talk old Commands written next new = Says talk old (array_head 0) written next new
+AnswersConnection talk old CommandCount written next new = Says talk old (count_line 0) written next new
+AnswersConnection talk old CommandDocs written next new = Says talk old (array_head 0) written next new
+AnswersConnection talk old Reset written next new =
+    (written ≡ simple_bytes (codes "RESET")) × (next ≡ renamed talk []) × (new ≡ old)
+AnswersConnection talk old ClientList written next new = Says talk old not_served written next new
+AnswersConnection talk old (Config parameters) written next new = Says talk old not_served written next new
+AnswersConnection talk old Info written next new = Says talk old not_served written next new

@@ -1,0 +1,29 @@
+//! Room for one command.
+ghost use Rattle.std.specs.Prelude.{◌≡◌, []};
+
+use bpf_model::{Key, Value};
+
+/// Room for the key of a command and for three values, which the commands of all clients of a worker use in turn.
+#[derive(Drop)]
+pub struct Room {
+    /// The command's key.
+    pub key: Key,
+    /// The value that a call found.
+    pub found: Value,
+    /// The value that the command names or makes.
+    pub value: Value,
+    /// One more value.
+    pub other: Value,
+}
+
+impl Room {
+    /// Makes the room. Takes no memory.
+    pub fn new() -> Room {
+        Room {
+            key: Key::from_slice(b"").unwrap(),
+            found: Value::new(),
+            value: Value::new(),
+            other: Value::new(),
+        }
+    }
+}

@@ -1,0 +1,110 @@
+//! How the replies of single calls are told.
+ghost use Rattle.std.specs.Prelude.{◌≡◌, ℕ, List, is_some, is_none};
+ghost use Rattle.atomic_methods.specs.Invocations.{Invocation};
+ghost use Rattle.bin_stripes.specs.Passes.{PassState};
+ghost use Rattle.redis_service.specs.Calls.{Made, AnswersCall, value_in, is_done, bulk};
+ghost use Rattle.redis_service.specs.Replied.{replied_bytes};
+ghost use Rattle.redis_service.specs.Texts.{ok_line, ok_if, one_if};
+
+use crate::reply::Replied;
+use atomic_methods::ReplyKind;
+use bpf_model::NoMemory;
+
+/// What came of a call.
+pub type Outcome = Result<ReplyKind, NoMemory>;
+
+/// OK, or nothing.
+fn ok_if(is: bool) -> Replied
+    ensures { (found : List ℕ) → replied_bytes result found ≡ ok_if is }
+{
+    if is {
+        Replied::Simple(b"OK")
+    } else {
+        Replied::Nothing
+    }
+}
+
+/// 1 or 0.
+fn one_if(is: bool) -> Replied
+    ensures { (found : List ℕ) → replied_bytes result found ≡ one_if is }
+{
+    Replied::Integer(if is { 1 } else { 0 })
+}
+
+/// Says OK.
+pub fn say_ok(made: Outcome) -> Replied
+    ensures { (old new : PassState) (invocation : Invocation) (found : List ℕ) → Made made old invocation found new
+        → AnswersCall old invocation (λ reply. ok_line) (replied_bytes result found) new }
+{
+    match made {
+        Ok(_) => ok_if(true),
+        Err(NoMemory) => Replied::NoMemory,
+    }
+}
+
+/// Says the value of the reply, or nothing.
+pub fn say_value(made: Outcome) -> Replied
+    ensures { (old new : PassState) (invocation : Invocation) (found : List ℕ) → Made made old invocation found new
+        → AnswersCall old invocation (λ reply. bulk (value_in reply)) (replied_bytes result found) new }
+{
+    match made {
+        Ok(ReplyKind::Some) => Replied::Found,
+        Ok(_) => Replied::Nothing,
+        Err(NoMemory) => Replied::NoMemory,
+    }
+}
+
+/// Says OK if the reply has no value, and else nothing.
+pub fn say_ok_if_none(made: Outcome) -> Replied
+    ensures { (old new : PassState) (invocation : Invocation) (found : List ℕ) → Made made old invocation found new
+        → AnswersCall old invocation (λ reply. ok_if (is_none (value_in reply))) (replied_bytes result found) new }
+{
+    match made {
+        Ok(kind) => ok_if(!matches!(kind, ReplyKind::Some)),
+        Err(NoMemory) => Replied::NoMemory,
+    }
+}
+
+/// Says OK if the reply has a value, and else nothing.
+pub fn say_ok_if_some(made: Outcome) -> Replied
+    ensures { (old new : PassState) (invocation : Invocation) (found : List ℕ) → Made made old invocation found new
+        → AnswersCall old invocation (λ reply. ok_if (is_some (value_in reply))) (replied_bytes result found) new }
+{
+    match made {
+        Ok(kind) => ok_if(matches!(kind, ReplyKind::Some)),
+        Err(NoMemory) => Replied::NoMemory,
+    }
+}
+
+/// Says OK if the key's value was the expected one, and else nothing.
+pub fn say_ok_if_done(made: Outcome) -> Replied
+    ensures { (old new : PassState) (invocation : Invocation) (found : List ℕ) → Made made old invocation found new
+        → AnswersCall old invocation (λ reply. ok_if (is_done reply)) (replied_bytes result found) new }
+{
+    match made {
+        Ok(kind) => ok_if(matches!(kind, ReplyKind::Done(true))),
+        Err(NoMemory) => Replied::NoMemory,
+    }
+}
+
+/// Says 1 if the reply has no value, and else 0.
+pub fn say_one_if_none(made: Outcome) -> Replied
+    ensures { (old new : PassState) (invocation : Invocation) (found : List ℕ) → Made made old invocation found new
+        → AnswersCall old invocation (λ reply. one_if (is_none (value_in reply))) (replied_bytes result found) new }
+{
+    match made {
+        Ok(kind) => one_if(!matches!(kind, ReplyKind::Some)),
+        Err(NoMemory) => Replied::NoMemory,
+    }
+}
+
+/// Says 1 if the key's value was the expected one, and else 0.
+pub fn say_one_if_done(made: Outcome) -> Replied
+    ensures { (old new : PassState) (invocation : Invocation) (found : List ℕ) → Made made old invocation found new
+        → AnswersCall old invocation (λ reply. one_if (is_done reply)) (replied_bytes result found) new }
+{
+    match made {
+        Ok(kind) => one_if(matches!(kind, ReplyKind::Done(true))),
+        Err(NoMemory) => Replied::NoMemory,
+    }
+}
