@@ -281,6 +281,22 @@ def longest_commands_need_little_stack(program: Path) -> None:
         server.end()
 
 
+def long_commands_take_no_time(program: Path) -> None:
+    """Commands that come in thousands of pieces are read in time in proportion to their length, and don't keep others waiting."""
+    with started(program, "--workers", "1") as server, Client(server.address) as client, Client(server.address) as other:
+        for count, seconds in ((100, 1.0), (400, 4.0)):
+            sent = resp.command("DEL", *[b"k" * 65536] * count)
+            begun = time.monotonic()
+            client.socket.sendall(sent)
+            same("a DEL of long words", client.reply()[:4], b"-ERR")
+            same("a PING by another", other.ask("PING"), b"+PONG\r\n")
+            same(f"{len(sent) >> 20} MB are read within {seconds} s", time.monotonic() - begun < seconds, True)
+        pairs = [word for number in range(2047) for word in (f"key {number}", b"v" * 1024)]
+        begun = time.monotonic()
+        same("an MSET of 2 MB", client.ask("MSET", *pairs), resp.OK)
+        same("it is made within a second", time.monotonic() - begun < 1, True)
+
+
 def patterns_take_no_time(program: Path) -> None:
     """Patterns of many stars on keys that nearly match them are decided at once."""
     with started(program) as server, Client(server.address) as client:
@@ -383,7 +399,7 @@ def what_tools_ask(program: Path) -> None:
 
 PARTS = (ports_are_told, both_ports_have_one_map, clients_are_counted_together, sessions_are_counted_together, silent_clients_are_let_go,
          cut_commands_are_not_made, changed_bytes_end_nobody_else, unread_answers_wait, memory_runs_out, longest_commands_need_little_stack,
-         patterns_take_no_time, scans_give_what_stays, thousand_clients_are_served, what_tools_ask)
+         patterns_take_no_time, long_commands_take_no_time, scans_give_what_stays, thousand_clients_are_served, what_tools_ask)
 
 
 def main() -> None:

@@ -191,6 +191,31 @@ def some_call(dice: random.Random, key: bytes) -> Call:
     return Call(tag, key, value=some_value(dice), expected=some_value(dice) if tag == model.REPLACE_IF else None)
 
 
+K = KEYS[1]
+INCR, GOT, SETNX = Asked(b"INCRBY", K, (b"1",)), Asked(b"GET", K), Asked(b"SETNX", K, (b"7",))
+PUT, ADDED = Call(model.PUT, K, value=b"7"), Asked(b"EVALSHA", K, (b"1",))
+
+# What a history shows, whether it has an order, and each client's events: when sent, when answered, the call and the answer.
+ROWS = [
+    ("two increments, neither lost", True, [[(0, 9, INCR, b":1\r\n")], [(0, 9, INCR, b":2\r\n")]]),
+    ("two increments, one of them lost", False, [[(0, 9, INCR, b":1\r\n")], [(0, 9, INCR, b":1\r\n")]]),
+    ("an increment beside a put of the other port, lost", False,
+     [[(0, 9, INCR, b":8\r\n"), (10, 11, GOT, resp.value(b"7"))], [(0, 9, PUT, wire.NOTHING)]]),
+    ("an increment of what the other port put", True,
+     [[(0, 9, INCR, b":8\r\n"), (10, 11, GOT, resp.value(b"8"))], [(0, 9, PUT, wire.NOTHING)]]),
+    ("two that both set an absent key", False, [[(0, 9, SETNX, b":1\r\n")], [(0, 9, SETNX, b":1\r\n")]]),
+    ("a put after a SETNX that found nothing", False, [[(0, 1, SETNX, b":1\r\n")], [(2, 3, PUT, wire.NOTHING)]]),
+    ("two sums, one of them lost", False, [[(0, 9, ADDED, b":1\r\n")], [(0, 9, ADDED, b":1\r\n")]]),
+    ("two sums, neither lost", True, [[(0, 9, ADDED, b":2\r\n")], [(0, 9, ADDED, b":1\r\n")]]),
+]
+
+
+def wrong_rows() -> list[str]:
+    """The names of the rows that are decided wrongly."""
+    return [name for name, wanted, clients in ROWS
+            if linear.Search([[Event(*event) for event in events] for events in clients], rules=Both()).has_order(None) != wanted]
+
+
 @dataclass
 class Round:
     """What a process is to do: at which ports, with which digest of the sum, until when, and with which dice."""
@@ -301,6 +326,8 @@ def main() -> None:
     words.add_argument("seed", nargs="?", type=int, default=1)
     words.add_argument("--program", type=Path, default=wire.SERVER)
     asked = words.parse_args()
+    if wrong_rows():
+        sys.exit(f"redis_linear: FAILED, it decides these wrongly: {wrong_rows()}")
     try:
         with multiprocessing.Pool(PROCESSES) as pool, resp.started(asked.program, *OPTIONS) as server:
             torture = Torture(server, pool, asked.seed)
