@@ -1,6 +1,6 @@
 -- Places that are reached, after a piece.
-use Rattle.std.proofs.Common.{rules, arith, ◌≡◌, ℕ, zero, suc, ◌+◌, ◌-◌, ◌<◌, ◌≤◌, Bool, true, false, ◌&&◌, ◌||◌, List, [], ◌∷◌, ◌++◌, length, drop, take, set, replicate, get_or, drop-cons, append_assoc, add-one, refl, sym, ap, ◌∙◌, if◌then◌else◌}
-use Rattle.redis_commands.specs.Matching.{Piece, fits, some_suffix, then_text, is_nil, stand_for, pieces_after, piece_at, more_bytes}
+use Rattle.std.proofs.Common.{arith, ◌≡◌, ℕ, zero, suc, ◌+◌, ◌<◌, ◌≤◌, Bool, true, false, ◌&&◌, ◌||◌, List, [], ◌∷◌, ◌++◌, length, drop, take, set, replicate, get_or, drop-cons, append_assoc, add-one, refl, sym, ap, ◌∙◌}
+use Rattle.redis_commands.specs.Matching.{Piece, fits, some_suffix, then_text, stand_for, pieces_after, piece_at, more_bytes}
 use Rattle.redis_commands.specs.Matching.Piece.{AnyBytes, AnyByte, OneOf, NoneOf, This}
 use Rattle.redis_commands.specs.Places.{piece_by, is_carried, shifted, spread, some_place, GoesOnBy}
 use Rattle.redis_commands.specs.declared.glob.Piece.{Piece as ShownPiece}
@@ -75,7 +75,7 @@ unfolding shifted
 shift_step piece places i carried next left after total h is same before =
     let rest = drop (i + 1) places in
     let opened : shifted carried piece (drop i places) left ≡ carried ∷ shifted (is_carried (get_or places i false) piece left) piece rest (drop 1 left)
-        = rw (drop-cons places i false h, add-one) refl in
+    = rw (drop-cons places i false h, add-one) refl in
     ap (λ l. l ++ shifted next piece (drop (i + 1) (set places i carried)) after) (take_more_set places i carried h)
     ∙ append_assoc (take i places) (carried ∷ []) (shifted next piece (drop (i + 1) (set places i carried)) after)
     ∙ ap (λ l. take i places ++ (carried ∷ shifted next piece l after)) (drop-set-lt (i + 1) places i carried (omega arith))

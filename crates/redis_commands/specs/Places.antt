@@ -1,6 +1,6 @@
 -- How a text is gone through with a pattern: a place of the text is reached if the pieces so far stand for what is before
 -- it. Places are counted from 0 to the length of the text.
-use Rattle.std.specs.Prelude.{◌≡◌, ℕ, Bool, true, false, ◌&&◌, ◌||◌, List, [], ◌∷◌, drop}
+use Rattle.std.specs.Prelude.{◌≡◌, ℕ, Bool, false, ◌&&◌, ◌||◌, List, [], ◌∷◌, drop}
 use Rattle.redis_commands.specs.declared.glob.Piece.{Piece as ShownPiece}
 use Rattle.redis_commands.specs.declared.glob.Piece.TheVariants as shown
 use Rattle.redis_commands.specs.Matching.{Piece, fits, stand_for}

@@ -30,13 +30,7 @@ fn more_of_member(first: u8, rest: &[u8]) -> usize
 {
     match rest {
         [] => 0,
-        [_] => {
-            if first == b'\\' {
-                1
-            } else {
-                0
-            }
-        }
+        [_] => { if first == b'\\' { 1 } else { 0 } }
         [second, _, ..] => {
             if first == b'\\' {
                 1

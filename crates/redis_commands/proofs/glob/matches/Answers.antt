@@ -8,4 +8,4 @@ pub returns : goal.returns
 returns c =
     let text = c.args.text.now in
     c.stands_for.ensures ∙ first_reached (stand_for (pieces_after 0 c.args.pattern.now)) (length text) text
-        (take (length text + 1) (set (replicate (KEY_BYTES + 1) false) 0 true)) (begun (length text) (KEY_BYTES + 1) (omega (arith, c.requires)))
+    (take (length text + 1) (set (replicate (KEY_BYTES + 1) false) 0 true)) (begun (length text) (KEY_BYTES + 1) (omega (arith, c.requires)))
