@@ -47,7 +47,7 @@ exit
 SUM_NAME = b"69de85aeed5925512b910058036294c644f86338"
 RELEASE = b"c3f8721cbb97f72bc19e972846bd7aaf91901658"
 NO_INTEGER = resp.error("ERR value is not an integer or out of range")
-UNFIT = resp.error("ERR the value is longer than the script says")
+UNFIT = resp.error("ERR unfit: a length is above its declared size")
 OVERFLOW = resp.error("ERR increment or decrement would overflow")
 
 

@@ -8,7 +8,9 @@ By hand, after `rt run` in crates/mapd: python3 tests/redis_refused.py. It needs
 from __future__ import annotations
 
 import argparse
+import contextlib
 import shutil
+import socket
 import subprocess
 import sys
 import tempfile
@@ -155,28 +157,37 @@ class Known:
 
     def hear_session(self, session: list[Words], replies: list[bytes]) -> None:
         """Takes a session's replies."""
+        if replies == [resp.NO_ROOM]:
+            self.ways.append("a client for whom there was no room")
+            return
         self.worlds = {replace(world, name=b"") for world in self.worlds}
         if len(replies) > len(session):
             raise Wrong(f"there are more replies than commands: {replies!r:.400}")
-        for words, reply in zip(session, replies):
+        is_refused = replies[-1:] == [resp.NO_MEMORY]
+        told = replies[:-1] if is_refused else replies
+        for words, reply in zip(session, told):
             self.hear(words, reply)
-        if len(replies) == len(session):
-            return
-        if replies[-1:] == [resp.NO_MEMORY]:
-            self.ways.append("a connection that ended with OOM")
-            return
-        self.ways.append("a connection that ended without a reply")
-        self.worlds |= {after for world in self.worlds for _, after in outcomes(session[len(replies)], world)}
+        if is_refused:
+            self.hear_last(session[len(told)], len(replies) == len(session))
+        elif len(told) < len(session):
+            self.ways.append("a connection that ended without a reply")
+            self.worlds |= {after for world in self.worlds for _, after in outcomes(session[len(told)], world)}
+
+    def hear_last(self, words: Words, is_whole: bool) -> None:
+        """Takes a last reply of OOM: to this command, or at the end of a connection that can't be read on."""
+        self.ways.append("a reply of OOM" if is_whole else "a connection that ended with OOM")
+        self.worlds |= {after for world in self.worlds for wanted, after in outcomes(words, world) if wanted == resp.NO_MEMORY}
 
 
 def said(address: str, session: list[Words], is_slow: bool) -> list[bytes]:
     """The whole replies to a session, which is sent in one piece or slowly in several."""
     sent = b"".join(resp.command(*words) for words in session)
     with resp.Client(address) as client:
-        for at in range(0, len(sent), 100 if is_slow else len(sent)):
-            client.socket.sendall(sent[at:at + (100 if is_slow else len(sent))])
-            time.sleep(0.001 if is_slow else 0)
-        client.socket.shutdown(1)
+        with contextlib.suppress(ConnectionError):
+            for at in range(0, len(sent), 100 if is_slow else len(sent)):
+                client.socket.sendall(sent[at:at + (100 if is_slow else len(sent))])
+                time.sleep(0.001 if is_slow else 0)
+            client.socket.shutdown(socket.SHUT_WR)
         replies = resp.replies_in(client.rest())
     return [reply for reply in replies if resp.end_of(reply, 0) == len(reply)]
 

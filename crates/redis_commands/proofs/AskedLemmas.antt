@@ -1,5 +1,5 @@
 -- Names that no command has.
-use Rattle.std.proofs.Common.{arith, ◌≡◌, ℕ, ◌<◌, ◌≤◌, Bool, true, false, List, [], ◌∷◌, length, drop, get_or, Option, Some, None, Result, Err, Bor, refl, sym, ap, ◌∙◌, if◌then◌else◌}
+use Rattle.std.proofs.Common.{arith, ◌≡◌, ℕ, ◌≤◌, Bool, true, false, List, [], ◌∷◌, length, drop, get_or, None, Result, Err, Bor, ap, ◌∙◌, if◌then◌else◌}
 use Rattle.redis_commands.specs.Commands.{Asked, Fault, texts}
 use Rattle.redis_commands.specs.Commands.Fault.{UnknownCommand, WebRequest}
 use Rattle.redis_commands.specs.Names.{named}
@@ -20,4 +20,4 @@ pub unknown_asked : (words rest : List (Bor (List ℕ))) (f : Fault) → 1 ≤ l
 unknown_asked [] rest f h is none e = absurd (omega (arith, h))
 unknown_asked (w ∷ words) rest f h is none e =
     rw (none, asked_of) (chosen (is_web w.now) f WebRequest (UnknownCommand w.now (texts words))
-        (e ∙ ap (λ args. if is_web w.now then WebRequest else UnknownCommand w.now (texts args)) is))
+    (e ∙ ap (λ args. if is_web w.now then WebRequest else UnknownCommand w.now (texts args)) is))

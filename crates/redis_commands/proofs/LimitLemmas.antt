@@ -1,5 +1,5 @@
 -- Keys and values that were looked at are within the limits.
-use Rattle.std.proofs.Common.{arith, ◌≡◌, ◌≢◌, ℕ, zero, suc, ◌+◌, ◌%◌, ◌<◌, ◌≤◌, Bool, true, false, ◌||◌, List, [], ◌∷◌, length, All, Option, Some, None, nat_lt, refl, ap, Bor, if◌then◌else◌}
+use Rattle.std.proofs.Common.{arith, ◌≡◌, ◌≢◌, ℕ, zero, suc, ◌%◌, ◌≤◌, Bool, true, false, ◌||◌, List, [], ◌∷◌, length, All, Option, Some, None, nat_lt, refl, ap, Bor, if◌then◌else◌}
 use Rattle.bpf_model.specs.declared.limits.TheConstants.{KEY_BYTES, VALUE_BYTES}
 use Rattle.redis_commands.specs.Commands.{Fault, texts}
 use Rattle.redis_commands.specs.Commands.Fault.{LongKey, LongValue}
@@ -30,9 +30,11 @@ pub pairs_within : (words : List (List ℕ)) → long_word words ≡ None → le
 pairs_within [] e even = tt
 pairs_within (key ∷ []) e even = absurd (even refl)
 pairs_within (key ∷ value ∷ more) e even =
-    let parts = none_long (nat_lt KEY_BYTES (length key)) (nat_lt VALUE_BYTES (length value)) LongKey LongValue (long_word more) e in
-    (not_above KEY_BYTES (length key) parts.0, not_above VALUE_BYTES (length value) parts.1,
-        pairs_within more parts.2 (λ odd. even (omega (arith, odd))))
+    let parts = none_long (nat_lt KEY_BYTES (length key)) (nat_lt VALUE_BYTES (length value)) LongKey LongValue (long_word more) e in (
+      not_above KEY_BYTES (length key) parts.0,
+      not_above VALUE_BYTES (length value) parts.1,
+      pairs_within more parts.2 (λ odd. even (omega (arith, odd))),
+    )
 
 pub length_texts : (words : List (Bor (List ℕ))) → length (texts words) ≡ length words
 length_texts [] = refl

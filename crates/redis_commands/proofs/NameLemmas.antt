@@ -1,9 +1,8 @@
 -- A word is looked for among the names of its length.
-use Rattle.std.proofs.Common.{arith, ◌≡◌, ℕ, Bool, true, false, List, [], ◌∷◌, length, map, find, filter, nat_eq, Option, Some, None, refl, sym, ap, ◌∙◌, ◌+◌, suc}
+use Rattle.std.proofs.Common.{arith, ◌≡◌, ℕ, Bool, true, false, List, [], ◌∷◌, length, map, find, filter, nat_eq, refl, sym, ap, ◌∙◌, suc}
 use Rattle.std.specs.Char.{to_ascii_lowercase}
 use Rattle.std.specs.Str.{str_eq_ignore_ascii_case}
 use Rattle.std.proofs.lemmas.Slice.Eq.{bytes_eq-Decides}
-use Rattle.redis_commands.specs.declared.name.Name.{Name}
 use Rattle.redis_commands.specs.Names.{name_text, all_names, first_named, named, names_of_length}
 
 -- those that are left out would not be found
@@ -34,4 +33,4 @@ pub named_by_length : (word : List ℕ) → first_named (names_of_length (length
 unfolding named
 named_by_length word =
     find_among (λ name. str_eq_ignore_ascii_case (name_text name) word) (λ name. nat_eq (length word) (length (name_text name))) all_names
-        (λ name e. equal_test (length word) (length (name_text name)) (sym (same_length (name_text name) word e)))
+    (λ name e. equal_test (length word) (length (name_text name)) (sym (same_length (name_text name) word e)))

@@ -1,5 +1,5 @@
 -- Numbers and their decimal texts.
-use Rattle.std.proofs.Common.{rules, arith, ◌≡◌, ◌≢◌, ℕ, ◌+◌, ◌^◌, ◌<◌, Bool, true, false, ◌&&◌, List, Option, Some, None, Result, Ok, Err, ℤ, pos, negsuc, FitsSigned, nat_lt, bytes_eq, decimal, refl, sym, ap, subst, ◌∙◌, if◌then◌else◌}
+use Rattle.std.proofs.Common.{arith, ◌≡◌, ◌≢◌, ℕ, ◌^◌, ◌<◌, Bool, true, false, ◌&&◌, List, Some, None, Result, Err, ℤ, pos, negsuc, FitsSigned, nat_lt, bytes_eq, decimal, refl, sym, subst, if◌then◌else◌}
 use Rattle.std.specs.Fmt.{signed_decimal}
 use Rattle.std.specs.Int.{w64}
 use Rattle.std.specs.Str.{IsUtf8, IsAscii}
@@ -27,8 +27,8 @@ integer_none : (text : List ℕ) → ((n : ℤ) → FitsSigned w64 n → text �
 integer_none text none =
     let n = signed_digits_value 10 text in
     refused (fits_64 n && bytes_eq (signed_decimal n) text) n
-        (λ e. let parts = both (fits_64 n) (bytes_eq (signed_decimal n) text) e in
-            none n (fits n parts.0) (sym ((bytes_eq-Decides (signed_decimal n) text).0 parts.1)))
+    (λ e. let parts = both (fits_64 n) (bytes_eq (signed_decimal n) text) e in
+    none n (fits n parts.0) (sym ((bytes_eq-Decides (signed_decimal n) text).0 parts.1)))
 
 pub integer_unread : {E : Type 0} (text : List ℕ) (r : Result ℤ E) (e : E) → ParsesSigned w64 10 text r → r ≡ Err e → integer_of text ≡ None
 integer_unread text r e read is =
@@ -42,8 +42,8 @@ natural_none : (text : List ℕ) → ((n : ℕ) → n < 2 ^ 64 → text ≢ deci
 natural_none text none =
     let n = digits_value 10 (without_leading_plus text) in
     refused (nat_lt n (2 ^ 64) && bytes_eq (decimal n) text) n
-        (λ e. let parts = both (nat_lt n (2 ^ 64)) (bytes_eq (decimal n) text) e in
-            none n (grind (arith, parts.0)) (sym ((bytes_eq-Decides (decimal n) text).0 parts.1)))
+    (λ e. let parts = both (nat_lt n (2 ^ 64)) (bytes_eq (decimal n) text) e in
+    none n (grind (arith, parts.0)) (sym ((bytes_eq-Decides (decimal n) text).0 parts.1)))
 
 pub natural_unread : {E : Type 0} (text : List ℕ) (r : Result ℕ E) (e : E) → ParsesUnsigned 64 10 text r → r ≡ Err e → natural_of text ≡ None
 natural_unread text r e read is =

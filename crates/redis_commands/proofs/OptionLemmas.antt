@@ -1,5 +1,5 @@
 -- Options: one step of their readers.
-use Rattle.std.proofs.Common.{rules, arith, ◌≡◌, ℕ, ◌+◌, ◌-◌, ◌<◌, ◌≤◌, Bool, true, false, List, [], ◌∷◌, length, take, drop, map, get_or, codes, not, Option, Some, None, Result, Ok, Err, refl, sym, ap, ◌∙◌, Bor, if◌then◌else◌}
+use Rattle.std.proofs.Common.{arith, ◌≡◌, ℕ, ◌-◌, ◌<◌, ◌≤◌, true, false, List, [], ◌∷◌, length, take, drop, get_or, codes, not, None, Result, Ok, Err, refl, sym, ap, ◌∙◌, Bor}
 use Rattle.std.proofs.lemmas.List.{drop-map, length-drop}
 use Rattle.std.proofs.Math.Seq.{take-length}
 use Rattle.redis_commands.specs.Commands.{Fault, texts}

@@ -1,9 +1,9 @@
 -- What is shown of words, byte by byte and argument by argument.
-use Rattle.std.proofs.Common.{rules, arith, ◌≡◌, ◌≢◌, ℕ, zero, suc, ◌+◌, ◌-◌, ◌<◌, ◌≤◌, Bool, true, false, List, [], ◌∷◌, ◌++◌, length, take, drop, map, get_or, nat_eq, nat_lt, refl, sym, ap, ◌∙◌, add-one, drop-cons, append_assoc, codes, if◌then◌else◌, Bor}
+use Rattle.std.proofs.Common.{arith, ◌≡◌, ◌≢◌, ℕ, zero, suc, ◌+◌, ◌-◌, ◌<◌, ◌≤◌, true, false, List, [], ◌∷◌, ◌++◌, length, take, drop, map, get_or, nat_eq, nat_lt, refl, sym, ap, ◌∙◌, add-one, drop-cons, append_assoc, codes, Bor}
 use Rattle.std.proofs.lemmas.List.{drop_all, length-append, append-nil}
 use Rattle.redis_commands.specs.Commands.{texts}
 use Rattle.redis_commands.proofs.OptionLemmas.{nothing}
-use Rattle.redis_commands.specs.Texts.{until_0, blanked, shown, shown_arg, shown_args}
+use Rattle.redis_commands.specs.Texts.{blanked, shown, shown_arg, shown_args}
 
 pub shown_0 : (word : List ℕ) → shown 0 word ≡ []
 shown_0 word = refl
@@ -66,9 +66,9 @@ pub args_added : (text new total : List ℕ) (start so_far k : ℕ) (args : List
 args_added text new total start so_far k args h less len e before =
     let arg = (get_or args k nothing).now in
     let added : new ≡ text ++ shown_arg so_far arg =
-        e ∙ append_assoc (text ++ codes "'") (shown (128 - so_far) arg) (codes "' ") ∙ append_assoc text (codes "'") (shown (128 - so_far) arg ++ codes "' ") in
+    e ∙ append_assoc (text ++ codes "'") (shown (128 - so_far) arg) (codes "' ") ∙ append_assoc text (codes "'") (shown (128 - so_far) arg ++ codes "' ") in
     let long : length new - start ≡ so_far + length (shown_arg so_far arg) =
-        omega (arith, len, ap length added ∙ length-append text (shown_arg so_far arg)) in
+    omega (arith, len, ap length added ∙ length-append text (shown_arg so_far arg)) in
     ap (λ n. new ++ shown_args n (texts (drop (k + 1) args))) long
     ∙ ap (λ l. l ++ shown_args (so_far + length (shown_arg so_far arg)) (texts (drop (k + 1) args))) added
     ∙ append_assoc text (shown_arg so_far arg) (shown_args (so_far + length (shown_arg so_far arg)) (texts (drop (k + 1) args)))

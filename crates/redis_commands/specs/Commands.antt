@@ -1,5 +1,5 @@
 -- What a client asks for: commands over bytes, and faults of words.
-use Rattle.std.specs.Prelude.{ℕ, ℤ, Bool, List, Option, Result, Ok, Err, Some, None, map, option_map}
+use Rattle.std.specs.Prelude.{ℕ, ℤ, Bool, List, Option, Result, Ok, Err, map, option_map}
 use Rattle.std.specs.Borrow.{Bor}
 use Rattle.redis_commands.specs.declared.name.Name.{Name}
 use Rattle.redis_commands.specs.declared.name.Parent.{Parent}

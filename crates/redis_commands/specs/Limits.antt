@@ -1,9 +1,9 @@
 -- Commands whose keys and values are within the limits.
-use Rattle.std.specs.Prelude.{◌≡◌, ℕ, ◌≤◌, List, [], ◌∷◌, length, All, Option, IfSome}
+use Rattle.std.specs.Prelude.{◌≡◌, ℕ, ◌≤◌, List, [], ◌∷◌, length, All, IfSome}
 use Rattle.bpf_model.specs.declared.limits.TheConstants.{KEY_BYTES, VALUE_BYTES}
 use Rattle.redis_commands.specs.Commands.{Asked, ProgramAsked}
-use Rattle.redis_commands.specs.Commands.Asked.{OnKey, OnKeys, SetEach, Walk, Connection, Program}
-use Rattle.redis_commands.specs.Commands.ProgramAsked.{Load, Exists, Call, Eval}
+use Rattle.redis_commands.specs.Commands.Asked.{OnKey, OnKeys, SetEach, Program}
+use Rattle.redis_commands.specs.Commands.ProgramAsked.{Call, Eval}
 use Rattle.redis_commands.specs.Table.{longest}
 
 abbrev pub IsKey : List ℕ → Type 0

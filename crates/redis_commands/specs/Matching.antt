@@ -1,5 +1,5 @@
 -- Patterns of keys, as Redis reads them: `*`, `?`, `[abc]`, `[^a]`, `[a-z]`, and `\` before a byte that means itself.
-use Rattle.std.specs.Prelude.{ℕ, zero, suc, ◌+◌, ◌-◌, Bool, true, false, ◌&&◌, ◌||◌, not, List, [], ◌∷◌, length, drop, nat_eq, nat_le, min, max, if◌then◌else◌}
+use Rattle.std.specs.Prelude.{ℕ, zero, suc, ◌+◌, Bool, true, false, ◌&&◌, ◌||◌, not, List, [], ◌∷◌, length, nat_eq, nat_le, min, max, if◌then◌else◌}
 
 -- ---- classes, as `[a-z]`: what is after the `[`, or after `[^`, up to the end of the pattern
 

@@ -199,7 +199,7 @@ is_allowed (AtMost n) count = nat_le count n
 abbrev pub all_names : List Name
 all_names =
     map Key (k.Get ∷ k.Set ∷ k.Incr ∷ k.IncrBy ∷ k.Decr ∷ k.DecrBy ∷ k.SetNx ∷ k.GetSet ∷ k.GetDel ∷ k.StrLen ∷ k.Append
-        ∷ k.GetRange ∷ k.SetRange ∷ k.Substr ∷ k.Type ∷ k.Ttl ∷ k.Pttl ∷ k.DelIfEq ∷ [])
+    ∷ k.GetRange ∷ k.SetRange ∷ k.Substr ∷ k.Type ∷ k.Ttl ∷ k.Pttl ∷ k.DelIfEq ∷ [])
     ++ map Keys (ks.Mget ∷ ks.Mset ∷ ks.Del ∷ ks.Unlink ∷ ks.Exists ∷ ks.Touch ∷ [])
     ++ map Walk (w.DbSize ∷ w.Scan ∷ w.Keys ∷ w.RandomKey ∷ w.FlushAll ∷ w.FlushDb ∷ [])
     ++ map Connection (c.Ping ∷ c.Echo ∷ c.Quit ∷ c.Select ∷ c.Hello ∷ c.Auth ∷ c.Info ∷ c.Reset ∷ [])

@@ -6,7 +6,7 @@ use Rattle.redis_commands.specs.declared.fault.CommandFault.{CommandFault}
 use Rattle.redis_commands.specs.declared.options.SetOptions.{SetOptions as ShownSet}
 use Rattle.redis_commands.specs.declared.options.ScanOptions.{ScanOptions as ShownScan}
 use Rattle.redis_commands.specs.declared.options.HelloOptions.{HelloOptions as ShownHello}
-use Rattle.redis_commands.specs.Commands.{Fault, texts, text, condition_by, fault_by}
+use Rattle.redis_commands.specs.Commands.{Fault, text, condition_by, fault_by}
 use Rattle.redis_commands.specs.Table.{SetOptions, ScanOptions, HelloOptions, has_value, given, with_options, with_hello_options}
 
 -- what was read, or a fault

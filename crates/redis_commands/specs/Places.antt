@@ -1,6 +1,6 @@
 -- How a text is gone through with a pattern: a place of the text is reached if the pieces so far stand for what is before
 -- it. Places are counted from 0 to the length of the text.
-use Rattle.std.specs.Prelude.{◌≡◌, ℕ, Bool, true, false, ◌&&◌, ◌||◌, List, [], ◌∷◌, drop}
+use Rattle.std.specs.Prelude.{◌≡◌, ℕ, Bool, false, ◌&&◌, ◌||◌, List, [], ◌∷◌, drop}
 use Rattle.redis_commands.specs.declared.glob.Piece.{Piece as ShownPiece}
 use Rattle.redis_commands.specs.declared.glob.Piece.TheVariants as shown
 use Rattle.redis_commands.specs.Matching.{Piece, fits, stand_for}
@@ -13,11 +13,15 @@ piece_by (shown.OneOf class) = OneOf class.now
 piece_by (shown.NoneOf class) = NoneOf class.now
 piece_by (shown.This b) = This b
 
--- the places after a piece for which one byte stands; the first place is reached if the one before it was carried on
+-- the first byte of the text goes on from a place, if this is reached and the byte stands for the piece
+abbrev pub is_carried : Bool → Piece → List ℕ → Bool
+is_carried place piece [] = false
+is_carried place piece (b ∷ text) = place && fits piece b
+
+-- the places after a piece for which one byte stands; the first one is reached if the byte before it went on
 unfoldable pub shifted : Bool → Piece → List Bool → List ℕ → List Bool
 shifted carried piece [] text = []
-shifted carried piece (place ∷ places) [] = carried ∷ shifted false piece places []
-shifted carried piece (place ∷ places) (b ∷ text) = carried ∷ shifted (place && fits piece b) piece places text
+shifted carried piece (place ∷ places) text = carried ∷ shifted (is_carried place piece text) piece places (drop 1 text)
 
 -- the places after any bytes
 unfoldable pub spread : Bool → List Bool → List Bool

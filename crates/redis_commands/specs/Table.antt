@@ -147,7 +147,7 @@ asked_of_key k.Substr args =
     given (number (word 1 args)) (λ start. given (number (word 2 args)) (λ end. on_key (word 0 args) (GetRange start end)))
 asked_of_key k.SetRange args =
     given (number (word 1 args)) (λ n. given (number_from_0 OffsetOutOfRange n)
-        (λ offset. on_key (word 0 args) (SetRange offset (word 2 args))))
+    (λ offset. on_key (word 0 args) (SetRange offset (word 2 args))))
 asked_of_key k.DelIfEq args = on_key (word 0 args) (DeleteIfEqual (word 1 args))
 
 -- ---- commands of several keys
@@ -222,7 +222,7 @@ flush options = Err Syntax
 abbrev pub scan : List (List ℕ) → Result WalkAsked Fault
 scan args =
     given (cursor_of (word 0 args)) (λ cursor. given (with_scan_options no_scan_options (drop 1 args))
-        (λ o. Ok (Scan cursor o.pattern o.count o.is_string)))
+    (λ o. Ok (Scan cursor o.pattern o.count o.is_string)))
 
 abbrev pub walk_of : WalkName → List (List ℕ) → Result WalkAsked Fault
 walk_of w.DbSize args = Ok CountAll
@@ -247,7 +247,7 @@ pub record HelloOptions : Type 0 where
 abbrev pub with_name : HelloOptions → List ℕ → List ℕ → Result HelloOptions Fault
 with_name options option name =
     if is (codes "setname") option then
-        (if is_client_name name then Ok (record options { name = Some name }) else Err BadClientName)
+    (if is_client_name name then Ok (record options { name = Some name }) else Err BadClientName)
     else Err (HelloOption option)
 
 abbrev pub is_default : List ℕ → Bool
@@ -272,11 +272,12 @@ is_two (negsuc n) = false
 abbrev pub hello : List (List ℕ) → Result ConnectionAsked Fault
 hello [] = Ok (Hello None)
 hello (version ∷ options) = elim (integer_of version) [
-    None ↦ Err BadVersion
+  | None ↦ Err BadVersion
   | Some n ↦ if is_two n then
-        given (with_hello_options no_hello_options options)
-            (λ o. if o.is_stranger then Err WrongPassword else Ok (Hello o.name))
-      else Err NoProtocol ]
+      given (with_hello_options no_hello_options options)
+      (λ o. if o.is_stranger then Err WrongPassword else Ok (Hello o.name))
+      else Err NoProtocol
+]
 
 -- there is no password
 abbrev pub auth : List (List ℕ) → Result ConnectionAsked Fault
@@ -325,7 +326,7 @@ program_of p.Eval args =
     given (number (word 1 args)) (λ n. given (call_with n (drop 2 args)) (λ call. Ok (Eval (word 0 args) call.0 call.1)))
 program_of p.EvalSha args =
     if nat_eq (length (word 0 args)) 40 then
-        given (number (word 1 args)) (λ n. given (call_with n (drop 2 args)) (λ call. Ok (Call (word 0 args) call.0 call.1)))
+    given (number (word 1 args)) (λ n. given (call_with n (drop 2 args)) (λ call. Ok (Call (word 0 args) call.0 call.1)))
     else Err NoScript
 
 -- ---- commands whose first argument names what they do
@@ -349,8 +350,9 @@ asked_of_sub s.ScriptExists args = Ok (Program (Exists args))
 abbrev pub asked_of_parent : Parent → List (List ℕ) → Result Asked Fault
 asked_of_parent parent [] = Ok (Connection Commands)
 asked_of_parent parent (first ∷ args) = elim (sub_named parent first) [
-    None ↦ Err (UnknownSub parent first)
-  | Some sub ↦ if is_allowed (sub_arity sub) (length args) then asked_of_sub sub args else Err (WrongSubCount sub) ]
+  | None ↦ Err (UnknownSub parent first)
+  | Some sub ↦ if is_allowed (sub_arity sub) (length args) then asked_of_sub sub args else Err (WrongSubCount sub)
+]
 
 -- ---- all commands
 
@@ -370,5 +372,6 @@ is_web first = is (codes "post") first || is (codes "host:") first
 abbrev pub asked_of : List (List ℕ) → Result Asked Fault
 asked_of [] = Err (UnknownCommand [] [])
 asked_of (first ∷ args) = elim (named first) [
-    None ↦ if is_web first then Err WebRequest else Err (UnknownCommand first args)
-  | Some name ↦ if is_allowed (arity_of name) (length args) then asked_as name args else Err (WrongCount name) ]
+  | None ↦ if is_web first then Err WebRequest else Err (UnknownCommand first args)
+  | Some name ↦ if is_allowed (arity_of name) (length args) then asked_as name args else Err (WrongCount name)
+]

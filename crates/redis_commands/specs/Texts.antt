@@ -1,7 +1,5 @@
 -- The texts of faults, as Redis 7.0 words them; what a client sent is shown up to 128 bytes.
-use Rattle.std.specs.Prelude.{ℕ, ◌+◌, ◌-◌, ◌||◌, Bool, List, [], ◌∷◌, ◌++◌, length, take, map, codes, nat_eq, nat_lt, if◌then◌else◌}
-use Rattle.redis_commands.specs.declared.name.Name.{Name}
-use Rattle.redis_commands.specs.declared.name.Sub.{Sub}
+use Rattle.std.specs.Prelude.{ℕ, ◌+◌, ◌-◌, ◌||◌, List, [], ◌∷◌, ◌++◌, length, take, map, codes, nat_eq, nat_lt, if◌then◌else◌}
 use Rattle.redis_commands.specs.Names.{name_text, sub_word, parent_of, parent_text, parent_capitals}
 use Rattle.redis_commands.specs.Commands.{Fault}
 use Rattle.redis_commands.specs.Commands.Fault.{UnknownCommand, UnknownSub, WrongCount, WrongSubCount, Syntax, NotAnInteger, DecrementOverflow, OffsetOutOfRange, LongKey, LongValue, Deadline, BadCursor, BadIndex, WideIndex, BadVersion, NoProtocol, HelloOption, BadClientName, NoPassword, WrongPassword, NegativeKeys, TooManyKeys, ScriptShape, NoScript, WebRequest}

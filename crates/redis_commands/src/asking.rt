@@ -55,7 +55,10 @@ fn flush<'a>(args: &'a [&'a [u8]]) -> Result<WalkCommand<'a>, CommandFault<'a>>
 }
 
 /// Returns what the arguments of a command of the whole map ask for.
-fn walk_command<'a>(name: WalkName, args: &'a [&'a [u8]]) -> Result<WalkCommand<'a>, CommandFault<'a>>
+fn walk_command<'a>(
+    name: WalkName,
+    args: &'a [&'a [u8]],
+) -> Result<WalkCommand<'a>, CommandFault<'a>>
     requires { is_allowed (walk_arity name) (length args.now) ≡ true }
     ensures { read_by walk_by result ≡ walk_of name (texts args.now) }
 {
@@ -222,7 +225,9 @@ fn sub_command<'a>(sub: Sub, args: &'a [&'a [u8]]) -> Answer<'a>
     ensures limits { IfOk result (λ c. IsWithinLimits (asked_by c)) }
 {
     let command = match sub {
-        Sub::ScriptLoad => return Ok(Command::Program(ProgramCommand::Load { text: word(args, 0) })),
+        Sub::ScriptLoad => return Ok(Command::Program(ProgramCommand::Load {
+            text: word(args, 0),
+        })),
         Sub::ScriptExists => return Ok(Command::Program(ProgramCommand::Exists { digests: args })),
         Sub::ClientId => ConnectionCommand::ClientId,
         Sub::ClientGetName => ConnectionCommand::ClientName,

@@ -109,9 +109,7 @@ pub enum ConnectionCommand<'a> {
     /// `SELECT 0`
     Select,
     /// `HELLO` or `HELLO 2`, with the client's name if it gives one.
-    Hello {
-        name: Option<&'a [u8]>,
-    },
+    Hello { name: Option<&'a [u8]> },
     /// `AUTH default` with any password, which a Redis without a password takes.
     Auth,
     /// `CLIENT ID`
@@ -131,9 +129,7 @@ pub enum ConnectionCommand<'a> {
     /// `COMMAND DOCS`
     CommandDocs,
     /// `CONFIG GET`
-    Config {
-        parameters: &'a [&'a [u8]],
-    },
+    Config { parameters: &'a [&'a [u8]] },
     /// `INFO`
     Info,
     /// `RESET`
@@ -169,18 +165,10 @@ pub enum ProgramCommand<'a> {
 /// `command_of`.
 #[derive(Clone, Copy, Debug, PartialEq, Eq)]
 pub enum Command<'a> {
-    OnKey {
-        key: &'a [u8],
-        act: KeyAct<'a>,
-    },
-    OnKeys {
-        keys: &'a [&'a [u8]],
-        act: KeysAct,
-    },
+    OnKey { key: &'a [u8], act: KeyAct<'a> },
+    OnKeys { keys: &'a [&'a [u8]], act: KeysAct },
     /// `MSET`: keys and values by turns.
-    SetEach {
-        words: &'a [&'a [u8]],
-    },
+    SetEach { words: &'a [&'a [u8]] },
     Walk(WalkCommand<'a>),
     Connection(ConnectionCommand<'a>),
     Program(ProgramCommand<'a>),

@@ -98,15 +98,20 @@ impl CommandFault<'_> {
             CommandFault::Deadline => "ERR deadlines are not served",
             CommandFault::BadCursor => "ERR invalid cursor",
             CommandFault::BadIndex => "ERR DB index is out of range",
-            CommandFault::WideIndex => "ERR value is out of range, value must between -2147483648 and 2147483647",
+            CommandFault::WideIndex =>
+                "ERR value is out of range, value must between -2147483648 and 2147483647",
             CommandFault::BadVersion => "ERR Protocol version is not an integer or out of range",
             CommandFault::NoProtocol => "NOPROTO unsupported protocol version",
-            CommandFault::BadClientName => "ERR Client names cannot contain spaces, newlines or special characters.",
-            CommandFault::NoPassword => "ERR AUTH <password> called without any password configured for the default user. Are you sure your configuration is correct?",
-            CommandFault::WrongPassword => "WRONGPASS invalid username-password pair or user is disabled.",
+            CommandFault::BadClientName =>
+                "ERR Client names cannot contain spaces, newlines or special characters.",
+            CommandFault::NoPassword =>
+                "ERR AUTH <password> called without any password configured for the default user. Are you sure your configuration is correct?",
+            CommandFault::WrongPassword =>
+                "WRONGPASS invalid username-password pair or user is disabled.",
             CommandFault::NegativeKeys => "ERR Number of keys can't be negative",
             CommandFault::TooManyKeys => "ERR Number of keys can't be greater than number of args",
-            CommandFault::ScriptShape => "ERR not served: a script is called with one key and at most one argument",
+            CommandFault::ScriptShape =>
+                "ERR not served: a script is called with one key and at most one argument",
             CommandFault::NoScript => "NOSCRIPT No matching script. Please use EVAL.",
             _ => "",
         }

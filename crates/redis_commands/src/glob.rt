@@ -1,8 +1,8 @@
 //! Patterns of keys, as Redis reads them.
-ghost use Rattle.std.specs.Prelude.{◌≡◌, ◌+◌, ◌≤◌, ◌<◌, true, false, ◌∷◌, length, replicate};
+ghost use Rattle.std.specs.Prelude.{◌≡◌, ◌+◌, ◌≤◌, ◌<◌, true, false, ◌∷◌, length, drop};
 ghost use Rattle.redis_commands.specs.Matching.{is_between, more_of_member, is_first, is_member, class_length, class_at, class_bytes, escaped, piece_at, more_bytes, fits, matches, stand_for, pieces_after};
 ghost use Rattle.redis_commands.specs.Matching.Piece.{AnyBytes as AnyBytesPiece};
-ghost use Rattle.redis_commands.specs.Places.{piece_by, shifted, spread, some_place, GoesOnBy};
+ghost use Rattle.redis_commands.specs.Places.{piece_by, is_carried, shifted, spread, some_place, GoesOnBy};
 
 use bpf_model::limits::KEY_BYTES;
 
@@ -30,13 +30,7 @@ fn more_of_member(first: u8, rest: &[u8]) -> usize
 {
     match rest {
         [] => 0,
-        [_] => {
-            if first == b'\\' {
-                1
-            } else {
-                0
-            }
-        }
+        [_] => { if first == b'\\' { 1 } else { 0 } }
         [second, _, ..] => {
             if first == b'\\' {
                 1
@@ -120,6 +114,18 @@ impl Piece<'_> {
     }
 }
 
+impl Piece<'_> {
+    /// Whether the first byte of the text goes on from a place, which is reached or not.
+    fn carries(&self, place: bool, text: &[u8]) -> bool
+        ensures { result ≡ is_carried place (piece_by self.now) text.now }
+    {
+        match text {
+            [] => false,
+            [b, ..] => place && self.fits(*b),
+        }
+    }
+}
+
 /// Returns the class that begins the bytes after a `[`.
 fn class_at(rest: &[u8]) -> Piece<'_>
     ensures { piece_by result ≡ class_at rest.now }
@@ -181,26 +187,40 @@ fn more_bytes(first: u8, rest: &[u8]) -> usize
     }
 }
 
+/// Returns the text without its first byte, if it has one.
+fn tail(text: &[u8]) -> &[u8]
+    ensures { result.now ≡ drop 1 text.now }
+{
+    match text {
+        [] => text,
+        [_, rest @ ..] => rest,
+    }
+}
+
 /// Goes on from each reached place by a byte that stands for the piece.
 fn shift(places: &mut [bool], piece: &Piece<'_>, text: &[u8])
     requires { length places.old ≡ length text.now + 1 }
-    ensures { places.new ≡ shifted false (piece_by piece.now) places.old text.now }
+    ensures value { places.new ≡ shifted false (piece_by piece.now) places.old text.now }
+    ensures same { length places.new ≡ length places.old }
 {
     let mut carried = false;
+    let mut left = text;
     for i in 0..places.len() {
         let was = places[i];
         places[i] = carried;
-        carried = was && i < text.len() && piece.fits(text[i]);
+        carried = piece.carries(was, left);
+        left = tail(left);
     }
 }
 
 /// Goes on from each reached place by any bytes.
 fn spread(places: &mut [bool])
-    ensures { places.new ≡ spread false places.old }
+    ensures value { places.new ≡ spread false places.old }
+    ensures same { length places.new ≡ length places.old }
 {
     let mut reached = false;
     for i in 0..places.len() {
-        reached = reached || places[i];
+        reached |= places[i];
         places[i] = reached;
     }
 }

@@ -241,7 +241,9 @@ impl ConnectionName {
             ConnectionName::Echo | ConnectionName::Select => Arity::Exactly(1),
             ConnectionName::Auth => Arity::AtLeast(1),
             ConnectionName::Reset => Arity::Exactly(0),
-            ConnectionName::Quit | ConnectionName::Hello | ConnectionName::Info => Arity::AtLeast(0),
+            ConnectionName::Quit | ConnectionName::Hello | ConnectionName::Info => Arity::AtLeast(
+                0,
+            ),
         }
     }
 }
@@ -360,9 +362,8 @@ impl Sub {
         ensures { result ≡ sub_arity self }
     {
         match self {
-            Sub::ClientId | Sub::ClientGetName | Sub::ClientInfo | Sub::CommandCount => Arity::Exactly(
-                0,
-            ),
+            Sub::ClientId | Sub::ClientGetName | Sub::ClientInfo | Sub::CommandCount =>
+                Arity::Exactly(0),
             Sub::ClientSetName | Sub::ScriptLoad => Arity::Exactly(1),
             Sub::ClientSetInfo => Arity::Exactly(2),
             Sub::ClientList | Sub::CommandDocs => Arity::AtLeast(0),
@@ -503,9 +504,7 @@ static EIGHT: [Name; 3] = [
 ];
 
 /// The names of nine letters.
-static NINE: [Name; 1] = [
-    Name::Walk(WalkName::RandomKey),
-];
+static NINE: [Name; 1] = [Name::Walk(WalkName::RandomKey)];
 
 /// Returns the names of this length.
 fn names_of_length(length: usize) -> &'static [Name]

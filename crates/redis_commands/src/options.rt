@@ -62,7 +62,11 @@ impl<'a> SetOptions<'a> {
     }
 
     /// Adds an option and its value.
-    fn with_valued(self, option: &'a [u8], value: &'a [u8]) -> Result<SetOptions<'a>, CommandFault<'a>>
+    fn with_valued(
+        self,
+        option: &'a [u8],
+        value: &'a [u8],
+    ) -> Result<SetOptions<'a>, CommandFault<'a>>
         ensures { set_by result ≡ with_valued (set_view self.entry) option.now value.now }
     {
         if is("ifeq", option) {
@@ -94,7 +98,11 @@ impl<'a> SetOptions<'a> {
 
     /// Adds the first option, with its value if it has one.
     #[tactic(auto, using(crate::proofs::OptionLemmas::set_valued, crate::proofs::OptionLemmas::set_flagged, crate::proofs::OptionLemmas::set_last))]
-    fn with_first(self, option: &'a [u8], rest: &'a [&'a [u8]]) -> Result<SetOptions<'a>, CommandFault<'a>>
+    fn with_first(
+        self,
+        option: &'a [u8],
+        rest: &'a [&'a [u8]],
+    ) -> Result<SetOptions<'a>, CommandFault<'a>>
         ensures { SetGoesOn (set_view self.entry) (option.now ∷ texts rest.now)
             (set_by result) (drop (taken option.now (texts rest.now)) (texts rest.now)) }
     {
@@ -147,7 +155,11 @@ fn count_of<'a>(n: i64) -> Result<u64, CommandFault<'a>>
 
 impl<'a> ScanOptions<'a> {
     /// Adds an option and its value.
-    fn with_option(self, option: &'a [u8], value: &'a [u8]) -> Result<ScanOptions<'a>, CommandFault<'a>>
+    fn with_option(
+        self,
+        option: &'a [u8],
+        value: &'a [u8],
+    ) -> Result<ScanOptions<'a>, CommandFault<'a>>
         ensures { scan_by result ≡ with_scan_option (scan_view self.entry) option.now value.now }
     {
         if is("match", option) {
@@ -229,7 +241,11 @@ fn hello_taken(option: &[u8], rest: &[&[u8]]) -> usize
 
 impl<'a> HelloOptions<'a> {
     /// Adds an option that gives the client's name.
-    fn with_name(self, option: &'a [u8], name: &'a [u8]) -> Result<HelloOptions<'a>, CommandFault<'a>>
+    fn with_name(
+        self,
+        option: &'a [u8],
+        name: &'a [u8],
+    ) -> Result<HelloOptions<'a>, CommandFault<'a>>
         ensures { hello_by result ≡ with_name (hello_view self.entry) option.now name.now }
     {
         if !is("setname", option) {
@@ -246,7 +262,11 @@ impl<'a> HelloOptions<'a> {
 
     /// Adds the first option, with its values.
     #[tactic(auto, using(crate::proofs::OptionLemmas::hello_auth, crate::proofs::OptionLemmas::hello_named, crate::proofs::OptionLemmas::hello_last, crate::proofs::OptionLemmas::hello_alone))]
-    fn with_first(self, option: &'a [u8], rest: &'a [&'a [u8]]) -> Result<HelloOptions<'a>, CommandFault<'a>>
+    fn with_first(
+        self,
+        option: &'a [u8],
+        rest: &'a [&'a [u8]],
+    ) -> Result<HelloOptions<'a>, CommandFault<'a>>
         ensures { HelloGoesOn (hello_view self.entry) (option.now ∷ texts rest.now)
             (hello_by result) (drop (hello_taken option.now (texts rest.now)) (texts rest.now)) }
     {
@@ -254,7 +274,10 @@ impl<'a> HelloOptions<'a> {
             [value, _, ..] => {
                 if is("auth", option) {
                     let is_stranger = !is_default(value);
-                    Ok(HelloOptions { is_stranger, ..self })
+                    Ok(HelloOptions {
+                        is_stranger,
+                        ..self
+                    })
                 } else {
                     self.with_name(option, value)
                 }

@@ -1,4 +1,4 @@
-use Rattle.std.proofs.Common.{arith, ◌≡◌, ◌∙◌, ◌-◌, sym, ap, take, drop, length, refl}
+use Rattle.std.proofs.Common.{arith, ◌≡◌, ◌∙◌, ◌-◌, ap, take, drop, length}
 use Rattle.std.proofs.lemmas.List.{length-drop}
 use Rattle.redis_commands.proofs.OptionLemmas.{rest_whole}
 use Rattle.redis_commands.proofs.GlobLemmas.{length_none, length_ended, length_passed}
@@ -19,11 +19,12 @@ loop-left-preserved c =
     let k = c.more_of_member.result in
     let next = take (length rest - k) (drop k rest) in
     let passed = length_passed left rest next k c.in-len1-up.len_at_least (rest_whole 1 left) c.if-first-eq93.false
-        c.more_of_member.ensures.value c.more_of_member.ensures.within (rest_whole k rest) in
+    c.more_of_member.ensures.value c.more_of_member.ensures.within (rest_whole k rest) in
     let less : length rest ≡ length left - 1 = ap length (rest_whole 1 left) ∙ length-drop 1 left in
-    let fewer : length next ≡ length rest - k = ap length (rest_whole k rest) ∙ length-drop k rest in
-    (omega (arith, passed, less, fewer, c.loop-left.invariant.0, c.more_of_member.ensures.within, c.in-len1-up.len_at_least),
-        omega (arith, less, fewer, c.loop-left.invariant.1))
+    let fewer : length next ≡ length rest - k = ap length (rest_whole k rest) ∙ length-drop k rest in (
+      omega (arith, passed, less, fewer, c.loop-left.invariant.0, c.more_of_member.ensures.within, c.in-len1-up.len_at_least),
+      omega (arith, less, fewer, c.loop-left.invariant.1),
+    )
 
 pub returns-clause-value : goal.returns-clause-value
 returns-clause-value c =

@@ -1,4 +1,4 @@
-use Rattle.std.proofs.Common.{◌≡◌, ◌+◌, ◌++◌, length, take, drop, false}
+use Rattle.std.proofs.Common.{◌≡◌, ◌++◌, take, drop, false}
 use Rattle.redis_commands.specs.Places.{spread}
 use Rattle.redis_commands.proofs.glob.spread.Given as goal
 

@@ -7,4 +7,4 @@ use Rattle.redis_commands.proofs.number.integer.Goals as goal
 pub returns-in_default-parse : goal.returns-in_default-parse
 returns-in_default-parse c =
     sym (integer_unread c.args.text.now c.parse.result _ (subst (λ t. ParsesSigned w64 10 t c.parse.result) c.in-Ok.ensures.cases.0 c.parse.ensures.value.0)
-        c.in_default-parse.is)
+    c.in_default-parse.is)

@@ -6,4 +6,4 @@ use Rattle.redis_commands.proofs.options.HelloOptions.with_first.Goals as goal
 pub returns-else-is : goal.returns-else-is
 returns-else-is c =
     hello_named (hello_view c.args.self) c.args.option.now c.args.rest.now (hello_by c.with_name-else-is.result) c.in-len2-up.len_at_least
-        (sym c.is.ensures ∙ c.if-is.false) c.with_name-else-is.ensures
+    (sym c.is.ensures ∙ c.if-is.false) c.with_name-else-is.ensures

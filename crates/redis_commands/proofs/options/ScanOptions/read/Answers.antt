@@ -1,4 +1,4 @@
-use Rattle.std.proofs.Common.{rules, arith, drop, ◌≡◌, ◌∙◌, sym, ap, refl}
+use Rattle.std.proofs.Common.{arith, drop, ◌≡◌, ◌∙◌, sym, ap}
 use Rattle.redis_commands.specs.Commands.{texts}
 use Rattle.redis_commands.specs.Options.{scan_view, scan_by}
 use Rattle.redis_commands.specs.Table.{with_scan_options}
@@ -8,8 +8,8 @@ use Rattle.redis_commands.proofs.options.ScanOptions.read.Goals as goal
 pub loop-left-preserved : goal.loop-left-preserved
 loop-left-preserved c =
     let next : with_scan_options (scan_view c.in_ok-options.options) (texts (drop 2 c.loop-left.left.now)) ≡ with_scan_options (scan_view c.loop-left.options) (texts c.loop-left.left.now)
-        = scan_next (scan_view c.loop-left.options) (scan_view c.in_ok-options.options) c.loop-left.left.now c.in-len2-up.len_at_least
-            (sym c.with_option.ensures ∙ ap scan_by (c.in_ok-options.was)) in
+    = scan_next (scan_view c.loop-left.options) (scan_view c.in_ok-options.options) c.loop-left.left.now c.in-len2-up.len_at_least
+    (sym c.with_option.ensures ∙ ap scan_by (c.in_ok-options.was)) in
     ap (λ l. with_scan_options (scan_view c.in_ok-options.options) (texts l)) (rest_whole 2 c.loop-left.left.now) ∙ next ∙ c.loop-left.invariant
 
 pub returns-else-is_empty : goal.returns-else-is_empty

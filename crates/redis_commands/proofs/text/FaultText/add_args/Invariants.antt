@@ -7,5 +7,5 @@ use Rattle.redis_commands.proofs.text.FaultText.add_args.Given as goal
 abbrev pub invariant-loop-arg : goal.invariant-loop-arg
 invariant-loop-arg l =
     (l.self ++ shown_args (length l.self - l.start) (texts (drop l.arg-index l.args))
-        ≡ l.initial.self ++ shown_args 0 (texts l.args))
+    ≡ l.initial.self ++ shown_args 0 (texts l.args))
     × (l.start ≤ length l.self) × (length l.self ≤ l.start + 131) × (l.start ≤ 178)
