@@ -9,6 +9,8 @@ mod keyed;
 pub mod name;
 pub mod number;
 mod options;
+#[cfg(test)]
+mod tests;
 mod text;
 
 pub use asking::command_of;
