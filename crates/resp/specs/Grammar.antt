@@ -1,0 +1,167 @@
+-- How a command is spelled, and which bytes begin none.
+use Rattle.std.specs.Prelude.{◌≡◌, ◌≢◌, ℕ, ◌≤◌, ◌<◌, ◌^◌, ◌⊎◌, ◌||◌, Bool, true, nat_eq, List, [], ◌∷◌, ◌++◌, length, flat_map, map, All, decimal}
+use Rattle.std.specs.Borrow.{Bor}
+use Rattle.resp.specs.declared.limits.TheConstants.{COMMAND_WORDS, WORD_BYTES, LINE_BYTES}
+use Rattle.resp.specs.declared.fault.RespFault.{RespFault}
+use Rattle.resp.specs.declared.fault.RespFault.TheVariants.{BadCount, NoDollar, BadLength, NoNewline, TooBigLine, UnbalancedQuotes, TooManyWords}
+use Rattle.resp.specs.Streams.{IsFrontOf, NeverBegins, StopsAt, HasNo}
+
+-- the words that slices lend
+abbrev pub texts : List (Bor (List ℕ)) → List (List ℕ)
+texts words = map (λ word. word.now) words
+
+-- ---- arrays
+
+-- `\r\n`
+abbrev pub newline : List ℕ
+newline = 13 ∷ 10 ∷ []
+
+-- a number, without leading zeros, and the line's end
+abbrev pub number_line : ℕ → List ℕ
+number_line n = decimal n ++ newline
+
+-- `$`, the word's length, and the word on a line of its own
+abbrev pub word_bytes : List ℕ → List ℕ
+word_bytes word = 36 ∷ (number_line (length word) ++ (word ++ newline))
+
+abbrev pub words_bytes : List (List ℕ) → List ℕ
+words_bytes words = flat_map word_bytes words
+
+-- `*`, the number of words, and the words
+abbrev pub array_bytes : List (List ℕ) → List ℕ
+array_bytes words = 42 ∷ (number_line (length words) ++ words_bytes words)
+
+abbrev pub IsWord : List ℕ → Type 0
+IsWord word = length word ≤ WORD_BYTES
+
+abbrev pub AreWords : List (List ℕ) → Type 0
+AreWords words = (1 ≤ length words) × (length words ≤ COMMAND_WORDS)
+
+-- an array with these words
+abbrev pub IsArray : List (List ℕ) → List ℕ → Type 0
+IsArray words bytes = AreWords words × All IsWord words × (bytes ≡ array_bytes words)
+
+-- `*0`, or `*` and a negative number of 64 bits
+abbrev pub IsEmptyArray : List ℕ → Type 0
+IsEmptyArray bytes =
+    (bytes ≡ 42 ∷ number_line 0) ⊎ ((n : ℕ) × (1 ≤ n) × (n ≤ 2 ^ 63) × (bytes ≡ 42 ∷ 45 ∷ number_line n))
+
+-- ---- lines
+
+abbrev pub is_newline : ℕ → Bool
+is_newline b = nat_eq b 10
+
+-- a space, a tab or a `\r`
+abbrev pub is_blank : ℕ → Bool
+is_blank b = nat_eq b 32 || (nat_eq b 9 || nat_eq b 13)
+
+-- `"` or `'`
+abbrev pub is_quote : ℕ → Bool
+is_quote b = nat_eq b 34 || nat_eq b 39
+
+-- what ends a word between these quotes, and one without quotes
+abbrev pub ends_quoted : ℕ → ℕ → Bool
+ends_quoted quote b = nat_eq b quote || nat_eq b 92
+
+abbrev pub ends_plain : ℕ → Bool
+ends_plain b = is_blank b || is_quote b
+
+-- a word as it stands, with some byte and no blank and no quote
+abbrev pub IsPlain : List ℕ → List ℕ → Type 0
+IsPlain text word = (text ≡ word) × (1 ≤ length word) × HasNo ends_plain word
+
+-- a word between two quotes alike, without this quote and without a backslash
+abbrev pub IsQuoted : List ℕ → List ℕ → Type 0
+IsQuoted text word =
+    (quote : ℕ) × (is_quote quote ≡ true) × (text ≡ quote ∷ (word ++ quote ∷ [])) × HasNo (ends_quoted quote) word
+
+abbrev pub IsText : List ℕ → List ℕ → Type 0
+IsText text word = IsPlain text word ⊎ IsQuoted text word
+
+abbrev pub AreBlanks : List ℕ → Type 0
+AreBlanks bytes = All (λ b. is_blank b ≡ true) bytes
+
+-- the line is blanks, then the text of the first word, then a blank or the end, and so on
+abbrev pub HasWords : List ℕ → List (List ℕ) → Type 0
+HasWords line [] = AreBlanks line
+HasWords line (word ∷ words) =
+    (blanks text rest : List ℕ) × AreBlanks blanks × IsText text word × StopsAt is_blank rest
+    × (line ≡ blanks ++ (text ++ rest)) × HasWords rest words
+
+-- a line's bytes before its newline: they don't begin as an array
+abbrev pub IsLineFront : List ℕ → Type 0
+IsLineFront line = HasNo is_newline line × ((rest : List ℕ) → line ≢ 42 ∷ rest)
+
+-- a line, within the limit
+abbrev pub IsLine : List ℕ → List ℕ → Type 0
+IsLine line bytes = IsLineFront line × (length line ≤ LINE_BYTES) × (bytes ≡ line ++ 10 ∷ [])
+
+-- ---- commands
+
+-- the bytes are the command of these words, as an array or as a line
+abbrev pub Spells : List (List ℕ) → List ℕ → Type 0
+Spells words bytes = IsArray words bytes ⊎ ((line : List ℕ) × AreWords words × IsLine line bytes × HasWords line words)
+
+-- the bytes are an array or a line without any word, which is ignored
+abbrev pub IsIgnored : List ℕ → Type 0
+IsIgnored bytes = IsEmptyArray bytes ⊎ ((line : List ℕ) × IsLine line bytes × HasWords line [])
+
+-- any array
+abbrev pub IsSomeArray : List ℕ → Type 0
+IsSomeArray bytes = ((words : List (List ℕ)) × IsArray words bytes) ⊎ IsEmptyArray bytes
+
+-- what may begin a stream
+abbrev pub IsWhole : List ℕ → Type 0
+IsWhole bytes = ((words : List (List ℕ)) × Spells words bytes) ⊎ IsIgnored bytes
+
+-- a proper front of an array; or a line that may go on, as its newline and the limit have not come
+abbrev pub IsBegun : List ℕ → Type 0
+IsBegun bytes = IsFrontOf IsSomeArray bytes ⊎ (IsLineFront bytes × (length bytes ≤ LINE_BYTES))
+
+-- ---- faults
+
+-- an array up to one of its words
+abbrev pub IsOpenArray : List ℕ → Type 0
+IsOpenArray bytes =
+    (count : ℕ) × (words : List (List ℕ)) × (length words < count) × (count ≤ COMMAND_WORDS)
+    × All IsWord words × (bytes ≡ 42 ∷ (number_line count ++ words_bytes words))
+
+-- the rest of an array's first line
+abbrev pub IsCountLine : List ℕ → Type 0
+IsCountLine bytes =
+    ((n : ℕ) × (n ≤ COMMAND_WORDS) × (bytes ≡ number_line n))
+    ⊎ ((n : ℕ) × (1 ≤ n) × (n ≤ 2 ^ 63) × (bytes ≡ 45 ∷ number_line n))
+
+-- the line of a number up to this one
+abbrev pub IsNumberLine : ℕ → List ℕ → Type 0
+IsNumberLine most bytes = (n : ℕ) × (n ≤ most) × (bytes ≡ number_line n)
+
+abbrev pub IsNewline : List ℕ → Type 0
+IsNewline bytes = bytes ≡ newline
+
+-- a word's fault, in the bytes from the word on
+abbrev pub IsFaultyWord : RespFault → List ℕ → Type 0
+IsFaultyWord (NoDollar b) bytes = (rest : List ℕ) × (bytes ≡ b ∷ rest) × (b ≢ 36)
+IsFaultyWord BadLength bytes = (rest : List ℕ) × (bytes ≡ 36 ∷ rest) × NeverBegins (IsNumberLine WORD_BYTES) rest
+IsFaultyWord NoNewline bytes =
+    (word rest : List ℕ) × IsWord word × (bytes ≡ 36 ∷ (number_line (length word) ++ (word ++ rest))) × NeverBegins IsNewline rest
+IsFaultyWord fault bytes = ⊥
+
+-- a line with this fault: its words can't be told, or are too many
+abbrev pub IsFaultyLine : RespFault → List ℕ → Type 0
+IsFaultyLine UnbalancedQuotes line = (words : List (List ℕ)) → HasWords line words → ⊥
+IsFaultyLine TooManyWords line = (words : List (List ℕ)) × HasWords line words × (COMMAND_WORDS < length words)
+IsFaultyLine fault line = ⊥
+
+-- the first fault of the bytes: the count of an array, one of its words, a line without an end, a line
+abbrev pub IsFaulty : RespFault → List ℕ → Type 0
+IsFaulty BadCount bytes = (rest : List ℕ) × (bytes ≡ 42 ∷ rest) × NeverBegins IsCountLine rest
+IsFaulty (NoDollar b) bytes = (head rest : List ℕ) × IsOpenArray head × (bytes ≡ head ++ rest) × IsFaultyWord (NoDollar b) rest
+IsFaulty BadLength bytes = (head rest : List ℕ) × IsOpenArray head × (bytes ≡ head ++ rest) × IsFaultyWord BadLength rest
+IsFaulty NoNewline bytes = (head rest : List ℕ) × IsOpenArray head × (bytes ≡ head ++ rest) × IsFaultyWord NoNewline rest
+IsFaulty TooBigLine bytes =
+    (line rest : List ℕ) × IsLineFront line × (LINE_BYTES < length line) × (bytes ≡ line ++ rest)
+IsFaulty UnbalancedQuotes bytes =
+    (line rest : List ℕ) × IsLine line (line ++ 10 ∷ []) × (bytes ≡ line ++ 10 ∷ rest) × IsFaultyLine UnbalancedQuotes line
+IsFaulty TooManyWords bytes =
+    (line rest : List ℕ) × IsLine line (line ++ 10 ∷ []) × (bytes ≡ line ++ 10 ∷ rest) × IsFaultyLine TooManyWords line

@@ -1,0 +1,6 @@
+pub mod Streams
+pub mod Grammar
+pub mod Readings
+pub mod Reading
+pub mod Faults
+pub mod Replies

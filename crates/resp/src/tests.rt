@@ -1,0 +1,190 @@
+//! Commands and replies as Redis has them.
+use crate::{
+    Next, NextFault, RespFault, integer, next_command, put_array, put_error, put_integer,
+    put_nothing, put_simple, put_value,
+};
+use devices::StreamSink;
+use std::test::*;
+
+/// Tests whether the bytes begin with the command of these words, and this rest follows it.
+fn reads(rt: &HostRuntime, bytes: &[u8], words: &[&[u8]], after: &[u8]) -> bool {
+    let mut read = Vec::new(rt.alloc());
+    match next_command(bytes, &mut read) {
+        Ok(Next::Command(rest)) => rest == after && read.as_slice() == words,
+        _ => false,
+    }
+}
+
+#[test]
+fn arrays_and_lines_are_commands(rt: HostRuntime) {
+    let set: &[&[u8]] = &[b"SET", b"k", b"a\r\nb"];
+    assert!(rt;
+        reads(
+            &rt,
+            b"*3\r\n$3\r\nSET\r\n$1\r\nk\r\n$4\r\na\r\nb\r\n*1",
+            set,
+            b"*1"
+        )
+    );
+    assert!(rt; reads(&rt, b"*1\r\n$0\r\n\r\n", &[b""], b""));
+    assert!(rt; reads(&rt, b"PING\r\nPING", &[b"PING"], b"PING"));
+    assert!(rt; reads(&rt, b"PING\n", &[b"PING"], b""));
+    let quoted: &[&[u8]] = &[b"set", b"a b", b"", b"it's"];
+    assert!(rt; reads(&rt, b"  set 'a b' \"\"\t\"it's\" \r\n", quoted, b""));
+}
+
+#[test]
+fn arrays_and_lines_without_words_are_ignored(rt: HostRuntime) {
+    for bytes in [
+        b"*0\r\n+",
+        b"*-1\r\n+" as &[u8],
+        b"*-9223372036854775808\r\n+",
+        b"\r\n+",
+        b"\n+",
+        b" \t\r\n+",
+    ] {
+        let mut words = Vec::new(rt.alloc());
+        assert_eq!(rt; next_command(bytes, &mut words), Ok(Next::Nothing(b"+")));
+    }
+}
+
+#[test]
+fn a_front_of_a_command_is_waited_for(rt: HostRuntime) {
+    for whole in [
+        b"*2\r\n$3\r\nGET\r\n$10\r\n0123456789\r\n" as &[u8],
+        b"*-12\r\n",
+        b"GET 'a b' \"c\r\n",
+    ] {
+        for n in 0..whole.len() {
+            let mut words = Vec::new(rt.alloc());
+            assert_eq!(rt;
+                next_command(&whole[..n], &mut words),
+                Ok(Next::More),
+                "at {n}"
+            );
+        }
+    }
+}
+
+#[test]
+fn faults_have_the_texts_of_redis(rt: HostRuntime) {
+    let rows: [(&[u8], RespFault, &[u8]); 15] = [
+        (
+            b"*x",
+            RespFault::BadCount,
+            b"ERR Protocol error: invalid multibulk length",
+        ),
+        (
+            b"*01",
+            RespFault::BadCount,
+            b"ERR Protocol error: invalid multibulk length",
+        ),
+        (
+            b"*-0",
+            RespFault::BadCount,
+            b"ERR Protocol error: invalid multibulk length",
+        ),
+        (
+            b"*4097",
+            RespFault::BadCount,
+            b"ERR Protocol error: invalid multibulk length",
+        ),
+        (
+            b"*-9223372036854775809",
+            RespFault::BadCount,
+            b"ERR Protocol error: invalid multibulk length",
+        ),
+        (
+            b"*1\r\nPING",
+            RespFault::NoDollar(b'P'),
+            b"ERR Protocol error: expected '$', got 'P'",
+        ),
+        (
+            b"*1\r\n\r\n",
+            RespFault::NoDollar(b'\r'),
+            b"ERR Protocol error: expected '$', got ' '",
+        ),
+        (
+            b"*1\r\n$-1",
+            RespFault::BadLength,
+            b"ERR Protocol error: invalid bulk length",
+        ),
+        (
+            b"*1\r\n$65537",
+            RespFault::BadLength,
+            b"ERR Protocol error: invalid bulk length",
+        ),
+        (
+            b"*1\r\n$1\n",
+            RespFault::BadLength,
+            b"ERR Protocol error: invalid bulk length",
+        ),
+        (
+            b"*1\r\n$1\r\nab",
+            RespFault::NoNewline,
+            b"ERR Protocol error: invalid bulk length",
+        ),
+        (
+            b"GET 'a\r\n",
+            RespFault::UnbalancedQuotes,
+            b"ERR Protocol error: unbalanced quotes in request",
+        ),
+        (
+            b"GET 'a'b\n",
+            RespFault::UnbalancedQuotes,
+            b"ERR Protocol error: unbalanced quotes in request",
+        ),
+        (
+            b"GET \"\\x00\"\n",
+            RespFault::UnbalancedQuotes,
+            b"ERR Protocol error: unbalanced quotes in request",
+        ),
+        (
+            &[b'a'; 65537],
+            RespFault::TooBigLine,
+            b"ERR Protocol error: too big inline request",
+        ),
+    ];
+    for (bytes, fault, message) in &rows {
+        let mut words = Vec::new(rt.alloc());
+        assert_eq!(rt;
+            next_command(*bytes, &mut words),
+            Err(NextFault::Faulty(*fault))
+        );
+        assert!(rt; fault.message().as_slice() == *message);
+    }
+}
+
+#[test]
+fn only_canonical_numbers_are_read(rt: HostRuntime) {
+    let rows: [(&[u8], Option<i64>); 12] = [
+        (b"0", Some(0)),
+        (b"-1", Some(-1)),
+        (b"9223372036854775807", Some(i64::MAX)),
+        (b"-9223372036854775808", Some(i64::MIN)),
+        (b"9223372036854775808", None),
+        (b"-9223372036854775809", None),
+        (b"99999999999999999999999", None),
+        (b"-0", None),
+        (b"+1", None),
+        (b"01", None),
+        (b" 1", None),
+        (b"", None),
+    ];
+    for (text, number) in &rows {
+        assert_eq!(rt; integer(*text), *number);
+    }
+}
+
+#[test]
+fn replies_are_written(rt: HostRuntime) {
+    let mut sink = StreamSink::new(Vec::new(rt.alloc()));
+    assert!(rt; put_simple(&mut sink, b"OK").is_ok());
+    assert!(rt; put_error(&mut sink, b"ERR no").is_ok());
+    assert!(rt; put_integer(&mut sink, -12).is_ok());
+    assert!(rt; put_array(&mut sink, 2).is_ok());
+    assert!(rt; put_value(&mut sink, b"a\r\n").is_ok());
+    assert!(rt; put_nothing(&mut sink).is_ok());
+    let written: &[u8] = b"+OK\r\n-ERR no\r\n:-12\r\n*2\r\n$3\r\na\r\n\r\n$-1\r\n";
+    assert!(rt; sink.into_inner().as_slice() == written);
+}
