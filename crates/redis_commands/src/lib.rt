@@ -1,4 +1,10 @@
-//! Commands of Redis' clients, read from words.
+//! The commands of Redis' clients: what the words of a command ask for.
+//!
+//! The promise to the layers above: `command_of` gives the command that the words ask for by the table of the commands, or
+//! the fault that they have (`asked`), and the keys and values of a command are within their limits (`limits`). A fault
+//! knows the text of its reply (`CommandFault::text`). `matches` says whether a key matches a pattern. `specs/Table.antt` is
+//! the table, `specs/Names.antt` has the names and how many arguments each command takes, `specs/Texts.antt` the texts,
+//! `specs/Matching.antt` the patterns. No call waits, and none asks for memory.
 #![tactic(auto)]
 
 mod asking;
@@ -9,6 +15,8 @@ mod keyed;
 pub mod name;
 pub mod number;
 mod options;
+#[cfg(test)]
+mod tests;
 mod text;
 
 pub use asking::command_of;

@@ -1,0 +1,192 @@
+//! Rows that a Redis 7.0.15 answered.
+use crate::{Command, CommandFault, Condition, KeyAct, WalkCommand, command_of, matches};
+use std::alloc::{AllocError, Global};
+use std::test::Fail;
+
+/// Splits a line into words at its blanks.
+fn words_of<'a>(alloc: Global, line: &'a str) -> Result<Vec<&'a [u8]>, AllocError> {
+    let mut words = Vec::new(alloc);
+    for word in line.split(' ') {
+        words.reserve(1)?;
+        words.push_reserved(word.as_bytes());
+    }
+    Ok(words)
+}
+
+/// Lines of words, and the text of the error.
+const FAULTS: [(&str, &str); 38] = [
+    (
+        "foo",
+        "ERR unknown command 'foo', with args beginning with: ",
+    ),
+    (
+        "foo a\r\nb\0c d",
+        "ERR unknown command 'foo', with args beginning with: 'a  b' 'd' ",
+    ),
+    (
+        "EXPIRE",
+        "ERR unknown command 'EXPIRE', with args beginning with: ",
+    ),
+    ("GET a b", "ERR wrong number of arguments for 'get' command"),
+    (
+        "mset a 1 b",
+        "ERR wrong number of arguments for 'mset' command",
+    ),
+    (
+        "ping a b",
+        "ERR wrong number of arguments for 'ping' command",
+    ),
+    (
+        "client setname",
+        "ERR wrong number of arguments for 'client|setname' command",
+    ),
+    (
+        "client",
+        "ERR wrong number of arguments for 'client' command",
+    ),
+    (
+        "CLIENT Foo\r\nbar",
+        "ERR unknown subcommand 'Foo  bar'. Try CLIENT HELP.",
+    ),
+    (
+        "client setname \u{7f}",
+        "ERR Client names cannot contain spaces, newlines or special characters.",
+    ),
+    ("set a 1 nx xx", "ERR syntax error"),
+    ("set a 1 ifeq", "ERR syntax error"),
+    ("set a 1 ex 10", "ERR deadlines are not served"),
+    ("incrby n 01", "ERR value is not an integer or out of range"),
+    (
+        "incrby n 9223372036854775808",
+        "ERR value is not an integer or out of range",
+    ),
+    (
+        "decrby n -9223372036854775808",
+        "ERR decrement would overflow",
+    ),
+    (
+        "getrange n 0 b",
+        "ERR value is not an integer or out of range",
+    ),
+    ("setrange n -1 x", "ERR offset is out of range"),
+    (
+        "setrange n 1024 x",
+        "ERR string exceeds maximum allowed size (1024)",
+    ),
+    ("scan 18446744073709551616", "ERR invalid cursor"),
+    ("scan 0 count 0", "ERR syntax error"),
+    ("scan 0 match", "ERR syntax error"),
+    ("select -1", "ERR DB index is out of range"),
+    (
+        "select 99999999999",
+        "ERR value is out of range, value must between -2147483648 and 2147483647",
+    ),
+    ("flushall async sync", "ERR syntax error"),
+    (
+        "hello x",
+        "ERR Protocol version is not an integer or out of range",
+    ),
+    ("hello 3", "NOPROTO unsupported protocol version"),
+    (
+        "hello 2 setname",
+        "ERR Syntax error in HELLO option 'setname'",
+    ),
+    (
+        "hello 2 auth u x",
+        "WRONGPASS invalid username-password pair or user is disabled.",
+    ),
+    (
+        "auth x",
+        "ERR AUTH <password> called without any password configured for the default user. Are you sure your configuration is correct?",
+    ),
+    (
+        "auth u x",
+        "WRONGPASS invalid username-password pair or user is disabled.",
+    ),
+    ("auth a b c", "ERR syntax error"),
+    ("eval t -1", "ERR Number of keys can't be negative"),
+    (
+        "eval t 2 a",
+        "ERR Number of keys can't be greater than number of args",
+    ),
+    (
+        "eval t 0",
+        "ERR not served: a script is called with one key and at most one argument",
+    ),
+    (
+        "evalsha x y",
+        "NOSCRIPT No matching script. Please use EVAL.",
+    ),
+    (
+        "config",
+        "ERR wrong number of arguments for 'config' command",
+    ),
+    (
+        "command foo",
+        "ERR unknown subcommand 'foo'. Try COMMAND HELP.",
+    ),
+];
+
+#[test]
+fn error_texts_are_those_of_redis(rt: HostRuntime) -> Result<(), Fail> {
+    for (line, text) in FAULTS {
+        let words = words_of(rt.alloc(), line)?;
+        match command_of(&words) {
+            Ok(_) => assert!(rt; false, "{line}"),
+            Err(fault) => assert!(rt; fault.text().as_slice() == text.as_bytes(), "{line}"),
+        }
+    }
+    Ok(())
+}
+
+/// Patterns, texts, and whether they match.
+const PATTERNS: [(&[u8], &[u8], bool); 16] = [
+    (b"*", b"", true),
+    (b"a*c", b"abcbc", true),
+    (b"a*c", b"abcb", false),
+    (b"*a*a*", b"ba", false),
+    (b"?", b"", false),
+    (b"h[^e]llo", b"hello", false),
+    (b"h[a-e]llo", b"hello", true),
+    (b"[c-a]", b"b", true),
+    (b"[a-]]", b"^", true),
+    (b"[a-]]", b"]]", false),
+    (b"[a-]", b"b", false),
+    (b"[ab", b"b", true),
+    (b"[]a]", b"a]", false),
+    (b"\\*", b"*", true),
+    (b"[\\]]", b"]", true),
+    (b"a\\", b"a\\", true),
+];
+
+#[test]
+fn patterns_match_as_in_redis(rt: HostRuntime) {
+    for (pattern, text, wanted) in PATTERNS {
+        assert_eq!(rt; matches(pattern, text), wanted);
+    }
+}
+
+#[test]
+fn options_come_in_any_order(rt: HostRuntime) -> Result<(), Fail> {
+    let words = words_of(rt.alloc(), "SeT k v GET keepttl Nx")?;
+    let wanted = Command::OnKey {
+        key: b"k",
+        act: KeyAct::Set {
+            value: b"v",
+            condition: Condition::IfAbsent,
+            wants_old: true,
+        },
+    };
+    assert!(rt; command_of(&words) == Ok(wanted), "SET");
+    let words = words_of(rt.alloc(), "scan 9 type STRING count 5 match a*")?;
+    let wanted = Command::Walk(WalkCommand::Scan {
+        cursor: 9,
+        pattern: Some(b"a*"),
+        count: 5,
+        is_string: true,
+    });
+    assert!(rt; command_of(&words) == Ok(wanted), "SCAN");
+    let words = words_of(rt.alloc(), "POST / HTTP/1.1")?;
+    assert!(rt; command_of(&words) == Err(CommandFault::WebRequest), "POST");
+    Ok(())
+}
