@@ -7,7 +7,7 @@ use Rattle.redis_commands.specs.Commands.Fault.{Syntax, HelloOption}
 use Rattle.redis_commands.specs.Table.{SetOptions, ScanOptions, HelloOptions, given, is, has_value, with_valued, with_flag, with_options, with_scan_option, with_scan_options, with_name, with_hello_options, is_default, long_word}
 use Rattle.redis_commands.specs.Options.{taken, hello_taken, SetGoesOn, HelloGoesOn}
 
--- what stands in place of an element that there is not
+-- stands for an element that there is not
 abbrev pub nothing : Bor (List ℕ)
 nothing = record { ref_ptr = (0, 0); now = [] }
 

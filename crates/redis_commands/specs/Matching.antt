@@ -29,7 +29,7 @@ is_first x [] b = nat_eq x b
 is_first x (y ∷ []) b = if is_escape x then nat_eq y b else nat_eq x b
 is_first x (y ∷ z ∷ more) b = if is_escape x then nat_eq y b else (if is_dash y then is_between x z b else nat_eq x b)
 
--- the byte is in a member before the `]`, or before the end; so many bytes belong to the member before
+-- the byte is in a member before the `]`, or before the end; the first n bytes belong to the member before
 unfoldable pub is_member_after : ℕ → List ℕ → ℕ → Bool
 is_member_after n [] b = false
 is_member_after (suc n) (x ∷ more) b = is_member_after n more b
@@ -93,7 +93,7 @@ more_bytes x more =
     if nat_eq x 91 then class_bytes more
     else (if nat_eq x 92 then min 1 (length more) else 0)
 
--- the pieces of a pattern, of which so many bytes belong to the piece before
+-- the pieces of a pattern; its first n bytes belong to the piece before
 unfoldable pub pieces_after : ℕ → List ℕ → List Piece
 pieces_after n [] = []
 pieces_after (suc n) (x ∷ more) = pieces_after n more

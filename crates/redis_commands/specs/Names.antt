@@ -212,7 +212,7 @@ first_named names word = find (λ name. str_eq_ignore_ascii_case (name_text name
 unfoldable pub named : List ℕ → Option Name
 named word = first_named all_names word
 
--- the names of so many letters
+-- the names of n letters
 abbrev pub names_of_length : ℕ → List Name
 names_of_length n = filter (λ name. nat_eq n (length (name_text name))) all_names
 

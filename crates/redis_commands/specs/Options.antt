@@ -53,7 +53,7 @@ hello_taken option [] = 0
 hello_taken option (value ∷ []) = 1
 hello_taken option (value ∷ password ∷ more) = if str_eq_ignore_ascii_case (codes "auth") option then 2 else 1
 
--- what all words come to is what the words that are left come to after the first option was read
+-- after the first option was read, the words that are left come to the same as all words
 abbrev pub SetGoesOn : SetOptions → List (List ℕ) → Result SetOptions Fault → List (List ℕ) → Type 0
 SetGoesOn options words read left = with_options options words ≡ given read (λ next. with_options next left)
 

@@ -41,7 +41,7 @@ word i args = get_or args i []
 abbrev pub is : List ℕ → List ℕ → Bool
 is name word = str_eq_ignore_ascii_case name word
 
--- what follows from a value, if there is one
+-- goes on with the value, if there is one
 abbrev pub given : {A B : Type 0} → Result A Fault → (A → Result B Fault) → Result B Fault
 given (Ok value) rest = rest value
 given (Err fault) rest = Err fault
@@ -314,7 +314,7 @@ call_of (key ∷ argument ∷ []) =
     else (if nat_lt VALUE_BYTES (length argument) then Err LongValue else Ok (key, Some argument))
 call_of words = Err ScriptShape
 
--- so many of the words are said to be keys
+-- this number of the words are said to be keys
 abbrev pub call_with : ℤ → List (List ℕ) → Result (List ℕ × Option (List ℕ)) Fault
 call_with (negsuc n) words = Err NegativeKeys
 call_with (pos n) words =
@@ -368,7 +368,7 @@ asked_as (n.Parent parent) args = asked_of_parent parent args
 abbrev pub is_web : List ℕ → Bool
 is_web first = is (codes "post") first || is (codes "host:") first
 
--- what words ask for, of which the first names a command
+-- what words ask for; the first one names a command
 abbrev pub asked_of : List (List ℕ) → Result Asked Fault
 asked_of [] = Err (UnknownCommand [] [])
 asked_of (first ∷ args) = elim (named first) [

@@ -13,14 +13,14 @@ until_0 (b ∷ bytes) = if nat_eq b 0 then [] else b ∷ until_0 bytes
 abbrev pub blanked : ℕ → ℕ
 blanked b = if nat_eq b 10 || nat_eq b 13 then 32 else b
 
--- what is shown of a word: its bytes up to a 0, and no more than so many
+-- the part of a word that is shown: its bytes up to a 0, and at most this number of them
 abbrev pub shown : ℕ → List ℕ → List ℕ
 shown most word = map blanked (take most (until_0 word))
 
 abbrev pub shown_arg : ℕ → List ℕ → List ℕ
 shown_arg so_far arg = codes "'" ++ shown (128 - so_far) arg ++ codes "' "
 
--- the arguments, until 128 bytes are shown; so many were shown before
+-- the arguments, until 128 bytes are shown; `so_far` counts those that were shown before
 abbrev pub shown_args : ℕ → List (List ℕ) → List ℕ
 shown_args so_far [] = []
 shown_args so_far (arg ∷ args) =

@@ -168,7 +168,7 @@ fn call_of<'a>(words: &'a [&'a [u8]]) -> Result<(&'a [u8], Option<&'a [u8]>), Co
     Ok((key, argument))
 }
 
-/// The same of words of which so many are said to be keys.
+/// Returns the same if the words are said to begin with this number of keys.
 fn call_with<'a>(
     keys: i64,
     words: &'a [&'a [u8]],
@@ -252,7 +252,7 @@ fn sub_command<'a>(sub: Sub, args: &'a [&'a [u8]]) -> Answer<'a>
     Ok(Command::Connection(command))
 }
 
-/// Returns what the arguments ask for, of which the first names what the command does.
+/// Returns what the arguments ask for. The first one names what the command does.
 fn parent_command<'a>(parent: Parent, args: &'a [&'a [u8]]) -> Answer<'a>
     ensures asked { answer_by result ≡ asked_of_parent parent (texts args.now) }
     ensures limits { IfOk result (λ c. IsWithinLimits (asked_by c)) }
@@ -299,8 +299,8 @@ fn unknown<'a>(name: &'a [u8], args: &'a [&'a [u8]]) -> CommandFault<'a>
     }
 }
 
-/// Returns what the words ask for, of which the first names a command, in any case. The command borrows the words. No
-/// memory is asked for.
+/// Returns what the words ask for. The first word names a command, in any case. The command borrows the words. No memory
+/// is asked for.
 ///
 /// An error has the text of the reply: `UnknownCommand` also for what Redis serves and this server doesn't, as `EXPIRE`
 /// and `MULTI`.

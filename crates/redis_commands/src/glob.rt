@@ -237,7 +237,7 @@ fn go_on(places: &mut [bool], piece: &Piece<'_>, text: &[u8])
     }
 }
 
-/// Goes through the text, of which the first place is reached.
+/// Goes through the text with the pattern, and returns whether the end is reached.
 fn stands_for(places: &mut [bool], pattern: &[u8], text: &[u8]) -> bool
     requires { length places.old ≡ length text.now + 1 }
     ensures { result ≡ some_place (stand_for (pieces_after 0 pattern.now)) places.old text.now }

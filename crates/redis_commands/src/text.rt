@@ -12,7 +12,7 @@ use std::marker::Model;
 /// A text has at most this many bytes.
 const TEXT_BYTES: usize = 320;
 
-/// So many bytes of a word are shown, and so many of all arguments.
+/// At most this many bytes of a name are shown, and about as many of all arguments.
 const SHOWN_BYTES: usize = 128;
 
 /// The text of an error reply. In a contract it is a list of bytes.
@@ -56,7 +56,7 @@ impl FaultText {
         self.add(text.as_bytes());
     }
 
-    /// Adds what is shown of a word, at most so many bytes.
+    /// Adds what is shown of a word, at most `most` bytes.
     #[tactic(auto, using(crate::proofs::TextLemmas::shown_step, crate::proofs::TextLemmas::shown_none, crate::proofs::TextLemmas::shown_0, crate::proofs::TextLemmas::shown_end))]
     fn add_shown(&mut self, most: usize, word: &[u8])
         requires { length self.old + most ≤ 320 }
