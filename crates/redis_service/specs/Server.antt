@@ -1,0 +1,50 @@
+-- What the server tells of itself.
+use Rattle.std.specs.Prelude.{◌≡◌, ℕ, ◌*◌, Bool, List, [], ◌∷◌, ◌++◌, flat_map, count_by, decimal, codes, Option, Some, None, is_some, if◌then◌else◌}
+use Rattle.std.specs.Str.{str_eq_ignore_ascii_case}
+use Rattle.resp.specs.Replies.{value_bytes, array_head}
+use Rattle.redis_service.specs.Texts.{text_of}
+
+-- texts, one after the other
+abbrev pub joined : List (List ℕ) → List ℕ
+joined texts = flat_map (λ text. text) texts
+
+-- CLIENT LIST and CLIENT INFO: the line of the client itself
+abbrev pub client_line : ℕ → List ℕ → List ℕ
+client_line number name =
+    joined (codes "id=" ∷ decimal number ∷ codes " addr=?:0 laddr=?:0 fd=0 name=" ∷ name
+    ∷ codes " age=0 idle=0 flags=N db=0 sub=0 psub=0 ssub=0 multi=-1 cmd=client|list user=default redir=-1 resp=2\n" ∷ [])
+
+-- INFO. What isn't counted is 0
+abbrev pub info_head : List ℕ
+info_head = codes "# Server\r\nredis_version:7.0.15\r\nredis_mode:standalone\r\n\r\n# Clients\r\nconnected_clients:1\r\nblocked_clients:0\r\n\r\n# Memory\r\nused_memory:0\r\nused_memory_human:0B\r\nmaxmemory:0\r\nmaxmemory_policy:noeviction\r\n\r\n# Persistence\r\nloading:0\r\n\r\n# Stats\r\ntotal_connections_received:0\r\ntotal_commands_processed:0\r\ninstantaneous_ops_per_sec:0\r\n\r\n# Replication\r\nrole:master\r\nconnected_slaves:0\r\n\r\n# Keyspace\r\ndb0:keys="
+
+abbrev pub info_tail : List ℕ
+info_tail = codes ",expires=0,avg_ttl=0\r\n"
+
+-- INFO, about a map with this many keys
+abbrev pub info_text : ℕ → List ℕ
+info_text count = joined (info_head ∷ decimal count ∷ info_tail ∷ [])
+
+-- a word is this one, in any case
+abbrev pub is : List ℕ → List ℕ → Bool
+is name word = str_eq_ignore_ascii_case name word
+
+-- the name and the value of the setting that a word names, as two values of a reply
+abbrev pub setting_of : List ℕ → Option (List ℕ)
+setting_of word =
+    if is (codes "save") word then Some (codes "$4\r\nsave\r\n$0\r\n\r\n")
+    else (if is (codes "appendonly") word then Some (codes "$10\r\nappendonly\r\n$2\r\nno\r\n")
+    else (if is (codes "maxmemory") word then Some (codes "$9\r\nmaxmemory\r\n$1\r\n0\r\n")
+    else (if is (codes "databases") word then Some (codes "$9\r\ndatabases\r\n$1\r\n1\r\n")
+    else (if is (codes "timeout") word then Some (codes "$7\r\ntimeout\r\n$1\r\n0\r\n")
+    else None))))
+
+abbrev pub is_setting : List ℕ → Bool
+is_setting word = is_some (setting_of word)
+
+abbrev pub setting_bytes : List ℕ → List ℕ
+setting_bytes word = text_of (setting_of word)
+
+-- CONFIG GET: the settings that these words name, in order
+abbrev pub config_bytes : List (List ℕ) → List ℕ
+config_bytes words = array_head (2 * count_by is_setting words) ++ flat_map setting_bytes words

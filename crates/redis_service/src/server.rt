@@ -1,0 +1,131 @@
+//! What the server tells of itself.
+ghost use Rattle.std.specs.Prelude.{◌≡◌, ◌<◌, ◌≤◌, ◌+◌, ◌*◌, ◌^◌, ◌∷◌, [], ℕ, List, length, count_by, option_copied, IfOk};
+ghost use Rattle.std.specs.Str.{str_eq_ignore_ascii_case};
+ghost use Rattle.devices.specs.Devices.{CanWrite};
+ghost use Rattle.redis_commands.specs.Commands.{texts};
+ghost use Rattle.redis_service.specs.Replied.{replied_bytes};
+ghost use Rattle.redis_service.specs.Sending.{Sends};
+ghost use Rattle.redis_service.specs.Server.{joined, client_line, info_text, setting_of, is_setting, setting_bytes, config_bytes};
+
+use crate::reply::Replied;
+use bpf_model::NoMemory;
+use devices::{Failed, Sink};
+use itoa::Buffer;
+use std::alloc::Global;
+
+/// Returns the texts, one after the other.
+fn joined(alloc: Global, parts: &[&[u8]]) -> Result<Vec<u8>, NoMemory>
+    ensures { IfOk result (λ text. text.items ≡ joined (texts parts.now)) }
+{
+    let mut text = Vec::new(alloc);
+    for part in parts {
+        let Ok(()) = text.extend_from_slice(part) else {
+            return Err(NoMemory);
+        };
+    }
+    Ok(text)
+}
+
+/// What the line of a client says between its number and its name.
+const CLIENT_MIDDLE: &[u8] = b" addr=?:0 laddr=?:0 fd=0 name=";
+
+/// What the line of a client says after its name.
+const CLIENT_TAIL: &[u8] = b" age=0 idle=0 flags=N db=0 sub=0 psub=0 ssub=0 multi=-1 cmd=client|list user=default redir=-1 resp=2\n";
+
+/// Returns the line of the client with this number and name.
+pub fn client_line(alloc: Global, number: u64, name: &[u8]) -> Result<Vec<u8>, NoMemory>
+    ensures { IfOk result (λ text. text.items ≡ client_line number name.now) }
+{
+    let mut digits = Buffer::new();
+    let number = digits.format(number).as_bytes();
+    joined(alloc, &[b"id=", number, CLIENT_MIDDLE, name, CLIENT_TAIL])
+}
+
+/// What `INFO` says before the number of keys.
+const INFO_HEAD: &[u8] = b"# Server\r\nredis_version:7.0.15\r\nredis_mode:standalone\r\n\r\n# Clients\r\nconnected_clients:1\r\nblocked_clients:0\r\n\r\n# Memory\r\nused_memory:0\r\nused_memory_human:0B\r\nmaxmemory:0\r\nmaxmemory_policy:noeviction\r\n\r\n# Persistence\r\nloading:0\r\n\r\n# Stats\r\ntotal_connections_received:0\r\ntotal_commands_processed:0\r\ninstantaneous_ops_per_sec:0\r\n\r\n# Replication\r\nrole:master\r\nconnected_slaves:0\r\n\r\n# Keyspace\r\ndb0:keys=";
+
+/// What `INFO` says after the number of keys.
+const INFO_TAIL: &[u8] = b",expires=0,avg_ttl=0\r\n";
+
+/// Returns what `INFO` says of a map with this many keys.
+pub fn info_text(alloc: Global, count: u64) -> Result<Vec<u8>, NoMemory>
+    ensures { IfOk result (λ text. text.items ≡ info_text count) }
+{
+    let mut digits = Buffer::new();
+    joined(alloc, &[INFO_HEAD, digits.format(count).as_bytes(), INFO_TAIL])
+}
+
+/// Tests whether a word is this one, in any case.
+fn is(name: &str, word: &[u8]) -> bool
+    ensures { result ≡ str_eq_ignore_ascii_case name.now word.now }
+{
+    name.as_bytes().eq_ignore_ascii_case(word)
+}
+
+/// Returns the reply about the setting that the word names, or none.
+fn setting(word: &[u8]) -> Option<&'static [u8]>
+    ensures { option_copied result ≡ setting_of word.now }
+{
+    if is("save", word) {
+        return Some(b"$4\r\nsave\r\n$0\r\n\r\n");
+    }
+    if is("appendonly", word) {
+        return Some(b"$10\r\nappendonly\r\n$2\r\nno\r\n");
+    }
+    if is("maxmemory", word) {
+        return Some(b"$9\r\nmaxmemory\r\n$1\r\n0\r\n");
+    }
+    if is("databases", word) {
+        return Some(b"$9\r\ndatabases\r\n$1\r\n1\r\n");
+    }
+    if is("timeout", word) {
+        return Some(b"$7\r\ntimeout\r\n$1\r\n0\r\n");
+    }
+    None
+}
+
+/// Returns the reply about the setting that the word names, or no bytes.
+fn setting_of(word: &[u8]) -> Replied
+    ensures { (found : List ℕ) → replied_bytes result found ≡ setting_bytes word.now }
+{
+    match setting(word) {
+        Some(bytes) => Replied::Bytes(bytes),
+        None => Replied::Bytes(&[]),
+    }
+}
+
+/// Returns the count, and one more if the word names a setting.
+fn one_more(count: usize, word: &[u8]) -> usize
+    requires { count < 2 ^ 62 }
+    ensures { result ≡ count + count_by is_setting (word.now ∷ []) }
+{
+    match setting(word) {
+        Some(_) => count + 1,
+        None => count,
+    }
+}
+
+/// Returns the number of words that name settings.
+fn count_settings(words: &[&[u8]]) -> usize
+    ensures count { result ≡ count_by is_setting (texts words.now) }
+    ensures most { result ≤ length words.now }
+{
+    let mut count = 0;
+    for word in words {
+        count = one_more(count, word);
+    }
+    count
+}
+
+/// Says the settings that the words name.
+pub fn put_settings<W: Sink>(words: &[&[u8]], sink: &mut W) -> Result<(), Failed>
+    requires { CanWrite (W.state sink.old) }
+    ensures { Sends result (W.state sink.old) (W.state sink.new) (config_bytes (texts words.now)) }
+{
+    let count = count_settings(words);
+    let mut sent = Replied::Array(2 * count).send_after(Ok(()), &[], sink);
+    for word in words {
+        sent = setting_of(word).send_after(sent, &[], sink);
+    }
+    sent
+}
