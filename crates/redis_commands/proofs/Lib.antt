@@ -1,2 +1,6 @@
 pub mod OptionLemmas
 pub mod NumberLemmas
+pub mod LimitLemmas
+pub mod NameLemmas
+pub mod AskedLemmas
+pub mod TextLemmas

@@ -209,7 +209,7 @@ all_names =
 abbrev pub first_named : List Name → List ℕ → Option Name
 first_named names word = find (λ name. str_eq_ignore_ascii_case (name_text name) word) names
 
-abbrev pub named : List ℕ → Option Name
+unfoldable pub named : List ℕ → Option Name
 named word = first_named all_names word
 
 -- the names of so many letters

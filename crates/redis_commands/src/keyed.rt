@@ -188,6 +188,7 @@ fn has_long_key(keys: &[&[u8]]) -> bool
 }
 
 /// The act on the keys, if they are within the limit.
+#[tactic(auto, using(crate::proofs::LimitLemmas::keys_within))]
 fn on_keys<'a>(keys: &'a [&'a [u8]], act: KeysAct) -> Answer<'a>
     ensures asked { answer_by result ≡ on_keys (texts keys.now) act }
     ensures limits { IfOk result (λ c. IsWithinLimits (asked_by c)) }
@@ -217,6 +218,7 @@ fn check_pairs<'a>(words: &[&[u8]]) -> Result<(), CommandFault<'a>>
 }
 
 /// Returns what the arguments of `MSET` ask for.
+#[tactic(auto, using(crate::proofs::LimitLemmas::pairs_within))]
 fn set_each<'a>(words: &'a [&'a [u8]]) -> Answer<'a>
     ensures asked { answer_by result ≡ set_each (texts words.now) }
     ensures limits { IfOk result (λ c. IsWithinLimits (asked_by c)) }

@@ -57,16 +57,19 @@ impl FaultText {
     }
 
     /// Adds what is shown of a word, at most so many bytes.
+    #[tactic(auto, using(crate::proofs::TextLemmas::shown_step, crate::proofs::TextLemmas::shown_none, crate::proofs::TextLemmas::shown_0, crate::proofs::TextLemmas::shown_end))]
     fn add_shown(&mut self, most: usize, word: &[u8])
         requires { length self.old + most ≤ 320 }
         ensures added { self.new ≡ self.old ++ shown most word.now }
         ensures short { length self.new ≤ length self.old + most }
     {
+        let mut left = most;
         for b in word {
-            if *b == 0 {
+            if left == 0 || *b == 0 {
                 return;
             }
             self.bytes.push(blanked(*b));
+            left -= 1;
         }
     }
 
@@ -87,9 +90,9 @@ impl FaultText {
         requires { length self.old ≤ 178 }
         ensures { self.new ≡ self.old ++ shown_args 0 (texts args.now) }
     {
-        let start = self.bytes.len();
+        let start = self.as_slice().len();
         for arg in args {
-            let so_far = self.bytes.len() - start;
+            let so_far = self.as_slice().len() - start;
             if so_far >= SHOWN_BYTES {
                 return;
             }
