@@ -5,3 +5,4 @@ pub mod SendLemmas
 pub mod EachLemmas
 pub mod SetLemmas
 pub mod ReadLemmas
+pub mod TalkLemmas

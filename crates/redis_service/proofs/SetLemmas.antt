@@ -1,34 +1,89 @@
 -- Keys that are set one after the other.
-use Rattle.std.proofs.Common.{◌≡◌, ℕ, List, [], ◌∷◌, ◌++◌, refl, ap, inl, inr}
+use Rattle.std.proofs.Common.{◌≡◌, ℕ, suc, ◌+◌, ◌<◌, ◌≤◌, List, [], ◌∷◌, ◌++◌, length, map, get_or, drop, refl, sym, ap, subst, ◌∙◌, inl, inr, append_assoc, add-one, arith}
+use Rattle.std.specs.Borrow.{Bor}
+use Rattle.std.proofs.lemmas.List.{drop-cons, get_or-map, length-map, length-drop, append-nil}
 use Rattle.atomic_methods.specs.declared.reply.Reply.{Reply}
 use Rattle.atomic_methods.specs.Invocations.{on_key, put}
 use Rattle.bin_stripes.specs.Passes.{PassState}
+use Rattle.redis_commands.specs.Commands.{texts}
+use Rattle.redis_commands.specs.Limits.{IsKey, IsValue, ArePairs}
 use Rattle.redis_service.specs.Lines.{no_memory_line}
 use Rattle.redis_service.specs.Texts.{ok_line}
 use Rattle.redis_service.specs.Calls.{Refuses, Each}
-use Rattle.redis_service.specs.Answers.{Puts, StopsAt, AnswersSetEach}
+use Rattle.redis_service.specs.Answers.{Puts, StopsAt, AnswersSetEach, pairs}
+use Rattle.redis_service.proofs.EachLemmas.{each_more}
 
--- one pair before the others
-pub sets_more : (old mid new : PassState) (pair : List ℕ × List ℕ) (more : List (List ℕ × List ℕ)) (written : List ℕ) → (reply : Reply) × Puts old pair reply mid
-    → AnswersSetEach mid more written new → AnswersSetEach old (pair ∷ more) written new
-sets_more old mid new pair more written (reply, puts) answers = elim answers [
-    inl all ↦ inl (reply ∷ all.0, (mid, puts, all.1), all.2)
-  | inr stops ↦ let s = stops.0 in inr (
-        record {
-          done = pair ∷ s.done;
-          pair = s.pair;
-          left = s.left;
-          order = ap (λ (t : List (List ℕ × List ℕ)). pair ∷ t) s.order;
-          replies = reply ∷ s.replies;
-          mid = s.mid;
-          puts = (mid, puts, s.puts);
-          refuses = s.refuses;
-        },
-        stops.1,
-      ) ]
+-- the texts from a place on: the word there, and those after it
+texts_at : (words : List (Bor (List ℕ))) (at : ℕ) (d : Bor (List ℕ)) → at < length words → drop at (texts words) ≡ (get_or words at d).now ∷ drop (suc at) (texts words)
+texts_at words at d lt =
+    let long : length (texts words) ≡ length words = length-map words (λ w. w.now) in
+    drop-cons (texts words) at d.now (omega (arith, long))
+    ∙ ap (λ (w : List ℕ). w ∷ drop (suc at) (texts words)) (get_or-map (λ (w : Bor (List ℕ)). w.now) words at d d.now lt)
 
--- the first pair is refused memory
-pub sets_none : (old new : PassState) (pair : List ℕ × List ℕ) (more : List (List ℕ × List ℕ)) → Refuses old (on_key pair.0 (put pair.1)) new
-    → AnswersSetEach old (pair ∷ more) no_memory_line new
-sets_none old new pair more refuses =
-    inr (record { done = []; pair = pair; left = more; order = refl; replies = []; mid = old; puts = refl; refuses = refuses }, refl)
+-- two words, and those after them
+pub pair_at : (words : List (Bor (List ℕ))) (at : ℕ) (d : Bor (List ℕ)) → at + 1 < length words
+    → drop at (texts words) ≡ (get_or words at d).now ∷ (get_or words (at + 1) d).now ∷ drop (at + 2) (texts words)
+pair_at words at d lt =
+    texts_at words at d (omega arith)
+    ∙ ap (λ (t : List (List ℕ)). (get_or words at d).now ∷ t)
+        (ap (λ (k : ℕ). drop k (texts words)) (omega arith) ∙ texts_at words (at + 1) d lt
+        ∙ ap (λ (k : ℕ). (get_or words (at + 1) d).now ∷ drop k (texts words)) (omega arith))
+
+-- what holds of the pairs from a place on
+pub pairs_at : (words : List (Bor (List ℕ))) (at : ℕ) (d : Bor (List ℕ)) → at + 1 < length words → ArePairs (drop at (texts words))
+    → IsKey (get_or words at d).now × IsValue (get_or words (at + 1) d).now × ArePairs (drop (at + 2) (texts words))
+pairs_at words at d lt are = subst ArePairs (pair_at words at d lt) are
+
+-- no pair is left
+pub pairs_end : (words : List (Bor (List ℕ))) (at : ℕ) → length words ≤ at + 1 → pairs (drop at (texts words)) ≡ []
+pairs_end words at all =
+    let long : length (texts words) ≡ length words = length-map words (λ w. w.now) in
+    no_pair (drop at (texts words)) (omega (arith, long, length-drop at (texts words)))
+where
+  no_pair : (ws : List (List ℕ)) → length ws ≤ 1 → pairs ws ≡ []
+  no_pair [] short = refl
+  no_pair (w ∷ []) short = refl
+  no_pair (w ∷ v ∷ ws) short = absurd (omega arith)
+
+-- one more pair was set
+pub sets_more : (old mid new : PassState) (words : List (Bor (List ℕ))) (at : ℕ) (d : Bor (List ℕ)) → at + 1 < length words
+    → (done : List (List ℕ × List ℕ)) × ((replies : List Reply) × Each Puts old done replies mid × (pairs (texts words) ≡ done ++ pairs (drop at (texts words))))
+    → (reply : Reply) × Puts mid ((get_or words at d).now, (get_or words (at + 1) d).now) reply new
+    → (done : List (List ℕ × List ℕ)) × ((replies : List Reply) × Each Puts old done replies new × (pairs (texts words) ≡ done ++ pairs (drop (at + 2) (texts words))))
+sets_more old mid new words at d lt (done, (replies, each, is)) (reply, puts) =
+    let pair : List ℕ × List ℕ = ((get_or words at d).now, (get_or words (at + 1) d).now) in
+    (
+      done ++ pair ∷ [],
+      (
+        replies ++ reply ∷ [],
+        each_more Puts old mid new done replies pair reply each puts,
+        is ∙ ap (λ (t : List (List ℕ)). done ++ pairs t) (pair_at words at d lt) ∙ sym (append_assoc done (pair ∷ []) (pairs (drop (at + 2) (texts words)))),
+      ),
+    )
+
+-- all pairs were set
+pub sets_all : (old new : PassState) (words : List (Bor (List ℕ))) (at : ℕ) → length words ≤ at + 1
+    → (done : List (List ℕ × List ℕ)) × ((replies : List Reply) × Each Puts old done replies new × (pairs (texts words) ≡ done ++ pairs (drop at (texts words))))
+    → AnswersSetEach old (pairs (texts words)) ok_line new
+sets_all old new words at all (done, (replies, each, is)) =
+    let same : pairs (texts words) ≡ done = is ∙ ap (λ (t : List (List ℕ × List ℕ)). done ++ t) (pairs_end words at all) ∙ append-nil done in
+    inl (replies, subst (λ (t : List (List ℕ × List ℕ)). Each Puts old t replies new) (sym same) each, refl)
+
+-- the next pair is refused memory
+pub sets_none : (old mid new : PassState) (words : List (Bor (List ℕ))) (at : ℕ) (d : Bor (List ℕ)) → at + 1 < length words
+    → (done : List (List ℕ × List ℕ)) × ((replies : List Reply) × Each Puts old done replies mid × (pairs (texts words) ≡ done ++ pairs (drop at (texts words))))
+    → Refuses mid (on_key (get_or words at d).now (put (get_or words (at + 1) d).now)) new → AnswersSetEach old (pairs (texts words)) no_memory_line new
+sets_none old mid new words at d lt (done, (replies, each, is)) refuses =
+    inr (
+      record {
+        done = done;
+        pair = ((get_or words at d).now, (get_or words (at + 1) d).now);
+        left = pairs (drop (at + 2) (texts words));
+        order = is ∙ ap (λ (t : List (List ℕ)). done ++ pairs t) (pair_at words at d lt);
+        replies = replies;
+        mid = mid;
+        puts = each;
+        refuses = refuses;
+      },
+      refl,
+    )

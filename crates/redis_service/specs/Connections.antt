@@ -1,7 +1,7 @@
 -- Commands of the connection and of the server.
 use Rattle.std.specs.Prelude.{◌≡◌, ◌⊎◌, ℕ, pos, List, [], ◌∷◌, ◌++◌, Option, Some, None, codes, true}
 use Rattle.bin_stripes.specs.Passes.{PassState}
-use Rattle.resp.specs.Replies.{simple_bytes, value_bytes, nothing_bytes, array_head}
+use Rattle.resp.specs.Replies.{simple_bytes, error_bytes, value_bytes, nothing_bytes, array_head}
 use Rattle.redis_commands.specs.Commands.{ConnectionAsked}
 use Rattle.redis_commands.specs.Commands.ConnectionAsked.{Ping, Echo, Quit, Select, Hello, Auth, ClientId, ClientName, SetClientName, SetClientInfo, ClientList, Commands, CommandCount, CommandDocs, Config, Info, Reset}
 use Rattle.redis_service.specs.States.{TalkState, renamed}
@@ -11,6 +11,9 @@ use Rattle.redis_service.specs.Texts.{ok_line, count_line}
 -- an answer that changes nothing
 abbrev pub Says : TalkState → PassState → List ℕ → List ℕ → TalkState → PassState → Type 0
 Says talk old text written next new = (written ≡ text) × (next ≡ talk) × (new ≡ old)
+
+abbrev pub not_served : List ℕ
+not_served = error_bytes (codes "ERR not served")
 
 -- the client has this name now; or memory to keep it was refused
 abbrev pub Renames : TalkState → PassState → List ℕ → List ℕ → List ℕ → TalkState → PassState → Type 0
@@ -22,15 +25,11 @@ abbrev pub name_line : List ℕ → List ℕ
 name_line [] = nothing_bytes
 name_line (b ∷ name) = value_bytes (b ∷ name)
 
-abbrev pub word_line : List ℕ → List ℕ
-word_line word = value_bytes word
-
--- HELLO: names and values by turns
+-- HELLO: names and values by turns, with the client's number
 abbrev pub hello_bytes : ℕ → List ℕ
 hello_bytes number =
-    array_head 14 ++ (word_line (codes "server") ++ (word_line (codes "redis") ++ (word_line (codes "version") ++ (word_line (codes "7.0.15")
-    ++ (word_line (codes "proto") ++ (count_line 2 ++ (word_line (codes "id") ++ (count_line number ++ (word_line (codes "mode")
-    ++ (word_line (codes "standalone") ++ (word_line (codes "role") ++ (word_line (codes "master") ++ (word_line (codes "modules") ++ array_head 0)))))))))))))
+    codes "*14\r\n$6\r\nserver\r\n$5\r\nredis\r\n$7\r\nversion\r\n$6\r\n7.0.15\r\n$5\r\nproto\r\n:2\r\n$2\r\nid\r\n" ++ count_line number
+    ++ codes "$4\r\nmode\r\n$10\r\nstandalone\r\n$4\r\nrole\r\n$6\r\nmaster\r\n$7\r\nmodules\r\n*0\r\n"
 
 abbrev pub AnswersConnection : TalkState → PassState → ConnectionAsked → List ℕ → TalkState → PassState → Type 0
 AnswersConnection talk old (Ping None) written next new = Says talk old (simple_bytes (codes "PONG")) written next new
@@ -51,4 +50,6 @@ AnswersConnection talk old CommandCount written next new = Says talk old (count_
 AnswersConnection talk old CommandDocs written next new = Says talk old (array_head 0) written next new
 AnswersConnection talk old Reset written next new =
     (written ≡ simple_bytes (codes "RESET")) × (next ≡ renamed talk []) × (new ≡ old)
-AnswersConnection talk old asked written next new = (next ≡ talk) × (new ≡ old)
+AnswersConnection talk old ClientList written next new = Says talk old not_served written next new
+AnswersConnection talk old (Config parameters) written next new = Says talk old not_served written next new
+AnswersConnection talk old Info written next new = Says talk old not_served written next new

@@ -23,6 +23,7 @@ pub fn make<H: Wait>(
     requires map { pass.old.map ≡ map.now }
     ensures same { pass.new.map ≡ map.now }
     ensures passes { pass.new.view.passes ≡ pass.old.view.passes }
+    ensures numbers { pass.new.view.numbers ≡ pass.old.view.numbers }
     ensures made { Made result pass.old (invocation_of call.now) found.new pass.new }
 {
     map.call_into(rt, pass, call, found)
@@ -57,6 +58,7 @@ pub fn get<H: Wait>(
     requires map { pass.old.map ≡ map.now }
     ensures same { pass.new.map ≡ map.now }
     ensures passes { pass.new.view.passes ≡ pass.old.view.passes }
+    ensures numbers { pass.new.view.numbers ≡ pass.old.view.numbers }
     ensures finds { Finds pass.old key.now (where_true result found.new) pass.new }
 {
     match make(rt, map, pass, &Call::Get { key }, found) {
@@ -77,6 +79,7 @@ pub fn remove<H: Wait>(
     requires map { pass.old.map ≡ map.now }
     ensures same { pass.new.map ≡ map.now }
     ensures passes { pass.new.view.passes ≡ pass.old.view.passes }
+    ensures numbers { pass.new.view.numbers ≡ pass.old.view.numbers }
     ensures removes { Removes pass.old key.now (where_true result found.new) pass.new }
 {
     match make(rt, map, pass, &Call::Remove { key }, found) {

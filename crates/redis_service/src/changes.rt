@@ -182,6 +182,7 @@ fn try_change<H: Wait>(
     requires within { IsWithin change.now }
     ensures same { pass.new.map ≡ map.now }
     ensures passes { pass.new.view.passes ≡ pass.old.view.passes }
+    ensures numbers { pass.new.view.numbers ≡ pass.old.view.numbers }
     ensures key { room.new.key ≡ room.old.key }
     ensures tried { MatchOption result (LosesTry room.old.key (Does change.now) pass.old pass.new)
         (λ replied. EndsTry room.old.key (Does change.now) pass.old (replied_bytes replied room.new.found) pass.new) }
@@ -218,6 +219,7 @@ fn try_often<H: Wait>(
     requires within { IsWithin change.now }
     ensures same { pass.new.map ≡ map.now }
     ensures passes { pass.new.view.passes ≡ pass.old.view.passes }
+    ensures numbers { pass.new.view.numbers ≡ pass.old.view.numbers }
     ensures key { room.new.key ≡ room.old.key }
     ensures tried { (before : PassState) → (tries : ℕ) → LosesTries room.old.key (Does change.now) tries before pass.old
         → MatchOption result ((more : ℕ) × LosesTries room.old.key (Does change.now) more before pass.new)
@@ -244,6 +246,7 @@ pub fn make_change<H: Wait>(
     requires within { IsWithin change.now }
     ensures same { pass.new.map ≡ map.now }
     ensures passes { pass.new.view.passes ≡ pass.old.view.passes }
+    ensures numbers { pass.new.view.numbers ≡ pass.old.view.numbers }
     ensures changes { AnswersChange room.old.key (Does change.now) pass.old (replied_bytes result room.new.found) pass.new }
 {
     for _ in rt.forever() {

@@ -1,17 +1,95 @@
 //! Commands of the connection and of the server.
-ghost use Rattle.std.specs.Prelude.{◌≡◌, ◌++◌, ◌∷◌, [], ℕ, List, length, codes, decimal};
+ghost use Rattle.std.specs.Prelude.{◌≡◌, ℕ, List, IsTrue, IsFalse};
 ghost use Rattle.bin_stripes.specs.Passes.{PassState};
 ghost use Rattle.devices.specs.Devices.{CanWrite};
 ghost use Rattle.redis_commands.specs.Commands.{connection_by};
-ghost use Rattle.redis_service.specs.Connections.{AnswersConnection};
+ghost use Rattle.redis_service.specs.Connections.{AnswersConnection, Renames, hello_bytes, name_line};
+ghost use Rattle.redis_service.specs.Lines.{no_memory_line};
+ghost use Rattle.redis_service.specs.Replied.{replied_bytes};
 ghost use Rattle.redis_service.specs.Sending.{Sends};
+ghost use Rattle.redis_service.specs.Texts.{ok_line};
 
 use crate::reply::Replied;
 use crate::talk::RedisTalk;
 use devices::{Failed, Sink};
 use redis_commands::ConnectionCommand;
-use resp::{put_error, put_value};
+use resp::put_value;
 use std::alloc::Global;
+
+/// What `HELLO` says before the client's number.
+const HELLO_HEAD: &[u8] = b"*14\r\n$6\r\nserver\r\n$5\r\nredis\r\n$7\r\nversion\r\n$6\r\n7.0.15\r\n$5\r\nproto\r\n:2\r\n$2\r\nid\r\n";
+
+/// What `HELLO` says after the client's number.
+const HELLO_TAIL: &[u8] =
+    b"$4\r\nmode\r\n$10\r\nstandalone\r\n$4\r\nrole\r\n$6\r\nmaster\r\n$7\r\nmodules\r\n*0\r\n";
+
+/// Says what a `HELLO` asks for, to the client of this number.
+fn put_hello<W: Sink>(number: u64, sink: &mut W) -> Result<(), Failed>
+    requires { CanWrite (W.state sink.old) }
+    ensures { Sends result (W.state sink.old) (W.state sink.new) (hello_bytes number) }
+{
+    let sent = Replied::Bytes(HELLO_HEAD).send_after(Ok(()), &[], sink);
+    let sent = Replied::Count(number).send_after(sent, &[], sink);
+    Replied::Bytes(HELLO_TAIL).send_after(sent, &[], sink)
+}
+
+/// Says the client's name, or nothing.
+fn name_of(name: &[u8]) -> Replied
+    ensures { replied_bytes result name.now ≡ name_line name.now }
+{
+    if name.is_empty() {
+        Replied::Nothing
+    } else {
+        Replied::Found
+    }
+}
+
+/// Says OK if the name was kept.
+fn ok_if_kept(kept: bool) -> Replied
+    ensures kept { IsTrue kept → (found : List ℕ) → replied_bytes result found ≡ ok_line }
+    ensures lost { IsFalse kept → (found : List ℕ) → replied_bytes result found ≡ no_memory_line }
+{
+    if kept {
+        Replied::Simple(b"OK")
+    } else {
+        Replied::NoMemory
+    }
+}
+
+/// Renames the client, and says OK.
+fn rename<W: Sink>(
+    alloc: Global,
+    talk: &mut RedisTalk,
+    name: &[u8],
+    sink: &mut W,
+) -> Result<(), Failed>
+    requires { CanWrite (W.state sink.old) }
+    ensures number { talk.new.number ≡ talk.old.number }
+    ensures renames { (pass : PassState) → (written : List ℕ) × Sends result (W.state sink.old) (W.state sink.new) written
+        × Renames talk.old pass name.now ok_line written talk.new pass }
+{
+    let kept = talk.rename(alloc, name);
+    ok_if_kept(kept).send(&[], sink)
+}
+
+/// Renames the client, and says what a `HELLO` asks for.
+fn greet<W: Sink>(
+    alloc: Global,
+    talk: &mut RedisTalk,
+    name: &[u8],
+    sink: &mut W,
+) -> Result<(), Failed>
+    requires { CanWrite (W.state sink.old) }
+    ensures number { talk.new.number ≡ talk.old.number }
+    ensures renames { (pass : PassState) → (written : List ℕ) × Sends result (W.state sink.old) (W.state sink.new) written
+        × Renames talk.old pass name.now (hello_bytes talk.old.number) written talk.new pass }
+{
+    if talk.rename(alloc, name) {
+        put_hello(talk.number(), sink)
+    } else {
+        Replied::NoMemory.send(&[], sink)
+    }
+}
 
 /// Answers a command of the connection.
 pub fn answer_connection<W: Sink>(
@@ -27,18 +105,32 @@ pub fn answer_connection<W: Sink>(
 {
     match *command {
         ConnectionCommand::Ping(None) => Replied::Simple(b"PONG").send(&[], sink),
-        ConnectionCommand::Ping(Some(text)) | ConnectionCommand::Echo(text) => put_value(sink, text),
+        ConnectionCommand::Ping(Some(text)) => put_value(sink, text),
+        ConnectionCommand::Echo(text) => put_value(sink, text),
         ConnectionCommand::Quit => {
-            talk.is_over = true;
+            talk.leave();
             Replied::Simple(b"OK").send(&[], sink)
         }
-        ConnectionCommand::Select | ConnectionCommand::Auth | ConnectionCommand::SetClientInfo => {
-            Replied::Simple(b"OK").send(&[], sink)
-        }
-        ConnectionCommand::Commands | ConnectionCommand::CommandDocs => {
-            Replied::Array(0).send(&[], sink)
-        }
+        ConnectionCommand::Select => Replied::Simple(b"OK").send(&[], sink),
+        ConnectionCommand::Auth => Replied::Simple(b"OK").send(&[], sink),
+        ConnectionCommand::SetClientInfo => Replied::Simple(b"OK").send(&[], sink),
+        ConnectionCommand::Commands => Replied::Array(0).send(&[], sink),
+        ConnectionCommand::CommandDocs => Replied::Array(0).send(&[], sink),
         ConnectionCommand::CommandCount => Replied::Integer(0).send(&[], sink),
-        _ => put_error(sink, b"ERR not served"),
+        ConnectionCommand::ClientName => {
+            let name = talk.name();
+            name_of(name).send(name, sink)
+        }
+        ConnectionCommand::SetClientName(name) => {
+            rename(alloc, talk, name, sink)
+        }
+        ConnectionCommand::Hello { name: None } => put_hello(talk.number(), sink),
+        ConnectionCommand::Hello { name: Some(name) } => greet(alloc, talk, name, sink),
+        ConnectionCommand::ClientId => Replied::Count(talk.number()).send(&[], sink),
+        ConnectionCommand::Reset => {
+            talk.forget_name(alloc);
+            Replied::Simple(b"RESET").send(&[], sink)
+        }
+        _ => Replied::Error(b"ERR not served").send(&[], sink),
     }
 }

@@ -15,9 +15,8 @@ use crate::connection::answer_connection;
 use crate::keyed::answer_key;
 use crate::lines::no_memory_line;
 use crate::reader::{Came, Reader};
-use crate::reply::Replied;
 use crate::room::Room;
-use crate::several::{count_each, get_each, put_each, remove_each};
+use crate::several::{count_each, count_of, get_each, put_each, remove_each};
 use crate::talk::RedisTalk;
 use bin_stripes::{Pass, StripedMap};
 use devices::{Failed, Sink, write_all};
@@ -43,14 +42,14 @@ pub enum TalkEnd {
 
 /// Room of a worker for the commands of all its clients, and the map that they are about.
 #[derive(Drop)]
-pub struct RedisDesk<'a> {
+pub struct RedisDesk<'a, 's> {
     alloc: Global,
     map: &'a StripedMap,
-    scripts: &'a Scripts<'a>,
+    scripts: &'a Scripts<'s>,
     room: Room,
 }
 
-impl<'a> Model for RedisDesk<'a> {
+impl<'a, 's> Model for RedisDesk<'a, 's> {
     ghost use Rattle.atomic_table.specs.Seated.{TableId, table_id_coded};
 
     ghost Value = { TableId };
@@ -75,14 +74,16 @@ fn finish<W: Sink>(
     ensures err { OnErr result (FailsEnd (W.state sink.old) (W.state sink.new) rest.now talk.old talk.new × (talk.new.is_over ≡ true)) }
     ensures number { talk.new.number ≡ talk.old.number }
 {
-    if talk.is_over {
+    if talk.is_over() {
         talk.end(alloc);
         return Ok(true);
     }
     if let Came::Faulty(fault) = came {
         talk.end(alloc);
-        put_error(sink, fault.message().as_slice())?;
-        return Ok(true);
+        return match put_error(sink, fault.message().as_slice()) {
+            Ok(()) => Ok(true),
+            Err(Failed) => Err(Failed),
+        };
     }
     if let Came::More = came {
         if talk.keep(alloc, rest) {
@@ -90,13 +91,19 @@ fn finish<W: Sink>(
         }
     }
     talk.end(alloc);
-    write_all(sink, no_memory_line())?;
-    Ok(true)
+    match write_all(sink, no_memory_line()) {
+        Ok(()) => Ok(true),
+        Err(Failed) => Err(Failed),
+    }
 }
 
-impl<'a> RedisDesk<'a> {
+impl<'a, 's> RedisDesk<'a, 's> {
     /// Makes the room. Takes no memory.
-    pub fn new(alloc: Global, map: &'a StripedMap, scripts: &'a Scripts<'a>) -> RedisDesk<'a>
+    pub fn new(
+        alloc: Global,
+        map: &'a StripedMap,
+        scripts: &'a Scripts<'s>,
+    ) -> RedisDesk<'a, 's>
         ensures { result ≡ map.now }
     {
         RedisDesk {
@@ -122,6 +129,7 @@ impl<'a> RedisDesk<'a> {
         ensures desk { self.new ≡ self.old }
         ensures same { pass.new.map ≡ self.old }
         ensures passes { pass.new.view.passes ≡ pass.old.view.passes }
+        ensures numbers { pass.new.view.numbers ≡ pass.old.view.numbers }
         ensures answers { (written : List ℕ) × Sends result (W.state sink.old) (W.state sink.new) written
             × AnswersKey pass.old key.now (act_by act.now) written pass.new }
     {
@@ -145,19 +153,19 @@ impl<'a> RedisDesk<'a> {
         ensures desk { self.new ≡ self.old }
         ensures same { pass.new.map ≡ self.old }
         ensures passes { pass.new.view.passes ≡ pass.old.view.passes }
+        ensures numbers { pass.new.view.numbers ≡ pass.old.view.numbers }
         ensures answers { (written : List ℕ) × Sends result (W.state sink.old) (W.state sink.new) written
             × AnswersKeys pass.old (texts keys.now) act written pass.new }
     {
-        let room = &mut self.room;
         match act {
-            KeysAct::GetEach => get_each(rt, self.map, pass, room, keys, sink),
+            KeysAct::GetEach => get_each(rt, self.map, pass, &mut self.room, keys, sink),
             KeysAct::Delete => {
-                let count = remove_each(rt, self.map, pass, room, keys);
-                Replied::Integer(count as i64).send(&[], sink)
+                let count = remove_each(rt, self.map, pass, &mut self.room, keys);
+                count_of(count).send(&[], sink)
             }
             KeysAct::CountPresent => {
-                let count = count_each(rt, self.map, pass, room, keys);
-                Replied::Integer(count as i64).send(&[], sink)
+                let count = count_each(rt, self.map, pass, &mut self.room, keys);
+                count_of(count).send(&[], sink)
             }
         }
     }
@@ -177,6 +185,7 @@ impl<'a> RedisDesk<'a> {
         ensures desk { self.new ≡ self.old }
         ensures same { pass.new.map ≡ self.old }
         ensures passes { pass.new.view.passes ≡ pass.old.view.passes }
+        ensures numbers { pass.new.view.numbers ≡ pass.old.view.numbers }
         ensures number { talk.new.number ≡ talk.old.number }
         ensures answers { (written : List ℕ) × Sends result (W.state sink.old) (W.state sink.new) written
             × AnswersCommand talk.old pass.old (asked_by command.now) written talk.new pass.new }
@@ -206,6 +215,7 @@ impl<'a> RedisDesk<'a> {
         ensures desk { self.new ≡ self.old }
         ensures same { pass.new.map ≡ self.old }
         ensures passes { pass.new.view.passes ≡ pass.old.view.passes }
+        ensures numbers { pass.new.view.numbers ≡ pass.old.view.numbers }
         ensures number { talk.new.number ≡ talk.old.number }
         ensures answers { (written : List ℕ) × Sends result (W.state sink.old) (W.state sink.new) written
             × AnswersWords talk.old pass.old (texts words.now) written talk.new pass.new }
@@ -213,7 +223,7 @@ impl<'a> RedisDesk<'a> {
         match command_of(words) {
             Ok(command) => self.answer_command(rt, pass, talk, &command, sink),
             Err(CommandFault::WebRequest) => {
-                talk.is_over = true;
+                talk.leave();
                 Ok(())
             }
             Err(fault) => put_error(sink, fault.text().as_slice()),
@@ -235,11 +245,12 @@ impl<'a> RedisDesk<'a> {
         ensures desk { self.new ≡ self.old }
         ensures same { pass.new.map ≡ self.old }
         ensures passes { pass.new.view.passes ≡ pass.old.view.passes }
+        ensures numbers { pass.new.view.numbers ≡ pass.old.view.numbers }
         ensures number { talk.new.number ≡ talk.old.number }
         ensures ok { IfOk result (λ came. AnswersAll (W.state sink.old) (W.state sink.new) talk.old pass.old reader.old.rest.now came talk.new pass.new reader.new.rest.now) }
         ensures err { OnErr result (FailsAt (W.state sink.old) (W.state sink.new) talk.old pass.old reader.old.rest.now talk.new pass.new) }
     {
-        while !talk.is_over {
+        while !talk.is_over() {
             match reader.next() {
                 Came::Command => {
                     let Ok(()) = self.answer(rt, pass, talk, &reader.words, sink) else {
@@ -267,6 +278,7 @@ impl<'a> RedisDesk<'a> {
         ensures desk { self.new ≡ self.old }
         ensures same { pass.new.map ≡ self.old }
         ensures passes { pass.new.view.passes ≡ pass.old.view.passes }
+        ensures numbers { pass.new.view.numbers ≡ pass.old.view.numbers }
         ensures number { talk.new.number ≡ talk.old.number }
         ensures ok { OnOk result ((talk.new.is_over ≡ false) × ((written : List ℕ)
             × TakesBytes (W.state sink.old) (W.state sink.new) written
@@ -306,6 +318,7 @@ impl<'a> RedisDesk<'a> {
         requires open { talk.old.is_over ≡ false }
         ensures desk { self.new ≡ self.old }
         ensures same { ServesSameMap pass.old pass.new }
+        ensures numbers { pass.new.view.numbers ≡ pass.old.view.numbers }
         ensures number { talk.new.number ≡ talk.old.number }
         // The piece was taken, and all its commands are answered.
         ensures ok { OnOk result ((talk.new.is_over ≡ false) × ((written : List ℕ)

@@ -78,6 +78,7 @@ fn set_always<H: Wait>(
     requires map { pass.old.map ≡ map.now }
     ensures same { pass.new.map ≡ map.now }
     ensures passes { pass.new.view.passes ≡ pass.old.view.passes }
+    ensures numbers { pass.new.view.numbers ≡ pass.old.view.numbers }
     ensures answers { AnswersSet pass.old room.old.key room.old.value Always wants_old (replied_bytes result room.new.found) pass.new }
 {
     let Room {
@@ -98,6 +99,7 @@ fn set_if_absent<H: Wait>(
     requires map { pass.old.map ≡ map.now }
     ensures same { pass.new.map ≡ map.now }
     ensures passes { pass.new.view.passes ≡ pass.old.view.passes }
+    ensures numbers { pass.new.view.numbers ≡ pass.old.view.numbers }
     ensures answers { AnswersSet pass.old room.old.key room.old.value IfAbsent wants_old (replied_bytes result room.new.found) pass.new }
 {
     let Room {
@@ -122,6 +124,7 @@ fn set_if_present<H: Wait>(
     requires map { pass.old.map ≡ map.now }
     ensures same { pass.new.map ≡ map.now }
     ensures passes { pass.new.view.passes ≡ pass.old.view.passes }
+    ensures numbers { pass.new.view.numbers ≡ pass.old.view.numbers }
     ensures answers { AnswersSet pass.old room.old.key room.old.value IfPresent wants_old (replied_bytes result room.new.found) pass.new }
 {
     let Room {
@@ -147,6 +150,7 @@ fn set_if_equal<H: Wait>(
     requires expected { length expected.now ≤ VALUE_BYTES }
     ensures same { pass.new.map ≡ map.now }
     ensures passes { pass.new.view.passes ≡ pass.old.view.passes }
+    ensures numbers { pass.new.view.numbers ≡ pass.old.view.numbers }
     ensures answers { AnswersSet pass.old room.old.key room.old.value (IfEqual expected.now) false (replied_bytes result room.new.found) pass.new }
 {
     let Room {
@@ -176,6 +180,7 @@ fn set<H: Wait>(
     requires limits { longest (Set act.value.now (condition_by act.condition) act.wants_old) ≤ VALUE_BYTES }
     ensures same { pass.new.map ≡ map.now }
     ensures passes { pass.new.view.passes ≡ pass.old.view.passes }
+    ensures numbers { pass.new.view.numbers ≡ pass.old.view.numbers }
     ensures answers { AnswersSet pass.old room.old.key act.entry.value.now (condition_by act.entry.condition) act.entry.wants_old (replied_bytes result room.new.found) pass.new }
 {
     room.value.set_from(act.value);
@@ -206,6 +211,7 @@ fn put_new<H: Wait>(
     requires limits { length new.now ≤ VALUE_BYTES }
     ensures same { pass.new.map ≡ map.now }
     ensures passes { pass.new.view.passes ≡ pass.old.view.passes }
+    ensures numbers { pass.new.view.numbers ≡ pass.old.view.numbers }
     ensures answers { AnswersKey pass.old room.old.key (SetIfAbsent new.now) (replied_bytes result room.new.found) pass.new }
 {
     let Room {
@@ -227,6 +233,7 @@ fn get_and_put<H: Wait>(
     requires limits { length new.now ≤ VALUE_BYTES }
     ensures same { pass.new.map ≡ map.now }
     ensures passes { pass.new.view.passes ≡ pass.old.view.passes }
+    ensures numbers { pass.new.view.numbers ≡ pass.old.view.numbers }
     ensures answers { AnswersKey pass.old room.old.key (GetAndSet new.now) (replied_bytes result room.new.found) pass.new }
 {
     let Room {
@@ -248,6 +255,7 @@ fn remove_equal<H: Wait>(
     requires limits { length expected.now ≤ VALUE_BYTES }
     ensures same { pass.new.map ≡ map.now }
     ensures passes { pass.new.view.passes ≡ pass.old.view.passes }
+    ensures numbers { pass.new.view.numbers ≡ pass.old.view.numbers }
     ensures answers { AnswersKey pass.old room.old.key (DeleteIfEqual expected.now) (replied_bytes result room.new.found) pass.new }
 {
     let Room {
@@ -266,6 +274,7 @@ fn look<H: Wait>(rt: &H, map: &StripedMap, pass: &mut Pass, room: &mut Room) -> 
     requires map { pass.old.map ≡ map.now }
     ensures same { pass.new.map ≡ map.now }
     ensures passes { pass.new.view.passes ≡ pass.old.view.passes }
+    ensures numbers { pass.new.view.numbers ≡ pass.old.view.numbers }
     ensures finds { Finds pass.old room.old.key (where_true result room.new.found) pass.new }
 {
     get(rt, map, pass, &room.key, &mut room.found)
@@ -283,6 +292,7 @@ pub fn answer_key<H: Wait>(
     requires limits { longest (act_by act.now) ≤ VALUE_BYTES }
     ensures same { pass.new.map ≡ map.now }
     ensures passes { pass.new.view.passes ≡ pass.old.view.passes }
+    ensures numbers { pass.new.view.numbers ≡ pass.old.view.numbers }
     ensures answers { AnswersKey pass.old room.old.key (act_by act.now) (replied_bytes result room.new.found) pass.new }
 {
     match *act {

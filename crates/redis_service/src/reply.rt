@@ -3,10 +3,25 @@ ghost use Rattle.std.specs.Prelude.{◌≡◌, ◌++◌, ℕ, List, OnOk, OnErr}
 ghost use Rattle.devices.specs.Devices.{SinkState, CanWrite, TakesBytes, TakesPart};
 ghost use Rattle.redis_service.specs.Replied.{replied_bytes};
 ghost use Rattle.redis_service.specs.Sending.{Sends};
+ghost use Rattle.redis_service.specs.Texts.{count_line};
 
 use crate::lines::no_memory_line;
+use arrayvec::ArrayVec;
 use devices::{Failed, Sink, write_all};
+use itoa::Buffer;
 use resp::{put_array, put_error, put_integer, put_nothing, put_simple, put_value};
+
+/// Returns the line of a number.
+fn count_line(number: u64) -> ArrayVec<u8, 64>
+    ensures { result.items ≡ count_line number }
+{
+    let mut line = ArrayVec::new();
+    let mut digits = Buffer::new();
+    line.try_extend_from_slice(b":").unwrap();
+    line.try_extend_from_slice(digits.format(number).as_bytes()).unwrap();
+    line.try_extend_from_slice(b"\r\n").unwrap();
+    line
+}
 
 /// A reply of one line or value, or the head of an array. The bytes of a value are with the caller.
 #[derive(Clone, Copy)]
@@ -17,8 +32,12 @@ pub enum Replied {
     Nothing,
     /// A number.
     Integer(i64),
+    /// A number that is not below 0.
+    Count(u64),
     /// The head of an array of this many replies.
     Array(usize),
+    /// These bytes.
+    Bytes(&'static [u8]),
     /// A text that is no error.
     Simple(&'static [u8]),
     /// An error's text.
@@ -38,7 +57,9 @@ impl Replied {
             Replied::Found => put_value(sink, found),
             Replied::Nothing => put_nothing(sink),
             Replied::Integer(number) => put_integer(sink, number),
+            Replied::Count(number) => write_all(sink, count_line(number).as_slice()),
             Replied::Array(count) => put_array(sink, count),
+            Replied::Bytes(bytes) => write_all(sink, bytes),
             Replied::Simple(text) => put_simple(sink, text),
             Replied::Error(text) => put_error(sink, text),
             Replied::NoMemory => write_all(sink, no_memory_line()),

@@ -11,6 +11,7 @@ ghost use Rattle.redis_service.specs.Answers.{pairs, Puts, AnswersKeys, AnswersS
 ghost use Rattle.redis_service.specs.Calls.{Refuses, Finds, Removes, Each, bulk};
 ghost use Rattle.redis_service.specs.Replied.{replied_bytes};
 ghost use Rattle.redis_service.specs.Sending.{Sends};
+ghost use Rattle.redis_service.specs.Texts.{count_line};
 
 use crate::calls::{get, make, remove};
 use crate::reply::Replied;
@@ -29,6 +30,14 @@ fn one_more(count: usize, was: bool) -> usize
     if was { count + 1 } else { count }
 }
 
+/// The reply that is this number.
+pub fn count_of(count: usize) -> Replied
+    requires { count < 2 ^ 63 }
+    ensures { (found : List ℕ) → replied_bytes result found ≡ count_line count }
+{
+    Replied::Integer(count as i64)
+}
+
 /// Removes the key, and returns whether it was there.
 fn remove_one<H: Wait>(
     rt: &H,
@@ -41,6 +50,7 @@ fn remove_one<H: Wait>(
     requires key { IsKey key.now }
     ensures same { pass.new.map ≡ map.now }
     ensures passes { pass.new.view.passes ≡ pass.old.view.passes }
+    ensures numbers { pass.new.view.numbers ≡ pass.old.view.numbers }
     ensures removes { Removes pass.old key.now (where_true result room.new.found) pass.new }
 {
     room.key.set_from(key);
@@ -59,6 +69,7 @@ fn get_one<H: Wait>(
     requires key { IsKey key.now }
     ensures same { pass.new.map ≡ map.now }
     ensures passes { pass.new.view.passes ≡ pass.old.view.passes }
+    ensures numbers { pass.new.view.numbers ≡ pass.old.view.numbers }
     ensures finds { Finds pass.old key.now (where_true result room.new.found) pass.new }
 {
     room.key.set_from(key);
@@ -77,6 +88,7 @@ pub fn remove_each<H: Wait>(
     requires keys { All IsKey (texts keys.now) }
     ensures same { pass.new.map ≡ map.now }
     ensures passes { pass.new.view.passes ≡ pass.old.view.passes }
+    ensures numbers { pass.new.view.numbers ≡ pass.old.view.numbers }
     ensures count { (founds : List (Option (List ℕ))) × Each Removes pass.old (texts keys.now) founds pass.new
         × (result ≡ count_by is_some founds) }
     ensures most { result ≤ length keys.now }
@@ -101,6 +113,7 @@ pub fn count_each<H: Wait>(
     requires keys { All IsKey (texts keys.now) }
     ensures same { pass.new.map ≡ map.now }
     ensures passes { pass.new.view.passes ≡ pass.old.view.passes }
+    ensures numbers { pass.new.view.numbers ≡ pass.old.view.numbers }
     ensures count { (founds : List (Option (List ℕ))) × Each Finds pass.old (texts keys.now) founds pass.new
         × (result ≡ count_by is_some founds) }
     ensures most { result ≤ length keys.now }
@@ -138,6 +151,7 @@ pub fn get_each<H: Wait, W: Sink>(
     requires sink { CanWrite (W.state sink.old) }
     ensures same { pass.new.map ≡ map.now }
     ensures passes { pass.new.view.passes ≡ pass.old.view.passes }
+    ensures numbers { pass.new.view.numbers ≡ pass.old.view.numbers }
     ensures answers { (written : List ℕ) × Sends result (W.state sink.old) (W.state sink.new) written
         × AnswersKeys pass.old (texts keys.now) GetEach written pass.new }
 {
@@ -163,6 +177,7 @@ fn put_one<H: Wait>(
     requires value { IsValue value.now }
     ensures same { pass.new.map ≡ map.now }
     ensures passes { pass.new.view.passes ≡ pass.old.view.passes }
+    ensures numbers { pass.new.view.numbers ≡ pass.old.view.numbers }
     ensures puts { IsTrue result → (reply : Reply) × Puts pass.old (key.now, value.now) reply pass.new }
     ensures refuses { IsFalse result → Refuses pass.old (on_key key.now (put value.now)) pass.new }
 {
@@ -179,26 +194,26 @@ fn put_one<H: Wait>(
 }
 
 /// Sets keys and values, which come by turns.
-#[tactic(auto, using(crate::proofs::SetLemmas::sets_more, crate::proofs::SetLemmas::sets_none))]
-pub fn put_each<'a, H: Wait>(
+pub fn put_each<H: Wait>(
     rt: &H,
     map: &StripedMap,
     pass: &mut Pass,
     room: &mut Room,
-    words: &'a [&'a [u8]],
+    words: &[&[u8]],
 ) -> Replied
     requires map { pass.old.map ≡ map.now }
     requires words { ArePairs (texts words.now) }
     ensures same { pass.new.map ≡ map.now }
     ensures passes { pass.new.view.passes ≡ pass.old.view.passes }
+    ensures numbers { pass.new.view.numbers ≡ pass.old.view.numbers }
     ensures answers { (found : List ℕ) → AnswersSetEach pass.old (pairs (texts words.now)) (replied_bytes result found) pass.new }
 {
-    let [key, value, later @ ..] = words else {
-        return Replied::Simple(b"OK");
-    };
-    if put_one(rt, map, pass, room, key, value) {
-        put_each(rt, map, pass, room, later)
-    } else {
-        Replied::NoMemory
+    let mut at = 0;
+    while at + 1 < words.len() {
+        if !put_one(rt, map, pass, room, words[at], words[at + 1]) {
+            return Replied::NoMemory;
+        }
+        at += 2;
     }
+    Replied::Simple(b"OK")
 }

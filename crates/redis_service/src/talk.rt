@@ -1,5 +1,5 @@
 //! A talk with one client between two pieces.
-ghost use Rattle.std.specs.Prelude.{◌≡◌, [], ◌↔◌, ◌≢◌, IsTrue, IsFalse};
+ghost use Rattle.std.specs.Prelude.{◌≡◌, [], ◌↔◌, ◌≢◌, IsTrue, IsFalse, true};
 ghost use Rattle.redis_service.specs.States.{begun, ended, renamed};
 
 use std::alloc::Global;
@@ -41,6 +41,41 @@ impl RedisTalk {
         ensures { IsTrue result ↔ (self.now.rest ≢ []) }
     {
         !self.rest.is_empty()
+    }
+
+    /// Tests whether the talk is over.
+    pub(crate) fn is_over(&self) -> bool
+        ensures { result ≡ self.now.is_over }
+    {
+        self.is_over
+    }
+
+    /// Returns the client's number.
+    pub(crate) fn number(&self) -> u64
+        ensures { result ≡ self.now.number }
+    {
+        self.number
+    }
+
+    /// Returns the client's name.
+    pub(crate) fn name(&self) -> &[u8]
+        ensures { result.now ≡ self.now.name }
+    {
+        &self.name
+    }
+
+    /// The client asked for the end.
+    pub(crate) fn leave(&mut self)
+        ensures { self.new ≡ record self.old { is_over = true } }
+    {
+        self.is_over = true;
+    }
+
+    /// Takes the client's name away.
+    pub(crate) fn forget_name(&mut self, alloc: Global)
+        ensures { self.new ≡ renamed self.old [] }
+    {
+        self.name = Vec::new(alloc);
     }
 
     /// Ends the talk.

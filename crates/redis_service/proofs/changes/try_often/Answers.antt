@@ -13,6 +13,7 @@ pub loop-preserved : goal.loop-preserved
 loop-preserved g c = record {
   map = search rules;
   passes = search rules;
+  numbers = search rules;
   key = search rules;
   lost = λ before tries lost. loses_more c.args.room.now.key (Does c.args.change.now) before c.loop.pass c.try_change.new.pass (c.loop.invariant.lost before tries lost) (rw c.loop.invariant.key at c.in_default.ensures.tried);
 }

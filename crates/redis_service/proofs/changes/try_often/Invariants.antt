@@ -9,6 +9,7 @@ abbrev pub invariant-loop : goal.invariant-loop
 invariant-loop g l = record {
   map : l.pass.map ≡ l.map;
   passes : l.pass.view.passes ≡ l.fn.pass.view.passes;
+  numbers : l.pass.view.numbers ≡ l.fn.pass.view.numbers;
   key : l.room.key ≡ l.fn.room.key;
   lost : (before : PassState) (tries : ℕ) → LosesTries l.fn.room.key (Does l.change) tries before l.fn.pass
       → (more : ℕ) × LosesTries l.fn.room.key (Does l.change) more before l.pass;

@@ -15,6 +15,7 @@ loop-key-preserved g c =
     record {
       map = c.get_one-was.ensures.same;
       passes = search rules;
+      numbers = search rules;
       each = (
         founds ++ found ∷ [],
         each_at Finds c.args.pass.now c.loop-key.pass c.get_one-was.new.pass c.args.keys.now c.loop-key.key-index _ founds found (omega arith) each c.get_one-was.ensures.finds,

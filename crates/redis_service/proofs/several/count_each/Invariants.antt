@@ -8,6 +8,7 @@ abbrev pub invariant-loop-key : goal.invariant-loop-key
 invariant-loop-key g l = record {
   map : l.pass.map ≡ l.map;
   passes : l.pass.view.passes ≡ l.fn.pass.view.passes;
+  numbers : l.pass.view.numbers ≡ l.fn.pass.view.numbers;
   each : (founds : List (Option (List ℕ))) × Each Finds l.fn.pass (texts (take l.key-index l.keys)) founds l.pass × (l.count ≡ count_by is_some founds);
   most : l.count ≤ l.key-index;
 }

@@ -13,6 +13,7 @@ pub loop-key-init : goal.loop-key-init
 loop-key-init g c = record {
   map = c.requires.map;
   passes = search rules;
+  numbers = search rules;
   can = c.send_after-sent.ensures.can;
   each = (
     [],
@@ -37,6 +38,7 @@ loop-key-preserved g c =
     record {
       map = c.get_one-was.ensures.same;
       passes = search rules;
+      numbers = search rules;
       can = c.send_after-sent-in-loop-key.ensures.can;
       each = (
         founds ++ found ∷ [],

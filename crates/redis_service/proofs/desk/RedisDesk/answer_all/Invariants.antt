@@ -1,11 +1,19 @@
 -- the commands so far are answered
-use Rattle.std.proofs.Common.{◌≡◌, ℕ, List, length}
+use Rattle.std.proofs.Common.{◌≡◌, ◌<◌, ◌^◌, ◌-◌, ℕ, List, length}
 use Rattle.devices.specs.Devices.{TakesBytes}
 use Rattle.redis_service.specs.Talks.{AnswersSome}
 use Rattle.redis_service.proofs.desk.RedisDesk.answer_all.Given as goal
 
-abbrev pub invariant-loop : goal.invariant-loop
-invariant-loop g l = ?
+abbrev pub invariant-loop-talk : goal.invariant-loop-talk
+invariant-loop-talk g l = record {
+  desk : l.self ≡ l.fn.self;
+  map : l.pass.map ≡ l.fn.pass.map;
+  passes : l.pass.view.passes ≡ l.fn.pass.view.passes;
+  numbers : l.pass.view.numbers ≡ l.fn.pass.view.numbers;
+  number : l.talk.number ≡ l.fn.talk.number;
+  some : (written : List ℕ) × TakesBytes (g.W.Sink.state l.fn.sink) (g.W.Sink.state l.sink) written
+      × AnswersSome l.fn.talk l.fn.pass l.fn.reader.rest.now written l.talk l.pass l.reader.rest.now;
+}
 
-abbrev pub decreases-loop : goal.decreases-loop
-decreases-loop g l = length l.reader.rest.now
+abbrev pub decreases-loop-talk : goal.decreases-loop-talk
+decreases-loop-talk g l = length l.reader.rest.now

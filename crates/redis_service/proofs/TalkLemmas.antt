@@ -1,0 +1,142 @@
+-- Commands that are answered one after the other, and how that stops.
+use Rattle.std.proofs.Common.{◌≡◌, ℕ, ◌+◌, ◌≤◌, Bool, true, false, List, [], ◌∷◌, ◌++◌, length, flat_map, refl, sym, ap, subst, ◌∙◌, inl, inr, append_assoc, arith}
+use Rattle.std.proofs.lemmas.List.{append-nil}
+use Rattle.std.proofs.lemmas.List.Concat.{flat_map-append}
+use Rattle.devices.specs.Devices.{SinkState, TakesBytes, TakesPart, TakesThenFails}
+use Rattle.bin_stripes.specs.Passes.{PassState}
+use Rattle.redis_service.specs.declared.reader.Came.{Came}
+use Rattle.redis_service.specs.declared.reader.Came.TheVariants.{Command, Nothing}
+use Rattle.redis_service.specs.Reads.{ReadsNext}
+use Rattle.redis_service.specs.Sending.{IsPart}
+use Rattle.redis_service.specs.Commands.{AnswersWords}
+use Rattle.redis_service.specs.Talks.{TalkState, ended, Said, AnswersSaid, AnswersEach, AnswersSome, AnswersBytes, BreaksBytes}
+use Rattle.redis_service.specs.Stops.{AnswersAll, FailsAt, TellsEnd, FailsEnd}
+use Rattle.redis_service.proofs.SendLemmas.{takes_then, cut_after}
+
+-- one more
+each_more : (talk mid next : TalkState) (old between new : PassState) (said : List Said) (one : Said) → AnswersEach talk old said mid between → mid.is_over ≡ false
+    → AnswersSaid mid between one next new → AnswersEach talk old (said ++ one ∷ []) next new
+each_more talk mid next old between new [] one (same-talk, same) open answers = (
+  next,
+  new,
+  subst (λ (t : TalkState). t.is_over ≡ false) same-talk open,
+  subst (λ (t : TalkState). AnswersSaid t old one next new) same-talk (subst (λ (p : PassState). AnswersSaid mid p one next new) same answers),
+  (refl, refl),
+)
+each_more talk mid next old between new (first ∷ said) one (t, p, is-open, does, later) open answers =
+    (t, p, is-open, does, each_more t mid next p between new said one later open answers)
+
+-- nothing was read
+pub some_none : (talk : TalkState) (old : PassState) (bytes : List ℕ) → AnswersSome talk old bytes [] talk old bytes
+some_none talk old bytes = record { said = []; each = (refl, refl); read_is = refl; written_is = refl }
+
+pub some_more : (talk mid next : TalkState) (old between new : PassState) (bytes written rest behind : List ℕ) (one : Said)
+    → AnswersSome talk old bytes written mid between rest → mid.is_over ≡ false → rest ≡ one.read ++ behind → AnswersSaid mid between one next new
+    → AnswersSome talk old bytes (written ++ one.written) next new behind
+some_more talk mid next old between new bytes written rest behind one some open is answers = record {
+  said = some.said ++ one ∷ [];
+  each = each_more talk mid next old between new some.said one some.each open answers;
+  read_is =
+      some.read_is ∙ ap (λ (t : List ℕ). flat_map (λ (s : Said). s.read) some.said ++ t) is ∙ sym (append_assoc (flat_map (λ (s : Said). s.read) some.said) one.read behind)
+      ∙ ap (λ (t : List ℕ). t ++ behind)
+          (ap (λ (t : List ℕ). flat_map (λ (s : Said). s.read) some.said ++ t) (sym (append-nil one.read)) ∙ sym (flat_map-append (λ (s : Said). s.read) some.said (one ∷ [])));
+  written_is =
+      ap (λ (t : List ℕ). t ++ one.written) some.written_is
+      ∙ (ap (λ (t : List ℕ). flat_map (λ (s : Said). s.written) some.said ++ t) (sym (append-nil one.written)) ∙ sym (flat_map-append (λ (s : Said). s.written) some.said (one ∷ [])));
+}
+
+-- a command was read and answered
+pub step_command : (a b c : SinkState) (talk mid next : TalkState) (old between new : PassState) (bytes rest behind : List ℕ) (words : List (List ℕ))
+    → (written : List ℕ) × TakesBytes a b written × AnswersSome talk old bytes written mid between rest → mid.is_over ≡ false → ReadsNext Command rest words behind
+    → (more : List ℕ) × TakesBytes b c more × AnswersWords mid between words more next new
+    → (written : List ℕ) × TakesBytes a c written × AnswersSome talk old bytes written next new behind
+step_command a b c talk mid next old between new bytes rest behind words (written, taken, some) open ((read, is, spells), shorter) (more, sent, answers) = (
+  written ++ more,
+  takes_then a b c written more taken sent,
+  some_more talk mid next old between new bytes written rest behind (record { read = read; written = more }) some open is (inr (words, spells, answers)),
+)
+
+-- something was read that is ignored
+pub step_nothing : (a b : SinkState) (talk mid : TalkState) (old between : PassState) (bytes rest behind : List ℕ) (words : List (List ℕ))
+    → (written : List ℕ) × TakesBytes a b written × AnswersSome talk old bytes written mid between rest → mid.is_over ≡ false → ReadsNext Nothing rest words behind
+    → (written : List ℕ) × TakesBytes a b written × AnswersSome talk old bytes written mid between behind
+step_nothing a b talk mid old between bytes rest behind words (written, taken, some) open ((read, is, ignored), shorter) = (
+  written,
+  taken,
+  subst (λ (t : List ℕ). AnswersSome talk old bytes t mid between behind) (append-nil written)
+      (some_more talk mid mid old between between bytes written rest behind (record { read = read; written = [] }) some open is (inl (ignored, refl, refl, refl))),
+)
+
+-- a command was read and made, and a write of its answer failed
+pub step_fails : (a b c : SinkState) (talk mid next : TalkState) (old between new : PassState) (bytes rest behind : List ℕ) (words : List (List ℕ))
+    → (written : List ℕ) × TakesBytes a b written × AnswersSome talk old bytes written mid between rest → ReadsNext Command rest words behind
+    → (more : List ℕ) × TakesPart b c more × AnswersWords mid between words more next new → FailsAt a c talk old bytes next new
+step_fails a b c talk mid next old between new bytes rest behind words (written, taken, some) ((read, is, spells), shorter) (more, sent, answers) =
+    let (part, cut, both) = cut_after a b c written more taken sent in
+    record {
+      written = written;
+      last = mid;
+      between = between;
+      rest = rest;
+      some = some;
+      said = record { read = read; written = more };
+      behind = behind;
+      rest_is = is;
+      answers = inr (words, spells, answers);
+      part = part;
+      cut = cut;
+      taken = both;
+    }
+
+-- all was answered, and the end told
+pub answers_of : (a b c : SinkState) (talk mid next : TalkState) (old new : PassState) (bytes rest : List ℕ) (came : Came) → AnswersAll a b talk old bytes came mid new rest
+    → TellsEnd b c rest mid next → (written : List ℕ) × TakesBytes a c written × AnswersBytes talk old bytes written next new
+answers_of a b c talk mid next old new bytes rest came all end = (
+  all.written ++ end.tail,
+  takes_then a b c all.written end.tail all.taken end.taken,
+  record { last = mid; before = all.written; rest = rest; some = all.some; ending = end.ending; tail = end.tail; ends = end.ends; written_is = refl },
+)
+
+-- a write of the answer to a command failed
+pub breaks_of_fails : (a c : SinkState) (talk mid next : TalkState) (old new : PassState) (bytes : List ℕ) → FailsAt a c talk old bytes mid new → next ≡ ended mid
+    → (written : List ℕ) × TakesThenFails a c written × BreaksBytes talk old bytes written next new
+breaks_of_fails a c talk mid next old new bytes fails is = (
+  fails.written ++ fails.part,
+  fails.taken,
+  record {
+    last = fails.last;
+    between = fails.between;
+    before = fails.written;
+    rest = fails.rest;
+    some = fails.some;
+    whole = fails.said.written;
+    answers = inl (fails.said, fails.behind, mid, fails.rest_is, refl, fails.answers, is);
+    part = fails.part;
+    cut = fails.cut;
+    written_is = refl;
+    over = ap (λ (t : TalkState). t.is_over) is;
+  },
+)
+
+-- a write of what is told at the end failed
+pub breaks_of_end : (a b c : SinkState) (talk mid next : TalkState) (old new : PassState) (bytes rest : List ℕ) (came : Came) → AnswersAll a b talk old bytes came mid new rest
+    → FailsEnd b c rest mid next → next.is_over ≡ true → (written : List ℕ) × TakesThenFails a c written × BreaksBytes talk old bytes written next new
+breaks_of_end a b c talk mid next old new bytes rest came all end over =
+    let (part, cut, both) = cut_after a b c all.written end.tail all.taken end.taken in
+    (
+      all.written ++ part,
+      both,
+      record {
+        last = mid;
+        between = new;
+        before = all.written;
+        rest = rest;
+        some = all.some;
+        whole = end.tail;
+        answers = inr (end.ending, end.ends, refl);
+        part = part;
+        cut = cut;
+        written_is = refl;
+        over = over;
+      },
+    )

@@ -1,0 +1,26 @@
+use Rattle.std.proofs.Common.{rules, arith}
+use Rattle.redis_service.proofs.SetLemmas.{pairs_at, sets_more, sets_all, sets_none}
+use Rattle.redis_service.proofs.several.put_each.Goals as goal
+
+pub put_one-requires-clause-key : goal.put_one-requires-clause-key
+put_one-requires-clause-key g c = (pairs_at c.args.words.now c.loop-at.at _ (omega arith) c.loop-at.invariant.within).0
+
+pub put_one-requires-clause-value : goal.put_one-requires-clause-value
+put_one-requires-clause-value g c = (pairs_at c.args.words.now c.loop-at.at _ (omega arith) c.loop-at.invariant.within).1
+
+pub returns-then-not-put_one-clause-answers : goal.returns-then-not-put_one-clause-answers
+returns-then-not-put_one-clause-answers g c found =
+    sets_none c.args.pass.now c.loop-at.pass c.put_one.new.pass c.args.words.now c.loop-at.at _ (omega arith) c.loop-at.invariant.each (c.put_one.ensures.refuses (search rules))
+
+pub loop-at-preserved : goal.loop-at-preserved
+loop-at-preserved g c = record {
+  map = search rules;
+  passes = search rules;
+  numbers = search rules;
+  place = omega arith;
+  within = (pairs_at c.args.words.now c.loop-at.at _ (omega arith) c.loop-at.invariant.within).2;
+  each = sets_more c.args.pass.now c.loop-at.pass c.put_one.new.pass c.args.words.now c.loop-at.at _ (omega arith) c.loop-at.invariant.each (c.put_one.ensures.puts (search rules));
+}
+
+pub returns-clause-answers : goal.returns-clause-answers
+returns-clause-answers g c found = sets_all c.args.pass.now c.loop-at.pass c.args.words.now c.loop-at.at (omega arith) c.loop-at.invariant.each
