@@ -6,3 +6,4 @@ pub mod EachLemmas
 pub mod SetLemmas
 pub mod ReadLemmas
 pub mod TalkLemmas
+pub mod WalkLemmas
