@@ -21,6 +21,7 @@ use std::sync::Wait;
 const NOT_SERVED: &[u8] = b"ERR patterns are not served";
 
 /// What a walk needs.
+#[derive(Drop)]
 pub struct Ground<'a> {
     /// Memory for the keys that are found.
     pub alloc: Global,
