@@ -4,3 +4,5 @@ pub mod LimitLemmas
 pub mod NameLemmas
 pub mod AskedLemmas
 pub mod TextLemmas
+pub mod GlobLemmas
+pub mod PlaceLemmas

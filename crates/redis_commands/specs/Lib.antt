@@ -6,3 +6,4 @@ pub mod Options
 pub mod Limits
 pub mod Texts
 pub mod Matching
+pub mod Places

@@ -16,4 +16,5 @@ pub use command::{
     Command, Condition, ConnectionCommand, KeyAct, KeysAct, ProgramCommand, WalkCommand,
 };
 pub use fault::CommandFault;
+pub use glob::matches;
 pub use text::FaultText;

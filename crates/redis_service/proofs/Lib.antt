@@ -6,4 +6,6 @@ pub mod EachLemmas
 pub mod SetLemmas
 pub mod ReadLemmas
 pub mod TalkLemmas
+pub mod FaultLemmas
+pub mod EndLemmas
 pub mod WalkLemmas

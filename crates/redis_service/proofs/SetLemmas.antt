@@ -1,7 +1,7 @@
 -- Keys that are set one after the other.
-use Rattle.std.proofs.Common.{◌≡◌, ℕ, suc, ◌+◌, ◌<◌, ◌≤◌, List, [], ◌∷◌, ◌++◌, length, map, get_or, drop, refl, sym, ap, subst, ◌∙◌, inl, inr, append_assoc, add-one, arith}
+use Rattle.std.proofs.Common.{◌≡◌, ℕ, suc, ◌+◌, ◌<◌, ◌≤◌, List, [], ◌∷◌, ◌++◌, length, map, get_or, drop, refl, sym, ap, subst, ◌∙◌, inl, inr, append_assoc, add-one, drop-cons, arith}
 use Rattle.std.specs.Borrow.{Bor}
-use Rattle.std.proofs.lemmas.List.{drop-cons, get_or-map, length-map, length-drop, append-nil}
+use Rattle.std.proofs.lemmas.List.{get_or-map, length-map, length-drop, append-nil}
 use Rattle.atomic_methods.specs.declared.reply.Reply.{Reply}
 use Rattle.atomic_methods.specs.Invocations.{on_key, put}
 use Rattle.bin_stripes.specs.Passes.{PassState}
@@ -24,26 +24,28 @@ texts_at words at d lt =
 pub pair_at : (words : List (Bor (List ℕ))) (at : ℕ) (d : Bor (List ℕ)) → at + 1 < length words
     → drop at (texts words) ≡ (get_or words at d).now ∷ (get_or words (at + 1) d).now ∷ drop (at + 2) (texts words)
 pair_at words at d lt =
+    let one : suc at ≡ at + 1 = omega arith in
+    let two : suc (at + 1) ≡ at + 2 = omega arith in
     texts_at words at d (omega arith)
     ∙ ap (λ (t : List (List ℕ)). (get_or words at d).now ∷ t)
-        (ap (λ (k : ℕ). drop k (texts words)) (omega arith) ∙ texts_at words (at + 1) d lt
-        ∙ ap (λ (k : ℕ). (get_or words (at + 1) d).now ∷ drop k (texts words)) (omega arith))
+    (ap (λ (k : ℕ). drop k (texts words)) one ∙ texts_at words (at + 1) d lt
+    ∙ ap (λ (k : ℕ). (get_or words (at + 1) d).now ∷ drop k (texts words)) two)
 
 -- what holds of the pairs from a place on
 pub pairs_at : (words : List (Bor (List ℕ))) (at : ℕ) (d : Bor (List ℕ)) → at + 1 < length words → ArePairs (drop at (texts words))
     → IsKey (get_or words at d).now × IsValue (get_or words (at + 1) d).now × ArePairs (drop (at + 2) (texts words))
 pairs_at words at d lt are = subst ArePairs (pair_at words at d lt) are
 
+no_pair : (ws : List (List ℕ)) → length ws ≤ 1 → pairs ws ≡ []
+no_pair [] short = refl
+no_pair (w ∷ []) short = refl
+no_pair (w ∷ v ∷ ws) short = absurd (omega arith)
+
 -- no pair is left
 pub pairs_end : (words : List (Bor (List ℕ))) (at : ℕ) → length words ≤ at + 1 → pairs (drop at (texts words)) ≡ []
 pairs_end words at all =
     let long : length (texts words) ≡ length words = length-map words (λ w. w.now) in
     no_pair (drop at (texts words)) (omega (arith, long, length-drop at (texts words)))
-where
-  no_pair : (ws : List (List ℕ)) → length ws ≤ 1 → pairs ws ≡ []
-  no_pair [] short = refl
-  no_pair (w ∷ []) short = refl
-  no_pair (w ∷ v ∷ ws) short = absurd (omega arith)
 
 -- one more pair was set
 pub sets_more : (old mid new : PassState) (words : List (Bor (List ℕ))) (at : ℕ) (d : Bor (List ℕ)) → at + 1 < length words
@@ -51,8 +53,7 @@ pub sets_more : (old mid new : PassState) (words : List (Bor (List ℕ))) (at : 
     → (reply : Reply) × Puts mid ((get_or words at d).now, (get_or words (at + 1) d).now) reply new
     → (done : List (List ℕ × List ℕ)) × ((replies : List Reply) × Each Puts old done replies new × (pairs (texts words) ≡ done ++ pairs (drop (at + 2) (texts words))))
 sets_more old mid new words at d lt (done, (replies, each, is)) (reply, puts) =
-    let pair : List ℕ × List ℕ = ((get_or words at d).now, (get_or words (at + 1) d).now) in
-    (
+    let pair : List ℕ × List ℕ = ((get_or words at d).now, (get_or words (at + 1) d).now) in (
       done ++ pair ∷ [],
       (
         replies ++ reply ∷ [],

@@ -16,15 +16,15 @@ use Rattle.redis_service.proofs.SendLemmas.{takes_then, cut_after}
 -- one more
 each_more : (talk mid next : TalkState) (old between new : PassState) (said : List Said) (one : Said) → AnswersEach talk old said mid between → mid.is_over ≡ false
     → AnswersSaid mid between one next new → AnswersEach talk old (said ++ one ∷ []) next new
-each_more talk mid next old between new [] one (same-talk, same) open answers = (
+each_more talk mid next old between new [] one (same-talk, same) goes answers = (
   next,
   new,
-  subst (λ (t : TalkState). t.is_over ≡ false) same-talk open,
+  subst (λ (t : TalkState). t.is_over ≡ false) same-talk goes,
   subst (λ (t : TalkState). AnswersSaid t old one next new) same-talk (subst (λ (p : PassState). AnswersSaid mid p one next new) same answers),
   (refl, refl),
 )
-each_more talk mid next old between new (first ∷ said) one (t, p, is-open, does, later) open answers =
-    (t, p, is-open, does, each_more t mid next p between new said one later open answers)
+each_more talk mid next old between new (first ∷ said) one (t, p, is-goes, does, later) goes answers =
+    (t, p, is-goes, does, each_more t mid next p between new said one later goes answers)
 
 -- nothing was read
 pub some_none : (talk : TalkState) (old : PassState) (bytes : List ℕ) → AnswersSome talk old bytes [] talk old bytes
@@ -33,13 +33,13 @@ some_none talk old bytes = record { said = []; each = (refl, refl); read_is = re
 pub some_more : (talk mid next : TalkState) (old between new : PassState) (bytes written rest behind : List ℕ) (one : Said)
     → AnswersSome talk old bytes written mid between rest → mid.is_over ≡ false → rest ≡ one.read ++ behind → AnswersSaid mid between one next new
     → AnswersSome talk old bytes (written ++ one.written) next new behind
-some_more talk mid next old between new bytes written rest behind one some open is answers = record {
+some_more talk mid next old between new bytes written rest behind one some goes is answers = record {
   said = some.said ++ one ∷ [];
-  each = each_more talk mid next old between new some.said one some.each open answers;
+  each = each_more talk mid next old between new some.said one some.each goes answers;
   read_is =
       some.read_is ∙ ap (λ (t : List ℕ). flat_map (λ (s : Said). s.read) some.said ++ t) is ∙ sym (append_assoc (flat_map (λ (s : Said). s.read) some.said) one.read behind)
       ∙ ap (λ (t : List ℕ). t ++ behind)
-          (ap (λ (t : List ℕ). flat_map (λ (s : Said). s.read) some.said ++ t) (sym (append-nil one.read)) ∙ sym (flat_map-append (λ (s : Said). s.read) some.said (one ∷ [])));
+      (ap (λ (t : List ℕ). flat_map (λ (s : Said). s.read) some.said ++ t) (sym (append-nil one.read)) ∙ sym (flat_map-append (λ (s : Said). s.read) some.said (one ∷ [])));
   written_is =
       ap (λ (t : List ℕ). t ++ one.written) some.written_is
       ∙ (ap (λ (t : List ℕ). flat_map (λ (s : Said). s.written) some.said ++ t) (sym (append-nil one.written)) ∙ sym (flat_map-append (λ (s : Said). s.written) some.said (one ∷ [])));
@@ -50,21 +50,21 @@ pub step_command : (a b c : SinkState) (talk mid next : TalkState) (old between 
     → (written : List ℕ) × TakesBytes a b written × AnswersSome talk old bytes written mid between rest → mid.is_over ≡ false → ReadsNext Command rest words behind
     → (more : List ℕ) × TakesBytes b c more × AnswersWords mid between words more next new
     → (written : List ℕ) × TakesBytes a c written × AnswersSome talk old bytes written next new behind
-step_command a b c talk mid next old between new bytes rest behind words (written, taken, some) open ((read, is, spells), shorter) (more, sent, answers) = (
+step_command a b c talk mid next old between new bytes rest behind words (written, taken, some) goes ((read, is, spells), shorter) (more, sent, answers) = (
   written ++ more,
   takes_then a b c written more taken sent,
-  some_more talk mid next old between new bytes written rest behind (record { read = read; written = more }) some open is (inr (words, spells, answers)),
+  some_more talk mid next old between new bytes written rest behind (record { read = read; written = more }) some goes is (inr (words, spells, answers)),
 )
 
 -- something was read that is ignored
 pub step_nothing : (a b : SinkState) (talk mid : TalkState) (old between : PassState) (bytes rest behind : List ℕ) (words : List (List ℕ))
     → (written : List ℕ) × TakesBytes a b written × AnswersSome talk old bytes written mid between rest → mid.is_over ≡ false → ReadsNext Nothing rest words behind
     → (written : List ℕ) × TakesBytes a b written × AnswersSome talk old bytes written mid between behind
-step_nothing a b talk mid old between bytes rest behind words (written, taken, some) open ((read, is, ignored), shorter) = (
+step_nothing a b talk mid old between bytes rest behind words (written, taken, some) goes ((read, is, ignored), shorter) = (
   written,
   taken,
   subst (λ (t : List ℕ). AnswersSome talk old bytes t mid between behind) (append-nil written)
-      (some_more talk mid mid old between between bytes written rest behind (record { read = read; written = [] }) some open is (inl (ignored, refl, refl, refl))),
+      (some_more talk mid mid old between between bytes written rest behind (record { read = read; written = [] }) some goes is (inl (ignored, refl, refl, refl))),
 )
 
 -- a command was read and made, and a write of its answer failed
@@ -122,8 +122,7 @@ breaks_of_fails a c talk mid next old new bytes fails is = (
 pub breaks_of_end : (a b c : SinkState) (talk mid next : TalkState) (old new : PassState) (bytes rest : List ℕ) (came : Came) → AnswersAll a b talk old bytes came mid new rest
     → FailsEnd b c rest mid next → next.is_over ≡ true → (written : List ℕ) × TakesThenFails a c written × BreaksBytes talk old bytes written next new
 breaks_of_end a b c talk mid next old new bytes rest came all end over =
-    let (part, cut, both) = cut_after a b c all.written end.tail all.taken end.taken in
-    (
+    let (part, cut, both) = cut_after a b c all.written end.tail all.taken end.taken in (
       all.written ++ part,
       both,
       record {

@@ -36,10 +36,10 @@ pub overwritten_is : (text more zeros z a b c d : List ℕ) (offset front end ro
 overwritten_is text more zeros z a b c d offset front end room front-is end-is zeros-is wide z-is a-is b-is c-is d-is =
     let first : a ≡ take offset text = a-is ∙ ap (λ (t : List ℕ). t ++ take front text) z-is ∙ ap (λ (k : ℕ). take k text) front-is ∙ take_min offset text in
     let gap : take (offset - front) zeros ≡ replicate (offset - length text) 0 =
-        ap (λ (t : List ℕ). take (offset - front) t) zeros-is ∙ take-replicate (offset - front) room 0 (omega arith)
-        ∙ ap (λ (k : ℕ). replicate k 0) (omega arith) in
+    ap (λ (t : List ℕ). take (offset - front) t) zeros-is ∙ take-replicate (offset - front) room 0 (omega arith)
+    ∙ ap (λ (k : ℕ). replicate k 0) (omega arith) in
     let last : take (length text - end) (drop end text) ≡ drop (offset + length more) text =
-        take_rest text end ∙ ap (λ (k : ℕ). drop k text) end-is ∙ drop_min (offset + length more) text in
+    take_rest text end ∙ ap (λ (k : ℕ). drop k text) end-is ∙ drop_min (offset + length more) text in
     let front-whole : b ≡ take offset text ++ replicate (offset - length text) 0 = cc (b-is, first, gap) in
     let whole : d ≡ ((take offset text ++ replicate (offset - length text) 0) ++ more) ++ drop (offset + length more) text = cc (d-is, c-is, front-whole, last) in
     whole ∙ append_assoc (take offset text ++ replicate (offset - length text) 0) more (drop (offset + length more) text)

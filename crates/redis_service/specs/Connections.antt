@@ -31,15 +31,23 @@ hello_bytes number =
     codes "*14\r\n$6\r\nserver\r\n$5\r\nredis\r\n$7\r\nversion\r\n$6\r\n7.0.15\r\n$5\r\nproto\r\n:2\r\n$2\r\nid\r\n" ++ count_line number
     ++ codes "$4\r\nmode\r\n$10\r\nstandalone\r\n$4\r\nrole\r\n$6\r\nmaster\r\n$7\r\nmodules\r\n*0\r\n"
 
+-- HELLO, with a name or without
+abbrev pub Greets : TalkState → PassState → Option (List ℕ) → List ℕ → TalkState → PassState → Type 0
+Greets talk old None written next new = Says talk old (hello_bytes talk.number) written next new
+Greets talk old (Some name) written next new = Renames talk old name (hello_bytes talk.number) written next new
+
+-- PING, with a text or without
+abbrev pub ping_line : Option (List ℕ) → List ℕ
+ping_line None = simple_bytes (codes "PONG")
+ping_line (Some text) = value_bytes text
+
 abbrev pub AnswersConnection : TalkState → PassState → ConnectionAsked → List ℕ → TalkState → PassState → Type 0
-AnswersConnection talk old (Ping None) written next new = Says talk old (simple_bytes (codes "PONG")) written next new
-AnswersConnection talk old (Ping (Some text)) written next new = Says talk old (value_bytes text) written next new
+AnswersConnection talk old (Ping text) written next new = Says talk old (ping_line text) written next new
 AnswersConnection talk old (Echo text) written next new = Says talk old (value_bytes text) written next new
 AnswersConnection talk old Quit written next new =
     (written ≡ ok_line) × (next ≡ record talk { is_over = true }) × (new ≡ old)
 AnswersConnection talk old Select written next new = Says talk old ok_line written next new
-AnswersConnection talk old (Hello None) written next new = Says talk old (hello_bytes talk.number) written next new
-AnswersConnection talk old (Hello (Some name)) written next new = Renames talk old name (hello_bytes talk.number) written next new
+AnswersConnection talk old (Hello name) written next new = Greets talk old name written next new
 AnswersConnection talk old Auth written next new = Says talk old ok_line written next new
 AnswersConnection talk old ClientId written next new = Says talk old (count_line talk.number) written next new
 AnswersConnection talk old ClientName written next new = Says talk old (name_line talk.name) written next new

@@ -48,13 +48,7 @@ pub fn text_of(was: bool, found: &Value) -> &[u8]
 
 /// Gets the key's value into `found`, and returns whether there is one.
 #[tactic(auto, using(crate::proofs::CallLemmas::gets_are_not_refused))]
-pub fn get<H: Wait>(
-    rt: &H,
-    map: &StripedMap,
-    pass: &mut Pass,
-    key: &Key,
-    found: &mut Value,
-) -> bool
+pub fn get<H: Wait>(rt: &H, map: &StripedMap, pass: &mut Pass, key: &Key, found: &mut Value) -> bool
     requires map { pass.old.map ≡ map.now }
     ensures same { pass.new.map ≡ map.now }
     ensures passes { pass.new.view.passes ≡ pass.old.view.passes }

@@ -15,8 +15,8 @@ use crate::room::Room;
 use crate::texts::{overwrite, set_both};
 use atomic_methods::{Call, ReplyKind};
 use bin_stripes::{Pass, StripedMap};
-use bpf_model::{Key, NoMemory, Value};
 use bpf_model::limits::VALUE_BYTES;
+use bpf_model::{Key, NoMemory, Value};
 use itoa::Buffer;
 use resp::integer;
 use std::sync::Wait;
@@ -92,13 +92,7 @@ fn plan_append(more: &[u8], was: bool, found: &Value, value: &mut Value) -> Plan
 }
 
 /// Plans to write the bytes from this place on.
-fn plan_range(
-    offset: usize,
-    more: &[u8],
-    was: bool,
-    found: &Value,
-    value: &mut Value,
-) -> Planned
+fn plan_range(offset: usize, more: &[u8], was: bool, found: &Value, value: &mut Value) -> Planned
     requires { 1 ≤ length more.now → offset + length more.now ≤ VALUE_BYTES }
     ensures { SetsRange offset more.now (where_true was found.now) (step_by result found.now value.new) }
 {
@@ -111,13 +105,7 @@ fn plan_range(
 }
 
 /// Plans to set the value if the found one is the expected one.
-fn plan_swap(
-    expected: &[u8],
-    new: &[u8],
-    was: bool,
-    found: &Value,
-    value: &mut Value,
-) -> Planned
+fn plan_swap(expected: &[u8], new: &[u8], was: bool, found: &Value, value: &mut Value) -> Planned
     requires { length new.now ≤ VALUE_BYTES }
     ensures { SetsIfEqual expected.now new.now (where_true was found.now) (step_by result found.now value.new) }
 {

@@ -1,10 +1,9 @@
 //! Commands of the connection and of the server.
-ghost use Rattle.std.specs.Prelude.{◌≡◌, ℕ, List, IsTrue, IsFalse};
+ghost use Rattle.std.specs.Prelude.{◌≡◌, ℕ, List};
 ghost use Rattle.bin_stripes.specs.Passes.{PassState};
 ghost use Rattle.devices.specs.Devices.{CanWrite};
-ghost use Rattle.redis_commands.specs.Commands.{connection_by};
-ghost use Rattle.redis_service.specs.Connections.{AnswersConnection, Renames, hello_bytes, name_line};
-ghost use Rattle.redis_service.specs.Lines.{no_memory_line};
+ghost use Rattle.redis_commands.specs.Commands.{connection_by, text};
+ghost use Rattle.redis_service.specs.Connections.{AnswersConnection, Greets, Renames, hello_bytes, name_line, ping_line};
 ghost use Rattle.redis_service.specs.Replied.{replied_bytes};
 ghost use Rattle.redis_service.specs.Sending.{Sends};
 ghost use Rattle.redis_service.specs.Texts.{ok_line};
@@ -17,7 +16,8 @@ use resp::put_value;
 use std::alloc::Global;
 
 /// What `HELLO` says before the client's number.
-const HELLO_HEAD: &[u8] = b"*14\r\n$6\r\nserver\r\n$5\r\nredis\r\n$7\r\nversion\r\n$6\r\n7.0.15\r\n$5\r\nproto\r\n:2\r\n$2\r\nid\r\n";
+const HELLO_HEAD: &[u8] =
+    b"*14\r\n$6\r\nserver\r\n$5\r\nredis\r\n$7\r\nversion\r\n$6\r\n7.0.15\r\n$5\r\nproto\r\n:2\r\n$2\r\nid\r\n";
 
 /// What `HELLO` says after the client's number.
 const HELLO_TAIL: &[u8] =
@@ -44,18 +44,6 @@ fn name_of(name: &[u8]) -> Replied
     }
 }
 
-/// Says OK if the name was kept.
-fn ok_if_kept(kept: bool) -> Replied
-    ensures kept { IsTrue kept → (found : List ℕ) → replied_bytes result found ≡ ok_line }
-    ensures lost { IsFalse kept → (found : List ℕ) → replied_bytes result found ≡ no_memory_line }
-{
-    if kept {
-        Replied::Simple(b"OK")
-    } else {
-        Replied::NoMemory
-    }
-}
-
 /// Renames the client, and says OK.
 fn rename<W: Sink>(
     alloc: Global,
@@ -68,8 +56,11 @@ fn rename<W: Sink>(
     ensures renames { (pass : PassState) → (written : List ℕ) × Sends result (W.state sink.old) (W.state sink.new) written
         × Renames talk.old pass name.now ok_line written talk.new pass }
 {
-    let kept = talk.rename(alloc, name);
-    ok_if_kept(kept).send(&[], sink)
+    if talk.rename(alloc, name) {
+        Replied::Simple(b"OK").send(&[], sink)
+    } else {
+        Replied::NoMemory.send(&[], sink)
+    }
 }
 
 /// Renames the client, and says what a `HELLO` asks for.
@@ -91,6 +82,35 @@ fn greet<W: Sink>(
     }
 }
 
+/// Says what a `HELLO` asks for, and renames the client if there is a name.
+fn hello<W: Sink>(
+    alloc: Global,
+    talk: &mut RedisTalk,
+    name: Option<&[u8]>,
+    sink: &mut W,
+) -> Result<(), Failed>
+    requires { CanWrite (W.state sink.old) }
+    ensures number { talk.new.number ≡ talk.old.number }
+    ensures greets { (pass : PassState) → (written : List ℕ) × Sends result (W.state sink.old) (W.state sink.new) written
+        × Greets talk.old pass (text name.entry) written talk.new pass }
+{
+    match name {
+        Some(name) => greet(alloc, talk, name, sink),
+        None => put_hello(talk.number(), sink),
+    }
+}
+
+/// Says the text, or that the server is there.
+fn ping<W: Sink>(word: Option<&[u8]>, sink: &mut W) -> Result<(), Failed>
+    requires { CanWrite (W.state sink.old) }
+    ensures { Sends result (W.state sink.old) (W.state sink.new) (ping_line (text word.entry)) }
+{
+    match word {
+        Some(text) => put_value(sink, text),
+        None => Replied::Simple(b"PONG").send(&[], sink),
+    }
+}
+
 /// Answers a command of the connection.
 pub fn answer_connection<W: Sink>(
     alloc: Global,
@@ -104,8 +124,7 @@ pub fn answer_connection<W: Sink>(
         × AnswersConnection talk.old pass (connection_by command.now) written talk.new pass }
 {
     match *command {
-        ConnectionCommand::Ping(None) => Replied::Simple(b"PONG").send(&[], sink),
-        ConnectionCommand::Ping(Some(text)) => put_value(sink, text),
+        ConnectionCommand::Ping(text) => ping(text, sink),
         ConnectionCommand::Echo(text) => put_value(sink, text),
         ConnectionCommand::Quit => {
             talk.leave();
@@ -121,16 +140,15 @@ pub fn answer_connection<W: Sink>(
             let name = talk.name();
             name_of(name).send(name, sink)
         }
-        ConnectionCommand::SetClientName(name) => {
-            rename(alloc, talk, name, sink)
-        }
-        ConnectionCommand::Hello { name: None } => put_hello(talk.number(), sink),
-        ConnectionCommand::Hello { name: Some(name) } => greet(alloc, talk, name, sink),
+        ConnectionCommand::SetClientName(name) => { rename(alloc, talk, name, sink) }
+        ConnectionCommand::Hello { name } => hello(alloc, talk, name, sink),
         ConnectionCommand::ClientId => Replied::Count(talk.number()).send(&[], sink),
         ConnectionCommand::Reset => {
             talk.forget_name(alloc);
             Replied::Simple(b"RESET").send(&[], sink)
         }
-        _ => Replied::Error(b"ERR not served").send(&[], sink),
+        ConnectionCommand::ClientList => Replied::Error(b"ERR not served").send(&[], sink),
+        ConnectionCommand::Config { .. } => Replied::Error(b"ERR not served").send(&[], sink),
+        ConnectionCommand::Info => Replied::Error(b"ERR not served").send(&[], sink),
     }
 }

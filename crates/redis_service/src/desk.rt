@@ -1,12 +1,12 @@
 //! What answers the commands of a worker's clients.
 ghost use Rattle.std.specs.Prelude.{◌≡◌, ◌≢◌, ℕ, List, true, false, All, OnOk, OnErr, IfOk};
-ghost use Rattle.bin_stripes.specs.Passes.{ServesSameMap};
+ghost use Rattle.bin_stripes.specs.Passes.{PassState, ServesSameMap};
 ghost use Rattle.devices.specs.Devices.{CanWrite, TakesBytes, TakesThenFails};
-ghost use Rattle.redis_commands.specs.Commands.{asked_by, act_by, texts};
+ghost use Rattle.redis_commands.specs.Commands.{asked_by, act_by, fault_by, texts};
 ghost use Rattle.redis_commands.specs.Commands.Asked.{OnKey};
 ghost use Rattle.redis_commands.specs.Limits.{IsKey, IsWithinLimits};
 ghost use Rattle.redis_service.specs.Answers.{AnswersKey, AnswersKeys};
-ghost use Rattle.redis_service.specs.Commands.{AnswersCommand, AnswersWords};
+ghost use Rattle.redis_service.specs.Commands.{AnswersCommand, AnswersRead, AnswersWords};
 ghost use Rattle.redis_service.specs.Sending.{Sends};
 ghost use Rattle.redis_service.specs.Stops.{Stops, AnswersAll, FailsAt, TellsEnd, FailsEnd};
 ghost use Rattle.redis_service.specs.Talks.{AnswersBytes, BreaksBytes, AnswersPiece, BreaksPiece};
@@ -48,7 +48,7 @@ pub struct RedisDesk<'a, 's> {
     map: &'a StripedMap,
     scripts: &'a Scripts<'s>,
     room: Room,
-    /// The commands about the whole map so far.
+    /// The number of commands about the whole map so far.
     walks: u64,
 }
 
@@ -100,13 +100,29 @@ fn finish<W: Sink>(
     }
 }
 
+/// Says why words are no command. The talk is over after what looks like a request of the web, which is not answered.
+fn refuse<W: Sink>(
+    talk: &mut RedisTalk,
+    fault: &CommandFault<'_>,
+    sink: &mut W,
+) -> Result<(), Failed>
+    requires { CanWrite (W.state sink.old) }
+    ensures number { talk.new.number ≡ talk.old.number }
+    ensures answers { (pass : PassState) → (written : List ℕ) × Sends result (W.state sink.old) (W.state sink.new) written
+        × AnswersRead talk.old pass (Err (fault_by fault.now)) written talk.new pass }
+{
+    match fault {
+        CommandFault::WebRequest => {
+            talk.leave();
+            Ok(())
+        }
+        _ => put_error(sink, fault.text().as_slice()),
+    }
+}
+
 impl<'a, 's> RedisDesk<'a, 's> {
     /// Makes the room. Takes no memory.
-    pub fn new(
-        alloc: Global,
-        map: &'a StripedMap,
-        scripts: &'a Scripts<'s>,
-    ) -> RedisDesk<'a, 's>
+    pub fn new(alloc: Global, map: &'a StripedMap, scripts: &'a Scripts<'s>) -> RedisDesk<'a, 's>
         ensures { result ≡ map.now }
     {
         RedisDesk {
@@ -235,11 +251,7 @@ impl<'a, 's> RedisDesk<'a, 's> {
     {
         match command_of(words) {
             Ok(command) => self.answer_command(rt, pass, talk, &command, sink),
-            Err(CommandFault::WebRequest) => {
-                talk.leave();
-                Ok(())
-            }
-            Err(fault) => put_error(sink, fault.text().as_slice()),
+            Err(fault) => refuse(talk, &fault, sink),
         }
     }
 
@@ -266,9 +278,10 @@ impl<'a, 's> RedisDesk<'a, 's> {
         while !talk.is_over() {
             match reader.next() {
                 Came::Command => {
-                    let Ok(()) = self.answer(rt, pass, talk, &reader.words, sink) else {
-                        return Err(Failed);
-                    };
+                    match self.answer(rt, pass, talk, &reader.words, sink) {
+                        Ok(()) => {}
+                        Err(Failed) => return Err(Failed),
+                    }
                 }
                 Came::Nothing => {}
                 came => return Ok(came),

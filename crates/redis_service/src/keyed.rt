@@ -32,7 +32,11 @@ use std::sync::Wait;
 fn length_of(was: bool, found: &Value) -> Replied
     ensures { replied_bytes result found.now ≡ length_line (where_true was found.now) }
 {
-    Replied::Integer(if was { found.as_slice().len() as i64 } else { 0 })
+    Replied::Integer(if was {
+        found.as_slice().len() as i64
+    } else {
+        0
+    })
 }
 
 /// The type of what was found.
@@ -82,10 +86,17 @@ fn set_always<H: Wait>(
     ensures answers { AnswersSet pass.old room.old.key room.old.value Always wants_old (replied_bytes result room.new.found) pass.new }
 {
     let Room {
-        key, found, value, ..
+        key,
+        found,
+        value,
+        ..
     } = room;
     let made = make(rt, map, pass, &Call::Put { key, value }, found);
-    if wants_old { say_value(made) } else { say_ok(made) }
+    if wants_old {
+        say_value(made)
+    } else {
+        say_ok(made)
+    }
 }
 
 /// Sets the room's value if the key has none.
@@ -103,7 +114,10 @@ fn set_if_absent<H: Wait>(
     ensures answers { AnswersSet pass.old room.old.key room.old.value IfAbsent wants_old (replied_bytes result room.new.found) pass.new }
 {
     let Room {
-        key, found, value, ..
+        key,
+        found,
+        value,
+        ..
     } = room;
     let made = make(rt, map, pass, &Call::PutIfAbsent { key, value }, found);
     if wants_old {
@@ -128,7 +142,10 @@ fn set_if_present<H: Wait>(
     ensures answers { AnswersSet pass.old room.old.key room.old.value IfPresent wants_old (replied_bytes result room.new.found) pass.new }
 {
     let Room {
-        key, found, value, ..
+        key,
+        found,
+        value,
+        ..
     } = room;
     let made = make(rt, map, pass, &Call::Replace { key, value }, found);
     if wants_old {
@@ -215,7 +232,10 @@ fn put_new<H: Wait>(
     ensures answers { AnswersKey pass.old room.old.key (SetIfAbsent new.now) (replied_bytes result room.new.found) pass.new }
 {
     let Room {
-        key, found, value, ..
+        key,
+        found,
+        value,
+        ..
     } = room;
     value.set_from(new);
     say_one_if_none(make(rt, map, pass, &Call::PutIfAbsent { key, value }, found))
@@ -237,7 +257,10 @@ fn get_and_put<H: Wait>(
     ensures answers { AnswersKey pass.old room.old.key (GetAndSet new.now) (replied_bytes result room.new.found) pass.new }
 {
     let Room {
-        key, found, value, ..
+        key,
+        found,
+        value,
+        ..
     } = room;
     value.set_from(new);
     say_value(make(rt, map, pass, &Call::Put { key, value }, found))
@@ -259,7 +282,10 @@ fn remove_equal<H: Wait>(
     ensures answers { AnswersKey pass.old room.old.key (DeleteIfEqual expected.now) (replied_bytes result room.new.found) pass.new }
 {
     let Room {
-        key, found, other, ..
+        key,
+        found,
+        other,
+        ..
     } = room;
     other.set_from(expected);
     let call = Call::RemoveIf {

@@ -18,7 +18,8 @@ fn count_line(number: u64) -> ArrayVec<u8, 64>
     let mut line = ArrayVec::new();
     let mut digits = Buffer::new();
     line.try_extend_from_slice(b":").unwrap();
-    line.try_extend_from_slice(digits.format(number).as_bytes()).unwrap();
+    line.try_extend_from_slice(digits.format(number).as_bytes())
+        .unwrap();
     line.try_extend_from_slice(b"\r\n").unwrap();
     line
 }

@@ -58,13 +58,7 @@ fn remove_one<H: Wait>(
 }
 
 /// Gets the key's value into the room, and returns whether there is one.
-fn get_one<H: Wait>(
-    rt: &H,
-    map: &StripedMap,
-    pass: &mut Pass,
-    room: &mut Room,
-    key: &[u8],
-) -> bool
+fn get_one<H: Wait>(rt: &H, map: &StripedMap, pass: &mut Pass, room: &mut Room, key: &[u8]) -> bool
     requires map { pass.old.map ≡ map.now }
     requires key { IsKey key.now }
     ensures same { pass.new.map ≡ map.now }

@@ -17,7 +17,11 @@ pub type Outcome = Result<ReplyKind, NoMemory>;
 fn ok_if(is: bool) -> Replied
     ensures { (found : List ℕ) → replied_bytes result found ≡ ok_if is }
 {
-    if is { Replied::Simple(b"OK") } else { Replied::Nothing }
+    if is {
+        Replied::Simple(b"OK")
+    } else {
+        Replied::Nothing
+    }
 }
 
 /// 1 or 0.

@@ -1,25 +1,22 @@
-use Rattle.std.proofs.Common.{refl, codes, []}
+use Rattle.std.proofs.Common.{refl, codes, [], ap, ◌∙◌}
+use Rattle.redis_commands.specs.Commands.{text}
 use Rattle.resp.specs.Replies.{simple_bytes, error_bytes, integer_bytes, value_bytes, array_head}
+use Rattle.redis_service.specs.Connections.{name_line, ping_line}
 use Rattle.redis_service.specs.Texts.{ok_line, count_line}
 use Rattle.redis_service.specs.Replied.{replied_bytes}
 use Rattle.redis_service.proofs.SendLemmas.{sends_of}
 use Rattle.redis_service.proofs.connection.answer_connection.Goals as goal
 
-pub returns-in-Ping-None-clause-answers : goal.returns-in-Ping-None-clause-answers
-returns-in-Ping-None-clause-answers g c pass =
-    (simple_bytes (codes "PONG"), sends_of c.send.result (g.W.Sink.state c.args.sink.now) (g.W.Sink.state c.send.new.sink) _ c.send.ensures.ok c.send.ensures.err, rw (c.in-Ping-None.is, c.in-Ping-None.field-0-is) (refl, refl, refl))
-
-pub returns-in-Ping-Some-clause-answers : goal.returns-in-Ping-Some-clause-answers
-returns-in-Ping-Some-clause-answers g c pass =
-    (value_bytes c.in-Ping-Some.text.now, sends_of c.put_value.result (g.W.Sink.state c.args.sink.now) (g.W.Sink.state c.put_value.new.sink) _ c.put_value.ensures.ok c.put_value.ensures.err, rw (c.in-Ping-Some.is, c.in-Ping-Some.field-0-is) (refl, refl, refl))
+pub returns-in-Ping-clause-answers : goal.returns-in-Ping-clause-answers
+returns-in-Ping-clause-answers g c pass = (ping_line (text c.in-Ping.text), c.ping.ensures, rw c.in-Ping.is (refl, refl, refl))
 
 pub returns-in-Echo-clause-answers : goal.returns-in-Echo-clause-answers
 returns-in-Echo-clause-answers g c pass =
-    (value_bytes c.in-Echo.text.now, sends_of c.put_value-in-Echo.result (g.W.Sink.state c.args.sink.now) (g.W.Sink.state c.put_value-in-Echo.new.sink) _ c.put_value-in-Echo.ensures.ok c.put_value-in-Echo.ensures.err, rw c.in-Echo.is (refl, refl, refl))
+    (value_bytes c.in-Echo.text.now, sends_of c.put_value.result (g.W.Sink.state c.args.sink.now) (g.W.Sink.state c.put_value.new.sink) _ c.put_value.ensures.ok c.put_value.ensures.err, rw c.in-Echo.is (refl, refl, refl))
 
 pub returns-in-Quit-clause-answers : goal.returns-in-Quit-clause-answers
 returns-in-Quit-clause-answers g c pass =
-    (ok_line, sends_of c.send-in-Quit.result (g.W.Sink.state c.args.sink.now) (g.W.Sink.state c.send-in-Quit.new.sink) _ c.send-in-Quit.ensures.ok c.send-in-Quit.ensures.err, rw c.in-Quit.is (refl, c.leave.ensures, refl))
+    (ok_line, sends_of c.send.result (g.W.Sink.state c.args.sink.now) (g.W.Sink.state c.send.new.sink) _ c.send.ensures.ok c.send.ensures.err, rw c.in-Quit.is (refl, c.leave.ensures, refl))
 
 pub returns-in-Select-clause-answers : goal.returns-in-Select-clause-answers
 returns-in-Select-clause-answers g c pass =
@@ -47,9 +44,35 @@ returns-in-CommandCount-clause-answers g c pass =
 
 pub returns-in-ClientId-clause-answers : goal.returns-in-ClientId-clause-answers
 returns-in-ClientId-clause-answers g c pass =
-    (count_line c.args.talk.now.number, sends_of c.send-in-ClientId.result (g.W.Sink.state c.args.sink.now) (g.W.Sink.state c.send-in-ClientId.new.sink) _ c.send-in-ClientId.ensures.ok c.send-in-ClientId.ensures.err, rw c.in-ClientId.is (refl, refl, refl))
+    (count_line c.number.result, sends_of c.send-in-ClientId.result (g.W.Sink.state c.args.sink.now) (g.W.Sink.state c.send-in-ClientId.new.sink) _ c.send-in-ClientId.ensures.ok c.send-in-ClientId.ensures.err, rw c.in-ClientId.is (ap count_line c.number.ensures, refl, refl))
 
 pub returns-in-Reset-clause-answers : goal.returns-in-Reset-clause-answers
 returns-in-Reset-clause-answers g c pass =
     (simple_bytes (codes "RESET"), sends_of c.send-in-Reset.result (g.W.Sink.state c.args.sink.now) (g.W.Sink.state c.send-in-Reset.new.sink) _ c.send-in-Reset.ensures.ok c.send-in-Reset.ensures.err, rw c.in-Reset.is (refl, c.forget_name.ensures, refl))
 
+pub returns-in-ClientList-clause-answers : goal.returns-in-ClientList-clause-answers
+returns-in-ClientList-clause-answers g c pass =
+    (error_bytes (codes "ERR not served"), sends_of c.send-in-ClientList.result (g.W.Sink.state c.args.sink.now) (g.W.Sink.state c.send-in-ClientList.new.sink) _ c.send-in-ClientList.ensures.ok c.send-in-ClientList.ensures.err, rw c.in-ClientList.is (refl, refl, refl))
+
+pub returns-in-Config-clause-answers : goal.returns-in-Config-clause-answers
+returns-in-Config-clause-answers g c pass =
+    (error_bytes (codes "ERR not served"), sends_of c.send-in-Config.result (g.W.Sink.state c.args.sink.now) (g.W.Sink.state c.send-in-Config.new.sink) _ c.send-in-Config.ensures.ok c.send-in-Config.ensures.err, rw c.in-Config.is (refl, refl, refl))
+
+pub returns-in-Info-clause-answers : goal.returns-in-Info-clause-answers
+returns-in-Info-clause-answers g c pass =
+    (error_bytes (codes "ERR not served"), sends_of c.send-in-Info.result (g.W.Sink.state c.args.sink.now) (g.W.Sink.state c.send-in-Info.new.sink) _ c.send-in-Info.ensures.ok c.send-in-Info.ensures.err, rw c.in-Info.is (refl, refl, refl))
+
+pub returns-in-ClientName-clause-answers : goal.returns-in-ClientName-clause-answers
+returns-in-ClientName-clause-answers g c pass = (
+  replied_bytes c.name_of.result c.name-name.result.now,
+  sends_of c.send-in-ClientName.result (g.W.Sink.state c.args.sink.now) (g.W.Sink.state c.send-in-ClientName.new.sink) _ c.send-in-ClientName.ensures.ok c.send-in-ClientName.ensures.err,
+  rw c.in-ClientName.is (c.name_of.ensures ∙ ap name_line c.name-name.ensures, refl, refl),
+)
+
+pub returns-in-SetClientName-clause-answers : goal.returns-in-SetClientName-clause-answers
+returns-in-SetClientName-clause-answers g c pass =
+    let (w, sends, renames) = c.rename.ensures.renames pass in (w, sends, rw c.in-SetClientName.is renames)
+
+pub returns-in-Hello-clause-answers : goal.returns-in-Hello-clause-answers
+returns-in-Hello-clause-answers g c pass =
+    let (w, sends, greets) = c.hello.ensures.greets pass in (w, sends, rw c.in-Hello.is greets)

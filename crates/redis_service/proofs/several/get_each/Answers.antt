@@ -34,7 +34,7 @@ loop-key-preserved g c =
     let head = array_head (length c.args.keys.now) in
     let before = g.W.Sink.state c.args.sink.now in
     let told : replied_bytes c.found_if.result c.as_slice.result.now ≡ bulk found =
-        ap (λ (t : List ℕ). replied_bytes c.found_if.result t) c.as_slice.ensures.value ∙ c.found_if.ensures c.get_one-was.new.room.found in
+    ap (λ (t : List ℕ). replied_bytes c.found_if.result t) c.as_slice.ensures.value ∙ c.found_if.ensures c.get_one-was.new.room.found in
     record {
       map = c.get_one-was.ensures.same;
       passes = search rules;

@@ -1,4 +1,4 @@
-use Rattle.std.proofs.Common.{rules, arith}
+use Rattle.std.proofs.Common.{rules, arith, ℕ, List, [], Bor}
 use Rattle.redis_service.proofs.SetLemmas.{pairs_at, sets_more, sets_all, sets_none}
 use Rattle.redis_service.proofs.several.put_each.Goals as goal
 
@@ -13,14 +13,15 @@ returns-then-not-put_one-clause-answers g c found =
     sets_none c.args.pass.now c.loop-at.pass c.put_one.new.pass c.args.words.now c.loop-at.at _ (omega arith) c.loop-at.invariant.each (c.put_one.ensures.refuses (search rules))
 
 pub loop-at-preserved : goal.loop-at-preserved
-loop-at-preserved g c = record {
-  map = search rules;
-  passes = search rules;
-  numbers = search rules;
-  place = omega arith;
-  within = (pairs_at c.args.words.now c.loop-at.at _ (omega arith) c.loop-at.invariant.within).2;
-  each = sets_more c.args.pass.now c.loop-at.pass c.put_one.new.pass c.args.words.now c.loop-at.at _ (omega arith) c.loop-at.invariant.each (c.put_one.ensures.puts (search rules));
-}
+loop-at-preserved g c =
+    let d : Bor (List ℕ) = record { ref_ptr = (0, 0); now = [] } in record {
+      map = search rules;
+      passes = search rules;
+      numbers = search rules;
+      place = omega arith;
+      within = (pairs_at c.args.words.now c.loop-at.at d (omega arith) c.loop-at.invariant.within).2;
+      each = sets_more c.args.pass.now c.loop-at.pass c.put_one.new.pass c.args.words.now c.loop-at.at d (omega arith) c.loop-at.invariant.each (c.put_one.ensures.puts (search rules));
+    }
 
 pub returns-clause-answers : goal.returns-clause-answers
 returns-clause-answers g c found = sets_all c.args.pass.now c.loop-at.pass c.args.words.now c.loop-at.at (omega arith) c.loop-at.invariant.each

@@ -8,4 +8,4 @@ returns c =
     let s = to_z-of_z w64 c.args.start c.ranges.start in
     let e = to_z-of_z w64 c.args.end c.ranges.end in
     range_is c.args.start c.args.end c.args.text.now c.min-from.result c.min-until.result (cc (s, e, c.is_backward.ensures, c.if-is_backward.false))
-        (cc (s, c.min-from.ensures, c.place.ensures)) (cc (e, c.min-until.ensures, c.place-last.ensures))
+    (cc (s, c.min-from.ensures, c.place.ensures)) (cc (e, c.min-until.ensures, c.place-last.ensures))

@@ -4,8 +4,8 @@ use Rattle.devices.specs.Devices.{TakesBytes}
 use Rattle.redis_service.specs.Talks.{AnswersSome}
 use Rattle.redis_service.proofs.desk.RedisDesk.answer_all.Given as goal
 
-abbrev pub invariant-loop-talk : goal.invariant-loop-talk
-invariant-loop-talk g l = record {
+abbrev pub invariant-loop-reader : goal.invariant-loop-reader
+invariant-loop-reader g l = record {
   desk : l.self ≡ l.fn.self;
   map : l.pass.map ≡ l.fn.pass.map;
   passes : l.pass.view.passes ≡ l.fn.pass.view.passes;
@@ -15,5 +15,5 @@ invariant-loop-talk g l = record {
       × AnswersSome l.fn.talk l.fn.pass l.fn.reader.rest.now written l.talk l.pass l.reader.rest.now;
 }
 
-abbrev pub decreases-loop-talk : goal.decreases-loop-talk
-decreases-loop-talk g l = length l.reader.rest.now
+abbrev pub decreases-loop-reader : goal.decreases-loop-reader
+decreases-loop-reader g l = length l.reader.rest.now

@@ -1,0 +1,24 @@
+use Rattle.std.proofs.Common.{[], refl, codes}
+use Rattle.resp.specs.Replies.{error_bytes}
+use Rattle.redis_service.specs.Replied.{replied_bytes}
+use Rattle.redis_service.proofs.SendLemmas.{sends_of}
+use Rattle.redis_service.proofs.desk.RedisDesk.answer_command.Goals as goal
+
+pub returns-in-SetEach-clause-answers : goal.returns-in-SetEach-clause-answers
+returns-in-SetEach-clause-answers g c = (
+  replied_bytes c.put_each.result [],
+  sends_of c.send.result (g.W.Sink.state c.args.sink.now) (g.W.Sink.state c.send.new.sink) _ c.send.ensures.ok c.send.ensures.err,
+  rw c.in-SetEach.is (c.put_each.ensures.answers [], refl),
+)
+
+pub returns-in-Connection-clause-answers : goal.returns-in-Connection-clause-answers
+returns-in-Connection-clause-answers g c =
+    let (w, sends, answers) = c.answer_connection.ensures.answers c.args.pass.now in (w, sends, rw c.in-Connection.is answers)
+
+pub returns-in-Walk-clause-answers : goal.returns-in-Walk-clause-answers
+returns-in-Walk-clause-answers g c =
+    let (w, sends, answers) = c.answer_walk.ensures.answers in (w, sends, rw c.in-Walk.is (answers, refl))
+
+pub returns-in-Program-clause-answers : goal.returns-in-Program-clause-answers
+returns-in-Program-clause-answers g c =
+    (error_bytes (codes "ERR not served"), sends_of c.put_error.result (g.W.Sink.state c.args.sink.now) (g.W.Sink.state c.put_error.new.sink) _ c.put_error.ensures.ok c.put_error.ensures.err, rw c.in-Program.is (refl, refl, refl))
