@@ -8,3 +8,4 @@ pub mod ReadLemmas
 pub mod TalkLemmas
 pub mod FaultLemmas
 pub mod EndLemmas
+pub mod WalkLemmas

@@ -8,6 +8,8 @@ pub mod Planned
 pub mod States
 pub mod Answers
 pub mod Connections
+pub mod Walks
+pub mod Walked
 pub mod Commands
 pub mod Reads
 pub mod Talks

@@ -18,6 +18,7 @@ use crate::reader::{Came, Reader};
 use crate::room::Room;
 use crate::several::{count_each, count_of, get_each, put_each, remove_each};
 use crate::talk::RedisTalk;
+use crate::walks::{Ground, answer_walk};
 use bin_stripes::{Pass, StripedMap};
 use devices::{Failed, Sink, write_all};
 use redis_commands::{Command, CommandFault, KeyAct, KeysAct, command_of};
@@ -47,6 +48,8 @@ pub struct RedisDesk<'a, 's> {
     map: &'a StripedMap,
     scripts: &'a Scripts<'s>,
     room: Room,
+    /// The number of commands about the whole map so far.
+    walks: u64,
 }
 
 impl<'a, 's> Model for RedisDesk<'a, 's> {
@@ -127,6 +130,7 @@ impl<'a, 's> RedisDesk<'a, 's> {
             map,
             scripts,
             room: Room::new(),
+            walks: 0,
         }
     }
 
@@ -213,7 +217,15 @@ impl<'a, 's> RedisDesk<'a, 's> {
                 put_each(rt, self.map, pass, &mut self.room, words).send(&[], sink)
             }
             Command::Connection(command) => answer_connection(self.alloc, talk, &command, sink),
-            Command::Walk(_) => put_error(sink, b"ERR not served"),
+            Command::Walk(command) => {
+                self.walks = self.walks.wrapping_add(1);
+                let ground = Ground {
+                    alloc: self.alloc,
+                    map: self.map,
+                    number: self.walks,
+                };
+                answer_walk(rt, &ground, pass, &command, sink)
+            }
             Command::Program(_) => put_error(sink, b"ERR not served"),
         }
     }

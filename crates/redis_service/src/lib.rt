@@ -18,6 +18,7 @@ mod several;
 mod talk;
 mod telling;
 mod texts;
+mod walks;
 
 pub use desk::{RedisDesk, TalkEnd};
 pub use lines::{NO_MEMORY_LINE, NO_ROOM_LINE, no_memory_line, no_room_line};

@@ -17,8 +17,8 @@ returns-in-Connection-clause-answers g c =
 
 pub returns-in-Walk-clause-answers : goal.returns-in-Walk-clause-answers
 returns-in-Walk-clause-answers g c =
-    (error_bytes (codes "ERR not served"), sends_of c.put_error.result (g.W.Sink.state c.args.sink.now) (g.W.Sink.state c.put_error.new.sink) _ c.put_error.ensures.ok c.put_error.ensures.err, rw c.in-Walk.is (refl, refl, refl))
+    let (w, sends, answers) = c.answer_walk.ensures.answers in (w, sends, rw c.in-Walk.is (answers, refl))
 
 pub returns-in-Program-clause-answers : goal.returns-in-Program-clause-answers
 returns-in-Program-clause-answers g c =
-    (error_bytes (codes "ERR not served"), sends_of c.put_error-in-Program.result (g.W.Sink.state c.args.sink.now) (g.W.Sink.state c.put_error-in-Program.new.sink) _ c.put_error-in-Program.ensures.ok c.put_error-in-Program.ensures.err, rw c.in-Program.is (refl, refl, refl))
+    (error_bytes (codes "ERR not served"), sends_of c.put_error.result (g.W.Sink.state c.args.sink.now) (g.W.Sink.state c.put_error.new.sink) _ c.put_error.ensures.ok c.put_error.ensures.err, rw c.in-Program.is (refl, refl, refl))
