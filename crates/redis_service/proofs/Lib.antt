@@ -9,3 +9,4 @@ pub mod TalkLemmas
 pub mod FaultLemmas
 pub mod EndLemmas
 pub mod WalkLemmas
+pub mod ProgramLemmas

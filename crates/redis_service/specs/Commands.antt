@@ -11,6 +11,7 @@ use Rattle.redis_service.specs.States.{TalkState}
 use Rattle.redis_service.specs.Answers.{AnswersKey, AnswersKeys, AnswersSetEach, pairs}
 use Rattle.redis_service.specs.Walks.{AnswersWalk}
 use Rattle.redis_service.specs.Connections.{AnswersConnection}
+use Rattle.redis_service.specs.Programs.{AnswersProgram}
 
 -- the talk stays as it is
 abbrev pub Same : TalkState → TalkState → Type 0
@@ -23,7 +24,7 @@ AnswersCommand talk old (OnKeys keys act) written next new = AnswersKeys old key
 AnswersCommand talk old (SetEach words) written next new = AnswersSetEach old (pairs words) written new × Same talk next
 AnswersCommand talk old (Connection asked) written next new = AnswersConnection talk old asked written next new
 AnswersCommand talk old (Walk asked) written next new = AnswersWalk old asked written new × Same talk next
-AnswersCommand talk old (Program asked) written next new = (written ≡ error_bytes (codes "ERR not served")) × (new ≡ old) × Same talk next
+AnswersCommand talk old (Program asked) written next new = AnswersProgram old asked written new × Same talk next
 
 -- a command, or the text that says why the words are none. What looks like a request of the web ends the talk
 abbrev pub AnswersRead : TalkState → PassState → Result Asked Fault → List ℕ → TalkState → PassState → Type 0

@@ -10,6 +10,7 @@ pub mod Answers
 pub mod Connections
 pub mod Walks
 pub mod Walked
+pub mod Programs
 pub mod Commands
 pub mod Reads
 pub mod Talks

@@ -14,6 +14,7 @@ ghost use Rattle.redis_service.specs.Talks.{AnswersBytes, BreaksBytes, AnswersPi
 use crate::connection::answer_connection;
 use crate::keyed::answer_key;
 use crate::lines::no_memory_line;
+use crate::programs::{Programs, answer_program};
 use crate::reader::{Came, Reader};
 use crate::room::Room;
 use crate::several::{count_each, count_of, get_each, put_each, remove_each};
@@ -134,6 +135,17 @@ impl<'a, 's> RedisDesk<'a, 's> {
         }
     }
 
+    /// Returns what the commands of programs are about.
+    fn programs(&self) -> Programs<'a, 's>
+        ensures { result.map.now ≡ self.now }
+    {
+        Programs {
+            alloc: self.alloc,
+            map: self.map,
+            scripts: self.scripts,
+        }
+    }
+
     /// Answers a command about one key.
     fn answer_key<H: Wait, W: Sink>(
         &mut self,
@@ -226,7 +238,10 @@ impl<'a, 's> RedisDesk<'a, 's> {
                 };
                 answer_walk(rt, &ground, pass, &command, sink)
             }
-            Command::Program(_) => put_error(sink, b"ERR not served"),
+            Command::Program(command) => {
+                let programs = self.programs();
+                answer_program(rt, &programs, pass, &mut self.room, &command, sink)
+            }
         }
     }
 

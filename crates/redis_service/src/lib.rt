@@ -11,6 +11,7 @@ mod connection;
 mod desk;
 mod keyed;
 mod lines;
+mod programs;
 mod reader;
 mod reply;
 mod room;

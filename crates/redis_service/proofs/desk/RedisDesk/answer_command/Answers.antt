@@ -21,4 +21,4 @@ returns-in-Walk-clause-answers g c =
 
 pub returns-in-Program-clause-answers : goal.returns-in-Program-clause-answers
 returns-in-Program-clause-answers g c =
-    (error_bytes (codes "ERR not served"), sends_of c.put_error.result (g.W.Sink.state c.args.sink.now) (g.W.Sink.state c.put_error.new.sink) _ c.put_error.ensures.ok c.put_error.ensures.err, rw c.in-Program.is (refl, refl, refl))
+    let (w, sends, answers) = c.answer_program.ensures.answers in (w, sends, rw c.in-Program.is (answers, refl))
