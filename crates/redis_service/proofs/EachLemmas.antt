@@ -1,5 +1,5 @@
 -- What is done with each of several keys, one after the other.
-use Rattle.std.proofs.Common.{◌≡◌, ℕ, ◌+◌, ◌<◌, ◌≤◌, List, [], ◌∷◌, ◌++◌, length, map, get_or, take, All, Option, is_some, count_by, flat_map, refl, sym, ap, subst, ◌∙◌, append_assoc, arith}
+use Rattle.std.proofs.Common.{◌≡◌, ℕ, ◌+◌, ◌<◌, ◌≤◌, List, [], ◌∷◌, ◌++◌, length, map, get_or, take, All, Bool, Option, is_some, count_by, flat_map, refl, sym, ap, subst, ◌∙◌, append_assoc, arith}
 use Rattle.std.specs.Borrow.{Bor}
 use Rattle.std.proofs.lemmas.List.{take_more, map-append, length-map, get_or-map, append-nil}
 use Rattle.std.proofs.lemmas.List.Concat.{flat_map-append}
@@ -51,3 +51,20 @@ pub told_more : (head : List ℕ) (founds : List (Option (List ℕ))) (found : O
 told_more head founds found =
     append_assoc head (flat_map bulk founds) (bulk found)
     ∙ ap (λ (t : List ℕ). head ++ t) (ap (λ (t : List ℕ). flat_map bulk founds ++ t) (sym (append-nil (bulk found))) ∙ sym (flat_map-append bulk founds (found ∷ [])))
+
+-- what is made of each word, with one more
+pub mapped_more : (f : List ℕ → List ℕ) (words : List (Bor (List ℕ))) (i : ℕ) (d : Bor (List ℕ)) → i < length words
+    → flat_map f (texts (take i words)) ++ f (get_or words i d).now ≡ flat_map f (texts (take (i + 1) words))
+mapped_more f words i d lt =
+    ap (λ (t : List ℕ). flat_map f (texts (take i words)) ++ t) (sym (append-nil (f (get_or words i d).now)))
+    ∙ sym (flat_map-append f (texts (take i words)) ((get_or words i d).now ∷ []))
+    ∙ ap (λ (t : List (List ℕ)). flat_map f t) (sym (texts_more words i d lt))
+
+-- the words that pass, with one more
+pub count_words_more : (p : List ℕ → Bool) (words : List (Bor (List ℕ))) (i : ℕ) (d : Bor (List ℕ)) → i < length words
+    → count_by p (texts (take (i + 1) words)) ≡ count_by p (texts (take i words)) + count_by p ((get_or words i d).now ∷ [])
+count_words_more p words i d lt =
+    ap (λ (t : List (List ℕ)). count_by p t) (texts_more words i d lt) ∙ sum_by-append _ (texts (take i words)) ((get_or words i d).now ∷ [])
+
+pub count_one : (p : List ℕ → Bool) (word : List ℕ) → count_by p (word ∷ []) ≤ 1
+count_one p word = count_by-le-length p (word ∷ [])

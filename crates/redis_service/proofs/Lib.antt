@@ -10,3 +10,4 @@ pub mod FaultLemmas
 pub mod EndLemmas
 pub mod WalkLemmas
 pub mod ProgramLemmas
+pub mod CountLemmas

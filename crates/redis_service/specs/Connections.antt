@@ -1,9 +1,11 @@
 -- Commands of the connection and of the server.
 use Rattle.std.specs.Prelude.{◌≡◌, ◌⊎◌, ℕ, pos, List, [], ◌∷◌, ◌++◌, Option, Some, None, codes, true}
 use Rattle.bin_stripes.specs.Passes.{PassState}
-use Rattle.resp.specs.Replies.{simple_bytes, error_bytes, value_bytes, nothing_bytes, array_head}
+use Rattle.resp.specs.Replies.{simple_bytes, value_bytes, nothing_bytes, array_head}
 use Rattle.redis_commands.specs.Commands.{ConnectionAsked}
 use Rattle.redis_commands.specs.Commands.ConnectionAsked.{Ping, Echo, Quit, Select, Hello, Auth, ClientId, ClientName, SetClientName, SetClientInfo, ClientList, Commands, CommandCount, CommandDocs, Config, Info, Reset}
+use Rattle.key_walks.specs.Walks.{CountsAll}
+use Rattle.redis_service.specs.Server.{client_line, info_text, config_bytes}
 use Rattle.redis_service.specs.States.{TalkState, renamed}
 use Rattle.redis_service.specs.Lines.{no_memory_line}
 use Rattle.redis_service.specs.Texts.{ok_line, count_line}
@@ -12,8 +14,13 @@ use Rattle.redis_service.specs.Texts.{ok_line, count_line}
 abbrev pub Says : TalkState → PassState → List ℕ → List ℕ → TalkState → PassState → Type 0
 Says talk old text written next new = (written ≡ text) × (next ≡ talk) × (new ≡ old)
 
-abbrev pub not_served : List ℕ
-not_served = error_bytes (codes "ERR not served")
+-- the text, or that memory for it was refused
+abbrev pub SaysIfRoom : List ℕ → List ℕ → Type 0
+SaysIfRoom text written = (written ≡ text) ⊎ (written ≡ no_memory_line)
+
+-- INFO counts the keys first
+abbrev pub AnswersInfo : PassState → List ℕ → PassState → Type 0
+AnswersInfo old written new = (count : ℕ) × CountsAll old count new × SaysIfRoom (value_bytes (info_text count)) written
 
 -- the client has this name now; or memory to keep it was refused
 abbrev pub Renames : TalkState → PassState → List ℕ → List ℕ → List ℕ → TalkState → PassState → Type 0
@@ -58,6 +65,7 @@ AnswersConnection talk old CommandCount written next new = Says talk old (count_
 AnswersConnection talk old CommandDocs written next new = Says talk old (array_head 0) written next new
 AnswersConnection talk old Reset written next new =
     (written ≡ simple_bytes (codes "RESET")) × (next ≡ renamed talk []) × (new ≡ old)
-AnswersConnection talk old ClientList written next new = Says talk old not_served written next new
-AnswersConnection talk old (Config parameters) written next new = Says talk old not_served written next new
-AnswersConnection talk old Info written next new = Says talk old not_served written next new
+AnswersConnection talk old ClientList written next new =
+    SaysIfRoom (value_bytes (client_line talk.number talk.name)) written × (next ≡ talk) × (new ≡ old)
+AnswersConnection talk old (Config words) written next new = Says talk old (config_bytes words) written next new
+AnswersConnection talk old Info written next new = AnswersInfo old written new × (next ≡ talk)

@@ -7,6 +7,7 @@ pub mod Texts
 pub mod Planned
 pub mod States
 pub mod Answers
+pub mod Server
 pub mod Connections
 pub mod Walks
 pub mod Walked

@@ -1,15 +1,19 @@
 //! Commands of the connection and of the server.
-ghost use Rattle.std.specs.Prelude.{◌≡◌, ℕ, List};
+ghost use Rattle.std.specs.Prelude.{◌≡◌, ◌≢◌, ℕ, List};
 ghost use Rattle.bin_stripes.specs.Passes.{PassState};
 ghost use Rattle.devices.specs.Devices.{CanWrite};
+ghost use Rattle.resp.specs.Replies.{value_bytes};
 ghost use Rattle.redis_commands.specs.Commands.{connection_by, text};
-ghost use Rattle.redis_service.specs.Connections.{AnswersConnection, Greets, Renames, hello_bytes, name_line, ping_line};
+ghost use Rattle.redis_service.specs.Connections.{AnswersConnection, Greets, Renames, SaysIfRoom, hello_bytes, name_line, ping_line};
 ghost use Rattle.redis_service.specs.Replied.{replied_bytes};
 ghost use Rattle.redis_service.specs.Sending.{Sends};
+ghost use Rattle.redis_service.specs.Server as server;
 ghost use Rattle.redis_service.specs.Texts.{ok_line};
 
 use crate::reply::Replied;
+use crate::server::{client_line, info_text, put_settings};
 use crate::talk::RedisTalk;
+use bpf_model::NoMemory;
 use devices::{Failed, Sink};
 use redis_commands::ConnectionCommand;
 use resp::put_value;
@@ -111,14 +115,43 @@ fn ping<W: Sink>(word: Option<&[u8]>, sink: &mut W) -> Result<(), Failed>
     }
 }
 
-/// Answers a command of the connection.
+/// Says the line of the client.
+fn put_client<W: Sink>(
+    alloc: Global,
+    talk: &RedisTalk,
+    sink: &mut W,
+) -> Result<(), Failed>
+    requires { CanWrite (W.state sink.old) }
+    ensures { (written : List ℕ) × Sends result (W.state sink.old) (W.state sink.new) written
+        × SaysIfRoom (value_bytes (server.client_line talk.now.number talk.now.name)) written }
+{
+    match client_line(alloc, talk.number(), talk.name()) {
+        Ok(text) => put_value(sink, &text),
+        Err(NoMemory) => Replied::NoMemory.send(&[], sink),
+    }
+}
+
+/// Writes what `INFO` says of a map with this many keys.
+pub fn put_info<W: Sink>(alloc: Global, count: u64, sink: &mut W) -> Result<(), Failed>
+    requires { CanWrite (W.state sink.old) }
+    ensures { (written : List ℕ) × Sends result (W.state sink.old) (W.state sink.new) written
+        × SaysIfRoom (value_bytes (server.info_text count)) written }
+{
+    match info_text(alloc, count) {
+        Ok(text) => put_value(sink, &text),
+        Err(NoMemory) => Replied::NoMemory.send(&[], sink),
+    }
+}
+
+/// Answers a command of the connection that needs no map, which is each but `INFO`.
 pub fn answer_connection<W: Sink>(
     alloc: Global,
     talk: &mut RedisTalk,
     command: &ConnectionCommand<'_>,
     sink: &mut W,
 ) -> Result<(), Failed>
-    requires { CanWrite (W.state sink.old) }
+    requires sink { CanWrite (W.state sink.old) }
+    requires map { command.now ≢ ConnectionCommand.Info }
     ensures number { talk.new.number ≡ talk.old.number }
     ensures answers { (pass : PassState) → (written : List ℕ) × Sends result (W.state sink.old) (W.state sink.new) written
         × AnswersConnection talk.old pass (connection_by command.now) written talk.new pass }
@@ -147,8 +180,8 @@ pub fn answer_connection<W: Sink>(
             talk.forget_name(alloc);
             Replied::Simple(b"RESET").send(&[], sink)
         }
-        ConnectionCommand::ClientList => Replied::Error(b"ERR not served").send(&[], sink),
-        ConnectionCommand::Config { .. } => Replied::Error(b"ERR not served").send(&[], sink),
-        ConnectionCommand::Info => Replied::Error(b"ERR not served").send(&[], sink),
+        ConnectionCommand::ClientList => put_client(alloc, talk, sink),
+        ConnectionCommand::Config { parameters } => put_settings(parameters, sink),
+        ConnectionCommand::Info => unreachable!(),
     }
 }

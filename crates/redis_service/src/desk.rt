@@ -2,16 +2,17 @@
 ghost use Rattle.std.specs.Prelude.{◌≡◌, ◌≢◌, ℕ, List, true, false, All, OnOk, OnErr, IfOk};
 ghost use Rattle.bin_stripes.specs.Passes.{PassState, ServesSameMap};
 ghost use Rattle.devices.specs.Devices.{CanWrite, TakesBytes, TakesThenFails};
-ghost use Rattle.redis_commands.specs.Commands.{asked_by, act_by, fault_by, texts};
+ghost use Rattle.redis_commands.specs.Commands.{asked_by, act_by, connection_by, fault_by, texts};
 ghost use Rattle.redis_commands.specs.Commands.Asked.{OnKey};
 ghost use Rattle.redis_commands.specs.Limits.{IsKey, IsWithinLimits};
 ghost use Rattle.redis_service.specs.Answers.{AnswersKey, AnswersKeys};
 ghost use Rattle.redis_service.specs.Commands.{AnswersCommand, AnswersRead, AnswersWords};
+ghost use Rattle.redis_service.specs.Connections.{AnswersConnection, AnswersInfo};
 ghost use Rattle.redis_service.specs.Sending.{Sends};
 ghost use Rattle.redis_service.specs.Stops.{Stops, AnswersAll, FailsAt, TellsEnd, FailsEnd};
 ghost use Rattle.redis_service.specs.Talks.{AnswersBytes, BreaksBytes, AnswersPiece, BreaksPiece};
 
-use crate::connection::answer_connection;
+use crate::connection::{answer_connection, put_info};
 use crate::keyed::answer_key;
 use crate::lines::no_memory_line;
 use crate::programs::{Programs, answer_program};
@@ -22,7 +23,10 @@ use crate::talk::RedisTalk;
 use crate::walks::{Ground, answer_walk};
 use bin_stripes::{Pass, StripedMap};
 use devices::{Failed, Sink, write_all};
-use redis_commands::{Command, CommandFault, KeyAct, KeysAct, command_of};
+use key_walks::count_all;
+use redis_commands::{
+    Command, CommandFault, ConnectionCommand, KeyAct, KeysAct, command_of,
+};
 use redis_scripts::Scripts;
 use resp::put_error;
 use std::alloc::Global;
@@ -202,6 +206,51 @@ impl<'a, 's> RedisDesk<'a, 's> {
         }
     }
 
+    /// Answers `INFO`.
+    fn answer_info<H: Wait, W: Sink>(
+        &mut self,
+        rt: &H,
+        pass: &mut Pass,
+        sink: &mut W,
+    ) -> Result<(), Failed>
+        requires map { pass.old.map ≡ self.old }
+        requires sink { CanWrite (W.state sink.old) }
+        ensures desk { self.new ≡ self.old }
+        ensures same { pass.new.map ≡ self.old }
+        ensures passes { pass.new.view.passes ≡ pass.old.view.passes }
+        ensures numbers { pass.new.view.numbers ≡ pass.old.view.numbers }
+        ensures answers { (written : List ℕ) × Sends result (W.state sink.old) (W.state sink.new) written
+            × AnswersInfo pass.old written pass.new }
+    {
+        let count = count_all(rt, self.map, pass);
+        put_info(self.alloc, count, sink)
+    }
+
+    /// Answers a command of the connection.
+    fn answer_connection<H: Wait, W: Sink>(
+        &mut self,
+        rt: &H,
+        pass: &mut Pass,
+        talk: &mut RedisTalk,
+        command: &ConnectionCommand<'_>,
+        sink: &mut W,
+    ) -> Result<(), Failed>
+        requires map { pass.old.map ≡ self.old }
+        requires sink { CanWrite (W.state sink.old) }
+        ensures desk { self.new ≡ self.old }
+        ensures same { pass.new.map ≡ self.old }
+        ensures passes { pass.new.view.passes ≡ pass.old.view.passes }
+        ensures numbers { pass.new.view.numbers ≡ pass.old.view.numbers }
+        ensures number { talk.new.number ≡ talk.old.number }
+        ensures answers { (written : List ℕ) × Sends result (W.state sink.old) (W.state sink.new) written
+            × AnswersConnection talk.old pass.old (connection_by command.now) written talk.new pass.new }
+    {
+        match command {
+            ConnectionCommand::Info => self.answer_info(rt, pass, sink),
+            _ => answer_connection(self.alloc, talk, command, sink),
+        }
+    }
+
     /// Answers a command.
     fn answer_command<H: Wait, W: Sink>(
         &mut self,
@@ -228,7 +277,9 @@ impl<'a, 's> RedisDesk<'a, 's> {
             Command::SetEach { words } => {
                 put_each(rt, self.map, pass, &mut self.room, words).send(&[], sink)
             }
-            Command::Connection(command) => answer_connection(self.alloc, talk, &command, sink),
+            Command::Connection(command) => {
+                self.answer_connection(rt, pass, talk, &command, sink)
+            }
             Command::Walk(command) => {
                 self.walks = self.walks.wrapping_add(1);
                 let ground = Ground {

@@ -15,6 +15,7 @@ mod programs;
 mod reader;
 mod reply;
 mod room;
+mod server;
 mod several;
 mod talk;
 mod telling;

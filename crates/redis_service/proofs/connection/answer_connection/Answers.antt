@@ -1,8 +1,9 @@
 use Rattle.std.proofs.Common.{refl, codes, [], ap, ◌∙◌}
-use Rattle.redis_commands.specs.Commands.{text}
+use Rattle.redis_commands.specs.Commands.{text, texts}
 use Rattle.resp.specs.Replies.{simple_bytes, error_bytes, integer_bytes, value_bytes, array_head}
 use Rattle.redis_service.specs.Connections.{name_line, ping_line}
 use Rattle.redis_service.specs.Texts.{ok_line, count_line}
+use Rattle.redis_service.specs.Server.{config_bytes}
 use Rattle.redis_service.specs.Replied.{replied_bytes}
 use Rattle.redis_service.proofs.SendLemmas.{sends_of}
 use Rattle.redis_service.proofs.connection.answer_connection.Goals as goal
@@ -51,16 +52,10 @@ returns-in-Reset-clause-answers g c pass =
     (simple_bytes (codes "RESET"), sends_of c.send-in-Reset.result (g.W.Sink.state c.args.sink.now) (g.W.Sink.state c.send-in-Reset.new.sink) _ c.send-in-Reset.ensures.ok c.send-in-Reset.ensures.err, rw c.in-Reset.is (refl, c.forget_name.ensures, refl))
 
 pub returns-in-ClientList-clause-answers : goal.returns-in-ClientList-clause-answers
-returns-in-ClientList-clause-answers g c pass =
-    (error_bytes (codes "ERR not served"), sends_of c.send-in-ClientList.result (g.W.Sink.state c.args.sink.now) (g.W.Sink.state c.send-in-ClientList.new.sink) _ c.send-in-ClientList.ensures.ok c.send-in-ClientList.ensures.err, rw c.in-ClientList.is (refl, refl, refl))
+returns-in-ClientList-clause-answers g c pass = let (w, sends, says) = c.put_client.ensures in (w, sends, rw c.in-ClientList.is (says, refl, refl))
 
 pub returns-in-Config-clause-answers : goal.returns-in-Config-clause-answers
-returns-in-Config-clause-answers g c pass =
-    (error_bytes (codes "ERR not served"), sends_of c.send-in-Config.result (g.W.Sink.state c.args.sink.now) (g.W.Sink.state c.send-in-Config.new.sink) _ c.send-in-Config.ensures.ok c.send-in-Config.ensures.err, rw c.in-Config.is (refl, refl, refl))
-
-pub returns-in-Info-clause-answers : goal.returns-in-Info-clause-answers
-returns-in-Info-clause-answers g c pass =
-    (error_bytes (codes "ERR not served"), sends_of c.send-in-Info.result (g.W.Sink.state c.args.sink.now) (g.W.Sink.state c.send-in-Info.new.sink) _ c.send-in-Info.ensures.ok c.send-in-Info.ensures.err, rw c.in-Info.is (refl, refl, refl))
+returns-in-Config-clause-answers g c pass = (config_bytes (texts c.in-Config.parameters.now), c.put_settings.ensures, rw c.in-Config.is (refl, refl, refl))
 
 pub returns-in-ClientName-clause-answers : goal.returns-in-ClientName-clause-answers
 returns-in-ClientName-clause-answers g c pass = (

@@ -1,11 +1,19 @@
-use Rattle.std.proofs.Common.{refl, inl, inr, ap, ◌∙◌}
+use Rattle.std.proofs.Common.{◌≡◌, ℕ, List, refl, inl, inr, ap, ◌∙◌}
 use Rattle.resp.specs.Replies.{value_bytes}
 use Rattle.redis_service.specs.Lines.{no_memory_line}
+use Rattle.redis_service.specs.Server.{client_line}
 use Rattle.redis_service.proofs.SendLemmas.{sends_of}
 use Rattle.redis_service.proofs.connection.put_client.Goals as goal
 
+of_same : (a b : ℕ) (x y : List ℕ) → a ≡ b → x ≡ y → client_line a x ≡ client_line b y
+of_same a b x y number name = ap (λ (n : ℕ). client_line n x) number ∙ ap (λ (m : List ℕ). client_line b m) name
+
 pub returns-in-Ok : goal.returns-in-Ok
-returns-in-Ok g c = ?
+returns-in-Ok g c = (
+  value_bytes c.deref.result.now,
+  sends_of c.put_value.result (g.W.Sink.state c.args.sink.now) (g.W.Sink.state c.put_value.new.sink) _ c.put_value.ensures.ok c.put_value.ensures.err,
+  inl (ap value_bytes (c.deref.ensures.value ∙ (c.in-Ok.ensures ∙ of_same _ _ _ _ c.number.ensures c.name.ensures))),
+)
 
 pub returns-in-Err : goal.returns-in-Err
 returns-in-Err g c =
