@@ -1,16 +1,17 @@
 -- Commands that are answered one after the other, and how that stops.
-use Rattle.std.proofs.Common.{◌≡◌, ℕ, ◌+◌, ◌≤◌, Bool, true, false, List, [], ◌∷◌, ◌++◌, length, flat_map, refl, sym, ap, subst, ◌∙◌, inl, inr, append_assoc, arith}
-use Rattle.std.proofs.lemmas.List.{append-nil}
+use Rattle.std.proofs.Common.{◌≡◌, ℕ, ◌+◌, ◌≤◌, Bool, true, false, List, [], ◌∷◌, ◌++◌, length, flat_map, Result, Ok, Err, OnOk, refl, sym, ap, subst, ◌∙◌, inl, inr, append_assoc, arith}
+use Rattle.std.proofs.lemmas.List.{append-nil, length-append}
+use Rattle.resp.specs.Grammar.{IsBegun}
 use Rattle.std.proofs.lemmas.List.Concat.{flat_map-append}
 use Rattle.devices.specs.Devices.{SinkState, TakesBytes, TakesPart, TakesThenFails}
 use Rattle.bin_stripes.specs.Passes.{PassState}
 use Rattle.redis_service.specs.declared.reader.Came.{Came}
-use Rattle.redis_service.specs.declared.reader.Came.TheVariants.{Command, Nothing}
+use Rattle.redis_service.specs.declared.reader.Came.TheVariants.{Command, Nothing, More}
 use Rattle.redis_service.specs.Reads.{ReadsNext}
 use Rattle.redis_service.specs.Sending.{IsPart}
 use Rattle.redis_service.specs.Commands.{AnswersWords}
-use Rattle.redis_service.specs.Talks.{TalkState, ended, Said, AnswersSaid, AnswersEach, AnswersSome, AnswersBytes, BreaksBytes}
-use Rattle.redis_service.specs.Stops.{AnswersAll, FailsAt, TellsEnd, FailsEnd}
+use Rattle.redis_service.specs.Talks.{TalkState, ended, Said, AnswersSaid, AnswersEach, AnswersSome, AnswersBytes, BreaksBytes, Ending, waits}
+use Rattle.redis_service.specs.Stops.{Stops, AnswersAll, FailsAt, TellsEnd, FailsEnd}
 use Rattle.redis_service.proofs.SendLemmas.{takes_then, cut_after}
 
 -- one more
@@ -139,3 +140,42 @@ breaks_of_end a b c talk mid next old new bytes rest came all end over =
         over = over;
       },
     )
+
+last_of_more : (talk : TalkState) (rest : List ℕ) → Stops More talk rest → talk.is_over ≡ false → IsBegun rest
+last_of_more talk rest stops goes = elim stops [ inl over ↦ absurd cc | inr last ↦ last.1 ]
+
+-- nothing was read: the rest is all
+rest_is_all : (read rest bytes : List ℕ) → bytes ≡ read ++ rest → length rest ≡ length bytes → rest ≡ bytes
+rest_is_all [] rest bytes is long = sym is
+rest_is_all (b ∷ read) rest bytes is long = absurd (omega (arith, ap length is, length-append (b ∷ read) rest))
+
+-- no command is whole, and all of the bytes are kept
+pub answers_held : (a b : SinkState) (talk mid next : TalkState) (old new : PassState) (bytes rest : List ℕ) (came : Came) → AnswersAll a b talk old bytes came mid new rest
+    → length rest ≡ length bytes → came ≡ More → mid.is_over ≡ false → next ≡ record mid { rest = bytes }
+    → (next.is_over ≡ false) × ((written : List ℕ) × TakesBytes a b written × AnswersBytes talk old bytes written next new)
+answers_held a b talk mid next old new bytes rest came all long is goes end =
+    let same : rest ≡ bytes = rest_is_all (flat_map (λ (s : Said). s.read) all.some.said) rest bytes all.some.read_is long in
+    let begun : IsBegun rest = last_of_more mid rest (subst (λ (c : Came). Stops c mid rest) is all.stops) goes in (
+      ap (λ (t : TalkState). t.is_over) end ∙ goes,
+      (
+        all.written,
+        all.taken,
+        record {
+          last = mid;
+          before = all.written;
+          rest = rest;
+          some = all.some;
+          ending = waits;
+          tail = [];
+          ends = (begun, goes, refl, end ∙ ap (λ (t : List ℕ). record mid { rest = t }) (sym same));
+          written_is = sym (append-nil all.written);
+        },
+      ),
+    )
+
+-- the same, if all is well
+pub ok_of : {E : Type 0} (result : Result (Unit {0}) E) (a b c : SinkState) (talk mid next : TalkState) (old new : PassState) (bytes rest : List ℕ) (came : Came)
+    → AnswersAll a b talk old bytes came mid new rest → OnOk result (TellsEnd b c rest mid next × (next.is_over ≡ false))
+    → OnOk result ((next.is_over ≡ false) × ((written : List ℕ) × TakesBytes a c written × AnswersBytes talk old bytes written next new))
+ok_of (Ok _) a b c talk mid next old new bytes rest came all (tells, over) = (over, answers_of a b c talk mid next old new bytes rest came all tells)
+ok_of (Err _) a b c talk mid next old new bytes rest came all none = none

@@ -1,5 +1,5 @@
 //! What answers the commands of a worker's clients.
-ghost use Rattle.std.specs.Prelude.{◌≡◌, ◌≢◌, ℕ, List, true, false, All, OnOk, OnErr, IfOk};
+ghost use Rattle.std.specs.Prelude.{◌≡◌, ◌≢◌, ℕ, List, true, false, All, OnOk, OnErr, IfOk, IsTrue};
 ghost use Rattle.bin_stripes.specs.Passes.{PassState, ServesSameMap};
 ghost use Rattle.devices.specs.Devices.{CanWrite, TakesBytes, TakesThenFails};
 ghost use Rattle.redis_commands.specs.Commands.{asked_by, act_by, connection_by, fault_by, texts};
@@ -67,41 +67,49 @@ impl<'a, 's> Model for RedisDesk<'a, 's> {
     ghost view = { λ d. d.map.now };
 }
 
-/// Tells why nothing more is read from this rest, if it is to be told, and keeps the rest if a command begins in it. Returns whether
-/// the talk is over.
+/// Tests whether a command has begun that is not whole yet.
+fn is_more(came: Came) -> bool
+    ensures { IsTrue result → came ≡ Came.More }
+{
+    matches!(came, Came::More)
+}
+
+/// Tells why nothing more is read from this rest, if it is to be told, and keeps the rest if a command begins in it.
 fn finish<W: Sink>(
     alloc: Global,
     talk: &mut RedisTalk,
     came: Came,
     rest: &[u8],
     sink: &mut W,
-) -> Result<bool, Failed>
+) -> Result<(), TalkEnd>
     requires sink { CanWrite (W.state sink.old) }
     requires stops { Stops came talk.old rest.now }
-    ensures ok { IfOk result (λ over. TellsEnd (W.state sink.old) (W.state sink.new) rest.now talk.old talk.new × (talk.new.is_over ≡ over)) }
-    ensures err { OnErr result (FailsEnd (W.state sink.old) (W.state sink.new) rest.now talk.old talk.new × (talk.new.is_over ≡ true)) }
+    ensures ok { OnOk result (TellsEnd (W.state sink.old) (W.state sink.new) rest.now talk.old talk.new × (talk.new.is_over ≡ false)) }
+    ensures over { result ≡ Err TalkEnd.Over → TellsEnd (W.state sink.old) (W.state sink.new) rest.now talk.old talk.new × (talk.new.is_over ≡ true) }
+    ensures memory { result ≢ Err TalkEnd.NoMemory }
+    ensures write { result ≡ Err TalkEnd.WriteFailed → FailsEnd (W.state sink.old) (W.state sink.new) rest.now talk.old talk.new × (talk.new.is_over ≡ true) }
     ensures number { talk.new.number ≡ talk.old.number }
 {
     if talk.is_over() {
         talk.end(alloc);
-        return Ok(true);
+        return Err(TalkEnd::Over);
     }
     if let Came::Faulty(fault) = came {
         talk.end(alloc);
         return match put_error(sink, fault.message().as_slice()) {
-            Ok(()) => Ok(true),
-            Err(Failed) => Err(Failed),
+            Ok(()) => Err(TalkEnd::Over),
+            Err(Failed) => Err(TalkEnd::WriteFailed),
         };
     }
     if let Came::More = came {
         if talk.keep(alloc, rest) {
-            return Ok(false);
+            return Ok(());
         }
     }
     talk.end(alloc);
     match write_all(sink, no_memory_line()) {
-        Ok(()) => Ok(true),
-        Err(Failed) => Err(Failed),
+        Ok(()) => Err(TalkEnd::Over),
+        Err(Failed) => Err(TalkEnd::WriteFailed),
     }
 }
 
@@ -356,6 +364,32 @@ impl<'a, 's> RedisDesk<'a, 's> {
         Ok(Came::More)
     }
 
+    /// Answers the commands that the bytes begin with. Returns why there is none left, and the bytes that are left.
+    fn answer_bytes<'b, H: Wait, W: Sink>(
+        &mut self,
+        rt: &H,
+        pass: &mut Pass,
+        talk: &mut RedisTalk,
+        bytes: &'b [u8],
+        sink: &mut W,
+    ) -> Result<(Came, &'b [u8]), Failed>
+        requires map { pass.old.map ≡ self.old }
+        requires sink { CanWrite (W.state sink.old) }
+        ensures desk { self.new ≡ self.old }
+        ensures same { pass.new.map ≡ self.old }
+        ensures passes { pass.new.view.passes ≡ pass.old.view.passes }
+        ensures numbers { pass.new.view.numbers ≡ pass.old.view.numbers }
+        ensures number { talk.new.number ≡ talk.old.number }
+        ensures ok { IfOk result (λ left. AnswersAll (W.state sink.old) (W.state sink.new) talk.old pass.old bytes.now left.0 talk.new pass.new left.1.now) }
+        ensures err { OnErr result (FailsAt (W.state sink.old) (W.state sink.new) talk.old pass.old bytes.now talk.new pass.new) }
+    {
+        let mut reader = Reader::new(self.alloc, bytes);
+        match self.answer_all(rt, pass, talk, &mut reader, sink) {
+            Ok(came) => Ok((came, reader.rest)),
+            Err(Failed) => Err(Failed),
+        }
+    }
+
     /// Answers the commands that the bytes begin with, and keeps what follows the last whole one.
     fn take_bytes<H: Wait, W: Sink>(
         &mut self,
@@ -383,16 +417,50 @@ impl<'a, 's> RedisDesk<'a, 's> {
             × TakesThenFails (W.state sink.old) (W.state sink.new) written
             × BreaksBytes talk.old pass.old bytes.now written talk.new pass.new) }
     {
-        let mut reader = Reader::new(self.alloc, bytes);
-        let Ok(came) = self.answer_all(rt, pass, talk, &mut reader, sink) else {
+        let Ok((came, rest)) = self.answer_bytes(rt, pass, talk, bytes, sink) else {
             talk.end(self.alloc);
             return Err(TalkEnd::WriteFailed);
         };
-        match finish(self.alloc, talk, came, reader.rest, sink) {
-            Ok(true) => Err(TalkEnd::Over),
-            Ok(false) => Ok(()),
-            Err(Failed) => Err(TalkEnd::WriteFailed),
+        finish(self.alloc, talk, came, rest, sink)
+    }
+
+    /// Answers the commands that held bytes begin with, and keeps what follows the last whole one. If none is whole the bytes stay in
+    /// place, so a long command is not copied with each piece.
+    fn take_held<H: Wait, W: Sink>(
+        &mut self,
+        rt: &H,
+        pass: &mut Pass,
+        talk: &mut RedisTalk,
+        held: Vec<u8>,
+        sink: &mut W,
+    ) -> Result<(), TalkEnd>
+        requires map { pass.old.map ≡ self.old }
+        requires sink { CanWrite (W.state sink.old) }
+        ensures desk { self.new ≡ self.old }
+        ensures same { pass.new.map ≡ self.old }
+        ensures passes { pass.new.view.passes ≡ pass.old.view.passes }
+        ensures numbers { pass.new.view.numbers ≡ pass.old.view.numbers }
+        ensures number { talk.new.number ≡ talk.old.number }
+        ensures ok { OnOk result ((talk.new.is_over ≡ false) × ((written : List ℕ)
+            × TakesBytes (W.state sink.old) (W.state sink.new) written
+            × AnswersBytes talk.old pass.old held.items written talk.new pass.new)) }
+        ensures over { result ≡ Err TalkEnd.Over → (talk.new.is_over ≡ true) × ((written : List ℕ)
+            × TakesBytes (W.state sink.old) (W.state sink.new) written
+            × AnswersBytes talk.old pass.old held.items written talk.new pass.new) }
+        ensures memory { result ≢ Err TalkEnd.NoMemory }
+        ensures write { result ≡ Err TalkEnd.WriteFailed → ((written : List ℕ)
+            × TakesThenFails (W.state sink.old) (W.state sink.new) written
+            × BreaksBytes talk.old pass.old held.items written talk.new pass.new) }
+    {
+        let Ok((came, rest)) = self.answer_bytes(rt, pass, talk, &held, sink) else {
+            talk.end(self.alloc);
+            return Err(TalkEnd::WriteFailed);
+        };
+        if rest.len() == held.len() && is_more(came) && !talk.is_over() {
+            talk.hold(held);
+            return Ok(());
         }
+        finish(self.alloc, talk, came, rest, sink)
     }
 
     /// Answers the commands that this piece completes, in order, each into the sink before it looks at the next one. Keeps what
@@ -435,6 +503,6 @@ impl<'a, 's> RedisDesk<'a, 's> {
             talk.rest = held;
             return Err(TalkEnd::NoMemory);
         }
-        self.take_bytes(rt, pass, talk, &held, sink)
+        self.take_held(rt, pass, talk, held, sink)
     }
 }

@@ -86,6 +86,13 @@ impl RedisTalk {
         self.is_over = true;
     }
 
+    /// Holds these bytes, with which a command begins.
+    pub(crate) fn hold(&mut self, held: Vec<u8>)
+        ensures { self.new ≡ record self.old { rest = held.items } }
+    {
+        self.rest = held;
+    }
+
     /// Keeps the beginning of a command, and returns whether memory was there.
     pub(crate) fn keep(&mut self, alloc: Global, rest: &[u8]) -> bool
         ensures kept { IsTrue result → self.new ≡ record self.old { rest = rest.now } }
