@@ -1,5 +1,5 @@
 -- Calls that no refusal of memory meets.
-use Rattle.std.proofs.Common.{◌≡◌, ℕ, List, Option, Some, None, ◌∙◌, sym}
+use Rattle.std.proofs.Common.{ℕ, List}
 use Rattle.atomic_methods.specs.Invocations.{on_key, get, remove}
 use Rattle.bin_stripes.specs.Passes.{PassState}
 use Rattle.redis_service.specs.Calls.{Refuses}

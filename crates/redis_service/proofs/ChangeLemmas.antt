@@ -1,5 +1,5 @@
 -- Tries that were lost, and the last one.
-use Rattle.std.proofs.Common.{◌≡◌, ℕ, suc, List, Option, sym, subst}
+use Rattle.std.proofs.Common.{ℕ, suc, List, Option}
 use Rattle.bin_stripes.specs.Passes.{PassState}
 use Rattle.redis_service.specs.Changes.{Step, LosesTry, LosesTries, EndsTry, AnswersChange}
 

@@ -1,13 +1,12 @@
 -- What is told at the end of a talk.
-use Rattle.std.proofs.Common.{◌≡◌, ℕ, Bool, true, false, List, refl, sym, ap, subst, ◌∙◌, inl, inr}
+use Rattle.std.proofs.Common.{◌≡◌, ℕ, true, false, List, ap, subst, inl, inr}
 use Rattle.devices.specs.Devices.{SinkState, TakesBytes, TakesPart}
 use Rattle.resp.specs.declared.fault.RespFault.{RespFault}
-use Rattle.resp.specs.Grammar.{IsFaulty}
 use Rattle.resp.specs.Faults.{fault_message}
 use Rattle.resp.specs.Replies.{error_bytes}
 use Rattle.redis_service.specs.declared.reader.Came.{Came}
 use Rattle.redis_service.specs.declared.reader.Came.TheVariants.{Faulty}
-use Rattle.redis_service.specs.Talks.{TalkState, ended, Ending, faulty, Ends}
+use Rattle.redis_service.specs.Talks.{TalkState, ended, faulty, Ends}
 use Rattle.redis_service.specs.Stops.{IsLast, Stops, TellsEnd, FailsEnd}
 
 -- a talk that isn't over has come to this

@@ -1,5 +1,5 @@
 -- Words that are no command.
-use Rattle.std.proofs.Common.{◌≡◌, ◌≢◌, Err, refl}
+use Rattle.std.proofs.Common.{◌≢◌, Err, refl}
 use Rattle.bin_stripes.specs.Passes.{PassState}
 use Rattle.resp.specs.Replies.{error_bytes}
 use Rattle.redis_commands.specs.Commands.{fault_by}

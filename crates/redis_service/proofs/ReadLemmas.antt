@@ -1,8 +1,7 @@
 -- What was read is some byte at least.
-use Rattle.std.proofs.Common.{◌≡◌, ℕ, ◌<◌, ◌≤◌, ◌+◌, List, [], ◌∷◌, ◌++◌, length, ap, ◌∙◌, inl, inr, arith}
+use Rattle.std.proofs.Common.{◌≡◌, ℕ, ◌<◌, ◌≤◌, List, [], ◌∷◌, ◌++◌, length, ap, inl, inr, arith}
 use Rattle.std.proofs.lemmas.List.{length-append}
-use Rattle.resp.specs.Grammar.{Spells, IsIgnored, IsLine, IsEmptyArray, array_bytes}
-use Rattle.redis_service.specs.Reads.{Takes}
+use Rattle.resp.specs.Grammar.{Spells, IsIgnored, IsLine, IsEmptyArray}
 
 -- bytes that begin with one
 begins : (bytes more : List ℕ) (b : ℕ) → bytes ≡ b ∷ more → 1 ≤ length bytes

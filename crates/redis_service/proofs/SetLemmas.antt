@@ -1,5 +1,5 @@
 -- Keys that are set one after the other.
-use Rattle.std.proofs.Common.{◌≡◌, ℕ, suc, ◌+◌, ◌<◌, ◌≤◌, List, [], ◌∷◌, ◌++◌, length, map, get_or, drop, refl, sym, ap, subst, ◌∙◌, inl, inr, append_assoc, add-one, drop-cons, arith}
+use Rattle.std.proofs.Common.{◌≡◌, ℕ, suc, ◌+◌, ◌<◌, ◌≤◌, List, [], ◌∷◌, ◌++◌, length, get_or, drop, refl, sym, ap, subst, ◌∙◌, inl, inr, append_assoc, drop-cons, arith}
 use Rattle.std.specs.Borrow.{Bor}
 use Rattle.std.proofs.lemmas.List.{get_or-map, length-map, length-drop, append-nil}
 use Rattle.atomic_methods.specs.declared.reply.Reply.{Reply}
@@ -10,7 +10,7 @@ use Rattle.redis_commands.specs.Limits.{IsKey, IsValue, ArePairs}
 use Rattle.redis_service.specs.Lines.{no_memory_line}
 use Rattle.redis_service.specs.Texts.{ok_line}
 use Rattle.redis_service.specs.Calls.{Refuses, Each}
-use Rattle.redis_service.specs.Answers.{Puts, StopsAt, AnswersSetEach, pairs}
+use Rattle.redis_service.specs.Answers.{Puts, AnswersSetEach, pairs}
 use Rattle.redis_service.proofs.EachLemmas.{each_more}
 
 -- the texts from a place on: the word there, and those after it

@@ -1,5 +1,5 @@
 -- Commands that are answered one after the other, and how that stops.
-use Rattle.std.proofs.Common.{◌≡◌, ℕ, ◌+◌, ◌≤◌, Bool, true, false, List, [], ◌∷◌, ◌++◌, length, flat_map, Result, Ok, Err, OnOk, refl, sym, ap, subst, ◌∙◌, inl, inr, append_assoc, arith}
+use Rattle.std.proofs.Common.{◌≡◌, ℕ, true, false, List, [], ◌∷◌, ◌++◌, length, flat_map, Result, Ok, Err, OnOk, refl, sym, ap, subst, ◌∙◌, inl, inr, append_assoc, arith}
 use Rattle.std.proofs.lemmas.List.{append-nil, length-append}
 use Rattle.resp.specs.Grammar.{IsBegun}
 use Rattle.std.proofs.lemmas.List.Concat.{flat_map-append}
@@ -8,9 +8,8 @@ use Rattle.bin_stripes.specs.Passes.{PassState}
 use Rattle.redis_service.specs.declared.reader.Came.{Came}
 use Rattle.redis_service.specs.declared.reader.Came.TheVariants.{Command, Nothing, More}
 use Rattle.redis_service.specs.Reads.{ReadsNext}
-use Rattle.redis_service.specs.Sending.{IsPart}
 use Rattle.redis_service.specs.Commands.{AnswersWords}
-use Rattle.redis_service.specs.Talks.{TalkState, ended, Said, AnswersSaid, AnswersEach, AnswersSome, AnswersBytes, BreaksBytes, Ending, waits}
+use Rattle.redis_service.specs.Talks.{TalkState, ended, Said, AnswersSaid, AnswersEach, AnswersSome, AnswersBytes, BreaksBytes, waits}
 use Rattle.redis_service.specs.Stops.{Stops, AnswersAll, FailsAt, TellsEnd, FailsEnd}
 use Rattle.redis_service.proofs.SendLemmas.{takes_then, cut_after}
 

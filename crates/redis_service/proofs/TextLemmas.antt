@@ -1,6 +1,6 @@
 -- Texts that commands make.
-use Rattle.std.proofs.Common.{◌≡◌, ℕ, ℤ, suc, ◌+◌, ◌-◌, ◌<◌, ◌≤◌, min, Bool, false, List, [], ◌∷◌, ◌++◌, length, take, drop, replicate, refl, ap, sym, ◌∙◌, append_assoc, arith, if◌then◌else◌}
-use Rattle.std.proofs.lemmas.List.{length-take, length-drop, take_min, drop_min, drop-take, take_rest, take-replicate}
+use Rattle.std.proofs.Common.{◌≡◌, ℕ, ℤ, suc, ◌+◌, ◌-◌, ◌≤◌, min, Bool, false, List, [], ◌++◌, length, take, drop, replicate, ap, sym, ◌∙◌, append_assoc, arith, if◌then◌else◌}
+use Rattle.std.proofs.lemmas.List.{length-take, take_min, drop_min, drop-take, take_rest, take-replicate}
 use Rattle.redis_service.specs.Texts.{place, is_backward, range_of, overwritten}
 
 -- the bytes before a place that may be beyond the end

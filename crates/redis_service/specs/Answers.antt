@@ -1,11 +1,10 @@
 -- The table of commands: the calls that each one makes, in order, and the bytes of its reply.
-use Rattle.std.specs.Prelude.{◌≡◌, ◌⊎◌, ℕ, ℤ, pos, Bool, true, false, List, [], ◌∷◌, ◌++◌, length, flat_map, count_by, Option, Some, None, Ok, Err, is_some, is_none, codes}
+use Rattle.std.specs.Prelude.{◌≡◌, ◌⊎◌, ℕ, Bool, true, false, List, [], ◌∷◌, ◌++◌, length, flat_map, count_by, Option, is_some, is_none}
 use Rattle.atomic_methods.specs.declared.reply.Reply.{Reply}
 use Rattle.atomic_methods.specs.Invocations.{on_key, put, put_if_absent, replace, replace_if, remove_if}
 use Rattle.bin_stripes.specs.Passes.{PassState}
-use Rattle.resp.specs.Replies.{simple_bytes, error_bytes, integer_bytes, value_bytes, nothing_bytes, array_head}
-use Rattle.redis_commands.specs.Commands.{Asked, Act, Condition, ConnectionAsked, WalkAsked, ProgramAsked}
-use Rattle.redis_commands.specs.Commands.Asked.{OnKey, OnKeys, SetEach, Walk, Connection, Program}
+use Rattle.resp.specs.Replies.{array_head}
+use Rattle.redis_commands.specs.Commands.{Act, Condition}
 use Rattle.redis_commands.specs.Commands.Act.{Get, Set, SetIfAbsent, GetAndSet, GetAndDelete, Length, TypeName, TimeToLive, Add, Append, GetRange, SetRange, DeleteIfEqual}
 use Rattle.redis_commands.specs.Commands.Condition.{Always, IfAbsent, IfPresent, IfEqual}
 use Rattle.redis_commands.specs.declared.command.KeysAct.{KeysAct}

@@ -1,5 +1,5 @@
 -- Single calls that a command makes, and what their replies tell.
-use Rattle.std.specs.Prelude.{◌≡◌, ◌⊎◌, ℕ, Bool, true, false, List, [], ◌∷◌, Option, Some, None, Result, MatchResult}
+use Rattle.std.specs.Prelude.{◌≡◌, ◌⊎◌, ℕ, Bool, false, List, [], ◌∷◌, Option, Some, None, Result, MatchResult}
 use Rattle.bpf_model.specs.declared.memory.NoMemory.{NoMemory}
 use Rattle.atomic_methods.specs.declared.reply.Reply.{Reply}
 use Rattle.atomic_methods.specs.declared.reply.Reply.TheVariants.{Value, Done}

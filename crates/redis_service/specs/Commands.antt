@@ -1,5 +1,5 @@
 -- What each command of words does, and the answer to words that are none.
-use Rattle.std.specs.Prelude.{◌≡◌, ℕ, List, [], true, Result, Ok, Err, codes}
+use Rattle.std.specs.Prelude.{◌≡◌, ℕ, List, [], true, Result, Ok, Err}
 use Rattle.bin_stripes.specs.Passes.{PassState}
 use Rattle.resp.specs.Replies.{error_bytes}
 use Rattle.redis_commands.specs.Commands.{Asked, Fault}

@@ -1,5 +1,5 @@
 -- Commands of the connection and of the server.
-use Rattle.std.specs.Prelude.{◌≡◌, ◌⊎◌, ℕ, pos, List, [], ◌∷◌, ◌++◌, Option, Some, None, codes, true}
+use Rattle.std.specs.Prelude.{◌≡◌, ◌⊎◌, ℕ, List, [], ◌∷◌, ◌++◌, Option, Some, None, codes, true}
 use Rattle.bin_stripes.specs.Passes.{PassState}
 use Rattle.resp.specs.Replies.{simple_bytes, value_bytes, nothing_bytes, array_head}
 use Rattle.redis_commands.specs.Commands.{ConnectionAsked}

@@ -1,5 +1,5 @@
 -- How the code shows changes, and what it plans to do.
-use Rattle.std.specs.Prelude.{ℕ, ◌≤◌, List, length, Option, ◌+◌, [], ◌∷◌}
+use Rattle.std.specs.Prelude.{ℕ, ◌≤◌, List, length, Option, ◌+◌}
 use Rattle.bpf_model.specs.declared.limits.TheConstants.{VALUE_BYTES}
 use Rattle.redis_service.specs.declared.changes.Change.{Change}
 use Rattle.redis_service.specs.declared.changes.Change.TheVariants as change

@@ -65,7 +65,7 @@ AnswersScript old key method kind program None written new = AnswersWith old key
 AnswersScript old key method Bytes program (Some word) written new = AnswersWith old key method Bytes program (Some word) written new
 AnswersScript old key method Integer program (Some word) written new =
     ((n : ℤ) × FitsSigned w64 n × (word ≡ signed_decimal n)
-        × AnswersWith old key method Integer program (Some (to_le_bytes w64 (cast_unsigned w64 n))) written new)
+    × AnswersWith old key method Integer program (Some (to_le_bytes w64 (cast_unsigned w64 n))) written new)
     ⊎ (((n : ℤ) → FitsSigned w64 n → word ≢ signed_decimal n) × Only not_a_number old written new)
 
 -- the release of a lock: the key is removed if its value is the argument
@@ -90,7 +90,7 @@ abbrev pub AnswersDigest : PassState → List ℕ → List ℕ → Option (List 
 AnswersDigest old word key argument written new =
     ((digest : List ℕ) × Names word digest × ReleasesLock digest × AnswersRelease old key argument written new)
     ⊎ (((digest : List ℕ) × Names word digest × ((method : Method) × (kind : ReplyKind) × (program : Checked) × IsScript digest method kind program
-        × AnswersScript old key method kind program argument written new))
+    × AnswersScript old key method kind program argument written new))
     ⊎ (NamesNoRelease word × Only no_script old written new))
 
 -- EVAL of the release of a lock, of a script's text, or of a text that is none
@@ -98,7 +98,7 @@ abbrev pub AnswersText : PassState → List ℕ → List ℕ → Option (List �
 AnswersText old text key argument written new =
     (ReleasesLock (sha1 text) × AnswersRelease old key argument written new)
     ⊎ (((method : Method) × (kind : ReplyKind) × (program : Checked) × IsText text method kind program
-        × AnswersScript old key method kind program argument written new)
+    × AnswersScript old key method kind program argument written new)
     ⊎ ((fault : ScriptFault) × IsFaultOf text fault × Only (error_bytes (fault_text fault)) old written new))
 
 -- SCRIPT LOAD: the name of the text's digest, in lower case, if it is the release of a lock or a script's text
@@ -106,14 +106,14 @@ abbrev pub LoadsText : List ℕ → List ℕ → Type 0
 LoadsText text written =
     (ReleasesLock (sha1 text) × (written ≡ value_bytes (encode_lower (sha1 text))))
     ⊎ (((method : Method) × (kind : ReplyKind) × (program : Checked) × IsText text method kind program
-        × (written ≡ value_bytes (encode_lower (sha1 text))))
+    × (written ≡ value_bytes (encode_lower (sha1 text))))
     ⊎ ((fault : ScriptFault) × IsFaultOf text fault × (written ≡ error_bytes (fault_text fault))))
 
 -- whether the word names what can be called: the release of a lock, or a script
 abbrev pub Tells : List ℕ → Bool → Type 0
 Tells word true =
     (digest : List ℕ) × Names word digest
-        × (ReleasesLock digest ⊎ ((method : Method) × (kind : ReplyKind) × (program : Checked) × IsScript digest method kind program))
+    × (ReleasesLock digest ⊎ ((method : Method) × (kind : ReplyKind) × (program : Checked) × IsScript digest method kind program))
 Tells word false = NamesNoRelease word
 
 -- the same, and no call is made

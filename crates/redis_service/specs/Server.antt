@@ -1,7 +1,7 @@
 -- What the server tells of itself.
-use Rattle.std.specs.Prelude.{◌≡◌, ℕ, ◌*◌, Bool, List, [], ◌∷◌, ◌++◌, flat_map, count_by, decimal, codes, Option, Some, None, is_some, if◌then◌else◌}
+use Rattle.std.specs.Prelude.{ℕ, ◌*◌, Bool, List, [], ◌∷◌, ◌++◌, flat_map, count_by, decimal, codes, Option, Some, None, is_some, if◌then◌else◌}
 use Rattle.std.specs.Str.{str_eq_ignore_ascii_case}
-use Rattle.resp.specs.Replies.{value_bytes, array_head}
+use Rattle.resp.specs.Replies.{array_head}
 use Rattle.redis_service.specs.Texts.{text_of}
 
 -- texts, one after the other

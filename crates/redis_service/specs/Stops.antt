@@ -1,6 +1,5 @@
 -- How reading the commands of a piece stops.
-use Rattle.std.specs.Prelude.{◌≡◌, ◌⊎◌, ℕ, List, ◌++◌, Bool, true, false, ⊤, Result, IfOk, OnErr}
-use Rattle.devices.specs.declared.failed.Failed.{Failed}
+use Rattle.std.specs.Prelude.{◌≡◌, ◌⊎◌, ℕ, List, ◌++◌, true, false}
 use Rattle.devices.specs.Devices.{SinkState, TakesBytes, TakesPart, TakesThenFails}
 use Rattle.bin_stripes.specs.Passes.{PassState}
 use Rattle.resp.specs.Grammar.{IsBegun, IsFaulty}

@@ -1,5 +1,5 @@
 -- A talk with one client: how each piece of its bytes is taken.
-use Rattle.std.specs.Prelude.{◌≡◌, ◌⊎◌, ℕ, List, [], ◌∷◌, ◌++◌, flat_map, Bool, true, false}
+use Rattle.std.specs.Prelude.{◌≡◌, ◌⊎◌, ℕ, List, [], ◌∷◌, ◌++◌, flat_map, true, false}
 use Rattle.bin_stripes.specs.Passes.{PassState}
 use Rattle.resp.specs.Grammar.{Spells, IsIgnored, IsBegun, IsFaulty}
 use Rattle.resp.specs.Replies.{error_bytes}

@@ -1,5 +1,5 @@
 -- What commands make of a value's text.
-use Rattle.std.specs.Prelude.{◌≡◌, ◌≢◌, ◌⊎◌, ℕ, zero, suc, ◌+◌, ◌-◌, Bool, true, false, List, [], ◌∷◌, ◌++◌, length, take, drop, replicate, nat_lt, ℤ, pos, negsuc, ◌+ℤ◌, FitsSigned, Option, Some, None, codes, bytes_eq, if◌then◌else◌}
+use Rattle.std.specs.Prelude.{◌≡◌, ◌≢◌, ◌⊎◌, ℕ, suc, ◌+◌, ◌-◌, Bool, true, false, List, [], ◌∷◌, ◌++◌, length, take, drop, replicate, nat_lt, ℤ, pos, negsuc, ◌+ℤ◌, FitsSigned, Option, Some, None, codes, bytes_eq, if◌then◌else◌}
 use Rattle.std.specs.Int.{w64}
 use Rattle.std.specs.Fmt.{signed_decimal}
 use Rattle.bpf_model.specs.declared.limits.TheConstants.{VALUE_BYTES}

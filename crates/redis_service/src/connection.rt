@@ -116,11 +116,7 @@ fn ping<W: Sink>(word: Option<&[u8]>, sink: &mut W) -> Result<(), Failed>
 }
 
 /// Says the line of the client.
-fn put_client<W: Sink>(
-    alloc: Global,
-    talk: &RedisTalk,
-    sink: &mut W,
-) -> Result<(), Failed>
+fn put_client<W: Sink>(alloc: Global, talk: &RedisTalk, sink: &mut W) -> Result<(), Failed>
     requires { CanWrite (W.state sink.old) }
     ensures { (written : List ℕ) × Sends result (W.state sink.old) (W.state sink.new) written
         × SaysIfRoom (value_bytes (server.client_line talk.now.number talk.now.name)) written }

@@ -24,9 +24,7 @@ use crate::walks::{Ground, answer_walk};
 use bin_stripes::{Pass, StripedMap};
 use devices::{Failed, Sink, write_all};
 use key_walks::count_all;
-use redis_commands::{
-    Command, CommandFault, ConnectionCommand, KeyAct, KeysAct, command_of,
-};
+use redis_commands::{Command, CommandFault, ConnectionCommand, KeyAct, KeysAct, command_of};
 use redis_scripts::Scripts;
 use resp::put_error;
 use std::alloc::Global;

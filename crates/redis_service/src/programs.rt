@@ -120,7 +120,10 @@ fn call_with<H: Wait>(
     ensures answers { AnswersWith pass.old room.old.key script.now.method script.now.reply script.now.program.now (where_true has room.old.value) (replied_bytes result room.new.found) pass.new }
 {
     let Room {
-        key, found, value, ..
+        key,
+        found,
+        value,
+        ..
     } = room;
     let arg = value_if(has, value);
     let Some(call) = call_of(script.method, key, script.program, arg) else {
@@ -178,7 +181,10 @@ pub fn release<H: Wait>(
         return Replied::Error(NO_ARGUMENT);
     };
     let Room {
-        key, found, other, ..
+        key,
+        found,
+        other,
+        ..
     } = room;
     other.set_from(holder);
     let call = Call::RemoveIf {

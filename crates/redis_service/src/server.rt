@@ -30,7 +30,8 @@ fn joined(alloc: Global, parts: &[&[u8]]) -> Result<Vec<u8>, NoMemory>
 const CLIENT_MIDDLE: &[u8] = b" addr=?:0 laddr=?:0 fd=0 name=";
 
 /// What the line of a client says after its name.
-const CLIENT_TAIL: &[u8] = b" age=0 idle=0 flags=N db=0 sub=0 psub=0 ssub=0 multi=-1 cmd=client|list user=default redir=-1 resp=2\n";
+const CLIENT_TAIL: &[u8] =
+    b" age=0 idle=0 flags=N db=0 sub=0 psub=0 ssub=0 multi=-1 cmd=client|list user=default redir=-1 resp=2\n";
 
 /// Returns the line of the client with this number and name.
 pub fn client_line(alloc: Global, number: u64, name: &[u8]) -> Result<Vec<u8>, NoMemory>
@@ -42,7 +43,8 @@ pub fn client_line(alloc: Global, number: u64, name: &[u8]) -> Result<Vec<u8>, N
 }
 
 /// What `INFO` says before the number of keys.
-const INFO_HEAD: &[u8] = b"# Server\r\nredis_version:7.0.15\r\nredis_mode:standalone\r\n\r\n# Clients\r\nconnected_clients:1\r\nblocked_clients:0\r\n\r\n# Memory\r\nused_memory:0\r\nused_memory_human:0B\r\nmaxmemory:0\r\nmaxmemory_policy:noeviction\r\n\r\n# Persistence\r\nloading:0\r\n\r\n# Stats\r\ntotal_connections_received:0\r\ntotal_commands_processed:0\r\ninstantaneous_ops_per_sec:0\r\n\r\n# Replication\r\nrole:master\r\nconnected_slaves:0\r\n\r\n# Keyspace\r\ndb0:keys=";
+const INFO_HEAD: &[u8] =
+    b"# Server\r\nredis_version:7.0.15\r\nredis_mode:standalone\r\n\r\n# Clients\r\nconnected_clients:1\r\nblocked_clients:0\r\n\r\n# Memory\r\nused_memory:0\r\nused_memory_human:0B\r\nmaxmemory:0\r\nmaxmemory_policy:noeviction\r\n\r\n# Persistence\r\nloading:0\r\n\r\n# Stats\r\ntotal_connections_received:0\r\ntotal_commands_processed:0\r\ninstantaneous_ops_per_sec:0\r\n\r\n# Replication\r\nrole:master\r\nconnected_slaves:0\r\n\r\n# Keyspace\r\ndb0:keys=";
 
 /// What `INFO` says after the number of keys.
 const INFO_TAIL: &[u8] = b",expires=0,avg_ttl=0\r\n";
@@ -52,7 +54,10 @@ pub fn info_text(alloc: Global, count: u64) -> Result<Vec<u8>, NoMemory>
     ensures { IfOk result (λ text. text.items ≡ info_text count) }
 {
     let mut digits = Buffer::new();
-    joined(alloc, &[INFO_HEAD, digits.format(count).as_bytes(), INFO_TAIL])
+    joined(
+        alloc,
+        &[INFO_HEAD, digits.format(count).as_bytes(), INFO_TAIL],
+    )
 }
 
 /// Tests whether a word is this one, in any case.

@@ -59,11 +59,7 @@ fn clear<H: Wait>(rt: &H, alloc: Global, map: &StripedMap, pass: &mut Pass) -> R
 }
 
 /// Writes an array of these keys, if no write of those before failed.
-fn put_keys<W: Sink>(
-    begun: Result<(), Failed>,
-    keys: &[Key],
-    sink: &mut W,
-) -> Result<(), Failed>
+fn put_keys<W: Sink>(begun: Result<(), Failed>, keys: &[Key], sink: &mut W) -> Result<(), Failed>
     requires { OnOk begun (CanWrite (W.state sink.old)) }
     ensures { (before : SinkState) (said : List ℕ) → Sends begun before (W.state sink.old) said
         → Sends result before (W.state sink.new) (said ++ keys_bytes keys.now) }
@@ -175,10 +171,7 @@ fn choose<H: Wait>(
 }
 
 /// Writes the key that was chosen, or that there is none, or that memory was refused.
-fn put_choice<W: Sink>(
-    chosen: &Result<Option<Key>, NoMemory>,
-    sink: &mut W,
-) -> Result<(), Failed>
+fn put_choice<W: Sink>(chosen: &Result<Option<Key>, NoMemory>, sink: &mut W) -> Result<(), Failed>
     requires { CanWrite (W.state sink.old) }
     ensures { Sends result (W.state sink.old) (W.state sink.new) (choice_line chosen.now) }
 {

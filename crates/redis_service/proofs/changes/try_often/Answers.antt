@@ -1,4 +1,4 @@
-use Rattle.std.proofs.Common.{◌≡◌, List, ℕ, rules}
+use Rattle.std.proofs.Common.{rules}
 use Rattle.redis_service.specs.Planned.{Does}
 use Rattle.redis_service.proofs.ChangeLemmas.{ends_after, loses_more}
 use Rattle.redis_service.proofs.changes.try_often.Goals as goal

@@ -1,6 +1,6 @@
-use Rattle.std.proofs.Common.{refl, codes, [], ap, ◌∙◌}
+use Rattle.std.proofs.Common.{refl, codes, ap, ◌∙◌}
 use Rattle.redis_commands.specs.Commands.{text, texts}
-use Rattle.resp.specs.Replies.{simple_bytes, error_bytes, integer_bytes, value_bytes, array_head}
+use Rattle.resp.specs.Replies.{simple_bytes, value_bytes, array_head}
 use Rattle.redis_service.specs.Connections.{name_line, ping_line}
 use Rattle.redis_service.specs.Texts.{ok_line, count_line}
 use Rattle.redis_service.specs.Server.{config_bytes}

@@ -1,6 +1,5 @@
-use Rattle.std.proofs.Common.{refl, inl, inr, rules}
+use Rattle.std.proofs.Common.{refl, inr, rules}
 use Rattle.redis_service.specs.Lines.{no_memory_line}
-use Rattle.redis_service.specs.Texts.{ok_line}
 use Rattle.redis_service.proofs.SendLemmas.{sends_of}
 use Rattle.redis_service.proofs.connection.greet.Goals as goal
 

@@ -1,4 +1,4 @@
-use Rattle.std.proofs.Common.{[], refl, sym, ap, subst, ◌≡◌, List, ℕ, Err, ◌∙◌}
+use Rattle.std.proofs.Common.{[], refl, sym, subst, ◌≡◌, List, ℕ, Err, ◌∙◌}
 use Rattle.resp.specs.Replies.{error_bytes}
 use Rattle.redis_commands.specs.Commands.{fault_by}
 use Rattle.redis_commands.specs.Texts.{fault_text}

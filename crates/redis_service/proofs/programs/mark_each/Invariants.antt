@@ -1,5 +1,5 @@
 -- the words so far are told of, as far as writes didn't fail
-use Rattle.std.proofs.Common.{◌++◌, ℕ, List, Bool, length, take, flat_map, OnOk}
+use Rattle.std.proofs.Common.{◌++◌, List, Bool, length, take, flat_map, OnOk}
 use Rattle.bin_stripes.specs.Passes.{PassState}
 use Rattle.devices.specs.Devices.{CanWrite}
 use Rattle.resp.specs.Replies.{array_head}

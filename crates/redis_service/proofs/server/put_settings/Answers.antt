@@ -1,4 +1,4 @@
-use Rattle.std.proofs.Common.{◌≡◌, ℕ, List, [], ◌++◌, ◌*◌, count_by, ap, sym, subst, ◌∙◌}
+use Rattle.std.proofs.Common.{ℕ, List, [], ◌*◌, count_by, ap, sym, subst, ◌∙◌}
 use Rattle.std.proofs.lemmas.List.{append-nil}
 use Rattle.resp.specs.Replies.{array_head}
 use Rattle.redis_commands.specs.Commands.{texts}
@@ -14,6 +14,6 @@ loop-word-init g c =
       can = c.send_after-sent.ensures.can;
       sends =
           subst (λ (t : List ℕ). Sends c.send_after-sent.result before (g.W.Sink.state c.send_after-sent.new.sink) t)
-              (ap (λ (n : ℕ). array_head (2 * n)) c.count_settings-count.ensures.count ∙ sym (append-nil (array_head (2 * count_by is_setting (texts c.args.words.now)))))
-              (c.send_after-sent.ensures.more before [] (takes_none before));
+          (ap (λ (n : ℕ). array_head (2 * n)) c.count_settings-count.ensures.count ∙ sym (append-nil (array_head (2 * count_by is_setting (texts c.args.words.now)))))
+          (c.send_after-sent.ensures.more before [] (takes_none before));
     }

@@ -1,5 +1,5 @@
 -- the words so far are answered, as far as writes didn't fail
-use Rattle.std.proofs.Common.{◌≡◌, ◌++◌, ◌*◌, take, flat_map, count_by, OnOk}
+use Rattle.std.proofs.Common.{◌++◌, ◌*◌, take, flat_map, count_by, OnOk}
 use Rattle.devices.specs.Devices.{CanWrite}
 use Rattle.resp.specs.Replies.{array_head}
 use Rattle.redis_commands.specs.Commands.{texts}

@@ -1,5 +1,5 @@
 -- the keys so far are told, as far as writes didn't fail
-use Rattle.std.proofs.Common.{◌≡◌, ◌++◌, ℕ, List, length, take, flat_map, OnOk}
+use Rattle.std.proofs.Common.{◌++◌, ℕ, List, length, take, flat_map, OnOk}
 use Rattle.devices.specs.Devices.{SinkState, CanWrite}
 use Rattle.resp.specs.Replies.{array_head, value_bytes}
 use Rattle.redis_service.specs.Sending.{Sends}

@@ -1,5 +1,5 @@
-use Rattle.std.proofs.Common.{subst, ◌≡◌, Result, ap, ◌∙◌, sym}
-use Rattle.redis_commands.specs.Commands.{Asked, Fault, answer_by}
+use Rattle.std.proofs.Common.{subst, Result}
+use Rattle.redis_commands.specs.Commands.{Asked, Fault}
 use Rattle.redis_service.specs.Commands.{AnswersRead}
 use Rattle.redis_service.proofs.desk.RedisDesk.answer.Goals as goal
 

@@ -1,5 +1,5 @@
 -- the commands so far are answered
-use Rattle.std.proofs.Common.{◌≡◌, ◌<◌, ◌^◌, ◌-◌, ℕ, List, length}
+use Rattle.std.proofs.Common.{◌≡◌, ℕ, List, length}
 use Rattle.devices.specs.Devices.{TakesBytes}
 use Rattle.redis_service.specs.Talks.{AnswersSome}
 use Rattle.redis_service.proofs.desk.RedisDesk.answer_all.Given as goal

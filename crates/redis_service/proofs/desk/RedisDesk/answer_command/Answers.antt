@@ -1,5 +1,4 @@
-use Rattle.std.proofs.Common.{[], refl, codes}
-use Rattle.resp.specs.Replies.{error_bytes}
+use Rattle.std.proofs.Common.{[], refl}
 use Rattle.redis_service.specs.Replied.{replied_bytes}
 use Rattle.redis_service.proofs.SendLemmas.{sends_of}
 use Rattle.redis_service.proofs.desk.RedisDesk.answer_command.Goals as goal

@@ -1,5 +1,4 @@
-use Rattle.std.proofs.Common.{◌∙◌, sym, rules}
-use Rattle.redis_service.proofs.TalkLemmas.{answers_of, answers_held, ok_of, breaks_of_fails, breaks_of_end}
+use Rattle.redis_service.proofs.TalkLemmas.{answers_of, ok_of, breaks_of_fails, breaks_of_end}
 use Rattle.redis_service.proofs.desk.RedisDesk.take_bytes.Goals as goal
 
 pub returns-in_default-clause-write : goal.returns-in_default-clause-write
