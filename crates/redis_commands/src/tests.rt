@@ -166,9 +166,16 @@ fn patterns_match_as_in_redis(rt: HostRuntime) {
     }
 }
 
+static SET: [&[u8]; 6] = [b"SeT", b"k", b"v", b"GET", b"keepttl", b"Nx"];
+
+static SCAN: [&[u8]; 8] = [
+    b"scan", b"9", b"type", b"STRING", b"count", b"5", b"match", b"a*",
+];
+
+static POST: [&[u8]; 3] = [b"POST", b"/", b"HTTP/1.1"];
+
 #[test]
-fn options_come_in_any_order(rt: HostRuntime) -> Result<(), Fail> {
-    let words = words_of(rt.alloc(), "SeT k v GET keepttl Nx")?;
+fn options_come_in_any_order(rt: HostRuntime) {
     let wanted = Command::OnKey {
         key: b"k",
         act: KeyAct::Set {
@@ -177,16 +184,13 @@ fn options_come_in_any_order(rt: HostRuntime) -> Result<(), Fail> {
             wants_old: true,
         },
     };
-    assert!(rt; command_of(&words) == Ok(wanted), "SET");
-    let words = words_of(rt.alloc(), "scan 9 type STRING count 5 match a*")?;
+    assert!(rt; command_of(&SET) == Ok(wanted), "SET");
     let wanted = Command::Walk(WalkCommand::Scan {
         cursor: 9,
         pattern: Some(b"a*"),
         count: 5,
         is_string: true,
     });
-    assert!(rt; command_of(&words) == Ok(wanted), "SCAN");
-    let words = words_of(rt.alloc(), "POST / HTTP/1.1")?;
-    assert!(rt; command_of(&words) == Err(CommandFault::WebRequest), "POST");
-    Ok(())
+    assert!(rt; command_of(&SCAN) == Ok(wanted), "SCAN");
+    assert!(rt; command_of(&POST) == Err(CommandFault::WebRequest), "POST");
 }
