@@ -270,6 +270,7 @@ def longest_commands_need_little_stack(program: Path) -> None:
             values = [resp.value(name.encode()) for name in names[:2047]]
             same("an MGET of 4,095 keys", client.ask("MGET", *names), resp.array(*values, *[resp.NOTHING] * 2048))
             same("an EXISTS of 4,095 keys", client.ask("EXISTS", *names), resp.integer(2047))
+            same("a KEYS with many stars", client.ask("KEYS", "*n*a*m*e*?*?*?*?*x"), resp.array())
             same("a DEL of 4,095 keys", client.ask("DEL", *names), resp.integer(2047))
             same("the longest value", client.ask("SET", "long", b"v" * 1024), resp.OK)
             same("a SETRANGE of it", client.ask("SETRANGE", "long", 1023, "w"), resp.integer(1024))
@@ -296,14 +297,15 @@ def long_commands_take_no_time(program: Path) -> None:
         same("it is made within a second", time.monotonic() - begun < 1, True)
 
 
-def patterns_are_refused(program: Path) -> None:
-    """A pattern other than that of all keys is refused, and the connection goes on."""
+def patterns_take_no_time(program: Path) -> None:
+    """Patterns of many stars on keys that nearly match them are decided at once."""
     with started(program) as server, Client(server.address) as client:
-        same("a SET", client.ask("SET", "a", "1"), resp.OK)
-        refused = b"-ERR patterns are not served\r\n"
-        same("a KEYS of a pattern", client.ask("KEYS", "a*"), refused)
-        same("a SCAN of a pattern", client.ask("SCAN", 0, "MATCH", "a*", "COUNT", 1000), refused)
-        same("a KEYS of all", client.ask("KEYS", "*"), resp.array(resp.value(b"a")))
+        client.socket.settimeout(5)
+        same("a SET", client.ask("SET", "a" * 64, "1"), resp.OK)
+        same("a KEYS of 31 stars", client.ask("KEYS", "*a" * 31 + "b"), resp.array())
+        same("a KEYS of 31 stars that match", client.ask("KEYS", "*a" * 31 + "*"), resp.array(resp.value(b"a" * 64)))
+        same("a KEYS of 20,000 stars", client.ask("KEYS", "*" * 20_000 + "b"), resp.array())
+        same("a SCAN of 31 stars", resp.members_of(client.ask("SCAN", 0, "MATCH", "*a*?" * 15 + "b", "COUNT", 1000))[1], resp.array())
 
 
 def scans_give_what_stays(program: Path) -> None:
@@ -397,7 +399,7 @@ def what_tools_ask(program: Path) -> None:
 
 PARTS = (ports_are_told, both_ports_have_one_map, clients_are_counted_together, sessions_are_counted_together, silent_clients_are_let_go,
          cut_commands_are_not_made, changed_bytes_end_nobody_else, unread_answers_wait, memory_runs_out, longest_commands_need_little_stack,
-         patterns_are_refused, long_commands_take_no_time, scans_give_what_stays, thousand_clients_are_served, what_tools_ask)
+         patterns_take_no_time, long_commands_take_no_time, scans_give_what_stays, thousand_clients_are_served, what_tools_ask)
 
 
 def main() -> None:

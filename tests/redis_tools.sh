@@ -68,8 +68,8 @@ play_cli_walks() {
     printf 'SET scan:%d %d\n' $(for i in $(seq 500); do echo "$i" "$i"; done) > "$work/in"
     input=$work/in cli
     judge "redis-cli: commands on its input" told '^OK$'
-    cli --scan
-    judge "redis-cli --scan" [ "$(sort -u "$work/out" | grep -c '^scan:')" = 500 ]
+    cli --scan --pattern 'scan:*'
+    judge "redis-cli --scan" [ "$(sort -u "$work/out" | wc -l)" = 500 ]
     cli --bigkeys
     judge "redis-cli --bigkeys" told 'Sampled 50[0-9] keys'
     cli info

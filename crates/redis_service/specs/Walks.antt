@@ -1,10 +1,11 @@
 -- Commands about the whole map: the walk that each one makes, and its reply.
-use Rattle.std.specs.Prelude.{◌≡◌, ◌⊎◌, ℕ, max, Bool, true, false, if◌then◌else◌, List, [], ◌++◌, length, flat_map, Option, Some, None, codes, decimal, bytes_eq}
+use Rattle.std.specs.Prelude.{◌≡◌, ◌⊎◌, ℕ, max, Bool, if◌then◌else◌, List, [], ◌++◌, length, flat_map, filter, Option, Some, None, decimal}
 use Rattle.bin_stripes.specs.Passes.{PassState, stripes_of}
 use Rattle.key_walks.specs.Turns.{Stops, FindsKeys}
 use Rattle.key_walks.specs.Walks.{CountsAll, FindsAll, ClearsAll, Clears, Chooses, each, each_from}
 use Rattle.key_walks.specs.Pages.{IsPage, Takes, stripes_from}
-use Rattle.resp.specs.Replies.{error_bytes, value_bytes, array_head}
+use Rattle.resp.specs.Replies.{value_bytes, array_head}
+use Rattle.redis_commands.specs.Matching.{matches}
 use Rattle.redis_commands.specs.Commands.{WalkAsked}
 use Rattle.redis_commands.specs.Commands.WalkAsked.{CountAll, Scan, Keys, RandomKey, RemoveAll}
 use Rattle.redis_service.specs.Lines.{no_memory_line}
@@ -23,16 +24,10 @@ page_bytes next keys = (array_head 2 ++ value_bytes (decimal next)) ++ keys_byte
 
 -- ---- patterns
 
--- there is no pattern, or it is that of all keys
-abbrev pub is_served : Option (List ℕ) → Bool
-is_served None = true
-is_served (Some pattern) = bytes_eq pattern (codes "*")
-
--- a pattern that is not served is answered by an error, and nothing is done
-abbrev pub IfServed : Option (List ℕ) → (PassState → List ℕ → PassState → Type 0) → PassState → List ℕ → PassState → Type 0
-IfServed pattern Answers old written new =
-    ((is_served pattern ≡ true) × Answers old written new)
-    ⊎ ((is_served pattern ≡ false) × (written ≡ error_bytes (codes "ERR patterns are not served")) × (new ≡ old))
+-- the keys that are shown: all, or those that the pattern matches
+abbrev pub shown : Option (List ℕ) → List (List ℕ) → List (List ℕ)
+shown None keys = keys
+shown (Some pattern) keys = filter (λ key. matches pattern key) keys
 
 -- ---- walks
 
@@ -47,16 +42,16 @@ AnswersClear old written new =
     ⊎ (Stops Clears each old new × (written ≡ no_memory_line))
 
 -- SCAN; no key is of another type than a string
-abbrev pub AnswersScan : ℕ → ℕ → Bool → PassState → List ℕ → PassState → Type 0
-AnswersScan cursor most is_string old written new =
+abbrev pub AnswersScan : ℕ → Option (List ℕ) → ℕ → Bool → PassState → List ℕ → PassState → Type 0
+AnswersScan cursor pattern most is_string old written new =
     ((keys : List (List ℕ)) × (next : ℕ) × IsPage old cursor most keys next new
-    × (written ≡ page_bytes next (if is_string then keys else [])))
+    × (written ≡ page_bytes next (if is_string then shown pattern keys else [])))
     ⊎ (Stops (Takes (max most 1)) (stripes_from cursor) old new × (written ≡ no_memory_line))
 
 -- KEYS
-abbrev pub AnswersAllKeys : PassState → List ℕ → PassState → Type 0
-AnswersAllKeys old written new =
-    ((keys : List (List ℕ)) × FindsAll old keys new × (written ≡ keys_bytes keys))
+abbrev pub AnswersAllKeys : List ℕ → PassState → List ℕ → PassState → Type 0
+AnswersAllKeys pattern old written new =
+    ((keys : List (List ℕ)) × FindsAll old keys new × (written ≡ keys_bytes (shown (Some pattern) keys)))
     ⊎ (Stops FindsKeys each old new × (written ≡ no_memory_line))
 
 -- RANDOMKEY; which key is chosen is not said
@@ -67,8 +62,7 @@ AnswersChoice old written new = (number : ℕ)
 
 abbrev pub AnswersWalk : PassState → WalkAsked → List ℕ → PassState → Type 0
 AnswersWalk old CountAll written new = AnswersCount old written new
-AnswersWalk old (Scan cursor pattern count is_string) written new =
-    IfServed pattern (AnswersScan cursor count is_string) old written new
-AnswersWalk old (Keys pattern) written new = IfServed (Some pattern) AnswersAllKeys old written new
+AnswersWalk old (Scan cursor pattern count is_string) written new = AnswersScan cursor pattern count is_string old written new
+AnswersWalk old (Keys pattern) written new = AnswersAllKeys pattern old written new
 AnswersWalk old RandomKey written new = AnswersChoice old written new
 AnswersWalk old RemoveAll written new = AnswersClear old written new

@@ -1,10 +1,11 @@
 //! Commands about the whole map.
-ghost use Rattle.std.specs.Prelude.{◌≡◌, ◌++◌, ℕ, Bool, List, [], if◌then◌else◌, OnOk};
+ghost use Rattle.std.specs.Prelude.{◌≡◌, ◌++◌, ℕ, Bool, List, [], filter, if◌then◌else◌, Option, OnOk};
 ghost use Rattle.devices.specs.Devices.{SinkState, CanWrite};
 ghost use Rattle.redis_commands.specs.Commands.{text, walk_by};
+ghost use Rattle.redis_commands.specs.Matching.{matches};
 ghost use Rattle.redis_service.specs.Replied.{replied_bytes};
 ghost use Rattle.redis_service.specs.Sending.{Sends};
-ghost use Rattle.redis_service.specs.Walks.{AnswersAllKeys, AnswersChoice, AnswersClear, AnswersCount, AnswersScan, AnswersWalk, is_served, keys_bytes};
+ghost use Rattle.redis_service.specs.Walks.{AnswersAllKeys, AnswersChoice, AnswersClear, AnswersCount, AnswersScan, AnswersWalk, keys_bytes, shown};
 ghost use Rattle.redis_service.specs.Walked.{choice_line, found_line, page_line};
 
 use crate::reply::Replied;
@@ -13,12 +14,9 @@ use bpf_model::{Key, NoMemory};
 use devices::{Failed, Sink};
 use itoa::Buffer;
 use key_walks::{Page, all_keys, count_all, random_key, remove_all, scan_some};
-use redis_commands::WalkCommand;
+use redis_commands::{WalkCommand, matches};
 use std::alloc::Global;
 use std::sync::Wait;
-
-/// What a client is told that asks for keys by a pattern.
-const NOT_SERVED: &[u8] = b"ERR patterns are not served";
 
 /// What a walk needs.
 #[derive(Drop)]
@@ -71,21 +69,39 @@ fn put_keys<W: Sink>(begun: Result<(), Failed>, keys: &[Key], sink: &mut W) -> R
     sent
 }
 
-/// Returns the keys of a page, or none if no keys of their type are asked for.
-fn keys_shown(page: &Page, is_string: bool) -> &[Key]
-    ensures { result.now ≡ (if is_string then page.now.keys.items else []) }
+/// Keeps the keys that the pattern matches.
+fn keep_matching(keys: &mut Vec<Key>, pattern: &[u8])
+    ensures { keys.new.items ≡ filter (λ key. matches pattern.now key) keys.old.items }
 {
-    if is_string { &page.keys } else { &[] }
+    keys.retain(|key| matches(pattern, key.as_slice()));
 }
 
-/// Writes a page, or that memory was refused.
+/// Returns the keys that are shown: all, or those that the pattern matches.
+fn shown(mut keys: Vec<Key>, pattern: Option<&[u8]>) -> Vec<Key>
+    ensures { result.items ≡ shown (text pattern.entry) keys.items }
+{
+    if let Some(pattern) = pattern {
+        keep_matching(&mut keys, pattern);
+    }
+    keys
+}
+
+/// Returns the keys, or none if keys of another type than a string are asked for.
+fn if_strings(keys: &[Key], is_string: bool) -> &[Key]
+    ensures { result.now ≡ (if is_string then keys.now else []) }
+{
+    if is_string { keys } else { &[] }
+}
+
+/// Writes a page: its keys that are shown, or none if no keys of their type are asked for; or that memory was refused.
 fn put_page<W: Sink>(
-    scanned: &Result<Page, NoMemory>,
+    scanned: Result<Page, NoMemory>,
+    pattern: Option<&[u8]>,
     is_string: bool,
     sink: &mut W,
 ) -> Result<(), Failed>
     requires { CanWrite (W.state sink.old) }
-    ensures { Sends result (W.state sink.old) (W.state sink.new) (page_line is_string scanned.now) }
+    ensures { Sends result (W.state sink.old) (W.state sink.new) (page_line (text pattern.entry) is_string scanned) }
 {
     let Ok(page) = scanned else {
         return Replied::NoMemory.send(&[], sink);
@@ -93,7 +109,8 @@ fn put_page<W: Sink>(
     let mut digits = Buffer::new();
     let sent = Replied::Array(2).send_after(Ok(()), &[], sink);
     let sent = Replied::Found.send_after(sent, digits.format(page.next).as_bytes(), sink);
-    put_keys(sent, keys_shown(page, is_string), sink)
+    let keys = shown(page.keys, pattern);
+    put_keys(sent, if_strings(&keys, is_string), sink)
 }
 
 /// Scans some keys from a cursor on.
@@ -110,7 +127,7 @@ fn scan<H: Wait>(
     ensures same { pass.new.map ≡ map.now }
     ensures passes { pass.new.view.passes ≡ pass.old.view.passes }
     ensures numbers { pass.new.view.numbers ≡ pass.old.view.numbers }
-    ensures answers { (is_string : Bool) → AnswersScan cursor most is_string pass.old (page_line is_string result) pass.new }
+    ensures answers { (pattern : Option (List ℕ)) (is_string : Bool) → AnswersScan cursor pattern most is_string pass.old (page_line pattern is_string result) pass.new }
 {
     match scan_some(rt, alloc, map, pass, cursor, most) {
         Ok(page) => Ok(page),
@@ -130,7 +147,7 @@ fn find<H: Wait>(
     ensures same { pass.new.map ≡ map.now }
     ensures passes { pass.new.view.passes ≡ pass.old.view.passes }
     ensures numbers { pass.new.view.numbers ≡ pass.old.view.numbers }
-    ensures answers { AnswersAllKeys pass.old (found_line result) pass.new }
+    ensures answers { (pattern : List ℕ) → AnswersAllKeys pattern pass.old (found_line pattern result) pass.new }
 {
     match all_keys(rt, alloc, map, pass) {
         Ok(keys) => Ok(keys),
@@ -138,15 +155,20 @@ fn find<H: Wait>(
     }
 }
 
-/// Writes all keys, or that memory was refused.
-fn put_found<W: Sink>(found: &Result<Vec<Key>, NoMemory>, sink: &mut W) -> Result<(), Failed>
+/// Writes the keys that the pattern matches, or that memory was refused.
+fn put_found<W: Sink>(
+    found: Result<Vec<Key>, NoMemory>,
+    pattern: &[u8],
+    sink: &mut W,
+) -> Result<(), Failed>
     requires { CanWrite (W.state sink.old) }
-    ensures { Sends result (W.state sink.old) (W.state sink.new) (found_line found.now) }
+    ensures { Sends result (W.state sink.old) (W.state sink.new) (found_line pattern.now found) }
 {
     let Ok(keys) = found else {
         return Replied::NoMemory.send(&[], sink);
     };
-    put_keys(Ok(()), keys, sink)
+    let keys = shown(keys, Some(pattern));
+    put_keys(Ok(()), &keys, sink)
 }
 
 /// Chooses a key by a number.
@@ -182,16 +204,6 @@ fn put_choice<W: Sink>(chosen: &Result<Option<Key>, NoMemory>, sink: &mut W) -> 
     }
 }
 
-/// Returns whether a pattern is served: there is none, or it is that of all keys.
-fn is_served(pattern: Option<&[u8]>) -> bool
-    ensures { result ≡ is_served (text pattern.entry) }
-{
-    match pattern {
-        None => true,
-        Some(pattern) => pattern == b"*".as_slice(),
-    }
-}
-
 /// Makes the walk, and answers the command. Waits until each stripe of the map is free.
 pub fn answer_walk<H: Wait, W: Sink>(
     rt: &H,
@@ -214,22 +226,15 @@ pub fn answer_walk<H: Wait, W: Sink>(
         WalkCommand::CountAll => count(rt, map, pass).send(&[], sink),
         WalkCommand::RemoveAll => clear(rt, alloc, map, pass).send(&[], sink),
         WalkCommand::RandomKey => put_choice(&choose(rt, alloc, map, pass, ground.number), sink),
-        WalkCommand::Keys { pattern } => {
-            if !is_served(Some(pattern)) {
-                return Replied::Error(NOT_SERVED).send(&[], sink);
-            }
-            put_found(&find(rt, alloc, map, pass), sink)
-        }
+        WalkCommand::Keys { pattern } => put_found(find(rt, alloc, map, pass), pattern, sink),
         WalkCommand::Scan {
             cursor,
             pattern,
             count: most,
             is_string,
         } => {
-            if !is_served(pattern) {
-                return Replied::Error(NOT_SERVED).send(&[], sink);
-            }
-            put_page(&scan(rt, alloc, map, pass, cursor, most), is_string, sink)
+            let scanned = scan(rt, alloc, map, pass, cursor, most);
+            put_page(scanned, pattern, is_string, sink)
         }
     }
 }
