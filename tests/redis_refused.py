@@ -11,11 +11,8 @@ import argparse
 import contextlib
 import shutil
 import socket
-import subprocess
 import sys
-import tempfile
 import time
-from collections import Counter
 from collections.abc import Iterator
 from dataclasses import dataclass, field, replace
 from pathlib import Path
@@ -26,6 +23,7 @@ import redis_linear as linear  # noqa: E402
 import redis_wire as resp  # noqa: E402
 import wire  # noqa: E402
 from redis_linear import Asked  # noqa: E402
+from refusing import refuse_each  # noqa: E402
 from wire import Wrong  # noqa: E402
 
 THREE = b"3"
@@ -235,24 +233,8 @@ def main() -> None:
     if not shutil.which("gcc"):
         print("redis_refused: no gcc here, so nothing was refused")
         return
-    ways: Counter[str] = Counter()
-    with tempfile.TemporaryDirectory() as name:
-        folder = Path(name)
-        subprocess.run(["gcc", "-O1", "-shared", "-fPIC", "-fno-builtin", "-o", folder / "refuse.so",
-                        Path(__file__).with_name("refuse.c")], check=True)
-        for request in range(1, MOST_REQUESTS):
-            try:
-                way = refuse(program, folder, request)
-            except (Wrong, wire.Ended, subprocess.TimeoutExpired) as wrong:
-                sys.exit(f"redis_refused: FAILED, request {request} refused: {wrong}")
-            if not way:
-                break
-            ways[way] += 1
-        else:
-            sys.exit(f"redis_refused: FAILED, {MOST_REQUESTS - 1} requests were refused, and there are more")
-    if not ways["a reply of OOM"] or not ways["refused before it was ready"]:
-        sys.exit(f"redis_refused: FAILED, too little was refused: {dict(ways)}")
-    print(f"redis_refused: {sum(ways.values())} requests, {', '.join(f'{count} with {way}' for way, count in ways.items())}")
+    refuse_each("redis_refused", MOST_REQUESTS, lambda folder, request: refuse(program, folder, request),
+                ("a reply of OOM", "refused before it was ready"))
 
 
 if __name__ == "__main__":

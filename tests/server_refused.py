@@ -8,10 +8,7 @@ By hand, after `rt run` in crates/mapd: python3 tests/server_refused.py. It need
 from __future__ import annotations
 
 import argparse
-import subprocess
 import sys
-import tempfile
-from collections import Counter
 from dataclasses import dataclass, replace
 from pathlib import Path
 from typing import Union
@@ -20,6 +17,7 @@ sys.path.insert(0, str(Path(__file__).resolve().parent))
 sys.dont_write_bytecode = True
 import sequential as model  # noqa: E402
 import wire  # noqa: E402
+from refusing import refuse_each  # noqa: E402
 from sequential import Call  # noqa: E402
 
 NO_MEMORY = wire.refused(9)
@@ -240,24 +238,8 @@ def main() -> None:
     words = argparse.ArgumentParser()
     words.add_argument("--program", default=wire.SERVER)
     program = words.parse_args().program
-    ways: Counter[str] = Counter()
-    with tempfile.TemporaryDirectory() as name:
-        folder = Path(name)
-        subprocess.run(["gcc", "-O1", "-shared", "-fPIC", "-fno-builtin", "-o", folder / "refuse.so",
-                        Path(__file__).with_name("refuse.c")], check=True)
-        for request in range(1, MOST_REQUESTS):
-            try:
-                way = refuse(program, folder, request)
-            except (Wrong, subprocess.TimeoutExpired) as wrong:
-                sys.exit(f"server_refused: FAILED, request {request} refused: {wrong}")
-            if not way:
-                break
-            ways[way] += 1
-        else:
-            sys.exit(f"server_refused: FAILED, {MOST_REQUESTS - 1} requests were refused, and there are more")
-    if not ways["an answer of 9"] or not ways["refused before it was ready"]:
-        sys.exit(f"server_refused: FAILED, too little was refused: {dict(ways)}")
-    print(f"server_refused: {sum(ways.values())} requests, {', '.join(f'{count} with {way}' for way, count in ways.items())}")
+    refuse_each("server_refused", MOST_REQUESTS, lambda folder, request: refuse(program, folder, request),
+                ("an answer of 9", "refused before it was ready"))
 
 
 if __name__ == "__main__":
