@@ -33,6 +33,7 @@ pub fn apply<B: Bins>(bins: &mut B, call: &Call) -> Result<Reply, NoMemory>
 /// Makes one call as `apply` does. Leaves the bytes of the replied value in `bytes`, so that no value is moved, and works in
 /// `workspace`, so that none is cleared; the old contents of both are lost. A program runs on the old value in place, before
 /// room is asked for. Hashed bins search once per call, and the replied value is copied once.
+#[inline(always)]
 pub fn apply_into<B: Bins>(
     bins: &mut B,
     call: &HashedCall<'_>,
@@ -68,6 +69,7 @@ pub fn apply_into<B: Bins>(
 }
 
 /// Enters a program's answer: if it is bytes, which are in `bytes`, they become the key's value and the reply.
+#[inline(always)]
 fn enter_answer<B: Bins>(
     bins: &mut B,
     call: &HashedCall<'_>,
@@ -104,6 +106,7 @@ fn kind_of(told: PlannedReply) -> ReplyKind
 }
 
 /// Makes a change of a key's value.
+#[inline(always)]
 fn make_change<B: Bins>(
     bins: &mut B,
     key: &HashedKey<'_>,

@@ -1,0 +1,6 @@
+mod HeapLemmas
+mod RowLemmas
+mod TouchLemmas
+mod ListedLemmas
+mod CopyLemmas
+mod StateLemmas
