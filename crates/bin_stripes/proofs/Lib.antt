@@ -1,6 +1,8 @@
 pub mod StepLemmas
 pub mod StripeTables
 pub mod Making
+pub mod TimedMaking
+pub mod TimedLemmas
 pub mod OpenedLemmas
 pub mod TellingLemmas
 pub mod PassLemmas

@@ -3,9 +3,11 @@ pub mod ActionCodes
 pub mod Histories
 pub mod Passes
 pub mod Invoked
+pub mod Timed
 pub mod Releasing
 pub mod Faults
 pub mod Opened
 pub mod AllSeen
 pub mod Holding
+pub mod Deeds
 pub mod Closed

@@ -7,19 +7,22 @@ ghost use Rattle.atomic_methods.specs.Plans.{reply_by};
 ghost use Rattle.bins.specs.Copies.{AddsCopies};
 ghost use Rattle.bins.specs.Table.{Table};
 ghost use Rattle.stripe_rule.specs.Gains.{seen_of};
+ghost use Rattle.timed_bins.specs.Deadlines.{timed_table};
 ghost use Rattle.bin_stripes.specs.Actions.{called, scanned};
 ghost use Rattle.bin_stripes.specs.Histories.{Leaves};
 ghost use Rattle.bin_stripes.specs.Invoked.{AreReplacements};
 ghost use Rattle.bin_stripes.specs.Releasing.{Lets};
 ghost use Rattle.bin_stripes.specs.Holding.{IsLaid, SeatHolds, SeatRefuses};
+ghost use Rattle.bin_stripes.specs.Deeds.{CallsBy, RefusesBy, ExpiresBy, LetsAt};
 
 use crate::gate::{Gate, Place};
 use crate::steps::{PassSeat, Shows, Stripes, let_go};
-use atomic_methods::{HashedCall, ReplyKind, Workspace, apply_into, replace_each};
+use atomic_methods::{HashedCall, ReplyKind, Workspace, replace_each};
 use bins::{Bins, Counts, EntryList};
 use bpf_model::{Key, NoMemory, Value};
 use std::alloc::Global;
 use std::snapshot::Snapshot;
+use timed_bins::{Expiry, TimedBins, TimedReply, Timing};
 use verifier::Verified;
 
 /// Nothing was done.
@@ -43,6 +46,67 @@ struct Calling;
 impl<'a> Shows<Answered<'a>> for Calling {
     ghost shows = { λ done actions.
         actions ≡ called done.call.now (reply_by done.kind done.bytes.now) ∷ [] };
+}
+
+/// A call, and the time at which it is made.
+#[derive(Clone, Copy)]
+pub(crate) struct CallAt<'a> {
+    pub(crate) call: &'a HashedCall<'a>,
+    pub(crate) timing: &'a Timing,
+}
+
+/// A call at a time, what it came to, the bytes of the replied value, and the bins before and after.
+#[derive(Drop)]
+struct AnsweredAt<'a, B> {
+    at: CallAt<'a>,
+    timed: TimedReply,
+    bytes: &'a Value,
+    before: Snapshot<B>,
+    after: Snapshot<B>,
+}
+
+/// If its time was over, the key was taken away; then the call was made.
+struct CallingAt;
+
+impl<'a, B: TimedBins> Shows<AnsweredAt<'a, B>> for CallingAt {
+    ghost shows = { λ done actions. CallsBy done.at.timing.now done.at.call.now done.timed done.bytes.now
+        (timed_table (B.table done.before.value) (B.deadline done.before.value) (B.latest done.before.value))
+        (timed_table (B.table done.after.value) (B.deadline done.after.value) (B.latest done.after.value)) actions };
+}
+
+/// A call at a time that was refused, and the bins before and after.
+#[derive(Drop)]
+struct RefusedAt<'a, B> {
+    at: CallAt<'a>,
+    before: Snapshot<B>,
+    after: Snapshot<B>,
+}
+
+/// If its time was over, the key was taken away.
+struct Refusing;
+
+impl<'a, B: TimedBins> Shows<RefusedAt<'a, B>> for Refusing {
+    ghost shows = { λ done actions. RefusesBy done.at.timing.now done.at.call.now
+        (timed_table (B.table done.before.value) (B.deadline done.before.value) (B.latest done.before.value))
+        (timed_table (B.table done.after.value) (B.deadline done.after.value) (B.latest done.after.value)) actions };
+}
+
+/// What a look for an entry whose time is over came to, and the bins before and after.
+#[derive(Drop)]
+struct Expired<B> {
+    now: u64,
+    expiry: Expiry,
+    before: Snapshot<B>,
+    after: Snapshot<B>,
+}
+
+/// At most one entry was taken away.
+struct Expiring;
+
+impl<B: TimedBins> Shows<Expired<B>> for Expiring {
+    ghost shows = { λ done actions. ExpiresBy done.now done.expiry
+        (timed_table (B.table done.before.value) (B.deadline done.before.value) (B.latest done.before.value))
+        (timed_table (B.table done.after.value) (B.deadline done.after.value) (B.latest done.after.value)) actions };
 }
 
 /// The entries were found.
@@ -76,8 +140,8 @@ impl<'a, B: Bins> Shows<Replacement<'a, B>> for Replacing {
 }
 
 /// Makes the call on the stripe of its key. A program runs in the workspace; the bytes of the replied value are left in
-/// `bytes`. Returns `NoMemory` as `apply_into` does; then nothing was done.
-pub(crate) fn make_call<B: Bins + Drop>(
+/// `bytes`. Returns `NoMemory` as `TimedBins::call_into` does; then nothing was done.
+pub(crate) fn make_call<B: TimedBins + Drop>(
     table: &Stripes<B>,
     seat: &mut PassSeat<B>,
     stripe: usize,
@@ -100,7 +164,7 @@ pub(crate) fn make_call<B: Bins + Drop>(
     let Some(bins) = seat.slot_mut(table, stripe) else {
         unreachable!()
     };
-    match apply_into(bins, call, workspace, bytes) {
+    match bins.call_into(call, workspace, bytes) {
         Ok(kind) => {
             let done = Answered { call, kind, bytes };
             let_go::<B, _, Calling>(table, seat, stripe, &done);
@@ -111,6 +175,82 @@ pub(crate) fn make_call<B: Bins + Drop>(
             Err(fault)
         }
     }
+}
+
+/// Takes the call's key away if its time is over, and then makes the call on the stripe of its key. A program runs in the
+/// workspace; the bytes of the replied value are left in `bytes`. Returns `NoMemory` as `TimedBins::call_at` does; then at
+/// most the key was taken away.
+pub(crate) fn make_call_at<B: TimedBins + Drop>(
+    table: &Stripes<B>,
+    seat: &mut PassSeat<B>,
+    stripe: usize,
+    at: CallAt<'_>,
+    workspace: &mut Workspace,
+    bytes: &mut Value,
+) -> Result<TimedReply, NoMemory>
+    requires table { IsLaid table.now.table_id table.now.key × (seat.old.table_id ≡ table.now.table_id) }
+    requires stripe { stripe < table.now.table_id.slots }
+    requires held { SeatHolds B.table table.now.table_id.slots stripe seat.old.me }
+    requires key { stripe_of table.now.table_id.slots at.call.now.key ≡ stripe }
+    ensures same { (seat.new.table_id ≡ seat.old.table_id) × (seat.new.id ≡ seat.old.id) }
+    ensures ok { IfOk result (λ timed. LetsAt (CallsBy at.entry.timing.now at.entry.call.now timed bytes.new)
+        table.now.table_id.slots stripe seat.old.me seat.new.me) }
+    ensures err { OnErr result (LetsAt (RefusesBy at.entry.timing.now at.entry.call.now)
+        table.now.table_id.slots stripe seat.old.me seat.new.me) }
+{
+    let Some(bins) = seat.slot_mut(table, stripe) else {
+        unreachable!()
+    };
+    let before = Snapshot::of(&*bins);
+    match bins.call_at(at.call, at.timing, workspace, bytes) {
+        Ok(timed) => {
+            let after = Snapshot::of(&*bins);
+            let done = AnsweredAt {
+                at,
+                timed,
+                bytes,
+                before,
+                after,
+            };
+            let_go::<B, _, CallingAt>(table, seat, stripe, &done);
+            Ok(timed)
+        }
+        Err(fault) => {
+            let after = Snapshot::of(&*bins);
+            let done = RefusedAt { at, before, after };
+            let_go::<B, _, Refusing>(table, seat, stripe, &done);
+            Err(fault)
+        }
+    }
+}
+
+/// Takes at most one entry of the stripe away whose time is over. Takes no memory.
+pub(crate) fn make_expiry<B: TimedBins + Drop>(
+    table: &Stripes<B>,
+    seat: &mut PassSeat<B>,
+    stripe: usize,
+    now: u64,
+) -> Expiry
+    requires table { IsLaid table.now.table_id table.now.key × (seat.old.table_id ≡ table.now.table_id) }
+    requires stripe { stripe < table.now.table_id.slots }
+    requires held { SeatHolds B.table table.now.table_id.slots stripe seat.old.me }
+    ensures same { (seat.new.table_id ≡ seat.old.table_id) × (seat.new.id ≡ seat.old.id) }
+    ensures made { LetsAt (ExpiresBy now result) table.now.table_id.slots stripe seat.old.me seat.new.me }
+{
+    let Some(bins) = seat.slot_mut(table, stripe) else {
+        unreachable!()
+    };
+    let before = Snapshot::of(&*bins);
+    let expiry = bins.expire_one(now);
+    let after = Snapshot::of(&*bins);
+    let done = Expired {
+        now,
+        expiry,
+        before,
+        after,
+    };
+    let_go::<B, _, Expiring>(table, seat, stripe, &done);
+    expiry
 }
 
 /// Adds copies of the stripe's entries to the list, in any order. Returns `NoMemory` if a request for memory is refused;

@@ -10,14 +10,19 @@
 //!
 //! **The three steps** (`steps`), each atomic: a look loads the word; a take changes the word from 0 to 1 by a compare-exchange; a
 //! release swaps the word to 0. Between the last two only the holder of the stripe uses its slot, and works on the bins there; `close`
-//! takes them out. Everything done between a take and its release is one event, or one for each key that was replaced.
+//! takes them out. Everything done between a take and its release is one event, or one for each key that was replaced; a call at a
+//! time may be two.
+//!
+//! **Deadlines** lie beside the bins of a stripe, in its slot (`timed_bins`), and no event tells of them. An entry whose time is over
+//! goes by a Remove: in the hold of a call at a time, right before the call (`CallsAt`), or by `expire_one`. Calls without a time
+//! still find it until then.
 //!
 //! **The rule** that every step keeps (`stripe_rule`): the word is 1 exactly while one pass holds the stripe; the passes have seen
 //! beginnings of one legal list of the stripe's events; if the word is 0, the bins are at home with the table that the list leaves.
 //!
-//! **Who waits.** `call`, `call_into`, `scan_stripe`, `copy_stripe`, `count_stripe`, `replace_stripe` and `close` wait until a stripe
-//! is free, and yield between tries. The `try_` calls, `tell` and `join` never wait. `tell` and `join` cannot fail, and take no
-//! memory.
+//! **Who waits.** `call`, `call_into`, `call_at_into`, `expire_one`, `scan_stripe`, `copy_stripe`, `count_stripe`, `replace_stripe` and
+//! `close` wait until a stripe is free, and yield between tries. The `try_` calls, `tell` and `join` never wait. `tell` and `join`
+//! cannot fail, and take no memory.
 //!
 //! Rejected: a lock round the bins (its contract says nothing about other threads' actions), and a futex to wait on (a release would
 //! have to wake, since a word of 0 or 1 does not say that someone sleeps).

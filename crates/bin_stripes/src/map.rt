@@ -4,12 +4,16 @@ ghost use Rattle.atomic_methods.specs.Hashes.{stripe_of, IsStripeCount};
 ghost use Rattle.atomic_methods.specs.Invocations.{invocation_of};
 ghost use Rattle.atomic_methods.specs.Plans.{reply_by};
 ghost use Rattle.bin_stripes.specs.Invoked.{Makes, Calls, RefusesCall, Scans, CopiesStripe, CountsStripe, AreOf, ReplacesInStripe, stripe_for};
+ghost use Rattle.bin_stripes.specs.Timed.{CallsAt, RefusesAt, ExpiresOne};
 ghost use Rattle.bin_stripes.specs.Passes.{ServesSameMap, stripes_of};
 
 use crate::fault::CallFault;
 use crate::gate::Gate;
 use crate::ghost_action::GhostAction;
-use crate::held::{Replacer, make_call, make_copies, make_count, make_replacements, make_scan};
+use crate::held::{
+    CallAt, Replacer, make_call, make_call_at, make_copies, make_count, make_expiry,
+    make_replacements, make_scan,
+};
 use crate::pass::Pass;
 use crate::rule::{Shape, Striping};
 use crate::seats::{try_call, try_replace, try_scan};
@@ -22,10 +26,12 @@ use std::alloc::Global;
 use std::marker::Model;
 use std::sync::Wait;
 use stripe_rule::View;
+use timed_bins::{Expiry, Timed, TimedReply, Timing};
 use verifier::Verified;
 
-/// The store of a stripe's entries. The map's contracts and proofs know it only by the trait `Bins`.
-pub(crate) type StripeBins = HashedBins;
+/// The store of a stripe's entries. The map's contracts and proofs know it only by the traits `Bins` and
+/// `TimedBins`.
+pub(crate) type StripeBins = Timed<HashedBins>;
 
 /// A table in stripes by the hashes of the keys, shared by passes. Each stripe has a word, which is 1 while it is held,
 /// and a slot for its bins.
@@ -150,6 +156,56 @@ impl StripedMap {
         let answer = try_call(table, &mut seat, stripe, &call, &mut pass.workspace, bytes);
         pass.known.put(seat);
         answer
+    }
+
+    /// Makes the call at a time, in milliseconds since the epoch: takes its key away first if its deadline is not after that
+    /// time, or not after the latest that the stripe was told. Then makes the call as `call_into` does, and changes the key's
+    /// deadline as `timing` says if the call gets to the key's entry. Returns `NoMemory` only if the call would have added its
+    /// key, or `timing` may set a deadline, and a request for memory is refused; the call was then not made, but its key may
+    /// have been taken away. Waits until the stripe of the key is free.
+    pub fn call_at_into<R: Wait>(
+        &self,
+        rt: &R,
+        pass: &mut Pass,
+        call: &Call,
+        timing: &Timing,
+        bytes: &mut Value,
+    ) -> Result<TimedReply, NoMemory>
+        requires map { pass.old.map ≡ self.now }
+        ensures same { ServesSameMap pass.old pass.new }
+        ensures ok { IfOk result (λ timed. CallsAt pass.old timing.entry.now (invocation_of call.now) timed bytes.new pass.new) }
+        ensures err { OnErr result (RefusesAt pass.old timing.entry.now (invocation_of call.now) pass.new) }
+    {
+        let call = HashedCall::new(call);
+        let stripe = self.stripe_for(&call);
+        let table = &self.table.shared;
+        let at = CallAt {
+            call: &call,
+            timing,
+        };
+        let mut seat = pass.known.take();
+        take_stripe(rt, table, &mut seat, stripe);
+        let answer = make_call_at(table, &mut seat, stripe, at, &mut pass.workspace, bytes);
+        pass.known.put(seat);
+        answer
+    }
+
+    /// Takes at most one entry of one stripe away, which is below `stripes()`: one whose deadline is not after this time, in
+    /// milliseconds since the epoch, or not after the latest that the stripe was told. Takes no memory. Waits until the stripe
+    /// is free.
+    pub fn expire_one<R: Wait>(&self, rt: &R, pass: &mut Pass, stripe: u64, now: u64) -> Expiry
+        requires map { pass.old.map ≡ self.now }
+        requires stripe { stripe < stripes_of self.now }
+        ensures same { ServesSameMap pass.old pass.new }
+        ensures expires { ExpiresOne pass.old stripe now result pass.new }
+    {
+        let slot = stripe as usize;
+        let table = &self.table.shared;
+        let mut seat = pass.known.take();
+        take_stripe(rt, table, &mut seat, slot);
+        let expiry = make_expiry(table, &mut seat, slot, now);
+        pass.known.put(seat);
+        expiry
     }
 
     /// Returns copies of the entries of one stripe, which is below `stripes()`, in key order. Returns `NoMemory` if a request

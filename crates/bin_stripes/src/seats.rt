@@ -14,11 +14,12 @@ use atomic_methods::{HashedCall, ReplyKind, Workspace};
 use bins::{Bins, Counts};
 use bpf_model::{Key, Value};
 use std::alloc::Global;
+use timed_bins::TimedBins;
 use verifier::Verified;
 
 /// Makes the call on the stripe of its key if that is free. A program runs in the workspace. The bytes of the replied
 /// value are left in `bytes`.
-pub(crate) fn try_call<B: Bins + Drop>(
+pub(crate) fn try_call<B: TimedBins + Drop>(
     table: &Stripes<B>,
     seat: &mut PassSeat<B>,
     stripe: usize,
