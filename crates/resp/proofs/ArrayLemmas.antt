@@ -1,27 +1,28 @@
 -- Arrays that are whole, begun or refused.
-use Rattle.std.proofs.Common.{arith, ◌≡◌, ◌≢◌, inl, inr, ℕ, zero, suc, ◌-◌, ◌<◌, ◌≤◌, ◌^◌, false, List, [], ◌∷◌, ◌++◌, length, refl, sym, ap, subst, ◌∙◌, append_assoc, append-nil, decimal, All, Bor}
+use Rattle.std.proofs.Common.{arith, ◌≡◌, ◌≢◌, inl, inr, ℕ, zero, suc, ◌+◌, ◌-◌, ◌<◌, ◌≤◌, ◌^◌, false, List, [], ◌∷◌, ◌++◌, length, refl, sym, ap, subst, ◌∙◌, append_assoc, append-nil, decimal, All, Bor}
 use Rattle.std.proofs.lemmas.List.{length-append, length-map, map-append}
 use Rattle.std.proofs.lemmas.List.Elements.{All-append, All-nil, All-cons, All-head}
 use Rattle.std.proofs.lemmas.List.Concat.{flat_map-append}
+use Rattle.std.proofs.lemmas.List.Sums.{sum_by-append, sum_by-cons}
 use Rattle.std.proofs.lemmas.Fmt.{decimal_digit, decimal_injective}
-use Rattle.resp.specs.declared.limits.TheConstants.{COMMAND_WORDS}
+use Rattle.resp.specs.declared.limits.TheConstants.{COMMAND_WORDS, COMMAND_BYTES}
 use Rattle.resp.specs.declared.fault.RespFault.{RespFault}
-use Rattle.resp.specs.declared.fault.RespFault.TheVariants.{BadCount, NoDollar, BadLength, NoNewline, TooBigLine, UnbalancedQuotes, TooManyWords}
+use Rattle.resp.specs.declared.fault.RespFault.TheVariants.{BadCount, NoDollar, BadLength, TooBigCommand, NoNewline, TooBigLine, UnbalancedQuotes, TooManyWords}
 use Rattle.resp.specs.declared.fault.NextFault.{NextFault}
 use Rattle.resp.specs.declared.fault.NextFault.TheVariants.{Faulty, NoMemory}
 use Rattle.resp.specs.Streams.{IsFrontOf, NeverBegins, HasNo}
-use Rattle.resp.specs.Grammar.{newline, number_line, word_bytes, words_bytes, array_bytes, texts, IsWord, IsCountLine, IsNumberLine, IsFaulty, IsBegun, Spells, IsIgnored}
-use Rattle.resp.specs.Reading.{IsPositiveLine, LacksWords, HasFaultyWord, IfFaulty, Refuses, is_other}
+use Rattle.resp.specs.Grammar.{newline, number_line, word_bytes, words_bytes, array_bytes, bytes_of, texts, IsWord, IsCountLine, IsNumberLine, IsFaulty, IsBegun, Spells, IsIgnored}
+use Rattle.resp.specs.Reading.{IsPositiveLine, LacksWords, FailsWords, IfFaulty, Refuses, is_other}
 use Rattle.resp.proofs.StreamLemmas.{heads, tails, true_or_false}
 use Rattle.resp.proofs.NumberLemmas.{at_least, zero_alone, decimal_digits}
 
 -- empty words, to fill an array
 
-blanks_are : (n : ℕ) → (ws : List (List ℕ)) × (length ws ≡ n) × All IsWord ws
-blanks_are zero = ([], refl, All-nil IsWord)
+blanks_are : (n : ℕ) → (ws : List (List ℕ)) × (length ws ≡ n) × All IsWord ws × (bytes_of ws ≡ 0)
+blanks_are zero = ([], refl, All-nil IsWord, refl)
 blanks_are (suc n) =
-    let (ws, len, all) = blanks_are n in
-    ([] ∷ ws, ap suc len, All-cons IsWord [] ws (omega arith) all)
+    let (ws, len, all, none) = blanks_are n in
+    ([] ∷ ws, ap suc len, All-cons IsWord [] ws (omega arith) all, omega (arith, sum_by-cons length [] ws, none))
 
 -- ---- the count
 
@@ -92,10 +93,10 @@ no_count head sign never = (head, refl, none head sign never)
 pub count_goes_on : (head : List ℕ) → IsFrontOf (IsNumberLine COMMAND_WORDS) head → IsBegun (42 ∷ head)
 count_goes_on head (more, (some, (zero, within, is))) = inl (more, (some, inr (inl (ap (λ (t : List ℕ). 42 ∷ t) is))))
 count_goes_on head (more, (some, (suc n, within, is))) =
-    let (ws, len, all) = blanks_are (suc n) in
+    let (ws, len, all, none) = blanks_are (suc n) in
     let whole : 42 ∷ (head ++ (more ++ words_bytes ws)) ≡ array_bytes ws =
     ap (λ (t : List ℕ). 42 ∷ t) (sym (append_assoc head more (words_bytes ws)) ∙ ap (λ (t : List ℕ). t ++ words_bytes ws) is ∙ ap (λ (k : ℕ). number_line k ++ words_bytes ws) (sym len)) in
-    inl (more ++ words_bytes ws, (omega (arith, some, length-append more (words_bytes ws)), inl (ws, ((omega (arith, len), omega (arith, len, within)), all, whole))))
+    inl (more ++ words_bytes ws, (omega (arith, some, length-append more (words_bytes ws)), inl (ws, ((omega (arith, len), omega (arith, len, within)), all, omega (arith, none), whole))))
 
 pub zero_ignored : (head rest : List ℕ) (n : ℕ) → n ≡ 0 → head ≡ number_line n ++ rest → (front : List ℕ) × IsIgnored front × (42 ∷ head ≡ front ++ rest)
 zero_ignored head rest n none e = (42 ∷ number_line 0, inl (inl refl), ap (λ (t : List ℕ). 42 ∷ t) (e ∙ ap (λ (k : ℕ). number_line k ++ rest) none))
@@ -104,18 +105,19 @@ zero_ignored head rest n none e = (42 ∷ number_line 0, inl (inl refl), ap (λ 
 open_array : (head body part : List ℕ) (count : ℕ) (ws : List (List ℕ)) → head ≡ number_line count ++ body → body ≡ words_bytes ws ++ part → 42 ∷ head ≡ (42 ∷ (number_line count ++ words_bytes ws)) ++ part
 open_array head body part count ws e f = ap (λ (t : List ℕ). 42 ∷ t) (e ∙ ap (λ (t : List ℕ). number_line count ++ t) f ∙ sym (append_assoc (number_line count) (words_bytes ws) part))
 
-pub whole_array : (head body rest : List ℕ) (count : ℕ) (ws : List (Bor (List ℕ))) → 1 ≤ count → count ≤ COMMAND_WORDS → head ≡ number_line count ++ body → length ws ≡ count → All IsWord (texts ws) → body ≡ words_bytes (texts ws) ++ rest → (front : List ℕ) × Spells (texts ws) front × (42 ∷ head ≡ front ++ rest)
-whole_array head body rest count ws some within e len all f =
+pub whole_array : (head body rest : List ℕ) (count : ℕ) (ws : List (Bor (List ℕ))) → 1 ≤ count → count ≤ COMMAND_WORDS → head ≡ number_line count ++ body → length ws ≡ count → All IsWord (texts ws) → bytes_of (texts ws) ≤ COMMAND_BYTES → body ≡ words_bytes (texts ws) ++ rest → (front : List ℕ) × Spells (texts ws) front × (42 ∷ head ≡ front ++ rest)
+whole_array head body rest count ws some within e len all fit f =
     let same : length (texts ws) ≡ count = length-map ws (λ word. word.now) ∙ len in (
       array_bytes (texts ws),
-      inl ((omega (arith, same, some), omega (arith, same, within)), all, refl),
+      inl ((omega (arith, same, some), omega (arith, same, within)), all, fit, refl),
       open_array head body rest count (texts ws) e f ∙ ap (λ (k : ℕ). (42 ∷ (number_line k ++ words_bytes (texts ws))) ++ rest) (sym same),
     )
 
 pub array_goes_on : (head body : List ℕ) (count : ℕ) → count ≤ COMMAND_WORDS → head ≡ number_line count ++ body → LacksWords count body → IsBegun (42 ∷ head)
-array_goes_on head body count within e (ws, part, less, all, f, (more, (some, (word, is, g)))) =
-    let (later, len, fill) = blanks_are (count - length ws - 1) in
+array_goes_on head body count within e (ws, part, room, less, all, left, f, (more, (some, (word, is, fits, g)))) =
+    let (later, len, fill, none) = blanks_are (count - length ws - 1) in
     let words = ws ++ word ∷ later in
+    let total : bytes_of words ≡ bytes_of ws + (length word + bytes_of later) = sum_by-append length ws (word ∷ later) ∙ ap (λ (k : ℕ). bytes_of ws + k) (sum_by-cons length word later) in
     let same : length words ≡ count = length-append ws (word ∷ later) ∙ omega (arith, len, less) in
     let spelled : words_bytes words ≡ words_bytes ws ++ (word_bytes word ++ words_bytes later) = flat_map-append word_bytes ws (word ∷ later) in
     let end = more ++ words_bytes later in
@@ -130,23 +132,25 @@ array_goes_on head body count within e (ws, part, less, all, f, (more, (some, (w
       end,
       (
         omega (arith, some, length-append more (words_bytes later)),
-        inl (words, ((many, omega (arith, same, within)), All-append IsWord ws (word ∷ later) all (All-cons IsWord word later is fill), whole)),
+        inl (words, ((many, omega (arith, same, within)), All-append IsWord ws (word ∷ later) all (All-cons IsWord word later is fill), omega (arith, total, none, left, fits), whole)),
       ),
     )
 
-pub array_faulty : (head body : List ℕ) (count : ℕ) (fault : RespFault) → count ≤ COMMAND_WORDS → head ≡ number_line count ++ body → HasFaultyWord count fault body → IsFaulty fault (42 ∷ head)
-array_faulty head body count BadCount within e (ws, part, less, all, f, is) = absurd is
-array_faulty head body count (NoDollar b) within e (ws, part, less, all, f, is) =
-    (42 ∷ (number_line count ++ words_bytes ws), part, (count, ws, less, within, all, refl), open_array head body part count ws e f, is)
-array_faulty head body count BadLength within e (ws, part, less, all, f, is) =
-    (42 ∷ (number_line count ++ words_bytes ws), part, (count, ws, less, within, all, refl), open_array head body part count ws e f, is)
-array_faulty head body count NoNewline within e (ws, part, less, all, f, is) =
-    (42 ∷ (number_line count ++ words_bytes ws), part, (count, ws, less, within, all, refl), open_array head body part count ws e f, is)
-array_faulty head body count TooBigLine within e (ws, part, less, all, f, is) = absurd is
-array_faulty head body count UnbalancedQuotes within e (ws, part, less, all, f, is) = absurd is
-array_faulty head body count TooManyWords within e (ws, part, less, all, f, is) = absurd is
+pub array_faulty : (head body : List ℕ) (count : ℕ) (fault : RespFault) → count ≤ COMMAND_WORDS → head ≡ number_line count ++ body → FailsWords count fault body → IsFaulty fault (42 ∷ head)
+array_faulty head body count BadCount within e (ws, part, room, less, all, left, f, is) = absurd is
+array_faulty head body count (NoDollar b) within e (ws, part, room, less, all, left, f, is) =
+    (room, 42 ∷ (number_line count ++ words_bytes ws), part, (count, ws, less, within, all, left, refl), open_array head body part count ws e f, is)
+array_faulty head body count BadLength within e (ws, part, room, less, all, left, f, is) =
+    (room, 42 ∷ (number_line count ++ words_bytes ws), part, (count, ws, less, within, all, left, refl), open_array head body part count ws e f, is)
+array_faulty head body count TooBigCommand within e (ws, part, room, less, all, left, f, is) =
+    (room, 42 ∷ (number_line count ++ words_bytes ws), part, (count, ws, less, within, all, left, refl), open_array head body part count ws e f, is)
+array_faulty head body count NoNewline within e (ws, part, room, less, all, left, f, is) =
+    (room, 42 ∷ (number_line count ++ words_bytes ws), part, (count, ws, less, within, all, left, refl), open_array head body part count ws e f, is)
+array_faulty head body count TooBigLine within e (ws, part, room, less, all, left, f, is) = absurd is
+array_faulty head body count UnbalancedQuotes within e (ws, part, room, less, all, left, f, is) = absurd is
+array_faulty head body count TooManyWords within e (ws, part, room, less, all, left, f, is) = absurd is
 
-pub array_refused : (head body : List ℕ) (count : ℕ) (next : NextFault) → count ≤ COMMAND_WORDS → head ≡ number_line count ++ body → IfFaulty next (λ fault. HasFaultyWord count fault body) → Refuses (42 ∷ head) next
+pub array_refused : (head body : List ℕ) (count : ℕ) (next : NextFault) → count ≤ COMMAND_WORDS → head ≡ number_line count ++ body → IfFaulty next (λ fault. FailsWords count fault body) → Refuses (42 ∷ head) next
 array_refused head body count (Faulty fault) within e has = array_faulty head body count fault within e has
 array_refused head body count NoMemory within e has = tt
 
@@ -154,6 +158,10 @@ array_refused head body count NoMemory within e has = tt
 
 texts_more : (ws : List (Bor (List ℕ))) (w : Bor (List ℕ)) → texts (ws ++ w ∷ []) ≡ texts ws ++ w.now ∷ []
 texts_more ws w = map-append (λ word. word.now) ws (w ∷ [])
+
+pub bytes_more : (ws : List (Bor (List ℕ))) (w : Bor (List ℕ)) → bytes_of (texts (ws ++ w ∷ [])) ≡ bytes_of (texts ws) + length w.now
+bytes_more ws w =
+    ap bytes_of (texts_more ws w) ∙ sum_by-append length (texts ws) (w.now ∷ []) ∙ ap (λ (k : ℕ). bytes_of (texts ws) + k) (sum_by-cons length w.now [] ∙ omega arith)
 
 pub all_more : (ws : List (Bor (List ℕ))) (w : Bor (List ℕ)) → All IsWord (texts ws) → IsWord w.now → All IsWord (texts (ws ++ w ∷ []))
 all_more ws w all is = subst (All IsWord) (sym (texts_more ws w)) (All-append IsWord (texts ws) (w.now ∷ []) all (All-cons IsWord w.now [] is (All-nil IsWord)))

@@ -1,12 +1,13 @@
 -- Faults: each is final, and bytes have one.
-use Rattle.std.proofs.Common.{arith, ◌≡◌, ◌≢◌, ◌⊎◌, inl, inr, ℕ, ◌<◌, ◌≤◌, List, [], ◌∷◌, ◌++◌, length, refl, sym, ap, subst, ◌∙◌, append_assoc, append-nil, All}
+use Rattle.std.proofs.Common.{arith, ◌≡◌, ◌≢◌, ◌⊎◌, inl, inr, ℕ, ◌+◌, ◌<◌, ◌≤◌, List, [], ◌∷◌, ◌++◌, length, refl, sym, ap, subst, ◌∙◌, append_assoc, append-nil, All}
 use Rattle.std.proofs.lemmas.List.{length-append}
 use Rattle.std.proofs.lemmas.List.Elements.{All-head}
-use Rattle.resp.specs.declared.limits.TheConstants.{COMMAND_WORDS, WORD_BYTES, LINE_BYTES}
+use Rattle.std.proofs.lemmas.List.Sums.{sum_by-append, sum_by-cons}
+use Rattle.resp.specs.declared.limits.TheConstants.{COMMAND_WORDS, COMMAND_BYTES, WORD_BYTES, LINE_BYTES}
 use Rattle.resp.specs.declared.fault.RespFault.{RespFault}
-use Rattle.resp.specs.declared.fault.RespFault.TheVariants.{BadCount, NoDollar, BadLength, NoNewline, TooBigLine, UnbalancedQuotes, TooManyWords}
+use Rattle.resp.specs.declared.fault.RespFault.TheVariants.{BadCount, NoDollar, BadLength, TooBigCommand, NoNewline, TooBigLine, UnbalancedQuotes, TooManyWords}
 use Rattle.resp.specs.Streams.{NeverBegins, HasNo}
-use Rattle.resp.specs.Grammar.{newline, number_line, word_bytes, words_bytes, is_newline, IsWord, IsSomeArray, IsCountLine, IsNumberLine, IsNewline, IsOpenArray, IsLineFront, IsLine, HasWords, IsWhole, IsBegun, IsFaultyWord, IsFaultyLine, IsFaulty}
+use Rattle.resp.specs.Grammar.{newline, number_line, word_bytes, words_bytes, bytes_of, is_newline, IsWord, IsSomeArray, IsCountLine, IsNumberLine, IsNewline, IsLineFront, IsLine, HasWords, IsWhole, IsBegun, IsFaultyWord, HasFaultyWord, IsFaultyLine, IsFaulty}
 use Rattle.resp.specs.Readings.{Reading, IsReading, with_more}
 use Rattle.resp.specs.Readings.Reading.{command, nothing, part, faulty}
 use Rattle.resp.proofs.StreamLemmas.{heads, tails, front_is, one_cut, front_goes_on}
@@ -20,7 +21,7 @@ abbrev BadAt : List ℕ → RespFault → Type 0
 BadAt bytes fault = (fault ≡ BadCount) × ((rest : List ℕ) × (bytes ≡ 42 ∷ rest) × NeverBegins IsCountLine rest)
 
 abbrev WordAt : List ℕ → RespFault → Type 0
-WordAt bytes fault = (head : List ℕ) × (rest : List ℕ) × IsOpenArray head × (bytes ≡ head ++ rest) × IsFaultyWord fault rest
+WordAt bytes fault = HasFaultyWord fault bytes
 
 abbrev BigAt : List ℕ → RespFault → Type 0
 BigAt bytes fault = (fault ≡ TooBigLine) × ((line : List ℕ) × (rest : List ℕ) × IsLineFront line × (LINE_BYTES < length line) × (bytes ≡ line ++ rest))
@@ -32,6 +33,7 @@ kind : (bytes : List ℕ) (fault : RespFault) → IsFaulty fault bytes → BadAt
 kind bytes BadCount is = inl (refl, is)
 kind bytes (NoDollar b) is = inr (inl is)
 kind bytes BadLength is = inr (inl is)
+kind bytes TooBigCommand is = inr (inl is)
 kind bytes NoNewline is = inr (inl is)
 kind bytes TooBigLine is = inr (inr (inl (refl, is)))
 kind bytes UnbalancedQuotes is = inr (inr (inr is))
@@ -39,54 +41,73 @@ kind bytes TooManyWords is = inr (inr (inr is))
 
 -- ---- a faulty word
 
-faulty_no_word : (fault : RespFault) (bytes w x : List ℕ) → IsFaultyWord fault bytes → IsWord w → bytes ≡ word_bytes w ++ x → ⊥
-faulty_no_word BadCount bytes w x is word e = is
-faulty_no_word (NoDollar b) bytes w x (rest, at, other) word e =
+-- the word's number and what is after it
+after_dollar : (rest w x : List ℕ) → 36 ∷ rest ≡ word_bytes w ++ x → rest ≡ number_line (length w) ++ ((w ++ newline) ++ x)
+after_dollar rest w x e = tails 36 36 rest ((number_line (length w) ++ (w ++ newline)) ++ x) e ∙ append_assoc (number_line (length w)) (w ++ newline) x
+
+faulty_no_word : (room : ℕ) (fault : RespFault) (bytes w x : List ℕ) → IsFaultyWord room fault bytes → IsWord w → length w ≤ room → bytes ≡ word_bytes w ++ x → ⊥
+faulty_no_word room BadCount bytes w x is word fits e = is
+faulty_no_word room (NoDollar b) bytes w x (rest, at, other) word fits e =
     other (heads b 36 rest ((number_line (length w) ++ (w ++ newline)) ++ x) (sym at ∙ e))
-faulty_no_word BadLength bytes w x (rest, at, never) word e =
-    let inner : rest ≡ number_line (length w) ++ ((w ++ newline) ++ x) =
-    tails 36 36 rest ((number_line (length w) ++ (w ++ newline)) ++ x) (sym at ∙ e) ∙ append_assoc (number_line (length w)) (w ++ newline) x in
-    never [] (number_line (length w)) ((w ++ newline) ++ x) (length w, word, refl) (append-nil rest ∙ inner)
-faulty_no_word NoNewline bytes w x (v, rest, is, at, never) word e =
-    let inner : number_line (length v) ++ (v ++ rest) ≡ number_line (length w) ++ ((w ++ newline) ++ x) =
-    tails 36 36 (number_line (length v) ++ (v ++ rest)) ((number_line (length w) ++ (w ++ newline)) ++ x) (sym at ∙ e) ∙ append_assoc (number_line (length w)) (w ++ newline) x in
+faulty_no_word room BadLength bytes w x (rest, at, much, never) word fits e =
+    never [] (number_line (length w)) ((w ++ newline) ++ x) (length w, word, refl) (append-nil rest ∙ after_dollar rest w x (sym at ∙ e))
+faulty_no_word room TooBigCommand bytes w x (rest, at, little, never) word fits e =
+    never [] (number_line (length w)) ((w ++ newline) ++ x) (length w, fits, refl) (append-nil rest ∙ after_dollar rest w x (sym at ∙ e))
+faulty_no_word room NoNewline bytes w x (v, rest, is, within, at, never) word fits e =
+    let inner = after_dollar (number_line (length v) ++ (v ++ rest)) w x (sym at ∙ e) in
     let (len, left) = one_number (length v) (length w) (v ++ rest) ((w ++ newline) ++ x) (omega (arith, is)) (omega (arith, word)) inner in
     let (same, end) = front_is v w rest (newline ++ x) len (left ∙ append_assoc w newline x) in
     never [] newline x refl (append-nil rest ∙ end)
-faulty_no_word TooBigLine bytes w x is word e = is
-faulty_no_word UnbalancedQuotes bytes w x is word e = is
-faulty_no_word TooManyWords bytes w x is word e = is
+faulty_no_word room TooBigLine bytes w x is word fits e = is
+faulty_no_word room UnbalancedQuotes bytes w x is word fits e = is
+faulty_no_word room TooManyWords bytes w x is word fits e = is
 
 -- no mark, and a mark
-no_mark : (b : ℕ) (bytes rest : List ℕ) → IsFaultyWord (NoDollar b) bytes → bytes ≡ 36 ∷ rest → ⊥
-no_mark b bytes rest (more, at, other) e = other (heads b 36 more rest (sym at ∙ e))
+no_mark : (room b : ℕ) (bytes rest : List ℕ) → IsFaultyWord room (NoDollar b) bytes → bytes ≡ 36 ∷ rest → ⊥
+no_mark room b bytes rest (more, at, other) e = other (heads b 36 more rest (sym at ∙ e))
 
-no_length : (bytes : List ℕ) → IsFaultyWord BadLength bytes → IsFaultyWord NoNewline bytes → ⊥
-no_length bytes (rest, at, never) (word, end, is, e, last) =
-    never [] (number_line (length word)) (word ++ end) (length word, is, refl) (append-nil rest ∙ tails 36 36 rest (number_line (length word) ++ (word ++ end)) (sym at ∙ e))
+-- a length that can't be, and one that is
+no_length : (most : ℕ) (bytes rest word end : List ℕ) → bytes ≡ 36 ∷ rest → NeverBegins (IsNumberLine most) rest → length word ≤ most → bytes ≡ 36 ∷ (number_line (length word) ++ (word ++ end)) → ⊥
+no_length most bytes rest word end at never fits e =
+    never [] (number_line (length word)) (word ++ end) (length word, fits, refl) (append-nil rest ∙ tails 36 36 rest (number_line (length word) ++ (word ++ end)) (sym at ∙ e))
 
-abbrev Marks : List ℕ → RespFault → Type 0
-Marks bytes fault = ((b : ℕ) × (fault ≡ NoDollar b) × IsFaultyWord (NoDollar b) bytes) ⊎ (((fault ≡ BadLength) × IsFaultyWord BadLength bytes) ⊎ ((fault ≡ NoNewline) × IsFaultyWord NoNewline bytes))
-
-marks : (fault : RespFault) (bytes : List ℕ) → IsFaultyWord fault bytes → Marks bytes fault
-marks BadCount bytes is = absurd is
-marks (NoDollar b) bytes is = inl (b, refl, is)
-marks BadLength bytes is = inr (inl (refl, is))
-marks NoNewline bytes is = inr (inr (refl, is))
-marks TooBigLine bytes is = absurd is
-marks UnbalancedQuotes bytes is = absurd is
-marks TooManyWords bytes is = absurd is
-
-one_word_fault : (f g : RespFault) (bytes : List ℕ) → Marks bytes f → Marks bytes g → f ≡ g
-one_word_fault f g bytes (inl (b, e, (rest, at, other))) (inl (c, h, (more, too, is))) = e ∙ ap NoDollar (heads b c rest more (sym at ∙ too)) ∙ sym h
-one_word_fault f g bytes (inl (b, e, is)) (inr (inl (h, (rest, at, never)))) = absurd (no_mark b bytes rest is at)
-one_word_fault f g bytes (inl (b, e, is)) (inr (inr (h, (word, rest, fits, at, never)))) = absurd (no_mark b bytes (number_line (length word) ++ (word ++ rest)) is at)
-one_word_fault f g bytes (inr (inl (e, (rest, at, never)))) (inl (c, h, is)) = absurd (no_mark c bytes rest is at)
-one_word_fault f g bytes (inr (inl (e, is))) (inr (inl (h, js))) = e ∙ sym h
-one_word_fault f g bytes (inr (inl (e, is))) (inr (inr (h, js))) = absurd (no_length bytes is js)
-one_word_fault f g bytes (inr (inr (e, (word, rest, fits, at, never)))) (inl (c, h, is)) = absurd (no_mark c bytes (number_line (length word) ++ (word ++ rest)) is at)
-one_word_fault f g bytes (inr (inr (e, is))) (inr (inl (h, js))) = absurd (no_length bytes js is)
-one_word_fault f g bytes (inr (inr (e, is))) (inr (inr (h, js))) = e ∙ sym h
+one_word_fault : (room : ℕ) (f g : RespFault) (bytes : List ℕ) → IsFaultyWord room f bytes → IsFaultyWord room g bytes → f ≡ g
+one_word_fault room (NoDollar b) (NoDollar c) bytes (rest, at, other) (more, too, is) = ap NoDollar (heads b c rest more (sym at ∙ too))
+one_word_fault room (NoDollar b) BadLength bytes is (rest, at, much, never) = absurd (no_mark room b bytes rest is at)
+one_word_fault room (NoDollar b) TooBigCommand bytes is (rest, at, little, never) = absurd (no_mark room b bytes rest is at)
+one_word_fault room (NoDollar b) NoNewline bytes is (word, rest, fits, within, at, never) = absurd (no_mark room b bytes (number_line (length word) ++ (word ++ rest)) is at)
+one_word_fault room BadLength (NoDollar c) bytes (rest, at, much, never) js = absurd (no_mark room c bytes rest js at)
+one_word_fault room BadLength BadLength bytes is js = refl
+one_word_fault room BadLength TooBigCommand bytes (rest, at, much, never) (more, too, little, none) = absurd (omega (arith, much, little))
+one_word_fault room BadLength NoNewline bytes (rest, at, much, never) (word, end, fits, within, e, last) = absurd (no_length WORD_BYTES bytes rest word end at never fits e)
+one_word_fault room TooBigCommand (NoDollar c) bytes (rest, at, little, never) js = absurd (no_mark room c bytes rest js at)
+one_word_fault room TooBigCommand BadLength bytes (rest, at, little, never) (more, too, much, none) = absurd (omega (arith, much, little))
+one_word_fault room TooBigCommand TooBigCommand bytes is js = refl
+one_word_fault room TooBigCommand NoNewline bytes (rest, at, little, never) (word, end, fits, within, e, last) = absurd (no_length room bytes rest word end at never within e)
+one_word_fault room NoNewline (NoDollar c) bytes (word, rest, fits, within, at, never) js = absurd (no_mark room c bytes (number_line (length word) ++ (word ++ rest)) js at)
+one_word_fault room NoNewline BadLength bytes (word, end, fits, within, e, last) (rest, at, much, never) = absurd (no_length WORD_BYTES bytes rest word end at never fits e)
+one_word_fault room NoNewline TooBigCommand bytes (word, end, fits, within, e, last) (rest, at, little, never) = absurd (no_length room bytes rest word end at never within e)
+one_word_fault room NoNewline NoNewline bytes is js = refl
+one_word_fault room BadCount g bytes is js = absurd is
+one_word_fault room (NoDollar b) BadCount bytes is js = absurd js
+one_word_fault room (NoDollar b) TooBigLine bytes is js = absurd js
+one_word_fault room (NoDollar b) UnbalancedQuotes bytes is js = absurd js
+one_word_fault room (NoDollar b) TooManyWords bytes is js = absurd js
+one_word_fault room BadLength BadCount bytes is js = absurd js
+one_word_fault room BadLength TooBigLine bytes is js = absurd js
+one_word_fault room BadLength UnbalancedQuotes bytes is js = absurd js
+one_word_fault room BadLength TooManyWords bytes is js = absurd js
+one_word_fault room TooBigCommand BadCount bytes is js = absurd js
+one_word_fault room TooBigCommand TooBigLine bytes is js = absurd js
+one_word_fault room TooBigCommand UnbalancedQuotes bytes is js = absurd js
+one_word_fault room TooBigCommand TooManyWords bytes is js = absurd js
+one_word_fault room NoNewline BadCount bytes is js = absurd js
+one_word_fault room NoNewline TooBigLine bytes is js = absurd js
+one_word_fault room NoNewline UnbalancedQuotes bytes is js = absurd js
+one_word_fault room NoNewline TooManyWords bytes is js = absurd js
+one_word_fault room TooBigLine g bytes is js = absurd is
+one_word_fault room UnbalancedQuotes g bytes is js = absurd is
+one_word_fault room TooManyWords g bytes is js = absurd is
 
 -- ---- open arrays
 
@@ -94,31 +115,33 @@ open_parts : (count : ℕ) (ws : List (List ℕ)) (head rest : List ℕ) → hea
 open_parts count ws head rest e = ap (λ (t : List ℕ). t ++ rest) e ∙ ap (λ (t : List ℕ). 42 ∷ t) (append_assoc (number_line count) (words_bytes ws) rest)
 
 -- fewer words and then a faulty one are not more words
-fewer : (fault : RespFault) (vs ws : List (List ℕ)) (x y : List ℕ) → All IsWord vs → All IsWord ws → length vs < length ws → IsFaultyWord fault x → words_bytes vs ++ x ≡ words_bytes ws ++ y → ⊥
-fewer fault vs ws x y all fine less is e =
+fewer : (room : ℕ) (fault : RespFault) (vs ws : List (List ℕ)) (x y : List ℕ) → All IsWord vs → All IsWord ws → bytes_of vs + room ≡ COMMAND_BYTES → bytes_of ws ≤ COMMAND_BYTES → length vs < length ws → IsFaultyWord room fault x
+    → words_bytes vs ++ x ≡ words_bytes ws ++ y → ⊥
+fewer room fault vs ws x y all fine left top less is e =
     let (later, same, good, rest) = more_words vs ws x y all fine (omega (arith, less)) e in by_later later same good rest
   where
     by_later : (later : List (List ℕ)) → ws ≡ vs ++ later → All IsWord later → x ≡ words_bytes later ++ y → ⊥
     by_later [] same good rest = let len = ap length same in omega (arith, len, less, length-append vs [])
     by_later (l ∷ later) same good rest =
-        faulty_no_word fault x l (words_bytes later ++ y) is (All-head IsWord l later good) (rest ∙ append_assoc (word_bytes l) (words_bytes later) y)
+        let total = ap bytes_of same ∙ sum_by-append length vs (l ∷ later) ∙ ap (λ (k : ℕ). bytes_of vs + k) (sum_by-cons length l later) in
+        faulty_no_word room fault x l (words_bytes later ++ y) is (All-head IsWord l later good) (omega (arith, total, left, top)) (rest ∙ append_assoc (word_bytes l) (words_bytes later) y)
 
 word_array : (bytes a x : List ℕ) (fault : RespFault) → WordAt bytes fault → IsSomeArray a → bytes ≡ a ++ x → ⊥
-word_array bytes a x fault (head, rest, (count, ws, less, within, all, is), e, bad) (inl (words, (are, fine, js))) f =
-    let (len, left) = one_count count (length words) (words_bytes ws ++ rest) (words_bytes words ++ x) (omega (arith, within)) (omega (arith, are.1))
+word_array bytes a x fault (room, head, rest, (count, ws, less, within, all, left, is), e, bad) (inl (words, (are, fine, top, js))) f =
+    let (len, more) = one_count count (length words) (words_bytes ws ++ rest) (words_bytes words ++ x) (omega (arith, within)) (omega (arith, are.1))
     (sym (open_parts count ws head rest is) ∙ sym e ∙ f ∙ array_parts words a x js) in
-    fewer fault ws words rest x all fine (omega (arith, less, len)) bad left
-word_array bytes a x fault (head, rest, (count, ws, less, within, all, is), e, bad) (inr (inl js)) f =
+    fewer room fault ws words rest x all fine left top (omega (arith, less, len)) bad more
+word_array bytes a x fault (room, head, rest, (count, ws, less, within, all, fill, is), e, bad) (inr (inl js)) f =
     let (len, left) = one_count count 0 (words_bytes ws ++ rest) x (omega (arith, within)) (omega arith)
     (sym (open_parts count ws head rest is) ∙ sym e ∙ f ∙ ap (λ (t : List ℕ). t ++ x) js) in
     omega (arith, len, less)
-word_array bytes a x fault (head, rest, (count, ws, less, within, all, is), e, bad) (inr (inr (n, from, top, js))) f =
+word_array bytes a x fault (room, head, rest, (count, ws, less, within, all, fill, is), e, bad) (inr (inr (n, from, top, js))) f =
     let whole : 42 ∷ 45 ∷ (number_line n ++ x) ≡ 42 ∷ (number_line count ++ (words_bytes ws ++ rest)) =
     ap (λ (t : List ℕ). t ++ x) (sym js) ∙ sym f ∙ e ∙ open_parts count ws head rest is in
     no_sign count (number_line n ++ x) (words_bytes ws ++ rest) (omega (arith, within)) (tails 42 42 (45 ∷ (number_line n ++ x)) (number_line count ++ (words_bytes ws ++ rest)) whole)
 
 one_open : (bytes : List ℕ) (f g : RespFault) → WordAt bytes f → WordAt bytes g → f ≡ g
-one_open bytes f g (head, rest, (count, ws, less, within, all, is), e, bad) (other, more, (most, vs, few, below, fine, js), h, worse) =
+one_open bytes f g (room, head, rest, (count, ws, less, within, all, fill, is), e, bad) (space, other, more, (most, vs, few, below, fine, full, js), h, worse) =
     let (len, left) = one_count count most (words_bytes ws ++ rest) (words_bytes vs ++ more) (omega (arith, within)) (omega (arith, below))
     (sym (open_parts count ws head rest is) ∙ sym e ∙ h ∙ open_parts most vs other more js) in
     by_length (nat_cases (length ws) (length vs)) left
@@ -127,13 +150,16 @@ one_open bytes f g (head, rest, (count, ws, less, within, all, is), e, bad) (oth
     nat_cases n m = grind arith
 
     by_length : (length ws < length vs) ⊎ ((length vs < length ws) ⊎ (length ws ≡ length vs)) → words_bytes ws ++ rest ≡ words_bytes vs ++ more → f ≡ g
-    by_length (inl l) left = absurd (fewer f ws vs rest more all fine l bad left)
-    by_length (inr (inl l)) left = absurd (fewer g vs ws more rest fine all l worse (sym left))
+    by_length (inl l) left = absurd (fewer room f ws vs rest more all fine fill (omega (arith, full)) l bad left)
+    by_length (inr (inl l)) left = absurd (fewer space g vs ws more rest fine all full (omega (arith, fill)) l worse (sym left))
     by_length (inr (inr same)) left =
         let (later, e, good, end) = more_words ws vs rest more all fine (omega (arith, same)) left in by_later later e end
       where
         by_later : (later : List (List ℕ)) → vs ≡ ws ++ later → rest ≡ words_bytes later ++ more → f ≡ g
-        by_later [] e end = one_word_fault f g more (subst (λ (t : List ℕ). Marks t f) end (marks f rest bad)) (marks g more worse)
+        by_later [] e end =
+            let total = ap bytes_of (e ∙ append-nil ws) in
+            let same_room : space ≡ room = omega (arith, total, fill, full) in
+            one_word_fault room f g more (subst (IsFaultyWord room f) end bad) (subst (λ (k : ℕ). IsFaultyWord k g more) same_room worse)
         by_later (l ∷ later) e end = let len = ap length e in absurd (omega (arith, len, same, length-append ws (l ∷ later)))
 
 -- ---- bytes that begin with `*`
@@ -142,7 +168,7 @@ abbrev Starred : List ℕ → Type 0
 Starred bytes = (z : List ℕ) × (bytes ≡ 42 ∷ z)
 
 word_starred : (bytes : List ℕ) (fault : RespFault) → WordAt bytes fault → Starred bytes
-word_starred bytes fault (head, rest, (count, ws, less, within, all, is), e, bad) = (number_line count ++ (words_bytes ws ++ rest), e ∙ open_parts count ws head rest is)
+word_starred bytes fault (room, head, rest, (count, ws, less, within, all, fill, is), e, bad) = (number_line count ++ (words_bytes ws ++ rest), e ∙ open_parts count ws head rest is)
 
 starred_big : (bytes : List ℕ) (fault : RespFault) → Starred bytes → BigAt bytes fault → ⊥
 starred_big bytes fault (z, at) (same, (line, rest, front, long, e)) = front_no_star line rest z front (omega (arith, long)) (sym e ∙ at)
@@ -151,7 +177,7 @@ starred_line : (bytes : List ℕ) (fault : RespFault) → Starred bytes → Line
 starred_line bytes fault (z, at) (line, rest, (front, short, is), e, bad) = line_no_star line rest z front (sym e ∙ at)
 
 bad_word : (bytes : List ℕ) (f g : RespFault) → BadAt bytes f → WordAt bytes g → ⊥
-bad_word bytes f g (same, (rest, at, never)) (head, more, (count, ws, less, within, all, is), e, bad) =
+bad_word bytes f g (same, (rest, at, never)) (room, head, more, (count, ws, less, within, all, fill, is), e, bad) =
     let inner = tails 42 42 rest (number_line count ++ (words_bytes ws ++ more)) (sym at ∙ e ∙ open_parts count ws head more is) in
     never [] (number_line count) (words_bytes ws ++ more) (inl (count, within, refl)) (append-nil rest ∙ inner)
 
@@ -165,6 +191,7 @@ one_line_fault : (f g : RespFault) (line : List ℕ) → IsFaultyLine f line →
 one_line_fault BadCount g line is js = absurd is
 one_line_fault (NoDollar b) g line is js = absurd is
 one_line_fault BadLength g line is js = absurd is
+one_line_fault TooBigCommand g line is js = absurd is
 one_line_fault NoNewline g line is js = absurd is
 one_line_fault TooBigLine g line is js = absurd is
 one_line_fault UnbalancedQuotes UnbalancedQuotes line is js = refl
@@ -172,6 +199,7 @@ one_line_fault UnbalancedQuotes TooManyWords line is (words, has, many) = absurd
 one_line_fault UnbalancedQuotes BadCount line is js = absurd js
 one_line_fault UnbalancedQuotes (NoDollar b) line is js = absurd js
 one_line_fault UnbalancedQuotes BadLength line is js = absurd js
+one_line_fault UnbalancedQuotes TooBigCommand line is js = absurd js
 one_line_fault UnbalancedQuotes NoNewline line is js = absurd js
 one_line_fault UnbalancedQuotes TooBigLine line is js = absurd js
 one_line_fault TooManyWords UnbalancedQuotes line (words, has, many) js = absurd (js words has)
@@ -179,6 +207,7 @@ one_line_fault TooManyWords TooManyWords line is js = refl
 one_line_fault TooManyWords BadCount line is js = absurd js
 one_line_fault TooManyWords (NoDollar b) line is js = absurd js
 one_line_fault TooManyWords BadLength line is js = absurd js
+one_line_fault TooManyWords TooBigCommand line is js = absurd js
 one_line_fault TooManyWords NoNewline line is js = absurd js
 one_line_fault TooManyWords TooBigLine line is js = absurd js
 
@@ -214,7 +243,7 @@ pub one_fault : (bytes : List ℕ) (f g : RespFault) → IsFaulty f bytes → Is
 one_fault bytes f g is js = one_kind bytes f g (kind bytes f is) (kind bytes g js)
 
 kind_array : (bytes a x : List ℕ) (fault : RespFault) → Kinds bytes fault → IsSomeArray a → bytes ≡ a ++ x → ⊥
-kind_array bytes a x fault (inl (same, (rest, at, never))) (inl (words, (are, all, is))) e =
+kind_array bytes a x fault (inl (same, (rest, at, never))) (inl (words, (are, all, top, is))) e =
     let inner = tails 42 42 rest (number_line (length words) ++ (words_bytes words ++ x)) (sym at ∙ e ∙ array_parts words a x is) in
     never [] (number_line (length words)) (words_bytes words ++ x) (inl (length words, are.1, refl)) (append-nil rest ∙ inner)
 kind_array bytes a x fault (inl (same, (rest, at, never))) (inr (inl is)) e =
@@ -231,6 +260,7 @@ line_faulty : (fault : RespFault) (line : List ℕ) (words : List (List ℕ)) �
 line_faulty BadCount line words is has few = is
 line_faulty (NoDollar b) line words is has few = is
 line_faulty BadLength line words is has few = is
+line_faulty TooBigCommand line words is has few = is
 line_faulty NoNewline line words is has few = is
 line_faulty TooBigLine line words is has few = is
 line_faulty UnbalancedQuotes line words is has few = is words has
@@ -261,26 +291,32 @@ never_more Text bytes more never later text rest is e = never (more ++ later) te
 after : (bytes a x more : List ℕ) → bytes ≡ a ++ x → bytes ++ more ≡ a ++ (x ++ more)
 after bytes a x more e = ap (λ (t : List ℕ). t ++ more) e ∙ append_assoc a x more
 
-word_stays : (fault : RespFault) (bytes more : List ℕ) → IsFaultyWord fault bytes → IsFaultyWord fault (bytes ++ more)
-word_stays BadCount bytes more is = is
-word_stays (NoDollar b) bytes more (rest, at, other) = (rest ++ more, ap (λ (t : List ℕ). t ++ more) at, other)
-word_stays BadLength bytes more (rest, at, never) = (rest ++ more, ap (λ (t : List ℕ). t ++ more) at, never_more (IsNumberLine WORD_BYTES) rest more never)
-word_stays NoNewline bytes more (word, rest, is, at, never) = (
+word_stays : (room : ℕ) (fault : RespFault) (bytes more : List ℕ) → IsFaultyWord room fault bytes → IsFaultyWord room fault (bytes ++ more)
+word_stays room BadCount bytes more is = is
+word_stays room (NoDollar b) bytes more (rest, at, other) = (rest ++ more, ap (λ (t : List ℕ). t ++ more) at, other)
+word_stays room BadLength bytes more (rest, at, much, never) = (rest ++ more, ap (λ (t : List ℕ). t ++ more) at, much, never_more (IsNumberLine WORD_BYTES) rest more never)
+word_stays room TooBigCommand bytes more (rest, at, little, never) = (rest ++ more, ap (λ (t : List ℕ). t ++ more) at, little, never_more (IsNumberLine room) rest more never)
+word_stays room NoNewline bytes more (word, rest, is, within, at, never) = (
   word,
   rest ++ more,
   is,
+  within,
   ap (λ (t : List ℕ). t ++ more) at ∙ ap (λ (t : List ℕ). 36 ∷ t) (append_assoc (number_line (length word)) (word ++ rest) more ∙ ap (λ (t : List ℕ). number_line (length word) ++ t) (append_assoc word rest more)),
   never_more IsNewline rest more never,
 )
-word_stays TooBigLine bytes more is = is
-word_stays UnbalancedQuotes bytes more is = is
-word_stays TooManyWords bytes more is = is
+word_stays room TooBigLine bytes more is = is
+word_stays room UnbalancedQuotes bytes more is = is
+word_stays room TooManyWords bytes more is = is
+
+open_stays : (fault : RespFault) (bytes more : List ℕ) → HasFaultyWord fault bytes → HasFaultyWord fault (bytes ++ more)
+open_stays fault bytes more (room, head, rest, is, at, bad) = (room, head, rest ++ more, is, after bytes head rest more at, word_stays room fault rest more bad)
 
 pub stays : (fault : RespFault) (bytes more : List ℕ) → IsFaulty fault bytes → IsFaulty fault (bytes ++ more)
 stays BadCount bytes more (rest, at, never) = (rest ++ more, ap (λ (t : List ℕ). t ++ more) at, never_more IsCountLine rest more never)
-stays (NoDollar b) bytes more (head, rest, is, at, bad) = (head, rest ++ more, is, after bytes head rest more at, word_stays (NoDollar b) rest more bad)
-stays BadLength bytes more (head, rest, is, at, bad) = (head, rest ++ more, is, after bytes head rest more at, word_stays BadLength rest more bad)
-stays NoNewline bytes more (head, rest, is, at, bad) = (head, rest ++ more, is, after bytes head rest more at, word_stays NoNewline rest more bad)
+stays (NoDollar b) bytes more is = open_stays (NoDollar b) bytes more is
+stays BadLength bytes more is = open_stays BadLength bytes more is
+stays TooBigCommand bytes more is = open_stays TooBigCommand bytes more is
+stays NoNewline bytes more is = open_stays NoNewline bytes more is
 stays TooBigLine bytes more (line, rest, front, long, at) = (line, rest ++ more, front, long, after bytes line rest more at)
 stays UnbalancedQuotes bytes more (line, rest, is, at, bad) = (line, rest ++ more, is, after bytes line (10 ∷ rest) more at, bad)
 stays TooManyWords bytes more (line, rest, is, at, bad) = (line, rest ++ more, is, after bytes line (10 ∷ rest) more at, bad)

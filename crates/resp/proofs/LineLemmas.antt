@@ -4,7 +4,7 @@ use Rattle.std.proofs.lemmas.Bool.Decides.{nat_tests}
 use Rattle.std.proofs.lemmas.List.{map-append}
 use Rattle.std.proofs.lemmas.List.Elements.{All-append, All-nil, All-cons, All-head, All-tail}
 use Rattle.resp.specs.declared.limits.TheConstants.{LINE_BYTES}
-use Rattle.resp.specs.declared.fault.RespFault.TheVariants.{BadCount, NoDollar, BadLength, NoNewline, TooBigLine, UnbalancedQuotes, TooManyWords}
+use Rattle.resp.specs.declared.fault.RespFault.TheVariants.{BadCount, NoDollar, BadLength, TooBigCommand, NoNewline, TooBigLine, UnbalancedQuotes, TooManyWords}
 use Rattle.resp.specs.declared.fault.NextFault.{NextFault}
 use Rattle.resp.specs.declared.fault.NextFault.TheVariants.{Faulty, NoMemory}
 use Rattle.resp.specs.Streams.{StopsAt, HasNo}
@@ -267,6 +267,7 @@ line_refused bytes line tail rest NoMemory star cut short f has = tt
 line_refused bytes line tail rest (Faulty BadCount) star cut short f has = absurd has
 line_refused bytes line tail rest (Faulty (NoDollar b)) star cut short f has = absurd has
 line_refused bytes line tail rest (Faulty BadLength) star cut short f has = absurd has
+line_refused bytes line tail rest (Faulty TooBigCommand) star cut short f has = absurd has
 line_refused bytes line tail rest (Faulty NoNewline) star cut short f has = absurd has
 line_refused bytes line tail rest (Faulty TooBigLine) star cut short f has = absurd has
 line_refused bytes line tail rest (Faulty UnbalancedQuotes) star cut short f has =

@@ -42,7 +42,7 @@ pub array_parts : (words : List (List ℕ)) (bytes x : List ℕ) → bytes ≡ a
 array_parts words bytes x e = ap (λ (t : List ℕ). t ++ x) e ∙ ap (λ (t : List ℕ). 42 ∷ t) (append_assoc (number_line (length words)) (words_bytes words) x)
 
 arrays : (v w : List (List ℕ)) (a b x y : List ℕ) → IsArray v a → IsArray w b → a ++ x ≡ b ++ y → (v ≡ w) × (x ≡ y)
-arrays v w a b x y (are, all, is) (too, fine, js) e =
+arrays v w a b x y (are, all, fits, is) (too, fine, below, js) e =
     let (len, left) = one_count (length v) (length w) (words_bytes v ++ x) (words_bytes w ++ y) (omega (arith, are.1)) (omega (arith, too.1)) (sym (array_parts v a x is) ∙ e ∙ array_parts w b y js) in
     let (later, same, good, rest) = more_words v w x y all fine (omega (arith, len)) left in
     by_later later same rest len
@@ -53,10 +53,10 @@ arrays v w a b x y (are, all, is) (too, fine, js) e =
         let more = ap length same in absurd (omega (arith, more, len, length-append v (l ∷ later)))
 
 array_empty : (v : List (List ℕ)) (a b x y : List ℕ) → IsArray v a → IsEmptyArray b → a ++ x ≡ b ++ y → ⊥
-array_empty v a b x y (are, all, is) (inl none) e =
+array_empty v a b x y (are, all, fits, is) (inl none) e =
     let (len, left) = one_count (length v) 0 (words_bytes v ++ x) y (omega (arith, are.1)) (omega arith) (sym (array_parts v a x is) ∙ e ∙ ap (λ (t : List ℕ). t ++ y) none) in
     omega (arith, len, are.0)
-array_empty v a b x y (are, all, is) (inr (n, from, within, none)) e =
+array_empty v a b x y (are, all, fits, is) (inr (n, from, within, none)) e =
     let whole : 42 ∷ 45 ∷ (number_line n ++ y) ≡ 42 ∷ (number_line (length v) ++ (words_bytes v ++ x)) = ap (λ (t : List ℕ). t ++ y) (sym none) ∙ sym e ∙ array_parts v a x is in
     no_sign (length v) (number_line n ++ y) (words_bytes v ++ x) (omega (arith, are.1)) (tails 42 42 (45 ∷ (number_line n ++ y)) (number_line (length v) ++ (words_bytes v ++ x)) whole)
 
@@ -75,7 +75,7 @@ empties a b x y (inr (n, from, within, is)) (inr (m, some, below, js)) e =
     (one_number n m x y (omega (arith, within)) (omega (arith, below)) (tails 45 45 (number_line n ++ x) (number_line m ++ y) (tails 42 42 (45 ∷ (number_line n ++ x)) (45 ∷ (number_line m ++ y)) whole))).1
 
 pub star : (a : List ℕ) → IsSomeArray a → (z : List ℕ) × (a ≡ 42 ∷ z)
-star a (inl (words, (are, all, is))) = (number_line (length words) ++ words_bytes words, is)
+star a (inl (words, (are, all, fits, is))) = (number_line (length words) ++ words_bytes words, is)
 star a (inr (inl is)) = (number_line 0, is)
 star a (inr (inr (n, from, within, is))) = (45 ∷ number_line n, is)
 

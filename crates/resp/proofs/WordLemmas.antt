@@ -6,7 +6,7 @@ use Rattle.resp.specs.declared.limits.TheConstants.{WORD_BYTES}
 use Rattle.resp.specs.declared.fault.RespFault.TheVariants.{NoNewline}
 use Rattle.resp.specs.Streams.{IsFrontOf, NeverBegins}
 use Rattle.resp.specs.Grammar.{newline, number_line, word_bytes, IsWord, IsNumberLine, IsNewline, IsFaultyWord}
-use Rattle.resp.specs.Reading.{IsWordText}
+use Rattle.resp.specs.Reading.{IsWordText, IsLengthLine}
 
 filler : (n : ℕ) → (w : List ℕ) × (length w ≡ n)
 filler n = (replicate n 0, length-replicate n 0)
@@ -17,20 +17,23 @@ split_is xs front back mid s =
 
 -- ---- words that are not whole
 
-pub word_of_nothing : (bytes : List ℕ) → bytes ≡ [] → IsFrontOf IsWordText bytes
-word_of_nothing bytes none = (word_bytes [], (omega arith, ([], omega arith, ap (λ (t : List ℕ). t ++ word_bytes []) none)))
+pub word_of_nothing : (room : ℕ) (bytes : List ℕ) → bytes ≡ [] → IsFrontOf (IsWordText room) bytes
+word_of_nothing room bytes none = (word_bytes [], (omega arith, ([], omega arith, omega arith, ap (λ (t : List ℕ). t ++ word_bytes []) none)))
 
-pub length_goes_on : (bytes head : List ℕ) → bytes ≡ 36 ∷ head → IsFrontOf (IsNumberLine WORD_BYTES) head → IsFrontOf IsWordText bytes
-length_goes_on bytes head e (more, (some, (n, within, line))) =
+pub length_line : (most room : ℕ) (bytes : List ℕ) → most ≤ WORD_BYTES → most ≤ room → IsFrontOf (IsNumberLine most) bytes → IsFrontOf (IsLengthLine room) bytes
+length_line most room bytes few less (more, (some, (n, within, line))) = (more, (some, (n, omega (arith, within, few), omega (arith, within, less), line)))
+
+pub length_goes_on : (room : ℕ) (bytes head : List ℕ) → bytes ≡ 36 ∷ head → IsFrontOf (IsLengthLine room) head → IsFrontOf (IsWordText room) bytes
+length_goes_on room bytes head e (more, (some, (n, within, fits, line))) =
     let (word, len) = filler n in
     let all = more ++ (word ++ newline) in
     let whole : bytes ++ all ≡ word_bytes word =
     ap (λ (t : List ℕ). t ++ all) e
     ∙ ap (λ (t : List ℕ). 36 ∷ t) (sym (append_assoc head more (word ++ newline)) ∙ ap (λ (t : List ℕ). t ++ (word ++ newline)) line ∙ ap (λ (k : ℕ). number_line k ++ (word ++ newline)) (sym len)) in
-    (all, (omega (arith, some, length-append more (word ++ newline)), (word, omega (arith, len, within), whole)))
+    (all, (omega (arith, some, length-append more (word ++ newline)), (word, omega (arith, len, within), omega (arith, len, fits), whole)))
 
-pub word_goes_on : (bytes head body : List ℕ) (n : ℕ) → bytes ≡ 36 ∷ head → head ≡ number_line n ++ body → n ≤ WORD_BYTES → length body < n → IsFrontOf IsWordText bytes
-word_goes_on bytes head body n e line within less =
+pub word_goes_on : (room : ℕ) (bytes head body : List ℕ) (n : ℕ) → bytes ≡ 36 ∷ head → head ≡ number_line n ++ body → n ≤ WORD_BYTES → n ≤ room → length body < n → IsFrontOf (IsWordText room) bytes
+word_goes_on room bytes head body n e line within fits less =
     let (rest, len) = filler (n - length body) in
     let word = body ++ rest in
     let all : length word ≡ n = length-append body rest ∙ omega (arith, len, less) in
@@ -38,26 +41,26 @@ word_goes_on bytes head body n e line within less =
     ap (λ (t : List ℕ). t ++ (rest ++ newline)) e
     ∙ ap (λ (t : List ℕ). 36 ∷ t) (ap (λ (t : List ℕ). t ++ (rest ++ newline)) line ∙ append_assoc (number_line n) body (rest ++ newline)
     ∙ ap (λ (t : List ℕ). number_line n ++ t) (sym (append_assoc body rest newline)) ∙ ap (λ (k : ℕ). number_line k ++ (word ++ newline)) (sym all)) in
-    (rest ++ newline, (omega (arith, len, less, length-append rest newline), (word, omega (arith, all, within), whole)))
+    (rest ++ newline, (omega (arith, len, less, length-append rest newline), (word, omega (arith, all, within), omega (arith, all, fits), whole)))
 
 -- a word's parts
 parts : (bytes head body word end : List ℕ) (n : ℕ) → bytes ≡ 36 ∷ head → head ≡ number_line n ++ body → body ≡ word ++ end → length word ≡ n → bytes ≡ 36 ∷ (number_line (length word) ++ (word ++ end))
 parts bytes head body word end n e line split len =
     e ∙ ap (λ (t : List ℕ). 36 ∷ t) (line ∙ ap (λ (t : List ℕ). number_line n ++ t) split ∙ ap (λ (k : ℕ). number_line k ++ (word ++ end)) (sym len))
 
-pub end_goes_on : (bytes head body word end : List ℕ) (n : ℕ) → bytes ≡ 36 ∷ head → head ≡ number_line n ++ body → n ≤ WORD_BYTES → IsSplitAt body n word end → IsFrontOf IsNewline end → IsFrontOf IsWordText bytes
-end_goes_on bytes head body word end n e line within split (more, (some, left)) =
+pub end_goes_on : (room : ℕ) (bytes head body word end : List ℕ) (n : ℕ) → bytes ≡ 36 ∷ head → head ≡ number_line n ++ body → n ≤ WORD_BYTES → n ≤ room → IsSplitAt body n word end → IsFrontOf IsNewline end → IsFrontOf (IsWordText room) bytes
+end_goes_on room bytes head body word end n e line within fits split (more, (some, left)) =
     let (both, len) = split_is body word end n split in
     let whole : bytes ++ more ≡ word_bytes word =
     ap (λ (t : List ℕ). t ++ more) (parts bytes head body word end n e line both len)
     ∙ ap (λ (t : List ℕ). 36 ∷ t) (append_assoc (number_line (length word)) (word ++ end) more
     ∙ ap (λ (t : List ℕ). number_line (length word) ++ t) (append_assoc word end more ∙ ap (λ (t : List ℕ). word ++ t) left)) in
-    (more, (some, (word, omega (arith, len, within), whole)))
+    (more, (some, (word, omega (arith, len, within), omega (arith, len, fits), whole)))
 
-pub no_word_end : (bytes head body word end : List ℕ) (n : ℕ) → bytes ≡ 36 ∷ head → head ≡ number_line n ++ body → n ≤ WORD_BYTES → IsSplitAt body n word end → NeverBegins IsNewline end → IsFaultyWord NoNewline bytes
-no_word_end bytes head body word end n e line within split never =
+pub no_word_end : (room : ℕ) (bytes head body word end : List ℕ) (n : ℕ) → bytes ≡ 36 ∷ head → head ≡ number_line n ++ body → n ≤ WORD_BYTES → n ≤ room → IsSplitAt body n word end → NeverBegins IsNewline end → IsFaultyWord room NoNewline bytes
+no_word_end room bytes head body word end n e line within fits split never =
     let (both, len) = split_is body word end n split in
-    (word, end, omega (arith, len, within), parts bytes head body word end n e line both len, never)
+    (word, end, omega (arith, len, within), omega (arith, len, fits), parts bytes head body word end n e line both len, never)
 
 pub whole_word : (bytes head body word end rest : List ℕ) (n : ℕ) → bytes ≡ 36 ∷ head → head ≡ number_line n ++ body → n ≤ WORD_BYTES → IsSplitAt body n word end → end ≡ newline ++ rest → IsWord word × (bytes ≡ word_bytes word ++ rest)
 whole_word bytes head body word end rest n e line within split left =

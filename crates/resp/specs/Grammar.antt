@@ -1,9 +1,9 @@
 -- How a command is spelled, and which bytes begin none.
-use Rattle.std.specs.Prelude.{◌≡◌, ◌≢◌, ℕ, ◌≤◌, ◌<◌, ◌^◌, ◌⊎◌, ◌||◌, Bool, true, nat_eq, List, [], ◌∷◌, ◌++◌, length, flat_map, map, All, decimal}
+use Rattle.std.specs.Prelude.{◌≡◌, ◌≢◌, ℕ, ◌+◌, ◌≤◌, ◌<◌, ◌^◌, ◌⊎◌, ◌||◌, Bool, true, nat_eq, List, [], ◌∷◌, ◌++◌, length, sum_by, flat_map, map, All, decimal}
 use Rattle.std.specs.Borrow.{Bor}
-use Rattle.resp.specs.declared.limits.TheConstants.{COMMAND_WORDS, WORD_BYTES, LINE_BYTES}
+use Rattle.resp.specs.declared.limits.TheConstants.{COMMAND_WORDS, COMMAND_BYTES, WORD_BYTES, LINE_BYTES}
 use Rattle.resp.specs.declared.fault.RespFault.{RespFault}
-use Rattle.resp.specs.declared.fault.RespFault.TheVariants.{BadCount, NoDollar, BadLength, NoNewline, TooBigLine, UnbalancedQuotes, TooManyWords}
+use Rattle.resp.specs.declared.fault.RespFault.TheVariants.{BadCount, NoDollar, BadLength, TooBigCommand, NoNewline, TooBigLine, UnbalancedQuotes, TooManyWords}
 use Rattle.resp.specs.Streams.{IsFrontOf, NeverBegins, StopsAt, HasNo}
 
 -- the words that slices lend
@@ -37,9 +37,13 @@ IsWord word = length word ≤ WORD_BYTES
 abbrev pub AreWords : List (List ℕ) → Type 0
 AreWords words = (1 ≤ length words) × (length words ≤ COMMAND_WORDS)
 
--- an array with these words
+-- the bytes of all words together
+abbrev pub bytes_of : List (List ℕ) → ℕ
+bytes_of words = sum_by length words
+
+-- an array with these words, within the limits
 abbrev pub IsArray : List (List ℕ) → List ℕ → Type 0
-IsArray words bytes = AreWords words × All IsWord words × (bytes ≡ array_bytes words)
+IsArray words bytes = AreWords words × All IsWord words × (bytes_of words ≤ COMMAND_BYTES) × (bytes ≡ array_bytes words)
 
 -- `*0`, or `*` and a negative number of 64 bits
 abbrev pub IsEmptyArray : List ℕ → Type 0
@@ -120,11 +124,12 @@ IsBegun bytes = IsFrontOf IsSomeArray bytes ⊎ (IsLineFront bytes × (length by
 
 -- ---- faults
 
--- an array up to one of its words
-abbrev pub IsOpenArray : List ℕ → Type 0
-IsOpenArray bytes =
+-- an array up to one of its words, with room for this many bytes
+abbrev pub IsOpenArray : ℕ → List ℕ → Type 0
+IsOpenArray room bytes =
     (count : ℕ) × (words : List (List ℕ)) × (length words < count) × (count ≤ COMMAND_WORDS)
-    × All IsWord words × (bytes ≡ 42 ∷ (number_line count ++ words_bytes words))
+    × All IsWord words × (bytes_of words + room ≡ COMMAND_BYTES)
+    × (bytes ≡ 42 ∷ (number_line count ++ words_bytes words))
 
 -- the rest of an array's first line
 abbrev pub IsCountLine : List ℕ → Type 0
@@ -139,13 +144,23 @@ IsNumberLine most bytes = (n : ℕ) × (n ≤ most) × (bytes ≡ number_line n)
 abbrev pub IsNewline : List ℕ → Type 0
 IsNewline bytes = bytes ≡ newline
 
--- a word's fault, in the bytes from the word on
-abbrev pub IsFaultyWord : RespFault → List ℕ → Type 0
-IsFaultyWord (NoDollar b) bytes = (rest : List ℕ) × (bytes ≡ b ∷ rest) × (b ≢ 36)
-IsFaultyWord BadLength bytes = (rest : List ℕ) × (bytes ≡ 36 ∷ rest) × NeverBegins (IsNumberLine WORD_BYTES) rest
-IsFaultyWord NoNewline bytes =
-    (word rest : List ℕ) × IsWord word × (bytes ≡ 36 ∷ (number_line (length word) ++ (word ++ rest))) × NeverBegins IsNewline rest
-IsFaultyWord fault bytes = ⊥
+-- the fault of a word for which there is this much room, in the bytes from the word on. A bad length is a fault of the limit that
+-- is less: the word's, or what is left of the command's
+abbrev pub IsFaultyWord : ℕ → RespFault → List ℕ → Type 0
+IsFaultyWord room (NoDollar b) bytes = (rest : List ℕ) × (bytes ≡ b ∷ rest) × (b ≢ 36)
+IsFaultyWord room BadLength bytes =
+    (rest : List ℕ) × (bytes ≡ 36 ∷ rest) × (WORD_BYTES ≤ room) × NeverBegins (IsNumberLine WORD_BYTES) rest
+IsFaultyWord room TooBigCommand bytes =
+    (rest : List ℕ) × (bytes ≡ 36 ∷ rest) × (room < WORD_BYTES) × NeverBegins (IsNumberLine room) rest
+IsFaultyWord room NoNewline bytes =
+    (word rest : List ℕ) × IsWord word × (length word ≤ room) × (bytes ≡ 36 ∷ (number_line (length word) ++ (word ++ rest)))
+    × NeverBegins IsNewline rest
+IsFaultyWord room fault bytes = ⊥
+
+-- a fault of the first word that is not whole
+abbrev pub HasFaultyWord : RespFault → List ℕ → Type 0
+HasFaultyWord fault bytes =
+    (room : ℕ) × (head rest : List ℕ) × IsOpenArray room head × (bytes ≡ head ++ rest) × IsFaultyWord room fault rest
 
 -- a line with this fault: its words can't be told, or are too many
 abbrev pub IsFaultyLine : RespFault → List ℕ → Type 0
@@ -156,9 +171,10 @@ IsFaultyLine fault line = ⊥
 -- the first fault of the bytes: the count of an array, one of its words, a line without an end, a line
 abbrev pub IsFaulty : RespFault → List ℕ → Type 0
 IsFaulty BadCount bytes = (rest : List ℕ) × (bytes ≡ 42 ∷ rest) × NeverBegins IsCountLine rest
-IsFaulty (NoDollar b) bytes = (head rest : List ℕ) × IsOpenArray head × (bytes ≡ head ++ rest) × IsFaultyWord (NoDollar b) rest
-IsFaulty BadLength bytes = (head rest : List ℕ) × IsOpenArray head × (bytes ≡ head ++ rest) × IsFaultyWord BadLength rest
-IsFaulty NoNewline bytes = (head rest : List ℕ) × IsOpenArray head × (bytes ≡ head ++ rest) × IsFaultyWord NoNewline rest
+IsFaulty (NoDollar b) bytes = HasFaultyWord (NoDollar b) bytes
+IsFaulty BadLength bytes = HasFaultyWord BadLength bytes
+IsFaulty TooBigCommand bytes = HasFaultyWord TooBigCommand bytes
+IsFaulty NoNewline bytes = HasFaultyWord NoNewline bytes
 IsFaulty TooBigLine bytes =
     (line rest : List ℕ) × IsLineFront line × (LINE_BYTES < length line) × (bytes ≡ line ++ rest)
 IsFaulty UnbalancedQuotes bytes =

@@ -1,5 +1,5 @@
 -- The results of reading.
-use Rattle.std.specs.Prelude.{◌≡◌, ◌≢◌, ◌≤◌, ◌<◌, ◌^◌, ℕ, Bool, not, List, ◌∷◌, ◌++◌, length, All, decimal}
+use Rattle.std.specs.Prelude.{◌≡◌, ◌≢◌, ◌+◌, ◌≤◌, ◌<◌, ◌^◌, ℕ, Bool, not, List, ◌∷◌, ◌++◌, length, All, decimal}
 use Rattle.std.specs.Char.{is_ascii_digit}
 use Rattle.resp.specs.declared.command.Next.{Next}
 use Rattle.resp.specs.declared.command.Next.TheVariants.{Command, Nothing, More}
@@ -7,7 +7,8 @@ use Rattle.resp.specs.declared.fault.RespFault.{RespFault}
 use Rattle.resp.specs.declared.fault.NextFault.{NextFault}
 use Rattle.resp.specs.declared.fault.NextFault.TheVariants.{Faulty, NoMemory}
 use Rattle.resp.specs.Streams.{StopsAt, HasNo, IsFrontOf}
-use Rattle.resp.specs.Grammar.{number_line, word_bytes, words_bytes, is_blank, ends_plain, ends_quoted, IsWord, IsText, Spells, IsIgnored, IsBegun, IsFaulty, IsFaultyWord}
+use Rattle.resp.specs.declared.limits.TheConstants.{COMMAND_BYTES, WORD_BYTES}
+use Rattle.resp.specs.Grammar.{number_line, word_bytes, words_bytes, bytes_of, is_blank, ends_plain, ends_quoted, IsWord, IsText, Spells, IsIgnored, IsBegun, IsFaulty, IsFaultyWord}
 
 -- what the bytes begin with, and the words of a command
 abbrev pub Reads : List ℕ → List (List ℕ) → Next → Type 0
@@ -37,20 +38,25 @@ NoDigits most bytes = (n : ℕ) (more rest : List ℕ) → n ≤ most → StopsA
 abbrev pub IsPositiveLine : List ℕ → Type 0
 IsPositiveLine bytes = (n : ℕ) × (1 ≤ n) × (n ≤ 2 ^ 63) × (bytes ≡ number_line n)
 
-abbrev pub IsWordText : List ℕ → Type 0
-IsWordText bytes = (word : List ℕ) × IsWord word × (bytes ≡ word_bytes word)
+-- the line of the length of a word for which there is this much room
+abbrev pub IsLengthLine : ℕ → List ℕ → Type 0
+IsLengthLine room bytes = (n : ℕ) × (n ≤ WORD_BYTES) × (n ≤ room) × (bytes ≡ number_line n)
+
+-- a word for which there is this much room
+abbrev pub IsWordText : ℕ → List ℕ → Type 0
+IsWordText room bytes = (word : List ℕ) × IsWord word × (length word ≤ room) × (bytes ≡ word_bytes word)
 
 -- fewer words than this, and then a part of a word
 abbrev pub LacksWords : ℕ → List ℕ → Type 0
 LacksWords count bytes =
-    (words : List (List ℕ)) × (part : List ℕ) × (length words < count) × All IsWord words
-    × (bytes ≡ words_bytes words ++ part) × IsFrontOf IsWordText part
+    (words : List (List ℕ)) × (part : List ℕ) × (room : ℕ) × (length words < count) × All IsWord words
+    × (bytes_of words + room ≡ COMMAND_BYTES) × (bytes ≡ words_bytes words ++ part) × IsFrontOf (IsWordText room) part
 
 -- fewer words than this, and then one with this fault
-abbrev pub HasFaultyWord : ℕ → RespFault → List ℕ → Type 0
-HasFaultyWord count fault bytes =
-    (words : List (List ℕ)) × (part : List ℕ) × (length words < count) × All IsWord words
-    × (bytes ≡ words_bytes words ++ part) × IsFaultyWord fault part
+abbrev pub FailsWords : ℕ → RespFault → List ℕ → Type 0
+FailsWords count fault bytes =
+    (words : List (List ℕ)) × (part : List ℕ) × (room : ℕ) × (length words < count) × All IsWord words
+    × (bytes_of words + room ≡ COMMAND_BYTES) × (bytes ≡ words_bytes words ++ part) × IsFaultyWord room fault part
 
 -- ---- words of a line
 

@@ -1,13 +1,13 @@
 //! Commands in an array.
-ghost use Rattle.std.specs.Prelude.{◌≡◌, ◌≢◌, ◌≤◌, ◌++◌, ◌∷◌, ◌^◌, [], ℕ, List, length, All, IfOk, IfErr, IfSome, IfNone, OnErr};
+ghost use Rattle.std.specs.Prelude.{◌≡◌, ◌≢◌, ◌+◌, ◌≤◌, ◌++◌, ◌∷◌, ◌^◌, [], ℕ, List, length, All, IfOk, IfErr, IfSome, IfNone, OnErr};
 ghost use Rattle.resp.specs.Streams.{IsFrontOf, NeverBegins};
-ghost use Rattle.resp.specs.Grammar.{texts, words_bytes, number_line, IsWord};
-ghost use Rattle.resp.specs.Reading.{Reads, Refuses, IfFaulty, IsPositiveLine, LacksWords, HasFaultyWord};
+ghost use Rattle.resp.specs.Grammar.{texts, words_bytes, bytes_of, number_line, IsWord};
+ghost use Rattle.resp.specs.Reading.{Reads, Refuses, IfFaulty, IsPositiveLine, LacksWords, FailsWords};
 
 use crate::command::Next;
 use crate::fault::{NextFault, RespFault};
 use crate::front::after;
-use crate::limits::COMMAND_WORDS;
+use crate::limits::{COMMAND_BYTES, COMMAND_WORDS};
 use crate::number::{NoNumber, number_at};
 use crate::word::word_at;
 
@@ -39,19 +39,22 @@ fn words_at<'b>(
     requires { words.old.items ≡ [] }
     ensures len { IfOk result (λ next. IfSome next (λ _. length words.new.items ≡ count)) }
     ensures words { IfOk result (λ next. IfSome next (λ _. All IsWord (texts words.new.items))) }
+    ensures fit { IfOk result (λ next. IfSome next (λ _. bytes_of (texts words.new.items) ≤ COMMAND_BYTES)) }
     ensures some { IfOk result (λ next. IfSome next (λ rest. bytes.now ≡ words_bytes (texts words.new.items) ++ rest.now)) }
     ensures none { IfOk result (λ next. IfNone next (LacksWords count bytes.now)) }
-    ensures err { IfErr result (λ fault. IfFaulty fault (λ f. HasFaultyWord count f bytes.now)) }
+    ensures err { IfErr result (λ fault. IfFaulty fault (λ f. FailsWords count f bytes.now)) }
 {
     let mut rest = bytes;
+    let mut room = COMMAND_BYTES;
     for _ in 0..count {
-        let (word, next) = match word_at(rest) {
+        let (word, next) = match word_at(rest, room) {
             Ok(Some(read)) => read,
             Ok(None) => return Ok(None),
             Err(fault) => return Err(NextFault::Faulty(fault)),
         };
         words.reserve(1)?;
         words.push_reserved(word);
+        room -= word.len() as u64;
         rest = next;
     }
     Ok(Some(rest))

@@ -13,8 +13,10 @@ pub enum RespFault {
     BadCount,
     /// This byte is in place of the `$` of a word.
     NoDollar(u8),
-    /// The length of a word isn't a number, or is above the limit.
+    /// The length of a word isn't a number, or is above a word's limit.
     BadLength,
+    /// Less is left of the command's limit than a word may have, and the length of a word isn't a number up to that.
+    TooBigCommand,
     /// A word isn't followed by `\r\n`.
     NoNewline,
     /// A line is above the limit.
@@ -68,7 +70,8 @@ fn shown(byte: u8) -> u8
 }
 
 impl RespFault {
-    /// Returns the message that Redis sends for the fault, without the mark of an error and the end of its line.
+    /// Returns the message for the fault, without the mark of an error and the end of its line. It is that of Redis, but for
+    /// `TooBigCommand`.
     pub fn message(self) -> ArrayVec<u8, SHORT_BYTES>
         ensures { result.items ≡ fault_message self }
     {
@@ -81,6 +84,7 @@ impl RespFault {
             RespFault::BadLength | RespFault::NoNewline => {
                 b"ERR Protocol error: invalid bulk length"
             }
+            RespFault::TooBigCommand => b"ERR Protocol error: too big command",
             RespFault::TooBigLine => b"ERR Protocol error: too big inline request",
             RespFault::UnbalancedQuotes => b"ERR Protocol error: unbalanced quotes in request",
         };

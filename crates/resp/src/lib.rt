@@ -22,7 +22,7 @@ mod word;
 
 pub use command::{Next, next_command};
 pub use fault::{NextFault, RespFault};
-pub use limits::{COMMAND_WORDS, LINE_BYTES, WORD_BYTES};
+pub use limits::{COMMAND_BYTES, COMMAND_WORDS, LINE_BYTES, WORD_BYTES};
 pub use number::integer;
 pub use reply::{put_array, put_error, put_integer, put_nothing, put_simple, put_value};
 pub use short::SHORT_BYTES;

@@ -4,6 +4,7 @@ use crate::{
     put_nothing, put_simple, put_value,
 };
 use devices::StreamSink;
+use std::alloc::{AllocError, Global};
 use std::test::*;
 
 /// Tests whether the bytes begin with the command of these words, and this rest follows it.
@@ -153,6 +154,39 @@ fn faults_have_the_texts_of_redis(rt: HostRuntime) {
         );
         assert!(rt; fault.message().as_slice() == *message);
     }
+}
+
+/// Returns an array of 65 words up to the last one, whose words have 4 MiB together, and then these bytes.
+fn long_array(alloc: Global, then: &[u8]) -> Result<Vec<u8>, AllocError> {
+    let word = vec![in alloc; b'a'; 65536]?;
+    let mut bytes = Vec::from_slice(alloc, b"*65\r\n")?;
+    for _ in 0..64 {
+        bytes.extend_from_slice(b"$65536\r\n")?;
+        bytes.extend_from_slice(&word)?;
+        bytes.extend_from_slice(b"\r\n")?;
+    }
+    bytes.extend_from_slice(then)?;
+    Ok(bytes)
+}
+
+#[test]
+fn all_words_together_have_a_limit(rt: HostRuntime) {
+    let rows: [(&[u8], Result<Next<'static>, NextFault>); 7] = [
+        (b"$0\r\n\r\n", Ok(Next::Command(b""))),
+        (b"$", Ok(Next::More)),
+        (b"$0\r", Ok(Next::More)),
+        (b"$1", Err(NextFault::Faulty(RespFault::TooBigCommand))),
+        (b"$x", Err(NextFault::Faulty(RespFault::TooBigCommand))),
+        (b"$0x", Err(NextFault::Faulty(RespFault::TooBigCommand))),
+        (b"+", Err(NextFault::Faulty(RespFault::NoDollar(b'+')))),
+    ];
+    for (then, result) in rows {
+        let bytes = long_array(rt.alloc(), then).expect(&rt, "there");
+        let mut words = Vec::new(rt.alloc());
+        assert!(rt; next_command(&bytes, &mut words) == result, "{then:?}");
+    }
+    let message = RespFault::TooBigCommand.message();
+    assert!(rt; message.as_slice() == b"ERR Protocol error: too big command".as_slice());
 }
 
 #[test]

@@ -20,7 +20,7 @@ pub returns-in-Ok-Some-words_at-clause-read : goal.returns-in-Ok-Some-words_at-c
 returns-in-Ok-Some-words_at-clause-read c =
     let e = rw c.in-Ok-Some.field-0-is at c.in-Ok-Some.ensures in
     let f = rw c.in-Ok-Some-words_at.field-0-is at c.in-Ok-Some-words_at.ensures in
-    whole_array c.args.head.now c.in-Ok-Some.read.1.now c.in-Ok-Some-words_at.after.now c.in-Ok-Some.read.0 c.words_at.new.words.items (omega (arith, c.if-count-eq0.false)) e.range e.some f.len f.words f.some
+    whole_array c.args.head.now c.in-Ok-Some.read.1.now c.in-Ok-Some-words_at.after.now c.in-Ok-Some.read.0 c.words_at.new.words.items (omega (arith, c.if-count-eq0.false)) e.range e.some f.len f.words f.fit f.some
 
 pub returns-in-Ok-None-words_at-clause-read : goal.returns-in-Ok-None-words_at-clause-read
 returns-in-Ok-None-words_at-clause-read c =
