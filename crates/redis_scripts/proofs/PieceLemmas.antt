@@ -1,9 +1,10 @@
 -- Cutting a text at its first separator.
-use Rattle.std.proofs.Common.{◌≡◌, ℕ, zero, suc, ◌+◌, ◌<◌, ◌≤◌, List, [], ◌∷◌, length, take, drop, get_or, refl, ap, arith, true, false, inl, inr}
+use Rattle.std.proofs.Common.{◌≡◌, ◌≢◌, ◌∙◌, sym, ◌⊎◌, Bool, codes, ℕ, zero, suc, ◌+◌, ◌<◌, ◌≤◌, List, [], ◌∷◌, length, take, drop, get_or, refl, ap, arith, true, false, inl, inr}
 use Rattle.std.specs.Prelude.{nat_eq, Option, Some, None, is_some, option_copied}
 use Rattle.std.specs.Borrow.{Bor}
 use Rattle.bpf_model.proofs.Options.{test_of}
 use Rattle.redis_scripts.specs.Pieces.{pieces, pieces_after, onto_first}
+use Rattle.redis_scripts.specs.Heads.{now_words}
 
 -- the separator is first at this place
 pub pieces-at : (separator : ℕ) (text : List ℕ) (place : ℕ) → place < length text → nat_eq (get_or text place 0) separator ≡ true → ((k : ℕ) → k < place → nat_eq (get_or text k 0) separator ≡ false)
@@ -54,3 +55,12 @@ some_piece separator (c ∷ cs) = elim (test_of (nat_eq c separator)) [
 pub pieces_after-some : (separator : ℕ) (rest : Option (Bor (List ℕ))) → is_some rest ≡ true → pieces_after separator (option_copied rest) ≡ [] → ⊥
 pieces_after-some separator None is none = absurd cc
 pieces_after-some separator (Some text) is none = omega (arith, some_piece separator text.now, ap length none)
+
+-- words are left, but not the one
+pub with_now-none : (text word : List ℕ) (rest : Option (Bor (List ℕ))) → pieces 32 text ≡ word ∷ pieces_after 32 (option_copied rest) → (word ≢ codes "with-now") ⊎ (is_some rest ≡ true)
+    → (with_now : Bool) → pieces 32 text ≢ now_words with_now
+with_now-none text word rest cuts other true same = elim other [
+  | inl differs ↦ differs (ap (λ words. get_or words 0 []) (sym cuts ∙ same))
+  | inr some ↦ pieces_after-some 32 rest some (ap (drop 1) (sym cuts ∙ same))
+]
+with_now-none text word rest cuts other false same = absurd cc

@@ -1,5 +1,6 @@
--- A script's first line: `#!bpf METHOD REPLY KEY OLD ARGUMENT RESULT`, with one blank between two words.
-use Rattle.std.specs.Prelude.{◌≡◌, ℕ, ◌<◌, ◌^◌, List, [], ◌∷◌, codes, decimal}
+-- A script's first line: `#!bpf METHOD REPLY KEY OLD ARGUMENT RESULT`, with one blank between two words. It may end with the word
+-- `with-now`.
+use Rattle.std.specs.Prelude.{◌≡◌, ℕ, ◌<◌, ◌^◌, Bool, true, false, List, [], ◌∷◌, ◌++◌, codes, decimal}
 use Rattle.bpf_model.specs.declared.input.Sizes.{Sizes}
 use Rattle.redis_scripts.specs.declared.head.Method.{Method}
 use Rattle.redis_scripts.specs.declared.head.Method.TheVariants.{Compute, IfAbsent, IfPresent, Merge}
@@ -23,8 +24,20 @@ reply_word Integer = codes "integer"
 abbrev pub size_words : Sizes → List (List ℕ)
 size_words sizes = decimal sizes.key ∷ decimal sizes.old ∷ decimal sizes.arg ∷ decimal sizes.result ∷ []
 
+-- whether the program gets the time in front of its argument
+abbrev pub now_words : Bool → List (List ℕ)
+now_words true = codes "with-now" ∷ []
+now_words false = []
+
 abbrev pub head_words : Head → List (List ℕ)
-head_words head = codes "#!bpf" ∷ method_word head.method ∷ reply_word head.reply ∷ size_words head.sizes
+head_words head = codes "#!bpf" ∷ method_word head.method ∷ reply_word head.reply ∷ (size_words head.sizes ++ now_words head.with_now)
+
+-- a merge stores its argument if there is no old value, so it can't have the time in front
+abbrev pub merges_with_now : Method → Bool → Bool
+merges_with_now Compute with_now = false
+merges_with_now IfAbsent with_now = false
+merges_with_now IfPresent with_now = false
+merges_with_now Merge with_now = with_now
 
 -- each size has 16 bits
 abbrev pub AreSmall : Sizes → Type 0

@@ -17,6 +17,9 @@ pub const MESSAGE_BYTES: usize = 256;
 pub enum ScriptFault {
     /// The first line is not one of a script that is served. Texts in Lua come here.
     NotServed,
+    /// The first line has the method `merge` and the word `with-now`. A merge stores its argument if there is no old value, so it has
+    /// no time in front.
+    MergesWithNow,
     /// The code is neither hex nor UTF-8.
     NotText,
     /// The code is hex, with an odd number of digits.
@@ -108,6 +111,7 @@ impl ScriptFault {
     {
         match self {
             ScriptFault::NotServed => message_of(NOT_SERVED),
+            ScriptFault::MergesWithNow => message_of(MERGES_WITH_NOW),
             ScriptFault::NotText => message_of(b"ERR the script's code is not UTF-8"),
             ScriptFault::OddDigits => message_of(b"ERR the script has an odd number of hex digits"),
             ScriptFault::Assembler(fault) => line_message(fault),
@@ -119,7 +123,11 @@ impl ScriptFault {
 
 /// What is served, for a client that sent something else.
 const NOT_SERVED: &[u8] =
-    b"ERR not a script that is served: its first line has to be '#!bpf METHOD REPLY KEY OLD ARGUMENT RESULT' (METHOD: compute, if-absent, if-present or merge; REPLY: bytes or integer; four sizes)";
+    b"ERR not a script that is served: its first line has to be '#!bpf METHOD REPLY KEY OLD ARGUMENT RESULT' (METHOD: compute, if-absent, if-present or merge; REPLY: bytes or integer; four sizes; the word 'with-now' may follow)";
+
+/// Why a merge has no time.
+const MERGES_WITH_NOW: &[u8] =
+    b"ERR a merge has no 'with-now': it stores its argument if there is no old value";
 
 /// The text of Redis if memory runs out.
 const NO_MEMORY: &[u8] = b"OOM command not allowed when used memory > 'maxmemory'.";

@@ -1,10 +1,10 @@
 //! A script's first line.
-ghost use Rattle.std.specs.Prelude.{◌≡◌, ◌≢◌, ◌<◌, ◌^◌, ◌∷◌, [], ℕ, List, decimal, option_copied, IfSome, IfNone, MatchOption};
+ghost use Rattle.std.specs.Prelude.{◌≡◌, ◌≢◌, ◌<◌, ◌^◌, ◌∷◌, ◌++◌, [], ℕ, Bool, List, decimal, option_copied, IfSome, IfNone, MatchOption};
 ghost use Rattle.bpf_model.specs.declared.input.Sizes.{Sizes as TheSizes};
 ghost use Rattle.redis_scripts.specs.declared.head.Head.{Head as TheHead};
 ghost use Rattle.redis_scripts.specs.declared.head.Method.{Method as TheMethod};
 ghost use Rattle.redis_scripts.specs.declared.head.ReplyKind.{ReplyKind as TheReplyKind};
-ghost use Rattle.redis_scripts.specs.Heads.{method_word, reply_word, size_words, AreSmall, IsHead};
+ghost use Rattle.redis_scripts.specs.Heads.{method_word, reply_word, size_words, now_words, AreSmall, IsHead, merges_with_now};
 ghost use Rattle.redis_scripts.specs.Pieces.{pieces_after};
 
 use crate::code::without_end_blanks;
@@ -37,6 +37,17 @@ pub struct Head {
     pub method: Method,
     pub reply: ReplyKind,
     pub sizes: Sizes,
+    /// Whether the program's argument begins with the time.
+    pub with_now: bool,
+}
+
+impl Head {
+    /// Tests whether it is a merge with the time, which isn't served.
+    pub(crate) fn merges_with_now(&self) -> bool
+        ensures { result ≡ merges_with_now self.now.method self.now.with_now }
+    {
+        self.method == Method::Merge && self.with_now
+    }
 }
 
 /// Returns the method with this name.
@@ -108,24 +119,38 @@ fn size(rest: Option<&[u8]>) -> Option<(u16, Option<&[u8]>)>
     Some((size_in(text)?, rest))
 }
 
-/// Returns the sizes that the words say, which are all that is left of a line.
-fn sizes_in(rest: Option<&[u8]>) -> Option<Sizes>
-    ensures some { IfSome result (λ sizes. (pieces_after 32 (option_copied rest.entry) ≡ size_words sizes) × AreSmall sizes) }
-    ensures none { IfNone result ((sizes : TheSizes) → AreSmall sizes → pieces_after 32 (option_copied rest.entry) ≢ size_words sizes) }
+/// Takes the four sizes, and returns what is after them.
+fn sizes_in(rest: Option<&[u8]>) -> Option<(Sizes, Option<&[u8]>)>
+    ensures some { IfSome result (λ taken. (pieces_after 32 (option_copied rest.entry) ≡ size_words taken.0 ++ pieces_after 32 (option_copied taken.1)) × AreSmall taken.0) }
+    ensures none { IfNone result ((sizes : TheSizes) (more : List (List ℕ)) → AreSmall sizes → pieces_after 32 (option_copied rest.entry) ≢ size_words sizes ++ more) }
 {
     let (key, rest) = size(rest)?;
     let (old, rest) = size(rest)?;
     let (arg, rest) = size(rest)?;
     let (result, rest) = size(rest)?;
-    if rest.is_some() {
-        return None;
-    }
-    Some(Sizes {
+    let sizes = Sizes {
         key,
         old,
         arg,
         result,
-    })
+    };
+    Some((sizes, rest))
+}
+
+/// Returns whether the program gets the time, if this is all that is left of a line.
+fn with_now_in(rest: Option<&[u8]>) -> Option<bool>
+    ensures some { IfSome result (λ with_now. pieces_after 32 (option_copied rest.entry) ≡ now_words with_now) }
+    ensures none { IfNone result ((with_now : Bool) → pieces_after 32 (option_copied rest.entry) ≢ now_words with_now) }
+{
+    let Some(text) = rest else {
+        return Some(false);
+    };
+    let (last, rest) = cut(text, b' ');
+    if rest.is_none() && last == b"with-now".as_slice() {
+        Some(true)
+    } else {
+        None
+    }
 }
 
 /// Returns what the line says, if it is the first line of a script.
@@ -141,10 +166,12 @@ pub(crate) fn head_in(line: &[u8]) -> Option<Head>
     let method = method_named(method)?;
     let (reply, rest) = word(rest)?;
     let reply = reply_named(reply)?;
-    let sizes = sizes_in(rest)?;
+    let (sizes, rest) = sizes_in(rest)?;
+    let with_now = with_now_in(rest)?;
     Some(Head {
         method,
         reply,
         sizes,
+        with_now,
     })
 }

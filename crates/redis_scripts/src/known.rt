@@ -16,8 +16,10 @@ pub struct Script<'a> {
     pub digest: Digest,
     pub method: Method,
     pub reply: ReplyKind,
+    /// Whether the program's argument begins with the time, in 8 bytes, the low one first.
+    pub with_now: bool,
     pub program: &'a Verified,
-    ghost is_script: { IsScript digest.bytes method reply program.now },
+    ghost is_script: { IsScript digest.bytes method reply with_now program.now },
 }
 
 /// A script and its text.
@@ -25,7 +27,7 @@ pub struct Script<'a> {
 struct Noted<'a> {
     script: Script<'a>,
     text: Vec<u8>,
-    ghost says: { IsText text.items script.method script.reply script.program.now },
+    ghost says: { IsText text.items script.method script.reply script.with_now script.program.now },
 }
 
 /// The scripts that were loaded, and how many there may be. A digest alone isn't trusted: a text is compared with the one that was
@@ -48,7 +50,7 @@ impl<'a> Known<'a> {
     /// Returns the script with this digest.
     pub(crate) fn find(&self, digest: Digest) -> Option<Script<'a>>
         ensures named { IfSome result (λ script. script.digest.bytes ≡ digest.bytes) }
-        ensures script { IfSome result (λ script. IsScript digest.bytes script.method script.reply script.program.now) }
+        ensures script { IfSome result (λ script. IsScript digest.bytes script.method script.reply script.with_now script.program.now) }
     {
         let noted = self.scripts.get(&digest)?;
         let script = noted.script;
@@ -62,7 +64,7 @@ impl<'a> Known<'a> {
     /// Returns the script of this very text, if it was loaded.
     pub(crate) fn find_text(&self, digest: Digest, text: &[u8]) -> Option<Script<'a>>
         ensures named { IfSome result (λ script. script.digest.bytes ≡ digest.bytes) }
-        ensures says { IfSome result (λ script. IsText text.now script.method script.reply script.program.now) }
+        ensures says { IfSome result (λ script. IsText text.now script.method script.reply script.with_now script.program.now) }
     {
         let noted = self.scripts.get(&digest)?;
         let script = noted.script;
@@ -81,7 +83,7 @@ impl<'a> Known<'a> {
         script: Script<'a>,
         text: &[u8],
     ) -> Result<(), NoMemory>
-        requires { IsText text.now script.method script.reply script.program.now }
+        requires { IsText text.now script.method script.reply script.with_now script.program.now }
     {
         if self.scripts.contains_key(&script.digest) {
             return Ok(());

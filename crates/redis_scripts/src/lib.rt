@@ -2,7 +2,7 @@
 //!
 //! The promise to the layers above: `Scripts::load` returns the script of this very text, with a program that is safe with the sizes
 //! in the text's first line, or the first fault (`IsText` and `IsFaultOf` of `specs/`). `Scripts::find` returns a script whose text has
-//! the digest that you ask for (`IsScript`). `Scripts::known_lua` knows the Lua texts by which clients release a lock. `load` takes
+//! the digest that you ask for (`IsScript`). `Scripts::known_lua` knows the Lua texts by which clients release a lock or give it time. `load` takes
 //! memory if the text is new. `load` and `find` may wait for another thread that loads at the same moment.
 #![tactic(auto)]
 

@@ -123,6 +123,9 @@ pub(crate) fn read(alloc: Global, text: &[u8]) -> Result<Reading, ScriptFault>
     let Some(head) = head_in(first) else {
         return Err(ScriptFault::NotServed);
     };
+    if head.merges_with_now() {
+        return Err(ScriptFault::MergesWithNow);
+    }
     let bytes = program_bytes(alloc, lines)?;
     Ok(Reading { head, bytes })
 }

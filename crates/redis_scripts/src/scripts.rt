@@ -1,10 +1,11 @@
 //! The scripts that all threads share.
-ghost use Rattle.std.specs.Prelude.{◌≡◌, ◌⊎◌, ◌↔◌, IfSome, IsSome, IfOk, IfErr};
+ghost use Rattle.std.specs.Prelude.{◌≡◌, ◌⊎◌, IfSome, IfNone, IfOk, IfErr};
 ghost use Rattle.sha1.specs.Sha1.{sha1};
 ghost use Rattle.program_registry.specs.Tokens.{IsOf, program_of};
 ghost use Rattle.admission.specs.Admissions.{IsAdmitted, IsNotAdmitted, greatest};
 ghost use Rattle.admission.specs.declared.fault.AdmissionFault.{AdmissionFault as TheRefusal};
-ghost use Rattle.redis_scripts.specs.Lua.{ReleasesLock};
+ghost use Rattle.redis_scripts.specs.Lua.{ActsOnLock};
+ghost use Rattle.redis_scripts.specs.declared.lua.LockAct.{LockAct as TheAct};
 ghost use Rattle.redis_scripts.specs.Scripts.{IsText, IsScript};
 ghost use Rattle.redis_scripts.specs.Faults.{IsFaultOf};
 
@@ -59,14 +60,15 @@ impl<'a> Scripts<'a> {
     /// up a script.
     pub fn find<R: Wait>(&self, rt: &R, digest: Digest) -> Option<Script<'a>>
         ensures named { IfSome result (λ script. script.digest.bytes ≡ digest.bytes) }
-        ensures script { IfSome result (λ script. IsScript digest.bytes script.method script.reply script.program.now) }
+        ensures script { IfSome result (λ script. IsScript digest.bytes script.method script.reply script.with_now script.program.now) }
     {
         self.known.lock(rt).find(digest)
     }
 
     /// Returns what the well-known text in Lua with this digest does to a lock, if it is one. Takes no memory. Never waits.
     pub fn known_lua(&self, digest: Digest) -> Option<LockAct>
-        ensures { IsSome result ↔ ReleasesLock digest.bytes }
+        ensures some { IfSome result (ActsOnLock digest.bytes) }
+        ensures none { IfNone result ((act : TheAct) → ActsOnLock digest.bytes act → ⊥) }
     {
         self.lua.act(digest)
     }
@@ -107,7 +109,7 @@ impl<'a> Scripts<'a> {
     ) -> Result<Script<'a>, ScriptFault>
         requires { digest.bytes ≡ sha1 text.now }
         ensures named { IfOk result (λ script. script.digest.bytes ≡ sha1 text.now) }
-        ensures says { IfOk result (λ script. IsText text.now script.method script.reply script.program.now) }
+        ensures says { IfOk result (λ script. IsText text.now script.method script.reply script.with_now script.program.now) }
         ensures err { IfErr result (IsFaultOf text.now) }
     {
         let read = read(alloc, text)?;
@@ -116,6 +118,7 @@ impl<'a> Scripts<'a> {
             digest,
             method: read.head.method,
             reply: read.head.reply,
+            with_now: read.head.with_now,
             program: self.registry.get_by(&token),
         })
     }
@@ -131,7 +134,7 @@ impl<'a> Scripts<'a> {
         text: &[u8],
     ) -> Result<Script<'a>, ScriptFault>
         ensures named { IfOk result (λ script. script.digest.bytes ≡ sha1 text.now) }
-        ensures says { IfOk result (λ script. IsText text.now script.method script.reply script.program.now) }
+        ensures says { IfOk result (λ script. IsText text.now script.method script.reply script.with_now script.program.now) }
         ensures err { IfErr result (IsFaultOf text.now) }
     {
         let digest = digest_of(text);

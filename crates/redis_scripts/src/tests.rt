@@ -1,5 +1,7 @@
 //! Scripts that are loaded, refused and found.
-use crate::{Method, ReplyKind, Script, ScriptFault, Scripts, digest_in, digest_of, hex_of};
+use crate::{
+    LockAct, Method, ReplyKind, Script, ScriptFault, Scripts, digest_in, digest_of, hex_of,
+};
 use program_registry::Registry;
 use std::alloc::Global;
 use std::sync::Wait;
@@ -76,11 +78,23 @@ fn one_program_is_kept_once(rt: HostRuntime) -> Result<(), Fail> {
 fn first_fault_is_told(rt: HostRuntime) -> Result<(), Fail> {
     let registry = registry(rt.alloc()).expect(&rt, "there");
     let scripts = Scripts::new(rt.alloc(), &registry);
-    let rows: [(&[u8], &[u8]); 8] = [
+    let rows: [(&[u8], &[u8]); 11] = [
         (b"return 1", b"ERR not a script that is served"),
         (
             b"#!bpf merge bytes 64 8 8 08\nexit",
             b"ERR not a script that is served",
+        ),
+        (
+            b"#!bpf compute bytes 64 8 8 8 with-nox\nexit",
+            b"ERR not a script that is served",
+        ),
+        (
+            b"#!bpf compute bytes 64 8 8 8 with-now with-now\nexit",
+            b"ERR not a script that is served",
+        ),
+        (
+            b"#!bpf merge bytes 64 8 8 8 with-now\nexi",
+            b"ERR a merge has no 'with-now': it stores its argument if there is no old value",
         ),
         (
             b"#!bpf merge bytes 64 8 8 8 \n# none",
@@ -117,18 +131,64 @@ fn first_fault_is_told(rt: HostRuntime) -> Result<(), Fail> {
 }
 
 #[test]
-fn release_of_a_lock_is_known(rt: HostRuntime) -> Result<(), Fail> {
+fn the_time_is_asked_for_by_a_word(rt: HostRuntime) -> Result<(), Fail> {
     let registry = registry(rt.alloc()).expect(&rt, "there");
     let scripts = Scripts::new(rt.alloc(), &registry);
-    // The digests that redis-py and the shell's sha1sum give, of which the third is that of redis-py's extend.
-    let rows: [(&[u8], bool); 3] = [
-        (b"c3f8721cbb97f72bc19e972846bd7aaf91901658", true),
-        (b"647C65A442733A1AA440F99908D249D13B4D6C4A", true),
-        (b"a4e8783852e6b949f9ef3a97212805108459a890", false),
+    let rows: [(&[u8], Method, bool); 4] = [
+        (COMMENTED, Method::Merge, false),
+        (
+            b"#!bpf compute bytes 64 8 8 8 with-now\nmov64 r0, 0\nexit",
+            Method::Compute,
+            true,
+        ),
+        (
+            b"#!bpf if-absent bytes 64 8 8 8 with-now \r\nmov64 r0, 0\nexit",
+            Method::IfAbsent,
+            true,
+        ),
+        (
+            b"#!bpf if-present bytes 64 8 8 8\nmov64 r0, 0\nexit",
+            Method::IfPresent,
+            false,
+        ),
     ];
-    for (name, known) in rows {
+    for (text, method, with_now) in rows {
+        let script = loaded(&rt, rt.alloc(), &scripts, text).expect(&rt, "there");
+        assert!(rt;
+            script.method == method && script.with_now == with_now,
+            "{text:?}"
+        );
+    }
+    Ok(())
+}
+
+#[test]
+fn acts_on_locks_are_known(rt: HostRuntime) -> Result<(), Fail> {
+    let registry = registry(rt.alloc()).expect(&rt, "there");
+    let scripts = Scripts::new(rt.alloc(), &registry);
+    // The digests that redis-py and the shell's sha1sum give. The last is that of no text here.
+    let rows: [(&[u8], Option<LockAct>); 5] = [
+        (
+            b"c3f8721cbb97f72bc19e972846bd7aaf91901658",
+            Some(LockAct::Release),
+        ),
+        (
+            b"647C65A442733A1AA440F99908D249D13B4D6C4A",
+            Some(LockAct::Release),
+        ),
+        (
+            b"a4e8783852e6b949f9ef3a97212805108459a890",
+            Some(LockAct::Extend),
+        ),
+        (
+            b"1cac51482acf5858da00f6d685d68f886cd6b6b2",
+            Some(LockAct::Reacquire),
+        ),
+        (b"1cac51482acf5858da00f6d685d68f886cd6b6b3", None),
+    ];
+    for (name, act) in rows {
         let digest = digest_in(name).expect(&rt, "there");
-        assert!(rt; scripts.known_lua(digest).is_some() == known, "{name:?}");
+        assert!(rt; scripts.known_lua(digest) == act, "{name:?}");
     }
     Ok(())
 }
