@@ -13,11 +13,11 @@ chosen : (b : Bool) (f g h : Fault) → f ≡ (if b then g else h) → failed f 
 chosen true f g h e = ap failed e
 chosen false f g h e = ap failed e
 
-pub unknown_asked : (words rest : List (Bor (List ℕ))) (f : Fault) → 1 ≤ length words → rest ≡ drop 1 words
+pub unknown_asked : (now : ℕ) (words rest : List (Bor (List ℕ))) (f : Fault) → 1 ≤ length words → rest ≡ drop 1 words
     → named (get_or words 0 nothing).now ≡ None
     → f ≡ (if is_web (get_or words 0 nothing).now then WebRequest else UnknownCommand (get_or words 0 nothing).now (texts rest))
-    → Err f ≡ asked_of (texts words)
-unknown_asked [] rest f h is none e = absurd (omega (arith, h))
-unknown_asked (w ∷ words) rest f h is none e =
+    → Err f ≡ asked_of now (texts words)
+unknown_asked now [] rest f h is none e = absurd (omega (arith, h))
+unknown_asked now (w ∷ words) rest f h is none e =
     rw (none, asked_of) (chosen (is_web w.now) f WebRequest (UnknownCommand w.now (texts words))
     (e ∙ ap (λ args. if is_web w.now then WebRequest else UnknownCommand w.now (texts args)) is))

@@ -1,6 +1,6 @@
 -- Classes and patterns, member by member and piece by piece.
 use Rattle.std.proofs.Common.{arith, ◌≡◌, ◌≢◌, ℕ, zero, suc, ◌+◌, ◌<◌, ◌≤◌, true, false, List, [], ◌∷◌, length, drop, get_or, nat_eq, refl, sym, ap, ◌∙◌}
-use Rattle.redis_commands.specs.Matching.{is_first, more_of_member, is_member_after, class_length_after, piece_at, more_bytes, pieces_after}
+use Rattle.redis_commands.specs.Matching.{is_first, more_of_member, is_member_after, class_length_after, piece_at, more_bytes, pieces_after, stand_for, matches}
 
 equal_test : (n m : ℕ) → n ≡ m → nat_eq n m ≡ true
 equal_test n m e = grind (arith, e)
@@ -94,3 +94,9 @@ pieces_first (x ∷ xs) rest next k h is same after =
     let drops : drop (more_bytes x xs) xs ≡ next =
     ap (λ n. drop n xs) (sym (same ∙ ap (more_bytes x) is)) ∙ ap (drop k) (sym is) ∙ sym after in
     ap (λ l. piece_at x xs ∷ l) (skip ∙ ap (pieces_after 0) drops) ∙ ap (λ r. piece_at x r ∷ pieces_after 0 next) (sym is)
+
+-- ---- the empty text
+
+pub matches_some : (pattern text : List ℕ) → 1 ≤ length text → matches pattern text ≡ stand_for (pieces_after 0 pattern) text
+matches_some pattern [] h = absurd (omega (arith, h))
+matches_some pattern (b ∷ text) h = refl

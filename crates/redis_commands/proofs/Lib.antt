@@ -4,5 +4,6 @@ pub mod LimitLemmas
 pub mod NameLemmas
 pub mod AskedLemmas
 pub mod TextLemmas
+pub mod EndLemmas
 pub mod GlobLemmas
 pub mod PlaceLemmas

@@ -7,6 +7,10 @@ use Rattle.redis_commands.specs.declared.name.Sub.{Sub}
 use Rattle.redis_commands.specs.declared.command.KeysAct.{KeysAct}
 use Rattle.redis_commands.specs.declared.command.Condition.{Condition as ShownCondition}
 use Rattle.redis_commands.specs.declared.command.Condition.TheVariants as condition
+use Rattle.redis_commands.specs.declared.command.Lifetime.{Lifetime}
+use Rattle.redis_commands.specs.declared.command.ExpireRule.{ExpireRule}
+use Rattle.redis_commands.specs.declared.command.TimeUnit.{TimeUnit}
+use Rattle.redis_commands.specs.declared.command.TimeForm.{TimeForm}
 use Rattle.redis_commands.specs.declared.command.KeyAct.{KeyAct}
 use Rattle.redis_commands.specs.declared.command.KeyAct.TheVariants as act
 use Rattle.redis_commands.specs.declared.command.WalkCommand.{WalkCommand}
@@ -27,17 +31,21 @@ pub data Condition : Type 0 where
   IfPresent : Condition
   IfEqual : List ℕ → Condition
 
--- what is done with the value of one key; of `Set` whether the old value is wanted comes last, of `GetRange` the end,
--- and of `SetRange` the value
+-- what is done with the value or the deadline of one key; of `Set` there come the value, its condition, whether the old value
+-- is wanted, and how long the new one stays; of `Expire` the new deadline, of `GetRange` the start, of `SetRange` the offset
+-- come first
 pub data Act : Type 0 where
   Get : Act
-  Set : List ℕ → Condition → Bool → Act
+  Set : List ℕ → Condition → Bool → Lifetime → Act
   SetIfAbsent : List ℕ → Act
   GetAndSet : List ℕ → Act
   GetAndDelete : Act
   Length : Act
   TypeName : Act
-  TimeToLive : Act
+  GetAndExpire : Lifetime → Act
+  Expire : ℕ → ExpireRule → Act
+  Persist : Act
+  TimeLeft : TimeUnit → TimeForm → Act
   Add : ℤ → Act
   Append : List ℕ → Act
   GetRange : ℤ → ℤ → Act
@@ -73,12 +81,12 @@ pub data ConnectionAsked : Type 0 where
   Info : ConnectionAsked
   Reset : ConnectionAsked
 
--- what is asked of programs: a text, digests, or a digest or a text with a key and an argument or none
+-- what is asked of programs: a text, digests, or a digest or a text with a key and arguments
 pub data ProgramAsked : Type 0 where
   Load : List ℕ → ProgramAsked
   Exists : List (List ℕ) → ProgramAsked
-  Call : List ℕ → List ℕ → Option (List ℕ) → ProgramAsked
-  Eval : List ℕ → List ℕ → Option (List ℕ) → ProgramAsked
+  Call : List ℕ → List ℕ → List (List ℕ) → ProgramAsked
+  Eval : List ℕ → List ℕ → List (List ℕ) → ProgramAsked
 
 -- a command
 pub data Asked : Type 0 where
@@ -101,7 +109,10 @@ pub data Fault : Type 0 where
   OffsetOutOfRange : Fault
   LongKey : Fault
   LongValue : Fault
-  Deadline : Fault
+  BadExpire : Name → Fault
+  ExpireOption : List ℕ → Fault
+  NxWithOthers : Fault
+  GtWithLt : Fault
   BadCursor : Fault
   BadIndex : Fault
   WideIndex : Fault
@@ -109,6 +120,7 @@ pub data Fault : Type 0 where
   NoProtocol : Fault
   HelloOption : List ℕ → Fault
   BadClientName : Fault
+  LongClientName : Fault
   NoPassword : Fault
   WrongPassword : Fault
   NegativeKeys : Fault
@@ -133,13 +145,16 @@ condition_by (condition.IfEqual value) = IfEqual value.now
 
 abbrev pub act_by : KeyAct → Act
 act_by act.Get = Get
-act_by (act.Set value condition wants_old) = Set value.now (condition_by condition) wants_old
+act_by (act.Set value condition wants_old lifetime) = Set value.now (condition_by condition) wants_old lifetime
 act_by (act.SetIfAbsent value) = SetIfAbsent value.now
 act_by (act.GetAndSet value) = GetAndSet value.now
 act_by act.GetAndDelete = GetAndDelete
 act_by act.Length = Length
 act_by act.TypeName = TypeName
-act_by act.TimeToLive = TimeToLive
+act_by (act.GetAndExpire lifetime) = GetAndExpire lifetime
+act_by (act.Expire at rule) = Expire at rule
+act_by act.Persist = Persist
+act_by (act.TimeLeft unit form) = TimeLeft unit form
 act_by (act.Add by) = Add by
 act_by (act.Append value) = Append value.now
 act_by (act.GetRange start end) = GetRange start end
@@ -175,8 +190,8 @@ connection_by connection.Reset = Reset
 abbrev pub program_by : ProgramCommand → ProgramAsked
 program_by (program.Load script) = Load script.now
 program_by (program.Exists digests) = Exists (texts digests.now)
-program_by (program.Call digest key argument) = Call digest.now key.now (text argument)
-program_by (program.Eval script key argument) = Eval script.now key.now (text argument)
+program_by (program.Call digest key arguments) = Call digest.now key.now (texts arguments.now)
+program_by (program.Eval script key arguments) = Eval script.now key.now (texts arguments.now)
 
 abbrev pub asked_by : Command → Asked
 asked_by (command.OnKey key act) = OnKey key.now (act_by act)
@@ -197,7 +212,10 @@ fault_by fault.DecrementOverflow = DecrementOverflow
 fault_by fault.OffsetOutOfRange = OffsetOutOfRange
 fault_by fault.LongKey = LongKey
 fault_by fault.LongValue = LongValue
-fault_by fault.Deadline = Deadline
+fault_by (fault.BadExpire name) = BadExpire name
+fault_by (fault.ExpireOption option) = ExpireOption option.now
+fault_by fault.NxWithOthers = NxWithOthers
+fault_by fault.GtWithLt = GtWithLt
 fault_by fault.BadCursor = BadCursor
 fault_by fault.BadIndex = BadIndex
 fault_by fault.WideIndex = WideIndex
@@ -205,6 +223,7 @@ fault_by fault.BadVersion = BadVersion
 fault_by fault.NoProtocol = NoProtocol
 fault_by (fault.HelloOption option) = HelloOption option.now
 fault_by fault.BadClientName = BadClientName
+fault_by fault.LongClientName = LongClientName
 fault_by fault.NoPassword = NoPassword
 fault_by fault.WrongPassword = WrongPassword
 fault_by fault.NegativeKeys = NegativeKeys

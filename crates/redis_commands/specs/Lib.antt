@@ -1,8 +1,11 @@
 pub mod Names
 pub mod Numbers
 pub mod Commands
-pub mod Table
+pub mod Words
+pub mod Deadlines
 pub mod Options
+pub mod Table
+pub mod Reading
 pub mod Limits
 pub mod Texts
 pub mod Matching

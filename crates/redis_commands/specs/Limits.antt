@@ -1,8 +1,10 @@
--- Commands whose keys and values are within the limits.
+-- Commands whose keys, values and clients' names are within the limits.
 use Rattle.std.specs.Prelude.{◌≡◌, ℕ, ◌≤◌, List, [], ◌∷◌, length, All, IfSome}
 use Rattle.bpf_model.specs.declared.limits.TheConstants.{KEY_BYTES, VALUE_BYTES}
-use Rattle.redis_commands.specs.Commands.{Asked, ProgramAsked}
-use Rattle.redis_commands.specs.Commands.Asked.{OnKey, OnKeys, SetEach, Program}
+use Rattle.redis_commands.specs.declared.command.TheConstants.{NAME_BYTES}
+use Rattle.redis_commands.specs.Commands.{Asked, ConnectionAsked, ProgramAsked}
+use Rattle.redis_commands.specs.Commands.Asked.{OnKey, OnKeys, SetEach, Connection, Program}
+use Rattle.redis_commands.specs.Commands.ConnectionAsked.{Hello, SetClientName}
 use Rattle.redis_commands.specs.Commands.ProgramAsked.{Call, Eval}
 use Rattle.redis_commands.specs.Table.{longest}
 
@@ -19,14 +21,23 @@ ArePairs (key ∷ []) = ⊥
 ArePairs (key ∷ value ∷ more) = IsKey key × IsValue value × ArePairs more
 
 abbrev pub IsProgramWithin : ProgramAsked → Type 0
-IsProgramWithin (Call digest key argument) = (length digest ≡ 40) × IsKey key × IfSome argument IsValue
-IsProgramWithin (Eval script key argument) = IsKey key × IfSome argument IsValue
+IsProgramWithin (Call digest key arguments) = (length digest ≡ 40) × IsKey key × All IsValue arguments
+IsProgramWithin (Eval script key arguments) = IsKey key × All IsValue arguments
 IsProgramWithin program = Unit {0}
 
--- each key is within its limit, and each value that is named or that a range makes
+abbrev pub IsName : List ℕ → Type 0
+IsName name = length name ≤ NAME_BYTES
+
+abbrev pub IsConnectionWithin : ConnectionAsked → Type 0
+IsConnectionWithin (Hello name) = IfSome name IsName
+IsConnectionWithin (SetClientName name) = IsName name
+IsConnectionWithin connection = Unit {0}
+
+-- each key is within its limit, each value that is named or that a range makes, and a client's name
 abbrev pub IsWithinLimits : Asked → Type 0
 IsWithinLimits (OnKey key act) = IsKey key × (longest act ≤ VALUE_BYTES)
 IsWithinLimits (OnKeys keys act) = All IsKey keys
 IsWithinLimits (SetEach words) = ArePairs words
+IsWithinLimits (Connection connection) = IsConnectionWithin connection
 IsWithinLimits (Program program) = IsProgramWithin program
 IsWithinLimits asked = Unit {0}

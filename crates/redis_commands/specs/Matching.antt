@@ -1,5 +1,5 @@
 -- Patterns of keys, as Redis reads them: `*`, `?`, `[abc]`, `[^a]`, `[a-z]`, and `\` before a byte that means itself.
-use Rattle.std.specs.Prelude.{ℕ, zero, suc, ◌+◌, Bool, true, false, ◌&&◌, ◌||◌, not, List, [], ◌∷◌, length, nat_eq, nat_le, min, max, if◌then◌else◌}
+use Rattle.std.specs.Prelude.{ℕ, zero, suc, ◌+◌, Bool, true, false, ◌&&◌, ◌||◌, not, List, [], ◌∷◌, length, codes, nat_eq, nat_le, min, max, bytes_eq, if◌then◌else◌}
 
 -- ---- classes, as `[a-z]`: what is after the `[`, or after `[^`, up to the end of the pattern
 
@@ -121,5 +121,7 @@ stand_for [] text = is_nil text
 stand_for (AnyBytes ∷ pieces) text = some_suffix (stand_for pieces) text
 stand_for (piece ∷ pieces) text = then_text piece (stand_for pieces) text
 
+-- the text matches the pattern; the empty text, the empty pattern and `*` alone
 abbrev pub matches : List ℕ → List ℕ → Bool
-matches pattern text = stand_for (pieces_after 0 pattern) text
+matches pattern [] = is_nil pattern || bytes_eq pattern (codes "*")
+matches pattern (b ∷ text) = stand_for (pieces_after 0 pattern) (b ∷ text)

@@ -28,10 +28,20 @@ key_name_text k.Set = codes "set"
 key_name_text k.SetNx = codes "setnx"
 key_name_text k.GetSet = codes "getset"
 key_name_text k.GetDel = codes "getdel"
-key_name_text k.StrLen = codes "strlen"
-key_name_text k.Type = codes "type"
+key_name_text k.SetEx = codes "setex"
+key_name_text k.PsetEx = codes "psetex"
+key_name_text k.GetEx = codes "getex"
+key_name_text k.Expire = codes "expire"
+key_name_text k.Pexpire = codes "pexpire"
+key_name_text k.ExpireAt = codes "expireat"
+key_name_text k.PexpireAt = codes "pexpireat"
+key_name_text k.Persist = codes "persist"
 key_name_text k.Ttl = codes "ttl"
 key_name_text k.Pttl = codes "pttl"
+key_name_text k.ExpireTime = codes "expiretime"
+key_name_text k.PexpireTime = codes "pexpiretime"
+key_name_text k.StrLen = codes "strlen"
+key_name_text k.Type = codes "type"
 key_name_text k.Incr = codes "incr"
 key_name_text k.Decr = codes "decr"
 key_name_text k.IncrBy = codes "incrby"
@@ -126,10 +136,20 @@ key_arity k.Set = AtLeast 2
 key_arity k.SetNx = Exactly 2
 key_arity k.GetSet = Exactly 2
 key_arity k.GetDel = Exactly 1
-key_arity k.StrLen = Exactly 1
-key_arity k.Type = Exactly 1
+key_arity k.SetEx = Exactly 3
+key_arity k.PsetEx = Exactly 3
+key_arity k.GetEx = AtLeast 1
+key_arity k.Expire = AtLeast 2
+key_arity k.Pexpire = AtLeast 2
+key_arity k.ExpireAt = AtLeast 2
+key_arity k.PexpireAt = AtLeast 2
+key_arity k.Persist = Exactly 1
 key_arity k.Ttl = Exactly 1
 key_arity k.Pttl = Exactly 1
+key_arity k.ExpireTime = Exactly 1
+key_arity k.PexpireTime = Exactly 1
+key_arity k.StrLen = Exactly 1
+key_arity k.Type = Exactly 1
 key_arity k.Incr = Exactly 1
 key_arity k.Decr = Exactly 1
 key_arity k.IncrBy = Exactly 2
@@ -139,6 +159,20 @@ key_arity k.GetRange = Exactly 3
 key_arity k.Substr = Exactly 3
 key_arity k.SetRange = Exactly 3
 key_arity k.DelIfEq = Exactly 2
+
+-- it sets a value with its deadline or a deadline alone, or tells it
+abbrev pub IsOfDeadlines : KeyName → Type 0
+IsOfDeadlines k.SetEx = Unit {0}
+IsOfDeadlines k.PsetEx = Unit {0}
+IsOfDeadlines k.Expire = Unit {0}
+IsOfDeadlines k.Pexpire = Unit {0}
+IsOfDeadlines k.ExpireAt = Unit {0}
+IsOfDeadlines k.PexpireAt = Unit {0}
+IsOfDeadlines k.Ttl = Unit {0}
+IsOfDeadlines k.Pttl = Unit {0}
+IsOfDeadlines k.ExpireTime = Unit {0}
+IsOfDeadlines k.PexpireTime = Unit {0}
+IsOfDeadlines name = ⊥
 
 abbrev pub walk_arity : WalkName → Arity
 walk_arity w.DbSize = Exactly 0
@@ -198,8 +232,9 @@ is_allowed (AtMost n) count = nat_le count n
 -- all names; those that clients send most come first
 abbrev pub all_names : List Name
 all_names =
-    map Key (k.Get ∷ k.Set ∷ k.Incr ∷ k.IncrBy ∷ k.Decr ∷ k.DecrBy ∷ k.SetNx ∷ k.GetSet ∷ k.GetDel ∷ k.StrLen ∷ k.Append
-    ∷ k.GetRange ∷ k.SetRange ∷ k.Substr ∷ k.Type ∷ k.Ttl ∷ k.Pttl ∷ k.DelIfEq ∷ [])
+    map Key (k.Get ∷ k.Set ∷ k.Incr ∷ k.IncrBy ∷ k.Decr ∷ k.DecrBy ∷ k.SetNx ∷ k.SetEx ∷ k.GetEx ∷ k.GetSet ∷ k.GetDel
+    ∷ k.StrLen ∷ k.Append ∷ k.GetRange ∷ k.SetRange ∷ k.Substr ∷ k.Expire ∷ k.Pexpire ∷ k.PsetEx ∷ k.ExpireAt ∷ k.PexpireAt
+    ∷ k.Type ∷ k.Ttl ∷ k.Pttl ∷ k.ExpireTime ∷ k.PexpireTime ∷ k.DelIfEq ∷ k.Persist ∷ [])
     ++ map Keys (ks.Mget ∷ ks.Mset ∷ ks.Del ∷ ks.Unlink ∷ ks.Exists ∷ ks.Touch ∷ [])
     ++ map Walk (w.DbSize ∷ w.Scan ∷ w.Keys ∷ w.RandomKey ∷ w.FlushAll ∷ w.FlushDb ∷ [])
     ++ map Connection (c.Ping ∷ c.Echo ∷ c.Quit ∷ c.Select ∷ c.Hello ∷ c.Auth ∷ c.Info ∷ c.Reset ∷ [])

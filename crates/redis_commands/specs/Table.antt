@@ -1,7 +1,6 @@
 -- The table of the commands: what the arguments of each one ask for. How many there may be says `arity_of`.
-use Rattle.std.specs.Prelude.{ℕ, zero, suc, ◌+◌, ◌%◌, Bool, true, false, ◌&&◌, ◌||◌, not, List, [], ◌∷◌, length, drop, get_or, codes, ℤ, pos, negsuc, neg_ℤ, Option, Some, None, Result, Ok, Err, nat_eq, nat_lt, max, bytes_eq, if◌then◌else◌}
-use Rattle.std.specs.Str.{str_eq_ignore_ascii_case}
-use Rattle.std.specs.Char.{is_ascii_graphic}
+use Rattle.std.specs.Prelude.{ℕ, zero, suc, ◌+◌, ◌%◌, Bool, false, ◌||◌, not, List, [], ◌∷◌, length, drop, codes, ℤ, pos, negsuc, neg_ℤ, Option, Some, None, Result, Ok, Err, unwrap_or, nat_eq, nat_lt, max, if◌then◌else◌}
+use Rattle.std.specs.List.{list_any}
 use Rattle.bpf_model.specs.declared.limits.TheConstants.{KEY_BYTES, VALUE_BYTES}
 use Rattle.redis_commands.specs.declared.name.Name.{Name}
 use Rattle.redis_commands.specs.declared.name.Name.TheVariants as n
@@ -21,46 +20,32 @@ use Rattle.redis_commands.specs.declared.name.Sub.TheVariants as s
 use Rattle.redis_commands.specs.declared.command.KeysAct.{KeysAct}
 use Rattle.redis_commands.specs.declared.command.KeysAct.TheVariants.{GetEach, Delete, CountPresent}
 use Rattle.redis_commands.specs.Names.{named, arity_of, is_allowed, sub_named, sub_arity}
+use Rattle.redis_commands.specs.declared.command.Lifetime.TheVariants as life
+use Rattle.redis_commands.specs.declared.command.ExpireRule.{ExpireRule}
+use Rattle.redis_commands.specs.declared.command.TimeUnit.{TimeUnit}
+use Rattle.redis_commands.specs.declared.command.TimeUnit.TheVariants.{Seconds, Millis}
+use Rattle.redis_commands.specs.declared.command.TimeForm.{TimeForm}
+use Rattle.redis_commands.specs.declared.command.TimeForm.TheVariants as form
 use Rattle.redis_commands.specs.Numbers.{integer_of, natural_of, fits_64, fits_32}
-use Rattle.redis_commands.specs.Commands.{Asked, Act, WalkAsked, ConnectionAsked, ProgramAsked, Condition, Fault}
+use Rattle.redis_commands.specs.Words.{word, is, given, number, number_from_0}
+use Rattle.redis_commands.specs.Deadlines.{deadline, deadline_above_0, rule_of}
+use Rattle.redis_commands.specs.Options.{set_options, lifetime, scan_options, short_name, client_name, is_default, hello_options}
+use Rattle.redis_commands.specs.Options.Term.{Same, Endless}
+use Rattle.redis_commands.specs.Commands.{Asked, Act, WalkAsked, ConnectionAsked, ProgramAsked, Fault}
 use Rattle.redis_commands.specs.Commands.Asked.{OnKey, OnKeys, SetEach, Walk, Connection, Program}
-use Rattle.redis_commands.specs.Commands.Act.{Get, Set, SetIfAbsent, GetAndSet, GetAndDelete, Length, TypeName, TimeToLive, Add, Append, GetRange, SetRange, DeleteIfEqual}
+use Rattle.redis_commands.specs.Commands.Act.{Get, Set, SetIfAbsent, GetAndSet, GetAndDelete, Length, TypeName, GetAndExpire, Expire, Persist, TimeLeft, Add, Append, GetRange, SetRange, DeleteIfEqual}
 use Rattle.redis_commands.specs.Commands.WalkAsked.{CountAll, Scan, Keys, RandomKey, RemoveAll}
 use Rattle.redis_commands.specs.Commands.ConnectionAsked.{Ping, Echo, Quit, Select, Hello, Auth, ClientId, ClientName, SetClientName, SetClientInfo, ClientList, Commands, CommandCount, CommandDocs, Config, Info, Reset}
 use Rattle.redis_commands.specs.Commands.ProgramAsked.{Load, Exists, Call, Eval}
-use Rattle.redis_commands.specs.Commands.Condition.{Always, IfAbsent, IfPresent, IfEqual}
-use Rattle.redis_commands.specs.Commands.Fault.{UnknownCommand, UnknownSub, WrongCount, WrongSubCount, Syntax, NotAnInteger, DecrementOverflow, OffsetOutOfRange, LongKey, LongValue, Deadline, BadCursor, BadIndex, WideIndex, BadVersion, NoProtocol, HelloOption, BadClientName, NoPassword, WrongPassword, NegativeKeys, TooManyKeys, ScriptShape, NoScript, WebRequest}
-
--- ---- words
-
--- the argument at this place, counted from 0
-abbrev pub word : ℕ → List (List ℕ) → List ℕ
-word i args = get_or args i []
-
--- a word is this one, in any case
-abbrev pub is : List ℕ → List ℕ → Bool
-is name word = str_eq_ignore_ascii_case name word
-
--- goes on with the value, if there is one
-abbrev pub given : {A B : Type 0} → Result A Fault → (A → Result B Fault) → Result B Fault
-given (Ok value) rest = rest value
-given (Err fault) rest = Err fault
-
--- a number of 64 bits
-abbrev pub number : List ℕ → Result ℤ Fault
-number text = elim (integer_of text) [ None ↦ Err NotAnInteger | Some n ↦ Ok n ]
-
--- the number, if it is not below 0
-abbrev pub number_from_0 : Fault → ℤ → Result ℕ Fault
-number_from_0 fault (pos n) = Ok n
-number_from_0 fault (negsuc n) = Err fault
+use Rattle.redis_commands.specs.Commands.Condition.{Always, IfEqual}
+use Rattle.redis_commands.specs.Commands.Fault.{UnknownCommand, UnknownSub, WrongCount, WrongSubCount, Syntax, DecrementOverflow, OffsetOutOfRange, LongKey, LongValue, BadCursor, BadIndex, WideIndex, BadVersion, NoProtocol, NoPassword, WrongPassword, NegativeKeys, TooManyKeys, ScriptShape, NoScript, WebRequest}
 
 -- ---- commands of one key
 
 -- the longest value that an act names or makes
 abbrev pub longest : Act → ℕ
-longest (Set value (IfEqual expected) wants_old) = max (length value) (length expected)
-longest (Set value condition wants_old) = length value
+longest (Set value (IfEqual expected) wants_old lifetime) = max (length value) (length expected)
+longest (Set value condition wants_old lifetime) = length value
 longest (SetIfAbsent value) = length value
 longest (GetAndSet value) = length value
 longest (Append value) = length value
@@ -79,76 +64,61 @@ on_key key act =
 abbrev pub turned : ℤ → Result ℤ Fault
 turned n = if fits_64 (neg_ℤ n) then Ok (neg_ℤ n) else Err DecrementOverflow
 
--- `SET`: its options, in any order
-pub record SetOptions : Type 0 where
-  pub condition : Condition
-  pub wants_old : Bool
+-- a value that stays for this number of seconds or milliseconds
+abbrev pub set_for : KeyName → ℕ → TimeUnit → List (List ℕ) → Result Asked Fault
+set_for name now unit args =
+    given (number (word 1 args)) (λ time. given (deadline_above_0 (n.Key name) now unit form.Left time)
+    (λ at. on_key (word 0 args) (Set (word 2 args) Always false (life.Until at))))
 
--- one condition may be given; NX and XX also twice
-abbrev pub may_follow : Condition → Condition → Bool
-may_follow Always new = true
-may_follow IfAbsent IfAbsent = true
-may_follow IfPresent IfPresent = true
-may_follow old new = false
+-- the deadline that a number tells, by this rule
+abbrev pub expire_by : KeyName → ℕ → TimeUnit → TimeForm → ExpireRule → List (List ℕ) → Result Asked Fault
+expire_by name now unit form rule args =
+    given (number (word 1 args)) (λ time. given (deadline (n.Key name) now unit form time)
+    (λ at. on_key (word 0 args) (Expire at rule)))
 
-abbrev pub with_condition : SetOptions → Condition → Result SetOptions Fault
-with_condition options new =
-    if may_follow options.condition new then Ok (record options { condition = new }) else Err Syntax
+-- the same, by the rule that the words after the number say
+abbrev pub expire : KeyName → ℕ → TimeUnit → TimeForm → List (List ℕ) → Result Asked Fault
+expire name now unit form args = given (rule_of (drop 2 args)) (λ rule. expire_by name now unit form rule args)
 
-abbrev pub is_deadline : List ℕ → Bool
-is_deadline option = is (codes "ex") option || is (codes "px") option || is (codes "exat") option || is (codes "pxat") option
-
-abbrev pub has_value : List ℕ → Bool
-has_value option = is (codes "ifeq") option || is_deadline option
-
--- an option and its value; there are no deadlines
-abbrev pub with_valued : SetOptions → List ℕ → List ℕ → Result SetOptions Fault
-with_valued options option value =
-    if is (codes "ifeq") option then with_condition options (IfEqual value) else Err Deadline
-
--- an option without a value
-abbrev pub with_flag : SetOptions → List ℕ → Result SetOptions Fault
-with_flag options option =
-    if is (codes "nx") option then with_condition options IfAbsent
-    else (if is (codes "xx") option then with_condition options IfPresent
-    else (if is (codes "get") option then Ok (record options { wants_old = true })
-    else (if is (codes "keepttl") option then Ok options else Err Syntax)))
-
-abbrev pub with_options : SetOptions → List (List ℕ) → Result SetOptions Fault
-with_options options [] = Ok options
-with_options options (option ∷ []) = with_flag options option
-with_options options (option ∷ value ∷ more) =
-    if has_value option then given (with_valued options option value) (λ next. with_options next more)
-    else given (with_flag options option) (λ next. with_options next (value ∷ more))
-
-abbrev pub no_options : SetOptions
-no_options = record { condition = Always; wants_old = false }
-
-abbrev pub asked_of_key : KeyName → List (List ℕ) → Result Asked Fault
-asked_of_key k.Get args = on_key (word 0 args) Get
-asked_of_key k.Set args =
-    given (with_options no_options (drop 2 args)) (λ o. on_key (word 0 args) (Set (word 1 args) o.condition o.wants_old))
-asked_of_key k.SetNx args = on_key (word 0 args) (SetIfAbsent (word 1 args))
-asked_of_key k.GetSet args = on_key (word 0 args) (GetAndSet (word 1 args))
-asked_of_key k.GetDel args = on_key (word 0 args) GetAndDelete
-asked_of_key k.StrLen args = on_key (word 0 args) Length
-asked_of_key k.Type args = on_key (word 0 args) TypeName
-asked_of_key k.Ttl args = on_key (word 0 args) TimeToLive
-asked_of_key k.Pttl args = on_key (word 0 args) TimeToLive
-asked_of_key k.Incr args = on_key (word 0 args) (Add (pos 1))
-asked_of_key k.Decr args = on_key (word 0 args) (Add (negsuc 0))
-asked_of_key k.IncrBy args = given (number (word 1 args)) (λ by. on_key (word 0 args) (Add by))
-asked_of_key k.DecrBy args =
+-- at the time `now`
+abbrev pub asked_of_key : ℕ → KeyName → List (List ℕ) → Result Asked Fault
+asked_of_key now k.Get args = on_key (word 0 args) Get
+asked_of_key now k.Set args =
+    given (set_options k.Set (drop 2 args)) (λ o. given (lifetime k.Set now (unwrap_or o.term Endless))
+    (λ lifetime. on_key (word 0 args) (Set (word 1 args) o.condition o.wants_old lifetime)))
+asked_of_key now k.SetNx args = on_key (word 0 args) (SetIfAbsent (word 1 args))
+asked_of_key now k.SetEx args = set_for k.SetEx now Seconds args
+asked_of_key now k.PsetEx args = set_for k.PsetEx now Millis args
+asked_of_key now k.GetSet args = on_key (word 0 args) (GetAndSet (word 1 args))
+asked_of_key now k.GetDel args = on_key (word 0 args) GetAndDelete
+asked_of_key now k.GetEx args =
+    given (set_options k.GetEx (drop 1 args)) (λ o. given (lifetime k.GetEx now (unwrap_or o.term Same))
+    (λ lifetime. on_key (word 0 args) (GetAndExpire lifetime)))
+asked_of_key now k.Expire args = expire k.Expire now Seconds form.Left args
+asked_of_key now k.Pexpire args = expire k.Pexpire now Millis form.Left args
+asked_of_key now k.ExpireAt args = expire k.ExpireAt now Seconds form.Until args
+asked_of_key now k.PexpireAt args = expire k.PexpireAt now Millis form.Until args
+asked_of_key now k.Persist args = on_key (word 0 args) Persist
+asked_of_key now k.Ttl args = on_key (word 0 args) (TimeLeft Seconds form.Left)
+asked_of_key now k.Pttl args = on_key (word 0 args) (TimeLeft Millis form.Left)
+asked_of_key now k.ExpireTime args = on_key (word 0 args) (TimeLeft Seconds form.Until)
+asked_of_key now k.PexpireTime args = on_key (word 0 args) (TimeLeft Millis form.Until)
+asked_of_key now k.StrLen args = on_key (word 0 args) Length
+asked_of_key now k.Type args = on_key (word 0 args) TypeName
+asked_of_key now k.Incr args = on_key (word 0 args) (Add (pos 1))
+asked_of_key now k.Decr args = on_key (word 0 args) (Add (negsuc 0))
+asked_of_key now k.IncrBy args = given (number (word 1 args)) (λ by. on_key (word 0 args) (Add by))
+asked_of_key now k.DecrBy args =
     given (number (word 1 args)) (λ n. given (turned n) (λ by. on_key (word 0 args) (Add by)))
-asked_of_key k.Append args = on_key (word 0 args) (Append (word 1 args))
-asked_of_key k.GetRange args =
+asked_of_key now k.Append args = on_key (word 0 args) (Append (word 1 args))
+asked_of_key now k.GetRange args =
     given (number (word 1 args)) (λ start. given (number (word 2 args)) (λ end. on_key (word 0 args) (GetRange start end)))
-asked_of_key k.Substr args =
+asked_of_key now k.Substr args =
     given (number (word 1 args)) (λ start. given (number (word 2 args)) (λ end. on_key (word 0 args) (GetRange start end)))
-asked_of_key k.SetRange args =
+asked_of_key now k.SetRange args =
     given (number (word 1 args)) (λ n. given (number_from_0 OffsetOutOfRange n)
     (λ offset. on_key (word 0 args) (SetRange offset (word 2 args))))
-asked_of_key k.DelIfEq args = on_key (word 0 args) (DeleteIfEqual (word 1 args))
+asked_of_key now k.DelIfEq args = on_key (word 0 args) (DeleteIfEqual (word 1 args))
 
 -- ---- commands of several keys
 
@@ -182,34 +152,6 @@ asked_of_keys ks.Touch args = on_keys args CountPresent
 
 -- ---- commands of the whole map
 
--- `SCAN`: its options, in any order; of several of one kind the last one holds
-pub record ScanOptions : Type 0 where
-  pub pattern : Option (List ℕ)
-  pub count : ℕ
-  pub is_string : Bool
-
--- a number of keys, which is at least 1
-abbrev pub count_of : ℤ → Result ℕ Fault
-count_of (pos zero) = Err Syntax
-count_of (pos (suc n)) = Ok (suc n)
-count_of (negsuc n) = Err Syntax
-
-abbrev pub with_scan_option : ScanOptions → List ℕ → List ℕ → Result ScanOptions Fault
-with_scan_option options option value =
-    if is (codes "match") option then Ok (record options { pattern = Some value })
-    else (if is (codes "count") option then given (number value) (λ n. given (count_of n) (λ count. Ok (record options { count = count })))
-    else (if is (codes "type") option then Ok (record options { is_string = is (codes "string") value }) else Err Syntax))
-
-abbrev pub with_scan_options : ScanOptions → List (List ℕ) → Result ScanOptions Fault
-with_scan_options options [] = Ok options
-with_scan_options options (option ∷ []) = Err Syntax
-with_scan_options options (option ∷ value ∷ more) =
-    given (with_scan_option options option value) (λ next. with_scan_options next more)
-
--- ten keys at a step, if no other count is given
-abbrev pub no_scan_options : ScanOptions
-no_scan_options = record { pattern = None; count = 10; is_string = true }
-
 abbrev pub cursor_of : List ℕ → Result ℕ Fault
 cursor_of text = elim (natural_of text) [ None ↦ Err BadCursor | Some cursor ↦ Ok cursor ]
 
@@ -221,7 +163,7 @@ flush options = Err Syntax
 
 abbrev pub scan : List (List ℕ) → Result WalkAsked Fault
 scan args =
-    given (cursor_of (word 0 args)) (λ cursor. given (with_scan_options no_scan_options (drop 1 args))
+    given (cursor_of (word 0 args)) (λ cursor. given (scan_options (drop 1 args))
     (λ o. Ok (Scan cursor o.pattern o.count o.is_string)))
 
 abbrev pub walk_of : WalkName → List (List ℕ) → Result WalkAsked Fault
@@ -234,39 +176,13 @@ walk_of w.FlushDb args = flush args
 
 -- ---- commands of the connection
 
--- a client's name: bytes from `!` to `~`
-abbrev pub is_client_name : List ℕ → Bool
-is_client_name [] = true
-is_client_name (b ∷ bytes) = is_ascii_graphic b && is_client_name bytes
-
--- `HELLO`: the client's name, if one is given, and whether another user than Redis' own is named
-pub record HelloOptions : Type 0 where
-  pub name : Option (List ℕ)
-  pub is_stranger : Bool
-
-abbrev pub with_name : HelloOptions → List ℕ → List ℕ → Result HelloOptions Fault
-with_name options option name =
-    if is (codes "setname") option then
-    (if is_client_name name then Ok (record options { name = Some name }) else Err BadClientName)
-    else Err (HelloOption option)
-
-abbrev pub is_default : List ℕ → Bool
-is_default user = bytes_eq user (codes "default")
-
-abbrev pub with_hello_options : HelloOptions → List (List ℕ) → Result HelloOptions Fault
-with_hello_options options [] = Ok options
-with_hello_options options (option ∷ []) = Err (HelloOption option)
-with_hello_options options (option ∷ value ∷ []) = with_name options option value
-with_hello_options options (option ∷ value ∷ password ∷ more) =
-    if is (codes "auth") option then with_hello_options (record options { is_stranger = not (is_default value) }) more
-    else given (with_name options option value) (λ next. with_hello_options next (password ∷ more))
-
-abbrev pub no_hello_options : HelloOptions
-no_hello_options = record { name = None; is_stranger = false }
-
 abbrev pub is_two : ℤ → Bool
 is_two (pos n) = nat_eq n 2
 is_two (negsuc n) = false
+
+abbrev pub hello_as : Option (List ℕ) → Result ConnectionAsked Fault
+hello_as None = Ok (Hello None)
+hello_as (Some name) = given (short_name name) (λ name. Ok (Hello (Some name)))
 
 -- version 2, or none
 abbrev pub hello : List (List ℕ) → Result ConnectionAsked Fault
@@ -274,8 +190,8 @@ hello [] = Ok (Hello None)
 hello (version ∷ options) = elim (integer_of version) [
   | None ↦ Err BadVersion
   | Some n ↦ if is_two n then
-      given (with_hello_options no_hello_options options)
-      (λ o. if o.is_stranger then Err WrongPassword else Ok (Hello o.name))
+      given (hello_options options)
+      (λ o. if o.is_stranger then Err WrongPassword else hello_as o.name)
       else Err NoProtocol
 ]
 
@@ -306,20 +222,17 @@ connection_of c.Reset args = Ok Reset
 
 -- ---- commands of programs
 
--- the one key of a program and its argument or none, if they are within the limits
-abbrev pub call_of : List (List ℕ) → Result (List ℕ × Option (List ℕ)) Fault
-call_of (key ∷ []) = if nat_lt KEY_BYTES (length key) then Err LongKey else Ok (key, None)
-call_of (key ∷ argument ∷ []) =
-    if nat_lt KEY_BYTES (length key) then Err LongKey
-    else (if nat_lt VALUE_BYTES (length argument) then Err LongValue else Ok (key, Some argument))
-call_of words = Err ScriptShape
+abbrev pub has_long_value : List (List ℕ) → Bool
+has_long_value arguments = list_any (λ argument. nat_lt VALUE_BYTES (length argument)) arguments
 
--- this number of the words are said to be keys
-abbrev pub call_with : ℤ → List (List ℕ) → Result (List ℕ × Option (List ℕ)) Fault
+-- the one key of a program and its arguments, if they are within the limits; this number of the words are said to be keys
+abbrev pub call_with : ℤ → List (List ℕ) → Result (List ℕ × List (List ℕ)) Fault
 call_with (negsuc n) words = Err NegativeKeys
 call_with (pos n) words =
     if nat_lt (length words) n then Err TooManyKeys
-    else (if nat_eq n 1 then call_of words else Err ScriptShape)
+    else (if not (nat_eq n 1) then Err ScriptShape
+    else (if nat_lt KEY_BYTES (length (word 0 words)) then Err LongKey
+    else (if has_long_value (drop 1 words) then Err LongValue else Ok (word 0 words, drop 1 words))))
 
 abbrev pub program_of : ProgramName → List (List ℕ) → Result ProgramAsked Fault
 program_of p.Eval args =
@@ -334,8 +247,7 @@ program_of p.EvalSha args =
 abbrev pub asked_of_sub : Sub → List (List ℕ) → Result Asked Fault
 asked_of_sub s.ClientId args = Ok (Connection ClientId)
 asked_of_sub s.ClientGetName args = Ok (Connection ClientName)
-asked_of_sub s.ClientSetName args =
-    if is_client_name (word 0 args) then Ok (Connection (SetClientName (word 0 args))) else Err BadClientName
+asked_of_sub s.ClientSetName args = given (client_name (word 0 args)) (λ name. Ok (Connection (SetClientName name)))
 asked_of_sub s.ClientSetInfo args = Ok (Connection SetClientInfo)
 asked_of_sub s.ClientList [] = Ok (Connection ClientList)
 asked_of_sub s.ClientList (option ∷ options) = Err Syntax
@@ -356,22 +268,22 @@ asked_of_parent parent (first ∷ args) = elim (sub_named parent first) [
 
 -- ---- all commands
 
-abbrev pub asked_as : Name → List (List ℕ) → Result Asked Fault
-asked_as (n.Key name) args = asked_of_key name args
-asked_as (n.Keys name) args = asked_of_keys name args
-asked_as (n.Walk name) args = given (walk_of name args) (λ walk. Ok (Walk walk))
-asked_as (n.Connection name) args = given (connection_of name args) (λ connection. Ok (Connection connection))
-asked_as (n.Program name) args = given (program_of name args) (λ program. Ok (Program program))
-asked_as (n.Parent parent) args = asked_of_parent parent args
+abbrev pub asked_as : ℕ → Name → List (List ℕ) → Result Asked Fault
+asked_as now (n.Key name) args = asked_of_key now name args
+asked_as now (n.Keys name) args = asked_of_keys name args
+asked_as now (n.Walk name) args = given (walk_of name args) (λ walk. Ok (Walk walk))
+asked_as now (n.Connection name) args = given (connection_of name args) (λ connection. Ok (Connection connection))
+asked_as now (n.Program name) args = given (program_of name args) (λ program. Ok (Program program))
+asked_as now (n.Parent parent) args = asked_of_parent parent args
 
 -- a line of a browser's request begins so
 abbrev pub is_web : List ℕ → Bool
 is_web first = is (codes "post") first || is (codes "host:") first
 
--- what words ask for; the first one names a command
-abbrev pub asked_of : List (List ℕ) → Result Asked Fault
-asked_of [] = Err (UnknownCommand [] [])
-asked_of (first ∷ args) = elim (named first) [
+-- what words ask for at the time `now`, in milliseconds since the epoch; the first one names a command
+abbrev pub asked_of : ℕ → List (List ℕ) → Result Asked Fault
+asked_of now [] = Err (UnknownCommand [] [])
+asked_of now (first ∷ args) = elim (named first) [
   | None ↦ if is_web first then Err WebRequest else Err (UnknownCommand first args)
-  | Some name ↦ if is_allowed (arity_of name) (length args) then asked_as name args else Err (WrongCount name)
+  | Some name ↦ if is_allowed (arity_of name) (length args) then asked_as now name args else Err (WrongCount name)
 ]

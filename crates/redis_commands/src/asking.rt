@@ -1,18 +1,18 @@
 //! Words, and what they ask for.
-ghost use Rattle.std.specs.Prelude.{◌≡◌, ◌≤◌, true, IfOk, IfSome, length, if◌then◌else◌};
+ghost use Rattle.std.specs.Prelude.{◌≡◌, ◌≤◌, true, All, IfOk, length, if◌then◌else◌};
 ghost use Rattle.redis_commands.specs.Names.{walk_arity, connection_arity, sub_arity, arity_of, is_allowed};
-ghost use Rattle.redis_commands.specs.Commands.{answer_by, fault_by, asked_by, walk_by, connection_by, program_by, texts, text};
+ghost use Rattle.redis_commands.specs.Commands.{answer_by, fault_by, asked_by, walk_by, connection_by, program_by, text, texts};
 ghost use Rattle.redis_commands.specs.Commands.Fault.{UnknownCommand, WebRequest};
-ghost use Rattle.redis_commands.specs.Options.{read_by, natural_by, call_by};
-ghost use Rattle.redis_commands.specs.Table.{cursor_of, flush, scan, walk_of, hello, auth, select, connection_of, call_of, call_with, program_of, asked_of_sub, asked_of_parent, asked_as, asked_of, is_web};
-ghost use Rattle.redis_commands.specs.Limits.{IsWithinLimits, IsProgramWithin, IsKey, IsValue};
+ghost use Rattle.redis_commands.specs.Reading.{read_by, natural_by, call_by};
+ghost use Rattle.redis_commands.specs.Table.{cursor_of, flush, scan, walk_of, hello_as, hello, auth, select, connection_of, has_long_value, call_with, program_of, asked_of_sub, asked_of_parent, asked_as, asked_of, is_web};
+ghost use Rattle.redis_commands.specs.Limits.{IsWithinLimits, IsConnectionWithin, IsProgramWithin, IsKey, IsValue};
 
 use crate::command::{Command, ConnectionCommand, ProgramCommand, WalkCommand};
 use crate::fault::CommandFault;
 use crate::keyed::{Answer, key_command, keys_command, word};
 use crate::name::{ConnectionName, Name, Parent, ProgramName, Sub, WalkName, is};
 use crate::number::{integer, natural};
-use crate::options::{HelloOptions, ScanOptions, is_client_name, is_default, number};
+use crate::options::{HelloOptions, ScanOptions, client_name, is_default, number, short_name};
 use bpf_model::limits::{KEY_BYTES, VALUE_BYTES};
 
 /// Reads the cursor of `SCAN`.
@@ -73,9 +73,24 @@ fn walk_command<'a>(
     }
 }
 
+/// Returns what `HELLO` asks for that gives the client this name, or none.
+fn hello_as<'a>(name: Option<&'a [u8]>) -> Result<ConnectionCommand<'a>, CommandFault<'a>>
+    ensures asked { read_by connection_by result ≡ hello_as (text name.entry) }
+    ensures limits { IfOk result (λ c. IsConnectionWithin (connection_by c)) }
+{
+    match name {
+        None => Ok(ConnectionCommand::Hello { name: None }),
+        Some(name) => {
+            let name = short_name(name)?;
+            Ok(ConnectionCommand::Hello { name: Some(name) })
+        }
+    }
+}
+
 /// Returns what the arguments of `HELLO` ask for.
 fn hello<'a>(args: &'a [&'a [u8]]) -> Result<ConnectionCommand<'a>, CommandFault<'a>>
-    ensures { read_by connection_by result ≡ hello (texts args.now) }
+    ensures asked { read_by connection_by result ≡ hello (texts args.now) }
+    ensures limits { IfOk result (λ c. IsConnectionWithin (connection_by c)) }
 {
     let [version, options @ ..] = args else {
         return Ok(ConnectionCommand::Hello { name: None });
@@ -90,12 +105,13 @@ fn hello<'a>(args: &'a [&'a [u8]]) -> Result<ConnectionCommand<'a>, CommandFault
     if options.is_stranger {
         return Err(CommandFault::WrongPassword);
     }
-    Ok(ConnectionCommand::Hello { name: options.name })
+    hello_as(options.name)
 }
 
 /// Returns what the arguments of `AUTH` ask for.
 fn auth<'a>(args: &'a [&'a [u8]]) -> Result<ConnectionCommand<'a>, CommandFault<'a>>
-    ensures { read_by connection_by result ≡ auth (texts args.now) }
+    ensures asked { read_by connection_by result ≡ auth (texts args.now) }
+    ensures limits { IfOk result (λ c. IsConnectionWithin (connection_by c)) }
 {
     match args {
         [_] => Err(CommandFault::NoPassword),
@@ -112,7 +128,8 @@ fn auth<'a>(args: &'a [&'a [u8]]) -> Result<ConnectionCommand<'a>, CommandFault<
 
 /// Selects the map of this number: there is number 0 alone.
 fn select<'a>(n: i64) -> Result<ConnectionCommand<'a>, CommandFault<'a>>
-    ensures { read_by connection_by result ≡ select n }
+    ensures asked { read_by connection_by result ≡ select n }
+    ensures limits { IfOk result (λ c. IsConnectionWithin (connection_by c)) }
 {
     if n == 0 {
         Ok(ConnectionCommand::Select)
@@ -129,7 +146,8 @@ fn connection_command<'a>(
     args: &'a [&'a [u8]],
 ) -> Result<ConnectionCommand<'a>, CommandFault<'a>>
     requires { is_allowed (connection_arity name) (length args.now) ≡ true }
-    ensures { read_by connection_by result ≡ connection_of name (texts args.now) }
+    ensures asked { read_by connection_by result ≡ connection_of name (texts args.now) }
+    ensures limits { IfOk result (λ c. IsConnectionWithin (connection_by c)) }
 {
     match name {
         ConnectionName::Ping => match args {
@@ -146,36 +164,26 @@ fn connection_command<'a>(
     }
 }
 
-/// Returns the one key of a program and its argument or none.
-fn call_of<'a>(words: &'a [&'a [u8]]) -> Result<(&'a [u8], Option<&'a [u8]>), CommandFault<'a>>
-    ensures asked { call_by result ≡ call_of (texts words.now) }
-    ensures key { IfOk result (λ call. IsKey call.0.now) }
-    ensures argument { IfOk result (λ call. IfSome (text call.1) IsValue) }
+/// Whether one of the arguments is too long.
+fn has_long_value(arguments: &[&[u8]]) -> bool
+    ensures { result ≡ has_long_value (texts arguments.now) }
 {
-    let (key, argument) = match words {
-        [key] => (*key, None),
-        [key, argument] => (*key, Some(*argument)),
-        _ => return Err(CommandFault::ScriptShape),
-    };
-    if key.len() > KEY_BYTES {
-        return Err(CommandFault::LongKey);
-    }
-    if let Some(argument) = argument {
+    for argument in arguments {
         if argument.len() > VALUE_BYTES {
-            return Err(CommandFault::LongValue);
+            return true;
         }
     }
-    Ok((key, argument))
+    false
 }
 
-/// Returns the same if the words are said to begin with this number of keys.
+/// Returns the one key of a program and its arguments, if the words are said to begin with this number of keys.
 fn call_with<'a>(
     keys: i64,
     words: &'a [&'a [u8]],
-) -> Result<(&'a [u8], Option<&'a [u8]>), CommandFault<'a>>
+) -> Result<(&'a [u8], &'a [&'a [u8]]), CommandFault<'a>>
     ensures asked { call_by result ≡ call_with keys (texts words.now) }
     ensures key { IfOk result (λ call. IsKey call.0.now) }
-    ensures argument { IfOk result (λ call. IfSome (text call.1) IsValue) }
+    ensures arguments { IfOk result (λ call. All IsValue (texts call.1.now)) }
 {
     let Ok(keys) = u64::try_from(keys) else {
         return Err(CommandFault::NegativeKeys);
@@ -186,7 +194,15 @@ fn call_with<'a>(
     if keys != 1 {
         return Err(CommandFault::ScriptShape);
     }
-    call_of(words)
+    let key = word(words, 0);
+    let arguments = &words[1..];
+    if key.len() > KEY_BYTES {
+        return Err(CommandFault::LongKey);
+    }
+    if has_long_value(arguments) {
+        return Err(CommandFault::LongValue);
+    }
+    Ok((key, arguments))
 }
 
 /// Returns what the arguments of a command of programs ask for.
@@ -203,17 +219,17 @@ fn program_command<'a>(
         return Err(CommandFault::NoScript);
     }
     let keys = number(word(args, 1))?;
-    let (key, argument) = call_with(keys, &args[2..])?;
+    let (key, arguments) = call_with(keys, &args[2..])?;
     match name {
         ProgramName::Eval => Ok(ProgramCommand::Eval {
             text,
             key,
-            argument,
+            arguments,
         }),
         ProgramName::EvalSha => Ok(ProgramCommand::Call {
             digest: text,
             key,
-            argument,
+            arguments,
         }),
     }
 }
@@ -231,12 +247,7 @@ fn sub_command<'a>(sub: Sub, args: &'a [&'a [u8]]) -> Answer<'a>
         Sub::ScriptExists => return Ok(Command::Program(ProgramCommand::Exists { digests: args })),
         Sub::ClientId => ConnectionCommand::ClientId,
         Sub::ClientGetName => ConnectionCommand::ClientName,
-        Sub::ClientSetName => {
-            if !is_client_name(word(args, 0)) {
-                return Err(CommandFault::BadClientName);
-            }
-            ConnectionCommand::SetClientName(word(args, 0))
-        }
+        Sub::ClientSetName => ConnectionCommand::SetClientName(client_name(word(args, 0))?),
         Sub::ClientSetInfo => ConnectionCommand::SetClientInfo,
         Sub::ClientList => {
             if !args.is_empty() {
@@ -272,14 +283,14 @@ fn parent_command<'a>(parent: Parent, args: &'a [&'a [u8]]) -> Answer<'a>
     sub_command(sub, rest)
 }
 
-/// Returns what the arguments of the command of this name ask for.
-fn command_as<'a>(name: Name, args: &'a [&'a [u8]]) -> Answer<'a>
+/// Returns what the arguments of the command of this name ask for, at the time `now`.
+fn command_as<'a>(name: Name, now: u64, args: &'a [&'a [u8]]) -> Answer<'a>
     requires { is_allowed (arity_of name) (length args.now) ≡ true }
-    ensures asked { answer_by result ≡ asked_as name (texts args.now) }
+    ensures asked { answer_by result ≡ asked_as now name (texts args.now) }
     ensures limits { IfOk result (λ c. IsWithinLimits (asked_by c)) }
 {
     match name {
-        Name::Key(name) => key_command(name, args),
+        Name::Key(name) => key_command(name, now, args),
         Name::Keys(name) => keys_command(name, args),
         Name::Walk(name) => Ok(Command::Walk(walk_command(name, args)?)),
         Name::Connection(name) => Ok(Command::Connection(connection_command(name, args)?)),
@@ -299,13 +310,12 @@ fn unknown<'a>(name: &'a [u8], args: &'a [&'a [u8]]) -> CommandFault<'a>
     }
 }
 
-/// Returns what the words ask for. The first word names a command, in any case. The command borrows the words. No memory
-/// is asked for.
+/// Returns what the words ask for at the time `now`, in milliseconds since the epoch. The first word names a command, in
+/// any case. The command borrows the words. No memory is asked for.
 ///
-/// An error has the text of the reply: `UnknownCommand` also for what Redis serves and this server doesn't, as `EXPIRE`
-/// and `MULTI`.
-pub fn command_of<'a>(words: &'a [&'a [u8]]) -> Result<Command<'a>, CommandFault<'a>>
-    ensures asked { answer_by result ≡ asked_of (texts words.now) }
+/// An error has the text of the reply: `UnknownCommand` also for what Redis serves and this server doesn't, as `MULTI`.
+pub fn command_of<'a>(words: &'a [&'a [u8]], now: u64) -> Result<Command<'a>, CommandFault<'a>>
+    ensures asked { answer_by result ≡ asked_of now (texts words.now) }
     ensures limits { IfOk result (λ c. IsWithinLimits (asked_by c)) }
 {
     let [first, args @ ..] = words else {
@@ -320,5 +330,5 @@ pub fn command_of<'a>(words: &'a [&'a [u8]]) -> Result<Command<'a>, CommandFault
     if !name.arity().allows(args.len()) {
         return Err(CommandFault::WrongCount(name));
     }
-    command_as(name, args)
+    command_as(name, now, args)
 }

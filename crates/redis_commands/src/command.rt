@@ -1,5 +1,8 @@
 //! Commands, as words of a client ask for them.
 
+/// The name of a client has at most this many bytes. Redis has no such limit.
+pub const NAME_BYTES: usize = 64;
+
 /// When `SET` puts its value.
 #[derive(Clone, Copy, Debug, PartialEq, Eq)]
 pub enum Condition<'a> {
@@ -12,16 +15,59 @@ pub enum Condition<'a> {
     IfEqual(&'a [u8]),
 }
 
-/// What is to be done with the value of one key.
+/// How long the entry of a key stays, after its value was set or read.
+#[derive(Clone, Copy, Debug, PartialEq, Eq)]
+pub enum Lifetime {
+    /// It has no deadline.
+    Forever,
+    /// As long as before.
+    Kept,
+    /// Its time is over at this one, in milliseconds since the epoch. It may be past.
+    Until(u64),
+}
+
+/// When a deadline is set, by the one that the key has. A key without a deadline counts as one that stays longer than
+/// any other.
+#[derive(Clone, Copy, Debug, PartialEq, Eq)]
+pub enum ExpireRule {
+    Always,
+    /// `NX`: if the key has no deadline.
+    IfNone,
+    /// `XX`: if the key has a deadline.
+    IfSome,
+    /// `GT`: if the key has a deadline, and the new one is later.
+    IfLater,
+    /// `LT`: if the key has no deadline, or the new one is sooner.
+    IfSooner,
+    /// `XX LT`: if the key has a deadline, and the new one is sooner.
+    IfSomeAndSooner,
+}
+
+/// The unit of a time.
+#[derive(Clone, Copy, Debug, PartialEq, Eq)]
+pub enum TimeUnit {
+    Seconds,
+    Millis,
+}
+
+/// How a deadline is told: by what is left of the time until it, or by its time since the epoch.
+#[derive(Clone, Copy, Debug, PartialEq, Eq)]
+pub enum TimeForm {
+    Left,
+    Until,
+}
+
+/// What is to be done with the value or the deadline of one key.
 #[derive(Clone, Copy, Debug, PartialEq, Eq)]
 pub enum KeyAct<'a> {
     /// `GET`
     Get,
-    /// `SET`; the reply is the old value if that is wanted.
+    /// `SET`; the reply is the old value if that is wanted. `SETEX` and `PSETEX`
     Set {
         value: &'a [u8],
         condition: Condition<'a>,
         wants_old: bool,
+        lifetime: Lifetime,
     },
     /// `SETNX`
     SetIfAbsent {
@@ -37,8 +83,22 @@ pub enum KeyAct<'a> {
     Length,
     /// `TYPE`
     TypeName,
-    /// `TTL` and `PTTL`: there are no deadlines, so the reply is -1, or -2 if the key has no value.
-    TimeToLive,
+    /// `GETEX`
+    GetAndExpire {
+        lifetime: Lifetime,
+    },
+    /// `EXPIRE`, `PEXPIRE`, `EXPIREAT` and `PEXPIREAT`: sets this deadline, in milliseconds since the epoch. It may be past.
+    Expire {
+        at: u64,
+        rule: ExpireRule,
+    },
+    /// `PERSIST`
+    Persist,
+    /// `TTL`, `PTTL`, `EXPIRETIME` and `PEXPIRETIME`
+    TimeLeft {
+        unit: TimeUnit,
+        form: TimeForm,
+    },
     /// `INCR`, `DECR`, `INCRBY` and `DECRBY`
     Add {
         by: i64,
@@ -108,7 +168,7 @@ pub enum ConnectionCommand<'a> {
     Quit,
     /// `SELECT 0`
     Select,
-    /// `HELLO` or `HELLO 2`, with the client's name if it gives one.
+    /// `HELLO` or `HELLO 2`, with the client's name if it gives one, as in `SetClientName`.
     Hello { name: Option<&'a [u8]> },
     /// `AUTH default` with any password, which a Redis without a password takes.
     Auth,
@@ -116,7 +176,7 @@ pub enum ConnectionCommand<'a> {
     ClientId,
     /// `CLIENT GETNAME`
     ClientName,
-    /// `CLIENT SETNAME`; each byte is from `!` to `~`. An empty name takes the name away.
+    /// `CLIENT SETNAME`; at most `NAME_BYTES` bytes, each from `!` to `~`. An empty name takes the name away.
     SetClientName(&'a [u8]),
     /// `CLIENT SETINFO`
     SetClientInfo,
@@ -151,13 +211,13 @@ pub enum ProgramCommand<'a> {
     Call {
         digest: &'a [u8],
         key: &'a [u8],
-        argument: Option<&'a [u8]>,
+        arguments: &'a [&'a [u8]],
     },
     /// `EVAL`
     Eval {
         text: &'a [u8],
         key: &'a [u8],
-        argument: Option<&'a [u8]>,
+        arguments: &'a [&'a [u8]],
     },
 }
 

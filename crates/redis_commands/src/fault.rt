@@ -35,8 +35,15 @@ pub enum CommandFault<'a> {
     LongKey,
     /// A value, or what a range would make of it, is above `VALUE_BYTES`.
     LongValue,
-    /// `SET` with `EX`, `PX`, `EXAT` or `PXAT`.
-    Deadline,
+    /// A deadline of this command is not within the milliseconds that a signed number of 64 bits has, or it is not above 0
+    /// where it has to be.
+    BadExpire(Name),
+    /// An option of `EXPIRE` or its like is unknown.
+    ExpireOption(&'a [u8]),
+    /// `EXPIRE` or its like with `NX` and another option.
+    NxWithOthers,
+    /// The same with `GT` and `LT`.
+    GtWithLt,
     /// `SCAN` with a cursor that is no canonical decimal of 64 bits.
     BadCursor,
     /// `SELECT` of another map than 0.
@@ -51,6 +58,8 @@ pub enum CommandFault<'a> {
     HelloOption(&'a [u8]),
     /// A client's name has a byte that is not from `!` to `~`.
     BadClientName,
+    /// A client's name is above `NAME_BYTES`. Redis has no such limit.
+    LongClientName,
     /// `AUTH` with a password alone.
     NoPassword,
     /// `AUTH` of a user that there is not.
@@ -59,7 +68,7 @@ pub enum CommandFault<'a> {
     NegativeKeys,
     /// `EVAL` or `EVALSHA` with fewer arguments than keys.
     TooManyKeys,
-    /// `EVAL` or `EVALSHA` with another number of keys than 1, or with several arguments.
+    /// `EVAL` or `EVALSHA` with another number of keys than 1.
     ScriptShape,
     /// `EVALSHA` with a digest that has not 40 bytes.
     NoScript,
@@ -78,6 +87,8 @@ impl CommandFault<'_> {
             CommandFault::UnknownSub { parent, word } => FaultText::unknown_sub(*parent, word),
             CommandFault::WrongCount(name) => FaultText::wrong_count(*name),
             CommandFault::WrongSubCount(sub) => FaultText::wrong_sub_count(*sub),
+            CommandFault::BadExpire(name) => FaultText::bad_expire(*name),
+            CommandFault::ExpireOption(option) => FaultText::expire_option(option),
             CommandFault::HelloOption(option) => FaultText::hello_option(option),
             _ => FaultText::of(self.fixed_text()),
         }
@@ -95,7 +106,9 @@ impl CommandFault<'_> {
             CommandFault::OffsetOutOfRange => "ERR offset is out of range",
             CommandFault::LongKey => "ERR key exceeds maximum allowed size (64)",
             CommandFault::LongValue => "ERR string exceeds maximum allowed size (1024)",
-            CommandFault::Deadline => "ERR deadlines are not served",
+            CommandFault::NxWithOthers =>
+                "ERR NX and XX, GT or LT options at the same time are not compatible",
+            CommandFault::GtWithLt => "ERR GT and LT options at the same time are not compatible",
             CommandFault::BadCursor => "ERR invalid cursor",
             CommandFault::BadIndex => "ERR DB index is out of range",
             CommandFault::WideIndex =>
@@ -104,14 +117,14 @@ impl CommandFault<'_> {
             CommandFault::NoProtocol => "NOPROTO unsupported protocol version",
             CommandFault::BadClientName =>
                 "ERR Client names cannot contain spaces, newlines or special characters.",
+            CommandFault::LongClientName => "ERR client name exceeds maximum allowed size (64)",
             CommandFault::NoPassword =>
                 "ERR AUTH <password> called without any password configured for the default user. Are you sure your configuration is correct?",
             CommandFault::WrongPassword =>
                 "WRONGPASS invalid username-password pair or user is disabled.",
             CommandFault::NegativeKeys => "ERR Number of keys can't be negative",
             CommandFault::TooManyKeys => "ERR Number of keys can't be greater than number of args",
-            CommandFault::ScriptShape =>
-                "ERR not served: a script is called with one key and at most one argument",
+            CommandFault::ScriptShape => "ERR not served: a script is called with one key",
             CommandFault::NoScript => "NOSCRIPT No matching script. Please use EVAL.",
             _ => "",
         }

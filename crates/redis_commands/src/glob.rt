@@ -251,11 +251,14 @@ fn stands_for(places: &mut [bool], pattern: &[u8], text: &[u8]) -> bool
 }
 
 /// Whether the text matches the pattern. The text has at most `KEY_BYTES` bytes, as a key has. It takes time in proportion
-/// to the product of both lengths, and no memory.
+/// to the product of both lengths, and no memory. The empty text matches the empty pattern and `*`, and not `**`.
 pub fn matches(pattern: &[u8], text: &[u8]) -> bool
     requires { length text.now ≤ KEY_BYTES }
     ensures { result ≡ matches pattern.now text.now }
 {
+    if text.is_empty() {
+        return pattern.is_empty() || pattern == b"*".as_slice();
+    }
     let mut places = [false; KEY_BYTES + 1];
     places[0] = true;
     stands_for(&mut places[..=text.len()], pattern, text)

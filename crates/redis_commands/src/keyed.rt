@@ -1,18 +1,22 @@
 //! The commands of keys.
 ghost use Rattle.std.specs.Prelude.{◌≡◌, ◌<◌, ◌≤◌, ◌⊎◌, true, IfOk, length, nat_lt};
-ghost use Rattle.redis_commands.specs.declared.name.KeyName.TheVariants.{Set, GetRange, SetRange, IncrBy, DecrBy};
+ghost use Rattle.redis_commands.specs.declared.name.KeyName.TheVariants.{Set, GetEx, GetRange, SetRange, IncrBy, DecrBy};
 ghost use Rattle.redis_commands.specs.Commands.Act.{SetRange as ActSetRange};
 ghost use Rattle.redis_commands.specs.Commands.Fault.{OffsetOutOfRange};
-ghost use Rattle.redis_commands.specs.Names.{key_arity, is_allowed};
+ghost use Rattle.redis_commands.specs.Names.{key_arity, is_allowed, IsOfDeadlines};
 ghost use Rattle.redis_commands.specs.Commands.{answer_by, act_by, asked_by, texts};
-ghost use Rattle.redis_commands.specs.Options.{number_by, natural_by, err_by};
-ghost use Rattle.redis_commands.specs.Table.{word, longest, on_key, turned, number_from_0, asked_of_key, has_long_key, on_keys, long_word, set_each, asked_of_keys};
+ghost use Rattle.redis_commands.specs.Reading.{number_by, natural_by, err_by};
+ghost use Rattle.redis_commands.specs.Words.{word, number_from_0};
+ghost use Rattle.redis_commands.specs.Table.{longest, on_key, turned, set_for, expire_by, expire, asked_of_key, has_long_key, on_keys, long_word, set_each, asked_of_keys};
 ghost use Rattle.redis_commands.specs.Limits.{IsWithinLimits};
 
-use crate::command::{Command, Condition, KeyAct, KeysAct};
+use crate::command::{
+    Command, Condition, ExpireRule, KeyAct, KeysAct, Lifetime, TimeForm, TimeUnit,
+};
+use crate::deadlines::{deadline, deadline_above_0, lifetime, rule_of};
 use crate::fault::CommandFault;
 use crate::name::{KeyName, KeysName, Name};
-use crate::options::{SetOptions, number};
+use crate::options::{SetOptions, Term, number};
 use bpf_model::limits::{KEY_BYTES, VALUE_BYTES};
 
 /// A command, or why words are none.
@@ -84,24 +88,87 @@ fn turned<'a>(n: i64) -> Result<i64, CommandFault<'a>>
 }
 
 /// Returns what the arguments of `SET` ask for.
-fn set<'a>(args: &'a [&'a [u8]]) -> Answer<'a>
+fn set<'a>(now: u64, args: &'a [&'a [u8]]) -> Answer<'a>
     requires { 2 ≤ length args.now }
-    ensures asked { answer_by result ≡ asked_of_key Set (texts args.now) }
+    ensures asked { answer_by result ≡ asked_of_key now Set (texts args.now) }
     ensures limits { IfOk result (λ c. IsWithinLimits (asked_by c)) }
 {
-    let options = SetOptions::read(&args[2..])?;
+    let options = SetOptions::read(KeyName::Set, &args[2..])?;
+    let lifetime = lifetime(KeyName::Set, now, options.term.unwrap_or(Term::Endless))?;
     let act = KeyAct::Set {
         value: word(args, 1),
         condition: options.condition,
         wants_old: options.wants_old,
+        lifetime,
     };
     on_key(word(args, 0), act)
+}
+
+/// Returns what the arguments of `SETEX` or `PSETEX` ask for.
+fn set_for<'a>(name: KeyName, now: u64, unit: TimeUnit, args: &'a [&'a [u8]]) -> Answer<'a>
+    requires { 3 ≤ length args.now }
+    ensures asked { answer_by result ≡ set_for name now unit (texts args.now) }
+    ensures limits { IfOk result (λ c. IsWithinLimits (asked_by c)) }
+{
+    let n = number(word(args, 1))?;
+    let at = deadline_above_0(name, now, unit, TimeForm::Left, n)?;
+    let act = KeyAct::Set {
+        value: word(args, 2),
+        condition: Condition::Always,
+        wants_old: false,
+        lifetime: Lifetime::Until(at),
+    };
+    on_key(word(args, 0), act)
+}
+
+/// Returns what the arguments of `GETEX` ask for.
+fn get_ex<'a>(now: u64, args: &'a [&'a [u8]]) -> Answer<'a>
+    requires { 1 ≤ length args.now }
+    ensures asked { answer_by result ≡ asked_of_key now GetEx (texts args.now) }
+    ensures limits { IfOk result (λ c. IsWithinLimits (asked_by c)) }
+{
+    let options = SetOptions::read(KeyName::GetEx, &args[1..])?;
+    let lifetime = lifetime(KeyName::GetEx, now, options.term.unwrap_or(Term::Same))?;
+    on_key(word(args, 0), KeyAct::GetAndExpire { lifetime })
+}
+
+/// Returns what the arguments of `EXPIRE` or its like ask for, if this rule says when the deadline is set.
+fn expire_by<'a>(
+    name: KeyName,
+    now: u64,
+    unit: TimeUnit,
+    form: TimeForm,
+    rule: ExpireRule,
+    args: &'a [&'a [u8]],
+) -> Answer<'a>
+    requires { 2 ≤ length args.now }
+    ensures asked { answer_by result ≡ expire_by name now unit form rule (texts args.now) }
+    ensures limits { IfOk result (λ c. IsWithinLimits (asked_by c)) }
+{
+    let n = number(word(args, 1))?;
+    let at = deadline(name, now, unit, form, n)?;
+    on_key(word(args, 0), KeyAct::Expire { at, rule })
+}
+
+/// Returns what the arguments of `EXPIRE` or its like ask for.
+fn expire<'a>(
+    name: KeyName,
+    now: u64,
+    unit: TimeUnit,
+    form: TimeForm,
+    args: &'a [&'a [u8]],
+) -> Answer<'a>
+    requires { 2 ≤ length args.now }
+    ensures asked { answer_by result ≡ expire name now unit form (texts args.now) }
+    ensures limits { IfOk result (λ c. IsWithinLimits (asked_by c)) }
+{
+    expire_by(name, now, unit, form, rule_of(&args[2..])?, args)
 }
 
 /// Returns what the arguments of `GETRANGE` ask for.
 fn get_range<'a>(args: &'a [&'a [u8]]) -> Answer<'a>
     requires { 3 ≤ length args.now }
-    ensures asked { answer_by result ≡ asked_of_key GetRange (texts args.now) }
+    ensures asked { answer_by result ≡ asked_of_key 0 GetRange (texts args.now) }
     ensures limits { IfOk result (λ c. IsWithinLimits (asked_by c)) }
 {
     let start = number(word(args, 1))?;
@@ -122,7 +189,7 @@ fn offset_of<'a>(n: i64) -> Result<u64, CommandFault<'a>>
 /// Returns what the arguments of `SETRANGE` ask for.
 fn set_range<'a>(args: &'a [&'a [u8]]) -> Answer<'a>
     requires { 3 ≤ length args.now }
-    ensures asked { answer_by result ≡ asked_of_key SetRange (texts args.now) }
+    ensures asked { answer_by result ≡ asked_of_key 0 SetRange (texts args.now) }
     ensures limits { IfOk result (λ c. IsWithinLimits (asked_by c)) }
 {
     let offset = offset_of(number(word(args, 1))?)?;
@@ -134,7 +201,7 @@ fn set_range<'a>(args: &'a [&'a [u8]]) -> Answer<'a>
 fn add<'a>(name: KeyName, args: &'a [&'a [u8]]) -> Answer<'a>
     requires name { (name ≡ IncrBy) ⊎ (name ≡ DecrBy) }
     requires count { 2 ≤ length args.now }
-    ensures asked { answer_by result ≡ asked_of_key name (texts args.now) }
+    ensures asked { answer_by result ≡ asked_of_key 0 name (texts args.now) }
     ensures limits { IfOk result (λ c. IsWithinLimits (asked_by c)) }
 {
     let n = number(word(args, 1))?;
@@ -145,22 +212,45 @@ fn add<'a>(name: KeyName, args: &'a [&'a [u8]]) -> Answer<'a>
     on_key(word(args, 0), KeyAct::Add { by })
 }
 
-/// Returns what the arguments of a command of one key ask for.
-pub(crate) fn key_command<'a>(name: KeyName, args: &'a [&'a [u8]]) -> Answer<'a>
+/// Returns what the arguments of a command of a deadline ask for.
+fn deadline_command<'a>(name: KeyName, now: u64, args: &'a [&'a [u8]]) -> Answer<'a>
+    requires count { is_allowed (key_arity name) (length args.now) ≡ true }
+    requires name { IsOfDeadlines name }
+    ensures asked { answer_by result ≡ asked_of_key now name (texts args.now) }
+    ensures limits { IfOk result (λ c. IsWithinLimits (asked_by c)) }
+{
+    let (unit, form) = match name {
+        KeyName::SetEx => return set_for(name, now, TimeUnit::Seconds, args),
+        KeyName::PsetEx => return set_for(name, now, TimeUnit::Millis, args),
+        KeyName::Expire => return expire(name, now, TimeUnit::Seconds, TimeForm::Left, args),
+        KeyName::Pexpire => return expire(name, now, TimeUnit::Millis, TimeForm::Left, args),
+        KeyName::ExpireAt => return expire(name, now, TimeUnit::Seconds, TimeForm::Until, args),
+        KeyName::PexpireAt => return expire(name, now, TimeUnit::Millis, TimeForm::Until, args),
+        KeyName::Ttl => (TimeUnit::Seconds, TimeForm::Left),
+        KeyName::Pttl => (TimeUnit::Millis, TimeForm::Left),
+        KeyName::ExpireTime => (TimeUnit::Seconds, TimeForm::Until),
+        _ => (TimeUnit::Millis, TimeForm::Until),
+    };
+    on_key(word(args, 0), KeyAct::TimeLeft { unit, form })
+}
+
+/// Returns what the arguments of a command of one key ask for, at the time `now`.
+pub(crate) fn key_command<'a>(name: KeyName, now: u64, args: &'a [&'a [u8]]) -> Answer<'a>
     requires { is_allowed (key_arity name) (length args.now) ≡ true }
-    ensures asked { answer_by result ≡ asked_of_key name (texts args.now) }
+    ensures asked { answer_by result ≡ asked_of_key now name (texts args.now) }
     ensures limits { IfOk result (λ c. IsWithinLimits (asked_by c)) }
 {
     match name {
         KeyName::Get => on_key(word(args, 0), KeyAct::Get),
-        KeyName::Set => set(args),
+        KeyName::Set => set(now, args),
         KeyName::Incr => on_key(word(args, 0), KeyAct::Add { by: 1 }),
         KeyName::Decr => on_key(word(args, 0), KeyAct::Add { by: -1 }),
         KeyName::IncrBy | KeyName::DecrBy => add(name, args),
         KeyName::GetDel => on_key(word(args, 0), KeyAct::GetAndDelete),
+        KeyName::GetEx => get_ex(now, args),
+        KeyName::Persist => on_key(word(args, 0), KeyAct::Persist),
         KeyName::StrLen => on_key(word(args, 0), KeyAct::Length),
         KeyName::Type => on_key(word(args, 0), KeyAct::TypeName),
-        KeyName::Ttl | KeyName::Pttl => on_key(word(args, 0), KeyAct::TimeToLive),
         KeyName::GetRange | KeyName::Substr => get_range(args),
         KeyName::SetRange => set_range(args),
         KeyName::SetNx | KeyName::GetSet | KeyName::Append | KeyName::DelIfEq => {
@@ -172,6 +262,7 @@ pub(crate) fn key_command<'a>(name: KeyName, args: &'a [&'a [u8]]) -> Answer<'a>
                 _ => on_key(key, KeyAct::DeleteIfEqual { value }),
             }
         }
+        _ => deadline_command(name, now, args),
     }
 }
 

@@ -9,6 +9,7 @@
 
 mod asking;
 pub mod command;
+mod deadlines;
 pub mod fault;
 mod glob;
 mod keyed;
@@ -21,7 +22,8 @@ mod text;
 
 pub use asking::command_of;
 pub use command::{
-    Command, Condition, ConnectionCommand, KeyAct, KeysAct, ProgramCommand, WalkCommand,
+    Command, Condition, ConnectionCommand, ExpireRule, KeyAct, KeysAct, Lifetime, NAME_BYTES,
+    ProgramCommand, TimeForm, TimeUnit, WalkCommand,
 };
 pub use fault::CommandFault;
 pub use glob::matches;

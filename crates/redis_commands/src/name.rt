@@ -51,10 +51,20 @@ pub enum KeyName {
     SetNx,
     GetSet,
     GetDel,
-    StrLen,
-    Type,
+    SetEx,
+    PsetEx,
+    GetEx,
+    Expire,
+    Pexpire,
+    ExpireAt,
+    PexpireAt,
+    Persist,
     Ttl,
     Pttl,
+    ExpireTime,
+    PexpireTime,
+    StrLen,
+    Type,
     Incr,
     Decr,
     IncrBy,
@@ -143,10 +153,20 @@ impl KeyName {
             KeyName::SetNx => "setnx",
             KeyName::GetSet => "getset",
             KeyName::GetDel => "getdel",
-            KeyName::StrLen => "strlen",
-            KeyName::Type => "type",
+            KeyName::SetEx => "setex",
+            KeyName::PsetEx => "psetex",
+            KeyName::GetEx => "getex",
+            KeyName::Expire => "expire",
+            KeyName::Pexpire => "pexpire",
+            KeyName::ExpireAt => "expireat",
+            KeyName::PexpireAt => "pexpireat",
+            KeyName::Persist => "persist",
             KeyName::Ttl => "ttl",
             KeyName::Pttl => "pttl",
+            KeyName::ExpireTime => "expiretime",
+            KeyName::PexpireTime => "pexpiretime",
+            KeyName::StrLen => "strlen",
+            KeyName::Type => "type",
             KeyName::Incr => "incr",
             KeyName::Decr => "decr",
             KeyName::IncrBy => "incrby",
@@ -163,8 +183,17 @@ impl KeyName {
         ensures { result ≡ key_arity self }
     {
         match self {
-            KeyName::Set => Arity::AtLeast(2),
-            KeyName::GetRange | KeyName::Substr | KeyName::SetRange => Arity::Exactly(3),
+            KeyName::GetEx => Arity::AtLeast(1),
+            KeyName::Set
+            | KeyName::Expire
+            | KeyName::Pexpire
+            | KeyName::ExpireAt
+            | KeyName::PexpireAt => Arity::AtLeast(2),
+            KeyName::SetEx
+            | KeyName::PsetEx
+            | KeyName::GetRange
+            | KeyName::Substr
+            | KeyName::SetRange => Arity::Exactly(3),
             KeyName::SetNx
             | KeyName::GetSet
             | KeyName::IncrBy
@@ -463,15 +492,17 @@ static FOUR: [Name; 14] = [
 ];
 
 /// The names of five letters.
-static FIVE: [Name; 4] = [
+static FIVE: [Name; 6] = [
     Name::Key(KeyName::SetNx),
+    Name::Key(KeyName::SetEx),
+    Name::Key(KeyName::GetEx),
     Name::Keys(KeysName::Touch),
     Name::Connection(ConnectionName::Hello),
     Name::Connection(ConnectionName::Reset),
 ];
 
 /// The names of six letters.
-static SIX: [Name; 14] = [
+static SIX: [Name; 16] = [
     Name::Key(KeyName::IncrBy),
     Name::Key(KeyName::DecrBy),
     Name::Key(KeyName::GetSet),
@@ -479,6 +510,8 @@ static SIX: [Name; 14] = [
     Name::Key(KeyName::StrLen),
     Name::Key(KeyName::Append),
     Name::Key(KeyName::Substr),
+    Name::Key(KeyName::Expire),
+    Name::Key(KeyName::PsetEx),
     Name::Keys(KeysName::Unlink),
     Name::Keys(KeysName::Exists),
     Name::Walk(WalkName::DbSize),
@@ -489,22 +522,34 @@ static SIX: [Name; 14] = [
 ];
 
 /// The names of seven letters.
-static SEVEN: [Name; 4] = [
+static SEVEN: [Name; 6] = [
+    Name::Key(KeyName::Pexpire),
     Name::Key(KeyName::DelIfEq),
+    Name::Key(KeyName::Persist),
     Name::Walk(WalkName::FlushDb),
     Name::Program(ProgramName::EvalSha),
     Name::Parent(Parent::Command),
 ];
 
 /// The names of eight letters.
-static EIGHT: [Name; 3] = [
+static EIGHT: [Name; 4] = [
     Name::Key(KeyName::GetRange),
     Name::Key(KeyName::SetRange),
+    Name::Key(KeyName::ExpireAt),
     Name::Walk(WalkName::FlushAll),
 ];
 
 /// The names of nine letters.
-static NINE: [Name; 1] = [Name::Walk(WalkName::RandomKey)];
+static NINE: [Name; 2] = [
+    Name::Key(KeyName::PexpireAt),
+    Name::Walk(WalkName::RandomKey),
+];
+
+/// The names of ten letters.
+static TEN: [Name; 1] = [Name::Key(KeyName::ExpireTime)];
+
+/// The names of eleven letters.
+static ELEVEN: [Name; 1] = [Name::Key(KeyName::PexpireTime)];
 
 /// Returns the names of this length.
 fn names_of_length(length: usize) -> &'static [Name]
@@ -518,6 +563,8 @@ fn names_of_length(length: usize) -> &'static [Name]
         7 => &SEVEN,
         8 => &EIGHT,
         9 => &NINE,
+        10 => &TEN,
+        11 => &ELEVEN,
         _ => &[],
     }
 }

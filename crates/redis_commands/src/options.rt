@@ -1,12 +1,14 @@
 //! Options of commands, which come in any order.
-ghost use Rattle.std.specs.Prelude.{◌≡◌, ◌≤◌, ◌∷◌, drop, length};
+ghost use Rattle.std.specs.Prelude.{◌≡◌, ◌≤◌, option_map, true, IfOk, IfSome, length};
+ghost use Rattle.redis_commands.specs.declared.command.TheConstants.{NAME_BYTES};
 ghost use Rattle.redis_commands.specs.Commands.{texts, condition_by};
-ghost use Rattle.redis_commands.specs.Table.{is_deadline, has_value, with_valued, with_flag, with_condition, with_options, no_options, may_follow, with_scan_option, with_scan_options, no_scan_options, count_of, with_name, with_hello_options, no_hello_options, is_client_name, is_default, number};
-ghost use Rattle.redis_commands.specs.Options.{set_view, set_by, taken, SetGoesOn, scan_view, scan_by, hello_view, hello_by, hello_taken, HelloGoesOn, number_by, natural_by};
+ghost use Rattle.redis_commands.specs.Words.{number};
+ghost use Rattle.redis_commands.specs.Options.{flag, valued, spelled, is_of, same_condition, same_unit, same_form, same_term, set_options, count_of, scan_option, with_scan_option, scan_options, is_client_name, short_name, client_name, is_default, naming, each_hello_option, with_hello_option, hello_options};
+ghost use Rattle.redis_commands.specs.Reading.{number_by, natural_by, text_by, term_by, option_by, set_view, set_by, goes_on, may_follow, added, scan_view, scan_by, scan_with, hello_option_by, hello_view, hello_by, hello_goes_on, naming_by};
 
-use crate::command::Condition;
+use crate::command::{Condition, NAME_BYTES, TimeForm, TimeUnit};
 use crate::fault::CommandFault;
-use crate::name::is;
+use crate::name::{KeyName, is};
 use crate::number::integer;
 
 /// Reads a number of 64 bits.
@@ -16,126 +18,218 @@ pub(crate) fn number<'a>(text: &[u8]) -> Result<i64, CommandFault<'a>>
     integer(text).ok_or(CommandFault::NotAnInteger)
 }
 
-/// The options of `SET`.
+/// How long an entry is to stay, as an option says it.
+#[derive(Clone, Copy)]
+pub(crate) enum Term<'a> {
+    /// `KEEPTTL`
+    Same,
+    /// `PERSIST`
+    Endless,
+    /// `EX`, `PX`, `EXAT` and `PXAT`, with the text of a number.
+    Ends {
+        unit: TimeUnit,
+        form: TimeForm,
+        number: &'a [u8],
+    },
+}
+
+/// An option of `SET` or `GETEX`.
+#[derive(Clone, Copy)]
+pub(crate) enum SetOption<'a> {
+    /// `NX`, `XX` and `IFEQ`
+    Only(Condition<'a>),
+    /// `GET`
+    OldValue,
+    Stays(Term<'a>),
+}
+
+/// Returns the option that a word alone spells, or `None`.
+fn flag<'a>(word: &[u8]) -> Option<SetOption<'a>>
+    ensures { option_map option_by result ≡ flag word.now }
+{
+    if is("nx", word) {
+        Some(SetOption::Only(Condition::IfAbsent))
+    } else if is("xx", word) {
+        Some(SetOption::Only(Condition::IfPresent))
+    } else if is("get", word) {
+        Some(SetOption::OldValue)
+    } else if is("keepttl", word) {
+        Some(SetOption::Stays(Term::Same))
+    } else if is("persist", word) {
+        Some(SetOption::Stays(Term::Endless))
+    } else {
+        None
+    }
+}
+
+/// Returns the option that a word and its value spell, or `None`.
+fn valued<'a>(word: &[u8], value: &'a [u8]) -> Option<SetOption<'a>>
+    ensures { option_map option_by result ≡ valued word.now value.now }
+{
+    let (unit, form) = if is("ex", word) {
+        (TimeUnit::Seconds, TimeForm::Left)
+    } else if is("px", word) {
+        (TimeUnit::Millis, TimeForm::Left)
+    } else if is("exat", word) {
+        (TimeUnit::Seconds, TimeForm::Until)
+    } else if is("pxat", word) {
+        (TimeUnit::Millis, TimeForm::Until)
+    } else if is("ifeq", word) {
+        return Some(SetOption::Only(Condition::IfEqual(value)));
+    } else {
+        return None;
+    };
+    Some(SetOption::Stays(Term::Ends {
+        unit,
+        form,
+        number: value,
+    }))
+}
+
+/// Returns the option that the first words spell, and how many words it has, or `None`.
+fn first_option<'a>(words: &'a [&'a [u8]]) -> Option<(SetOption<'a>, usize)>
+    requires { 1 ≤ length words.now }
+    ensures value { goes_on result (texts words.now) ≡ spelled (texts words.now) }
+    ensures within { IfSome result (λ first. (1 ≤ first.1) × (first.1 ≤ 2) × (first.1 ≤ length words.now)) }
+{
+    match words {
+        [word, value, ..] => match valued(word, value) {
+            Some(option) => Some((option, 2)),
+            None => Some((flag(word)?, 1)),
+        },
+        [word] => Some((flag(word)?, 1)),
+        [] => None,
+    }
+}
+
+impl SetOption<'_> {
+    /// Whether the command has this option.
+    fn is_of(&self, name: KeyName) -> bool
+        ensures { result ≡ is_of name (option_by self.now) }
+    {
+        match (name, self) {
+            (KeyName::GetEx, SetOption::Stays(term)) => !matches!(term, Term::Same),
+            (KeyName::GetEx, _) => false,
+            (_, SetOption::Stays(Term::Endless)) => false,
+            _ => true,
+        }
+    }
+}
+
+/// What the options of `SET` or `GETEX` come to.
 #[derive(Clone, Copy)]
 pub(crate) struct SetOptions<'a> {
     pub(crate) condition: Condition<'a>,
     pub(crate) wants_old: bool,
+    pub(crate) term: Option<Term<'a>>,
 }
 
-/// Whether the option wants a deadline.
-fn is_deadline(option: &[u8]) -> bool
-    ensures { result ≡ is_deadline option.now }
+/// Whether both units are the same.
+fn same_unit(one: TimeUnit, other: TimeUnit) -> bool
+    ensures { result ≡ same_unit one other }
 {
-    is("ex", option) || is("px", option) || is("exat", option) || is("pxat", option)
+    matches!(
+        (one, other),
+        (TimeUnit::Seconds, TimeUnit::Seconds) | (TimeUnit::Millis, TimeUnit::Millis)
+    )
 }
 
-/// Whether a value follows the option.
-fn has_value(option: &[u8]) -> bool
-    ensures { result ≡ has_value option.now }
+/// Whether both forms are the same.
+fn same_form(one: TimeForm, other: TimeForm) -> bool
+    ensures { result ≡ same_form one other }
 {
-    is("ifeq", option) || is_deadline(option)
+    matches!(
+        (one, other),
+        (TimeForm::Left, TimeForm::Left) | (TimeForm::Until, TimeForm::Until)
+    )
 }
 
-/// Returns how many of the words after an option of `SET` belong to it.
-fn taken(option: &[u8], rest: &[&[u8]]) -> usize
-    ensures value { result ≡ taken option.now (texts rest.now) }
-    ensures within { result ≤ length rest.now }
+/// Whether one option says how long the entry stays as another does.
+fn same_term(one: &Term<'_>, other: &Term<'_>) -> bool
+    ensures { result ≡ same_term (term_by one.now) (term_by other.now) }
 {
-    match rest {
-        [] => 0,
-        [_, ..] => usize::from(has_value(option)),
+    match (one, other) {
+        (Term::Same, Term::Same) | (Term::Endless, Term::Endless) => true,
+        (
+            Term::Ends { unit, form, .. },
+            Term::Ends {
+                unit: other_unit,
+                form: other_form,
+                ..
+            },
+        ) => same_unit(*unit, *other_unit) && same_form(*form, *other_form),
+        _ => false,
     }
 }
 
 impl<'a> SetOptions<'a> {
-    /// Adds a condition. Returns `Syntax` if another one was given.
-    fn with_condition(self, condition: Condition<'a>) -> Result<SetOptions<'a>, CommandFault<'a>>
-        ensures { set_by result ≡ with_condition (set_view self.entry) (condition_by condition.entry) }
+    /// Whether the option goes together with those before it.
+    fn allows(&self, option: &SetOption<'a>) -> bool
+        ensures { result ≡ may_follow (set_view self.now) (option_by option.now) }
     {
-        match (self.condition, condition) {
-            (Condition::Always, _)
-            | (Condition::IfAbsent, Condition::IfAbsent)
-            | (Condition::IfPresent, Condition::IfPresent) => Ok(SetOptions { condition, ..self }),
-            _ => Err(CommandFault::Syntax),
+        match option {
+            SetOption::OldValue => true,
+            SetOption::Stays(term) => match &self.term {
+                None => true,
+                Some(one) => same_term(one, term),
+            },
+            SetOption::Only(condition) => matches!(
+                (&self.condition, condition),
+                (Condition::Always, _)
+                    | (Condition::IfAbsent, Condition::IfAbsent)
+                    | (Condition::IfPresent, Condition::IfPresent)
+            ),
         }
     }
 
-    /// Adds an option and its value.
-    fn with_valued(
-        self,
-        option: &'a [u8],
-        value: &'a [u8],
-    ) -> Result<SetOptions<'a>, CommandFault<'a>>
-        ensures { set_by result ≡ with_valued (set_view self.entry) option.now value.now }
+    /// Adds an option. Returns `Syntax` if it goes against one before it.
+    fn with(self, option: SetOption<'a>) -> Result<SetOptions<'a>, CommandFault<'a>>
+        ensures { set_by result ≡ added (set_view self.entry) (option_by option.entry) }
     {
-        if is("ifeq", option) {
-            self.with_condition(Condition::IfEqual(value))
-        } else {
-            Err(CommandFault::Deadline)
+        if !self.allows(&option) {
+            return Err(CommandFault::Syntax);
         }
-    }
-
-    /// Adds an option that has no value. Returns `Syntax` if there is no such option.
-    fn with_flag(self, option: &'a [u8]) -> Result<SetOptions<'a>, CommandFault<'a>>
-        ensures { set_by result ≡ with_flag (set_view self.entry) option.now }
-    {
-        if is("nx", option) {
-            self.with_condition(Condition::IfAbsent)
-        } else if is("xx", option) {
-            self.with_condition(Condition::IfPresent)
-        } else if is("get", option) {
-            Ok(SetOptions {
+        Ok(match option {
+            SetOption::Only(condition) => SetOptions { condition, ..self },
+            SetOption::OldValue => SetOptions {
                 wants_old: true,
                 ..self
-            })
-        } else if is("keepttl", option) {
-            Ok(self)
-        } else {
-            Err(CommandFault::Syntax)
-        }
+            },
+            SetOption::Stays(term) => SetOptions {
+                term: Some(term),
+                ..self
+            },
+        })
     }
 
-    /// Adds the first option, with its value if it has one.
-    #[tactic(auto, using(crate::proofs::OptionLemmas::set_valued, crate::proofs::OptionLemmas::set_flagged, crate::proofs::OptionLemmas::set_last))]
-    fn with_first(
-        self,
-        option: &'a [u8],
-        rest: &'a [&'a [u8]],
+    /// Reads the options of this command.
+    pub(crate) fn read(
+        name: KeyName,
+        words: &'a [&'a [u8]],
     ) -> Result<SetOptions<'a>, CommandFault<'a>>
-        ensures { SetGoesOn (set_view self.entry) (option.now ∷ texts rest.now)
-            (set_by result) (drop (taken option.now (texts rest.now)) (texts rest.now)) }
-    {
-        match rest {
-            [value, ..] => {
-                if has_value(option) {
-                    self.with_valued(option, value)
-                } else {
-                    self.with_flag(option)
-                }
-            }
-            [] => self.with_flag(option),
-        }
-    }
-
-    /// Reads the options.
-    pub(crate) fn read(words: &'a [&'a [u8]]) -> Result<SetOptions<'a>, CommandFault<'a>>
-        ensures { set_by result ≡ with_options no_options (texts words.now) }
+        ensures { set_by result ≡ set_options name (texts words.now) }
     {
         let mut options = SetOptions {
             condition: Condition::Always,
             wants_old: false,
+            term: None,
         };
         let mut left = words;
-        while let [option, rest @ ..] = left {
-            options = options.with_first(option, rest)?;
-            left = &rest[taken(option, rest)..];
+        while !left.is_empty() {
+            let Some((option, count)) = first_option(left) else {
+                return Err(CommandFault::Syntax);
+            };
+            if !option.is_of(name) {
+                return Err(CommandFault::Syntax);
+            }
+            options = options.with(option)?;
+            left = &left[count..];
         }
         Ok(options)
     }
 }
 
-/// The options of `SCAN`.
+/// What the options of `SCAN` come to.
 #[derive(Clone, Copy)]
 pub(crate) struct ScanOptions<'a> {
     pub(crate) pattern: Option<&'a [u8]>,
@@ -157,20 +251,20 @@ impl<'a> ScanOptions<'a> {
     /// Adds an option and its value.
     fn with_option(
         self,
-        option: &'a [u8],
+        word: &'a [u8],
         value: &'a [u8],
     ) -> Result<ScanOptions<'a>, CommandFault<'a>>
-        ensures { scan_by result ≡ with_scan_option (scan_view self.entry) option.now value.now }
+        ensures { scan_by result ≡ scan_with (scan_view self.entry) (scan_option word.now value.now) }
     {
-        if is("match", option) {
+        if is("match", word) {
             Ok(ScanOptions {
                 pattern: Some(value),
                 ..self
             })
-        } else if is("count", option) {
+        } else if is("count", word) {
             let count = count_of(number(value)?)?;
             Ok(ScanOptions { count, ..self })
-        } else if is("type", option) {
+        } else if is("type", word) {
             let is_string = is("string", value);
             Ok(ScanOptions { is_string, ..self })
         } else {
@@ -180,7 +274,7 @@ impl<'a> ScanOptions<'a> {
 
     /// Reads the options.
     pub(crate) fn read(words: &'a [&'a [u8]]) -> Result<ScanOptions<'a>, CommandFault<'a>>
-        ensures { scan_by result ≡ with_scan_options no_scan_options (texts words.now) }
+        ensures { scan_by result ≡ scan_options (texts words.now) }
     {
         let mut options = ScanOptions {
             pattern: None,
@@ -200,16 +294,8 @@ impl<'a> ScanOptions<'a> {
     }
 }
 
-/// The options of `HELLO`.
-#[derive(Clone, Copy)]
-pub(crate) struct HelloOptions<'a> {
-    pub(crate) name: Option<&'a [u8]>,
-    /// Another user than `default` is named last.
-    pub(crate) is_stranger: bool,
-}
-
-/// Whether a client may have this name.
-pub(crate) fn is_client_name(name: &[u8]) -> bool
+/// Whether each byte of a client's name is from `!` to `~`.
+fn is_client_name(name: &[u8]) -> bool
     ensures { result ≡ is_client_name name.now }
 {
     for b in name {
@@ -220,6 +306,28 @@ pub(crate) fn is_client_name(name: &[u8]) -> bool
     true
 }
 
+/// Returns the client's name, if it is within its limit.
+pub(crate) fn short_name<'a>(name: &'a [u8]) -> Result<&'a [u8], CommandFault<'a>>
+    ensures value { text_by result ≡ short_name name.now }
+    ensures short { IfOk result (λ given. length given.now ≤ NAME_BYTES) }
+{
+    if name.len() > NAME_BYTES {
+        return Err(CommandFault::LongClientName);
+    }
+    Ok(name)
+}
+
+/// Returns the client's name, if it may have this one.
+pub(crate) fn client_name<'a>(name: &'a [u8]) -> Result<&'a [u8], CommandFault<'a>>
+    ensures value { text_by result ≡ client_name name.now }
+    ensures short { IfOk result (λ given. length given.now ≤ NAME_BYTES) }
+{
+    if !is_client_name(name) {
+        return Err(CommandFault::BadClientName);
+    }
+    short_name(name)
+}
+
 /// Whether this is the user that each client is.
 pub(crate) fn is_default(user: &[u8]) -> bool
     ensures { result ≡ is_default user.now }
@@ -227,78 +335,88 @@ pub(crate) fn is_default(user: &[u8]) -> bool
     user == b"default".as_slice()
 }
 
-/// Returns how many of the words after an option of `HELLO` belong to it.
-fn hello_taken(option: &[u8], rest: &[&[u8]]) -> usize
-    ensures value { result ≡ hello_taken option.now (texts rest.now) }
-    ensures within { result ≤ length rest.now }
+/// An option of `HELLO`.
+#[derive(Clone, Copy)]
+pub(crate) enum HelloOption<'a> {
+    /// `SETNAME`
+    Named(&'a [u8]),
+    /// `AUTH`; the password is of no account.
+    User(&'a [u8]),
+}
+
+/// Returns the option that gives the client's name.
+fn naming<'a>(word: &'a [u8], value: &'a [u8]) -> Result<HelloOption<'a>, CommandFault<'a>>
+    ensures { naming_by result ≡ naming word.now value.now }
 {
-    match rest {
-        [] => 0,
-        [_] => 1,
-        [_, _, ..] => 1 + usize::from(is("auth", option)),
+    if !is("setname", word) {
+        return Err(CommandFault::HelloOption(word));
+    }
+    if !is_client_name(value) {
+        return Err(CommandFault::BadClientName);
+    }
+    Ok(HelloOption::Named(value))
+}
+
+/// Returns the option that the first words spell, and how many words it has.
+fn first_hello_option<'a>(
+    words: &'a [&'a [u8]],
+) -> Result<(HelloOption<'a>, usize), CommandFault<'a>>
+    requires { 1 ≤ length words.now }
+    ensures value { hello_goes_on result (texts words.now) ≡ each_hello_option (texts words.now) }
+    ensures within { IfOk result (λ first. (1 ≤ first.1) × (first.1 ≤ 3) × (first.1 ≤ length words.now)) }
+{
+    match words {
+        [word, value, _, ..] => {
+            if is("auth", word) {
+                Ok((HelloOption::User(value), 3))
+            } else {
+                Ok((naming(word, value)?, 2))
+            }
+        }
+        [word, value] => Ok((naming(word, value)?, 2)),
+        [word] => Err(CommandFault::HelloOption(word)),
+        [] => Err(CommandFault::Syntax),
     }
 }
 
-impl<'a> HelloOptions<'a> {
-    /// Adds an option that gives the client's name.
-    fn with_name(
-        self,
-        option: &'a [u8],
-        name: &'a [u8],
-    ) -> Result<HelloOptions<'a>, CommandFault<'a>>
-        ensures { hello_by result ≡ with_name (hello_view self.entry) option.now name.now }
-    {
-        if !is("setname", option) {
-            return Err(CommandFault::HelloOption(option));
-        }
-        if !is_client_name(name) {
-            return Err(CommandFault::BadClientName);
-        }
-        Ok(HelloOptions {
-            name: Some(name),
-            ..self
-        })
-    }
+/// What the options of `HELLO` come to.
+#[derive(Clone, Copy)]
+pub(crate) struct HelloOptions<'a> {
+    pub(crate) name: Option<&'a [u8]>,
+    /// Another user than `default` is named last.
+    pub(crate) is_stranger: bool,
+}
 
-    /// Adds the first option, with its values.
-    #[tactic(auto, using(crate::proofs::OptionLemmas::hello_auth, crate::proofs::OptionLemmas::hello_named, crate::proofs::OptionLemmas::hello_last, crate::proofs::OptionLemmas::hello_alone))]
-    fn with_first(
-        self,
-        option: &'a [u8],
-        rest: &'a [&'a [u8]],
-    ) -> Result<HelloOptions<'a>, CommandFault<'a>>
-        ensures { HelloGoesOn (hello_view self.entry) (option.now ∷ texts rest.now)
-            (hello_by result) (drop (hello_taken option.now (texts rest.now)) (texts rest.now)) }
+impl<'a> HelloOptions<'a> {
+    /// Adds an option.
+    fn with(self, option: HelloOption<'a>) -> HelloOptions<'a>
+        ensures { hello_view result ≡ with_hello_option (hello_view self.entry) (hello_option_by option.entry) }
     {
-        match rest {
-            [value, _, ..] => {
-                if is("auth", option) {
-                    let is_stranger = !is_default(value);
-                    Ok(HelloOptions {
-                        is_stranger,
-                        ..self
-                    })
-                } else {
-                    self.with_name(option, value)
-                }
-            }
-            [name] => self.with_name(option, name),
-            [] => Err(CommandFault::HelloOption(option)),
+        match option {
+            HelloOption::Named(name) => HelloOptions {
+                name: Some(name),
+                ..self
+            },
+            HelloOption::User(user) => HelloOptions {
+                is_stranger: !is_default(user),
+                ..self
+            },
         }
     }
 
     /// Reads the options.
     pub(crate) fn read(words: &'a [&'a [u8]]) -> Result<HelloOptions<'a>, CommandFault<'a>>
-        ensures { hello_by result ≡ with_hello_options no_hello_options (texts words.now) }
+        ensures { hello_by result ≡ hello_options (texts words.now) }
     {
         let mut options = HelloOptions {
             name: None,
             is_stranger: false,
         };
         let mut left = words;
-        while let [option, rest @ ..] = left {
-            options = options.with_first(option, rest)?;
-            left = &rest[hello_taken(option, rest)..];
+        while !left.is_empty() {
+            let (option, count) = first_hello_option(left)?;
+            options = options.with(option);
+            left = &left[count..];
         }
         Ok(options)
     }

@@ -1,7 +1,13 @@
 //! Rows that a Redis 7.0.15 answered.
-use crate::{Command, CommandFault, Condition, KeyAct, WalkCommand, command_of, matches};
+use crate::{
+    Command, CommandFault, Condition, ExpireRule, KeyAct, Lifetime, TimeForm, TimeUnit,
+    WalkCommand, command_of, matches,
+};
 use std::alloc::{AllocError, Global};
 use std::test::Fail;
+
+/// The time of the rows.
+const NOW: u64 = 1_000;
 
 /// Splits a line into words at its blanks.
 fn words_of<'a>(alloc: Global, line: &'a str) -> Result<Vec<&'a [u8]>, AllocError> {
@@ -14,7 +20,7 @@ fn words_of<'a>(alloc: Global, line: &'a str) -> Result<Vec<&'a [u8]>, AllocErro
 }
 
 /// Lines of words, and the text of the error.
-const FAULTS: [(&str, &str); 38] = [
+const FAULTS: [(&str, &str); 48] = [
     (
         "foo",
         "ERR unknown command 'foo', with args beginning with: ",
@@ -24,8 +30,8 @@ const FAULTS: [(&str, &str); 38] = [
         "ERR unknown command 'foo', with args beginning with: 'a  b' 'd' ",
     ),
     (
-        "EXPIRE",
-        "ERR unknown command 'EXPIRE', with args beginning with: ",
+        "MULTI",
+        "ERR unknown command 'MULTI', with args beginning with: ",
     ),
     ("GET a b", "ERR wrong number of arguments for 'get' command"),
     (
@@ -54,7 +60,35 @@ const FAULTS: [(&str, &str); 38] = [
     ),
     ("set a 1 nx xx", "ERR syntax error"),
     ("set a 1 ifeq", "ERR syntax error"),
-    ("set a 1 ex 10", "ERR deadlines are not served"),
+    ("set a 1 ex 0", "ERR invalid expire time in 'set' command"),
+    ("set a 1 ex x foo", "ERR syntax error"),
+    ("set a 1 ex 1 px 1", "ERR syntax error"),
+    (
+        "set a 1 ex x",
+        "ERR value is not an integer or out of range",
+    ),
+    ("getex a keepttl", "ERR syntax error"),
+    (
+        "psetex a 9223372036854775807 v",
+        "ERR invalid expire time in 'psetex' command",
+    ),
+    ("expire a x nx f\noo\r\n gt", "ERR Unsupported option f oo"),
+    (
+        "expire a x nx gt",
+        "ERR NX and XX, GT or LT options at the same time are not compatible",
+    ),
+    (
+        "pexpire a x lt gt",
+        "ERR GT and LT options at the same time are not compatible",
+    ),
+    (
+        "expireat a -9223372036854776",
+        "ERR invalid expire time in 'expireat' command",
+    ),
+    (
+        "client setname aaaaaaaaaaaaaaaaaaaaaaaaaaaaaaaaaaaaaaaaaaaaaaaaaaaaaaaaaaaaaaaaa",
+        "ERR client name exceeds maximum allowed size (64)",
+    ),
     ("incrby n 01", "ERR value is not an integer or out of range"),
     (
         "incrby n 9223372036854775808",
@@ -111,7 +145,7 @@ const FAULTS: [(&str, &str); 38] = [
     ),
     (
         "eval t 0",
-        "ERR not served: a script is called with one key and at most one argument",
+        "ERR not served: a script is called with one key",
     ),
     (
         "evalsha x y",
@@ -131,7 +165,7 @@ const FAULTS: [(&str, &str); 38] = [
 fn error_texts_are_those_of_redis(rt: HostRuntime) -> Result<(), Fail> {
     for (line, text) in FAULTS {
         let words = words_of(rt.alloc(), line)?;
-        match command_of(&words) {
+        match command_of(&words, NOW) {
             Ok(_) => assert!(rt; false, "{line}"),
             Err(fault) => assert!(rt; fault.text().as_slice() == text.as_bytes(), "{line}"),
         }
@@ -140,8 +174,10 @@ fn error_texts_are_those_of_redis(rt: HostRuntime) -> Result<(), Fail> {
 }
 
 /// Patterns, texts, and whether they match.
-const PATTERNS: [(&[u8], &[u8], bool); 16] = [
+const PATTERNS: [(&[u8], &[u8], bool); 18] = [
     (b"*", b"", true),
+    (b"**", b"", false),
+    (b"**", b"a", true),
     (b"a*c", b"abcbc", true),
     (b"a*c", b"abcb", false),
     (b"*a*a*", b"ba", false),
@@ -182,15 +218,77 @@ fn options_come_in_any_order(rt: HostRuntime) {
             value: b"v",
             condition: Condition::IfAbsent,
             wants_old: true,
+            lifetime: Lifetime::Kept,
         },
     };
-    assert!(rt; command_of(&SET) == Ok(wanted), "SET");
+    assert!(rt; command_of(&SET, NOW) == Ok(wanted), "SET");
     let wanted = Command::Walk(WalkCommand::Scan {
         cursor: 9,
         pattern: Some(b"a*"),
         count: 5,
         is_string: true,
     });
-    assert!(rt; command_of(&SCAN) == Ok(wanted), "SCAN");
-    assert!(rt; command_of(&POST) == Err(CommandFault::WebRequest), "POST");
+    assert!(rt; command_of(&SCAN, NOW) == Ok(wanted), "SCAN");
+    assert!(rt;
+        command_of(&POST, NOW) == Err(CommandFault::WebRequest),
+        "POST"
+    );
+}
+
+/// Lines of words, and what they ask for at the time 1,000.
+const DEADLINES: [(&str, KeyAct<'static>); 6] = [
+    (
+        "setex k 2 v",
+        KeyAct::Set {
+            value: b"v",
+            condition: Condition::Always,
+            wants_old: false,
+            lifetime: Lifetime::Until(3_000),
+        },
+    ),
+    (
+        "getex k pxat 7 PXAT 9",
+        KeyAct::GetAndExpire {
+            lifetime: Lifetime::Until(9),
+        },
+    ),
+    (
+        "getex k persist",
+        KeyAct::GetAndExpire {
+            lifetime: Lifetime::Forever,
+        },
+    ),
+    (
+        "expire k -2 LT xx",
+        KeyAct::Expire {
+            at: 0,
+            rule: ExpireRule::IfSomeAndSooner,
+        },
+    ),
+    (
+        "pexpireat k 5 xx gt",
+        KeyAct::Expire {
+            at: 5,
+            rule: ExpireRule::IfLater,
+        },
+    ),
+    (
+        "pexpiretime k",
+        KeyAct::TimeLeft {
+            unit: TimeUnit::Millis,
+            form: TimeForm::Until,
+        },
+    ),
+];
+
+#[test]
+fn deadlines_are_absolute(rt: HostRuntime) -> Result<(), Fail> {
+    for (line, act) in DEADLINES {
+        let words = words_of(rt.alloc(), line)?;
+        assert!(rt;
+            command_of(&words, NOW) == Ok(Command::OnKey { key: b"k", act }),
+            "{line}"
+        );
+    }
+    Ok(())
 }

@@ -2,8 +2,8 @@
 ghost use Rattle.std.specs.Prelude.{◌≡◌, ◌+◌, ◌≤◌, ◌++◌, length, codes};
 ghost use Rattle.redis_commands.specs.Names.{name_text, sub_word, parent_of, parent_text};
 ghost use Rattle.redis_commands.specs.Commands.{texts};
-ghost use Rattle.redis_commands.specs.Commands.Fault.{UnknownCommand, UnknownSub, WrongCount, WrongSubCount, HelloOption};
-ghost use Rattle.redis_commands.specs.Texts.{until_0, blanked, shown, shown_args, fault_text};
+ghost use Rattle.redis_commands.specs.Commands.Fault.{UnknownCommand, UnknownSub, WrongCount, WrongSubCount, BadExpire, ExpireOption, HelloOption};
+ghost use Rattle.redis_commands.specs.Texts.{until_0, is_line_end, trimmed, blanked, shown, shown_args, fault_text};
 
 use crate::name::{Name, Parent, Sub};
 use arrayvec::ArrayVec;
@@ -147,6 +147,25 @@ impl FaultText {
         text
     }
 
+    /// Makes the text of `BadExpire`.
+    pub(crate) fn bad_expire(name: Name) -> FaultText
+        ensures { result ≡ fault_text (BadExpire name) }
+    {
+        let mut text = FaultText::of("ERR invalid expire time in '");
+        text.add_text(name.text());
+        text.add_text("' command");
+        text
+    }
+
+    /// Makes the text of `ExpireOption`.
+    pub(crate) fn expire_option(option: &[u8]) -> FaultText
+        ensures { result ≡ fault_text (ExpireOption option.now) }
+    {
+        let mut text = FaultText::of("ERR Unsupported option ");
+        text.add_shown(SHOWN_BYTES, trimmed(until_0(option)));
+        text
+    }
+
     /// Makes the text of `HelloOption`.
     pub(crate) fn hello_option(option: &[u8]) -> FaultText
         ensures { result ≡ fault_text (HelloOption option.now) }
@@ -156,6 +175,39 @@ impl FaultText {
         text.add_text("'");
         text
     }
+}
+
+/// Returns the bytes before the first 0.
+fn until_0(word: &[u8]) -> &[u8]
+    ensures { result.now ≡ until_0 word.now }
+{
+    for i in 0..word.len() {
+        if word[i] == 0 {
+            return &word[..i];
+        }
+    }
+    word
+}
+
+/// Whether the byte ends a line.
+fn is_line_end(b: u8) -> bool
+    ensures { result ≡ is_line_end b }
+{
+    b == b'\n' || b == b'\r'
+}
+
+/// Returns the text without the ends of lines at its end.
+fn trimmed(text: &[u8]) -> &[u8]
+    ensures { result.now ≡ trimmed text.now }
+{
+    let mut left = text;
+    while let [before @ .., last] = left {
+        if !is_line_end(*last) {
+            return left;
+        }
+        left = before;
+    }
+    left
 }
 
 /// Returns a blank for the end of a line, and else the byte.

@@ -1,6 +1,6 @@
 use Rattle.std.proofs.Common.{◌%◌, ◌∙◌, sym, ap}
 use Rattle.redis_commands.specs.Commands.{texts}
-use Rattle.redis_commands.specs.Options.{err_by}
+use Rattle.redis_commands.specs.Reading.{err_by}
 use Rattle.redis_commands.proofs.LimitLemmas.{pairs_within, length_texts}
 use Rattle.redis_commands.proofs.keyed.set_each.Goals as goal
 

@@ -1,5 +1,5 @@
 use Rattle.std.proofs.Common.{◌≡◌, drop}
-use Rattle.redis_commands.specs.Table.{is_client_name}
+use Rattle.redis_commands.specs.Options.{is_client_name}
 use Rattle.redis_commands.proofs.options.is_client_name.Given as goal
 
 -- the bytes so far may stand in a name
