@@ -1,4 +1,5 @@
 pub mod ChainLemmas
+pub mod ExpiryLemmas
 pub mod FindingLemmas
 pub mod ClearingLemmas
 pub mod ChoiceLemmas

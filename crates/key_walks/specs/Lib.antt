@@ -1,5 +1,6 @@
 pub mod Places
 pub mod Turns
+pub mod Expired
 pub mod Walks
 pub mod Pages
 pub mod Iterations

@@ -29,9 +29,14 @@ pub record FindsKeys (old : PassState) (k : ℕ) (keys : List (List ℕ)) (new :
 abbrev pub MayScan : PassState → ℕ → PassState → Type 0
 MayScan old k new = Makes old k [] new ⊎ ((entries : List Entry) × Scans old k entries new)
 
--- a request for memory was refused: this was done on the first stripes in turn, and on the next one nothing or one scan
-pub record Stops {X : Type 0} (Did : PassState → ℕ → X → PassState → Type 0) (at : ℕ → ℕ) (old new : PassState) : Type 0 where
+-- a request for memory was refused: this was done on the first stripes in turn, and on the next one just what `Tried` says
+pub record StopsIn {X : Type 0} (Did : PassState → ℕ → X → PassState → Type 0) (Tried : PassState → ℕ → PassState → Type 0) (at : ℕ → ℕ)
+    (old new : PassState) : Type 0 where
   pub items : List X
   pub between : PassState
   pub turns : InTurn Did at old items between
-  pub last : MayScan between (at (length items)) new
+  pub last : Tried between (at (length items)) new
+
+-- on the next stripe nothing was done, or one scan
+abbrev pub Stops : {X : Type 0} → (PassState → ℕ → X → PassState → Type 0) → (ℕ → ℕ) → PassState → PassState → Type 0
+Stops Did at old new = StopsIn Did MayScan at old new

@@ -5,6 +5,7 @@ use Rattle.atomic_methods.specs.Invocations.{on_key, remove}
 use Rattle.bin_stripes.specs.Invoked.{Calls, CountsStripe}
 use Rattle.bin_stripes.specs.Passes.{PassState, ServesSameMap, stripes_of}
 use Rattle.key_walks.specs.Turns.{Chain, InTurn, FindsKeys}
+use Rattle.key_walks.specs.Expired.{FindsLive}
 
 -- each stripe in turn
 abbrev pub each : ℕ → ℕ
@@ -17,10 +18,10 @@ pub record CountsAll (old : PassState) (count : ℕ) (new : PassState) : Type 0 
   pub all : length counts ≡ stripes_of old.map
   pub count_is : count ≡ sum counts
 
--- all stripes were scanned in turn, and have these keys together
-pub record FindsAll (old : PassState) (keys : List (List ℕ)) (new : PassState) : Type 0 where
+-- each stripe in turn was scanned, after its entries whose time was over were taken away; they have these keys together
+pub record FindsAll (now : ℕ) (old : PassState) (keys : List (List ℕ)) (new : PassState) : Type 0 where
   pub lists : List (List (List ℕ))
-  pub turns : InTurn FindsKeys each old lists new
+  pub turns : InTurn (FindsLive now) each old lists new
   pub all : length lists ≡ stripes_of old.map
   pub keys_are : keys ≡ flat_map (λ list. list) lists
 
@@ -45,12 +46,13 @@ pub record ClearsAll (old new : PassState) : Type 0 where
 abbrev pub each_from : ℕ → ℕ → ℕ → ℕ
 each_from stripes number i = (number % stripes + i) % stripes
 
--- stripes were scanned in turn until one had a key, and that is the choice; or all of them had none
-pub record Chooses (number : ℕ) (old : PassState) (choice : Option (List ℕ)) (new : PassState) : Type 0 where
+-- stripes in turn were scanned, each after its entries whose time was over were taken away, until one had a key, and that is the
+-- choice; or all of them had none
+pub record Chooses (now number : ℕ) (old : PassState) (choice : Option (List ℕ)) (new : PassState) : Type 0 where
   pub lists : List (List (List ℕ))
   pub empty : All (λ keys. keys ≡ []) lists
   pub between : PassState
-  pub turns : InTurn FindsKeys (each_from (stripes_of old.map) number) old lists between
+  pub turns : InTurn (FindsLive now) (each_from (stripes_of old.map) number) old lists between
   pub choice_is : MatchOption choice ((length lists ≡ stripes_of old.map) × (new ≡ between))
       (λ key. (length lists < stripes_of old.map) × ((keys : List (List ℕ))
-      × (FindsKeys between (each_from (stripes_of old.map) number (length lists)) keys new × Contains keys key)))
+      × (FindsLive now between (each_from (stripes_of old.map) number (length lists)) keys new × Contains keys key)))

@@ -2,9 +2,11 @@
 ghost use Rattle.std.specs.Prelude.{◌≡◌, ◌<◌, ◌++◌, length, map, IfOk, OnOk, OnErr};
 ghost use Rattle.bins.specs.Entries.{entry_of};
 ghost use Rattle.bin_stripes.specs.Passes.{ServesSameMap, stripes_of};
-ghost use Rattle.key_walks.specs.Turns.{FindsKeys, MayScan, Stops};
+ghost use Rattle.key_walks.specs.Turns.{FindsKeys, MayScan};
+ghost use Rattle.key_walks.specs.Expired.{FindsLive, StopsLive};
 ghost use Rattle.key_walks.specs.Walks.{FindsAll, each};
 
+use crate::expiring::live_keys;
 use bin_stripes::{Pass, StripedMap};
 use bins::EntryList;
 use bpf_model::{Key, NoMemory};
@@ -61,23 +63,25 @@ fn add_all(keys: &mut Vec<Key>, more: Vec<Key>) -> Result<(), NoMemory>
     Ok(())
 }
 
-/// Returns all keys, by one scan of each stripe in turn; those of one stripe in any order. Returns `NoMemory` if a request for
-/// memory is refused; the first stripes were scanned then. Waits until each stripe is free.
+/// Returns all keys, by one scan of each stripe in turn; those of one stripe in any order. Before a stripe is scanned, its entries
+/// whose time is over at `now` are taken away. Returns `NoMemory` if a request for memory is refused; the first stripes were scanned
+/// then. Waits until each stripe is free.
 pub fn all_keys<R: Wait>(
     rt: &R,
     alloc: Global,
     map: &StripedMap,
     pass: &mut Pass,
+    now: u64,
 ) -> Result<Vec<Key>, NoMemory>
     requires map { pass.old.map ≡ map.now }
     ensures same { ServesSameMap pass.old pass.new }
-    ensures ok { IfOk result (λ keys. FindsAll pass.old keys.items pass.new) }
-    ensures err { OnErr result (Stops FindsKeys each pass.old pass.new) }
+    ensures ok { IfOk result (λ keys. FindsAll now pass.old keys.items pass.new) }
+    ensures err { OnErr result (StopsLive now (FindsLive now) each pass.old pass.new) }
 {
     let stripes = map.stripes();
     let mut keys = Vec::new(alloc);
     for stripe in 0..stripes {
-        let more = stripe_keys(rt, alloc, map, pass, stripe)?;
+        let more = live_keys(rt, alloc, map, pass, stripe, now)?;
         add_all(&mut keys, more)?;
     }
     Ok(keys)

@@ -9,6 +9,7 @@
 mod choosing;
 mod clearing;
 mod counting;
+mod expiring;
 mod finding;
 mod pages;
 mod places;
@@ -17,4 +18,4 @@ pub use choosing::random_key;
 pub use clearing::remove_all;
 pub use counting::count_all;
 pub use finding::all_keys;
-pub use pages::{Page, scan_some};
+pub use pages::{Page, PageAsked, scan_some};

@@ -2,10 +2,11 @@
 ghost use Rattle.std.specs.Prelude.{◌≡◌, ◌↔◌, ℕ, List, IsTrue, ◌<◌, ◌≤◌, ◌+◌, ◌-◌, ◌/◌, ◌^◌, ◌++◌, ◌&&◌, max, leb, ltb, count_by, filter, map, length, IfOk, OnOk, OnErr};
 ghost use Rattle.bin_stripes.specs.Passes.{ServesSameMap, stripes_of};
 ghost use Rattle.key_walks.specs.Places.{stands_in, start_of};
-ghost use Rattle.key_walks.specs.Turns.{MayScan, Stops};
+ghost use Rattle.key_walks.specs.Expired.{MayScanLive, StopsLive};
 ghost use Rattle.key_walks.specs.Iterations.{PageCall, IsWhole, AreShown};
-ghost use Rattle.key_walks.specs.Pages.{IsPage, Takes, TakesMore, stripes_from};
+ghost use Rattle.key_walks.specs.Pages.{IsPage, TakesLive, TakesMore, stripes_from};
 
+use crate::expiring::expire_all;
 use crate::finding::key_at;
 use crate::places::{PLACES, cursor_of, place_of, places_of};
 use bin_stripes::{Pass, StripedMap};
@@ -13,6 +14,17 @@ use bins::EntryList;
 use bpf_model::{Key, NoMemory};
 use std::alloc::Global;
 use std::sync::Wait;
+
+/// Which page of a walk is asked for, and when.
+#[derive(Clone, Copy, Debug, PartialEq, Eq)]
+pub struct PageAsked {
+    /// The cursor at which the page begins; 0 begins a walk. Any number is allowed.
+    pub cursor: u64,
+    /// How many keys the page has at least, unless the walk is over; 0 stands for 1.
+    pub most: u64,
+    /// The time in milliseconds since the epoch.
+    pub time: u64,
+}
 
 /// A page of a walk.
 #[derive(Drop)]
@@ -97,29 +109,31 @@ fn add_between(
     Ok(())
 }
 
-/// Scans the stripe that the page has come to, and adds keys of it until there are at least `most` or the stripe ends. Returns
-/// `NoMemory` if a request for memory is refused; the keys of the page may be lost then. Waits until the stripe is free.
+/// Scans the stripe that the page has come to, after its entries whose time is over were taken away, and adds keys of it until there
+/// are at least `most` or the stripe ends. Returns `NoMemory` if a request for memory is refused; the keys of the page may be lost
+/// then. Waits until the stripe is free.
 fn take_part<R: Wait>(
     rt: &R,
     alloc: Global,
     map: &StripedMap,
     pass: &mut Pass,
-    most: u64,
+    asked: &PageAsked,
     page: &mut Page,
 ) -> Result<(), NoMemory>
     requires map { pass.old.map ≡ map.now }
     requires stripes { stripes_of map.now ≤ 64 }
     requires place { page.old.next < start_of (stripes_of map.now) }
-    requires most { length page.old.keys.items < most }
+    requires most { length page.old.keys.items < asked.now.most }
     ensures same { ServesSameMap pass.old pass.new }
-    ensures ok { OnOk result (TakesMore most pass.old page.old.keys.items page.old.next page.new.keys.items page.new.next pass.new) }
-    ensures err { OnErr result (MayScan pass.old (page.old.next / 2 ^ 32) pass.new) }
+    ensures ok { OnOk result (TakesMore asked.now.time asked.now.most pass.old page.old.keys.items page.old.next page.new.keys.items page.new.next pass.new) }
+    ensures err { OnErr result (MayScanLive asked.now.time pass.old (page.old.next / 2 ^ 32) pass.new) }
 {
     let stripe = page.next / PLACES;
+    expire_all(rt, map, pass, stripe, asked.time);
     let mut found = EntryList::new(alloc);
     map.copy_stripe(rt, pass, stripe, &mut found)?;
     let places = places_of(alloc, stripe, &found)?;
-    let more = most - page.keys.len() as u64;
+    let more = asked.most - page.keys.len() as u64;
     let until = end_of(&places, page.next, (stripe + 1) * PLACES, more);
     add_between(&mut page.keys, &found, stripe, page.next, until)?;
     page.next = until;
@@ -128,29 +142,31 @@ fn take_part<R: Wait>(
 
 /// Returns some keys from a cursor on, and the cursor of the next page. Begin with the cursor 0, and go on with the cursor of the
 /// last page until it is 0: a key that is there all along comes in one of these pages (`Page::is_last`). A page has at least `most` keys
-/// unless the walk is over, and more only if keys have the same hash; 0 stands for 1. Any number is allowed as a cursor. Returns
-/// `NoMemory` if a request for memory is refused. Scans a stripe at a time, and waits until each is free.
+/// unless the walk is over, and more only if keys have the same hash. Before a stripe is scanned, its entries whose time is over at
+/// that time are taken away. Returns `NoMemory` if a request for memory is refused. Scans a stripe at a time, and waits until each is free.
 pub fn scan_some<R: Wait>(
     rt: &R,
     alloc: Global,
     map: &StripedMap,
     pass: &mut Pass,
-    cursor: u64,
-    most: u64,
+    asked: PageAsked,
 ) -> Result<Page, NoMemory>
     requires map { pass.old.map ≡ map.now }
     ensures same { ServesSameMap pass.old pass.new }
-    ensures ok { IfOk result (λ page. IsPage pass.old cursor most page.keys.items page.next pass.new) }
-    ensures err { OnErr result (Stops (Takes (max most 1)) (stripes_from cursor) pass.old pass.new) }
+    ensures ok { IfOk result (λ page. IsPage asked.time pass.old asked.cursor asked.most page.keys.items page.next pass.new) }
+    ensures err { OnErr result (StopsLive asked.time (TakesLive asked.time (max asked.most 1)) (stripes_from asked.cursor) pass.old pass.new) }
 {
     let stripes = map.stripes();
-    let wanted = most.max(1);
+    let wanted = PageAsked {
+        most: asked.most.max(1),
+        ..asked
+    };
     let mut page = Page {
         keys: Vec::new(alloc),
-        next: cursor,
+        next: asked.cursor,
     };
-    while (page.keys.len() as u64) < wanted && page.next < stripes * PLACES {
-        take_part(rt, alloc, map, pass, wanted, &mut page)?;
+    while (page.keys.len() as u64) < wanted.most && page.next < stripes * PLACES {
+        take_part(rt, alloc, map, pass, &wanted, &mut page)?;
     }
     page.next = cursor_of(stripes, page.next);
     Ok(page)

@@ -8,5 +8,5 @@ abbrev pub invariant-loop-turn : goal.invariant-loop-turn
 invariant-loop-turn g l = record {
   map : l.pass.map ≡ l.fn.pass.map;
   same : ServesSameMap l.fn.pass l.pass;
-  done : Empty (stripes_of l.fn.pass.map) l.number l.turn l.fn.pass l.pass;
+  done : Empty l.now (stripes_of l.fn.pass.map) l.number l.turn l.fn.pass l.pass;
 }

@@ -8,5 +8,5 @@ abbrev pub invariant-loop-stripe : goal.invariant-loop-stripe
 invariant-loop-stripe g l = record {
   map : l.pass.map ≡ l.fn.pass.map;
   same : ServesSameMap l.fn.pass l.pass;
-  done : Found l.stripe l.fn.pass l.keys.items l.pass;
+  done : Found l.now l.stripe l.fn.pass l.keys.items l.pass;
 }

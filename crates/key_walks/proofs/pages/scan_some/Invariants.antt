@@ -8,7 +8,7 @@ abbrev pub invariant-loop-alloc : goal.invariant-loop-alloc
 invariant-loop-alloc g l = record {
   map : l.pass.map ≡ l.fn.pass.map;
   same : ServesSameMap l.fn.pass l.pass;
-  done : Came l.wanted l.fn.cursor l.fn.pass l.page.keys.items l.page.next l.pass;
+  done : Came l.fn.asked.time l.wanted.most l.fn.asked.cursor l.fn.pass l.page.keys.items l.page.next l.pass;
 }
 
 abbrev pub decreases-loop-alloc : goal.decreases-loop-alloc
