@@ -9,5 +9,7 @@ pub mod TalkLemmas
 pub mod FaultLemmas
 pub mod EndLemmas
 pub mod WalkLemmas
+pub mod SweepLemmas
 pub mod ProgramLemmas
 pub mod CountLemmas
+mod LockLemmas

@@ -12,7 +12,7 @@ line_some : (line bytes : List ℕ) → IsLine line bytes → 1 ≤ length bytes
 line_some line bytes (front, short, is) = omega (arith, ap length is, length-append line (10 ∷ []))
 
 spells_some : (words : List (List ℕ)) (read : List ℕ) → Spells words read → 1 ≤ length read
-spells_some words read spells = elim spells [ inl array ↦ begins read _ 42 array.2 | inr line ↦ line_some line.0 read line.2 ]
+spells_some words read spells = elim spells [ inl array ↦ begins read _ 42 array.3 | inr line ↦ line_some line.0 read line.2 ]
 
 empty_some : (read : List ℕ) → IsEmptyArray read → 1 ≤ length read
 empty_some read is = elim is [ inl zero ↦ begins read _ 42 zero | inr negative ↦ begins read _ 42 negative.3 ]

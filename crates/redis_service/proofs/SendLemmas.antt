@@ -1,5 +1,6 @@
 -- Bytes that are sent part by part.
 use Rattle.std.proofs.Common.{ℕ, ◌+◌, List, [], ◌++◌, Option, None, Some, Result, Ok, Err, OnOk, OnErr, refl, sym, ap, ◌∙◌, append_assoc, arith}
+use Rattle.std.specs.Result.{IsErr}
 use Rattle.std.proofs.lemmas.List.{length-append, append-nil}
 use Rattle.std.specs.Io.KnownBytes.{Appends}
 use Rattle.std.proofs.KnownBytes.{Appends-trans}
@@ -48,3 +49,8 @@ pub sends_of : {A : Type 0} (result : Result A Failed) (a b : SinkState) (bytes 
     → Sends result a b bytes
 sends_of (Ok _) a b bytes ok err = ok
 sends_of (Err _) a b bytes ok err = err
+
+-- a write failed after a part of these bytes
+pub not_sent : (result : Result (Unit {0}) Failed) (a b : SinkState) (bytes : List ℕ) → IsErr result → TakesPart a b bytes → Sends result a b bytes
+not_sent (Ok _) a b bytes failed taken = cc
+not_sent (Err _) a b bytes failed taken = taken

@@ -4,6 +4,7 @@ use Rattle.std.specs.Borrow.{Bor}
 use Rattle.std.proofs.lemmas.List.{get_or-map, length-map, length-drop, append-nil}
 use Rattle.atomic_methods.specs.declared.reply.Reply.{Reply}
 use Rattle.atomic_methods.specs.Invocations.{on_key, put}
+use Rattle.timed_bins.specs.declared.timing.DeadlineChange.TheVariants.{Clear}
 use Rattle.bin_stripes.specs.Passes.{PassState}
 use Rattle.redis_commands.specs.Commands.{texts}
 use Rattle.redis_commands.specs.Limits.{IsKey, IsValue, ArePairs}
@@ -48,33 +49,33 @@ pairs_end words at all =
     no_pair (drop at (texts words)) (omega (arith, long, length-drop at (texts words)))
 
 -- one more pair was set
-pub sets_more : (old mid new : PassState) (words : List (Bor (List ℕ))) (at : ℕ) (d : Bor (List ℕ)) → at + 1 < length words
-    → (done : List (List ℕ × List ℕ)) × ((replies : List Reply) × Each Puts old done replies mid × (pairs (texts words) ≡ done ++ pairs (drop at (texts words))))
-    → (reply : Reply) × Puts mid ((get_or words at d).now, (get_or words (at + 1) d).now) reply new
-    → (done : List (List ℕ × List ℕ)) × ((replies : List Reply) × Each Puts old done replies new × (pairs (texts words) ≡ done ++ pairs (drop (at + 2) (texts words))))
-sets_more old mid new words at d lt (done, (replies, each, is)) (reply, puts) =
+pub sets_more : (now : ℕ) (old mid new : PassState) (words : List (Bor (List ℕ))) (at : ℕ) (d : Bor (List ℕ)) → at + 1 < length words
+    → (done : List (List ℕ × List ℕ)) × ((replies : List Reply) × Each (Puts now) old done replies mid × (pairs (texts words) ≡ done ++ pairs (drop at (texts words))))
+    → (reply : Reply) × Puts now mid ((get_or words at d).now, (get_or words (at + 1) d).now) reply new
+    → (done : List (List ℕ × List ℕ)) × ((replies : List Reply) × Each (Puts now) old done replies new × (pairs (texts words) ≡ done ++ pairs (drop (at + 2) (texts words))))
+sets_more now old mid new words at d lt (done, (replies, each, is)) (reply, puts) =
     let pair : List ℕ × List ℕ = ((get_or words at d).now, (get_or words (at + 1) d).now) in (
       done ++ pair ∷ [],
       (
         replies ++ reply ∷ [],
-        each_more Puts old mid new done replies pair reply each puts,
+        each_more (Puts now) old mid new done replies pair reply each puts,
         is ∙ ap (λ (t : List (List ℕ)). done ++ pairs t) (pair_at words at d lt) ∙ sym (append_assoc done (pair ∷ []) (pairs (drop (at + 2) (texts words)))),
       ),
     )
 
 -- all pairs were set
-pub sets_all : (old new : PassState) (words : List (Bor (List ℕ))) (at : ℕ) → length words ≤ at + 1
-    → (done : List (List ℕ × List ℕ)) × ((replies : List Reply) × Each Puts old done replies new × (pairs (texts words) ≡ done ++ pairs (drop at (texts words))))
-    → AnswersSetEach old (pairs (texts words)) ok_line new
-sets_all old new words at all (done, (replies, each, is)) =
+pub sets_all : (now : ℕ) (old new : PassState) (words : List (Bor (List ℕ))) (at : ℕ) → length words ≤ at + 1
+    → (done : List (List ℕ × List ℕ)) × ((replies : List Reply) × Each (Puts now) old done replies new × (pairs (texts words) ≡ done ++ pairs (drop at (texts words))))
+    → AnswersSetEach now old (pairs (texts words)) ok_line new
+sets_all now old new words at all (done, (replies, each, is)) =
     let same : pairs (texts words) ≡ done = is ∙ ap (λ (t : List (List ℕ × List ℕ)). done ++ t) (pairs_end words at all) ∙ append-nil done in
-    inl (replies, subst (λ (t : List (List ℕ × List ℕ)). Each Puts old t replies new) (sym same) each, refl)
+    inl (replies, subst (λ (t : List (List ℕ × List ℕ)). Each (Puts now) old t replies new) (sym same) each, refl)
 
 -- the next pair is refused memory
-pub sets_none : (old mid new : PassState) (words : List (Bor (List ℕ))) (at : ℕ) (d : Bor (List ℕ)) → at + 1 < length words
-    → (done : List (List ℕ × List ℕ)) × ((replies : List Reply) × Each Puts old done replies mid × (pairs (texts words) ≡ done ++ pairs (drop at (texts words))))
-    → Refuses mid (on_key (get_or words at d).now (put (get_or words (at + 1) d).now)) new → AnswersSetEach old (pairs (texts words)) no_memory_line new
-sets_none old mid new words at d lt (done, (replies, each, is)) refuses =
+pub sets_none : (now : ℕ) (old mid new : PassState) (words : List (Bor (List ℕ))) (at : ℕ) (d : Bor (List ℕ)) → at + 1 < length words
+    → (done : List (List ℕ × List ℕ)) × ((replies : List Reply) × Each (Puts now) old done replies mid × (pairs (texts words) ≡ done ++ pairs (drop at (texts words))))
+    → Refuses now Clear mid (on_key (get_or words at d).now (put (get_or words (at + 1) d).now)) new → AnswersSetEach now old (pairs (texts words)) no_memory_line new
+sets_none now old mid new words at d lt (done, (replies, each, is)) refuses =
     inr (
       record {
         done = done;

@@ -2,6 +2,7 @@
 use Rattle.std.specs.Prelude.{◌≡◌, ◌⊎◌, ℕ, zero, suc, Bool, true, false, List, Option, Some, None, is_none}
 use Rattle.atomic_methods.specs.declared.reply.Reply.{Reply}
 use Rattle.atomic_methods.specs.Invocations.{Invocation, on_key, put_if_absent, replace_if}
+use Rattle.timed_bins.specs.declared.timing.DeadlineChange.{DeadlineChange}
 use Rattle.bin_stripes.specs.Passes.{PassState}
 use Rattle.redis_service.specs.Lines.{no_memory_line}
 use Rattle.redis_service.specs.Calls.{Makes, Refuses, Finds, value_in, is_done}
@@ -21,18 +22,20 @@ abbrev pub takes : Option (List ℕ) → Reply → Bool
 takes (Some found) reply = is_done reply
 takes None reply = is_none (value_in reply)
 
--- over a key, and what the command does with each value that it may find there
-module _ (key : List ℕ) (Does : Option (List ℕ) → Step → Type 0) where
+-- over the time of the calls, what becomes of the key's deadline if one takes, the key, and what the command does with each value
+-- that it may find there
+module _ (now : ℕ) (change : DeadlineChange) (key : List ℕ) (Does : Option (List ℕ) → Step → Type 0) where
   -- another change came between the Get and the call after it, which changed nothing
   pub record LosesTry (old new : PassState) : Type 0 where
     pub found : Option (List ℕ)
     pub mid : PassState
-    pub finds : Finds old key found mid
+    pub finds : Finds now old key found mid
     pub value : List ℕ
     pub text : List ℕ
     pub does : Does found (becomes value text)
     pub reply : Reply
-    pub makes : Makes mid (swap key found value) reply new
+    pub before : Option ℕ
+    pub makes : Makes now change mid (swap key found value) reply before new
     pub lost : takes found reply ≡ false
 
   -- this number of tries were lost, one after the other
@@ -43,8 +46,9 @@ module _ (key : List ℕ) (Does : Option (List ℕ) → Step → Type 0) where
   -- the call after the Get took, and the command is answered; or memory was refused to that call
   abbrev pub Swaps : Option (List ℕ) → List ℕ → List ℕ → PassState → List ℕ → PassState → Type 0
   Swaps found value text old written new =
-      ((reply : Reply) × Makes old (swap key found value) reply new × (takes found reply ≡ true) × (written ≡ text))
-      ⊎ (Refuses old (swap key found value) new × (written ≡ no_memory_line))
+      ((reply : Reply) × (before : Option ℕ) × Makes now change old (swap key found value) reply before new
+      × (takes found reply ≡ true) × (written ≡ text))
+      ⊎ (Refuses now change old (swap key found value) new × (written ≡ no_memory_line))
 
   -- what is done with the value that was found
   abbrev pub Ends : Option (List ℕ) → Step → PassState → List ℕ → PassState → Type 0
@@ -55,7 +59,7 @@ module _ (key : List ℕ) (Does : Option (List ℕ) → Step → Type 0) where
   pub record EndsTry (old : PassState) (written : List ℕ) (new : PassState) : Type 0 where
     pub found : Option (List ℕ)
     pub mid : PassState
-    pub finds : Finds old key found mid
+    pub finds : Finds now old key found mid
     pub step : Step
     pub does : Does found step
     pub ends : Ends found step mid written new

@@ -17,21 +17,23 @@ use Rattle.redis_service.specs.Programs.{AnswersProgram}
 abbrev pub Same : TalkState → TalkState → Type 0
 Same talk next = next ≡ talk
 
--- a command
-abbrev pub AnswersCommand : TalkState → PassState → Asked → List ℕ → TalkState → PassState → Type 0
-AnswersCommand talk old (OnKey key act) written next new = AnswersKey old key act written new × Same talk next
-AnswersCommand talk old (OnKeys keys act) written next new = AnswersKeys old keys act written new × Same talk next
-AnswersCommand talk old (SetEach words) written next new = AnswersSetEach old (pairs words) written new × Same talk next
-AnswersCommand talk old (Connection asked) written next new = AnswersConnection talk old asked written next new
-AnswersCommand talk old (Walk asked) written next new = AnswersWalk old asked written new × Same talk next
-AnswersCommand talk old (Program asked) written next new = AnswersProgram old asked written new × Same talk next
+-- over the time at which the calls are made
+module _ (now : ℕ) where
+  -- a command
+  abbrev pub AnswersCommand : TalkState → PassState → Asked → List ℕ → TalkState → PassState → Type 0
+  AnswersCommand talk old (OnKey key act) written next new = AnswersKey now old key act written new × Same talk next
+  AnswersCommand talk old (OnKeys keys act) written next new = AnswersKeys now old keys act written new × Same talk next
+  AnswersCommand talk old (SetEach words) written next new = AnswersSetEach now old (pairs words) written new × Same talk next
+  AnswersCommand talk old (Connection asked) written next new = AnswersConnection talk old asked written next new
+  AnswersCommand talk old (Walk asked) written next new = AnswersWalk now old asked written new × Same talk next
+  AnswersCommand talk old (Program asked) written next new = AnswersProgram now old asked written new × Same talk next
 
--- a command, or the text that says why the words are none. What looks like a request of the web ends the talk
-abbrev pub AnswersRead : TalkState → PassState → Result Asked Fault → List ℕ → TalkState → PassState → Type 0
-AnswersRead talk old (Ok asked) written next new = AnswersCommand talk old asked written next new
-AnswersRead talk old (Err WebRequest) written next new = (written ≡ []) × (next ≡ record talk { is_over = true }) × (new ≡ old)
-AnswersRead talk old (Err fault) written next new = (written ≡ error_bytes (fault_text fault)) × (new ≡ old) × Same talk next
+  -- a command, or the text that says why the words are none. What looks like a request of the web ends the talk
+  abbrev pub AnswersRead : TalkState → PassState → Result Asked Fault → List ℕ → TalkState → PassState → Type 0
+  AnswersRead talk old (Ok asked) written next new = AnswersCommand talk old asked written next new
+  AnswersRead talk old (Err WebRequest) written next new = (written ≡ []) × (next ≡ record talk { is_over = true }) × (new ≡ old)
+  AnswersRead talk old (Err fault) written next new = (written ≡ error_bytes (fault_text fault)) × (new ≡ old) × Same talk next
 
--- words of a client
-abbrev pub AnswersWords : TalkState → PassState → List (List ℕ) → List ℕ → TalkState → PassState → Type 0
-AnswersWords talk old words written next new = AnswersRead talk old (asked_of words) written next new
+  -- words of a client
+  abbrev pub AnswersWords : TalkState → PassState → List (List ℕ) → List ℕ → TalkState → PassState → Type 0
+  AnswersWords talk old words written next new = AnswersRead talk old (asked_of now words) written next new

@@ -4,6 +4,7 @@ pub mod Replied
 pub mod Calls
 pub mod Changes
 pub mod Texts
+pub mod Deadlines
 pub mod Planned
 pub mod States
 pub mod Answers
@@ -11,6 +12,7 @@ pub mod Server
 pub mod Connections
 pub mod Walks
 pub mod Walked
+pub mod Sweeps
 pub mod Programs
 pub mod Commands
 pub mod Reads

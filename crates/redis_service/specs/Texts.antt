@@ -36,11 +36,6 @@ abbrev pub type_line : Option (List ℕ) → List ℕ
 type_line None = simple_bytes (codes "none")
 type_line (Some value) = simple_bytes (codes "string")
 
--- no key has a deadline
-abbrev pub deadline_line : Option (List ℕ) → List ℕ
-deadline_line None = integer_bytes (negsuc 1)
-deadline_line (Some value) = integer_bytes (negsuc 0)
-
 -- a place in a text of this length, which a negative number counts from the end
 abbrev pub place : ℕ → ℤ → ℕ
 place len (pos i) = i

@@ -1,9 +1,10 @@
 -- Commands about the whole map: the walk that each one makes, and its reply.
 use Rattle.std.specs.Prelude.{◌≡◌, ◌⊎◌, ℕ, max, Bool, if◌then◌else◌, List, [], ◌++◌, length, flat_map, filter, Option, Some, None, decimal}
 use Rattle.bin_stripes.specs.Passes.{PassState, stripes_of}
-use Rattle.key_walks.specs.Turns.{Stops, FindsKeys}
+use Rattle.key_walks.specs.Turns.{Stops}
+use Rattle.key_walks.specs.Expired.{FindsLive, StopsLive}
 use Rattle.key_walks.specs.Walks.{CountsAll, FindsAll, ClearsAll, Clears, Chooses, each, each_from}
-use Rattle.key_walks.specs.Pages.{IsPage, Takes, stripes_from}
+use Rattle.key_walks.specs.Pages.{IsPage, TakesLive, stripes_from}
 use Rattle.resp.specs.Replies.{value_bytes, array_head}
 use Rattle.redis_commands.specs.Matching.{matches}
 use Rattle.redis_commands.specs.Commands.{WalkAsked}
@@ -29,9 +30,9 @@ abbrev pub shown : Option (List ℕ) → List (List ℕ) → List (List ℕ)
 shown None keys = keys
 shown (Some pattern) keys = filter (λ key. matches pattern key) keys
 
--- ---- walks
+-- ---- walks. SCAN, KEYS and RANDOMKEY take entries of a stripe away whose time is over, before they scan it
 
--- DBSIZE
+-- DBSIZE; entries whose time is over may be counted, until they are taken away
 abbrev pub AnswersCount : PassState → List ℕ → PassState → Type 0
 AnswersCount old written new = (count : ℕ) × CountsAll old count new × (written ≡ count_line count)
 
@@ -42,27 +43,27 @@ AnswersClear old written new =
     ⊎ (Stops Clears each old new × (written ≡ no_memory_line))
 
 -- SCAN; no key is of another type than a string
-abbrev pub AnswersScan : ℕ → Option (List ℕ) → ℕ → Bool → PassState → List ℕ → PassState → Type 0
-AnswersScan cursor pattern most is_string old written new =
-    ((keys : List (List ℕ)) × (next : ℕ) × IsPage old cursor most keys next new
+abbrev pub AnswersScan : ℕ → ℕ → Option (List ℕ) → ℕ → Bool → PassState → List ℕ → PassState → Type 0
+AnswersScan now cursor pattern most is_string old written new =
+    ((keys : List (List ℕ)) × (next : ℕ) × IsPage now old cursor most keys next new
     × (written ≡ page_bytes next (if is_string then shown pattern keys else [])))
-    ⊎ (Stops (Takes (max most 1)) (stripes_from cursor) old new × (written ≡ no_memory_line))
+    ⊎ (StopsLive now (TakesLive now (max most 1)) (stripes_from cursor) old new × (written ≡ no_memory_line))
 
 -- KEYS
-abbrev pub AnswersAllKeys : List ℕ → PassState → List ℕ → PassState → Type 0
-AnswersAllKeys pattern old written new =
-    ((keys : List (List ℕ)) × FindsAll old keys new × (written ≡ keys_bytes (shown (Some pattern) keys)))
-    ⊎ (Stops FindsKeys each old new × (written ≡ no_memory_line))
+abbrev pub AnswersAllKeys : ℕ → List ℕ → PassState → List ℕ → PassState → Type 0
+AnswersAllKeys now pattern old written new =
+    ((keys : List (List ℕ)) × FindsAll now old keys new × (written ≡ keys_bytes (shown (Some pattern) keys)))
+    ⊎ (StopsLive now (FindsLive now) each old new × (written ≡ no_memory_line))
 
 -- RANDOMKEY; which key is chosen is not said
-abbrev pub AnswersChoice : PassState → List ℕ → PassState → Type 0
-AnswersChoice old written new = (number : ℕ)
-    × (((choice : Option (List ℕ)) × Chooses number old choice new × (written ≡ bulk choice))
-    ⊎ (Stops FindsKeys (each_from (stripes_of old.map) number) old new × (written ≡ no_memory_line)))
+abbrev pub AnswersChoice : ℕ → PassState → List ℕ → PassState → Type 0
+AnswersChoice now old written new = (number : ℕ)
+    × (((choice : Option (List ℕ)) × Chooses now number old choice new × (written ≡ bulk choice))
+    ⊎ (StopsLive now (FindsLive now) (each_from (stripes_of old.map) number) old new × (written ≡ no_memory_line)))
 
-abbrev pub AnswersWalk : PassState → WalkAsked → List ℕ → PassState → Type 0
-AnswersWalk old CountAll written new = AnswersCount old written new
-AnswersWalk old (Scan cursor pattern count is_string) written new = AnswersScan cursor pattern count is_string old written new
-AnswersWalk old (Keys pattern) written new = AnswersAllKeys pattern old written new
-AnswersWalk old RandomKey written new = AnswersChoice old written new
-AnswersWalk old RemoveAll written new = AnswersClear old written new
+abbrev pub AnswersWalk : ℕ → PassState → WalkAsked → List ℕ → PassState → Type 0
+AnswersWalk now old CountAll written new = AnswersCount old written new
+AnswersWalk now old (Scan cursor pattern count is_string) written new = AnswersScan now cursor pattern count is_string old written new
+AnswersWalk now old (Keys pattern) written new = AnswersAllKeys now pattern old written new
+AnswersWalk now old RandomKey written new = AnswersChoice now old written new
+AnswersWalk now old RemoveAll written new = AnswersClear old written new

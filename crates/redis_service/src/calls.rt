@@ -6,27 +6,58 @@ ghost use Rattle.atomic_methods.specs.Plans.{reply_by, where_true};
 ghost use Rattle.redis_service.specs.Texts as texts;
 ghost use Rattle.redis_service.specs.Calls.{Made, Finds, Removes, value_in};
 
+use crate::sweeper::Sweeper;
 use atomic_methods::{Call, ReplyKind};
 use bin_stripes::{Pass, StripedMap};
 use bpf_model::{Key, NoMemory, Value};
 use std::sync::Wait;
+use timed_bins::{DeadlineChange, TimedReply, Timing};
 
-/// Makes the call. The value of its reply is left in `found`.
+/// The map, and the time at which calls are made on it, in milliseconds since the epoch.
+#[derive(Clone, Copy)]
+pub struct MapAt<'a> {
+    /// The map.
+    pub map: &'a StripedMap,
+    /// The time.
+    pub time: u64,
+}
+
+/// What came of a call.
+pub type Outcome = Result<TimedReply, NoMemory>;
+
+/// Makes the call, and changes the key's deadline so if it gets to the entry. The value of its reply is left in `found`.
 #[inline(always)]
 pub fn make<H: Wait>(
     rt: &H,
-    map: &StripedMap,
+    at: &MapAt<'_>,
     pass: &mut Pass,
     call: &Call,
+    change: DeadlineChange,
     found: &mut Value,
-) -> Result<ReplyKind, NoMemory>
-    requires map { pass.old.map ≡ map.now }
-    ensures same { pass.new.map ≡ map.now }
+) -> Outcome
+    requires map { pass.old.map ≡ at.now.map.now }
+    ensures same { pass.new.map ≡ at.now.map.now }
     ensures passes { pass.new.view.passes ≡ pass.old.view.passes }
     ensures numbers { pass.new.view.numbers ≡ pass.old.view.numbers }
-    ensures made { Made result pass.old (invocation_of call.now) found.new pass.new }
+    ensures made { Made at.now.time change result pass.old (invocation_of call.now) found.new pass.new }
 {
-    map.call_into(rt, pass, call, found)
+    let timing = Timing {
+        now: at.time,
+        change,
+    };
+    at.map.call_at_into(rt, pass, call, &timing, found)
+}
+
+/// Tells the sweeper of the deadline that the call left, if it left one.
+pub fn noted(made: Outcome, sweeper: &mut Sweeper) -> Outcome
+    ensures { result ≡ made }
+{
+    if let Ok(timed) = made {
+        if let Some(at) = timed.after {
+            sweeper.notice(at);
+        }
+    }
+    made
 }
 
 /// Tests whether the reply has a value.
@@ -48,15 +79,22 @@ pub fn text_of(was: bool, found: &Value) -> &[u8]
 
 /// Gets the key's value into `found`, and returns whether there is one.
 #[tactic(auto, using(crate::proofs::CallLemmas::gets_are_not_refused))]
-pub fn get<H: Wait>(rt: &H, map: &StripedMap, pass: &mut Pass, key: &Key, found: &mut Value) -> bool
-    requires map { pass.old.map ≡ map.now }
-    ensures same { pass.new.map ≡ map.now }
+pub fn get<H: Wait>(rt: &H, at: &MapAt<'_>, pass: &mut Pass, key: &Key, found: &mut Value) -> bool
+    requires map { pass.old.map ≡ at.now.map.now }
+    ensures same { pass.new.map ≡ at.now.map.now }
     ensures passes { pass.new.view.passes ≡ pass.old.view.passes }
     ensures numbers { pass.new.view.numbers ≡ pass.old.view.numbers }
-    ensures finds { Finds pass.old key.now (where_true result found.new) pass.new }
+    ensures finds { Finds at.now.time pass.old key.now (where_true result found.new) pass.new }
 {
-    match make(rt, map, pass, &Call::Get { key }, found) {
-        Ok(kind) => has_value(kind),
+    match make(
+        rt,
+        at,
+        pass,
+        &Call::Get { key },
+        DeadlineChange::Keep,
+        found,
+    ) {
+        Ok(timed) => has_value(timed.kind),
         Err(NoMemory) => unreachable!(),
     }
 }
@@ -65,19 +103,26 @@ pub fn get<H: Wait>(rt: &H, map: &StripedMap, pass: &mut Pass, key: &Key, found:
 #[tactic(auto, using(crate::proofs::CallLemmas::removes_are_not_refused))]
 pub fn remove<H: Wait>(
     rt: &H,
-    map: &StripedMap,
+    at: &MapAt<'_>,
     pass: &mut Pass,
     key: &Key,
     found: &mut Value,
 ) -> bool
-    requires map { pass.old.map ≡ map.now }
-    ensures same { pass.new.map ≡ map.now }
+    requires map { pass.old.map ≡ at.now.map.now }
+    ensures same { pass.new.map ≡ at.now.map.now }
     ensures passes { pass.new.view.passes ≡ pass.old.view.passes }
     ensures numbers { pass.new.view.numbers ≡ pass.old.view.numbers }
-    ensures removes { Removes pass.old key.now (where_true result found.new) pass.new }
+    ensures removes { Removes at.now.time pass.old key.now (where_true result found.new) pass.new }
 {
-    match make(rt, map, pass, &Call::Remove { key }, found) {
-        Ok(kind) => has_value(kind),
+    match make(
+        rt,
+        at,
+        pass,
+        &Call::Remove { key },
+        DeadlineChange::Keep,
+        found,
+    ) {
+        Ok(timed) => has_value(timed.kind),
         Err(NoMemory) => unreachable!(),
     }
 }

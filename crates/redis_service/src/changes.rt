@@ -9,18 +9,20 @@ ghost use Rattle.redis_service.specs.Planned.{Does, IsWithin, step_by};
 ghost use Rattle.redis_service.specs.Replied.{replied_bytes};
 ghost use Rattle.redis_service.specs.Texts.{Sums, Adds, Appends, SetsRange, SetsIfEqual};
 
-use crate::calls::{get, make, text_of};
+use crate::calls::{MapAt, get, make, noted, text_of};
+use crate::errors::{NOT_A_NUMBER, TOO_LONG};
 use crate::reply::Replied;
 use crate::room::Room;
 use crate::texts::{overwrite, set_both};
 use atomic_methods::{Call, ReplyKind};
-use bin_stripes::{Pass, StripedMap};
+use bin_stripes::Pass;
 use bpf_model::limits::VALUE_BYTES;
 use bpf_model::{Key, NoMemory, Value};
 use itoa::Buffer;
 use resp::integer;
 use std::sync::Wait;
 use std::thread;
+use timed_bins::DeadlineChange;
 
 /// A change of a value by what it was.
 #[derive(Clone, Copy)]
@@ -44,14 +46,10 @@ pub enum Planned {
     Becomes(Replied),
 }
 
-/// So many tries may be lost before the worker lets other threads go on.
+/// This many tries may be lost before the worker lets other threads go on.
 const TRIES: u32 = 64;
 
-const NOT_A_NUMBER: &[u8] = b"ERR value is not an integer or out of range";
-
 const OVERFLOW: &[u8] = b"ERR increment or decrement would overflow";
-
-const TOO_LONG: &[u8] = b"ERR string exceeds maximum allowed size (1024)";
 
 /// Plans to add to the number.
 fn plan_sum(old: i64, by: i64, value: &mut Value) -> Planned
@@ -158,36 +156,39 @@ fn has_taken(was: bool, kind: ReplyKind) -> bool
     }
 }
 
-/// Tries the change once. Returns its reply, or none if another change came between its Get and the call after it.
+/// Tries the change once; what becomes of the key's deadline if it takes is `deadline`. Returns its reply, or none if another change
+/// came between its Get and the call after it.
 fn try_change<H: Wait>(
     rt: &H,
-    map: &StripedMap,
+    at: &MapAt<'_>,
     pass: &mut Pass,
     room: &mut Room,
     change: &Change<'_>,
+    deadline: DeadlineChange,
 ) -> Option<Replied>
-    requires map { pass.old.map ≡ map.now }
+    requires map { pass.old.map ≡ at.now.map.now }
     requires within { IsWithin change.now }
-    ensures same { pass.new.map ≡ map.now }
+    ensures same { pass.new.map ≡ at.now.map.now }
     ensures passes { pass.new.view.passes ≡ pass.old.view.passes }
     ensures numbers { pass.new.view.numbers ≡ pass.old.view.numbers }
     ensures key { room.new.key ≡ room.old.key }
-    ensures tried { MatchOption result (LosesTry room.old.key (Does change.now) pass.old pass.new)
-        (λ replied. EndsTry room.old.key (Does change.now) pass.old (replied_bytes replied room.new.found) pass.new) }
+    ensures tried { MatchOption result (LosesTry at.now.time deadline room.old.key (Does change.now) pass.old pass.new)
+        (λ replied. EndsTry at.now.time deadline room.old.key (Does change.now) pass.old (replied_bytes replied room.new.found) pass.new) }
 {
     let Room {
         key,
         found,
         value,
         other,
+        sweeper,
     } = room;
-    let was = get(rt, map, pass, key, found);
+    let was = get(rt, at, pass, key, found);
     match plan(change, was, found, value) {
         Planned::Stays(replied) => Some(replied),
         Planned::Becomes(replied) => {
             let call = swap_of(key, was, found, value);
-            match make(rt, map, pass, &call, other) {
-                Ok(kind) if has_taken(was, kind) => Some(replied),
+            match noted(make(rt, at, pass, &call, deadline, other), sweeper) {
+                Ok(timed) if has_taken(was, timed.kind) => Some(replied),
                 Ok(_) => None,
                 Err(NoMemory) => Some(Replied::NoMemory),
             }
@@ -198,47 +199,49 @@ fn try_change<H: Wait>(
 /// Tries the change some times. Returns its reply, or none if all tries were lost.
 fn try_often<H: Wait>(
     rt: &H,
-    map: &StripedMap,
+    at: &MapAt<'_>,
     pass: &mut Pass,
     room: &mut Room,
     change: &Change<'_>,
+    deadline: DeadlineChange,
 ) -> Option<Replied>
-    requires map { pass.old.map ≡ map.now }
+    requires map { pass.old.map ≡ at.now.map.now }
     requires within { IsWithin change.now }
-    ensures same { pass.new.map ≡ map.now }
+    ensures same { pass.new.map ≡ at.now.map.now }
     ensures passes { pass.new.view.passes ≡ pass.old.view.passes }
     ensures numbers { pass.new.view.numbers ≡ pass.old.view.numbers }
     ensures key { room.new.key ≡ room.old.key }
-    ensures tried { (before : PassState) → (tries : ℕ) → LosesTries room.old.key (Does change.now) tries before pass.old
-        → MatchOption result ((more : ℕ) × LosesTries room.old.key (Does change.now) more before pass.new)
-        (λ replied. AnswersChange room.old.key (Does change.now) before (replied_bytes replied room.new.found) pass.new) }
+    ensures tried { (before : PassState) → (tries : ℕ) → LosesTries at.now.time deadline room.old.key (Does change.now) tries before pass.old
+        → MatchOption result ((more : ℕ) × LosesTries at.now.time deadline room.old.key (Does change.now) more before pass.new)
+        (λ replied. AnswersChange at.now.time deadline room.old.key (Does change.now) before (replied_bytes replied room.new.found) pass.new) }
 {
     for _ in 0..TRIES {
-        if let Some(replied) = try_change(rt, map, pass, room, change) {
+        if let Some(replied) = try_change(rt, at, pass, room, change, deadline) {
             return Some(replied);
         }
     }
     None
 }
 
-/// Makes the change: tries until no other change comes between its Get and the call after it. After 64 lost tries the worker lets
-/// other threads go on. Waits until the stripe of the key is free.
+/// Makes the change, and that of the key's deadline: tries until no other change comes between its Get and the call after it. After
+/// 64 lost tries the worker lets other threads go on. Waits until the stripe of the key is free.
 pub fn make_change<H: Wait>(
     rt: &H,
-    map: &StripedMap,
+    at: &MapAt<'_>,
     pass: &mut Pass,
     room: &mut Room,
     change: &Change<'_>,
+    deadline: DeadlineChange,
 ) -> Replied
-    requires map { pass.old.map ≡ map.now }
+    requires map { pass.old.map ≡ at.now.map.now }
     requires within { IsWithin change.now }
-    ensures same { pass.new.map ≡ map.now }
+    ensures same { pass.new.map ≡ at.now.map.now }
     ensures passes { pass.new.view.passes ≡ pass.old.view.passes }
     ensures numbers { pass.new.view.numbers ≡ pass.old.view.numbers }
-    ensures changes { AnswersChange room.old.key (Does change.now) pass.old (replied_bytes result room.new.found) pass.new }
+    ensures changes { AnswersChange at.now.time deadline room.old.key (Does change.now) pass.old (replied_bytes result room.new.found) pass.new }
 {
     for _ in rt.forever() {
-        if let Some(replied) = try_often(rt, map, pass, room, change) {
+        if let Some(replied) = try_often(rt, at, pass, room, change, deadline) {
             return replied;
         }
         thread::yield_now();

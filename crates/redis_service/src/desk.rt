@@ -9,14 +9,16 @@ ghost use Rattle.redis_service.specs.Answers.{AnswersKey, AnswersKeys};
 ghost use Rattle.redis_service.specs.Commands.{AnswersCommand, AnswersRead, AnswersWords};
 ghost use Rattle.redis_service.specs.Connections.{AnswersConnection, AnswersInfo};
 ghost use Rattle.redis_service.specs.Sending.{Sends};
-ghost use Rattle.redis_service.specs.Stops.{Stops, AnswersAll, FailsAt, TellsEnd, FailsEnd};
-ghost use Rattle.redis_service.specs.Talks.{AnswersBytes, BreaksBytes, AnswersPiece, BreaksPiece};
+ghost use Rattle.redis_service.specs.Sweeps.{Sweeps};
+ghost use Rattle.redis_service.specs.Stops.{Stops, AnswersAll, FailsAt, TellsLast, Taken};
+ghost use Rattle.redis_service.specs.Talks.{AnswersPiece, BreaksPiece};
 
+use crate::calls::MapAt;
 use crate::connection::{answer_connection, put_info};
 use crate::keyed::answer_key;
-use crate::lines::no_memory_line;
+use crate::lines::NO_MEMORY_LINE;
 use crate::programs::{Programs, answer_program};
-use crate::reader::{Came, Reader};
+use crate::reader::Reader;
 use crate::room::Room;
 use crate::several::{count_each, count_of, get_each, put_each, remove_each};
 use crate::talk::RedisTalk;
@@ -26,7 +28,7 @@ use devices::{Failed, Sink, write_all};
 use key_walks::count_all;
 use redis_commands::{Command, CommandFault, ConnectionCommand, KeyAct, KeysAct, command_of};
 use redis_scripts::Scripts;
-use resp::put_error;
+use resp::{Next, NextFault, put_error};
 use std::alloc::Global;
 use std::marker::Model;
 use std::mem;
@@ -65,47 +67,37 @@ impl<'a, 's> Model for RedisDesk<'a, 's> {
     ghost view = { λ d. d.map.now };
 }
 
-/// Tests whether a command has begun that is not whole yet.
-fn is_more(came: Came) -> bool
-    ensures { IsTrue result → came ≡ Came.More }
-{
-    matches!(came, Came::More)
-}
-
 /// Tells why nothing more is read from this rest, if it is to be told, and keeps the rest if a command begins in it.
 fn finish<W: Sink>(
     alloc: Global,
     talk: &mut RedisTalk,
-    came: Came,
+    fault: Option<NextFault>,
     rest: &[u8],
     sink: &mut W,
 ) -> Result<(), TalkEnd>
     requires sink { CanWrite (W.state sink.old) }
-    requires stops { Stops came talk.old rest.now }
-    ensures ok { OnOk result (TellsEnd (W.state sink.old) (W.state sink.new) rest.now talk.old talk.new × (talk.new.is_over ≡ false)) }
-    ensures over { result ≡ Err TalkEnd.Over → TellsEnd (W.state sink.old) (W.state sink.new) rest.now talk.old talk.new × (talk.new.is_over ≡ true) }
-    ensures memory { result ≢ Err TalkEnd.NoMemory }
-    ensures write { result ≡ Err TalkEnd.WriteFailed → FailsEnd (W.state sink.old) (W.state sink.new) rest.now talk.old talk.new × (talk.new.is_over ≡ true) }
+    requires stops { Stops fault talk.old rest.now }
+    ensures tells { TellsLast result (W.state sink.old) (W.state sink.new) rest.now talk.old talk.new }
     ensures number { talk.new.number ≡ talk.old.number }
 {
     if talk.is_over() {
         talk.end(alloc);
         return Err(TalkEnd::Over);
     }
-    if let Came::Faulty(fault) = came {
+    if let Some(NextFault::Faulty(fault)) = fault {
         talk.end(alloc);
         return match put_error(sink, fault.message().as_slice()) {
             Ok(()) => Err(TalkEnd::Over),
             Err(Failed) => Err(TalkEnd::WriteFailed),
         };
     }
-    if let Came::More = came {
+    if fault.is_none() {
         if talk.keep(alloc, rest) {
             return Ok(());
         }
     }
     talk.end(alloc);
-    match write_all(sink, no_memory_line()) {
+    match write_all(sink, NO_MEMORY_LINE) {
         Ok(()) => Err(TalkEnd::Over),
         Err(Failed) => Err(TalkEnd::WriteFailed),
     }
@@ -119,8 +111,8 @@ fn refuse<W: Sink>(
 ) -> Result<(), Failed>
     requires { CanWrite (W.state sink.old) }
     ensures number { talk.new.number ≡ talk.old.number }
-    ensures answers { (pass : PassState) → (written : List ℕ) × Sends result (W.state sink.old) (W.state sink.new) written
-        × AnswersRead talk.old pass (Err (fault_by fault.now)) written talk.new pass }
+    ensures answers { (now : ℕ) (pass : PassState) → (written : List ℕ) × Sends result (W.state sink.old) (W.state sink.new) written
+        × AnswersRead now talk.old pass (Err (fault_by fault.now)) written talk.new pass }
 {
     match fault {
         CommandFault::WebRequest => {
@@ -145,13 +137,25 @@ impl<'a, 's> RedisDesk<'a, 's> {
         }
     }
 
+    /// Returns the map, and the time of its calls.
+    fn at(&self, now: u64) -> MapAt<'a>
+        ensures map { result.map.now ≡ self.now }
+        ensures time { result.time ≡ now }
+    {
+        MapAt {
+            map: self.map,
+            time: now,
+        }
+    }
+
     /// Returns what the commands of programs are about.
-    fn programs(&self) -> Programs<'a, 's>
-        ensures { result.map.now ≡ self.now }
+    fn programs(&self, now: u64) -> Programs<'a, 's>
+        ensures map { result.at.map.now ≡ self.now }
+        ensures time { result.at.time ≡ now }
     {
         Programs {
             alloc: self.alloc,
-            map: self.map,
+            at: self.at(now),
             scripts: self.scripts,
         }
     }
@@ -160,6 +164,7 @@ impl<'a, 's> RedisDesk<'a, 's> {
     fn answer_key<H: Wait, W: Sink>(
         &mut self,
         rt: &H,
+        now: u64,
         pass: &mut Pass,
         key: &[u8],
         act: &KeyAct<'_>,
@@ -173,10 +178,11 @@ impl<'a, 's> RedisDesk<'a, 's> {
         ensures passes { pass.new.view.passes ≡ pass.old.view.passes }
         ensures numbers { pass.new.view.numbers ≡ pass.old.view.numbers }
         ensures answers { (written : List ℕ) × Sends result (W.state sink.old) (W.state sink.new) written
-            × AnswersKey pass.old key.now (act_by act.now) written pass.new }
+            × AnswersKey now pass.old key.now (act_by act.now) written pass.new }
     {
         self.room.key.set_from(key);
-        let replied = answer_key(rt, self.map, pass, &mut self.room, act);
+        let at = self.at(now);
+        let replied = answer_key(rt, &at, pass, &mut self.room, act);
         replied.send(self.room.found.as_slice(), sink)
     }
 
@@ -184,6 +190,7 @@ impl<'a, 's> RedisDesk<'a, 's> {
     fn answer_keys<H: Wait, W: Sink>(
         &mut self,
         rt: &H,
+        now: u64,
         pass: &mut Pass,
         keys: &[&[u8]],
         act: KeysAct,
@@ -197,16 +204,17 @@ impl<'a, 's> RedisDesk<'a, 's> {
         ensures passes { pass.new.view.passes ≡ pass.old.view.passes }
         ensures numbers { pass.new.view.numbers ≡ pass.old.view.numbers }
         ensures answers { (written : List ℕ) × Sends result (W.state sink.old) (W.state sink.new) written
-            × AnswersKeys pass.old (texts keys.now) act written pass.new }
+            × AnswersKeys now pass.old (texts keys.now) act written pass.new }
     {
+        let at = self.at(now);
         match act {
-            KeysAct::GetEach => get_each(rt, self.map, pass, &mut self.room, keys, sink),
+            KeysAct::GetEach => get_each(rt, &at, pass, &mut self.room, keys, sink),
             KeysAct::Delete => {
-                let count = remove_each(rt, self.map, pass, &mut self.room, keys);
+                let count = remove_each(rt, &at, pass, &mut self.room, keys);
                 count_of(count).send(&[], sink)
             }
             KeysAct::CountPresent => {
-                let count = count_each(rt, self.map, pass, &mut self.room, keys);
+                let count = count_each(rt, &at, pass, &mut self.room, keys);
                 count_of(count).send(&[], sink)
             }
         }
@@ -261,6 +269,7 @@ impl<'a, 's> RedisDesk<'a, 's> {
     fn answer_command<H: Wait, W: Sink>(
         &mut self,
         rt: &H,
+        now: u64,
         pass: &mut Pass,
         talk: &mut RedisTalk,
         command: &Command<'_>,
@@ -275,13 +284,14 @@ impl<'a, 's> RedisDesk<'a, 's> {
         ensures numbers { pass.new.view.numbers ≡ pass.old.view.numbers }
         ensures number { talk.new.number ≡ talk.old.number }
         ensures answers { (written : List ℕ) × Sends result (W.state sink.old) (W.state sink.new) written
-            × AnswersCommand talk.old pass.old (asked_by command.now) written talk.new pass.new }
+            × AnswersCommand now talk.old pass.old (asked_by command.now) written talk.new pass.new }
     {
         match *command {
-            Command::OnKey { key, act } => self.answer_key(rt, pass, key, &act, sink),
-            Command::OnKeys { keys, act } => self.answer_keys(rt, pass, keys, act, sink),
+            Command::OnKey { key, act } => self.answer_key(rt, now, pass, key, &act, sink),
+            Command::OnKeys { keys, act } => self.answer_keys(rt, now, pass, keys, act, sink),
             Command::SetEach { words } => {
-                put_each(rt, self.map, pass, &mut self.room, words).send(&[], sink)
+                let at = self.at(now);
+                put_each(rt, &at, pass, &mut self.room, words).send(&[], sink)
             }
             Command::Connection(command) => {
                 self.answer_connection(rt, pass, talk, &command, sink)
@@ -292,11 +302,12 @@ impl<'a, 's> RedisDesk<'a, 's> {
                     alloc: self.alloc,
                     map: self.map,
                     number: self.walks,
+                    time: now,
                 };
                 answer_walk(rt, &ground, pass, &command, sink)
             }
             Command::Program(command) => {
-                let programs = self.programs();
+                let programs = self.programs(now);
                 answer_program(rt, &programs, pass, &mut self.room, &command, sink)
             }
         }
@@ -306,6 +317,7 @@ impl<'a, 's> RedisDesk<'a, 's> {
     fn answer<H: Wait, W: Sink>(
         &mut self,
         rt: &H,
+        now: u64,
         pass: &mut Pass,
         talk: &mut RedisTalk,
         words: &[&[u8]],
@@ -319,10 +331,10 @@ impl<'a, 's> RedisDesk<'a, 's> {
         ensures numbers { pass.new.view.numbers ≡ pass.old.view.numbers }
         ensures number { talk.new.number ≡ talk.old.number }
         ensures answers { (written : List ℕ) × Sends result (W.state sink.old) (W.state sink.new) written
-            × AnswersWords talk.old pass.old (texts words.now) written talk.new pass.new }
+            × AnswersWords now talk.old pass.old (texts words.now) written talk.new pass.new }
     {
-        match command_of(words) {
-            Ok(command) => self.answer_command(rt, pass, talk, &command, sink),
+        match command_of(words, now) {
+            Ok(command) => self.answer_command(rt, now, pass, talk, &command, sink),
             Err(fault) => refuse(talk, &fault, sink),
         }
     }
@@ -332,11 +344,12 @@ impl<'a, 's> RedisDesk<'a, 's> {
     fn answer_all<'b, H: Wait, W: Sink>(
         &mut self,
         rt: &H,
+        now: u64,
         pass: &mut Pass,
         talk: &mut RedisTalk,
         reader: &mut Reader<'b>,
         sink: &mut W,
-    ) -> Result<Came, Failed>
+    ) -> Result<Option<NextFault>, Failed>
         requires map { pass.old.map ≡ self.old }
         requires sink { CanWrite (W.state sink.old) }
         ensures desk { self.new ≡ self.old }
@@ -344,33 +357,30 @@ impl<'a, 's> RedisDesk<'a, 's> {
         ensures passes { pass.new.view.passes ≡ pass.old.view.passes }
         ensures numbers { pass.new.view.numbers ≡ pass.old.view.numbers }
         ensures number { talk.new.number ≡ talk.old.number }
-        ensures ok { IfOk result (λ came. AnswersAll (W.state sink.old) (W.state sink.new) talk.old pass.old reader.old.rest.now came talk.new pass.new reader.new.rest.now) }
-        ensures err { OnErr result (FailsAt (W.state sink.old) (W.state sink.new) talk.old pass.old reader.old.rest.now talk.new pass.new) }
+        ensures ok { IfOk result (λ fault. AnswersAll now (W.state sink.old) (W.state sink.new) talk.old pass.old reader.old.rest.now fault talk.new pass.new reader.new.rest.now) }
+        ensures err { OnErr result (FailsAt now (W.state sink.old) (W.state sink.new) talk.old pass.old reader.old.rest.now talk.new pass.new) }
     {
         while !talk.is_over() {
             match reader.next() {
-                Came::Command => {
-                    match self.answer(rt, pass, talk, &reader.words, sink) {
-                        Ok(()) => {}
-                        Err(Failed) => return Err(Failed),
-                    }
-                }
-                Came::Nothing => {}
-                came => return Ok(came),
+                Ok(Next::Command(_)) => self.answer(rt, now, pass, talk, &reader.words, sink)?,
+                Ok(Next::Nothing(_)) => {}
+                Ok(Next::More) => return Ok(None),
+                Err(fault) => return Ok(Some(fault)),
             }
         }
-        Ok(Came::More)
+        Ok(None)
     }
 
     /// Answers the commands that the bytes begin with. Returns why there is none left, and the bytes that are left.
     fn answer_bytes<'b, H: Wait, W: Sink>(
         &mut self,
         rt: &H,
+        now: u64,
         pass: &mut Pass,
         talk: &mut RedisTalk,
         bytes: &'b [u8],
         sink: &mut W,
-    ) -> Result<(Came, &'b [u8]), Failed>
+    ) -> Result<(Option<NextFault>, &'b [u8]), Failed>
         requires map { pass.old.map ≡ self.old }
         requires sink { CanWrite (W.state sink.old) }
         ensures desk { self.new ≡ self.old }
@@ -378,20 +388,19 @@ impl<'a, 's> RedisDesk<'a, 's> {
         ensures passes { pass.new.view.passes ≡ pass.old.view.passes }
         ensures numbers { pass.new.view.numbers ≡ pass.old.view.numbers }
         ensures number { talk.new.number ≡ talk.old.number }
-        ensures ok { IfOk result (λ left. AnswersAll (W.state sink.old) (W.state sink.new) talk.old pass.old bytes.now left.0 talk.new pass.new left.1.now) }
-        ensures err { OnErr result (FailsAt (W.state sink.old) (W.state sink.new) talk.old pass.old bytes.now talk.new pass.new) }
+        ensures ok { IfOk result (λ left. AnswersAll now (W.state sink.old) (W.state sink.new) talk.old pass.old bytes.now left.0 talk.new pass.new left.1.now) }
+        ensures err { OnErr result (FailsAt now (W.state sink.old) (W.state sink.new) talk.old pass.old bytes.now talk.new pass.new) }
     {
         let mut reader = Reader::new(self.alloc, bytes);
-        match self.answer_all(rt, pass, talk, &mut reader, sink) {
-            Ok(came) => Ok((came, reader.rest)),
-            Err(Failed) => Err(Failed),
-        }
+        let fault = self.answer_all(rt, now, pass, talk, &mut reader, sink)?;
+        Ok((fault, reader.rest))
     }
 
     /// Answers the commands that the bytes begin with, and keeps what follows the last whole one.
     fn take_bytes<H: Wait, W: Sink>(
         &mut self,
         rt: &H,
+        now: u64,
         pass: &mut Pass,
         talk: &mut RedisTalk,
         bytes: &[u8],
@@ -404,22 +413,13 @@ impl<'a, 's> RedisDesk<'a, 's> {
         ensures passes { pass.new.view.passes ≡ pass.old.view.passes }
         ensures numbers { pass.new.view.numbers ≡ pass.old.view.numbers }
         ensures number { talk.new.number ≡ talk.old.number }
-        ensures ok { OnOk result ((talk.new.is_over ≡ false) × ((written : List ℕ)
-            × TakesBytes (W.state sink.old) (W.state sink.new) written
-            × AnswersBytes talk.old pass.old bytes.now written talk.new pass.new)) }
-        ensures over { result ≡ Err TalkEnd.Over → (talk.new.is_over ≡ true) × ((written : List ℕ)
-            × TakesBytes (W.state sink.old) (W.state sink.new) written
-            × AnswersBytes talk.old pass.old bytes.now written talk.new pass.new) }
-        ensures memory { result ≢ Err TalkEnd.NoMemory }
-        ensures write { result ≡ Err TalkEnd.WriteFailed → ((written : List ℕ)
-            × TakesThenFails (W.state sink.old) (W.state sink.new) written
-            × BreaksBytes talk.old pass.old bytes.now written talk.new pass.new) }
+        ensures taken { Taken now result (W.state sink.old) (W.state sink.new) talk.old pass.old bytes.now talk.new pass.new }
     {
-        let Ok((came, rest)) = self.answer_bytes(rt, pass, talk, bytes, sink) else {
+        let Ok((fault, rest)) = self.answer_bytes(rt, now, pass, talk, bytes, sink) else {
             talk.end(self.alloc);
             return Err(TalkEnd::WriteFailed);
         };
-        finish(self.alloc, talk, came, rest, sink)
+        finish(self.alloc, talk, fault, rest, sink)
     }
 
     /// Answers the commands that held bytes begin with, and keeps what follows the last whole one. If none is whole the bytes stay in
@@ -427,6 +427,7 @@ impl<'a, 's> RedisDesk<'a, 's> {
     fn take_held<H: Wait, W: Sink>(
         &mut self,
         rt: &H,
+        now: u64,
         pass: &mut Pass,
         talk: &mut RedisTalk,
         held: Vec<u8>,
@@ -439,33 +440,25 @@ impl<'a, 's> RedisDesk<'a, 's> {
         ensures passes { pass.new.view.passes ≡ pass.old.view.passes }
         ensures numbers { pass.new.view.numbers ≡ pass.old.view.numbers }
         ensures number { talk.new.number ≡ talk.old.number }
-        ensures ok { OnOk result ((talk.new.is_over ≡ false) × ((written : List ℕ)
-            × TakesBytes (W.state sink.old) (W.state sink.new) written
-            × AnswersBytes talk.old pass.old held.items written talk.new pass.new)) }
-        ensures over { result ≡ Err TalkEnd.Over → (talk.new.is_over ≡ true) × ((written : List ℕ)
-            × TakesBytes (W.state sink.old) (W.state sink.new) written
-            × AnswersBytes talk.old pass.old held.items written talk.new pass.new) }
-        ensures memory { result ≢ Err TalkEnd.NoMemory }
-        ensures write { result ≡ Err TalkEnd.WriteFailed → ((written : List ℕ)
-            × TakesThenFails (W.state sink.old) (W.state sink.new) written
-            × BreaksBytes talk.old pass.old held.items written talk.new pass.new) }
+        ensures taken { Taken now result (W.state sink.old) (W.state sink.new) talk.old pass.old held.items talk.new pass.new }
     {
-        let Ok((came, rest)) = self.answer_bytes(rt, pass, talk, &held, sink) else {
+        let Ok((fault, rest)) = self.answer_bytes(rt, now, pass, talk, &held, sink) else {
             talk.end(self.alloc);
             return Err(TalkEnd::WriteFailed);
         };
-        if rest.len() == held.len() && is_more(came) && !talk.is_over() {
+        if rest.len() == held.len() && fault.is_none() && !talk.is_over() {
             talk.hold(held);
             return Ok(());
         }
-        finish(self.alloc, talk, came, rest, sink)
+        finish(self.alloc, talk, fault, rest, sink)
     }
 
-    /// Answers the commands that this piece completes, in order, each into the sink before it looks at the next one. Keeps what
-    /// follows the last whole command. An `Err` says why the talk ended. Waits until the stripes of the commands' keys are free.
+    /// Answers the commands that this piece completes, in order, each into the sink before it looks at the next one. Their calls are
+    /// made at the time `now`, in milliseconds since the epoch. Keeps what follows the last whole command. An `Err` says why the talk ended. Waits until the stripes of the commands' keys are free.
     pub fn take<H: Wait, W: Sink>(
         &mut self,
         rt: &H,
+        now: u64,
         pass: &mut Pass,
         talk: &mut RedisTalk,
         piece: &[u8],
@@ -481,26 +474,43 @@ impl<'a, 's> RedisDesk<'a, 's> {
         // The piece was taken, and all its commands are answered.
         ensures ok { OnOk result ((talk.new.is_over ≡ false) × ((written : List ℕ)
             × TakesBytes (W.state sink.old) (W.state sink.new) written
-            × AnswersPiece talk.old pass.old piece.now written talk.new pass.new)) }
+            × AnswersPiece now talk.old pass.old piece.now written talk.new pass.new)) }
         // The client asked for the end, or its bytes have a fault, whose text ends the answers.
         ensures over { result ≡ Err TalkEnd.Over → (talk.new.is_over ≡ true) × ((written : List ℕ)
             × TakesBytes (W.state sink.old) (W.state sink.new) written
-            × AnswersPiece talk.old pass.old piece.now written talk.new pass.new) }
+            × AnswersPiece now talk.old pass.old piece.now written talk.new pass.new) }
         ensures memory { result ≡ Err TalkEnd.NoMemory
             → (talk.new ≡ talk.old) × (pass.new ≡ pass.old) × (W.state sink.new ≡ W.state sink.old) }
         // One command was made whose answer is not wholly written, and none after it.
         ensures write { result ≡ Err TalkEnd.WriteFailed → ((written : List ℕ)
             × TakesThenFails (W.state sink.old) (W.state sink.new) written
-            × BreaksPiece talk.old pass.old piece.now written talk.new pass.new) }
+            × BreaksPiece now talk.old pass.old piece.now written talk.new pass.new) }
     {
         if talk.rest.is_empty() {
-            return self.take_bytes(rt, pass, talk, piece, sink);
+            return self.take_bytes(rt, now, pass, talk, piece, sink);
         }
         let mut held = mem::replace(&mut talk.rest, Vec::new(self.alloc));
         if held.extend_from_slice(piece).is_err() {
             talk.rest = held;
             return Err(TalkEnd::NoMemory);
         }
-        self.take_held(rt, pass, talk, held, sink)
+        self.take_held(rt, now, pass, talk, held, sink)
+    }
+
+    /// Takes entries away whose time is over at `now`: some of each stripe, one a hold. Returns whether some may be left that are over
+    /// already. Waits until the stripes are free.
+    pub fn sweep<H: Wait>(&mut self, rt: &H, pass: &mut Pass, now: u64) -> bool
+        requires map { pass.old.map ≡ self.old }
+        ensures desk { self.new ≡ self.old }
+        ensures same { ServesSameMap pass.old pass.new }
+        ensures numbers { pass.new.view.numbers ≡ pass.old.view.numbers }
+        ensures sweeps { Sweeps now pass.old pass.new }
+    {
+        self.room.sweeper.sweep(rt, self.map, pass, now)
+    }
+
+    /// Returns when to sweep next, in milliseconds since the epoch, or none if no command of this desk set a deadline.
+    pub fn next_sweep(&self) -> Option<u64> {
+        self.room.sweeper.next()
     }
 }

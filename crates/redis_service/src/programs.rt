@@ -1,7 +1,10 @@
 //! Commands of programs: scripts that are called by their digests or texts.
-ghost use Rattle.std.specs.Prelude.{◌≡◌, ℕ, List, IfSome, IfNone, IfOk, IfErr, option_copied};
+ghost use Rattle.std.specs.Prelude.{◌≡◌, ◌++◌, ℕ, List, All, Some, IfSome, IfNone, IfOk, IfErr, option_copied};
+ghost use Rattle.std.specs.Int.{w64, to_le_bytes};
 ghost use Rattle.atomic_methods.specs.Invocations.{Invocation, invocation_of};
 ghost use Rattle.atomic_methods.specs.Plans.{where_true};
+ghost use Rattle.timed_bins.specs.declared.timing.DeadlineChange.{DeadlineChange as TheChange};
+ghost use Rattle.timed_bins.specs.declared.timing.DeadlineChange.TheVariants.{Keep};
 ghost use Rattle.bin_stripes.specs.Passes.{PassState};
 ghost use Rattle.devices.specs.Devices.{CanWrite};
 ghost use Rattle.resp.specs.Replies.{error_bytes, value_bytes};
@@ -11,17 +14,20 @@ ghost use Rattle.redis_commands.specs.Limits.{IsValue, IsProgramWithin};
 ghost use Rattle.redis_scripts.specs.declared.head.ReplyKind.{ReplyKind as TheReply};
 ghost use Rattle.redis_scripts.specs.Faults.{fault_text};
 ghost use Rattle.redis_service.specs.Calls.{Made, AnswersCall};
-ghost use Rattle.redis_service.specs.Programs.{value_line, script_line, no_argument, AnswersWith, AnswersScript, AnswersRelease, AnswersDigest, AnswersText, LoadsText, Tells, AnswersProgram};
+ghost use Rattle.redis_service.specs.Programs.{value_line, script_line, no_argument, with_time, AnswersWith, AnswersIfFit, AnswersScript, AnswersArguments, AnswersDigest, AnswersText, LoadsText, Tells, AnswersProgram};
 ghost use Rattle.redis_service.specs.Replied.{replied_bytes};
 ghost use Rattle.redis_service.specs.Sending.{Sends};
-ghost use Rattle.redis_service.specs.Texts.{one_if};
 
-use crate::calls::make;
+use crate::calls::{MapAt, Outcome, make};
+use crate::errors::{NO_ARGUMENT, NOT_A_NUMBER, TOO_LONG};
+use crate::locks::act_on_lock;
 use crate::reply::Replied;
 use crate::room::Room;
-use crate::telling::{Outcome, say_one_if_done};
+use crate::telling::one_if;
+use crate::texts::set_both;
 use atomic_methods::{Call, ReplyKind};
-use bin_stripes::{Pass, StripedMap};
+use bin_stripes::Pass;
+use bpf_model::limits::VALUE_BYTES;
 use bpf_model::{Key, NoMemory, Value};
 use devices::{Failed, Sink};
 use redis_commands::ProgramCommand;
@@ -32,11 +38,8 @@ use redis_scripts::{
 use resp::{integer, put_error, put_value};
 use std::alloc::Global;
 use std::sync::Wait;
+use timed_bins::DeadlineChange;
 use verifier::Verified;
-
-const NOT_A_NUMBER: &[u8] = b"ERR value is not an integer or out of range";
-
-const NO_ARGUMENT: &[u8] = b"ERR wrong number of arguments for this script";
 
 const NO_SCRIPT: &[u8] = b"NOSCRIPT No matching script. Please use EVAL.";
 
@@ -57,15 +60,18 @@ fn value_of(kind: ScriptReply, found: &[u8]) -> Replied
 
 /// Tells what came of a script's call.
 fn tell(made: Outcome, kind: ScriptReply, found: &Value) -> Replied
-    ensures { (old new : PassState) (invocation : Invocation) → Made made old invocation found.now new
-        → AnswersCall old invocation (script_line kind) (replied_bytes result found.now) new }
+    ensures { (now : ℕ) (change : TheChange) (old new : PassState) (invocation : Invocation) → Made now change made old invocation found.now new
+        → AnswersCall now change old invocation (script_line kind) (replied_bytes result found.now) new }
 {
-    match made {
-        Ok(ReplyKind::Some) => value_of(kind, found.as_slice()),
-        Ok(ReplyKind::None) => Replied::Nothing,
-        Ok(ReplyKind::Done(done)) => Replied::Integer(if done { 1 } else { 0 }),
-        Ok(ReplyKind::Unfit(_)) => Replied::Error(UNFIT),
-        Err(NoMemory) => Replied::NoMemory,
+    let timed = match made {
+        Ok(timed) => timed,
+        Err(NoMemory) => return Replied::NoMemory,
+    };
+    match timed.kind {
+        ReplyKind::Some => value_of(kind, found.as_slice()),
+        ReplyKind::None => Replied::Nothing,
+        ReplyKind::Done(done) => one_if(done),
+        ReplyKind::Unfit(_) => Replied::Error(UNFIT),
     }
 }
 
@@ -76,11 +82,11 @@ fn call_of<'a>(
     program: &'a Verified,
     arg: Option<&'a Value>,
 ) -> Option<Call<'a>>
-    ensures some { IfSome result (λ call. (old new : PassState) (kind : TheReply) (written : List ℕ)
-        → AnswersCall old (invocation_of call) (script_line kind) written new
-        → AnswersWith old key.now method kind program.now (option_copied arg.entry) written new) }
-    ensures none { IfNone result ((old : PassState) (kind : TheReply)
-        → AnswersWith old key.now method kind program.now (option_copied arg.entry) no_argument old) }
+    ensures some { IfSome result (λ call. (now : ℕ) (old new : PassState) (kind : TheReply) (written : List ℕ)
+        → AnswersCall now Keep old (invocation_of call) (script_line kind) written new
+        → AnswersWith now old key.now method kind program.now (option_copied arg.entry) written new) }
+    ensures none { IfNone result ((now : ℕ) (old : PassState) (kind : TheReply)
+        → AnswersWith now old key.now method kind program.now (option_copied arg.entry) no_argument old) }
 {
     match method {
         Method::Compute => Some(Call::Compute { key, program, arg }),
@@ -104,20 +110,28 @@ fn value_if(has: bool, value: &Value) -> Option<&Value>
     if has { Some(value) } else { None }
 }
 
+/// What the commands of programs are about.
+#[derive(Clone, Copy)]
+pub struct Programs<'a, 's> {
+    pub alloc: Global,
+    pub at: MapAt<'a>,
+    pub scripts: &'a Scripts<'s>,
+}
+
 /// Calls the script on the room's key, with the room's value if there is an argument.
 fn call_with<H: Wait>(
     rt: &H,
-    map: &StripedMap,
+    at: &MapAt<'_>,
     pass: &mut Pass,
     room: &mut Room,
     script: &Script<'_>,
     has: bool,
 ) -> Replied
-    requires map { pass.old.map ≡ map.now }
-    ensures same { pass.new.map ≡ map.now }
+    requires map { pass.old.map ≡ at.now.map.now }
+    ensures same { pass.new.map ≡ at.now.map.now }
     ensures passes { pass.new.view.passes ≡ pass.old.view.passes }
     ensures numbers { pass.new.view.numbers ≡ pass.old.view.numbers }
-    ensures answers { AnswersWith pass.old room.old.key script.now.method script.now.reply script.now.program.now (where_true has room.old.value) (replied_bytes result room.new.found) pass.new }
+    ensures answers { AnswersWith at.now.time pass.old room.old.key script.now.method script.now.reply script.now.program.now (where_true has room.old.value) (replied_bytes result room.new.found) pass.new }
 {
     let Room {
         key,
@@ -129,77 +143,132 @@ fn call_with<H: Wait>(
     let Some(call) = call_of(script.method, key, script.program, arg) else {
         return Replied::Error(NO_ARGUMENT);
     };
-    tell(make(rt, map, pass, &call, found), script.reply, found)
+    let made = make(rt, at, pass, &call, DeadlineChange::Keep, found);
+    tell(made, script.reply, found)
 }
 
 /// Calls the script on the room's key with this argument, if there is one.
-pub fn call_script<H: Wait>(
+fn call_plain<H: Wait>(
     rt: &H,
-    map: &StripedMap,
+    at: &MapAt<'_>,
     pass: &mut Pass,
     room: &mut Room,
     script: &Script<'_>,
     argument: Option<&[u8]>,
 ) -> Replied
-    requires map { pass.old.map ≡ map.now }
+    requires map { pass.old.map ≡ at.now.map.now }
     requires argument { IfSome (text_in argument) IsValue }
-    ensures same { pass.new.map ≡ map.now }
+    ensures same { pass.new.map ≡ at.now.map.now }
     ensures passes { pass.new.view.passes ≡ pass.old.view.passes }
     ensures numbers { pass.new.view.numbers ≡ pass.old.view.numbers }
-    ensures answers { AnswersScript pass.old room.old.key script.now.method script.now.reply script.now.program.now (text_in argument.entry) (replied_bytes result room.new.found) pass.new }
+    ensures answers { AnswersIfFit at.now.time pass.old room.old.key script.now.method script.now.reply script.now.program.now (text_in argument.entry) (replied_bytes result room.new.found) pass.new }
 {
     let Some(word) = argument else {
-        return call_with(rt, map, pass, room, script, false);
+        return call_with(rt, at, pass, room, script, false);
+    };
+    room.value.set_from(word);
+    call_with(rt, at, pass, room, script, true)
+}
+
+/// Calls the script on the room's key with the time, and after it this argument, if both are not too long.
+fn call_timed<H: Wait>(
+    rt: &H,
+    at: &MapAt<'_>,
+    pass: &mut Pass,
+    room: &mut Room,
+    script: &Script<'_>,
+    word: &[u8],
+) -> Replied
+    requires map { pass.old.map ≡ at.now.map.now }
+    requires argument { IsValue word.now }
+    ensures same { pass.new.map ≡ at.now.map.now }
+    ensures passes { pass.new.view.passes ≡ pass.old.view.passes }
+    ensures numbers { pass.new.view.numbers ≡ pass.old.view.numbers }
+    ensures answers { AnswersIfFit at.now.time pass.old room.old.key script.now.method script.now.reply script.now.program.now (Some (to_le_bytes w64 at.now.time ++ word.now)) (replied_bytes result room.new.found) pass.new }
+{
+    let time = at.time.to_le_bytes();
+    if time.len() + word.len() > VALUE_BYTES {
+        return Replied::Error(TOO_LONG);
+    }
+    set_both(&mut room.value, &time, word);
+    call_with(rt, at, pass, room, script, true)
+}
+
+/// Calls the script on the room's key with these bytes, if there are some, and before them with the time if the script asks for it.
+fn call_bytes<H: Wait>(
+    rt: &H,
+    at: &MapAt<'_>,
+    pass: &mut Pass,
+    room: &mut Room,
+    script: &Script<'_>,
+    argument: Option<&[u8]>,
+) -> Replied
+    requires map { pass.old.map ≡ at.now.map.now }
+    requires argument { IfSome (text_in argument) IsValue }
+    ensures same { pass.new.map ≡ at.now.map.now }
+    ensures passes { pass.new.view.passes ≡ pass.old.view.passes }
+    ensures numbers { pass.new.view.numbers ≡ pass.old.view.numbers }
+    ensures answers { AnswersIfFit at.now.time pass.old room.old.key script.now.method script.now.reply script.now.program.now (with_time at.now.time script.now.with_now (text_in argument.entry)) (replied_bytes result room.new.found) pass.new }
+{
+    if !script.with_now {
+        return call_plain(rt, at, pass, room, script, argument);
+    }
+    match argument {
+        Some(word) => call_timed(rt, at, pass, room, script, word),
+        None => call_timed(rt, at, pass, room, script, &[]),
+    }
+}
+
+/// Calls the script on the room's key with this argument, if there is one.
+fn call_script<H: Wait>(
+    rt: &H,
+    at: &MapAt<'_>,
+    pass: &mut Pass,
+    room: &mut Room,
+    script: &Script<'_>,
+    argument: Option<&[u8]>,
+) -> Replied
+    requires map { pass.old.map ≡ at.now.map.now }
+    requires argument { IfSome (text_in argument) IsValue }
+    ensures same { pass.new.map ≡ at.now.map.now }
+    ensures passes { pass.new.view.passes ≡ pass.old.view.passes }
+    ensures numbers { pass.new.view.numbers ≡ pass.old.view.numbers }
+    ensures answers { AnswersScript at.now.time pass.old room.old.key script.now.method script.now.reply script.now.with_now script.now.program.now (text_in argument.entry) (replied_bytes result room.new.found) pass.new }
+{
+    let Some(word) = argument else {
+        return call_bytes(rt, at, pass, room, script, None);
     };
     if script.reply == ScriptReply::Bytes {
-        room.value.set_from(word);
-        return call_with(rt, map, pass, room, script, true);
+        return call_bytes(rt, at, pass, room, script, Some(word));
     }
     let Some(n) = integer(word) else {
         return Replied::Error(NOT_A_NUMBER);
     };
-    room.value.set_from(&n.cast_unsigned().to_le_bytes());
-    call_with(rt, map, pass, room, script, true)
+    let bytes = n.cast_unsigned().to_le_bytes();
+    call_bytes(rt, at, pass, room, script, Some(&bytes))
 }
 
-/// Removes the room's key if its value is this argument.
-pub fn release<H: Wait>(
+/// Calls the script on the room's key with these arguments, of which there may be one.
+fn call_arguments<H: Wait>(
     rt: &H,
-    map: &StripedMap,
+    at: &MapAt<'_>,
     pass: &mut Pass,
     room: &mut Room,
-    argument: Option<&[u8]>,
+    script: &Script<'_>,
+    arguments: &[&[u8]],
 ) -> Replied
-    requires map { pass.old.map ≡ map.now }
-    requires argument { IfSome (text_in argument) IsValue }
-    ensures same { pass.new.map ≡ map.now }
+    requires map { pass.old.map ≡ at.now.map.now }
+    requires arguments { All IsValue (texts arguments.now) }
+    ensures same { pass.new.map ≡ at.now.map.now }
     ensures passes { pass.new.view.passes ≡ pass.old.view.passes }
     ensures numbers { pass.new.view.numbers ≡ pass.old.view.numbers }
-    ensures answers { AnswersRelease pass.old room.old.key (text_in argument.entry) (replied_bytes result room.new.found) pass.new }
+    ensures answers { AnswersArguments at.now.time pass.old room.old.key script.now.method script.now.reply script.now.with_now script.now.program.now (texts arguments.now) (replied_bytes result room.new.found) pass.new }
 {
-    let Some(holder) = argument else {
-        return Replied::Error(NO_ARGUMENT);
-    };
-    let Room {
-        key,
-        found,
-        other,
-        ..
-    } = room;
-    other.set_from(holder);
-    let call = Call::RemoveIf {
-        key,
-        expected: other,
-    };
-    say_one_if_done(make(rt, map, pass, &call, found))
-}
-
-/// What the commands of programs are about.
-#[derive(Clone, Copy)]
-pub struct Programs<'a, 's> {
-    pub alloc: Global,
-    pub map: &'a StripedMap,
-    pub scripts: &'a Scripts<'s>,
+    match arguments {
+        [] => call_script(rt, at, pass, room, script, None),
+        [word] => call_script(rt, at, pass, room, script, Some(word)),
+        _ => Replied::Error(NO_ARGUMENT),
+    }
 }
 
 /// Calls the script with this digest on the room's key.
@@ -209,25 +278,25 @@ fn call_digest<H: Wait>(
     pass: &mut Pass,
     room: &mut Room,
     word: &[u8],
-    argument: Option<&[u8]>,
+    arguments: &[&[u8]],
 ) -> Replied
-    requires map { pass.old.map ≡ programs.now.map.now }
-    requires argument { IfSome (text_in argument) IsValue }
-    ensures same { pass.new.map ≡ programs.now.map.now }
+    requires map { pass.old.map ≡ programs.now.at.map.now }
+    requires arguments { All IsValue (texts arguments.now) }
+    ensures same { pass.new.map ≡ programs.now.at.map.now }
     ensures passes { pass.new.view.passes ≡ pass.old.view.passes }
     ensures numbers { pass.new.view.numbers ≡ pass.old.view.numbers }
-    ensures answers { AnswersDigest pass.old word.now room.old.key (text_in argument.entry) (replied_bytes result room.new.found) pass.new }
+    ensures answers { AnswersDigest programs.now.at.time pass.old word.now room.old.key (texts arguments.now) (replied_bytes result room.new.found) pass.new }
 {
     let Some(digest) = digest_in(word) else {
         return Replied::Error(NO_SCRIPT);
     };
-    if programs.scripts.known_lua(digest).is_some() {
-        return release(rt, programs.map, pass, room, argument);
+    if let Some(act) = programs.scripts.known_lua(digest) {
+        return act_on_lock(rt, &programs.at, pass, room, act, arguments);
     }
     let Some(script) = programs.scripts.find(rt, digest) else {
         return Replied::Error(NO_SCRIPT);
     };
-    call_script(rt, programs.map, pass, room, &script, argument)
+    call_arguments(rt, &programs.at, pass, room, &script, arguments)
 }
 
 /// Calls the script that is this text on the room's key.
@@ -237,24 +306,21 @@ fn call_text<H: Wait>(
     pass: &mut Pass,
     room: &mut Room,
     text: &[u8],
-    argument: Option<&[u8]>,
+    arguments: &[&[u8]],
 ) -> Result<Replied, ScriptFault>
-    requires map { pass.old.map ≡ programs.now.map.now }
-    requires argument { IfSome (text_in argument) IsValue }
-    ensures same { pass.new.map ≡ programs.now.map.now }
+    requires map { pass.old.map ≡ programs.now.at.map.now }
+    requires arguments { All IsValue (texts arguments.now) }
+    ensures same { pass.new.map ≡ programs.now.at.map.now }
     ensures passes { pass.new.view.passes ≡ pass.old.view.passes }
     ensures numbers { pass.new.view.numbers ≡ pass.old.view.numbers }
-    ensures ok { IfOk result (λ replied. AnswersText pass.old text.now room.old.key (text_in argument.entry) (replied_bytes replied room.new.found) pass.new) }
-    ensures err { IfErr result (λ fault. AnswersText pass.old text.now room.old.key (text_in argument.entry) (error_bytes (fault_text fault)) pass.new) }
+    ensures ok { IfOk result (λ replied. AnswersText programs.now.at.time pass.old text.now room.old.key (texts arguments.now) (replied_bytes replied room.new.found) pass.new) }
+    ensures err { IfErr result (λ fault. AnswersText programs.now.at.time pass.old text.now room.old.key (texts arguments.now) (error_bytes (fault_text fault)) pass.new) }
 {
-    if programs.scripts.known_lua(digest_of(text)).is_some() {
-        return Ok(release(rt, programs.map, pass, room, argument));
+    if let Some(act) = programs.scripts.known_lua(digest_of(text)) {
+        return Ok(act_on_lock(rt, &programs.at, pass, room, act, arguments));
     }
-    let script = match programs.scripts.load(rt, programs.alloc, text) {
-        Ok(script) => script,
-        Err(fault) => return Err(fault),
-    };
-    Ok(call_script(rt, programs.map, pass, room, &script, argument))
+    let script = programs.scripts.load(rt, programs.alloc, text)?;
+    Ok(call_arguments(rt, &programs.at, pass, room, &script, arguments))
 }
 
 /// Loads the script that is this text, and returns its digest's name.
@@ -270,10 +336,8 @@ fn name_of<H: Wait>(
     if programs.scripts.known_lua(digest).is_some() {
         return Ok(hex_of(&digest));
     }
-    match programs.scripts.load(rt, programs.alloc, text) {
-        Ok(script) => Ok(hex_of(&script.digest)),
-        Err(fault) => Err(fault),
-    }
+    let script = programs.scripts.load(rt, programs.alloc, text)?;
+    Ok(hex_of(&script.digest))
 }
 
 /// Loads the script that is this text, and says its digest.
@@ -302,13 +366,6 @@ fn is_known<H: Wait>(rt: &H, programs: &Programs<'_, '_>, word: &[u8]) -> bool
     programs.scripts.known_lua(digest).is_some() || programs.scripts.find(rt, digest).is_some()
 }
 
-/// 1 or 0.
-fn mark(is: bool) -> Replied
-    ensures { (found : List ℕ) → replied_bytes result found ≡ one_if is }
-{
-    Replied::Integer(if is { 1 } else { 0 })
-}
-
 /// Says of each word whether it names what can be called. If a write fails, nothing more is sent.
 fn mark_each<H: Wait, W: Sink>(
     rt: &H,
@@ -317,13 +374,13 @@ fn mark_each<H: Wait, W: Sink>(
     sink: &mut W,
 ) -> Result<(), Failed>
     requires sink { CanWrite (W.state sink.old) }
-    ensures answers { (pass : PassState) → (written : List ℕ) × Sends result (W.state sink.old) (W.state sink.new) written
-        × AnswersProgram pass (Exists (texts words.now)) written pass }
+    ensures answers { (now : ℕ) (pass : PassState) → (written : List ℕ) × Sends result (W.state sink.old) (W.state sink.new) written
+        × AnswersProgram now pass (Exists (texts words.now)) written pass }
 {
     let mut sent = Replied::Array(words.len()).send_after(Ok(()), &[], sink);
     for word in words {
         let is = is_known(rt, programs, word);
-        sent = mark(is).send_after(sent, &[], sink);
+        sent = one_if(is).send_after(sent, &[], sink);
     }
     sent
 }
@@ -337,14 +394,14 @@ pub fn answer_program<H: Wait, W: Sink>(
     command: &ProgramCommand<'_>,
     sink: &mut W,
 ) -> Result<(), Failed>
-    requires map { pass.old.map ≡ programs.now.map.now }
+    requires map { pass.old.map ≡ programs.now.at.map.now }
     requires limits { IsProgramWithin (program_by command.now) }
     requires sink { CanWrite (W.state sink.old) }
-    ensures same { pass.new.map ≡ programs.now.map.now }
+    ensures same { pass.new.map ≡ programs.now.at.map.now }
     ensures passes { pass.new.view.passes ≡ pass.old.view.passes }
     ensures numbers { pass.new.view.numbers ≡ pass.old.view.numbers }
     ensures answers { (written : List ℕ) × Sends result (W.state sink.old) (W.state sink.new) written
-        × AnswersProgram pass.old (program_by command.now) written pass.new }
+        × AnswersProgram programs.now.at.time pass.old (program_by command.now) written pass.new }
 {
     match *command {
         ProgramCommand::Load { text } => load(rt, programs, text, sink),
@@ -352,19 +409,19 @@ pub fn answer_program<H: Wait, W: Sink>(
         ProgramCommand::Call {
             digest,
             key,
-            argument,
+            arguments,
         } => {
             room.key.set_from(key);
-            let replied = call_digest(rt, programs, pass, room, digest, argument);
+            let replied = call_digest(rt, programs, pass, room, digest, arguments);
             replied.send(room.found.as_slice(), sink)
         }
         ProgramCommand::Eval {
             text,
             key,
-            argument,
+            arguments,
         } => {
             room.key.set_from(key);
-            match call_text(rt, programs, pass, room, text, argument) {
+            match call_text(rt, programs, pass, room, text, arguments) {
                 Ok(replied) => replied.send(room.found.as_slice(), sink),
                 Err(fault) => put_error(sink, fault.message().as_slice()),
             }

@@ -1,25 +1,10 @@
 //! Reads commands from bytes, one after the other.
-ghost use Rattle.std.specs.Prelude.{◌≡◌, ◌<◌, [], length};
+ghost use Rattle.std.specs.Prelude.{◌≡◌, []};
 ghost use Rattle.resp.specs.Grammar.{texts};
 ghost use Rattle.redis_service.specs.Reads.{ReadsNext};
 
-use resp::{Next, NextFault, RespFault, next_command};
+use resp::{Next, NextFault, next_command};
 use std::alloc::Global;
-
-/// What the bytes begin with.
-#[derive(Clone, Copy)]
-pub enum Came {
-    /// A command, whose words the reader has.
-    Command,
-    /// Nothing that is answered.
-    Nothing,
-    /// A command that is not whole yet.
-    More,
-    /// Bytes that no command begins with.
-    Faulty(RespFault),
-    /// Memory for the words was refused.
-    NoMemory,
-}
 
 /// Bytes that commands are read from, and the words of the last one.
 #[derive(Drop)]
@@ -41,23 +26,21 @@ impl<'b> Reader<'b> {
         }
     }
 
-    /// Reads what the rest begins with.
+    /// Reads what the rest begins with. Returns `NoMemory` if memory for the words is refused.
     #[tactic(auto, using(crate::proofs::ReadLemmas::spelled_some, crate::proofs::ReadLemmas::ignored_some))]
-    pub fn next(&mut self) -> Came
+    pub fn next(&mut self) -> Result<Next<'b>, NextFault>
         ensures { ReadsNext result self.old.rest.now (texts self.new.words.items) self.new.rest.now }
     {
-        match next_command(self.rest, &mut self.words) {
-            Ok(Next::Command(rest)) => {
+        match next_command(self.rest, &mut self.words)? {
+            Next::Command(rest) => {
                 self.rest = rest;
-                Came::Command
+                Ok(Next::Command(rest))
             }
-            Ok(Next::Nothing(rest)) => {
+            Next::Nothing(rest) => {
                 self.rest = rest;
-                Came::Nothing
+                Ok(Next::Nothing(rest))
             }
-            Ok(Next::More) => Came::More,
-            Err(NextFault::Faulty(fault)) => Came::Faulty(fault),
-            Err(NextFault::NoMemory) => Came::NoMemory,
+            Next::More => Ok(Next::More),
         }
     }
 }

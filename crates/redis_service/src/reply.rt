@@ -5,7 +5,7 @@ ghost use Rattle.redis_service.specs.Replied.{replied_bytes};
 ghost use Rattle.redis_service.specs.Sending.{Sends};
 ghost use Rattle.redis_service.specs.Texts.{count_line};
 
-use crate::lines::no_memory_line;
+use crate::lines::NO_MEMORY_LINE;
 use arrayvec::ArrayVec;
 use devices::{Failed, Sink, write_all};
 use itoa::Buffer;
@@ -63,7 +63,7 @@ impl Replied {
             Replied::Bytes(bytes) => write_all(sink, bytes),
             Replied::Simple(text) => put_simple(sink, text),
             Replied::Error(text) => put_error(sink, text),
-            Replied::NoMemory => write_all(sink, no_memory_line()),
+            Replied::NoMemory => write_all(sink, NO_MEMORY_LINE),
         }
     }
 
@@ -79,9 +79,7 @@ impl Replied {
             → Sends result before (W.state sink.new) (said ++ replied_bytes self found.now) }
         ensures can { OnOk result (CanWrite (W.state sink.new)) }
     {
-        match sent {
-            Ok(()) => self.send(found, sink),
-            Err(Failed) => Err(Failed),
-        }
+        sent?;
+        self.send(found, sink)
     }
 }

@@ -1,9 +1,11 @@
 //! Room for one command.
 ghost use Rattle.std.specs.Prelude.{◌≡◌, []};
 
+use crate::sweeper::Sweeper;
 use bpf_model::{Key, Value};
 
-/// Room for the key of a command and for three values, which the commands of all clients of a worker use in turn.
+/// Room for the key of a command and for three values, which the commands of all clients of a worker use in turn. The deadlines that
+/// they set are told here.
 #[derive(Drop)]
 pub struct Room {
     /// The command's key.
@@ -14,6 +16,8 @@ pub struct Room {
     pub value: Value,
     /// One more value.
     pub other: Value,
+    /// What the worker knows of deadlines.
+    pub sweeper: Sweeper,
 }
 
 impl Room {
@@ -24,6 +28,7 @@ impl Room {
             found: Value::new(),
             value: Value::new(),
             other: Value::new(),
+            sweeper: Sweeper::new(),
         }
     }
 }

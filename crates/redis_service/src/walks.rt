@@ -13,7 +13,7 @@ use bin_stripes::{Pass, StripedMap};
 use bpf_model::{Key, NoMemory};
 use devices::{Failed, Sink};
 use itoa::Buffer;
-use key_walks::{Page, all_keys, count_all, random_key, remove_all, scan_some};
+use key_walks::{Page, PageAsked, all_keys, count_all, random_key, remove_all, scan_some};
 use redis_commands::{WalkCommand, matches};
 use std::alloc::Global;
 use std::sync::Wait;
@@ -27,6 +27,8 @@ pub struct Ground<'a> {
     pub map: &'a StripedMap,
     /// The number by which a key is chosen, if one is to be.
     pub number: u64,
+    /// The time in milliseconds since the epoch.
+    pub time: u64,
 }
 
 /// Counts all keys.
@@ -113,43 +115,43 @@ fn put_page<W: Sink>(
     put_keys(sent, if_strings(&keys, is_string), sink)
 }
 
-/// Scans some keys from a cursor on.
+/// Scans some keys from a cursor on. Entries whose time is over go first.
 #[tactic(auto, using(crate::proofs::WalkLemmas::page_keeps, crate::proofs::WalkLemmas::page_stops))]
 fn scan<H: Wait>(
     rt: &H,
     alloc: Global,
     map: &StripedMap,
     pass: &mut Pass,
-    cursor: u64,
-    most: u64,
+    asked: PageAsked,
 ) -> Result<Page, NoMemory>
     requires map { pass.old.map ≡ map.now }
     ensures same { pass.new.map ≡ map.now }
     ensures passes { pass.new.view.passes ≡ pass.old.view.passes }
     ensures numbers { pass.new.view.numbers ≡ pass.old.view.numbers }
-    ensures answers { (pattern : Option (List ℕ)) (is_string : Bool) → AnswersScan cursor pattern most is_string pass.old (page_line pattern is_string result) pass.new }
+    ensures answers { (pattern : Option (List ℕ)) (is_string : Bool) → AnswersScan asked.time asked.cursor pattern asked.most is_string pass.old (page_line pattern is_string result) pass.new }
 {
-    match scan_some(rt, alloc, map, pass, cursor, most) {
+    match scan_some(rt, alloc, map, pass, asked) {
         Ok(page) => Ok(page),
         Err(NoMemory) => Err(NoMemory),
     }
 }
 
-/// Finds all keys.
+/// Finds all keys. Entries whose time is over go first.
 #[tactic(auto, using(crate::proofs::WalkLemmas::find_keeps, crate::proofs::WalkLemmas::find_stops))]
 fn find<H: Wait>(
     rt: &H,
     alloc: Global,
     map: &StripedMap,
     pass: &mut Pass,
+    now: u64,
 ) -> Result<Vec<Key>, NoMemory>
     requires map { pass.old.map ≡ map.now }
     ensures same { pass.new.map ≡ map.now }
     ensures passes { pass.new.view.passes ≡ pass.old.view.passes }
     ensures numbers { pass.new.view.numbers ≡ pass.old.view.numbers }
-    ensures answers { (pattern : List ℕ) → AnswersAllKeys pattern pass.old (found_line pattern result) pass.new }
+    ensures answers { (pattern : List ℕ) → AnswersAllKeys now pattern pass.old (found_line pattern result) pass.new }
 {
-    match all_keys(rt, alloc, map, pass) {
+    match all_keys(rt, alloc, map, pass, now) {
         Ok(keys) => Ok(keys),
         Err(NoMemory) => Err(NoMemory),
     }
@@ -171,7 +173,7 @@ fn put_found<W: Sink>(
     put_keys(Ok(()), &keys, sink)
 }
 
-/// Chooses a key by a number.
+/// Chooses a key by a number. Entries whose time is over go first.
 #[tactic(auto, using(crate::proofs::WalkLemmas::choice_keeps, crate::proofs::WalkLemmas::find_stops))]
 fn choose<H: Wait>(
     rt: &H,
@@ -179,14 +181,15 @@ fn choose<H: Wait>(
     map: &StripedMap,
     pass: &mut Pass,
     number: u64,
+    now: u64,
 ) -> Result<Option<Key>, NoMemory>
     requires map { pass.old.map ≡ map.now }
     ensures same { pass.new.map ≡ map.now }
     ensures passes { pass.new.view.passes ≡ pass.old.view.passes }
     ensures numbers { pass.new.view.numbers ≡ pass.old.view.numbers }
-    ensures answers { AnswersChoice pass.old (choice_line result) pass.new }
+    ensures answers { AnswersChoice now pass.old (choice_line result) pass.new }
 {
-    match random_key(rt, alloc, map, pass, number) {
+    match random_key(rt, alloc, map, pass, number, now) {
         Ok(choice) => Ok(choice),
         Err(NoMemory) => Err(NoMemory),
     }
@@ -204,7 +207,8 @@ fn put_choice<W: Sink>(chosen: &Result<Option<Key>, NoMemory>, sink: &mut W) -> 
     }
 }
 
-/// Makes the walk, and answers the command. Waits until each stripe of the map is free.
+/// Makes the walk, and answers the command. KEYS, SCAN and RANDOMKEY take entries away whose time is over. Waits until each stripe
+/// of the map is free.
 pub fn answer_walk<H: Wait, W: Sink>(
     rt: &H,
     ground: &Ground<'_>,
@@ -218,22 +222,27 @@ pub fn answer_walk<H: Wait, W: Sink>(
     ensures passes { pass.new.view.passes ≡ pass.old.view.passes }
     ensures numbers { pass.new.view.numbers ≡ pass.old.view.numbers }
     ensures answers { (written : List ℕ) × Sends result (W.state sink.old) (W.state sink.new) written
-        × AnswersWalk pass.old (walk_by command.now) written pass.new }
+        × AnswersWalk ground.now.time pass.old (walk_by command.now) written pass.new }
 {
     let alloc = ground.alloc;
     let map = ground.map;
+    let time = ground.time;
     match *command {
         WalkCommand::CountAll => count(rt, map, pass).send(&[], sink),
         WalkCommand::RemoveAll => clear(rt, alloc, map, pass).send(&[], sink),
-        WalkCommand::RandomKey => put_choice(&choose(rt, alloc, map, pass, ground.number), sink),
-        WalkCommand::Keys { pattern } => put_found(find(rt, alloc, map, pass), pattern, sink),
+        WalkCommand::RandomKey => put_choice(
+            &choose(rt, alloc, map, pass, ground.number, time),
+            sink,
+        ),
+        WalkCommand::Keys { pattern } => put_found(find(rt, alloc, map, pass, time), pattern, sink),
         WalkCommand::Scan {
             cursor,
             pattern,
             count: most,
             is_string,
         } => {
-            let scanned = scan(rt, alloc, map, pass, cursor, most);
+            let asked = PageAsked { cursor, most, time };
+            let scanned = scan(rt, alloc, map, pass, asked);
             put_page(scanned, pattern, is_string, sink)
         }
     }

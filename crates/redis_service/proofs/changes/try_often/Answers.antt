@@ -7,7 +7,7 @@ pub returns-in-Some-clause-tried : goal.returns-in-Some-clause-tried
 returns-in-Some-clause-tried g c before tries lost =
     let key = c.args.room.now.key in
     let D = Does c.args.change.now in
-    ends_after key D before c.loop.pass c.try_change.new.pass _ (c.loop.invariant.lost before tries lost) (rw c.loop.invariant.key at c.in-Some.ensures.tried)
+    ends_after c.args.at.now.time c.args.deadline key D before c.loop.pass c.try_change.new.pass _ (c.loop.invariant.lost before tries lost) (rw c.loop.invariant.key at c.in-Some.ensures.tried)
 
 pub loop-preserved : goal.loop-preserved
 loop-preserved g c = record {
@@ -15,5 +15,5 @@ loop-preserved g c = record {
   passes = search rules;
   numbers = search rules;
   key = search rules;
-  lost = λ before tries lost. loses_more c.args.room.now.key (Does c.args.change.now) before c.loop.pass c.try_change.new.pass (c.loop.invariant.lost before tries lost) (rw c.loop.invariant.key at c.in_default.ensures.tried);
+  lost = λ before tries lost. loses_more c.args.at.now.time c.args.deadline c.args.room.now.key (Does c.args.change.now) before c.loop.pass c.try_change.new.pass (c.loop.invariant.lost before tries lost) (rw c.loop.invariant.key at c.in_default.ensures.tried);
 }

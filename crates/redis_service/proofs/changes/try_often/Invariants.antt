@@ -7,10 +7,10 @@ use Rattle.redis_service.proofs.changes.try_often.Given as goal
 
 abbrev pub invariant-loop : goal.invariant-loop
 invariant-loop g l = record {
-  map : l.pass.map ≡ l.map;
+  map : l.pass.map ≡ l.at.map.now;
   passes : l.pass.view.passes ≡ l.fn.pass.view.passes;
   numbers : l.pass.view.numbers ≡ l.fn.pass.view.numbers;
   key : l.room.key ≡ l.fn.room.key;
-  lost : (before : PassState) (tries : ℕ) → LosesTries l.fn.room.key (Does l.change) tries before l.fn.pass
-      → (more : ℕ) × LosesTries l.fn.room.key (Does l.change) more before l.pass;
+  lost : (before : PassState) (tries : ℕ) → LosesTries l.at.time l.deadline l.fn.room.key (Does l.change) tries before l.fn.pass
+      → (more : ℕ) × LosesTries l.at.time l.deadline l.fn.room.key (Does l.change) more before l.pass;
 }

@@ -5,7 +5,7 @@ use Rattle.redis_service.proofs.programs.answer_program.Goals as goal
 
 pub returns-in-Exists-clause-answers : goal.returns-in-Exists-clause-answers
 returns-in-Exists-clause-answers g c =
-    let (w, sends, answers) = c.mark_each.ensures.answers c.args.pass.now in (w, sends, rw c.in-Exists.is answers)
+    let (w, sends, answers) = c.mark_each.ensures.answers c.args.programs.now.at.time c.args.pass.now in (w, sends, rw c.in-Exists.is answers)
 
 pub returns-in-Call-clause-answers : goal.returns-in-Call-clause-answers
 returns-in-Call-clause-answers g c = (

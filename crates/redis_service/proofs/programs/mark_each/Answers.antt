@@ -36,14 +36,14 @@ loop-word-preserved g c =
             marks ++ is ∷ [],
             each_at Looks pass pass pass c.args.words.now c.loop-word.word-index _ marks is (omega arith) each (c.is_known-is.ensures, refl),
             subst (λ (t : List ℕ). Sends c.send_after-sent-in-loop-word.result before (g.W.Sink.state c.send_after-sent-in-loop-word.new.sink) t)
-                (ap (λ (t : List ℕ). (head ++ flat_map one_if marks) ++ t) (c.mark.ensures []) ∙ told_each one_if head marks is)
+                (ap (λ (t : List ℕ). (head ++ flat_map one_if marks) ++ t) (c.one_if.ensures []) ∙ told_each one_if head marks is)
                 (c.send_after-sent-in-loop-word.ensures.more before (head ++ flat_map one_if marks) sends),
           );
     }
 
 pub returns : goal.returns
 returns g c = record {
-  answers = λ pass.
+  answers = λ now pass.
       let (marks, each, sends) = c.loop-word.invariant.each pass in (
         array_head (length c.args.words.now) ++ flat_map one_if marks,
         sends,

@@ -6,9 +6,9 @@ use Rattle.redis_service.proofs.several.count_each.Given as goal
 
 abbrev pub invariant-loop-key : goal.invariant-loop-key
 invariant-loop-key g l = record {
-  map : l.pass.map ≡ l.map;
+  map : l.pass.map ≡ l.at.map.now;
   passes : l.pass.view.passes ≡ l.fn.pass.view.passes;
   numbers : l.pass.view.numbers ≡ l.fn.pass.view.numbers;
-  each : (founds : List (Option (List ℕ))) × Each Finds l.fn.pass (texts (take l.key-index l.keys)) founds l.pass × (l.count ≡ count_by is_some founds);
+  each : (founds : List (Option (List ℕ))) × Each (Finds l.at.time) l.fn.pass (texts (take l.key-index l.keys)) founds l.pass × (l.count ≡ count_by is_some founds);
   most : l.count ≤ l.key-index;
 }

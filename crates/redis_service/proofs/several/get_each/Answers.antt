@@ -42,7 +42,7 @@ loop-key-preserved g c =
       can = c.send_after-sent-in-loop-key.ensures.can;
       each = (
         founds ++ found ∷ [],
-        each_at Finds c.args.pass.now c.loop-key.pass c.get_one-was.new.pass c.args.keys.now c.loop-key.key-index _ founds found (omega arith) each c.get_one-was.ensures.finds,
+        each_at (Finds c.args.at.now.time) c.args.pass.now c.loop-key.pass c.get_one-was.new.pass c.args.keys.now c.loop-key.key-index _ founds found (omega arith) each c.get_one-was.ensures.finds,
         subst (λ (t : List ℕ). Sends c.send_after-sent-in-loop-key.result before (g.W.Sink.state c.send_after-sent-in-loop-key.new.sink) t)
             (ap (λ (t : List ℕ). (head ++ flat_map bulk founds) ++ t) told ∙ told_more head founds found)
             (c.send_after-sent-in-loop-key.ensures.more before (head ++ flat_map bulk founds) sends),

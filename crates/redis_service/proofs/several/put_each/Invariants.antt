@@ -7,16 +7,16 @@ use Rattle.redis_service.specs.Answers.{Puts, pairs}
 use Rattle.redis_service.specs.Calls.{Each}
 use Rattle.redis_service.proofs.several.put_each.Given as goal
 
-abbrev pub invariant-loop-at : goal.invariant-loop-at
-invariant-loop-at g l = record {
-  map : l.pass.map ≡ l.map;
+abbrev pub invariant-loop-next : goal.invariant-loop-next
+invariant-loop-next g l = record {
+  map : l.pass.map ≡ l.at.map.now;
   passes : l.pass.view.passes ≡ l.fn.pass.view.passes;
   numbers : l.pass.view.numbers ≡ l.fn.pass.view.numbers;
-  place : l.at ≤ length l.words;
-  within : ArePairs (drop l.at (texts l.words));
-  each : (done : List (List ℕ × List ℕ)) × ((replies : List Reply) × Each Puts l.fn.pass done replies l.pass
-      × (pairs (texts l.words) ≡ done ++ pairs (drop l.at (texts l.words))));
+  place : l.next ≤ length l.words;
+  within : ArePairs (drop l.next (texts l.words));
+  each : (done : List (List ℕ × List ℕ)) × ((replies : List Reply) × Each (Puts l.at.time) l.fn.pass done replies l.pass
+      × (pairs (texts l.words) ≡ done ++ pairs (drop l.next (texts l.words))));
 }
 
-abbrev pub decreases-loop-at : goal.decreases-loop-at
-decreases-loop-at g l = length l.words - l.at
+abbrev pub decreases-loop-next : goal.decreases-loop-next
+decreases-loop-next g l = length l.words - l.next

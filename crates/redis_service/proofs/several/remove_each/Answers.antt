@@ -18,7 +18,7 @@ loop-key-preserved g c =
       numbers = search rules;
       each = (
         founds ++ found ∷ [],
-        each_at Removes c.args.pass.now c.loop-key.pass c.remove_one-was.new.pass c.args.keys.now c.loop-key.key-index _ founds found (omega arith) each c.remove_one-was.ensures.removes,
+        each_at (Removes c.args.at.now.time) c.args.pass.now c.loop-key.pass c.remove_one-was.new.pass c.args.keys.now c.loop-key.key-index _ founds found (omega arith) each c.remove_one-was.ensures.removes,
         counted_more c.loop-key.count c.one_more-count.result founds found count more,
       );
       most = counted_most c.loop-key.count c.one_more-count.result c.loop-key.key-index found c.loop-key.invariant.most more;

@@ -1,25 +1,27 @@
-use Rattle.std.proofs.Common.{rules, subst, sym, List, ℕ}
+use Rattle.std.proofs.Common.{rules, subst, sym, List, ℕ, Ok}
 use Rattle.std.specs.Borrow.{Bor}
 use Rattle.redis_commands.specs.Commands.{texts}
-use Rattle.redis_service.specs.declared.reader.Came.TheVariants.{Command}
+use Rattle.resp.specs.declared.command.Next.TheVariants.{Command}
+use Rattle.key_walks.proofs.ChainLemmas.{on_err}
 use Rattle.redis_service.specs.Reads.{ReadsNext}
 use Rattle.redis_service.proofs.TalkLemmas.{step_command, step_nothing, step_fails}
 use Rattle.redis_service.proofs.desk.RedisDesk.answer_all.Goals as goal
 
-pub loop-reader-preserved-in-Ok : goal.loop-reader-preserved-in-Ok
-loop-reader-preserved-in-Ok g c =
+pub loop-reader-preserved-in-Continue-1 : goal.loop-reader-preserved-in-Continue-1
+loop-reader-preserved-in-Continue-1 g c =
     let S = g.W.Sink.state in
     let rest = c.loop-reader.reader.rest.now in
     let behind = c.next.new.self.rest.now in
+    let after = c.in-Ok-Command.field-0-0 in
     record {
       desk = search rules;
       map = search rules;
       passes = search rules;
       numbers = search rules;
       number = search rules;
-      some = step_command (S c.args.sink.now) (S c.loop-reader.sink) (S c.answer.new.sink) c.args.talk.now c.loop-reader.talk c.answer.new.talk c.args.pass.now c.loop-reader.pass c.answer.new.pass
+      some = step_command c.args.now after (S c.args.sink.now) (S c.loop-reader.sink) (S c.answer.new.sink) c.args.talk.now c.loop-reader.talk c.answer.new.talk c.args.pass.now c.loop-reader.pass c.answer.new.pass
           c.args.reader.now.rest.now rest behind (texts c.deref.result.now) c.loop-reader.invariant.some (search rules)
-          (subst (λ (ws : List (Bor (List ℕ))). ReadsNext Command rest (texts ws) behind) (sym c.deref.ensures.value) c.in-Command.ensures) c.in-Ok.ensures.answers;
+          (subst (λ (ws : List (Bor (List ℕ))). ReadsNext (Ok (Command after)) rest (texts ws) behind) (sym c.deref.ensures.value) (rw c.in-Ok-Command.field-0-is at c.in-Ok-Command.ensures)) c.in_ok-answer-in-Ok-Command.ensures.answers;
     }
 
 pub loop-reader-preserved : goal.loop-reader-preserved
@@ -31,15 +33,18 @@ loop-reader-preserved g c =
       passes = search rules;
       numbers = search rules;
       number = search rules;
-      some = step_nothing (S c.args.sink.now) (S c.loop-reader.sink) c.args.talk.now c.loop-reader.talk c.args.pass.now c.loop-reader.pass
-          c.args.reader.now.rest.now c.loop-reader.reader.rest.now c.next.new.self.rest.now (texts c.next.new.self.words.items) c.loop-reader.invariant.some (search rules) c.in-Nothing.ensures;
+      some = step_nothing c.args.now c.in-Ok-Nothing.field-0-0 (S c.args.sink.now) (S c.loop-reader.sink) c.args.talk.now c.loop-reader.talk c.args.pass.now c.loop-reader.pass
+          c.args.reader.now.rest.now c.loop-reader.reader.rest.now c.next.new.self.rest.now (texts c.next.new.self.words.items) c.loop-reader.invariant.some (search rules) (rw c.in-Ok-Nothing.field-0-is at c.in-Ok-Nothing.ensures);
     }
 
-pub returns-in-Err-clause-err : goal.returns-in-Err-clause-err
-returns-in-Err-clause-err g c =
+pub returns-in_err-answer-in-Ok-Command-clause-err : goal.returns-in_err-answer-in-Ok-Command-clause-err
+returns-in_err-answer-in-Ok-Command-clause-err g c =
     let S = g.W.Sink.state in
     let rest = c.loop-reader.reader.rest.now in
     let behind = c.next.new.self.rest.now in
-    step_fails (S c.args.sink.now) (S c.loop-reader.sink) (S c.answer.new.sink) c.args.talk.now c.loop-reader.talk c.answer.new.talk c.args.pass.now c.loop-reader.pass c.answer.new.pass
+    let after = c.in-Ok-Command.field-0-0 in
+    on_err c.from_residual.result (
+    step_fails c.args.now after (S c.args.sink.now) (S c.loop-reader.sink) (S c.answer.new.sink) c.args.talk.now c.loop-reader.talk c.answer.new.talk c.args.pass.now c.loop-reader.pass c.answer.new.pass
     c.args.reader.now.rest.now rest behind (texts c.deref.result.now) c.loop-reader.invariant.some
-    (subst (λ (ws : List (Bor (List ℕ))). ReadsNext Command rest (texts ws) behind) (sym c.deref.ensures.value) c.in-Command.ensures) c.in-Err.ensures.answers
+    (subst (λ (ws : List (Bor (List ℕ))). ReadsNext (Ok (Command after)) rest (texts ws) behind) (sym c.deref.ensures.value) (rw c.in-Ok-Command.field-0-is at c.in-Ok-Command.ensures)) c.in_err-answer-in-Ok-Command.ensures.answers
+    )

@@ -7,7 +7,7 @@ pub returns-in-SetEach-clause-answers : goal.returns-in-SetEach-clause-answers
 returns-in-SetEach-clause-answers g c = (
   replied_bytes c.put_each.result [],
   sends_of c.send.result (g.W.Sink.state c.args.sink.now) (g.W.Sink.state c.send.new.sink) _ c.send.ensures.ok c.send.ensures.err,
-  rw c.in-SetEach.is (c.put_each.ensures.answers [], refl),
+  rw c.in-SetEach.is (rw c.at-at.ensures.time at (c.put_each.ensures.answers []), refl),
 )
 
 pub returns-in-Connection-clause-answers : goal.returns-in-Connection-clause-answers
@@ -20,4 +20,4 @@ returns-in-Walk-clause-answers g c =
 
 pub returns-in-Program-clause-answers : goal.returns-in-Program-clause-answers
 returns-in-Program-clause-answers g c =
-    let (w, sends, answers) = c.answer_program.ensures.answers in (w, sends, rw c.in-Program.is (answers, refl))
+    let (w, sends, answers) = c.answer_program.ensures.answers in (w, sends, rw c.in-Program.is (rw c.programs-programs.ensures.time at answers, refl))

@@ -1,37 +1,21 @@
 use Rattle.std.proofs.Common.{◌∙◌, sym, ap, length, rules}
-use Rattle.redis_service.proofs.TalkLemmas.{answers_of, answers_held, ok_of, breaks_of_fails, breaks_of_end}
+use Rattle.redis_service.proofs.TalkLemmas.{taken_of, answers_held, breaks_of_fails}
 use Rattle.redis_service.proofs.desk.RedisDesk.take_held.Goals as goal
 
-pub returns-in_default-clause-write : goal.returns-in_default-clause-write
-returns-in_default-clause-write g c _ =
+pub returns-in_default-clause-taken : goal.returns-in_default-clause-taken
+returns-in_default-clause-taken g c =
     let S = g.W.Sink.state in
-    breaks_of_fails (S c.args.sink.now) (S c.answer_bytes.new.sink) c.args.talk.now c.answer_bytes.new.talk c.end.new.self c.args.pass.now c.answer_bytes.new.pass c.args.held.items
+    breaks_of_fails c.args.now (S c.args.sink.now) (S c.answer_bytes.new.sink) c.args.talk.now c.answer_bytes.new.talk c.end.new.self c.args.pass.now c.answer_bytes.new.pass c.args.held.items
     (rw c.deref.ensures.value at c.in_default.ensures.err) c.end.ensures
 
-pub returns-clause-ok : goal.returns-clause-ok
-returns-clause-ok g c =
+pub returns-clause-taken : goal.returns-clause-taken
+returns-clause-taken g c =
     let S = g.W.Sink.state in
-    ok_of c.finish.result (S c.args.sink.now) (S c.answer_bytes.new.sink) (S c.finish.new.sink) c.args.talk.now c.answer_bytes.new.talk c.finish.new.talk c.args.pass.now c.answer_bytes.new.pass c.args.held.items
-    c.in-Ok.rest.now c.in-Ok.came (rw c.deref.ensures.value at c.in-Ok.ensures.ok) c.finish.ensures.ok
+    taken_of c.args.now c.finish.result (S c.args.sink.now) (S c.answer_bytes.new.sink) (S c.finish.new.sink) c.args.talk.now c.answer_bytes.new.talk c.finish.new.talk c.args.pass.now c.answer_bytes.new.pass c.args.held.items
+    c.in-Ok.rest.now c.in-Ok.fault (rw c.deref.ensures.value at c.in-Ok.ensures.ok) c.finish.ensures.tells
 
-pub returns-clause-over : goal.returns-clause-over
-returns-clause-over g c is =
+pub returns-then-not-is_over-clause-taken : goal.returns-then-not-is_over-clause-taken
+returns-then-not-is_over-clause-taken g c =
     let S = g.W.Sink.state in
-    let (tells, over) = c.finish.ensures.over is in (
-      over,
-      answers_of (S c.args.sink.now) (S c.answer_bytes.new.sink) (S c.finish.new.sink) c.args.talk.now c.answer_bytes.new.talk c.finish.new.talk c.args.pass.now c.answer_bytes.new.pass c.args.held.items
-          c.in-Ok.rest.now c.in-Ok.came (rw c.deref.ensures.value at c.in-Ok.ensures.ok) tells,
-    )
-
-pub returns-clause-write : goal.returns-clause-write
-returns-clause-write g c is =
-    let S = g.W.Sink.state in
-    let (fails, over) = c.finish.ensures.write is in
-    breaks_of_end (S c.args.sink.now) (S c.answer_bytes.new.sink) (S c.finish.new.sink) c.args.talk.now c.answer_bytes.new.talk c.finish.new.talk c.args.pass.now c.answer_bytes.new.pass c.args.held.items
-    c.in-Ok.rest.now c.in-Ok.came (rw c.deref.ensures.value at c.in-Ok.ensures.ok) fails over
-
-pub returns-then-not-is_over-clause-ok : goal.returns-then-not-is_over-clause-ok
-returns-then-not-is_over-clause-ok g c =
-    let S = g.W.Sink.state in
-    answers_held (S c.args.sink.now) (S c.answer_bytes.new.sink) c.args.talk.now c.answer_bytes.new.talk c.hold.new.self c.args.pass.now c.answer_bytes.new.pass c.args.held.items
-    c.in-Ok.rest.now c.in-Ok.came (rw c.deref.ensures.value at c.in-Ok.ensures.ok) (c.if-rest-len.true ∙ c.len.ensures ∙ sym c.deref.ensures.len ∙ ap length c.deref.ensures.value) (c.is_more.ensures (search rules)) (search rules) c.hold.ensures
+    answers_held c.args.now (S c.args.sink.now) (S c.answer_bytes.new.sink) c.args.talk.now c.answer_bytes.new.talk c.hold.new.self c.args.pass.now c.answer_bytes.new.pass c.args.held.items
+    c.in-Ok.rest.now c.in-Ok.fault (rw c.deref.ensures.value at c.in-Ok.ensures.ok) (c.if-rest-len.true ∙ c.len.ensures ∙ sym c.deref.ensures.len ∙ ap length c.deref.ensures.value) (search rules) (search rules) c.hold.ensures
