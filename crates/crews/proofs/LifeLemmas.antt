@@ -1,6 +1,5 @@
 -- Turns one after the other.
 use Rattle.std.proofs.Common.{◌≡◌, ◌≢◌, ◌==◌, if◌then◌else◌, ℕ, List, [], ◌∷◌, ◌++◌, Bool, true, false, refl, sym, ap, subst, ◌∙◌, append-nil, append_assoc, eq-eqb, ne_eqb}
-use Rattle.std.proofs.lemmas.List.{map-append}
 use Rattle.bin_stripes.specs.Passes.{PassState}
 use Rattle.client_protocol.specs.Frames.{Held}
 use Rattle.program_registry.specs.declared.registry.ProgramToken.{ProgramToken}
@@ -9,11 +8,17 @@ use Rattle.sessions.specs.Conversations.{Exchange, Converses}
 use Rattle.crews.specs.Stations.{Station}
 use Rattle.crews.specs.Steps.{CrewServes}
 use Rattle.crews.specs.Talks.{AnswersEach}
-use Rattle.crews.specs.Lives.{Known, known, Moves, KeepsTokens, KeepsNumbers, Turn, all_exchanges, exchanges_of}
+use Rattle.crews.specs.Lives.{Known, known, Moves, KeepsTokens, KeepsNumbers, Turn, exchanges_of}
+use Rattle.crews.specs.Lives.Turn.{serves, sweeps}
+use Rattle.crews.specs.Turns.{Leads}
 
-pub moves_on : (a b c : Known) (xs ys : List (Exchange Station)) → Moves a xs b → Moves b ys c → Moves a (xs ++ ys) c
+abbrev known_of : PassState → List PassState → Known
+known_of pass team = record { pass = pass; team = team }
+
+pub moves_on : (a b c : Known) (xs ys : List Turn) → Moves a xs b → Moves b ys c → Moves a (xs ++ ys) c
 moves_on a b c [] ys one more = subst (λ (k : Known). Moves k ys c) one more
-moves_on a b c (x ∷ xs) ys (begins, one) more = (begins, moves_on (known x.new) b c xs ys one more)
+moves_on a b c (serves client x ∷ xs) ys (begins, one) more = (begins, moves_on (known x.new) b c xs ys one more)
+moves_on a b c (sweeps time pass ∷ xs) ys (swept, one) more = (swept, moves_on (known_of pass a.team) b c xs ys one more)
 
 pub tokens_go_on : (a b c : List ProgramToken) (xs ys : List (Exchange Station)) → KeepsTokens a xs b → KeepsTokens b ys c → KeepsTokens a (xs ++ ys) c
 tokens_go_on a b c [] ys one more = subst (λ (k : List ProgramToken). KeepsTokens k ys c) one more
@@ -33,9 +38,6 @@ numbers_stay a = record { map_is = refl; pass = refl; team = refl }
 pub numbers_go_on : (a b c : Known) → KeepsNumbers a b → KeepsNumbers b c → KeepsNumbers a c
 numbers_go_on a b c one more = record { map_is = more.map_is ∙ one.map_is; pass = more.pass ∙ one.pass; team = more.team ∙ one.team }
 
-abbrev known_of : PassState → List PassState → Known
-known_of pass team = record { pass = pass; team = team }
-
 pub known_same : (a b : Known) → a.pass ≡ b.pass → a.team ≡ b.team → a ≡ b
 known_same a b pass team = ap (λ (p : PassState). known_of p a.team) pass ∙ ap (λ (t : List PassState). known_of b.pass t) team
 
@@ -44,27 +46,18 @@ known_same a b pass team = ap (λ (p : PassState). known_of p a.team) pass ∙ a
 -- these exchanges are turns of this client
 abbrev pub turns_of : ℕ → List (Exchange Station) → List Turn
 turns_of client [] = []
-turns_of client (x ∷ xs) = record { client = client; exchange = x } ∷ turns_of client xs
+turns_of client (x ∷ xs) = serves client x ∷ turns_of client xs
 
-pub all_both : (xs ys : List Turn) → all_exchanges (xs ++ ys) ≡ all_exchanges xs ++ all_exchanges ys
-all_both xs ys = map-append (λ (turn : Turn). turn.exchange) xs ys
-
-pub all_of_turns : (client : ℕ) (xs : List (Exchange Station)) → all_exchanges (turns_of client xs) ≡ xs
-all_of_turns client [] = refl
-all_of_turns client (x ∷ xs) = ap (λ ys. x ∷ ys) (all_of_turns client xs)
-
--- the turns lead on by those of one client
-pub moves_by_turns : (old mid new : Known) (turns : List Turn) (k : ℕ) (xs : List (Exchange Station)) → Moves old (all_exchanges turns) mid → Moves mid xs new → Moves old (all_exchanges (turns ++ turns_of k xs)) new
-moves_by_turns old mid new turns k xs one more =
-    subst (λ (es : List (Exchange Station)). Moves old es new)
-    (sym (all_both turns (turns_of k xs) ∙ ap (λ (es : List (Exchange Station)). all_exchanges turns ++ es) (all_of_turns k xs)))
-    (moves_on old mid new (all_exchanges turns) xs one more)
+pub turns_lead : (old new : Known) (k : ℕ) (xs : List (Exchange Station)) → Leads old xs new → Moves old (turns_of k xs) new
+turns_lead old new k [] leads = leads
+turns_lead old new k (x ∷ xs) (begins, leads) = (begins, turns_lead (known x.new) new k xs leads)
 
 pub exchanges_both : (client : ℕ) (xs ys : List Turn) → exchanges_of client (xs ++ ys) ≡ exchanges_of client xs ++ exchanges_of client ys
 exchanges_both client [] ys = refl
-exchanges_both client (x ∷ xs) ys =
-    let one = if x.client == client then x.exchange ∷ [] else [] in
+exchanges_both client (serves other x ∷ xs) ys =
+    let one = if other == client then x ∷ [] else [] in
     ap (λ (es : List (Exchange Station)). one ++ es) (exchanges_both client xs ys) ∙ sym (append_assoc one (exchanges_of client xs) (exchanges_of client ys))
+exchanges_both client (sweeps time pass ∷ xs) ys = exchanges_both client xs ys
 
 chosen : (b : Bool) (xs : List (Exchange Station)) → b ≡ true → (if b then xs else []) ≡ xs
 chosen b xs is = rw is refl
@@ -92,3 +85,7 @@ exchanges_grow client turns xs = exchanges_both client turns (turns_of client xs
 pub exchanges_stay : (client other : ℕ) (turns : List Turn) (xs : List (Exchange Station)) → client ≢ other → exchanges_of other (turns ++ turns_of client xs) ≡ exchanges_of other turns
 exchanges_stay client other turns xs differ =
     exchanges_both other turns (turns_of client xs) ∙ ap (λ (es : List (Exchange Station)). exchanges_of other turns ++ es) (other_turns client other xs differ) ∙ append-nil (exchanges_of other turns)
+
+-- a sweep is none of a client's
+pub exchanges_swept : (client : ℕ) (turns : List Turn) (time : ℕ) (pass : PassState) → exchanges_of client (turns ++ sweeps time pass ∷ []) ≡ exchanges_of client turns
+exchanges_swept client turns time pass = exchanges_both client turns (sweeps time pass ∷ []) ∙ append-nil (exchanges_of client turns)

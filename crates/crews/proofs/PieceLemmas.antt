@@ -238,24 +238,24 @@ says_around s0 s1 s2 s3 t0 t1 t2 next leaving exchanges read said owed more lent
 -- ---- commands
 
 -- what the talk made of a piece
-pub commands_say : {U : Type 0} (taken : Result U TalkEnd) (tokens : List ProgramToken) (team : List PassState) (old new : PassState) (talk next : TalkState) (piece : List ℕ) (leaving : Option Parting) (a b c : OwedState) → 1 ≤ length piece
+pub commands_say : {U : Type 0} (taken : Result U TalkEnd) (tokens : List ProgramToken) (team : List PassState) (old new : PassState) (time : ℕ) (talk next : TalkState) (piece : List ℕ) (leaving : Option Parting) (a b c : OwedState) → 1 ≤ length piece
     → talk.is_over ≡ false → ServesSameMap old new → new.view.numbers ≡ old.view.numbers
-    → OnOk taken ((next.is_over ≡ false) × ((written : List ℕ) × TakesBytes (sink_of a) (sink_of b) written × redis.AnswersPiece talk old piece written next new))
-    → (taken ≡ Err talk_end.Over → (next.is_over ≡ true) × ((written : List ℕ) × TakesBytes (sink_of a) (sink_of b) written × redis.AnswersPiece talk old piece written next new))
+    → OnOk taken ((next.is_over ≡ false) × ((written : List ℕ) × TakesBytes (sink_of a) (sink_of b) written × redis.AnswersPiece time talk old piece written next new))
+    → (taken ≡ Err talk_end.Over → (next.is_over ≡ true) × ((written : List ℕ) × TakesBytes (sink_of a) (sink_of b) written × redis.AnswersPiece time talk old piece written next new))
     → (taken ≡ Err talk_end.NoMemory → (next ≡ talk) × (new ≡ old) × (sink_of b ≡ sink_of a))
-    → (taken ≡ Err talk_end.WriteFailed → (written : List ℕ) × TakesThenFails (sink_of a) (sink_of b) written × redis.BreaksPiece talk old piece written next new)
+    → (taken ≡ Err talk_end.WriteFailed → (written : List ℕ) × TakesThenFails (sink_of a) (sink_of b) written × redis.BreaksPiece time talk old piece written next new)
     → MatchResult taken (λ _. (leaving ≡ None) × (c ≡ b)) (λ end. LeavesTalk end leaving b.rest c.rest)
     → (exchanges : List (Exchange Station)) (read said : List ℕ) → SaysSo None (Commands talk) exchanges read said
     → SaysMore (record { pass = old; team = team }) (record { pass = new; team = team }) exchanges tokens tokens (Commands next) leaving (read ++ piece) said a.rest c.rest
-commands_say (Ok u) tokens team old new talk next piece leaving a b c some begins same numbers (goes_on, (written, takes, answers)) over lacks breaks (is, still) exchanges read said (opened, all) =
+commands_say (Ok u) tokens team old new time talk next piece leaving a b c some begins same numbers (goes_on, (written, takes, answers)) over lacks breaks (is, still) exchanges read said (opened, all) =
     let s0 : Station = record { pass = old; team = team; tokens = tokens } in
     let s1 : Station = record { pass = new; team = team; tokens = tokens } in
     let xs = exchanges ++ exchange s0 piece written s1 ∷ [] in
     only_answered s0 s1 (Commands next) piece written leaving a.rest c.rest exchanges read said (record { map_is = same.map; pass = numbers; team = refl })
     (ap (λ (o : OwedState). o.rest) still ∙ takes.0)
     (subst (λ (l : Option Parting). SaysSo l (Commands next) xs (read ++ piece) (said ++ written)) (sym is)
-    (goes_on, said_more (Commands talk) (Commands next) (exchange s0 piece written s1) exchanges read said (commands_more (exchange s0 piece written s1) talk next exchanges (record { goes_on = begins; team = refl; tokens = refl; answers = answers })) all))
-commands_say (Err talk_end.Over) tokens team old new talk next piece leaving a b c some begins same numbers ok over lacks breaks (is, still) exchanges read said (opened, all) =
+    (goes_on, said_more (Commands talk) (Commands next) (exchange s0 piece written s1) exchanges read said (commands_more (exchange s0 piece written s1) talk next exchanges (record { goes_on = begins; team = refl; tokens = refl; time = time; answers = answers })) all))
+commands_say (Err talk_end.Over) tokens team old new time talk next piece leaving a b c some begins same numbers ok over lacks breaks (is, still) exchanges read said (opened, all) =
     let (ended, (written, takes, answers)) = over refl in
     let s0 : Station = record { pass = old; team = team; tokens = tokens } in
     let s1 : Station = record { pass = new; team = team; tokens = tokens } in
@@ -263,15 +263,15 @@ commands_say (Err talk_end.Over) tokens team old new talk next piece leaving a b
     only_answered s0 s1 (Commands next) piece written leaving a.rest c.rest exchanges read said (record { map_is = same.map; pass = numbers; team = refl })
     (still ∙ takes.0)
     (subst (λ (l : Option Parting). SaysSo l (Commands next) xs (read ++ piece) (said ++ written)) (sym is)
-    (Commands next, refl, ended, said_more (Commands talk) (Commands next) (exchange s0 piece written s1) exchanges read said (commands_more (exchange s0 piece written s1) talk next exchanges (record { goes_on = begins; team = refl; tokens = refl; answers = answers })) all))
-commands_say (Err talk_end.NoMemory) tokens team old new talk next piece leaving a b c some begins same numbers ok over lacks breaks tells exchanges read said (opened, all) =
+    (Commands next, refl, ended, said_more (Commands talk) (Commands next) (exchange s0 piece written s1) exchanges read said (commands_more (exchange s0 piece written s1) talk next exchanges (record { goes_on = begins; team = refl; tokens = refl; time = time; answers = answers })) all))
+commands_say (Err talk_end.NoMemory) tokens team old new time talk next piece leaving a b c some begins same numbers ok over lacks breaks tells exchanges read said (opened, all) =
     let (unchanged, still, kept) = lacks refl in
     let unwritten : b.rest ≡ a.rest = some_same b.rest a.rest (ap (λ (s : SinkState). s.held) kept) in
     let before : Known = record { pass = old; team = team } in
     subst (λ (t : TalkState). SaysMore before (record { pass = new; team = team }) exchanges tokens tokens (Commands t) leaving (read ++ piece) said a.rest c.rest) (sym unchanged)
     (subst (λ (p : PassState). SaysMore before (record { pass = p; team = team }) exchanges tokens tokens (Commands talk) leaving (read ++ piece) said a.rest c.rest) (sym still)
     (lacking (record { pass = old; team = team; tokens = tokens }) (Commands talk) piece leaving a.rest c.rest exchanges read said some (subst (λ (t : List ℕ). TellsLast no_memory_line session.NoMemory leaving t c.rest) unwritten tells) opened all))
-commands_say (Err talk_end.WriteFailed) tokens team old new talk next piece leaving a b c some begins same numbers ok over lacks breaks (is, still) exchanges read said (opened, all) =
+commands_say (Err talk_end.WriteFailed) tokens team old new time talk next piece leaving a b c some begins same numbers ok over lacks breaks (is, still) exchanges read said (opened, all) =
     let (written, takes, broke) = breaks refl in
     broken (record { pass = old; team = team; tokens = tokens }) (record { pass = new; team = team; tokens = tokens }) (Commands talk) (Commands next) piece written leaving a.rest c.rest exchanges read said
-    (record { map_is = same.map; pass = numbers; team = refl }) (record { goes_on = begins; team = refl; tokens = refl; breaks = broke }) refl is (still ∙ takes.0) all
+    (record { map_is = same.map; pass = numbers; team = refl }) (record { goes_on = begins; team = refl; tokens = refl; time = time; breaks = broke }) refl is (still ∙ takes.0) all

@@ -1,9 +1,9 @@
 -- Clients that leave their seats, have turns, and take seats.
-use Rattle.std.proofs.Common.{◌≡◌, ◌≢◌, ℕ, ◌+◌, ◌<◌, List, [], ◌++◌, take, drop, Option, Some, None, refl, sym, ap, subst, ◌∙◌, append-nil, append_assoc, take-append-drop, slice_index_or, inl, inr, arith}
+use Rattle.std.proofs.Common.{◌≡◌, ◌≢◌, ℕ, ◌+◌, ◌<◌, List, [], ◌∷◌, ◌++◌, take, drop, Option, Some, None, refl, sym, ap, subst, ◌∙◌, append-nil, append_assoc, take-append-drop, slice_index_or, inl, inr, arith}
 use Rattle.std.proofs.lemmas.Bool.{cases_eq}
 use Rattle.std.proofs.KnownBytes.{Appends-nil, Appends-kept, Appends-trans, Consumes-nil, Consumes-kept}
 use Rattle.std.specs.Io.KnownBytes.{Appends, Consumes, Keeps}
-use Rattle.bin_stripes.specs.Passes.{PassState}
+use Rattle.bin_stripes.specs.Passes.{PassState, ServesSameMap}
 use Rattle.slab.specs.Slab.{Slab, get, Updates}
 use Rattle.program_registry.specs.declared.registry.ProgramToken.{ProgramToken}
 use Rattle.devices.specs.Channels.{ChannelState, OwedState, Sends}
@@ -16,13 +16,16 @@ use Rattle.crews.specs.declared.clients.Protocol.{Protocol}
 use Rattle.crews.specs.declared.clients.Protocol.TheVariants as protocols
 use Rattle.crews.specs.declared.talk.Talk.{Talk}
 use Rattle.crews.specs.declared.turn.Client.{Client}
+use Rattle.crews.specs.Crews.{team_numbers}
 use Rattle.crews.specs.Stations.{Station}
 use Rattle.crews.specs.Talks.{protocol_of, begins_so, IsOpen}
 use Rattle.crews.specs.Partings.{SaysSo, not_kept_told}
-use Rattle.crews.specs.Lives.{Arrival, Known, Moves, Turn, all_exchanges, exchanges_of, Stands, HasCome, HasParted, IsOfClient, Life}
+use Rattle.redis_service.specs.Sweeps.{Sweeps}
+use Rattle.crews.specs.Lives.{Arrival, Known, Moves, Turn, exchanges_of, Stands, HasCome, HasParted, IsOfClient, KeepsNumbers, Life}
+use Rattle.crews.specs.Lives.Turn.{sweeps}
 use Rattle.crews.specs.Turns.{TurnsTo}
 use Rattle.crews.specs.Seats.{IsClient, Seated, HasNone, IsAttended}
-use Rattle.crews.proofs.LifeLemmas.{moves_by_turns, numbers_stay, numbers_go_on, turns_of, exchanges_grow, exchanges_stay}
+use Rattle.crews.proofs.LifeLemmas.{known_same, moves_on, turns_lead, numbers_stay, numbers_go_on, turns_of, exchanges_grow, exchanges_stay, exchanges_swept}
 
 some_is : {A : Type 0} (x y : A) → Some x ≡ Some y → x ≡ y
 some_is x y is = cc
@@ -88,62 +91,66 @@ module _ {C : Type 0} (state : C → ChannelState) (gave : PassState → C → P
   -- ---- turns go on
 
   -- the client came among more turns
-  pub come_on : (old : Known) (turns : List Turn) (mid new : Known) (client k : ℕ) (came : Arrival C) (xs : List (Exchange Station)) → HasCome gave old turns mid client came → Moves mid xs new
-      → HasCome gave old (turns ++ turns_of k xs) new client came
-  come_on old turns mid new client k came xs come moves = record {
+  pub come_on : (old : Known) (turns more : List Turn) (mid new : Known) (client : ℕ) (came : Arrival C) → HasCome gave old turns mid client came → Moves mid more new
+      → HasCome gave old (turns ++ more) new client came
+  come_on old turns more mid new client came come moves = record {
     earlier = come.earlier;
-    later = come.later ++ turns_of k xs;
-    order = ap (λ (ts : List Turn). ts ++ turns_of k xs) come.order ∙ append_assoc come.earlier come.later (turns_of k xs);
+    later = come.later ++ more;
+    order = ap (λ (ts : List Turn). ts ++ more) come.order ∙ append_assoc come.earlier come.later more;
     mid = come.mid;
     before = come.before;
-    since = moves_by_turns come.mid mid new come.later k xs come.since moves;
+    since = moves_on come.mid mid new come.later more come.since moves;
     given = come.given;
     none = come.none;
   }
 
-  -- the client that is out of its seat has a turn
-  pub seated_on : (old : Known) (turns : List Turn) (mid new : Known) (n k : ℕ) (xs : List (Exchange Station)) (seats : Slab (Client C)) → Moves mid xs new
-      → Seated state gave old turns mid n seats → HasNone state gave seats k → Seated state gave old (turns ++ turns_of k xs) new n seats
-  seated_on old turns mid new n k xs seats moves seated none = record {
+  -- more turns, of which none is of a client in a seat
+  pub seated_on : (old : Known) (turns more : List Turn) (mid new : Known) (n : ℕ) (seats : Slab (Client C)) → Moves mid more new
+      → ((seat : ℕ) (client : Client C) → get seats seat ≡ Some client → exchanges_of client.number (turns ++ more) ≡ exchanges_of client.number turns)
+      → Seated state gave old turns mid n seats → Seated state gave old (turns ++ more) new n seats
+  seated_on old turns more mid new n seats moves others seated = record {
     stands = λ i client is.
         let (low, (came, come, stands)) = seated.stands i client is in (
           low,
           (
             came,
-            come_on old turns mid new client.number k came xs come moves,
-            subst (λ (es : List (Exchange Station)). Stands state came client.channel es client.tokens client.talk client.owed client.leaving)
-                (sym (exchanges_stay k client.number turns xs (λ same. none i client is (sym same)))) stands,
+            come_on old turns more mid new client.number came come moves,
+            subst (λ (es : List (Exchange Station)). Stands state came client.channel es client.tokens client.talk client.owed client.leaving) (sym (others i client is)) stands,
           ),
         );
     apart = seated.apart;
   }
 
-  -- another client's turns are those that it had
-  others_on : (old : Known) (turns : List Turn) (mid new : Known) (k i : ℕ) (xs : List (Exchange Station)) → Moves mid xs new → k ≢ i
-      → IsOfClient state gave old turns mid i → IsOfClient state gave old (turns ++ turns_of k xs) new i
-  others_on old turns mid new k i xs moves other (came, now, tokens, talk, owed, leaving, come, stands) = (
+  -- none of them is of this client
+  others_on : (old : Known) (turns more : List Turn) (mid new : Known) (i : ℕ) → Moves mid more new → exchanges_of i (turns ++ more) ≡ exchanges_of i turns
+      → IsOfClient state gave old turns mid i → IsOfClient state gave old (turns ++ more) new i
+  others_on old turns more mid new i moves other (came, now, tokens, talk, owed, leaving, come, stands) = (
     came,
     now,
     tokens,
     talk,
     owed,
     leaving,
-    come_on old turns mid new i k came xs come moves,
-    subst (λ (es : List (Exchange Station)). Stands state came now es tokens talk owed leaving) (sym (exchanges_stay k i turns xs other)) stands,
+    come_on old turns more mid new i came come moves,
+    subst (λ (es : List (Exchange Station)). Stands state came now es tokens talk owed leaving) (sym other) stands,
   )
 
+  -- a client has a turn
   pub lives_on : (old : Known) (turns : List Turn) (mid new : Known) (n k : ℕ) (came : Arrival C) (now : C) (tokens : List ProgramToken) (talk : Talk) (owed : OwedState) (leaving : Option Parting)
       → Life state gave old turns mid n → k < n → HasCome gave old turns mid k came → (t : TurnsTo state mid new came now (exchanges_of k turns) tokens talk owed leaving)
       → Life state gave old (turns ++ turns_of k t.more) new n
   lives_on old turns mid new n k came now tokens talk owed leaving life low come t = record {
-    moves = moves_by_turns old mid new turns k t.more life.moves t.moves;
+    moves = moves_on old mid new turns (turns_of k t.more) life.moves moves;
     each = λ i below. elim (cases_eq k i) [
       | inl here ↦ subst (λ (j : ℕ). IsOfClient state gave old (turns ++ turns_of k t.more) new j) here own
-      | inr other ↦ others_on old turns mid new k i t.more t.moves other (life.each i below)
+      | inr other ↦ others_on old turns (turns_of k t.more) mid new i moves (exchanges_stay k i turns t.more other) (life.each i below)
     ];
     no_other = λ i above. exchanges_stay k i turns t.more (λ same. absurd (omega (arith, same, low, above))) ∙ life.no_other i above;
     numbers = numbers_go_on old mid new life.numbers t.numbers;
   } where
+    moves : Moves mid (turns_of k t.more) new
+    moves = turns_lead mid new k t.more t.moves
+
     own : IsOfClient state gave old (turns ++ turns_of k t.more) new k
     own = (
       came,
@@ -152,9 +159,19 @@ module _ {C : Type 0} (state : C → ChannelState) (gave : PassState → C → P
       talk,
       owed,
       leaving,
-      come_on old turns mid new k k came t.more come t.moves,
+      come_on old turns (turns_of k t.more) mid new k came come moves,
       subst (λ (es : List (Exchange Station)). Stands state came now es tokens talk owed leaving) (sym (exchanges_grow k turns t.more)) t.stands,
     )
+
+  -- the worker sweeps
+  lives_swept : (old : Known) (turns : List Turn) (mid new : Known) (n time : ℕ) → Moves mid (sweeps time new.pass ∷ []) new → KeepsNumbers mid new → Life state gave old turns mid n
+      → Life state gave old (turns ++ sweeps time new.pass ∷ []) new n
+  lives_swept old turns mid new n time moves numbers life = record {
+    moves = moves_on old mid new turns (sweeps time new.pass ∷ []) life.moves moves;
+    each = λ i below. others_on old turns (sweeps time new.pass ∷ []) mid new i moves (exchanges_swept i turns time new.pass) (life.each i below);
+    no_other = λ i above. exchanges_swept i turns time new.pass ∙ life.no_other i above;
+    numbers = numbers_go_on old mid new life.numbers numbers;
+  }
 
   -- ---- a client more came, and has had no turn
 
@@ -172,7 +189,7 @@ module _ {C : Type 0} (state : C → ChannelState) (gave : PassState → C → P
   }
 
   -- it came after all turns so far
-  pub comes_now : (old : Known) (turns : List Turn) (new : Known) (n : ℕ) (came : Arrival C) → Moves old (all_exchanges turns) new → gave new.pass came.channel came.protocol → exchanges_of n turns ≡ []
+  pub comes_now : (old : Known) (turns : List Turn) (new : Known) (n : ℕ) (came : Arrival C) → Moves old turns new → gave new.pass came.channel came.protocol → exchanges_of n turns ≡ []
       → HasCome gave old turns new n came
   comes_now old turns new n came moves given none = record {
     earlier = turns;
@@ -268,18 +285,35 @@ module _ {C : Type 0} (state : C → ChannelState) (gave : PassState → C → P
       let t = goes came (exchanges_of k turns) stands in
       let none : HasNone state gave out k = none_left old turns mid n seats out seat was seated (sym here) updates in
       let more = turns_of k t.more in
+      let moves : Moves mid more new = turns_lead mid new k t.more t.moves in
       let grown = subst (λ (es : List (Exchange Station)). Stands state came is.channel es is.tokens is.talk is.owed is.leaving) (sym (exchanges_grow k turns t.more)) t.stands in (
         more,
         (
           lives_on old turns mid new n k came is.channel is.tokens is.talk is.owed is.leaving life low come t,
-          seated_on old turns mid new n k t.more out t.moves (stays_out old turns mid n seats out seat seated updates) none,
+          seated_on old turns more mid new n out moves (λ i client is. exchanges_stay k client.number turns t.more (λ same. none i client is (sym same))) (stays_out old turns mid n seats out seat seated updates),
         ),
         subst (λ (j : ℕ). HasNone state gave out j) (sym same) none,
         (
           subst (λ (j : ℕ). j < n) (sym same) low,
-          (came, subst (λ (j : ℕ). HasCome gave old (turns ++ more) new j came) (sym same) (come_on old turns mid new k k came t.more come t.moves), subst (λ (j : ℕ). Stands state came is.channel (exchanges_of j (turns ++ more)) is.tokens is.talk is.owed is.leaving) (sym same) grown),
+          (came, subst (λ (j : ℕ). HasCome gave old (turns ++ more) new j came) (sym same) (come_on old turns more mid new k came come moves), subst (λ (j : ℕ). Stands state came is.channel (exchanges_of j (turns ++ more)) is.tokens is.talk is.owed is.leaving) (sym same) grown),
         ),
       )
+
+  -- the worker sweeps: the pass knows more, and nothing else changes
+  pub has_swept : (old : Known) (turns : List Turn) (mid new : Known) (n time : ℕ) (seats : Slab (Client C)) → Sweeps time mid.pass new.pass → ServesSameMap mid.pass new.pass
+      → new.pass.view.numbers ≡ mid.pass.view.numbers → new.team ≡ mid.team → IsAttended state gave old turns mid n seats → (more : List Turn) × IsAttended state gave old (turns ++ more) new n seats
+  has_swept old turns mid new n time seats swept same numbers team (life, seated) = (
+    more,
+    (
+      lives_swept old turns mid new n time moves (record { map_is = same.map; pass = numbers; team = ap team_numbers team }) life,
+      seated_on old turns more mid new n seats moves (λ i client is. exchanges_swept client.number turns time new.pass) seated,
+    ),
+  ) where
+    more : List Turn
+    more = sweeps time new.pass ∷ []
+
+    moves : Moves mid more new
+    moves = (swept, known_same new (record { pass = new.pass; team = mid.team }) refl team)
 
   -- a client comes, and takes a seat
   pub one_comes : (old : Known) (turns : List Turn) (new : Known) (n number : ℕ) (seats room after : Slab (Client C)) (seat : ℕ) (came : Arrival C) (now : C) (talk : Talk) (client : Client C) → gave new.pass came.channel came.protocol

@@ -1,9 +1,10 @@
--- A worker's whole life: the turns of all its clients in one chain, and of each client what was read of it and written to it.
-use Rattle.std.specs.Prelude.{◌≡◌, ◌==◌, ℕ, ◌<◌, ◌≤◌, List, [], ◌∷◌, ◌++◌, map, Option, None, if◌then◌else◌}
+-- A worker's whole life: the turns of all its clients and its own sweeps in one chain, and of each client what was read of it and written to it.
+use Rattle.std.specs.Prelude.{◌≡◌, ◌==◌, ℕ, ◌<◌, ◌≤◌, List, [], ◌∷◌, ◌++◌, Option, None, if◌then◌else◌}
 use Rattle.std.specs.Io.KnownBytes.{Appends, Consumes}
 use Rattle.bin_stripes.specs.Passes.{PassState}
 use Rattle.program_registry.specs.declared.registry.ProgramToken.{ProgramToken}
 use Rattle.devices.specs.Channels.{ChannelState, OwedState}
+use Rattle.redis_service.specs.Sweeps.{Sweeps}
 use Rattle.sessions.specs.Conversations.{Exchange}
 use Rattle.crews.specs.declared.clients.Parting.{Parting}
 use Rattle.crews.specs.declared.clients.Protocol.{Protocol}
@@ -22,10 +23,19 @@ pub record Known : Type 0 where
 abbrev pub known : Station → Known
 known station = record { pass = station.pass; team = station.team }
 
--- the exchanges lead from what the passes knew to what they know, each from where the one before it ended; nothing else does
-abbrev pub Moves : Known → List (Exchange Station) → Known → Type 0
+-- a turn of the worker
+pub data Turn : Type 0 where
+  -- an exchange with the client of this number
+  serves : ℕ → Exchange Station → Turn
+  -- a sweep at this time, after which the crew's pass knows this
+  sweeps : ℕ → PassState → Turn
+
+-- the turns lead from what the passes knew to what they know, each from where the one before it ended; nothing else does. A sweep takes
+-- entries away whose time is over, and the team doesn't hear of it
+abbrev pub Moves : Known → List Turn → Known → Type 0
 Moves old [] new = new ≡ old
-Moves old (exchange ∷ exchanges) new = (known exchange.old ≡ old) × Moves (known exchange.new) exchanges new
+Moves old (serves client exchange ∷ turns) new = (known exchange.old ≡ old) × Moves (known exchange.new) turns new
+Moves old (sweeps time pass ∷ turns) new = Sweeps time old.pass pass × Moves (record { pass = pass; team = old.team }) turns new
 
 -- each exchange begins with the tokens that the one before it left
 abbrev pub KeepsTokens : List ProgramToken → List (Exchange Station) → List ProgramToken → Type 0
@@ -38,19 +48,11 @@ pub record KeepsNumbers (old new : Known) : Type 0 where
   pub pass : new.pass.view.numbers ≡ old.pass.view.numbers
   pub team : team_numbers new.team ≡ team_numbers old.team
 
--- a turn: an exchange with the client of this number
-pub record Turn : Type 0 where
-  pub client : ℕ
-  pub exchange : Exchange Station
-
--- the exchanges of all turns
-abbrev pub all_exchanges : List Turn → List (Exchange Station)
-all_exchanges turns = map (λ turn. turn.exchange) turns
-
--- those with one client
+-- the exchanges with one client
 abbrev pub exchanges_of : ℕ → List Turn → List (Exchange Station)
 exchanges_of client [] = []
-exchanges_of client (turn ∷ turns) = (if turn.client == client then turn.exchange ∷ [] else []) ++ exchanges_of client turns
+exchanges_of client (serves one exchange ∷ turns) = (if one == client then exchange ∷ [] else []) ++ exchanges_of client turns
+exchanges_of client (sweeps time pass ∷ turns) = exchanges_of client turns
 
 -- a client as it came: its connection, and the protocol of the port that it came to
 pub record Arrival (C : Type 0) : Type 0 where
@@ -80,8 +82,8 @@ module _ {C : Type 0} (gave : PassState → C → Protocol → Type 0) where
     pub later : List Turn
     pub order : turns ≡ earlier ++ later
     pub mid : Known
-    pub before : Moves old (all_exchanges earlier) mid
-    pub since : Moves mid (all_exchanges later) new
+    pub before : Moves old earlier mid
+    pub since : Moves mid later new
     pub given : gave mid.pass came.channel came.protocol
     pub none : exchanges_of client earlier ≡ []
 
@@ -108,13 +110,13 @@ module _ {C : Type 0} (state : C → ChannelState) (gave : PassState → C → P
       (came : Arrival C) × (now : C) × (tokens : List ProgramToken) × (talk : Talk) × (owed : OwedState) × (leaving : Option Parting)
       × HasCome gave old turns new client came × Stands state came now (exchanges_of client turns) tokens talk owed leaving
 
-  -- the turns of this number of clients lead from what the passes knew to what they know
+  -- turns with this number of clients, and sweeps, lead from what the passes knew to what they know
   pub record Life (old : Known) (turns : List Turn) (new : Known) (clients : ℕ) : Type 0 where
-    pub moves : Moves old (all_exchanges turns) new
+    pub moves : Moves old turns new
     pub each : (client : ℕ) → client < clients → IsOfClient old turns new client
     pub no_other : (client : ℕ) → clients ≤ client → exchanges_of client turns ≡ []
     pub numbers : KeepsNumbers old new
 
-  -- turns of its clients, and nothing else, moved the crew
+  -- turns with its clients and sweeps, and nothing else, moved the crew
   abbrev pub HasLived : Crew → Crew → Type 0
   HasLived old new = (turns : List Turn) × (clients : ℕ) × Life (known (station old [])) turns (known (station new [])) clients

@@ -49,19 +49,22 @@ abbrev pub IsOver : Talk → Type 0
 IsOver (Frames held) = ⊥
 IsOver (Commands talk) = talk.is_over ≡ true
 
--- the commands of the exchange's piece are answered on what the crew's pass knows; its team and the client's tokens stay as they were
+-- the commands of the exchange's piece are answered at some time, on what the crew's pass knows; its team and the client's tokens stay
+-- as they were
 pub record AnswersCommands (talk : TalkState) (exchange : Exchange Station) (next : TalkState) : Type 0 where
   pub goes_on : talk.is_over ≡ false
   pub team : exchange.new.team ≡ exchange.old.team
   pub tokens : exchange.new.tokens ≡ exchange.old.tokens
-  pub answers : redis.AnswersPiece talk exchange.old.pass exchange.piece exchange.written next exchange.new.pass
+  pub time : ℕ
+  pub answers : redis.AnswersPiece time talk exchange.old.pass exchange.piece exchange.written next exchange.new.pass
 
 -- so are some, and the answer to one breaks off
 pub record BreaksCommands (talk : TalkState) (exchange : Exchange Station) (next : TalkState) : Type 0 where
   pub goes_on : talk.is_over ≡ false
   pub team : exchange.new.team ≡ exchange.old.team
   pub tokens : exchange.new.tokens ≡ exchange.old.tokens
-  pub breaks : redis.BreaksPiece talk exchange.old.pass exchange.piece exchange.written next exchange.new.pass
+  pub time : ℕ
+  pub breaks : redis.BreaksPiece time talk exchange.old.pass exchange.piece exchange.written next exchange.new.pass
 
 -- the exchanges answered commands, one after the other
 abbrev pub AnswersEach : TalkState → List (Exchange Station) → TalkState → Type 0

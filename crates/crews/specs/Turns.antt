@@ -1,5 +1,5 @@
 -- What one turn adds to what a client was told. No public contract cites this.
-use Rattle.std.specs.Prelude.{◌≡◌, ◌⊎◌, ℕ, List, ◌++◌, Option, Some}
+use Rattle.std.specs.Prelude.{◌≡◌, ◌⊎◌, ℕ, List, [], ◌∷◌, ◌++◌, Option, Some}
 use Rattle.client_protocol.specs.Faults.{protocol_fault_number}
 use Rattle.program_registry.specs.declared.registry.ProgramToken.{ProgramToken}
 use Rattle.devices.specs.Channels.{ChannelState, OwedState}
@@ -18,7 +18,7 @@ use Rattle.crews.specs.declared.clients.Parting.TheVariants.{Ended, Over}
 use Rattle.crews.specs.declared.talk.Talk.{Talk}
 use Rattle.crews.specs.Stations.{Station}
 use Rattle.crews.specs.Partings.{SaysSo}
-use Rattle.crews.specs.Lives.{Arrival, Known, Moves, KeepsTokens, KeepsNumbers, Stands}
+use Rattle.crews.specs.Lives.{Arrival, Known, known, KeepsTokens, KeepsNumbers, Stands}
 
 -- these bytes are owed, and then the client leaves so; or a front of them, and a write failed
 abbrev pub TellsLast : List ℕ → SessionEnd → Option Parting → List ℕ → List ℕ → Type 0
@@ -38,10 +38,15 @@ LeavesTalk talk_end.Over leaving old new = (leaving ≡ Some Over) × (new ≡ o
 LeavesTalk talk_end.NoMemory leaving old new = TellsLast no_memory_line session.NoMemory leaving old new
 LeavesTalk talk_end.WriteFailed leaving old new = (leaving ≡ Some (Ended session.WriteFailed)) × (new ≡ old)
 
+-- exchanges lead from what the passes knew to what they know
+abbrev pub Leads : Known → List (Exchange Station) → Known → Type 0
+Leads old [] new = new ≡ old
+Leads old (exchange ∷ exchanges) new = (known exchange.old ≡ old) × Leads (known exchange.new) exchanges new
+
 -- further exchanges moved the passes, and the client was told more
 pub record SaysMore (old new : Known) (exchanges : List (Exchange Station)) (tokens after : List ProgramToken) (talk : Talk) (leaving : Option Parting) (read said owed more_owed : List ℕ) : Type 0 where
   pub more : List (Exchange Station)
-  pub moves : Moves old more new
+  pub moves : Leads old more new
   pub numbers : KeepsNumbers old new
   pub keeps : KeepsTokens tokens more after
   pub grown : List ℕ
@@ -52,6 +57,6 @@ module _ {C : Type 0} (state : C → ChannelState) where
   -- further exchanges moved the passes, and the client stands so after them
   pub record TurnsTo (old new : Known) (came : Arrival C) (now : C) (exchanges : List (Exchange Station)) (tokens : List ProgramToken) (talk : Talk) (owed : OwedState) (leaving : Option Parting) : Type 0 where
     pub more : List (Exchange Station)
-    pub moves : Moves old more new
+    pub moves : Leads old more new
     pub numbers : KeepsNumbers old new
     pub stands : Stands state came now (exchanges ++ more) tokens talk owed leaving

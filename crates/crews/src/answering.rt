@@ -1,8 +1,10 @@
 //! How a piece of a client's bytes is answered, by the protocol that the client speaks.
 ghost use Rattle.std.specs.Prelude.{◌≡◌, ◌≢◌, ◌≤◌, ℕ, List, ◌++◌, length, take, None, Some, Err, MatchResult, false};
+ghost use Rattle.bin_stripes.specs.Passes.{ServesSameMap};
 ghost use Rattle.client_protocol.specs.Faults.{protocol_fault_number};
 ghost use Rattle.program_registry.specs.declared.registry.ProgramToken.{ProgramToken};
 ghost use Rattle.redis_service.specs.Lines.{no_memory_line};
+ghost use Rattle.redis_service.specs.Sweeps.{Sweeps};
 ghost use Rattle.sessions.specs.Conversations.{Exchange as TheExchange};
 ghost use Rattle.sessions.specs.Sessions.{refusal};
 ghost use Rattle.crews.specs.Stations.{Station};
@@ -27,8 +29,8 @@ use std::thread::Threads;
 /// The most bytes that are read in one turn.
 pub const PIECE_BYTES: usize = 16384;
 
-/// What the turns of a worker's clients share: the worker's number, its passes, and the room for a piece, its requests and commands,
-/// and their values.
+/// What the turns of a worker's clients share: the worker's number, its passes, the room for a piece, its requests and commands, and
+/// their values, and the time of the turn, in milliseconds since the epoch.
 #[derive(Drop)]
 pub struct Room<'a, 'r> {
     pub number: u32,
@@ -36,6 +38,21 @@ pub struct Room<'a, 'r> {
     pub conversation: Conversation,
     pub desk: RedisDesk<'a, 'r>,
     pub piece: [u8; PIECE_BYTES],
+    pub now: u64,
+}
+
+impl<'a, 'r> Room<'a, 'r> {
+    /// Takes entries out of the map whose time is over. Returns whether more of them may be left.
+    pub fn sweep<H: Wait>(&mut self, rt: &H) -> bool
+        requires desk { self.old.serving.pass.map ≡ self.old.desk }
+        ensures desk { self.new.desk ≡ self.old.desk }
+        ensures team { self.new.serving.team ≡ self.old.serving.team }
+        ensures same { ServesSameMap self.old.serving.pass self.new.serving.pass }
+        ensures numbers { self.new.serving.pass.view.numbers ≡ self.old.serving.pass.view.numbers }
+        ensures sweeps { Sweeps self.old.now self.old.serving.pass self.new.serving.pass }
+    {
+        self.serving.sweep(rt, self.now, &mut self.desk)
+    }
 }
 
 /// Owes a refusal at the end of a conversation, and answers how the client leaves then.
@@ -144,8 +161,10 @@ pub fn answer_commands<'a, 'r, H: Wait>(
         → SaysMore (known room.old.serving) (known room.new.serving) exchanges tokens tokens
         (Talk.Commands talk.new) result (read ++ take count room.old.piece) said owed.old.rest owed.new.rest }
 {
+    let now = room.now;
+    let piece = &room.piece[..count];
     let taken = room
         .serving
-        .answer_commands(rt, &mut room.desk, talk, &room.piece[..count], owed);
+        .answer_commands(rt, now, &mut room.desk, talk, piece, owed);
     leaving_talk(owed, taken)
 }

@@ -9,7 +9,7 @@ ghost use Rattle.crews.specs.Partings.{not_kept_told};
 ghost use Rattle.crews.specs.Seats.{HasNone, IsAttended, IsClient};
 
 use crate::answering::{PIECE_BYTES, Room};
-use crate::clients::{Clients, Event, Parting, Protocol, Standing};
+use crate::clients::{Clients, Event, NextSweep, Parting, Protocol, Standing};
 use crate::crew::Crew;
 use crate::serving::Serving;
 use crate::talk::Talk;
@@ -32,8 +32,8 @@ use std::thread::Threads;
 /// No map has passes for more workers.
 const MOST_WORKERS: u64 = 64;
 
-/// What a worker has at hand: the registry of programs, the room of all turns, the clients in their seats, and how many
-/// came.
+/// What a worker has at hand: the registry of programs, the room of all turns, the clients in their seats, how many came, and whether
+/// its last sweep left entries whose time is over.
 #[derive(Drop)]
 struct Attendant<'a, 'r, C> {
     alloc: Global,
@@ -41,6 +41,7 @@ struct Attendant<'a, 'r, C> {
     room: Room<'a, 'r>,
     seats: Slab<Client<'a, C>>,
     came: u64,
+    hurries: bool,
 }
 
 /// Tells a client of this protocol that it can't be kept, as far as its connection takes that at once.
@@ -152,7 +153,7 @@ impl<'a, 'r, C: Channel + Drop> Attendant<'a, 'r, C> {
         let Some(mut client) = self.seats.try_remove(seat) else {
             return;
         };
-        let standing = client.turn(worker, &mut self.room);
+        let standing = client.turn(worker, &mut self.room, clients);
         self.go_on(clients, seat, client, standing);
     }
 
@@ -209,6 +210,31 @@ impl<'a, 'r, C: Channel + Drop> Attendant<'a, 'r, C> {
         }
     }
 
+    /// When the worker wants to sweep.
+    fn next_sweep(&self) -> NextSweep {
+        if self.hurries {
+            return NextSweep::Now;
+        }
+        match self.room.desk.next_sweep() {
+            None => NextSweep::Never,
+            Some(at) => NextSweep::At(at),
+        }
+    }
+
+    /// Takes entries out of the map whose time is over.
+    fn sweep<P: Clients<C>, H: Wait>(&mut self, rt: &H, clients: &mut P)
+        requires desk { self.old.room.serving.pass.map ≡ self.old.room.desk }
+        ensures desk { self.new.room.desk ≡ self.old.room.desk }
+        ensures there { CountGoes P.there clients.old (slab_len self.old.seats) clients.new (slab_len self.new.seats) }
+        ensures attended { (old : Known) (turns : List Turn)
+            → IsAttended C.state P.gave old turns (known self.old.room.serving) self.old.came self.old.seats
+            → (more : List Turn)
+            × IsAttended C.state P.gave old (turns ++ more) (known self.new.room.serving) self.new.came self.new.seats }
+    {
+        self.room.now = clients.now();
+        self.hurries = self.room.sweep(rt);
+    }
+
     /// Does what is told, until it is over.
     fn attend_all<P: Clients<C>, H: Threads + Wait + Sync, G: Gate + Sync>(
         &mut self,
@@ -226,10 +252,11 @@ impl<'a, 'r, C: Channel + Drop> Attendant<'a, 'r, C> {
             × IsAttended C.state P.gave old (turns ++ more) (known self.new.room.serving) self.new.came self.new.seats }
     {
         for _ in worker.rt.forever() {
-            match clients.next(self.room.serving.pass()) {
+            match clients.next(self.room.serving.pass(), self.next_sweep()) {
                 Event::Came(channel, protocol) => self.take_in(clients, channel, protocol),
                 Event::Ready(seat) => self.serve_one(worker, clients, seat),
                 Event::LetGo(seat) => self.let_go(clients, seat),
+                Event::Sweep => self.sweep(worker.rt, clients),
                 Event::Over => return,
             }
         }
@@ -271,18 +298,20 @@ fn begun<'a, 'r, H, C: Channel + Drop, G>(
             conversation: Conversation::new(worker.alloc),
             desk: RedisDesk::new(worker.alloc, worker.map, scripts),
             piece: [0; PIECE_BYTES],
+            now: 0,
         },
         seats: Slab::new(worker.alloc),
         came: 0,
+        hurries: false,
     }
 }
 
 /// Serves a worker's clients until it is told that this is over, any number of them at once: what each sends is read in pieces, one
 /// in each of its turns, and answered by the crew, in the client's protocol and with the tokens of that client. Gives the crew back.
-/// What moved it is the turns of the clients alone, in one chain. Each client's turns are one conversation, as `session` has it, or one
-/// talk of the crate redis_service: its requests are those that it sent, in order, each answered once, and what is written to it are
-/// their answers. Each client that came is told to `clients` when it leaves (`there`). Scripts that clients of commands load are kept in
-/// `scripts`. Waits as `clients` does, and for stripes that others hold.
+/// What moved it is the turns of the clients and the worker's own sweeps, in one chain. Each client's turns are one conversation, as
+/// `session` has it, or one talk of the crate redis_service: its requests are those that it sent, in order, each answered once, and what
+/// is written to it are their answers. Each client that came is told to `clients` when it leaves (`there`). Scripts that clients of
+/// commands load are kept in `scripts`. Waits as `clients` does, and for stripes that others hold.
 pub fn attend<'a, 'r, H: Threads + Wait + Sync, C: Channel + Drop, P: Clients<C>, G: Gate + Sync>(
     worker: &Worker<'a, H, G>,
     scripts: &'a Scripts<'r>,

@@ -25,8 +25,21 @@ pub enum Event<C> {
     /// The client of this seat is let go. It is not read any more, and is gone when it has taken what it is owed; at once if it
     /// was leaving already.
     LetGo(usize),
+    /// The worker sweeps: it takes entries out of the map whose time is over. There may be more of them than it takes at once.
+    Sweep,
     /// The worker ends. Clients that are there are let go at once.
     Over,
+}
+
+/// When a worker wants to sweep.
+#[derive(Clone, Copy, Debug, PartialEq, Eq)]
+pub enum NextSweep {
+    /// Never, as far as it knows: none of its clients set a deadline.
+    Never,
+    /// At this time, in milliseconds since the epoch: some entry's time may be over then.
+    At(u64),
+    /// Now: the last sweep left entries whose time is over.
+    Now,
 }
 
 /// How a client stands after its turn.
@@ -54,8 +67,8 @@ pub enum Parting {
     NotKept,
 }
 
-/// The source of one worker's clients, and of what happens to them. Whatever it tells, only time depends on it: a seat that has
-/// no client is passed over.
+/// The source of one worker's clients, of what happens to them, and of the time. Whatever it tells, a seat that has no client is passed
+/// over, and a worker may sweep at any time.
 pub trait Clients<C: Channel> {
     ghost use Rattle.std.specs.Prelude.{ℕ};
     ghost use Rattle.atomic_table.specs.Seated.{TableId};
@@ -74,11 +87,15 @@ pub trait Clients<C: Channel> {
     /// This number of clients came, and have not ended. Nothing but `next` and `ended` changes it.
     ghost there: { Self → ℕ → Type 0 } = { λ _ _. Unit {0} };
 
-    /// The next thing to do, for the worker whose pass this is. It may wait.
-    fn next(&mut self, pass: &Pass) -> Event<C>
+    /// The next thing to do, for the worker whose pass this is and which wants to sweep then. It may wait.
+    fn next(&mut self, pass: &Pass, sweep: NextSweep) -> Event<C>
         requires { serves pass.now.map }
         ensures gave { (channel : C) (protocol : TheProtocol) → result ≡ Event.Came channel protocol → gave pass.now channel protocol }
         ensures there { CountGoes there self.old 0 self.new (came_by result) };
+
+    /// The time in milliseconds since the epoch, at which commands of a client's turn are made, or a sweep. It may be any number.
+    fn now(&mut self) -> u64
+        ensures { CountGoes there self.old 0 self.new 0 };
 
     /// The client that came last is in this seat from now on. `NoMemory` if it can't be kept.
     fn watch(&mut self, seat: usize, channel: &mut C) -> Result<(), NoMemory>

@@ -26,7 +26,7 @@ mod worker;
 pub use accept::Accept;
 pub use attending::attend;
 pub use client::session;
-pub use clients::{Clients, Event, Parting, Protocol, Standing};
+pub use clients::{Clients, Event, NextSweep, Parting, Protocol, Standing};
 pub use crew::Crew;
 pub use posts::{Post, attend_each};
 pub use server::serve;

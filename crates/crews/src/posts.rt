@@ -27,9 +27,10 @@ pub struct Post<P> {
 }
 
 /// Runs one worker a post, each in a thread of its own if one can be made, and each attending its clients, any number at once, until
-/// they are over, by scripts that all share. Gives the posts back in their order: each crew is of this map with the numbers that it carried, nothing but turns of
-/// its own clients moved it (`lived`), and each client that came was told to its `Clients` when it left (`there`). `NoMemory` if a
-/// request for the lists of workers was refused: nobody is attended then, and the posts are given up. Waits for clients.
+/// they are over, by scripts that all share. Gives the posts back in their order: each crew is of this map with the numbers that it
+/// carried, nothing but turns of its own clients and its sweeps moved it (`lived`), and each client that came was told to its `Clients`
+/// when it left (`there`). `NoMemory` if a request for the lists of workers was refused: nobody is attended then, and the posts are given
+/// up. Waits for clients.
 pub fn attend_each<
     'a,
     'r,

@@ -5,6 +5,7 @@ ghost use Rattle.bpf_model.specs.Meaning.{IsSafe};
 ghost use Rattle.bin_stripes.specs.Passes.{ServesSameMap};
 ghost use Rattle.program_registry.specs.Tokens.{IsOf, program_of};
 ghost use Rattle.devices.specs.Devices.{CanWrite, TakesBytes, TakesThenFails};
+ghost use Rattle.redis_service.specs.Sweeps.{Sweeps};
 ghost use Rattle.redis_service.specs.Talks.{AnswersPiece, BreaksPiece};
 ghost use Rattle.client_protocol.specs.declared.limits.Version.{Version as TheVersion};
 ghost use Rattle.client_protocol.specs.Responses.{response_of};
@@ -138,10 +139,7 @@ fn token_sent<H: Wait, G>(
             return Ok(token);
         }
     }
-    let verified = match program_sent(worker.alloc, hello, bytes, sizes) {
-        Ok(verified) => verified,
-        Err(response) => return Err(response),
-    };
+    let verified = program_sent(worker.alloc, hello, bytes, sizes)?;
     match registry.register_sent(worker.rt, &sent, verified) {
         Ok(token) => Ok(token),
         Err(_) => Err(no_memory()),
@@ -175,10 +173,12 @@ impl<'a> Serving<'a> {
         mem::swap(&mut self.tokens, &mut tokens.items);
     }
 
-    /// Answers the commands that this piece completes by calls of the pass, and keeps the rest of it. Team and tokens stay as they are.
+    /// Answers the commands that this piece completes by calls of the pass at this time, and keeps the rest of it. Team and tokens stay
+    /// as they are.
     pub fn answer_commands<H: Wait, W: Sink>(
         &mut self,
         rt: &H,
+        now: u64,
         desk: &mut RedisDesk<'a, '_>,
         talk: &mut RedisTalk,
         piece: &[u8],
@@ -194,17 +194,30 @@ impl<'a> Serving<'a> {
         ensures numbers { self.new.pass.view.numbers ≡ self.old.pass.view.numbers }
         ensures ok { OnOk result ((talk.new.is_over ≡ false) × ((written : List ℕ)
             × TakesBytes (W.state sink.old) (W.state sink.new) written
-            × AnswersPiece talk.old self.old.pass piece.now written talk.new self.new.pass)) }
+            × AnswersPiece now talk.old self.old.pass piece.now written talk.new self.new.pass)) }
         ensures over { result ≡ Err TalkEnd.Over → (talk.new.is_over ≡ true) × ((written : List ℕ)
             × TakesBytes (W.state sink.old) (W.state sink.new) written
-            × AnswersPiece talk.old self.old.pass piece.now written talk.new self.new.pass) }
+            × AnswersPiece now talk.old self.old.pass piece.now written talk.new self.new.pass) }
         ensures memory { result ≡ Err TalkEnd.NoMemory
             → (talk.new ≡ talk.old) × (self.new ≡ self.old) × (W.state sink.new ≡ W.state sink.old) }
         ensures write { result ≡ Err TalkEnd.WriteFailed → ((written : List ℕ)
             × TakesThenFails (W.state sink.old) (W.state sink.new) written
-            × BreaksPiece talk.old self.old.pass piece.now written talk.new self.new.pass) }
+            × BreaksPiece now talk.old self.old.pass piece.now written talk.new self.new.pass) }
     {
-        desk.take(rt, &mut self.pass, talk, piece, sink)
+        desk.take(rt, now, &mut self.pass, talk, piece, sink)
+    }
+
+    /// Takes entries out of the map whose time is over. Returns whether more of them may be left. Team and tokens stay as they are.
+    pub fn sweep<H: Wait>(&mut self, rt: &H, now: u64, desk: &mut RedisDesk<'a, '_>) -> bool
+        requires map { self.old.pass.map ≡ desk.old }
+        ensures desk { desk.new ≡ desk.old }
+        ensures team { self.new.team ≡ self.old.team }
+        ensures tokens { self.new.tokens ≡ self.old.tokens }
+        ensures same { ServesSameMap self.old.pass self.new.pass }
+        ensures numbers { self.new.pass.view.numbers ≡ self.old.pass.view.numbers }
+        ensures sweeps { Sweeps now self.old.pass self.new.pass }
+    {
+        desk.sweep(rt, &mut self.pass, now)
     }
 
     /// Answers the number of the program that the bytes spell, which came after this Hello, and keeps its token, unless one of

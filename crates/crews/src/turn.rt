@@ -47,6 +47,16 @@ fn standing_after_piece(count: usize) -> Standing {
     }
 }
 
+/// The time of the commands of a client that talks so. Frames have no use for it, and any will do.
+fn time_of<C: Channel, P: Clients<C>>(clients: &mut P, talk: &Talk) -> u64
+    ensures { CountGoes P.there clients.old 0 clients.new 0 }
+{
+    match talk {
+        Talk::Frames(_) => 0,
+        Talk::Commands(_) => clients.now(),
+    }
+}
+
 /// How a client left that is given up now, when it is still owed this number of bytes.
 fn parting_of(leaving: Option<Parting>, owed: usize) -> Parting
     ensures { (talk : TheTalk) (exchanges : List (TheExchange Station)) (read written rest : List ℕ) → length rest ≡ owed
@@ -136,17 +146,20 @@ impl<'a, C: Channel> Client<'a, C> {
         standing
     }
 
-    /// Reads one piece and answers it, if the client is to be read now.
-    fn hear<H: Threads + Wait + Sync, G: Gate + Sync>(
+    /// Reads one piece and answers it, if the client is to be read now. Its commands are made at a time that is told after it is read:
+    /// none is made at one before it was sent.
+    fn hear<P: Clients<C>, H: Threads + Wait + Sync, G: Gate + Sync>(
         &mut self,
         worker: &Worker<'_, H, G>,
         room: &mut Room<'a, '_>,
+        clients: &mut P,
     ) -> Standing
         requires unfailed { self.old.leaving ≡ None → self.old.owed.failures ≡ 0 }
         requires is_open { self.old.leaving ≡ None → IsOpen self.old.talk }
         requires desk { room.old.serving.pass.map ≡ room.old.desk }
         ensures number { self.new.number ≡ self.old.number }
         ensures desk { room.new.desk ≡ room.old.desk }
+        ensures there { CountGoes P.there clients.old 0 clients.new 0 }
         ensures turns { (came : Arrival C) (exchanges : List (TheExchange Station))
             → Stands C.state came self.old.channel exchanges self.old.tokens self.old.talk self.old.owed self.old.leaving
             → TurnsTo C.state (known room.old.serving) (known room.new.serving) came self.new.channel exchanges
@@ -157,6 +170,7 @@ impl<'a, C: Channel> Client<'a, C> {
         }
         match self.channel.receive(&mut room.piece) {
             Received::Bytes(count) => {
+                room.now = time_of(clients, &self.talk);
                 self.answer_piece(worker, room, count);
                 standing_after_piece(count)
             }
@@ -191,23 +205,25 @@ impl<'a, C: Channel> Client<'a, C> {
     }
 
     /// One turn: reads a piece, if less is owed than may be, answers what is whole in it, and sends what is owed.
-    pub fn turn<H: Threads + Wait + Sync, G: Gate + Sync>(
+    pub fn turn<P: Clients<C>, H: Threads + Wait + Sync, G: Gate + Sync>(
         &mut self,
         worker: &Worker<'_, H, G>,
         room: &mut Room<'a, '_>,
+        clients: &mut P,
     ) -> Standing
         requires unfailed { self.old.leaving ≡ None → self.old.owed.failures ≡ 0 }
         requires is_open { self.old.leaving ≡ None → IsOpen self.old.talk }
         requires desk { room.old.serving.pass.map ≡ room.old.desk }
         ensures number { self.new.number ≡ self.old.number }
         ensures desk { room.new.desk ≡ room.old.desk }
+        ensures there { CountGoes P.there clients.old 0 clients.new 0 }
         ensures turns { (came : Arrival C) (exchanges : List (TheExchange Station))
             → Stands C.state came self.old.channel exchanges self.old.tokens self.old.talk self.old.owed self.old.leaving
             → TurnsTo C.state (known room.old.serving) (known room.new.serving) came self.new.channel exchanges
             self.new.tokens self.new.talk self.new.owed self.new.leaving }
     {
         let was_held_back = self.is_held_back();
-        let standing = self.hear(worker, room);
+        let standing = self.hear(worker, room, clients);
         self.tell(worker.alloc);
         self.standing_after(was_held_back, standing)
     }

@@ -18,7 +18,7 @@ returns-clause-says g c exchanges tokens read said says =
     let leaving = c.leaving_talk.result in
     let taken = c.answer_commands-taken.ensures in
     subst (λ (team : List PassState). SaysMore (known old) (record { pass = new.pass; team = team }) exchanges tokens tokens (Commands next) leaving (read ++ piece) said owed.rest left.rest) (sym taken.team)
-    (commands_say c.answer_commands-taken.result tokens old.team old.pass new.pass c.args.talk.now next piece leaving owed c.answer_commands-taken.new.sink left
+    (commands_say c.answer_commands-taken.result tokens old.team old.pass new.pass c.args.room.now.now c.args.talk.now next piece leaving owed c.answer_commands-taken.new.sink left
     (omega (arith, c.requires.some, c.requires.within)) c.requires.is_open taken.same taken.numbers taken.ok taken.over
     (λ is. let (talk_is, still, kept) = taken.memory is in (talk_is, ap (λ (s : Station). s.pass) still, kept))
     taken.write c.leaving_talk.ensures exchanges read said says)

@@ -43,6 +43,12 @@ let_go-requires g c =
     let (more, now) = c.loop.invariant.attended old turns attended in
     record { attended = (old, turns ++ more, now) }
 
+pub sweep-requires : goal.sweep-requires
+sweep-requires g c =
+    let (old, turns, attended) = c.requires.attended in
+    let (more, now) = c.loop.invariant.attended old turns attended in
+    record { desk = now.0.numbers.map_is ∙ sym attended.0.numbers.map_is ∙ c.requires.desk ∙ sym c.loop.invariant.desk }
+
 pub loop-preserved-in-Came : goal.loop-preserved-in-Came
 loop-preserved-in-Came g c = record {
   attended = λ old turns attended. let (more, now) = c.loop.invariant.attended old turns attended in (more, c.take_in.ensures.attended old (turns ++ more) now);
@@ -71,8 +77,8 @@ loop-preserved-in-Ready g c = record {
       (counts_by there c.loop.clients c.next-in-loop.new.self 0 0 n n n (omega arith) (omega arith) c.in-Ready.ensures.there) c.serve_one.ensures.there);
 }
 
-pub loop-preserved : goal.loop-preserved
-loop-preserved g c = record {
+pub loop-preserved-in-LetGo : goal.loop-preserved-in-LetGo
+loop-preserved-in-LetGo g c = record {
   attended = λ old turns attended. let (more, now) = c.loop.invariant.attended old turns attended in (more, c.let_go.ensures.attended old (turns ++ more) now);
   desk = c.let_go.ensures.desk ∙ c.loop.invariant.desk;
   there =
@@ -81,6 +87,22 @@ loop-preserved g c = record {
       counts_on there c.args.clients.now c.loop.clients c.let_go.new.clients (slab_len c.args.self.now.seats) n (slab_len c.let_go.new.self.seats) c.loop.invariant.there
       (counts_on there c.loop.clients c.next-in-loop.new.self c.let_go.new.clients n n (slab_len c.let_go.new.self.seats)
       (counts_by there c.loop.clients c.next-in-loop.new.self 0 0 n n n (omega arith) (omega arith) c.in-LetGo.ensures.there) c.let_go.ensures.there);
+}
+
+pub loop-preserved : goal.loop-preserved
+loop-preserved g c = record {
+  attended = λ old turns attended.
+      let (more, now) = c.loop.invariant.attended old turns attended in
+      let (last, then) = c.sweep.ensures.attended old (turns ++ more) now in
+      let s = c.sweep.new.self in
+      and_more g.C.Channel.state g.P.Clients.gave old turns more last (known s.room.serving) s.came s.seats then;
+  desk = c.sweep.ensures.desk ∙ c.loop.invariant.desk;
+  there =
+      let there = g.P.Clients.there in
+      let n = slab_len c.loop.self.seats in
+      counts_on there c.args.clients.now c.loop.clients c.sweep.new.clients (slab_len c.args.self.now.seats) n (slab_len c.sweep.new.self.seats) c.loop.invariant.there
+      (counts_on there c.loop.clients c.next-in-loop.new.self c.sweep.new.clients n n (slab_len c.sweep.new.self.seats)
+      (counts_by there c.loop.clients c.next-in-loop.new.self 0 0 n n n (omega arith) (omega arith) c.in-Sweep.ensures.there) c.sweep.ensures.there);
 }
 
 pub returns-in-Over-clause-there : goal.returns-in-Over-clause-there

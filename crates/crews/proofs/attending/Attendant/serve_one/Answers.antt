@@ -1,7 +1,7 @@
 use Rattle.std.proofs.Common.{◌++◌, ◌+◌, arith}
 use Rattle.slab.specs.Slab.{slab_len}
 use Rattle.crews.specs.Lives.{known}
-use Rattle.crews.proofs.CountLemmas.{counts_by}
+use Rattle.crews.proofs.CountLemmas.{counts_by, counts_on}
 use Rattle.crews.proofs.SeatLemmas.{client_in, client_open, client_unfailed, has_turn, no_more, seat_left}
 use Rattle.crews.proofs.attending.Attendant.serve_one.Goals as goal
 
@@ -37,8 +37,12 @@ returns-in_default-clause-attended g c old turns attended =
 
 pub returns-clause-there : goal.returns-clause-there
 returns-clause-there g c =
+    let there = g.P.Clients.there in
     let n = slab_len c.try_remove.new.self in
-    counts_by g.P.Clients.there c.args.clients.now c.go_on.new.clients (n + 1) (slab_len c.go_on.new.self.seats) 0 (slab_len c.args.self.now.seats) (slab_len c.go_on.new.self.seats) (omega (arith, c.in-Some.ensures.len)) (omega arith) c.go_on.ensures.there
+    let m = slab_len c.go_on.new.self.seats in
+    counts_by there c.args.clients.now c.go_on.new.clients (n + 1) m 0 (slab_len c.args.self.now.seats) m (omega (arith, c.in-Some.ensures.len)) (omega arith)
+    (counts_on there c.args.clients.now c.turn-standing.new.clients c.go_on.new.clients (n + 1) (n + 1) m
+    (counts_by there c.args.clients.now c.turn-standing.new.clients 0 0 (n + 1) (n + 1) (n + 1) (omega arith) (omega arith) c.turn-standing.ensures.there) c.go_on.ensures.there)
 
 pub returns-clause-attended : goal.returns-clause-attended
 returns-clause-attended g c old turns attended =
