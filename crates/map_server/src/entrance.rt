@@ -6,6 +6,7 @@ use crate::patience::{Patience, is_of_descriptors};
 use crate::ports::Ports;
 use crate::quotas::Quotas;
 use crate::telling::Telling;
+use crate::wall_clock::WallClock;
 use crews::Protocol;
 use devices::Sink;
 use std::alloc::Global;
@@ -39,12 +40,13 @@ pub(crate) enum Arrival {
     Never,
 }
 
-/// The ports, which every worker watches; what is counted and told of clients, whichever port they came to; how many sessions the
-/// workers may begin; and a descriptor in reserve, so that one client more than there are descriptors for can be told.
+/// The ports, which every worker watches; what is counted and told of clients, whichever port they came to; the time of day; how many
+/// sessions the workers may begin; and a descriptor in reserve, so that one client more than there are descriptors for can be told.
 #[derive(Drop)]
 pub(crate) struct Entrance<'a, 'b, H: Wait + Clock, E: Sink> {
     pub(crate) arrivals: Arrivals<'a, 'b, H, E>,
     pub(crate) ports: Ports,
+    pub(crate) wall_clock: WallClock<'a, H>,
     quotas: Quotas,
     spare: Mutex<Option<OwnedFd>>,
 }
@@ -68,6 +70,7 @@ impl<'a, 'b, H: Wait + Clock, E: Sink> Entrance<'a, 'b, H, E> {
         Entrance {
             arrivals: Arrivals::new(rt, alloc, limits, errors),
             ports,
+            wall_clock: WallClock::new(rt),
             quotas,
             spare,
         }

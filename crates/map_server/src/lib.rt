@@ -24,10 +24,12 @@ mod server;
 mod shared_stream;
 mod sockets;
 mod stopwatch;
+mod sweeps;
 mod tcp;
 mod tcp_clients;
 mod telling;
 mod threads;
+mod wall_clock;
 mod words;
 
 pub use accept::{TcpAccept, TcpReader, TcpWriter};

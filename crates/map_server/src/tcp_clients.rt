@@ -8,9 +8,10 @@ use crate::entrance::{Arrival, Entrance, Look};
 use crate::ports::{COMMANDS_PORT, FRAMES_PORT};
 use crate::seats::{Seats, Stirring};
 use crate::stopwatch::Stopwatch;
+use crate::sweeps::Sweeps;
 use bin_stripes::Pass;
 use bpf_model::NoMemory;
-use crews::{Clients, Event, Parting, Protocol, Standing};
+use crews::{Clients, Event, NextSweep, Parting, Protocol, Standing};
 use devices::Sink;
 use mio::{Events, Interest, Poll, Token};
 use sessions::SessionEnd;
@@ -24,11 +25,11 @@ use std::time::Duration;
 const MOST_EVENTS: usize = 256;
 
 /// How long it is between two looks for silent clients, in milliseconds.
-const SWEEP_MILLIS: u64 = 500;
+const LOOK_MILLIS: u64 = 500;
 
-/// The clients of one worker, of both ports. It takes them from the entrance, tells which has a turn, lets silent ones go, and hears
-/// out those whose session or talk ended on this side. What the system tells is no premise of it: a seat that it tells of for no
-/// reason has a turn for nothing.
+/// The clients of one worker, of both ports. It takes them from the entrance, tells which has a turn, lets silent ones go, has the
+/// worker sweep, and hears out those whose session or talk ended on this side. What the system tells is no premise of it: a seat that it
+/// tells of for no reason has a turn for nothing.
 #[derive(Drop)]
 pub(crate) struct TcpClients<'a, 'b, 'c, H: Wait + Clock, E: Sink> {
     entrance: &'a Entrance<'b, 'c, H, E>,
@@ -41,7 +42,8 @@ pub(crate) struct TcpClients<'a, 'b, 'c, H: Wait + Clock, E: Sink> {
     turns: usize,
     doors: Doors,
     departures: Departures,
-    next_sweep: Duration,
+    next_look: Duration,
+    sweeps: Sweeps,
 }
 
 impl<'a, 'b, 'c, H: Wait + Clock, E: Sink> TcpClients<'a, 'b, 'c, H, E> {
@@ -64,7 +66,8 @@ impl<'a, 'b, 'c, H: Wait + Clock, E: Sink> TcpClients<'a, 'b, 'c, H, E> {
             turns: 0,
             doors: Doors::of(&entrance.ports),
             departures: Departures::new(alloc),
-            next_sweep: Duration::ZERO,
+            next_look: Duration::ZERO,
+            sweeps: Sweeps::new(),
         })
     }
 
@@ -124,8 +127,8 @@ impl<'a, 'b, 'c, H: Wait + Clock, E: Sink> TcpClients<'a, 'b, 'c, H, E> {
         Some(Event::Came(connection, Protocol::Commands))
     }
 
-    /// What is to be done now; none if the system is to be asked.
-    fn event_at_hand(&mut self) -> Option<Event<Connection>> {
+    /// What is to be done now for a client; none if the system is to be asked.
+    fn client_at_hand(&mut self) -> Option<Event<Connection>> {
         if let Some(seat) = self.next_silent() {
             return Some(Event::LetGo(seat));
         }
@@ -136,6 +139,16 @@ impl<'a, 'b, 'c, H: Wait + Clock, E: Sink> TcpClients<'a, 'b, 'c, H, E> {
             return Some(Event::Ready(seat));
         }
         None
+    }
+
+    /// What is to be done now; none if the system is to be asked.
+    fn event_at_hand(&mut self) -> Option<Event<Connection>> {
+        if self.sweeps.begins(self.stopwatch.now()) {
+            return Some(Event::Sweep);
+        }
+        let event = self.client_at_hand()?;
+        self.sweeps.turn_given();
+        Some(event)
     }
 
     /// No client is there, and none will come.
@@ -149,21 +162,27 @@ impl<'a, 'b, 'c, H: Wait + Clock, E: Sink> TcpClients<'a, 'b, 'c, H, E> {
             return Some(Duration::ZERO);
         }
         let now = self.stopwatch.now();
-        let sweep = match self.entrance.arrivals.limits.idle {
-            Some(_) if self.clients > 0 => Some(self.next_sweep.saturating_sub(now)),
+        let look = match self.entrance.arrivals.limits.idle {
+            Some(_) if self.clients > 0 => Some(self.next_look.saturating_sub(now)),
             _ => None,
         };
-        sooner(
-            sooner(self.doors.wait(now), self.departures.wait(now)),
-            sweep,
-        )
+        let edge = sooner(self.doors.wait(now), self.departures.wait(now));
+        sooner(edge, sooner(look, self.sweeps.wait(now)))
+    }
+
+    /// Looks at the clocks that are needed.
+    fn look(&mut self) {
+        self.stopwatch.look();
+        if self.sweeps.needs_clock() {
+            self.sweeps.hear(self.entrance.wall_clock.look());
+        }
     }
 
     /// Waits until the system tells of a connection, or something is to be done.
     fn wait(&mut self) -> io::Result<()> {
         let timeout = self.timeout();
         self.poll.poll(&mut self.events, timeout)?;
-        self.stopwatch.look();
+        self.look();
         let now = self.stopwatch.now();
         for event in self.events.iter() {
             let token = event.token();
@@ -189,13 +208,14 @@ impl<'a, 'b, 'c, H: Wait + Clock, E: Sink> TcpClients<'a, 'b, 'c, H, E> {
         let now = self.stopwatch.now();
         self.departures.close_overdue(now);
         self.doors.begin_round(now);
+        self.sweeps.turn_given();
         // A client whose piece filled the room, or whose end has come, has a second turn: no need to ask the system between them.
         self.turns = self.seats.queued().saturating_mul(2);
         // If it may not have told of all, somebody may seem silent who is not.
         let has_told_all = self.events.iter().len() < MOST_EVENTS;
-        if has_told_all && self.next_sweep <= now {
+        if has_told_all && self.next_look <= now {
             self.seats.look_again();
-            self.next_sweep = now.saturating_add(Duration::from_millis(SWEEP_MILLIS));
+            self.next_look = now.saturating_add(Duration::from_millis(LOOK_MILLIS));
         }
     }
 }
@@ -211,7 +231,8 @@ fn is_heard_out(parting: Parting) -> bool {
 }
 
 impl<'a, 'b, 'c, H: Wait + Clock, E: Sink> Clients<Connection> for TcpClients<'a, 'b, 'c, H, E> {
-    fn next(&mut self, _pass: &Pass) -> Event<Connection> {
+    fn next(&mut self, _pass: &Pass, sweep: NextSweep) -> Event<Connection> {
+        self.sweeps.want(sweep);
         for _ in 0..u64::MAX {
             if let Some(event) = self.event_at_hand() {
                 return event;
@@ -226,6 +247,12 @@ impl<'a, 'b, 'c, H: Wait + Clock, E: Sink> Clients<Connection> for TcpClients<'a
             self.begin_round();
         }
         Event::Over
+    }
+
+    fn now(&mut self) -> u64 {
+        let now = self.entrance.wall_clock.look();
+        self.sweeps.hear(now);
+        now
     }
 
     fn watch(&mut self, seat: usize, channel: &mut Connection) -> Result<(), NoMemory> {
