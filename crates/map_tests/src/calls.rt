@@ -180,3 +180,4 @@ mod places;
 mod rows;
 mod shared;
 mod stripes;
+mod timed;

@@ -5,6 +5,8 @@
 #[cfg(test)]
 mod calls;
 #[cfg(test)]
+mod deadlines;
+#[cfg(test)]
 mod entries;
 pub mod expectations;
 pub mod programs;

@@ -5,6 +5,7 @@ ghost use Rattle.crews.specs.Crews.{IsCrewOf};
 mod at_work;
 mod both_protocols;
 mod loopback;
+mod sweeping;
 
 use crate::bpfmap::memory::{Pieces, ROOM, Room};
 use bin_stripes::{OpenGate, Pass, StripedMap};

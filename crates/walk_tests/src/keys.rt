@@ -4,14 +4,27 @@ ghost use Rattle.std.specs.Prelude.{◌≡◌, IfOk};
 use atomic_methods::Call;
 use bin_stripes::{Pass, StripedMap};
 use bpf_model::{Key, NoMemory, Value};
-use key_walks::{all_keys, count_all, random_key, remove_all, scan_some};
+use key_walks::{PageAsked, all_keys, count_all, random_key, remove_all, scan_some};
 use std::alloc::Global;
 use std::process::Abort;
 use std::sync::Wait;
 use std::test::Fail;
+use timed_bins::{DeadlineChange, SetRule, Timing};
 
 /// The number of keys in the map.
 const KEYS: u8 = 40;
+
+/// The time of the walks.
+const NOW: u64 = 1_000;
+
+/// The page of more keys than there are, from a cursor on.
+fn all_from(cursor: u64) -> PageAsked {
+    PageAsked {
+        cursor,
+        most: 41,
+        time: NOW,
+    }
+}
 
 /// Opens a map of four stripes with one pass. Returns `NoMemory` if memory was refused.
 fn opened(alloc: Global) -> Result<(StripedMap, Pass), NoMemory>
@@ -70,7 +83,12 @@ fn walk_pages<R: AllocGlobal + Wait>(
     };
     let mut cursor = 0;
     for _ in 0..100 {
-        let page = scan_some(rt, rt.alloc(), map, pass, cursor, most)?;
+        let asked = PageAsked {
+            cursor,
+            most,
+            time: NOW,
+        };
+        let page = scan_some(rt, rt.alloc(), map, pass, asked)?;
         paged.keys = paged.keys.saturating_add(page.keys.len());
         paged.pages = paged.pages.saturating_add(1);
         paged.longest = paged.longest.max(page.keys.len());
@@ -102,9 +120,9 @@ fn pages_have_each_key_once(rt: HostRuntime) -> Result<(), Fail> {
 fn a_page_for_all_keys_is_the_last(rt: HostRuntime) -> Result<(), Fail> {
     let (map, mut pass) = opened(rt.alloc())?;
     fill(&rt, &map, &mut pass)?;
-    let whole = scan_some(&rt, rt.alloc(), &map, &mut pass, 0, 41)?;
+    let whole = scan_some(&rt, rt.alloc(), &map, &mut pass, all_from(0))?;
     assert!(rt; whole.keys.len() == 40 && whole.is_last());
-    let after = scan_some(&rt, rt.alloc(), &map, &mut pass, u64::MAX, 41)?;
+    let after = scan_some(&rt, rt.alloc(), &map, &mut pass, all_from(u64::MAX))?;
     assert!(rt; after.keys.is_empty() && after.is_last());
     Ok(())
 }
@@ -112,12 +130,67 @@ fn a_page_for_all_keys_is_the_last(rt: HostRuntime) -> Result<(), Fail> {
 #[test]
 fn keys_are_counted_listed_and_removed(rt: HostRuntime) -> Result<(), Fail> {
     let (map, mut pass) = opened(rt.alloc())?;
-    assert!(rt; random_key(&rt, rt.alloc(), &map, &mut pass, 7)?.is_none());
+    assert!(rt; random_key(&rt, rt.alloc(), &map, &mut pass, 7, NOW)?.is_none());
     fill(&rt, &map, &mut pass)?;
     assert!(rt; count_all(&rt, &map, &mut pass) == 40);
-    assert!(rt; all_keys(&rt, rt.alloc(), &map, &mut pass)?.len() == 40);
-    assert!(rt; random_key(&rt, rt.alloc(), &map, &mut pass, 7)?.is_some());
+    assert!(rt; all_keys(&rt, rt.alloc(), &map, &mut pass, NOW)?.len() == 40);
+    assert!(rt; random_key(&rt, rt.alloc(), &map, &mut pass, 7, NOW)?.is_some());
     remove_all(&rt, rt.alloc(), &map, &mut pass)?;
+    assert!(rt; count_all(&rt, &map, &mut pass) == 0);
+    Ok(())
+}
+
+/// Puts a key that is over at 500.
+fn put_until<R: Wait>(rt: &R, map: &StripedMap, pass: &mut Pass) -> Result<(), NoMemory>
+    requires { pass.old.map ≡ map.now }
+    ensures { pass.new.map ≡ map.now }
+{
+    let key = &Key::from_slice(b"until").unwrap();
+    let value = &Value::new();
+    let change = DeadlineChange::Set {
+        at: 500,
+        rule: SetRule::Always,
+    };
+    let timing = Timing { now: 0, change };
+    map.call_at_into(
+        rt,
+        pass,
+        &Call::Put { key, value },
+        &timing,
+        &mut Value::new(),
+    )?;
+    Ok(())
+}
+
+/// Returns how many keys the list has, a page of all has, and are chosen, at this time.
+fn shown_at<R: AllocGlobal + Wait>(
+    rt: &R,
+    map: &StripedMap,
+    pass: &mut Pass,
+    time: u64,
+) -> Result<(usize, usize, usize), NoMemory>
+    requires { pass.old.map ≡ map.now }
+    ensures { pass.new.map ≡ map.now }
+{
+    let chosen = random_key(rt, rt.alloc(), map, pass, 7, time)?;
+    let asked = PageAsked {
+        cursor: 0,
+        most: 41,
+        time,
+    };
+    let page = scan_some(rt, rt.alloc(), map, pass, asked)?;
+    let keys = all_keys(rt, rt.alloc(), map, pass, time)?;
+    Ok((keys.len(), page.keys.len(), usize::from(chosen.is_some())))
+}
+
+/// A key is shown until its time is over, and is then gone.
+#[test]
+fn what_is_over_is_not_shown(rt: HostRuntime) -> Result<(), Fail> {
+    let (map, mut pass) = opened(rt.alloc())?;
+    put_until(&rt, &map, &mut pass)?;
+    assert!(rt; shown_at(&rt, &map, &mut pass, 499)? == (1, 1, 1));
+    assert!(rt; count_all(&rt, &map, &mut pass) == 1);
+    assert!(rt; shown_at(&rt, &map, &mut pass, 500)? == (0, 0, 0));
     assert!(rt; count_all(&rt, &map, &mut pass) == 0);
     Ok(())
 }
@@ -131,8 +204,8 @@ fn listed<R: AllocGlobal + Wait>(
     requires { pass.old.map ≡ map.now }
     ensures { pass.new.map ≡ map.now }
 {
-    let keys = all_keys(rt, rt.alloc(), map, pass)?;
-    let page = scan_some(rt, rt.alloc(), map, pass, 0, 41)?;
+    let keys = all_keys(rt, rt.alloc(), map, pass, NOW)?;
+    let page = scan_some(rt, rt.alloc(), map, pass, all_from(0))?;
     Ok((keys.len(), page.keys.len()))
 }
 

@@ -2,7 +2,7 @@
 use super::two_crews;
 use bin_stripes::{OpenGate, Pass};
 use bpf_model::NoMemory;
-use crews::{Clients, Event, Parting, Protocol, Standing, Worker, attend};
+use crews::{Clients, Event, NextSweep, Parting, Protocol, Standing, Worker, attend};
 use devices::{Channel, Received, Sent};
 use map_server::SessionEnd;
 use program_registry::Registry;
@@ -22,9 +22,19 @@ const GOT: &[u8] = b"$2\r\nxy\r\n";
 
 /// A connection in memory: it gives its bytes and ends, and keeps what is sent to it.
 #[derive(Drop)]
-struct Line {
+pub(super) struct Line {
     rest: &'static [u8],
-    sent: Vec<u8>,
+    pub(super) sent: Vec<u8>,
+}
+
+impl Line {
+    /// The connection of a client that sends these bytes.
+    pub(super) fn new(alloc: Global, rest: &'static [u8]) -> Line {
+        Line {
+            rest,
+            sent: Vec::new(alloc),
+        }
+    }
 }
 
 impl Channel for Line {
@@ -59,27 +69,21 @@ struct Two {
     served: u8,
 }
 
-impl Two {
-    /// The connection of a client that sends these bytes.
-    fn line(&self, rest: &'static [u8]) -> Line {
-        Line {
-            rest,
-            sent: Vec::new(self.alloc),
-        }
-    }
-}
-
 impl Clients<Line> for Two {
-    fn next(&mut self, _pass: &Pass) -> Event<Line> {
+    fn next(&mut self, _pass: &Pass, _sweep: NextSweep) -> Event<Line> {
         let told = self.told;
         self.told = told.saturating_add(1);
         match told {
-            0 => Event::Came(self.line(PUT), Protocol::Frames),
-            1 => Event::Came(self.line(GET), Protocol::Commands),
+            0 => Event::Came(Line::new(self.alloc, PUT), Protocol::Frames),
+            1 => Event::Came(Line::new(self.alloc, GET), Protocol::Commands),
             2 | 4 => Event::Ready(0),
             3 | 5 => Event::Ready(1),
             _ => Event::Over,
         }
+    }
+
+    fn now(&mut self) -> u64 {
+        0
     }
 
     fn watch(&mut self, _seat: usize, _channel: &mut Line) -> Result<(), NoMemory> {

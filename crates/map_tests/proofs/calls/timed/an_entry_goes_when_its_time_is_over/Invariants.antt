@@ -1,0 +1,6 @@
+use Rattle.std.proofs.Common.{◌≡◌}
+use Rattle.map_tests.proofs.calls.timed.an_entry_goes_when_its_time_is_over.Given as goal
+
+-- the pass serves the same map
+abbrev pub invariant-loop-now : goal.invariant-loop-now
+invariant-loop-now g l = l.pass.map ≡ l.initial.pass.map

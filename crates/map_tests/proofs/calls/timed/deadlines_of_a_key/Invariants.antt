@@ -1,0 +1,6 @@
+use Rattle.std.proofs.Common.{◌≡◌}
+use Rattle.map_tests.proofs.calls.timed.deadlines_of_a_key.Given as goal
+
+-- the pass serves the same map
+abbrev pub invariant-loop-number : goal.invariant-loop-number
+invariant-loop-number g l = l.pass.map ≡ l.initial.pass.map
