@@ -1,10 +1,10 @@
 #!/usr/bin/env bash
 # Times the Redis port of mapd beside redis-server on loopback, both in one run and by turns: GET, SET, INCR, MSET of ten keys and EVALSHA
-# of a sum, over 50 and 1,000 connections that each have 1 and 16 requests on their way. The client is redis_load.c, and at the end
-# redis-benchmark. It prints the server's processor time a request, in microseconds (medians of five rounds), thousands of requests a
-# second, what ours come to of Redis', and the memory of a connection. Client and servers share the machine. By hand, not by the gate;
-# some four minutes. MAPD names another server than the one that the gate built; WORKERS (2), ROUNDS (5) and MILLISECONDS (500) may be
-# given too.
+# of a sum, over 50 and 1,000 connections that each have 1 and 16 requests on their way. In the same turns it times echo.c, which only reads
+# and writes: what the system takes of each. The client is redis_load.c, and at the end redis-benchmark. It prints the server's processor
+# time a request, in microseconds (medians of five rounds), thousands of requests a second, what ours come to of Redis', what both come to
+# without the time of echo.c, and the memory of a connection. Client and servers share the machine. By hand, not by the gate; some five
+# minutes. MAPD names another server than the one that the gate built; WORKERS (2), ROUNDS (5) and MILLISECONDS (500) may be given too.
 set -euo pipefail
 shopt -s inherit_errexit
 cd "$(dirname "$0")/.."
@@ -40,6 +40,14 @@ start_mapd() {
     mapd_port=$(sed -n 's/^redis on 127.0.0.1://p' "$work/listening")
 }
 
+start_echo() {
+    echo_port=$((10000 + $$ % 10000))
+    "$work/echo" $echo_port "$workers" > "$work/echoing" 2>&1 &
+    echo_process=$!
+    processes+=("$echo_process")
+    await ready "$work/echoing"
+}
+
 # Redis takes no free port by itself, so one is guessed.
 start_redis() {
     redis_port=$((20000 + $$ % 10000))
@@ -52,7 +60,8 @@ start_redis() {
 # A side, an operation, a load and milliseconds: what redis_load prints.
 play() {
     local port=$mapd_port process=$mapd_process language=bpf
-    [ "$1" = mapd ] || { port=$redis_port process=$redis_process language=lua; }
+    [ "$1" != redis ] || { port=$redis_port process=$redis_process language=lua; }
+    [ "$1" != echo ] || { port=$echo_port process=$echo_process language=none; }
     # shellcheck disable=SC2086
     timeout 60 "$work/load" "$port" "$2" $3 "$4" "$process" $language
 }
@@ -62,7 +71,7 @@ measure_all() {
     for _ in $(seq "$rounds"); do
         for load in "${loads[@]}"; do
             for operation in "${operations[@]}"; do
-                for side in mapd redis; do play $side "$operation" "$load" "$milliseconds" >> "$work/$side $operation $load"; done
+                for side in mapd redis echo; do play $side "$operation" "$load" "$milliseconds" >> "$work/$side $operation $load"; done
             done
         done
     done
@@ -75,13 +84,13 @@ median() {
 
 print_rows() {
     local load operation
-    printf '%-10s %11s %5s %19s %19s %6s\n' '' connections deep 'mapd: us, 1000/s' 'Redis: us, 1000/s' ratio
+    printf '%-10s %11s %5s %19s %19s %19s %6s %8s\n' '' connections deep 'mapd: us, 1000/s' 'Redis: us, 1000/s' 'echo: us, 1000/s' ratio 'own work'
     for operation in "${operations[@]}"; do
         for load in "${loads[@]}"; do
             # shellcheck disable=SC2046,SC2086
-            printf '%-10s %11s %5s %10.2f %8.1f %10.2f %8.1f %6.2f\n' "$operation" $load \
-                $({ median "mapd $operation $load"; median "redis $operation $load"; } |
-                    awk '{ print; us[NR] = $1 } END { print us[1] / us[2] }')
+            printf '%-10s %11s %5s %10.2f %8.1f %10.2f %8.1f %10.2f %8.1f %6.2f %8.2f\n' "$operation" $load \
+                $({ median "mapd $operation $load"; median "redis $operation $load"; median "echo $operation $load"; } |
+                    awk '{ print; us[NR] = $1 } END { print us[1] / us[2], (us[1] - us[3]) / (us[2] - us[3]) }')
         done
     done
 }
@@ -113,9 +122,11 @@ command -v gcc > /dev/null || fail "no gcc here (Debian's package gcc)"
 command -v redis-server > /dev/null || fail "no redis-server here (Debian's package redis-server)"
 ulimit -n 20000 2> /dev/null || true
 gcc -std=gnu99 -O2 -o "$work/load" bench/redis_load.c
+gcc -std=gnu99 -O2 -pthread -o "$work/echo" bench/echo.c
 before=$(load_now)
 start_mapd
 start_redis
+start_echo
 print_memory
 measure_all
 echo "microseconds of the server's processor time a request, and thousands of requests a second"

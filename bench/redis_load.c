@@ -1,8 +1,9 @@
 /* Loads a server that speaks RESP2 on loopback: one thread, epoll, plain sockets. Each connection sends as many requests as it is deep,
    reads all replies, and begins again.
-   redis_load PORT get|set|incr|mset|evalsha CONNECTIONS DEPTH MILLISECONDS PROCESS bpf|lua
+   redis_load PORT get|set|incr|mset|evalsha CONNECTIONS DEPTH MILLISECONDS PROCESS bpf|lua|none
    prints how many requests were answered, in how many nanoseconds, and how many nanoseconds of processor time the server's process had
-   meanwhile. The last word says in which language the script of evalsha is. What INCR and the script added is counted at the end.
+   meanwhile. The last word says in which language the script of evalsha is. What INCR and the script added is counted at the end, but for
+   `none`, which is echo.c.
    redis_load PORT memory CONNECTIONS 1 0 PROCESS bpf|lua
    prints by how many bytes the server's memory grew with so many connections, each of which asked once. */
 #include <arpa/inet.h>
@@ -34,7 +35,7 @@ struct line {
 
 static struct sockaddr_in address = {.sin_family = AF_INET};
 static const char *operation, *process;
-static int depth, is_lua;
+static int depth, is_lua, is_echo;
 static char script_name[41];
 static struct line lines[MOST_CONNECTIONS];
 static char piece[PIECE];
@@ -276,13 +277,14 @@ int main(int words, char **word)
     uint64_t begun, had, answered;
     depth = words == 8 ? atoi(word[4]) : 0;
     if (connections < 1 || connections > MOST_CONNECTIONS || depth < 1 || depth > MOST_DEPTH) {
-        fprintf(stderr, "redis_load PORT get|set|incr|mset|evalsha|memory CONNECTIONS DEPTH MILLISECONDS PROCESS bpf|lua\n");
+        fprintf(stderr, "redis_load PORT get|set|incr|mset|evalsha|memory CONNECTIONS DEPTH MILLISECONDS PROCESS bpf|lua|none\n");
         return 2;
     }
     setrlimit(RLIMIT_NOFILE, &descriptors);
     address.sin_port = htons((uint16_t)atoi(word[1]));
     address.sin_addr.s_addr = htonl(INADDR_LOOPBACK);
     operation = word[2], process = word[6], is_lua = strcmp(word[7], "lua") == 0;
+    is_echo = strcmp(word[7], "none") == 0;
     own = connected();
     prepare(own);
     if (strcmp(operation, "memory") == 0) {
@@ -297,7 +299,7 @@ int main(int words, char **word)
     printf("%llu %llu %llu\n", (unsigned long long)answered, (unsigned long long)(nanoseconds() - begun),
            (unsigned long long)(processor_nanoseconds() - had));
     answered += (uint64_t)(connections * depth);
-    if ((strcmp(operation, "incr") == 0 || strcmp(operation, "evalsha") == 0) && counted(own) != answered)
+    if (!is_echo && (strcmp(operation, "incr") == 0 || strcmp(operation, "evalsha") == 0) && counted(own) != answered)
         fail("%s: the sum is not %llu", operation, (unsigned long long)answered);
     return 0;
 }

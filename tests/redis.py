@@ -1,15 +1,17 @@
 #!/usr/bin/env python3
 """Sends the same random streams of commands to `mapd --redis` and to a redis-server, in pieces cut at random, and compares all bytes that
-come back. The streams have each command that mapd serves, right and wrong, as arrays and as lines (redis_streams.py). KEYS, SCAN and
-RANDOMKEY choose an order, so what they give is compared without one. What differs by design is NOT_COMPARED: redis_front.py has rows for
-it.
+come back. The streams have each command that mapd serves, right and wrong, as arrays and as lines (redis_streams.py, and redis_times.py for
+those with deadlines). Both servers' clocks are held by the test, so that what is left of a deadline is the same for both, and hours pass
+between two streams. KEYS, SCAN and RANDOMKEY choose an order, so what they give is compared without one. What differs by design is
+NOT_COMPARED: redis_front.py has rows for it.
 
 By hand, after `rt run` in crates/mapd: python3 tests/redis.py [COMMANDS [SEED]]. Another server than the built one is tried by
---program; if that is redis-server, the streams are tried. By .ci/run behind the gate. It needs Debian's redis-server, and says so if
-that is missing."""
+--program; if that is redis-server, the streams are tried. By .ci/run behind the gate. It needs Debian's redis-server, and gcc for the
+clock, and says so if one is missing."""
 from __future__ import annotations
 
 import argparse
+import contextlib
 import random
 import shutil
 import sys
@@ -18,26 +20,20 @@ from pathlib import Path
 
 sys.path.insert(0, str(Path(__file__).resolve().parent))
 sys.dont_write_bytecode = True
+import redis_clock as clock  # noqa: E402
 import redis_streams as streams  # noqa: E402
+import redis_times as times  # noqa: E402
 import redis_wire as resp  # noqa: E402
 import wire  # noqa: E402
 from redis_wire import Client  # noqa: E402
 from wire import Wrong, same  # noqa: E402
 
 NOT_COMPARED = ("INFO", "HELLO 2 and 3", "COMMAND", "CONFIG GET", "CLIENT ID, LIST, INFO and SETINFO", "EVAL and SCRIPT LOAD",
-                "SET with deadlines or IFEQ", "DELIFEQ", "words beyond mapd's limits", "escapes in quotes", "cursors that are no decimals",
-                "commands that mapd hasn't")
+                "SET with IFEQ", "DELIFEQ", "the millisecond of a deadline", "a wrong time in a GETEX of no key", "words beyond mapd's limits", "escapes in quotes",
+                "cursors that are no decimals", "commands that mapd hasn't")
 # One stream in so many ends in bytes that are no command, and one walk comes after so many.
 FAULTY = 12
 WALKS = 25
-RELEASE_TEXT = """
-        local token = redis.call('get', KEYS[1])
-        if not token or token ~= ARGV[1] then
-            return 0
-        end
-        redis.call('del', KEYS[1])
-        return 1
-    """
 
 
 def sent_to(client: Client, pieces: list[bytes], is_slow: bool) -> None:
@@ -51,13 +47,16 @@ def sent_to(client: Client, pieces: list[bytes], is_slow: bool) -> None:
 class Streams:
     """Streams of commands to two servers, and a count of them."""
 
-    def __init__(self, ours: str, theirs: str, seed: int) -> None:
+    def __init__(self, ours: str, theirs: str, held: clock.Held | None, seed: int) -> None:
         self.addresses = (ours, theirs)
+        self.held = held
         self.dice = random.Random(seed)
         self.clients = [Client(address) for address in self.addresses]
-        self.commands = self.streams = self.walks = self.faults = 0
-        loaded = [client.ask("SCRIPT", "LOAD", RELEASE_TEXT) for client in self.clients]
-        same("the digest of the release of a lock, which mapd knows without its text", loaded[1], resp.value(streams.RELEASE.encode()))
+        self.commands = self.streams = self.walks = self.faults = self.waited = 0
+        self.kinds = streams.COMMANDS + (times.Times(lambda: held.now).commands() if held else [])
+        for name, text in ((streams.RELEASE, times.RELEASE), (times.EXTEND_NAME, times.EXTEND), (times.REACQUIRE_NAME, times.REACQUIRE)):
+            loaded = [client.ask("SCRIPT", "LOAD", text) for client in self.clients]
+            same("the digest of a script on locks, which mapd knows without its text", loaded[1], resp.value(name.encode()))
 
     def answers(self, sent: bytes, mark: bytes) -> list[bytes]:
         """What both servers answer up to the mark."""
@@ -78,11 +77,18 @@ class Streams:
 
     def begin(self) -> tuple[list[list[bytes]], bytes]:
         """The commands of a stream, and their bytes. The first one lets keys that grow begin anew."""
-        told = [[b"DEL", *streams.GROWN], *(streams.some_command(self.dice) for _ in range(self.dice.randrange(1, streams.MOST)))]
+        told = [[b"DEL", *streams.GROWN], *(streams.some_command(self.dice, self.kinds) for _ in range(self.dice.randrange(1, streams.MOST)))]
         sent = b"".join(streams.nothing(self.dice) + streams.spelled(self.dice, words) for words in told)
         self.commands += len(told)
         self.streams += 1
         return told, sent
+
+    def wait(self) -> None:
+        """Some time passes on both clocks."""
+        if self.held:
+            passed = times.wait(self.dice)
+            self.held.move(passed)
+            self.waited += passed
 
     def play(self) -> None:
         """Sends a stream, and compares what is answered."""
@@ -115,7 +121,10 @@ class Streams:
         same(f"what SCAN with {options!r} gives", *scanned)
         keys = resp.members_of(self.clients[1].ask("KEYS", "*")) or [resp.NOTHING]
         same("RANDOMKEY gives a key that is there", self.clients[0].ask("RANDOMKEY") in keys, True)
-        self.commands += 4
+        # (DBSIZE may count what is over, until somebody asks for it)
+        for words in (["EXISTS", *streams.KEYS, *streams.GROWN], ["DBSIZE"]):
+            same(f"what {words[0]} gives", *(client.ask(*words) for client in self.clients))
+        self.commands += 6
         self.walks += 1
 
 
@@ -131,20 +140,22 @@ def keys_scanned(client: Client, options: list[resp.Word]) -> list[bytes]:
     raise Wrong(f"SCAN with {options!r} goes on for ever")
 
 
-def play(program: Path, commands: int, seed: int) -> str:
+def play(program: Path, commands: int, seed: int, held: clock.Held | None) -> str:
     """Plays streams with this many commands; what was compared."""
-    theirs = resp.Redis()
+    environment = held.environment if held else None
+    theirs = resp.Redis(environment=environment)
     try:
-        with resp.started(program, "--workers", "2") as ours:
-            both = Streams(ours.address, theirs.address, seed)
+        with resp.started(program, "--workers", "2", environment=environment) as ours:
+            both = Streams(ours.address, theirs.address, held, seed)
             while both.commands < commands:
                 both.play_to_the_end() if both.dice.randrange(FAULTY) == 0 else both.play()
                 if both.streams % WALKS == 0:
                     both.walk()
+                both.wait()
     finally:
         theirs.end()
     return (f"{both.commands} commands in {both.streams} streams, {both.faults} of them to the end of the connection, and {both.walks} "
-            f"walks: no byte differs from Redis'")
+            f"walks, {both.waited / 3_600_000:.1f} hours by the clock that both see: no byte differs from Redis'")
 
 
 def main() -> None:
@@ -157,8 +168,12 @@ def main() -> None:
         print("redis: no redis-server here (Debian's package redis-server), so nothing was compared")
         return
     begun = time.monotonic()
+    if not clock.is_possible():
+        print("redis: no gcc here, so no command with a deadline was compared")
     try:
-        print(f"redis: {play(asked.program, asked.commands, asked.seed)} ({time.monotonic() - begun:.0f} s)")
+        with contextlib.ExitStack() as stack:
+            held = stack.enter_context(clock.Held()) if clock.is_possible() else None
+            print(f"redis: {play(asked.program, asked.commands, asked.seed, held)} ({time.monotonic() - begun:.0f} s)")
     except (Wrong, wire.Ended, OSError) as wrong:
         sys.exit(f"redis: FAILED, seed {asked.seed}: {type(wrong).__name__}: {wrong}")
     print(f"redis: not compared: {'; '.join(NOT_COMPARED)}")

@@ -7,6 +7,7 @@ import io
 import re
 import sys
 import threading
+import time
 from pathlib import Path
 
 import redis
@@ -30,6 +31,24 @@ def strings(client: redis.Redis) -> None:
     assert client.getdel("a") == b"4xyz\0\0!" and client.exists("a", "c", "c") == 2
     assert client.type("c") == b"string" and client.ttl("c") == -1 and client.ttl("a") == -2
     assert client.delete("a", "c") == 1 and client.unlink("n") == 1
+
+
+def deadlines(client: redis.Redis) -> None:
+    """Keys with deadlines."""
+    client.flushall()
+    at = 33_177_117_420
+    assert client.set("a", "1", exat=at) and client.pexpiretime("a") == 1000 * at and client.expiretime("b") == -2
+    assert client.set("a", "2", keepttl=True) and client.expiretime("a") == at and client.incr("a") == 3 and client.expiretime("a") == at
+    assert client.persist("a") is True and client.persist("a") is False and client.ttl("a") == -1
+    assert client.expire("a", 100, gt=True) is False and client.expire("a", 100, nx=True) is True and 0 < client.ttl("a") <= 100
+    assert client.getex("a", px=50_000) == b"3" and 0 < client.pttl("a") <= 50_000 and client.getex("a", persist=True) == b"3"
+    assert client.setex("b", 100, "4") and client.psetex("c", 100_000, "5") and 0 < client.ttl("b") <= 100 and 0 < client.ttl("c") <= 100
+    assert client.pexpireat("b", 1000 * at, gt=True) is True and client.expireat("b", at - 1, gt=True) is False
+    assert client.set("d", "6", px=30) and client.get("d") == b"6"
+    time.sleep(0.05)
+    assert client.get("d") is None and client.ttl("d") == -2 and client.set("d", "7", nx=True, ex=100) is True
+    assert client.expire("d", 0) is True and client.exists("d") == 0
+    assert refusal(client.set, "a", "1", 0).startswith("invalid expire time in 'set'")
 
 
 def several(client: redis.Redis) -> None:
@@ -105,6 +124,26 @@ def locks(client: redis.Redis) -> None:
     assert client.get("lock") == b"another's token"
 
 
+def timed_locks(client: redis.Redis) -> None:
+    """A lock with a timeout: it gets more time, and its time anew; when that is over, another gets it, and the first is told so."""
+    client.flushall()
+    lock = client.lock("timed", timeout=30)
+    assert lock.acquire() is True and 29_000 < client.pttl("timed") <= 30_000
+    assert lock.extend(30) is True and 58_000 < client.pttl("timed") <= 60_000
+    assert lock.extend(10, replace_ttl=True) is True and 9_000 < client.pttl("timed") <= 10_000
+    assert lock.reacquire() is True and 29_000 < client.pttl("timed") <= 30_000
+    lock.release()
+    assert client.exists("timed") == 0
+    short, other = client.lock("short", timeout=0.05), client.lock("short", timeout=10, sleep=0.01)
+    assert short.acquire() is True and other.acquire(blocking=False) is False and other.acquire(blocking_timeout=5) is True
+    for late in (lambda: short.extend(10), short.reacquire, short.release):
+        with contextlib.suppress(LockNotOwnedError):
+            late()
+            raise AssertionError("a lock whose time was over was still its first holder's")
+    assert other.owned() is True
+    other.release()
+
+
 def page(port: int, name: str) -> int:
     """Runs the programs of a page, each of which prints what stands below it; how many there are."""
     blocks = BLOCK.findall((PAGES / name).read_text(encoding="utf-8"))
@@ -131,11 +170,10 @@ def fall_back(client: redis.Redis) -> None:
 def scripts(client: redis.Redis, port: int) -> None:
     """The programs of docs/REDIS.md, and scripts that are refused."""
     client.flushall()
-    assert page(port, "REDIS.md") == 2
+    assert page(port, "REDIS.md") == 5
     assert refusal(client.eval, "return 1", 1, "a").startswith("not a script that is served")
     assert "refused: " in refusal(client.script_load, "#!bpf compute bytes 64 8 8 8\nexit\n")
     assert "line 2" in refusal(client.script_load, "#!bpf compute bytes 64 8 8 8\nfoo\nexit\n")
-    assert refusal(client.set, "a", "1", 10) and refusal(client.lock("timed", timeout=10).acquire, False)
     line = client.pipeline(transaction=False)
     count = client.register_script(SUM)
     for _ in range(10):
@@ -147,10 +185,12 @@ def main() -> None:
     port, is_redis = int(sys.argv[1]), sys.argv[2] == "redis"
     client = redis.Redis(port=port, socket_timeout=20)
     strings(client)
+    deadlines(client)
     several(client)
     pipelines(client, is_redis)
     connection(client)
     locks(client)
+    timed_locks(client)
     if not is_redis:
         scripts(client, port)
         fall_back(client)

@@ -26,6 +26,7 @@ sys.dont_write_bytecode = True
 import crowd  # noqa: E402
 import redis_linear  # noqa: E402
 import redis_streams as streams  # noqa: E402
+import redis_times as times  # noqa: E402
 import redis_wire as resp  # noqa: E402
 import sequential as model  # noqa: E402
 import wire  # noqa: E402
@@ -37,6 +38,8 @@ WORD = re.compile(r'"((?:[^"\\]|\\.)*)"|(\S+)')
 ESCAPE = re.compile(r"\\(x[0-9a-fA-F]{2}|.)|\{(.*?)\*(\d+)\}|@SUM")
 ESCAPES = {"r": b"\r", "n": b"\n", "t": b"\t", "0": b"\0"}
 ADD = model.PROGRAMS[model.ADD]
+# The commands whose bytes are changed.
+KINDS = streams.COMMANDS + times.Times(lambda: time.time_ns() // 1_000_000).commands()
 # What stands in place of some bytes when a stream is changed.
 PIECES = (b"", b"\r\n", b"*", b"$", b"-", b"1", b"\0", b"999999")
 
@@ -284,7 +287,7 @@ def longest_commands_need_little_stack(program: Path) -> None:
 def long_commands_take_no_time(program: Path) -> None:
     """Commands that come in thousands of pieces are read in time in proportion to their length, and don't keep others waiting."""
     with started(program, "--workers", "1") as server, Client(server.address) as client, Client(server.address) as other:
-        for count, seconds in ((100, 1.0), (400, 4.0)):
+        for count, seconds in ((15, 1.0), (60, 2.0)):
             sent = resp.command("DEL", *[b"k" * 65536] * count)
             begun = time.monotonic()
             client.socket.sendall(sent)
@@ -295,6 +298,16 @@ def long_commands_take_no_time(program: Path) -> None:
         begun = time.monotonic()
         same("an MSET of 2 MB", client.ask("MSET", *pairs), resp.OK)
         same("it is made within a second", time.monotonic() - begun < 1, True)
+
+
+def all_words_have_a_limit(program: Path) -> None:
+    """A command with 4 MiB of words is read, and one with a byte more is refused as soon as the length of a word says so."""
+    with started(program) as server, Client(server.address) as client:
+        front = b"*65\r\n$3\r\nDEL\r\n" + (b"$65536\r\n" + b"k" * 65536 + b"\r\n") * 63
+        client.socket.sendall(front + b"$65533\r\n" + b"k" * 65533 + b"\r\n")
+        same("a DEL of 4 MiB", client.reply()[:4], b"-ERR")
+        client.socket.sendall(front + b"$65534")
+        same("one with a byte more", client.reply(), b"-ERR Protocol error: too big command\r\n")
 
 
 def patterns_take_no_time(program: Path) -> None:
@@ -366,7 +379,7 @@ def changed_bytes_end_nobody_else(program: Path) -> None:
     with started(program, "--workers", "2") as server, Client(server.address) as neighbour:
         until, count = time.monotonic() + 4, 0
         while time.monotonic() < until:
-            sent = bytearray(b"".join(streams.spelled(dice, streams.some_command(dice)) for _ in range(dice.randrange(1, 8))))
+            sent = bytearray(b"".join(streams.spelled(dice, streams.some_command(dice, KINDS)) for _ in range(dice.randrange(1, 8))))
             for _ in range(dice.choice((1, 1, 2, 5))):
                 place = dice.randrange(len(sent))
                 sent[place:place + dice.randrange(3)] = dice.choice((*PIECES, dice.randbytes(1)))
@@ -399,7 +412,7 @@ def what_tools_ask(program: Path) -> None:
 
 PARTS = (ports_are_told, both_ports_have_one_map, clients_are_counted_together, sessions_are_counted_together, silent_clients_are_let_go,
          cut_commands_are_not_made, changed_bytes_end_nobody_else, unread_answers_wait, memory_runs_out, longest_commands_need_little_stack,
-         patterns_take_no_time, long_commands_take_no_time, scans_give_what_stays, thousand_clients_are_served, what_tools_ask)
+         patterns_take_no_time, long_commands_take_no_time, all_words_have_a_limit, scans_give_what_stays, thousand_clients_are_served, what_tools_ask)
 
 
 def main() -> None:

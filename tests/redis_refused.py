@@ -30,6 +30,7 @@ THREE = b"3"
 LONGEST = bytes(range(256)) * 4
 MOST_REQUESTS = 5000
 NAME = linear.SUM_NAME
+LATER = b"33177117420"
 Words = tuple[bytes, ...]
 
 # What each client asks for. The third one sends its commands in pieces, so that the server keeps beginnings of them.
@@ -40,6 +41,9 @@ SESSIONS: list[list[Words]] = [
     [(b"SET", b"long", LONGEST), (b"GET", b"long"), (b"APPEND", b"m", b"x" * 200), (b"APPEND", b"m", b"y" * 200)],
     [(b"MSET", b"b", b"1", b"c", b"2", b"d", b"3"), (b"MGET", b"a", b"b", b"c", b"d"), (b"SETNX", b"b", b"4"), (b"DEL", b"c", b"e"),
      (b"SETRANGE", b"r", b"3", b"z"), (b"GETDEL", b"d"), (b"EVAL", linear.SUM, b"1", b"sum", THREE)],
+    [(b"SET", b"t", b"1", b"EXAT", LATER), (b"EXPIREAT", b"a", LATER), (b"EXPIRETIME", b"t"), (b"INCRBY", b"t", b"5"), (b"EXPIRETIME", b"t"),
+     (b"EXPIREAT", b"absent", LATER), (b"SET", b"u", b"2", b"EXAT", LATER), (b"PERSIST", b"u"), (b"EXPIRETIME", b"u")],
+    [(b"EXPIRETIME", b"a"), (b"PERSIST", b"a"), (b"EXPIRETIME", b"a"), (b"SET", b"t", b"3"), (b"EXPIRETIME", b"t"), (b"GET", b"u")],
     [(b"KEYS", b"*"), (b"SCAN", b"0", b"COUNT", b"1000"), (b"DBSIZE",), (b"GET", b"a"), (b"GET", b"n"), (b"GET", b"b"), (b"GET", b"m")],
     [(b"SCRIPT", b"EXISTS", NAME), (b"FLUSHALL",), (b"DBSIZE",), (b"KEYS", b"*")],
 ]
@@ -49,8 +53,9 @@ OPTIONS = ["--workers", "1", "--stripes", "1", "--sessions", str(len(SESSIONS))]
 
 @dataclass(frozen=True)
 class World:
-    """What may be: the values of keys, whether the script is loaded, and the client's name."""
+    """What may be: the values of keys and which of them have the deadline, whether the script is loaded, and the client's name."""
     values: tuple[tuple[bytes, bytes], ...] = ()
+    timed: frozenset[bytes] = frozenset()
     is_loaded: bool = False
     name: bytes = b""
 
@@ -61,15 +66,32 @@ class World:
     def put(self, key: bytes, value: bytes | None) -> World:
         """The same, but for a key's value."""
         values = {**dict(self.values), key: value}
-        return replace(self, values=tuple(sorted((key, held) for key, held in values.items() if held is not None)))
+        kept = {key: held for key, held in values.items() if held is not None}
+        return replace(self, values=tuple(sorted(kept.items())), timed=self.timed & set(kept))
+
+    def end(self, key: bytes, is_timed: bool) -> World:
+        """The same, but the key has the deadline, or none."""
+        return replace(self, timed=self.timed | {key} if is_timed else self.timed - {key})
 
 
 # A reply, and what then is.
 Outcome = tuple[bytes, World]
 
 
+def of_deadline(name: bytes, key: bytes, world: World) -> Outcome:
+    """What a command on a deadline is answered, and leaves."""
+    is_there, is_timed = world.get(key) is not None, key in world.timed
+    if name == b"EXPIRETIME":
+        return resp.integer(int(LATER) if is_timed else -1 if is_there else -2), world
+    if name == b"PERSIST":
+        return resp.integer(is_timed), world.end(key, False)
+    return resp.integer(is_there), world.end(key, True) if is_there else world
+
+
 def one_key(words: Words, world: World) -> Outcome:
     """What a command on one key is answered, and leaves."""
+    if words[0] in (b"EXPIRETIME", b"PERSIST", b"EXPIREAT"):
+        return of_deadline(words[0], words[1], world)
     name, key, rest = words[0], words[1], words[2:]
     if name in (b"EVALSHA", b"EVAL"):
         key, rest = words[3], words[4:]
@@ -79,7 +101,8 @@ def one_key(words: Words, world: World) -> Outcome:
         new = (world.get(key) or b"").ljust(int(rest[0]), b"\0") + rest[1]
         return resp.integer(len(new)), world.put(key, new)
     reply, new = linear.asked_step(Asked(b"EVALSHA" if name == b"EVAL" else name, key, rest), world.get(key))
-    return reply, replace(world, is_loaded=world.is_loaded or name == b"EVAL").put(key, new)
+    after = replace(world, is_loaded=world.is_loaded or name == b"EVAL").put(key, new)
+    return reply, after.end(key, b"EXAT" in rest) if name == b"SET" else after
 
 
 def several_keys(words: Words, world: World) -> list[World]:
@@ -120,7 +143,7 @@ def outcomes(words: Words, world: World) -> Iterator[Outcome]:
         return
     is_of_server = words[0] in (b"CLIENT", b"SCRIPT", b"DBSIZE", b"MGET", b"SCAN", b"KEYS")
     yield of_server(words, world) if is_of_server else one_key(words, world)
-    if words[0] not in (b"GET", b"MGET", b"GETDEL"):
+    if words[0] not in (b"GET", b"MGET", b"GETDEL", b"EXPIRETIME", b"PERSIST"):
         yield resp.NO_MEMORY, world
     if words[0] == b"EVAL":
         yield resp.NO_MEMORY, replace(world, is_loaded=True)

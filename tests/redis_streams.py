@@ -136,8 +136,14 @@ def connection(dice: random.Random) -> Words:
         ["CLIENT", "SETNAME", some_name(dice)], ["CLIENT", "GETNAME"], ["CLIENT"], ["CLIENT", "FOO"], ["CLIENT", "SETNAME"],
         ["CLIENT", "ID", "x"], ["AUTH", "x"], ["AUTH"], ["AUTH", "a", "b"], ["AUTH", "default", "b"], ["HELLO", 2, "FOO"],
         ["HELLO", 2, "SETNAME"], ["HELLO", 4], ["HELLO", 1], ["HELLO", "x"], ["RESET"], ["SCRIPT"], ["SCRIPT", "FOO"], ["SCRIPT", "LOAD"],
-        ["CONFIG"], ["CONFIG", "GET"], ["COMMAND", "FOO"], ["CONFIG", "FOO"], ["DBSIZE"], ["DBSIZE", "x"], ["FLUSHALL", "x"],
+        ["CONFIG"], ["CONFIG", "GET"], ["COMMAND", "FOO"], ["CONFIG", "FOO"], ["DBSIZE", "x"], ["FLUSHALL", "x"],
         ["FLUSHDB", "SYNC", "x"], ["KEYS"], ["RANDOMKEY", "x"])))
+
+
+def with_wrong_count(dice: random.Random, name: str, least: int, most: int) -> Words:
+    """This command with words too few or too many, where it takes this many; 99 are as many as you like."""
+    count = dice.randrange(least) if most == 99 or dice.random() < 0.5 else most + dice.randrange(1, 4)
+    return [name, *([b"x"] * count)]
 
 
 def wrong_count(dice: random.Random) -> Words:
@@ -147,8 +153,7 @@ def wrong_count(dice: random.Random) -> Words:
         ("TYPE", 1, 1), ("TTL", 1, 1), ("PTTL", 1, 1), ("INCR", 1, 1), ("DECR", 1, 1), ("INCRBY", 2, 2), ("DECRBY", 2, 2),
         ("GETRANGE", 3, 3), ("SUBSTR", 3, 3), ("SETRANGE", 3, 3), ("MGET", 1, 99), ("MSET", 2, 99), ("DEL", 1, 99), ("UNLINK", 1, 99),
         ("EXISTS", 1, 99), ("TOUCH", 1, 99), ("EVALSHA", 2, 99), ("EVAL", 2, 99)))
-    count = dice.randrange(least) if most == 99 or dice.random() < 0.5 else most + dice.randrange(1, 4)
-    return [name, *([b"x"] * count)]
+    return with_wrong_count(dice, name, least, most)
 
 
 def flush(dice: random.Random) -> Words:
@@ -164,8 +169,6 @@ COMMANDS: list[tuple[int, Maker]] = [
     (4, on_key("GETRANGE", number, number)), (1, on_key("SUBSTR", number, number)), (4, lambda dice: ["MGET", *keys(dice)]), (4, set_each),
     (3, lambda dice: [dice.choice(("DEL", "UNLINK")), *keys(dice)]), (3, lambda dice: [dice.choice(("EXISTS", "TOUCH")), *keys(dice)]),
     (6, connection), (3, wrong_count), (2, unknown), (1, unknown_script), (3, release), (1, faulty_scan), (1, flush)]
-WEIGHTS = [weight for weight, _ in COMMANDS]
-MAKERS = [make for _, make in COMMANDS]
 
 
 def in_any_case(dice: random.Random, name: Word) -> bytes:
@@ -174,9 +177,9 @@ def in_any_case(dice: random.Random, name: Word) -> bytes:
     return dice.choice((text, text, text.lower(), text.swapcase(), text.title()))
 
 
-def some_command(dice: random.Random) -> list[bytes]:
-    """A command."""
-    words = dice.choices(MAKERS, WEIGHTS)[0](dice)
+def some_command(dice: random.Random, commands: list[tuple[int, Maker]]) -> list[bytes]:
+    """One of these commands."""
+    words = dice.choices([make for _, make in commands], [weight for weight, _ in commands])[0](dice)
     return [in_any_case(dice, words[0]), *map(as_word, words[1:])]
 
 

@@ -168,14 +168,14 @@ def free_port() -> int:
 class Redis:
     """A redis-server with one database, and nothing on disk."""
 
-    def __init__(self, options: Sequence[str] = ()) -> None:
+    def __init__(self, options: Sequence[str] = (), environment: dict[str, str] | None = None) -> None:
         self.folder = tempfile.TemporaryDirectory()
         self.address = f"127.0.0.1:{free_port()}"
         self.frames = ""
         words = ["--port", self.address.rpartition(":")[2], "--bind", "127.0.0.1", "--databases", "1", "--save", "", "--appendonly", "no",
                  "--dir", self.folder.name]
         self.process = subprocess.Popen(["redis-server", *words, *options], stdin=subprocess.DEVNULL, stdout=subprocess.DEVNULL,
-                                        stderr=subprocess.DEVNULL)
+                                        stderr=subprocess.DEVNULL, env={**os.environ, **(environment or {})})
         await_port(self.address)
 
     def end(self) -> None:
@@ -226,10 +226,11 @@ class Front:
 
 
 @contextlib.contextmanager
-def started(program: Path, *options: str) -> Iterator[Front | Redis]:
+def started(program: Path, *options: str, environment: dict[str, str] | None = None) -> Iterator[Front | Redis]:
     """A server with these options, which is ended with the block. If the program is redis-server, it has none of them: so a script shows
     that what it wants is what Redis does."""
-    server = Redis() if program.name == "redis-server" else Front(program, options)
+    is_redis = program.name == "redis-server"
+    server = Redis(environment=environment) if is_redis else Front(program, options, environment=environment)
     try:
         yield server
     finally:

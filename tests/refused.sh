@@ -82,6 +82,7 @@ refuse_each map_tests calls::stripes::a_refused_open_can_be_made_again 64
 refuse_each map_tests calls::stripes::a_refused_call_leaves_the_table
 refuse_each map_tests calls::stripes::a_stopped_run_made_the_calls_that_were_replied_to
 refuse_each map_tests calls::stripes::a_refused_scan_leaves_the_table
+refuse_each map_tests calls::timed::a_refused_deadline_leaves_the_entry
 # six calls that would add a key: one request by a list, three by hashed bins and by stripes of them, which try a growth with less
 refuse_between_marks map_tests calls::memory::a_call_that_adds_no_key_asks_for_no_memory 42
 refuse_each map_tests registry::a_refused_program_comes_back

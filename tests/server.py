@@ -8,7 +8,7 @@ import random
 import socket
 import sys
 import time
-from concurrent.futures import ThreadPoolExecutor
+from concurrent.futures import Future, ThreadPoolExecutor
 from pathlib import Path
 
 sys.path.insert(0, str(Path(__file__).resolve().parent))
@@ -204,14 +204,17 @@ def descriptors(address: str) -> None:
 
 
 def fill(client: wire.Client, prefix: bytes) -> list[bytes]:
-    """Puts long values until a hundred were refused for want of memory; the keys of the others."""
+    """Puts long values until a hundred were refused for want of memory, or the session ended since it got none itself; the keys of the others."""
     kept: list[bytes] = []
     refusals = 0
     for count in range(0, 2_000_000, DEPTH):
         names = [prefix + model.spelled(count + place) for place in range(DEPTH)]
-        client.send(*[wire.put(name, name * 16) for name in names])
-        for name in names:
-            answer = client.answer()
+        try:
+            client.send(*[wire.put(name, name * 16) for name in names])
+            answers = [(name, client.answer()) for name in names]
+        except (wire.Ended, OSError):
+            return kept
+        for name, answer in answers:
             if answer == wire.refused(9):
                 refusals += 1
             else:
@@ -222,6 +225,29 @@ def fill(client: wire.Client, prefix: bytes) -> list[bytes]:
     raise Wrong("memory never ran out")
 
 
+def sums_beside(client: wire.Client, program: int, filled: list[Future]) -> tuple[int, int]:
+    """Adds one again and again until the others are done, or the session ended since it got no memory: how many sums were answered, and asked for."""
+    count = 0
+    while not all(future.done() for future in filled):
+        try:
+            answer = client.ask(wire.merge(b"sum", ONE, program))
+        except (wire.Ended, OSError):
+            return count, count + 1
+        count += 1
+        same("a sum beside them", answer, number(count))
+    return count, count
+
+
+def opened_in_time(address: str) -> wire.Client:
+    """A client whose session has begun. It tries for two seconds, since the memory of sessions that ended is free only when the server has seen it."""
+    for _ in range(20):
+        try:
+            return wire.opened(address)
+        except (wire.Ended, OSError):
+            time.sleep(0.1)
+    return wire.opened(address)
+
+
 def memory(address: str) -> None:
     """Two clients put until memory is refused, a third one goes on beside them; all that was answered is found, in a new session."""
     with wire.opened(address) as first, wire.opened(address) as second, wire.opened(address) as third:
@@ -229,13 +255,12 @@ def memory(address: str) -> None:
         program = register_add(third)
         with ThreadPoolExecutor(2) as pool:
             filled = [pool.submit(fill, client, prefix) for client, prefix in ((first, b"1"), (second, b"2"))]
-            count = 0
-            while not all(future.done() for future in filled):
-                count += 1
-                same("a sum beside them", third.ask(wire.merge(b"sum", ONE, program)), number(count))
+            answered, asked = sums_beside(third, program, filled)
         names = filled[0].result() + filled[1].result()
-    with wire.opened(address) as client:
-        same("the sums", client.ask(wire.get(b"sum")), number(count))
+    with opened_in_time(address) as client:
+        sums = client.ask(wire.get(b"sum"))
+        if sums != number(answered):
+            same("the sums", sums, number(asked))
         for begun in range(0, len(names), DEPTH):
             some = names[begun:begun + DEPTH]
             client.send(*map(wire.get, some))
