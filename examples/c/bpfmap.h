@@ -13,6 +13,7 @@
  *     key, old, arg                          windows that may be read: zeros behind the value's own bytes
  *     result                                 the window that may be written, and read where it was written
  *     key_length, old_length, arg_length     bytes of each; -1 for an old value or argument that is absent
+ *     NOW                                    the argument's first 8 bytes: the time, if the caller or the server puts it there
  *
  * It returns NOTHING, or how many of the result's first bytes are the answer. Each of them must have been written.
  *
@@ -93,6 +94,10 @@ DEFINE_ACCESS(8)
 DEFINE_ACCESS(16)
 DEFINE_ACCESS(32)
 DEFINE_ACCESS(64)
+
+/* The time, if the argument begins with it: a script of the Redis port whose first line ends with `with-now` gets the server's time there, in
+ * milliseconds since the epoch, and the argument's own bytes after these eight. A caller may put a time of its own there. */
+#define NOW load64(arg, 0)
 
 /* ---- what keeps the compiler from taking away what the verifier has to see */
 

@@ -12,7 +12,7 @@
 
 PROGRAM
 {
-    u64 now = load64(arg, 0);
+    u64 now = NOW;
     u64 ends = now + load64(arg, 8);
     store64(result, 0, load64(old, 0));
     store64(result, 8, ends < now ? ~0ULL : ends);

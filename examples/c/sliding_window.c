@@ -16,7 +16,7 @@ PROGRAM
     UNROLL
     for (u64 i = 0; i < 72; i += 8)
         store64(result, i, load64(old, i));
-    u64 now = load64(arg, 0);
+    u64 now = NOW;
     u64 count = load64(old, 0);
     u64 place = count;
     MASK(place, 7);

@@ -11,7 +11,7 @@
 
 PROGRAM
 {
-    u64 now = load64(arg, 0);
+    u64 now = NOW;
     u64 wanted = load64(arg, 8);
     u64 tokens = load64(old, 0) + (now - load64(old, 8));
     if (tokens > 10)
