@@ -8,7 +8,6 @@ By hand, after `rt run` in crates/mapd: python3 tests/redis_expiring.py [SECONDS
 redis-server, the clients of the Redis port are alone, without what Redis hasn't. By .ci/run behind the gate."""
 from __future__ import annotations
 
-import argparse
 import contextlib
 import multiprocessing
 import random
@@ -26,15 +25,11 @@ import redis_wire as resp  # noqa: E402
 import sequential as model  # noqa: E402
 import wire  # noqa: E402
 from linear import Event  # noqa: E402
-from redis_linear import Asked, Round  # noqa: E402
+from redis_linear import PROCESSES, Asked, Round, Rounds, events_on  # noqa: E402
 from sequential import Call  # noqa: E402
-from wire import Wrong  # noqa: E402
 
-PROCESSES = 5
 REDIS_CLIENTS, FRAME_CLIENTS = 7, 3
 KEYS = [*plain.KEYS, b"5", b"6", b"7", b"8", b"9"]
-ROUND = 0.4
-OPTIONS = ("--workers", "4", "--stripes", "4")
 # How far ahead a deadline is, in milliseconds, and how far in the past now and then.
 AHEAD, PAST = 40, 3
 MILLISECOND = 1_000_000
@@ -271,52 +266,27 @@ def wrong_rows() -> list[str]:
                        for events in clients]).has_order(None) != wanted]
 
 
-class Torture:
-    """Rounds of calls to one server. Each begins without keys."""
+class Torture(Rounds):
+    """Each round begins without keys."""
+
+    LONGEST = 0.4
 
     def __init__(self, server: resp.Front | resp.Redis, pool: multiprocessing.pool.Pool, seed: int) -> None:
-        self.server = server
-        self.pool = pool
-        self.seed = seed
-        self.made = self.rounds = self.missed = 0
-        self.client = resp.Client(server.address)
-        self.digest = resp.text_of(self.client.ask("SCRIPT", "LOAD", plain.SUM)) if server.frames else b""
+        super().__init__(server, pool, seed, play)
+        self.missed = 0
 
     def round(self, seconds: float) -> None:
-        """Makes calls for this long, and judges what came of them."""
-        until = time.monotonic() + seconds
-        todo = [Round(self.server.address, self.server.frames, self.digest, until, f"{self.seed} {self.rounds} {process}")
-                for process in range(PROCESSES)]
-        players = [events for process in self.pool.map(play, todo, 1) for events in process]
-        histories = [(key, [[event for event in events if event.call.key == key] for events in players]) for key in KEYS]
-        wrong = [line for line in self.pool.map(judged, histories, 1) if line]
-        if wrong:
-            raise Wrong("\n".join(wrong))
+        players = self.played(seconds)
+        self.judge(judged, [(key, events_on(key, players)) for key in KEYS])
         self.client.ask("FLUSHALL")
-        self.made += sum(map(len, players))
         self.missed += sum(event.answer == resp.NOTHING for events in players for event in events)
-        self.rounds += 1
 
 
-def main() -> None:
-    words = argparse.ArgumentParser()
-    words.add_argument("seconds", nargs="?", type=float, default=6)
-    words.add_argument("seed", nargs="?", type=int, default=1)
-    words.add_argument("--program", type=Path, default=wire.SERVER)
-    asked = words.parse_args()
-    if wrong_rows():
-        sys.exit(f"redis_expiring: FAILED, it decides these wrongly: {wrong_rows()}")
-    try:
-        with multiprocessing.Pool(PROCESSES) as pool, resp.started(asked.program, *OPTIONS) as server:
-            torture = Torture(server, pool, asked.seed)
-            until = time.monotonic() + asked.seconds
-            while time.monotonic() < until:
-                torture.round(min(ROUND, asked.seconds))
-        print(f"redis_expiring: {torture.made} events of {PROCESSES * (REDIS_CLIENTS + FRAME_CLIENTS)} clients in {torture.rounds} rounds, "
-              f"{torture.missed} of which found nothing: each key's history is linearizable")
-    except (Wrong, wire.Ended, OSError) as wrong:
-        sys.exit(f"redis_expiring: FAILED, seed {asked.seed}: {type(wrong).__name__}: {wrong}")
+def summary(torture: Torture) -> str:
+    """What was played."""
+    return (f"{torture.made} events of {PROCESSES * (REDIS_CLIENTS + FRAME_CLIENTS)} clients in {torture.rounds} rounds, "
+            f"{torture.missed} of which found nothing: each key's history is linearizable")
 
 
 if __name__ == "__main__":
-    main()
+    plain.play_rounds("redis_expiring", 6, Torture, wrong_rows(), summary)

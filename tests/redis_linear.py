@@ -14,7 +14,7 @@ import multiprocessing
 import random
 import sys
 import time
-from collections.abc import Sequence
+from collections.abc import Callable, Sequence
 from dataclasses import dataclass
 from pathlib import Path
 
@@ -32,7 +32,6 @@ PROCESSES = 5
 # Of each process, by port.
 CLIENTS = 5
 KEYS = [b"", b"Aa", b"BB", b"key 3", b"\xff" * 64]
-ROUND = 1.0
 OPTIONS = ("--workers", "4", "--stripes", "4")
 ADD = model.PROGRAMS[model.ADD]
 # The sum as a script, and its name.
@@ -285,17 +284,53 @@ def judged(history: tuple[bytes, Sequence[Sequence[Event]], Held]) -> str:
     return f"the history of key {key.hex()} has no order: {search.stuck()}"
 
 
-class Torture:
-    """Rounds of calls to one server, and what each key had at the end of the last one."""
+class Rounds:
+    """Rounds of calls to one server by all clients at once, as PLAY makes them in each process. A round is at most LONGEST seconds long."""
 
-    def __init__(self, server: resp.Front | resp.Redis, pool: multiprocessing.pool.Pool, seed: int) -> None:
+    LONGEST = 1.0
+
+    def __init__(self, server: resp.Front | resp.Redis, pool: multiprocessing.pool.Pool, seed: int,
+                 play: Callable[[Round], list[list[Event]]]) -> None:
         self.server = server
         self.pool = pool
         self.seed = seed
-        self.first: dict[bytes, Held] = dict.fromkeys(KEYS)
+        self.play = play
         self.made = self.rounds = 0
         self.client = resp.Client(server.address)
         self.digest = resp.text_of(self.client.ask("SCRIPT", "LOAD", SUM)) if server.frames else b""
+
+    def played(self, seconds: float) -> list[list[Event]]:
+        """Makes calls for this long: the events of each client."""
+        until = time.monotonic() + seconds
+        todo = [Round(self.server.address, self.server.frames, self.digest, until, f"{self.seed} {self.rounds} {process}")
+                for process in range(PROCESSES)]
+        players = [events for process in self.pool.map(self.play, todo, 1) for events in process]
+        self.made += sum(map(len, players))
+        self.rounds += 1
+        return players
+
+    def judge(self, judged: Callable[[object], str], histories: Sequence[object]) -> None:
+        """Fails if one of the histories has no order."""
+        wrong = [line for line in self.pool.map(judged, histories, 1) if line]
+        if wrong:
+            raise Wrong("\n".join(wrong))
+
+    def round(self, seconds: float) -> None:
+        """Makes calls for this long, and judges what came of them."""
+        raise NotImplementedError
+
+
+def events_on(key: bytes, players: list[list[Event]]) -> list[list[Event]]:
+    """Each client's events on this key."""
+    return [[event for event in events if event.call.key == key] for events in players]
+
+
+class Torture(Rounds):
+    """What each key had at the end of the last round is what it has at the beginning of the next."""
+
+    def __init__(self, server: resp.Front | resp.Redis, pool: multiprocessing.pool.Pool, seed: int) -> None:
+        super().__init__(server, pool, seed, play)
+        self.first: dict[bytes, Held] = dict.fromkeys(KEYS)
 
     def left(self) -> dict[bytes, Event]:
         """What each key has now, as an event."""
@@ -304,42 +339,38 @@ class Torture:
         return {key: Event(begun, time.monotonic_ns(), Asked(b"GET", key), answer) for key, answer in answers.items()}
 
     def round(self, seconds: float) -> None:
-        """Makes calls for this long, and judges what came of them."""
-        until = time.monotonic() + seconds
-        todo = [Round(self.server.address, self.server.frames, self.digest, until, f"{self.seed} {self.rounds} {process}")
-                for process in range(PROCESSES)]
-        players = [events for process in self.pool.map(play, todo, 1) for events in process]
+        players = self.played(seconds)
         ends = self.left()
-        histories = [(key, [[event for event in events if event.call.key == key] for events in players] + [[ends[key]]], self.first[key])
-                     for key in KEYS]
-        wrong = [line for line in self.pool.map(judged, histories, 1) if line]
-        if wrong:
-            raise Wrong("\n".join(wrong))
+        self.judge(judged, [(key, [*events_on(key, players), [ends[key]]], self.first[key]) for key in KEYS])
         self.first = {key: None if end.answer == resp.NOTHING else resp.text_of(end.answer) for key, end in ends.items()}
-        self.made += sum(map(len, players))
-        self.rounds += 1
 
 
-def main() -> None:
+def play_rounds(name: str, seconds: float, torture: Callable[..., Rounds], wrong_rows: list[str], summary: Callable[[Rounds], str]) -> None:
+    """Plays rounds for as long as the words say, and tells what came of them. SECONDS is how long without words; WRONG_ROWS must be none."""
     words = argparse.ArgumentParser()
-    words.add_argument("seconds", nargs="?", type=float, default=8)
+    words.add_argument("seconds", nargs="?", type=float, default=seconds)
     words.add_argument("seed", nargs="?", type=int, default=1)
     words.add_argument("--program", type=Path, default=wire.SERVER)
     asked = words.parse_args()
-    if wrong_rows():
-        sys.exit(f"redis_linear: FAILED, it decides these wrongly: {wrong_rows()}")
+    if wrong_rows:
+        sys.exit(f"{name}: FAILED, it decides these wrongly: {wrong_rows}")
     try:
         with multiprocessing.Pool(PROCESSES) as pool, resp.started(asked.program, *OPTIONS) as server:
-            torture = Torture(server, pool, asked.seed)
+            rounds = torture(server, pool, asked.seed)
             until = time.monotonic() + asked.seconds
             while time.monotonic() < until:
-                torture.round(min(ROUND, asked.seconds))
-        clients = PROCESSES * CLIENTS
-        print(f"redis_linear: {torture.made} events of {clients} clients of the Redis port and {clients if server.frames else 0} of the "
-              f"other, on {len(KEYS)} keys in {torture.rounds} rounds, are linearizable")
+                rounds.round(min(rounds.LONGEST, asked.seconds))
+        print(f"{name}: {summary(rounds)}")
     except (Wrong, wire.Ended, OSError) as wrong:
-        sys.exit(f"redis_linear: FAILED, seed {asked.seed}: {wrong}")
+        sys.exit(f"{name}: FAILED, seed {asked.seed}: {type(wrong).__name__}: {wrong}")
+
+
+def summary(torture: Rounds) -> str:
+    """What was played."""
+    clients = PROCESSES * CLIENTS
+    return (f"{torture.made} events of {clients} clients of the Redis port and {clients if torture.server.frames else 0} of the "
+            f"other, on {len(KEYS)} keys in {torture.rounds} rounds, are linearizable")
 
 
 if __name__ == "__main__":
-    main()
+    play_rounds("redis_linear", 8, Torture, wrong_rows(), summary)
