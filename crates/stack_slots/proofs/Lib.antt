@@ -4,3 +4,4 @@ pub mod MarkLemmas
 pub mod FrameLemmas
 pub mod MarkingLemmas
 pub mod LoadLemmas
+pub mod GroupLemmas

@@ -4,3 +4,4 @@ pub mod Offsets
 pub mod Values
 pub mod Accesses
 pub mod Frames
+pub mod Groups

@@ -6,6 +6,8 @@ ghost use Rattle.bpf_model.specs.Memory.{Partial};
 ghost use Rattle.stack_slots.specs.Accesses.{fills_slot};
 ghost use Rattle.stack_slots.specs.Frames.{is_written, spilled_in, DescribesMemory, NoneUnwritten, AreWritten, KeepsMarks, Marks, Spills, DescribesStore, FindsLoaded, Reloads, LoadsNumber, MeetsMarks, JoinsSlots, DescribesMore};
 
+mod kept;
+
 use crate::access::{Access, SLOT_BYTES};
 use crate::loads::loadable;
 use crate::marks::{WORD_BITS, are_marked, keep_common, mark, prefix};
@@ -13,6 +15,7 @@ use crate::reg_value::RegValue;
 use crate::slots::{Slots, copy, forget, join_slots, keep, value_of};
 use bpf_model::Window;
 use bpf_model::limits::{STACK_BYTES, VALUE_BYTES};
+pub use kept::KeptFrame;
 
 /// The result's marks take this many words.
 const RESULT_WORDS: usize = VALUE_BYTES / WORD_BITS;

@@ -7,13 +7,15 @@
 //! and all its bytes are present (`Frame::load`, clause `found`). A join describes what either side describes
 //! (`Frame::join`, clauses `first` and `second`). The bytes of the written prefix are present. And it is exact: which
 //! bytes are marked, which loads are answered, which slots keep a value (clauses `written`, `some`, `slots`,
-//! `greatest`). No call refuses, waits or takes memory. `specs/Frames.antt` says what 'describes' means,
-//! `specs/Values.antt` what 'stands for' means; they hide how a frame is stored.
+//! `greatest`). A `KeptFrame` is a frame in less room: frames that are kept one after the other share the values that
+//! stay the same between them. No call waits, and only `Frame::keep` asks for memory. `specs/Frames.antt` says what
+//! 'describes' means, `specs/Values.antt` what 'stands for' means; they hide how a frame is stored.
 #![tactic(auto)]
 
 mod access;
 mod accesses;
 mod frame;
+mod groups;
 mod loads;
 mod marks;
 mod pointer;
@@ -22,7 +24,7 @@ mod reg_value;
 mod slots;
 
 pub use access::Access;
-pub use frame::Frame;
+pub use frame::{Frame, KeptFrame};
 pub use loads::loadable;
 pub use pointer::Pointer;
 pub use reg_value::RegValue;

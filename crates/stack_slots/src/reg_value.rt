@@ -1,5 +1,5 @@
 //! What is known of a register's word: as a number, and what two such facts have in common.
-ghost use Rattle.std.specs.Prelude.{◌≡◌, ◌≢◌, ℕ, ℤ, Option, Some};
+ghost use Rattle.std.specs.Prelude.{◌≡◌, ◌≢◌, ℕ, ℤ, true, Option, Some};
 ghost use Rattle.bpf_model.specs.declared.window.Window.{Window};
 ghost use Rattle.value_ranges.specs.In.{IsIn};
 ghost use Rattle.stack_slots.specs.Values.{StandsFor, IsAddressRange, IsJoin, IsPointerIn, IsNumberIn};
@@ -55,4 +55,28 @@ impl RegValue {
             _ => RegValue::Number(Range::full()),
         }
     }
+
+    /// Tests whether both values are the same.
+    pub(crate) fn is_same(&self, other: &RegValue) -> bool
+        ensures same { result ≡ true → self.now ≡ other.now }
+    {
+        match (self, other) {
+            (RegValue::Unwritten, RegValue::Unwritten) => true,
+            (RegValue::Number(a), RegValue::Number(b)) => is_same_range(a, b),
+            (RegValue::Pointer(a), RegValue::Pointer(b)) => is_same_pointer(a, b),
+            _ => false,
+        }
+    }
+}
+
+fn is_same_range(a: &Range, b: &Range) -> bool
+    ensures same { result ≡ true → a.now ≡ b.now }
+{
+    a.umin == b.umin && a.umax == b.umax && a.smin == b.smin && a.smax == b.smax
+}
+
+fn is_same_pointer(a: &Pointer, b: &Pointer) -> bool
+    ensures same { result ≡ true → a.now ≡ b.now }
+{
+    a.window == b.window && a.least == b.least && a.greatest == b.greatest
 }

@@ -1,5 +1,5 @@
 //! Values that were spilled to the stack's slots.
-ghost use Rattle.std.specs.Prelude.{◌≡◌, ◌≤◌, ◌<◌, ◌&&◌, ℕ, Some, None, length, nat_eq, nat_le, nat_lt, slice_index_or, if◌then◌else◌};
+ghost use Rattle.std.specs.Prelude.{◌≡◌, ◌≤◌, ◌<◌, ◌&&◌, ℕ, true, Some, None, length, nat_eq, nat_le, nat_lt, slice_index_or, if◌then◌else◌};
 ghost use Rattle.stack_slots.specs.declared.access.TheConstants.{SLOTS as SlotCount};
 ghost use Rattle.stack_slots.specs.Frames.{IsSlotJoin, slot_in};
 
@@ -21,7 +21,7 @@ pub(crate) fn copy(slots: &mut Slots, other: &Slots)
 }
 
 /// Forgets all values. Writing `None` writes all the room of the values, so it's done only if there are some.
-fn forget_all(slots: &mut Slots)
+pub(crate) fn forget_all(slots: &mut Slots)
     ensures value { slots.new ≡ None }
 {
     if slots.is_some() {
@@ -92,7 +92,7 @@ pub(crate) fn join_slots(slots: &mut Slots, other: &Slots)
     }
 }
 
-fn join_each(slots: &mut [Option<RegValue>], other: &[Option<RegValue>])
+pub(crate) fn join_each(slots: &mut [Option<RegValue>], other: &[Option<RegValue>])
     requires same { length slots.old ≡ length other.now }
     ensures exact { (i : ℕ) → IsSlotJoin (slice_index_or slots.old i None)
         (slice_index_or other.now i None) (slice_index_or slots.new i None) }
@@ -110,5 +110,28 @@ fn joined(slot: &Option<RegValue>, other: &Option<RegValue>) -> Option<RegValue>
     match (slot, other) {
         (Some(a), Some(b)) => Some(a.join(b)),
         _ => None,
+    }
+}
+
+/// Tests whether both have the same values.
+pub(crate) fn is_each_same(slots: &[Option<RegValue>], other: &[Option<RegValue>]) -> bool
+    requires same { length slots.now ≡ length other.now }
+    ensures same { result ≡ true → slots.now ≡ other.now }
+{
+    for (index, slot) in slots.iter().enumerate() {
+        if !is_same_slot(slot, &other[index]) {
+            return false;
+        }
+    }
+    true
+}
+
+fn is_same_slot(slot: &Option<RegValue>, other: &Option<RegValue>) -> bool
+    ensures same { result ≡ true → slot.now ≡ other.now }
+{
+    match (slot, other) {
+        (Some(a), Some(b)) => a.is_same(b),
+        (None, None) => true,
+        _ => false,
     }
 }

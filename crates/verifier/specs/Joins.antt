@@ -4,7 +4,8 @@ use Rattle.bpf_model.specs.declared.window.Window.{Window}
 use Rattle.stack_slots.specs.declared.reg_value.RegValue.{RegValue}
 use Rattle.stack_slots.specs.declared.reg_value.RegValue.TheVariants.{Unwritten}
 use Rattle.stack_slots.specs.Values.{IsJoin, IsPointerIn, IsNumberIn}
-use Rattle.stack_slots.specs.Frames.{is_written, NoneUnwritten, MeetsMarks, JoinsSlots}
+use Rattle.stack_slots.specs.declared.frame.Frame.{Frame}
+use Rattle.stack_slots.specs.Frames.{is_written, NoneUnwritten, MeetsMarks, JoinsSlots, DescribesMore}
 use Rattle.verifier.specs.declared.abstract_state.AbstractState.{AbstractState}
 
 -- the value of a register; registers above r10 don't exist and read as Unwritten
@@ -31,3 +32,10 @@ pub record KeepsCommon (a b c : AbstractState) : Type 0 where
   pub number : (r : ℕ) (lo hi : ℤ) → IsNumberIn lo hi (register a r) → IsNumberIn lo hi (register b r) → IsNumberIn lo hi (register c r)
   pub marks : (w : Window) (j : ℕ) → is_written a.frame w j ≡ true → is_written b.frame w j ≡ true → is_written c.frame w j ≡ true
   pub spills : NoneUnwritten a.frame → NoneUnwritten b.frame → NoneUnwritten c.frame
+
+-- the third frame describes what either of the others does, and knows what both of them know
+pub record JoinsFrames (f g h : Frame) : Type 0 where
+  pub first : DescribesMore f h
+  pub second : DescribesMore g h
+  pub marks : MeetsMarks f g h
+  pub values : NoneUnwritten f → NoneUnwritten g → NoneUnwritten h

@@ -11,6 +11,7 @@ ghost use Rattle.verifier.specs.Windows.{LiesIn, window_of};
 mod accesses;
 mod branches;
 mod entry;
+mod kept;
 mod registers;
 mod span;
 
@@ -18,6 +19,8 @@ use crate::arithmetic::{moved, operate};
 use crate::fault::StepFault;
 use bpf_model::{AluOp, ByteOrder, Insn, Operand, Reg, SignExtension, Sizes, SwapWidth, Width};
 pub use branches::{Operands, Side};
+pub use kept::KeptState;
+pub(crate) use kept::shared;
 use stack_slots::{Frame, RegValue};
 use value_ranges::{Range, negate, reorder, sign_extend};
 
@@ -51,14 +54,6 @@ impl AbstractState {
             registers: self.registers,
             frame: self.frame.copied(),
         }
-    }
-
-    /// Becomes a copy of another state, in place. Takes no memory.
-    pub(crate) fn copy_from(&mut self, other: &AbstractState)
-        ensures value { self.new ≡ other.now }
-    {
-        self.registers = other.registers;
-        self.frame.copy_from(&other.frame);
     }
 
     /// Checks an instruction after which a run goes on at the next one, and becomes the state there. Faults are checked

@@ -3,9 +3,9 @@ ghost use Rattle.std.specs.Prelude.{◌≡◌, ◌≢◌, ℕ, IsOk, IfOk, lengt
 ghost use Rattle.bpf_model.specs.declared.instruction.Operand.TheVariants.{Register as TheRegister};
 ghost use Rattle.stack_slots.specs.declared.reg_value.RegValue.TheVariants.{Unwritten};
 ghost use Rattle.value_ranges.specs.In.{AreInSome, KeepsPairs};
-ghost use Rattle.verifier.specs.Describes.{lies_on, Assumes, Narrows, Includes};
+ghost use Rattle.verifier.specs.Describes.{lies_on, Assumes, Narrows};
 ghost use Rattle.stack_slots.specs.Values.{IsJoin};
-ghost use Rattle.verifier.specs.Joins.{register as known, JoinsStates, KeepsCommon};
+ghost use Rattle.verifier.specs.Joins.{register as known};
 ghost use Rattle.verifier.specs.Changes.{second_register, KeepsOthers, OnlyNarrows};
 
 use super::AbstractState;
@@ -94,17 +94,6 @@ impl AbstractState {
             *value = RegValue::Number(range);
         }
     }
-
-    /// Becomes a state that describes whatever this one or the other describes.
-    pub(crate) fn join(&mut self, other: &AbstractState)
-        ensures first { Includes self.old self.new }
-        ensures second { Includes other.now self.new }
-        ensures exact { JoinsStates self.old other.now self.new }
-        ensures keeps { KeepsCommon self.old other.now self.new }
-    {
-        join_registers(&mut self.registers, &other.registers);
-        self.frame.join_with(&other.frame);
-    }
 }
 
 /// the register of the second operand, or that of the first if the second isn't a register
@@ -142,7 +131,7 @@ fn either(one: Option<(Range, Range)>, other: Option<(Range, Range)>) -> Option<
     }
 }
 
-fn join_registers(registers: &mut [RegValue], others: &[RegValue])
+pub(super) fn join_registers(registers: &mut [RegValue], others: &[RegValue])
     requires same_length { length registers.old ≡ length others.now }
     ensures joins { (r : ℕ) → IsJoin (slice_index_or registers.old r Unwritten)
         (slice_index_or others.now r Unwritten) (slice_index_or registers.new r Unwritten) }

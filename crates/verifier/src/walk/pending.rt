@@ -2,17 +2,21 @@
 ghost use Rattle.std.specs.Prelude.{◌≡◌, ◌≢◌, ◌<◌, ℕ, Some, None, IfOk, OnOk, vec_len};
 ghost use Rattle.verifier.specs.Walks.{boxed, kept_at, IncludesSome, MeetsKnown};
 
-use crate::abstract_state::AbstractState;
+use crate::abstract_state::{AbstractState, KeptState, shared};
+use stack_slots::KeptFrame;
 use std::alloc::{AllocError, Global};
+use std::rc::Rc;
 
 /// The states at units that some jump leads to and that the walk hasn't reached yet.
 #[derive(Drop)]
 pub struct Pending {
     alloc: Global,
     // by unit, up to the greatest one that a jump led to so far
-    states: Vec<Option<Box<AbstractState>>>,
+    states: Vec<Option<Box<KeptState>>>,
     // the box of a state that is no longer needed, for the next one
-    spare: Option<Box<AbstractState>>,
+    spare: Option<Box<KeptState>>,
+    // the frame of the last state: the next one shares it if it has the same
+    last: Option<Rc<KeptFrame>>,
 }
 
 impl Pending {
@@ -24,11 +28,12 @@ impl Pending {
             alloc,
             states: Vec::new(alloc),
             spare: None,
+            last: None,
         }
     }
 
     /// Removes and returns the state that is kept for a unit.
-    pub fn take(&mut self, unit: usize) -> Option<Box<AbstractState>>
+    pub fn take(&mut self, unit: usize) -> Option<Box<KeptState>>
         ensures value { boxed result ≡ kept_at self.old unit }
         ensures empty { kept_at self.new unit ≡ None }
         ensures others { (other : ℕ) → other ≢ unit
@@ -42,7 +47,7 @@ impl Pending {
     }
 
     /// Takes back what `take` returned, to use its box again.
-    pub fn give_back(&mut self, kept: Option<Box<AbstractState>>)
+    pub fn give_back(&mut self, kept: Option<Box<KeptState>>)
         ensures same { (unit : ℕ) → kept_at self.new unit ≡ kept_at self.old unit }
     {
         if kept.is_some() {
@@ -62,7 +67,7 @@ impl Pending {
     {
         self.reach(unit)?;
         if let Some(kept) = &mut self.states[unit] {
-            kept.join(state);
+            kept.join(self.alloc, state)?;
             return Ok(());
         }
         let copy = self.boxed(state)?;
@@ -70,17 +75,19 @@ impl Pending {
         Ok(())
     }
 
-    /// a copy of the state, in the spare box if there is one
-    fn boxed(&mut self, state: &AbstractState) -> Result<Box<AbstractState>, AllocError>
-        ensures value { IfOk result (λ copy. copy.value ≡ state.now) }
+    /// keeps a state, in the spare box if there is one
+    fn boxed(&mut self, state: &AbstractState) -> Result<Box<KeptState>, AllocError>
+        ensures value { IfOk result (λ kept. kept.value ≡ state.now) }
         ensures same { self.new.states ≡ self.old.states }
     {
+        let frame = shared(self.alloc, state.frame(), &self.last)?;
+        self.last = Some(frame.clone()?);
         match self.spare.take() {
             Some(mut room) => {
-                room.copy_from(state);
+                room.replace(state, frame);
                 Ok(room)
             }
-            None => Ok(Box::new(self.alloc, state.copied())?),
+            None => Ok(Box::new(self.alloc, KeptState::new(state, frame))?),
         }
     }
 

@@ -1,37 +1,38 @@
-use Rattle.std.proofs.Common.{◌∙◌, refl, sym, arith}
-use Rattle.std.proofs.lemmas.Bool.{and_parts}
-use Rattle.bpf_model.specs.declared.window.Window.TheVariants.{Result}
-use Rattle.stack_slots.specs.Frames.{is_written}
-use Rattle.stack_slots.proofs.ValueLemmas.{join_first, join_second, join_value, join_pointer, join_number}
+use Rattle.std.proofs.Common.{subst, arith}
+use Rattle.stack_slots.specs.declared.frame.Frame.{Frame}
 use Rattle.verifier.specs.declared.abstract_state.AbstractState.{AbstractState}
-use Rattle.verifier.specs.Joins.{register}
-use Rattle.verifier.proofs.JoinLemmas.{joins_describes}
+use Rattle.verifier.specs.Describes.{Includes}
+use Rattle.verifier.specs.Joins.{JoinsStates, JoinsFrames, KeepsCommon}
+use Rattle.verifier.proofs.JoinLemmas.{joins_first, joins_second, joins_keep}
 use Rattle.verifier.proofs.abstract_state.AbstractState.join.Goals as goal
 
 pub returns-clause-first : goal.returns-clause-first
-returns-clause-first c = λ sizes s d.
-    let a = c.args.self.now in
-    let b = c.args.other.now in
-    let joined : AbstractState = record { registers = c.join_registers.new.registers; frame = c.join_with.new.self } in
-    joins_describes a joined sizes s (omega arith) (λ r o. join_first (register a r) (register b r) (register joined r) o (c.join_registers.ensures.joins r)) c.join_with.ensures.first (λ i e. (and_parts (is_written a.frame Result i) (is_written b.frame Result i) (sym (c.join_with.ensures.marks Result i) ∙ e)).0) d
+returns-clause-first c =
+    let kept : AbstractState = record { registers = c.kept.inside.registers; frame = c.kept.inside.frame.value } in
+    let joined : AbstractState = record { registers = c.join_registers.new.registers; frame = c.join_frames.new.frame } in
+    let e = c.join_frames.ensures in
+    let frames : JoinsFrames c.args.self.now.frame kept.frame joined.frame = subst (λ (g : Frame). JoinsFrames c.args.self.now.frame g joined.frame) c.deref.ensures e.joins in
+    joins_first c.args.self.now kept joined (omega arith) c.join_registers.ensures.joins frames
 
 pub returns-clause-second : goal.returns-clause-second
-returns-clause-second c = λ sizes s d.
-    let a = c.args.self.now in
-    let b = c.args.other.now in
-    let joined : AbstractState = record { registers = c.join_registers.new.registers; frame = c.join_with.new.self } in
-    joins_describes b joined sizes s (omega arith) (λ r o. join_second (register a r) (register b r) (register joined r) o (c.join_registers.ensures.joins r)) c.join_with.ensures.second (λ i e. (and_parts (is_written a.frame Result i) (is_written b.frame Result i) (sym (c.join_with.ensures.marks Result i) ∙ e)).1) d
+returns-clause-second c =
+    let kept : AbstractState = record { registers = c.kept.inside.registers; frame = c.kept.inside.frame.value } in
+    let joined : AbstractState = record { registers = c.join_registers.new.registers; frame = c.join_frames.new.frame } in
+    let e = c.join_frames.ensures in
+    let frames : JoinsFrames c.args.self.now.frame kept.frame joined.frame = subst (λ (g : Frame). JoinsFrames c.args.self.now.frame g joined.frame) c.deref.ensures e.joins in
+    subst (λ (k : AbstractState). Includes k joined) c.kept.view_is (joins_second c.args.self.now kept joined (omega arith) c.join_registers.ensures.joins frames)
+
+pub returns-clause-exact : goal.returns-clause-exact
+returns-clause-exact c =
+    let kept : AbstractState = record { registers = c.kept.inside.registers; frame = c.kept.inside.frame.value } in
+    let joined : AbstractState = record { registers = c.join_registers.new.registers; frame = c.join_frames.new.frame } in
+    let e = c.join_frames.ensures in
+    subst (λ (k : AbstractState). JoinsStates c.args.self.now k joined) c.kept.view_is (record { registers = c.join_registers.ensures.joins; marks = rw c.deref.ensures at e.joins.marks; slots = rw c.deref.ensures at e.slots })
 
 pub returns-clause-keeps : goal.returns-clause-keeps
 returns-clause-keeps c =
-    let a = c.args.self.now in
-    let b = c.args.other.now in
-    let joined : AbstractState = record { registers = c.join_registers.new.registers; frame = c.join_with.new.self } in
-    let joins = c.join_registers.ensures.joins in
-    record {
-      value = λ r. join_value (register a r) (register b r) (register joined r) (joins r);
-      pointer = λ r w lo hi. join_pointer (register a r) (register b r) (register joined r) w lo hi (joins r);
-      number = λ r lo hi. join_number (register a r) (register b r) (register joined r) lo hi (joins r);
-      marks = λ w j first second. c.join_with.ensures.marks w j ∙ rw (first, second) refl;
-      spills = c.join_with.ensures.values;
-    }
+    let kept : AbstractState = record { registers = c.kept.inside.registers; frame = c.kept.inside.frame.value } in
+    let joined : AbstractState = record { registers = c.join_registers.new.registers; frame = c.join_frames.new.frame } in
+    let e = c.join_frames.ensures in
+    let frames : JoinsFrames c.args.self.now.frame kept.frame joined.frame = subst (λ (g : Frame). JoinsFrames c.args.self.now.frame g joined.frame) c.deref.ensures e.joins in
+    subst (λ (k : AbstractState). KeepsCommon c.args.self.now k joined) c.kept.view_is (joins_keep c.args.self.now kept joined c.join_registers.ensures.joins frames)
