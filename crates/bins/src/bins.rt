@@ -8,6 +8,7 @@ use crate::counts::Counts;
 use crate::entry_list::EntryList;
 use crate::hashes::HashedKey;
 use crate::mixing::Seed;
+use crate::opening::Opening;
 use crate::sorted_entries::sorted_copies;
 use bpf_model::limits::VALUE_BYTES;
 use bpf_model::{Key, NoMemory, Value};
@@ -26,13 +27,20 @@ pub trait Bins {
     fn open(alloc: Global, stripes: u64) -> Result<Self, NoMemory>
         ensures ok { IfOk result (λ bins. table bins ≡ map.empty) };
 
-    /// Does the same as `open`, for bins that hash keys by this seed if they hash them at all. If you don't know the seed,
-    /// you can't choose keys that are slow to find. Returns `NoMemory` if a request for memory is refused.
+    /// Does the same as `open`, for bins that hash keys by the opening's seed and keep to its budget, if they hash keys and
+    /// keep to a budget at all. Returns `NoMemory` if a request for memory is refused.
+    fn open_with(alloc: Global, stripes: u64, opening: &Opening) -> Result<Self, NoMemory>
+        ensures ok { IfOk result (λ bins. table bins ≡ map.empty) }
+    {
+        let _ = opening;
+        Self::open(alloc, stripes)
+    }
+
+    /// Does the same as `open_with`, by this seed and without a budget.
     fn open_seeded(alloc: Global, stripes: u64, seed: Seed) -> Result<Self, NoMemory>
         ensures ok { IfOk result (λ bins. table bins ≡ map.empty) }
     {
-        let _ = seed;
-        Self::open(alloc, stripes)
+        Self::open_with(alloc, stripes, &Opening::seeded(seed))
     }
 
     /// Returns the bytes of a key's value. Takes no memory.

@@ -15,6 +15,10 @@ use std::alloc::Global;
 
 /// The number of bins at first.
 pub const FIRST_HEADS: usize = 8;
+/// What room for a position takes.
+const RECORD_BYTES: usize = 16;
+/// What room for a bin takes.
+const HEAD_BYTES: usize = 8;
 /// If there are at most this many bins, their memory is kept when the last position goes.
 const KEPT_HEADS: usize = 1_024;
 /// From this number on no bins are added: no memory has room for that many.
@@ -87,6 +91,30 @@ impl Chains {
         ensures value { result ≡ length self.now.records.hashes }
     {
         self.records.len()
+    }
+
+    /// Returns how many bytes the positions and bins that have room take.
+    pub fn bytes(&self) -> usize {
+        let records = self.records.capacity().saturating_mul(RECORD_BYTES);
+        let heads = self.heads.capacity().saturating_mul(HEAD_BYTES);
+        records.saturating_add(heads)
+    }
+
+    /// Returns whether one more position has no room. Takes no memory.
+    #[inline(always)]
+    pub fn is_full(&self) -> bool {
+        self.records.len() >= self.records.capacity()
+    }
+
+    /// Makes room for this many more positions, and as many bins. Returns `NoMemory` if a request for it is refused.
+    pub fn reserve(&mut self, more: usize) -> Result<(), NoMemory>
+        requires chained { AreChained self.old }
+        ensures chained { AreChained self.new }
+        ensures hashes { self.new.records.hashes ≡ self.old.records.hashes }
+    {
+        self.records.reserve(more)?;
+        self.heads.try_reserve_exact(more)?;
+        Ok(())
     }
 
     /// Returns how many positions the chain of the last one has. Takes no memory.

@@ -150,6 +150,35 @@ impl Finder {
         }
     }
 
+    /// Returns how many bytes it takes: what the lists of an index have room for, or the nodes of a tree, at most.
+    pub(crate) fn bytes(&self, rows: &Rows) -> usize {
+        match self {
+            Finder::Hashes(index) => index.bytes(),
+            Finder::Keys(_) => Tree::bytes_for(rows),
+        }
+    }
+
+    /// Returns whether one more key needs memory. Takes none.
+    #[inline(always)]
+    pub(crate) fn is_full(&self) -> bool {
+        match self {
+            Finder::Hashes(index) => index.is_full(),
+            Finder::Keys(_) => true,
+        }
+    }
+
+    /// Makes room for one more key, and for at most this many further ones. Returns `NoMemory` if a request for it is
+    /// refused.
+    pub(crate) fn reserve_some(&mut self, rows: &Rows, further: usize) -> Result<(), NoMemory>
+        requires finds { Finds self.old rows.now.keys }
+        ensures finds { Finds self.new rows.now.keys }
+    {
+        match self {
+            Finder::Hashes(index) if index.is_full() => index.reserve_some(further),
+            _ => Ok(()),
+        }
+    }
+
     /// Where a key is found: one reading of its row compares the key and gives the value. Takes no memory.
     #[inline(always)]
     pub(crate) fn found<'a>(&self, rows: &'a Rows, key: &HashedKey<'_>) -> Option<Found<'a>>
@@ -238,13 +267,15 @@ impl Finder {
         }
     }
 
-    /// Returns the other way to find the keys. Returns `NoMemory` if a request for memory is refused.
-    fn other(&self, rows: &Rows) -> Result<Finder, NoMemory>
+    /// Returns the other way to find the keys. Returns `NoMemory` if a request for memory is refused, or if a tree may take
+    /// more than `left` bytes.
+    fn other(&self, rows: &Rows, left: usize) -> Result<Finder, NoMemory>
         requires finds { Finds self.now rows.now.keys }
         requires once { StandOnce rows.now.keys }
         ensures finds { IfOk result (λ finder. Finds finder rows.now.keys) }
     {
         match self {
+            Finder::Hashes(_) if Tree::bytes_for(rows) > left => Err(NoMemory),
             Finder::Hashes(index) => Ok(Finder::Keys(Tree::of(index, rows)?)),
             Finder::Keys(tree) => Ok(Finder::Hashes(tree.index(rows)?)),
         }
@@ -252,27 +283,27 @@ impl Finder {
 
     /// Finds the keys the other way, if there is memory for it.
     #[cold]
-    fn change(&mut self, rows: &Rows)
+    fn change(&mut self, rows: &Rows, left: usize)
         requires finds { Finds self.old rows.now.keys }
         requires once { StandOnce rows.now.keys }
         ensures finds { Finds self.new rows.now.keys }
     {
-        if let Ok(other) = self.other(rows) {
+        if let Ok(other) = self.other(rows, left) {
             *self = other;
         }
     }
 
     /// Looks at the chain that the last key was added to. Once chains have become long, takes a tree instead of the index;
     /// once there are far fewer or more keys, an index by another seed instead of the tree. Does so if memory for it is
-    /// granted.
+    /// granted, and a tree takes at most `left` bytes.
     #[inline(always)]
-    pub(crate) fn settle(&mut self, rows: &Rows)
+    pub(crate) fn settle(&mut self, rows: &Rows, left: usize)
         requires finds { Finds self.old rows.now.keys }
         requires once { StandOnce rows.now.keys }
         ensures finds { Finds self.new rows.now.keys }
     {
         if self.is_due(rows) {
-            self.change(rows);
+            self.change(rows, left);
         }
     }
 }

@@ -137,6 +137,26 @@ impl Index {
         Ok(())
     }
 
+    /// Returns how many bytes the hashes and bins that have room take.
+    pub fn bytes(&self) -> usize {
+        self.chains.bytes()
+    }
+
+    /// Returns whether one more hash has no room. Takes no memory.
+    #[inline(always)]
+    pub fn is_full(&self) -> bool {
+        self.chains.is_full()
+    }
+
+    /// Makes room for one more hash, and for at most this many further ones, but not more than twice the hashes. Returns
+    /// `NoMemory` if a request for it is refused.
+    pub fn reserve_some(&mut self, further: usize) -> Result<(), NoMemory>
+        ensures same { self.new ≡ self.old }
+    {
+        let more = further.min(self.chains.len()).saturating_add(1);
+        self.chains.reserve(more)
+    }
+
     /// Removes the hash at a position; the last hash takes that position. Takes no memory.
     pub fn swap_remove(&mut self, position: usize)
         requires { position < length self.old.hashes }

@@ -15,6 +15,10 @@ use std::alloc::Global;
 
 /// The number of widths.
 pub const WIDTHS: usize = 17;
+/// What an untouched segment takes: the allocator writes before it, into one page.
+const SEGMENT_HEAD: usize = 4_096;
+/// What room for a location takes, with its share of the lists of segments.
+const LOCATION_BYTES: usize = 10;
 
 /// The locations of rows, and the rows.
 #[derive(Drop)]
@@ -23,6 +27,8 @@ pub(crate) struct RawRows {
     widths: Vec<WidthRows>,
     free: Vec<Segment>,
     room: usize,
+    // The bytes of segments that were touched so far, and a page for each segment.
+    touched: usize,
 }
 
 /// Makes lists for the rows of each width. The numbers are the fewest and the most bytes of a key and a value together; a
@@ -118,6 +124,18 @@ fn add_segments(free: &mut Vec<Segment>, used: usize, wanted: usize) -> Result<(
     Ok(())
 }
 
+/// Returns what the segments after the first `kept` take.
+fn touched_past(free: &[Segment], kept: usize) -> usize {
+    let mut bytes: usize = 0;
+    for at in kept..free.len() {
+        let segment = &free[at];
+        bytes = bytes
+            .saturating_add(SEGMENT_HEAD)
+            .saturating_add(segment.touched());
+    }
+    bytes
+}
+
 impl RawRows {
     /// Makes a list without rows.
     pub(crate) fn new(alloc: Global) -> RawRows
@@ -130,7 +148,34 @@ impl RawRows {
             widths: Vec::new(alloc),
             free: Vec::new(alloc),
             room: 0,
+            touched: 0,
         }
+    }
+
+    /// Returns how many bytes were asked for and may be touched: the room of the list of locations, and those bytes of
+    /// segments that were touched so far.
+    pub(crate) fn bytes(&self) -> usize {
+        let listed = self.locations.capacity().saturating_mul(LOCATION_BYTES);
+        self.touched.saturating_add(listed)
+    }
+
+    /// Returns how many bytes a new row of this many for key and value would touch first.
+    pub(crate) fn untouched(&self, bytes: usize) -> usize
+        requires room { IsRoomy self.now }
+        requires fits { bytes ≤ KEY_BYTES + VALUE_BYTES }
+    {
+        if self.widths.is_empty() {
+            return SEGMENT_HEAD;
+        }
+        let width = self.width_of(bytes);
+        let rows = &self.widths[width.step];
+        rows.untouched(&self.free)
+    }
+
+    /// Returns whether one more position has no room.
+    #[inline(always)]
+    pub(crate) fn is_full(&self) -> bool {
+        self.locations.len() >= self.room
     }
 
     /// Returns the number of positions.
@@ -201,7 +246,8 @@ impl RawRows {
         ensures same { self.new.room ≡ self.old.room }
     {
         let rows = &mut self.widths[width.step];
-        rows.push(&mut self.free, owner, key, value);
+        let touched = rows.push(&mut self.free, owner, key, value);
+        self.touched = self.touched.saturating_add(touched);
     }
 
     /// Removes a row; the last one of its width takes the gap. Returns the owner of the last one.
@@ -503,6 +549,23 @@ impl RawRows {
         }
     }
 
+    /// Makes room for one more position if there is none, and for at most this many further ones. Returns `NoMemory` if a
+    /// request for it is refused.
+    pub(crate) fn reserve_some(&mut self, further: usize) -> Result<(), NoMemory>
+        requires room { IsRoomy self.old }
+        requires few { length self.old.locations.items < MOST_ROWS }
+        ensures locations { self.new.locations.items ≡ self.old.locations.items }
+        ensures rows { lists_in self.new ≡ lists_in self.old }
+        ensures room { IsRoomy self.new }
+    {
+        let many = self.locations.len() + 1;
+        if many <= self.room {
+            return Ok(());
+        }
+        let more = further.min(many / 8);
+        self.grow((many + more).min(MOST_ROWS))
+    }
+
     /// Makes room for this many positions. Returns `NoMemory` if a request for it is refused.
     fn grow(&mut self, many: usize) -> Result<(), NoMemory>
         requires room { IsRoomy self.old }
@@ -515,10 +578,15 @@ impl RawRows {
         ensures room { IsRoomy self.new }
     {
         self.open()?;
-        self.locations.try_reserve(many - self.locations.len())?;
+        self.locations
+            .try_reserve_exact(many - self.locations.len())?;
         widen(&mut self.widths, many)?;
         let used = count_used(&self.widths);
-        add_segments(&mut self.free, used, wanted_for(many))?;
+        let free = self.free.len();
+        let added = add_segments(&mut self.free, used, wanted_for(many));
+        let heads = (self.free.len() - free).saturating_mul(SEGMENT_HEAD);
+        self.touched = self.touched.saturating_add(heads);
+        added?;
         self.room = many;
         Ok(())
     }
@@ -563,7 +631,9 @@ impl RawRows {
         let few = self.locations.len();
         let room = (few + few / 8).min(self.room);
         let used = count_used(&self.widths);
-        self.free.truncate(wanted_for(room).saturating_sub(used));
+        let kept = wanted_for(room).saturating_sub(used);
+        self.touched = self.touched.saturating_sub(touched_past(&self.free, kept));
+        self.free.truncate(kept);
         self.locations.shrink_to(room);
         self.room = room;
     }

@@ -100,6 +100,19 @@ impl Records {
         Ok(())
     }
 
+    /// Returns how many positions have room. Takes no memory.
+    pub fn capacity(&self) -> usize {
+        self.list.capacity()
+    }
+
+    /// Makes room for this many more positions. Returns `NoMemory` if the request for it is refused.
+    pub fn reserve(&mut self, more: usize) -> Result<(), NoMemory>
+        ensures same { self.new ≡ self.old }
+    {
+        self.list.try_reserve_exact(more)?;
+        Ok(())
+    }
+
     /// Removes the last position. Takes no memory.
     pub fn remove_last(&mut self)
         ensures hashes { self.new.hashes ≡ take (length self.old.hashes - 1) self.old.hashes }

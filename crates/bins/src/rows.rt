@@ -107,6 +107,36 @@ impl Rows {
         self.raw.reserve(more)
     }
 
+    /// Returns how many bytes they take: those of segments that were touched so far, and what lists have room for.
+    pub(crate) fn bytes(&self) -> usize {
+        self.raw.bytes()
+    }
+
+    /// Returns how many bytes a new row of this many for key and value would touch first.
+    pub(crate) fn untouched(&self, bytes: usize) -> usize
+        requires { bytes ≤ KEY_BYTES + VALUE_BYTES }
+    {
+        self.raw.untouched(bytes)
+    }
+
+    /// Returns whether one more entry has no room. Takes no memory.
+    #[inline(always)]
+    pub(crate) fn is_full(&self) -> bool {
+        self.raw.is_full()
+    }
+
+    /// Makes room for one more entry if there is none, and for at most this many further ones. Returns `NoMemory` if a
+    /// request for it is refused, or if there would be more than `MOST_ROWS`.
+    pub(crate) fn reserve_some(&mut self, further: usize) -> Result<(), NoMemory>
+        ensures keys { self.new.keys ≡ self.old.keys }
+        ensures values { self.new.values ≡ self.old.values }
+    {
+        if self.raw.len() >= MOST_ROWS {
+            return Err(NoMemory);
+        }
+        self.raw.reserve_some(further)
+    }
+
     /// Sets the value at a position. Takes no memory.
     #[inline(always)]
     pub(crate) fn set_value(&mut self, position: usize, bytes: &[u8])

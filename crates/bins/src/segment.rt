@@ -46,20 +46,32 @@ impl Segment {
         &self.bytes[start..start + stride]
     }
 
-    /// Makes it at least this many bytes long; new bytes are zero.
+    /// Returns how many of its bytes were touched so far.
+    pub(crate) fn touched(&self) -> usize {
+        self.bytes.len()
+    }
+
+    /// Returns how many bytes up to this end were not touched yet.
+    pub(crate) fn untouched(&self, end: usize) -> usize {
+        end.saturating_sub(self.bytes.len())
+    }
+
+    /// Makes it at least this many bytes long; new bytes are zero. Returns how many are new.
     #[inline(always)]
-    fn reach(&mut self, end: usize)
+    fn reach(&mut self, end: usize) -> usize
         requires { end ≤ SEGMENT_BYTES }
         ensures enough { end ≤ length self.new }
         ensures all { KeepsAll self.old self.new }
     {
+        let more = self.untouched(end);
         if self.bytes.len() < end {
             let grown = self.bytes.resize(end, 0);
             prove!(grown.is_ok());
         }
+        more
     }
 
-    /// Writes a row of this many bytes.
+    /// Writes a row of this many bytes. Returns how many bytes of the segment it touched first.
     #[inline(always)]
     pub(crate) fn write(
         &mut self,
@@ -68,7 +80,7 @@ impl Segment {
         owner: usize,
         key: &[u8],
         value: &[u8],
-    )
+    ) -> usize
         requires range { start + stride ≤ SEGMENT_BYTES }
         requires fit { HEAD_BYTES + length key.now + length value.now ≤ stride }
         requires key { length key.now ≤ KEY_BYTES }
@@ -77,8 +89,9 @@ impl Segment {
         ensures row { row_in (part self.new start stride) ≡ kept key.now value.now owner }
         ensures others { KeepsOthers start stride self.old self.new }
     {
-        self.reach(start + stride);
+        let touched = self.reach(start + stride);
         write(&mut self.bytes[start..start + stride], owner, key, value);
+        touched
     }
 
     /// Sets the value of a row.

@@ -71,6 +71,9 @@ fn move_position(positions: &mut BTreeMap<Key, usize>, key: &Key, position: usiz
     }
 }
 
+/// What a key takes in a tree, at most.
+const KEY_TREE_BYTES: usize = 160;
+
 /// Returns whether a tree of `made_with` keys is to be left: there are half as many keys now, or twice as many.
 fn is_far_from(made_with: usize, keys: usize) -> bool {
     keys <= made_with / 2 || keys / 2 >= made_with
@@ -98,6 +101,11 @@ impl Tree {
         ensures count { IsBinCount result }
     {
         self.told.bins()
+    }
+
+    /// Returns how many bytes a tree of these keys may take.
+    pub(crate) fn bytes_for(rows: &Rows) -> usize {
+        rows.len().saturating_mul(KEY_TREE_BYTES)
     }
 
     /// Returns the number of stripes of the table. Takes no memory.

@@ -224,9 +224,15 @@ impl WidthRows {
         segment.set_owner(start, self.stride, owner);
     }
 
-    /// Adds a row after the others. If the segments are full, takes a free one.
+    /// Adds a row after the others. If the segments are full, takes a free one. Returns how many bytes it touched first.
     #[inline(always)]
-    pub(crate) fn push(&mut self, free: &mut Vec<Segment>, owner: usize, key: &[u8], value: &[u8])
+    pub(crate) fn push(
+        &mut self,
+        free: &mut Vec<Segment>,
+        owner: usize,
+        key: &[u8],
+        value: &[u8],
+    ) -> usize
         requires spare { 0 < length free.old.items }
         requires near { length self.old.rows < 2 ^ 56 }
         requires limit { length self.old.rows < self.old.limit }
@@ -243,8 +249,23 @@ impl WidthRows {
         open_slot(&mut self.segments, free, self.many, self.shift);
         let (index, start) = place_of(self.many, self.shift, self.stride);
         let segment = &mut self.segments[index];
-        segment.write(start, self.stride, owner, key, value);
+        let touched = segment.write(start, self.stride, owner, key, value);
         self.many += 1;
+        touched
+    }
+
+    /// Returns how many bytes the next row would touch first.
+    pub(crate) fn untouched(&self, free: &Vec<Segment>) -> usize {
+        let (index, start) = place_of(self.many, self.shift, self.stride);
+        let end = start + self.stride;
+        if index < self.segments.len() {
+            let segment = &self.segments[index];
+            return segment.untouched(end);
+        }
+        match free.last() {
+            Some(segment) => segment.untouched(end),
+            None => end,
+        }
     }
 
     /// Removes a row; the last one takes the gap. Returns the owner of the last one. If no row is left in a segment, it is

@@ -11,24 +11,24 @@ index_mut-rows-requires c =
     let inside : step < length raw.widths.items = c.requires.range in
     omega (arith, inside, raw.widths.ok.0)
 
-pub push-requires-clause-limit : goal.push-requires-clause-limit
-push-requires-clause-limit c =
+pub push-touched-requires-clause-limit : goal.push-touched-requires-clause-limit
+push-touched-requires-clause-limit c =
     let raw = c.args.self.now in
     let step = c.args.width.step in
     let inside : step < length raw.widths.items = c.requires.range in
     let is = read_width raw.widths.items step c.index_mut-rows.result.now inside c.index_mut-rows.ensures.value in
     let enough = c.requires.room.room.limits step inside in omega (arith, c.requires.few, enough, ap (λ (w : KeptWidth). length w.rows) is, ap (λ (w : KeptWidth). w.limit) is)
 
-pub push-requires-clause-near : goal.push-requires-clause-near
-push-requires-clause-near c =
+pub push-touched-requires-clause-near : goal.push-touched-requires-clause-near
+push-touched-requires-clause-near c =
     let raw = c.args.self.now in
     let step = c.args.width.step in
     let inside : step < length raw.widths.items = c.requires.range in
     let is = read_width raw.widths.items step c.index_mut-rows.result.now inside c.index_mut-rows.ensures.value in
     omega (arith, c.requires.few, c.requires.room.room.near, ap (λ (w : KeptWidth). length w.rows) is)
 
-pub push-requires-clause-fit : goal.push-requires-clause-fit
-push-requires-clause-fit c =
+pub push-touched-requires-clause-fit : goal.push-touched-requires-clause-fit
+push-touched-requires-clause-fit c =
     let raw = c.args.self.now in
     let step = c.args.width.step in
     let inside : step < length raw.widths.items = c.requires.range in
@@ -41,7 +41,7 @@ returns-clause-rows c =
     let step = c.args.width.step in
     let inside : step < length raw.widths.items = c.requires.range in
     let is = read_width raw.widths.items step c.index_mut-rows.result.now inside c.index_mut-rows.ensures.value in
-    lists_set raw.widths.items c.args.width c.push.new.self _ inside (c.push.ensures.rows ∙ ap (λ (w : KeptWidth). w.rows ++ kept c.args.key.now c.args.value.now c.args.owner ∷ []) is)
+    lists_set raw.widths.items c.args.width c.push-touched.new.self _ inside (c.push-touched.ensures.rows ∙ ap (λ (w : KeptWidth). w.rows ++ kept c.args.key.now c.args.value.now c.args.owner ∷ []) is)
 
 pub returns-clause-room : goal.returns-clause-room
 returns-clause-room c =
@@ -49,5 +49,5 @@ returns-clause-room c =
     let step = c.args.width.step in
     let inside : step < length raw.widths.items = c.requires.range in
     let is = read_width raw.widths.items step c.index_mut-rows.result.now inside c.index_mut-rows.ensures.value in
-    roomy_set raw _ c.requires.room step c.push.new.self inside refl refl refl refl (c.push.ensures.most ∙ ap (λ (w : KeptWidth). w.most) is) (c.push.ensures.limit ∙ ap (λ (w : KeptWidth). w.limit) is) c.push.ensures.few
-    (omega (arith, c.push.ensures.segments, ap (λ (w : KeptWidth). w.segments) is)) c.push.ensures.list
+    roomy_set raw _ c.requires.room step c.push-touched.new.self inside refl refl refl refl (c.push-touched.ensures.most ∙ ap (λ (w : KeptWidth). w.most) is) (c.push-touched.ensures.limit ∙ ap (λ (w : KeptWidth). w.limit) is) c.push-touched.ensures.few
+    (omega (arith, c.push-touched.ensures.segments, ap (λ (w : KeptWidth). w.segments) is)) c.push-touched.ensures.list

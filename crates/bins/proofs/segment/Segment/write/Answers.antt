@@ -7,6 +7,6 @@ use Rattle.bins.proofs.segment.Segment.write.Goals as goal
 pub returns-clause-others : goal.returns-clause-others
 returns-clause-others c =
     let bytes = c.self.inside.bytes in
-    both_kept c.args.start c.args.stride c.args.self.now c.reach.new.self _ c.reach.ensures.all
-    (kept_through c.args.start c.args.stride (c.args.start + c.args.stride - c.args.start) bytes.len c.reach.new.self bytes.items c.deref_mut.result.now c.write.new.row (sym c.self.view_is) c.deref_mut.ensures.value bytes.ok.0
-    c.reach.ensures.enough (omega (arith, c.write.ensures.same, length-take (c.args.start + c.args.stride - c.args.start) (drop c.args.start c.deref_mut.result.now), length-drop c.args.start c.deref_mut.result.now, ap length c.deref_mut.ensures.value, ap length c.self.view_is, c.reach.ensures.enough)) (omega arith))
+    both_kept c.args.start c.args.stride c.args.self.now c.reach-touched.new.self _ c.reach-touched.ensures.all
+    (kept_through c.args.start c.args.stride (c.args.start + c.args.stride - c.args.start) bytes.len c.reach-touched.new.self bytes.items c.deref_mut.result.now c.write.new.row (sym c.self.view_is) c.deref_mut.ensures.value bytes.ok.0
+    c.reach-touched.ensures.enough (omega (arith, c.write.ensures.same, length-take (c.args.start + c.args.stride - c.args.start) (drop c.args.start c.deref_mut.result.now), length-drop c.args.start c.deref_mut.result.now, ap length c.deref_mut.ensures.value, ap length c.self.view_is, c.reach-touched.ensures.enough)) (omega arith))

@@ -5,7 +5,7 @@ use Rattle.bins.specs.Entries.{Distinct}
 use Rattle.bins.proofs.DistinctEntries.{table_of, pushed_distinct, pushed_table}
 use Rattle.bins.proofs.PairedEntries.{entry_lacks, none_within, joined, joined_length}
 use Rattle.bins.proofs.FinderLemmas.{stand_once}
-use Rattle.bins.proofs.hashed_bins.HashedBinsBins.add.Goals as goal
+use Rattle.bins.proofs.hashed_bins.HashedBins.add_admitted.Goals as goal
 
 -- the key stands nowhere
 pub push-requires-clause-new : goal.push-requires-clause-new
