@@ -1,6 +1,7 @@
 -- Edits of a table, one after another.
 use Rattle.std.proofs.Common.{◌≡◌, ℕ, List, Bool, true, false, cond, is_eq, Option, Some, None, Ordering, Less, Equal, Greater, refl, sym, ap, ◌∙◌}
 use Rattle.std.specs.Ordering.{eq_by_cmp}
+use Rattle.std.specs.Cmp.{tied_itself}
 use Rattle.std.specs.FinMap as map
 use Rattle.std.specs.FinMap.{same_map, get-insert, get-remove, get_tied}
 use Rattle.bins.specs.Table.{Table, by_bytes}
@@ -18,6 +19,18 @@ remove-insert table key value = same_map total antisymmetric _ _ (λ q.
     ∙ ap (cond (eq_by_cmp by_bytes q key) None) (get-insert total table key value q)
     ∙ twice (eq_by_cmp by_bytes q key) None (Some value) (map.get table q)
     ∙ sym (get-remove total table key q))
+
+-- entering a key that was just removed is the same as entering it
+pub insert-remove : (table : Table) (key value : List ℕ) → map.insert (map.remove table key) key value ≡ map.insert table key value
+insert-remove table key value = same_map total antisymmetric _ _ (λ q.
+    get-insert total (map.remove table key) key value q
+    ∙ ap (cond (eq_by_cmp by_bytes q key) (Some value)) (get-remove total table key q)
+    ∙ twice (eq_by_cmp by_bytes q key) (Some value) None (map.get table q)
+    ∙ sym (get-insert total table key value q))
+
+-- a removed key is absent
+pub get-removed : (table : Table) (key : List ℕ) → map.get (map.remove table key) key ≡ None
+get-removed table key = get-remove total table key key ∙ ap (λ b. cond b None (map.get table key)) (ap is_eq (tied_itself total key))
 
 present_at : (table : Table) (key value q : List ℕ) (r : Ordering) → map.get table key ≡ Some value → by_bytes q key ≡ r → cond (is_eq r) (Some value) (map.get table q) ≡ map.get table q
 present_at table key value q Less found e = refl

@@ -25,7 +25,7 @@ mod workspace;
 pub use call::Call;
 pub use fault::OpenFault;
 pub use hashed_call::HashedCall;
-pub use methods::{apply, apply_into, replace_each, scan};
+pub use methods::{apply, apply_into, apply_to_stale, replace_each, scan};
 pub use reply::{Reply, ReplyKind};
 pub use striped::{Stopped, Striped};
 pub use stripes::{MAX_STRIPES, is_stripe_count, stripe_of};

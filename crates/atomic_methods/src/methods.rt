@@ -1,5 +1,5 @@
 //! The methods, over any store of entries.
-ghost use Rattle.std.specs.Prelude.{◌≡◌, ◌<◌, ◌^◌, ℕ, List, IfOk, OnOk, OnErr, Some, None};
+ghost use Rattle.std.specs.Prelude.{◌≡◌, ◌≢◌, ◌<◌, ◌^◌, ℕ, List, IfOk, OnOk, OnErr, Some, None};
 ghost use Rattle.std.specs.FinMap as map;
 ghost use Rattle.bins.specs.Replacements.{ReplacesEach};
 ghost use Rattle.atomic_methods.specs.Invocations.{invocation_of};
@@ -148,6 +148,29 @@ fn apply_to_absent<B: Bins>(
         bins.add(key, bytes)?;
     }
     Ok(kind)
+}
+
+/// Makes one call as if its key were absent, though it has an entry: that entry goes, and the call may enter a new one in its place.
+/// Takes no memory. Never waits.
+#[inline(never)]
+pub fn apply_to_stale<B: Bins>(
+    bins: &mut B,
+    call: &HashedCall<'_>,
+    workspace: &mut Workspace,
+    bytes: &mut Value,
+) -> ReplyKind
+    requires present { map.get (B.table bins.old) call.now.key ≢ None }
+    ensures { Answers (map.remove (B.table bins.old) call.now.key) call.now (B.table bins.new) (reply_by result bytes.new) }
+{
+    let (enters, kind) = new_value(call.call(), workspace, bytes);
+    if enters {
+        let Ok(()) = bins.put(call.key(), bytes) else {
+            unreachable!()
+        };
+        return kind;
+    }
+    bins.discard(call.key());
+    kind
 }
 
 /// Returns copies of all entries, in key order. Returns `NoMemory` if a request for memory is refused. Never waits.

@@ -4,3 +4,6 @@ mod TouchLemmas
 mod ListedLemmas
 mod CopyLemmas
 mod StateLemmas
+mod CallLemmas
+mod RoomLemmas
+mod StaleLemmas

@@ -1,10 +1,10 @@
 -- Rows of a table by their keys, after one is entered or removed.
-use Rattle.std.proofs.Common.{◌≡◌, ◌≢◌, ℕ, Bool, true, false, cond, is_eq, List, length, Option, Some, None, Ordering, Less, Equal, Greater, refl, sym, ap, subst, ◌∙◌, ◌⊎◌, inl, inr}
+use Rattle.std.proofs.Common.{◌≡◌, ◌≢◌, ℕ, Bool, true, false, cond, is_eq, List, [], length, arith, Option, Some, None, Ordering, Less, Equal, Greater, refl, sym, ap, subst, ◌∙◌, ◌⊎◌, inl, inr}
 use Rattle.std.specs.Ordering.{eq_by_cmp}
 use Rattle.std.specs.Cmp.{tied_itself}
 use Rattle.std.specs.List.{Contains}
 use Rattle.std.specs.FinMap as map
-use Rattle.std.specs.FinMap.{get-insert, get-remove, get-empty, empty_of_len, len-entries}
+use Rattle.std.specs.FinMap.{get-insert, get-remove, get-empty, empty_of_len, len-entries, same_map}
 use Rattle.std.specs.Prelude.{option_map}
 use Rattle.bins.specs.Table.{Table, by_bytes}
 use Rattle.bins.proofs.MapEdits.{total, antisymmetric}
@@ -139,3 +139,21 @@ listed_too old new key bytes at listed is same has are other row there =
       | inl both ↦ subst (λ (due : Due). Contains listed due) (λ i. ((sym same ∙ ap number_of (sym both.1)) i, sym both.0 i)) has
       | inr before ↦ are other row before
     ]
+
+-- a table that is empty has nothing to list
+pub empty_listed : (times : Table) (listed : List Due) → times ≡ map.empty → AreListed times listed
+empty_listed times listed is = rw is (none_listed listed)
+
+-- if nothing is listed there are no rows
+pub none_without : (times : Table) (listed : List Due) → AreListed times listed → listed ≡ [] → times ≡ map.empty
+none_without times listed are none = same_map total antisymmetric times map.empty (λ key. by_row key (map.get times key) refl ∙ sym (empty_at key))
+  where
+    nowhere : (due : Due) → Contains {X = Due} [] due → ⊥
+    nowhere due (k, lt, e) = absurd (omega (arith, lt))
+
+    by_row : (key : List ℕ) (row : Option (List ℕ)) → map.get times key ≡ row → row ≡ None
+    by_row key (Some row) is = absurd (nowhere (number_of row, key) (subst (λ (xs : List Due). Contains xs (number_of row, key)) none (are key row is)))
+    by_row key None is = refl
+
+pub none_in : (times : Table) (key : List ℕ) → times ≡ map.empty → None ≡ deadline_of times key
+none_in times key is = rw is (none_in_empty key)

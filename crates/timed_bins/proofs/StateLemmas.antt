@@ -48,8 +48,12 @@ module _ (table times : Table) (are : AreOfEntries table times) where
   none_before : (key : List ℕ) → map.get table key ≡ None → deadline_of times key ≡ None
   none_before key none = ap (option_map number_of) (are key none)
 
+  -- a key with a deadline has an entry
+  pub present : (key : List ℕ) → deadline_of times key ≢ None → map.get table key ≢ None
+  present key has none = has (none_before key none)
+
   -- a key whose time is over has an entry
-  has_entry : (key : List ℕ) (now : ℕ) → is_over (deadline_of times key) now ≡ true → (value : List ℕ) × (map.get table key ≡ Some value)
+  pub has_entry : (key : List ℕ) (now : ℕ) → is_over (deadline_of times key) now ≡ true → (value : List ℕ) × (map.get table key ≡ Some value)
   has_entry key now over = by_entry (map.get table key) refl
     where
       by_entry : (entry : Option (List ℕ)) → map.get table key ≡ entry → (value : List ℕ) × (entry ≡ Some value)

@@ -139,23 +139,27 @@ pub record CallsTimed (old : TimedTable) (timing : Timing) (invocation : Invocat
   pub before : timed.before ≡ between.deadline invocation.key
   pub after : timed.after ≡ new.deadline invocation.key
 
--- a call at a time was refused: at most its key was taken away since its time was over. What is left is a table to which
--- the invocation would add its key, or the change is one that needs room for a deadline
-pub record RefusesTimed (old : TimedTable) (timing : Timing) (invocation : Invocation) (new : TimedTable) : Type 0 where
-  pub was_over : Bool
-  pub takes : TakesIfOver old invocation.key timing.now was_over new
-  pub memory : WouldAdd new.table invocation ⊎ IsTrue (asks_room timing.change)
-
 -- only the latest time may have changed
 pub record TellsTime (old : TimedTable) (now : ℕ) (new : TimedTable) : Type 0 where
   pub table : new.table ≡ old.table
   pub deadlines : (key : List ℕ) → new.deadline key ≡ old.deadline key
   pub latest : new.latest ≡ max old.latest now
 
--- one key was taken away whose time was over
-pub record TakesOne (old : TimedTable) (now : ℕ) (new : TimedTable) : Type 0 where
-  pub key : List ℕ
-  pub takes : TakesIfOver old key now true new
+-- a call at a time was refused, and nothing was done: it would add its key, or its change is one that needs room for a deadline
+pub record RefusesTimed (old : TimedTable) (timing : Timing) (invocation : Invocation) (new : TimedTable) : Type 0 where
+  pub tells : TellsTime old timing.now new
+  pub memory : WouldAdd old.table invocation ⊎ IsTrue (asks_room timing.change)
+
+-- a call was made, at a time or without a clock
+abbrev pub MakesCall : Option Timing → TimedTable → Invocation → TimedReply → List ℕ → TimedTable → Type 0
+MakesCall None old invocation timed bytes new =
+    CallsWith (change_of invocation.method) old invocation (reply_by timed.kind bytes) new
+MakesCall (Some timing) old invocation timed bytes new = CallsTimed old timing invocation timed bytes new
+
+-- a call was refused, at a time or without a clock; without one nothing was done, and it would add its key
+abbrev pub RefusesCall : Option Timing → TimedTable → Invocation → TimedTable → Type 0
+RefusesCall None old invocation new = (new ≡ old) × WouldAdd old.table invocation
+RefusesCall (Some timing) old invocation new = RefusesTimed old timing invocation new
 
 -- no deadline is over, nor is one before this time
 pub record WaitsUntil (old : TimedTable) (now at : ℕ) (new : TimedTable) : Type 0 where
@@ -168,8 +172,8 @@ pub record FindsNone (old : TimedTable) (now : ℕ) (new : TimedTable) : Type 0 
   pub tells : TellsTime old now new
   pub none : (key : List ℕ) → old.deadline key ≡ None
 
--- what a look for an entry whose time is over came to
+-- what a look for an entry whose time is over came to: one key was taken away whose time was over, or there is none
 abbrev pub Expires : TimedTable → ℕ → Expiry → TimedTable → Type 0
-Expires old now Took new = TakesOne old now new
+Expires old now (Took key) new = TakesIfOver old key now true new
 Expires old now (Waits at) new = WaitsUntil old now at new
 Expires old now Nothing new = FindsNone old now new

@@ -1,5 +1,5 @@
 //! Deadlines with their keys, the soonest first.
-ghost use Rattle.std.specs.Prelude.{◌≡◌, ◌≤◌, List, [], ◌∷◌, length, OnOk, OnErr, MatchOption};
+ghost use Rattle.std.specs.Prelude.{◌≡◌, ◌≤◌, List, [], ◌∷◌, length, IsTrue, OnOk, OnErr, MatchOption};
 ghost use Rattle.std.specs.List.{All};
 ghost use Rattle.std.specs.List.Sorted.{IsPermutation};
 ghost use Rattle.timed_bins.specs.Agendas.{Due};
@@ -44,6 +44,21 @@ impl Agenda {
         ensures value { result ≡ length self.now }
     {
         self.heap.len()
+    }
+
+    /// Returns whether there are no deadlines.
+    #[inline(always)]
+    pub(crate) fn is_empty(&self) -> bool
+        ensures { IsTrue result → self.now ≡ [] }
+    {
+        self.heap.is_empty()
+    }
+
+    /// Drops all deadlines, and keeps the room for them.
+    pub(crate) fn clear(&mut self)
+        ensures { self.new ≡ [] }
+    {
+        self.heap.clear();
     }
 
     /// Adds a deadline. Returns `NoMemory` if there is no room for it and a request for memory is refused; then nothing

@@ -15,23 +15,23 @@ use std::marker::Model;
 const STALE: u64 = 64;
 
 /// The deadlines of keys: for each key with one a row of eight bytes, in bins of their own, and an agenda. The bins are
-/// opened with the first deadline, and go with the last.
+/// opened with the first deadline, and stay open.
 #[derive(Drop)]
 pub(crate) struct Deadlines<B: Bins> {
     times: Option<B>,
     agenda: Agenda,
-    opening: Opening,
+    opening: RowsOpening,
 }
 
-/// How bins are opened: for one of so many stripes, and by this seed.
+/// How the bins of deadlines are opened: for one of this number of stripes, and by this seed.
 #[derive(Clone, Copy)]
-pub(crate) struct Opening {
+pub(crate) struct RowsOpening {
     pub(crate) alloc: Global,
     pub(crate) stripes: u64,
     pub(crate) seed: Seed,
 }
 
-impl Opening {
+impl RowsOpening {
     /// Opens bins without entries. Returns `NoMemory` if a request for memory is refused.
     pub(crate) fn open<B: Bins>(&self) -> Result<B, NoMemory>
         ensures ok { IfOk result (λ bins. B.table bins ≡ map.empty) }
@@ -65,7 +65,7 @@ pub(crate) enum Found {
 
 impl<B: Bins + Drop> Deadlines<B> {
     /// No deadlines. The bins for them will be opened in this way. Takes no memory.
-    pub(crate) fn new(opening: Opening) -> Deadlines<B>
+    pub(crate) fn new(opening: RowsOpening) -> Deadlines<B>
         ensures { result.times ≡ map.empty }
     {
         Deadlines {
@@ -75,12 +75,12 @@ impl<B: Bins + Drop> Deadlines<B> {
         }
     }
 
-    /// Returns whether there are no deadlines. There may be none if it returns `false`.
+    /// Returns whether there are no deadlines, since none is listed. There may be none if it returns `false`.
     #[inline(always)]
     pub(crate) fn is_empty(&self) -> bool
         ensures empty { IsTrue result → self.now.times ≡ map.empty }
     {
-        self.times.is_none()
+        self.agenda.is_empty()
     }
 
     /// Returns the deadline of a key. Takes no memory.
@@ -88,6 +88,9 @@ impl<B: Bins + Drop> Deadlines<B> {
     pub(crate) fn get(&self, key: &HashedKey<'_>) -> Option<u64>
         ensures value { result ≡ deadline_of self.now.times key.now }
     {
+        if self.is_empty() {
+            return None;
+        }
         deadline_in(&self.times, key)
     }
 
@@ -152,8 +155,7 @@ impl<B: Bins + Drop> Deadlines<B> {
         };
         times.discard(key);
         if times.count() == 0 {
-            self.times = None;
-            self.agenda = Agenda::new(self.opening.alloc);
+            self.agenda.clear();
         }
     }
 
@@ -180,7 +182,7 @@ fn deadline_in<B: Bins>(times: &Option<B>, key: &HashedKey<'_>) -> Option<u64>
 /// Adds a row with this deadline, unless the key has one.
 fn make_row<B: Bins + Drop>(
     times: &mut Option<B>,
-    opening: &Opening,
+    opening: &RowsOpening,
     key: &HashedKey<'_>,
     at: u64,
 ) -> Result<(), NoMemory>
@@ -197,7 +199,7 @@ fn make_row<B: Bins + Drop>(
 /// Adds a row with this deadline for a key that has none, to bins that are opened if need be.
 fn add_row<B: Bins + Drop>(
     times: &mut Option<B>,
-    opening: &Opening,
+    opening: &RowsOpening,
     key: &HashedKey<'_>,
     at: u64,
 ) -> Result<(), NoMemory>

@@ -6,14 +6,14 @@
 //! until when none is (`Expires`). To the calls of `Bins` the deadlines are no part of the content.
 //!
 //! `Timed` keeps them beside any bins, in bins of the same kind and a heap (`Deadlines`, `Agenda`). They are opened with the
-//! first deadline, and go with the last. `NoMemory` comes only if a call would add its key or may set a deadline. No call
-//! waits.
+//! first deadline. `NoMemory` comes only if a call would add its key or may set a deadline. No call waits.
 #![tactic(auto)]
 
 mod agenda;
 mod calls;
 mod deadlines;
 mod number;
+mod stale;
 mod timed;
 mod timed_bins;
 mod timing;

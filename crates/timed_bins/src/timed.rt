@@ -1,23 +1,26 @@
 //! Bins with the deadlines of their keys beside them.
-ghost use Rattle.std.specs.Prelude.{◌≡◌};
+ghost use Rattle.std.specs.Prelude.{◌≡◌, option_copied};
 ghost use Rattle.std.specs.FinMap as map;
 ghost use Rattle.timed_bins.specs.Agendas.{deadline_of};
-ghost use Rattle.timed_bins.specs.Deadlines.{TakesIfOver, timed_table};
+ghost use Rattle.timed_bins.specs.Deadlines.{timed_table};
+ghost use Rattle.timed_bins.specs.Steps.{LooksFirst};
 
-use crate::calls::{Made, call_beside, call_with};
-use crate::deadlines::{Deadlines, Found, Opening};
+use crate::calls::call_with;
+use crate::deadlines::{Deadlines, Found, RowsOpening};
 use crate::number::{is_over, latest_of};
+use crate::stale::call_on_stale;
 use crate::timed_bins::TimedBins;
 use crate::timing::{Expiry, TimedReply, Timing};
-use atomic_methods::{HashedCall, ReplyKind, Workspace, apply_into};
-use bins::{Bins, Counts, EntryList, HashedKey, Seed};
+use crate::touch::change_at;
+use atomic_methods::{HashedCall, Workspace};
+use bins::{Bins, Counts, EntryList, HashedKey, Opening, Seed};
 use bpf_model::{NoMemory, Value};
 use std::alloc::Global;
 use std::marker::Model;
 use verifier::Verified;
 
-/// Bins, and the deadlines of their keys in bins of the same kind. If no key has a deadline, these aren't opened, and a
-/// call costs a few instructions more than on the bins alone.
+/// Bins, and the deadlines of their keys in bins of the same kind. These are opened with the first deadline. If no key has
+/// one, a call that sets none tests that once, and does nothing else with deadlines.
 #[derive(Drop)]
 pub struct Timed<B: Bins> {
     bins: B,
@@ -38,18 +41,20 @@ impl<B: Bins> Model for Timed<B> {
 }
 
 impl<B: Bins + Drop> Timed<B> {
-    /// Takes the key away if its time is over, and returns whether it was. Takes no memory.
+    /// Hears the time, if there is one, and returns whether the key's time is over then. Takes no memory.
     #[inline(always)]
-    fn take_if_over(&mut self, key: &HashedKey<'_>, now: u64) -> bool
-        ensures { TakesIfOver (timed_table self.old.table (deadline_of self.old.times) self.old.latest) key.now now result
-            (timed_table self.new.table (deadline_of self.new.times) self.new.latest) }
+    fn look_first(&mut self, key: &HashedKey<'_>, timing: Option<&Timing>) -> bool
+        ensures looks { LooksFirst (timed_table self.old.table (deadline_of self.old.times) self.old.latest)
+            (option_copied timing.entry) key.now
+            (timed_table self.new.table (deadline_of self.new.times) self.new.latest) result }
+        ensures table { self.new.table ≡ self.old.table }
+        ensures times { self.new.times ≡ self.old.times }
     {
-        self.latest = latest_of(self.latest, now);
-        let over = is_over(self.deadlines.get(key), self.latest);
-        if over {
-            self.take(key);
-        }
-        over
+        let Some(timing) = timing else {
+            return false;
+        };
+        self.latest = latest_of(self.latest, timing.now);
+        is_over(self.deadlines.get(key), self.latest)
     }
 
     /// Takes a key with its deadline away. Takes no memory.
@@ -68,18 +73,19 @@ impl<B: Bins + Drop> Bins for Timed<B> {
     ghost table = { λ timed. timed.table };
 
     fn open(alloc: Global, stripes: u64) -> Result<Timed<B>, NoMemory> {
-        Timed::open_seeded(alloc, stripes, Seed::fixed())
+        Timed::open_with(alloc, stripes, &Opening::seeded(Seed::fixed()))
     }
 
-    fn open_seeded(alloc: Global, stripes: u64, seed: Seed) -> Result<Timed<B>, NoMemory> {
-        let opening = Opening {
+    /// The budget is one of the entries; deadlines have none.
+    fn open_with(alloc: Global, stripes: u64, opening: &Opening) -> Result<Timed<B>, NoMemory> {
+        let rows = RowsOpening {
             alloc,
             stripes,
-            seed,
+            seed: opening.seed,
         };
         Ok(Timed {
-            bins: opening.open()?,
-            deadlines: Deadlines::new(opening),
+            bins: B::open_with(alloc, stripes, opening)?,
+            deadlines: Deadlines::new(rows),
             latest: 0,
         })
     }
@@ -121,39 +127,26 @@ impl<B: Bins + Drop> TimedBins for Timed<B> {
     ghost latest = { λ timed. timed.latest };
 
     #[inline(always)]
-    fn call_into(
+    fn call(
         &mut self,
         call: &HashedCall<'_>,
-        workspace: &mut Workspace,
-        bytes: &mut Value,
-    ) -> Result<ReplyKind, NoMemory> {
-        if self.deadlines.is_empty() {
-            return apply_into(&mut self.bins, call, workspace, bytes);
-        }
-        let (bins, deadlines) = (&mut self.bins, &mut self.deadlines);
-        call_beside(bins, deadlines, call, workspace, bytes)
-    }
-
-    fn call_at(
-        &mut self,
-        call: &HashedCall<'_>,
-        timing: &Timing,
+        timing: Option<&Timing>,
         workspace: &mut Workspace,
         bytes: &mut Value,
     ) -> Result<TimedReply, NoMemory> {
-        let was_over = self.take_if_over(call.key(), timing.now);
+        let is_over = self.look_first(call.key(), timing);
         let (bins, deadlines) = (&mut self.bins, &mut self.deadlines);
-        let Made {
-            kind,
-            before,
-            after,
-        } = call_with(bins, deadlines, call, timing.change, workspace, bytes)?;
-        Ok(TimedReply {
-            kind,
-            was_over,
-            before,
-            after,
-        })
+        if is_over {
+            let change = change_at(timing, call.call());
+            let made = call_on_stale(bins, deadlines, call, change, workspace, bytes)?;
+            return Ok(made.reply(true));
+        }
+        let made = call_with(bins, deadlines, call, timing, workspace, bytes)?;
+        Ok(made.reply(false))
+    }
+
+    fn deadline_of(&self, key: &HashedKey<'_>) -> Option<u64> {
+        self.deadlines.get(key)
     }
 
     fn expire_one(&mut self, now: u64) -> Expiry {
@@ -161,7 +154,7 @@ impl<B: Bins + Drop> TimedBins for Timed<B> {
         match self.deadlines.find_over(self.latest) {
             Found::Over(key) => {
                 self.take(&HashedKey::new(&key));
-                Expiry::Took
+                Expiry::Took(key)
             }
             Found::Later(at) => Expiry::Waits(at),
             Found::None => Expiry::Nothing,

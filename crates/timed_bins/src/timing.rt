@@ -1,5 +1,6 @@
 //! Times of calls, and deadlines.
 use atomic_methods::ReplyKind;
+use bpf_model::Key;
 
 /// When a deadline is set, by the one that the key has. A key without one counts as never over.
 #[derive(Clone, Copy, Debug, PartialEq, Eq)]
@@ -52,10 +53,10 @@ pub struct TimedReply {
 }
 
 /// What a look for an entry whose time is over came to.
-#[derive(Clone, Copy, Debug, PartialEq, Eq)]
+#[derive(Debug, PartialEq, Eq, Drop)]
 pub enum Expiry {
-    /// One was taken away.
-    Took,
+    /// The entry of this key was taken away.
+    Took(Key),
     /// No time is over. The next one may be over at this time, and none before.
     Waits(u64),
     /// No key has a deadline.

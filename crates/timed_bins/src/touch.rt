@@ -1,10 +1,11 @@
 //! What calls do to their keys' deadlines.
-ghost use Rattle.std.specs.Prelude.{◌≡◌};
-ghost use Rattle.atomic_methods.specs.Invocations.{invocation_of};
-ghost use Rattle.timed_bins.specs.Deadlines.{allows, changed, change_of as change_is};
+ghost use Rattle.std.specs.Prelude.{◌≡◌, option_copied};
+ghost use Rattle.atomic_methods.specs.Invocations.{Method, invocation_of};
+ghost use Rattle.timed_bins.specs.Deadlines.{allows, asks_room as asks_room_is, changed, change_of as change_is};
+ghost use Rattle.timed_bins.specs.Steps.{change_at as change_at_is};
 ghost use Rattle.timed_bins.specs.Touched.{touch_of as touch_is, deadline_by};
 
-use crate::timing::{DeadlineChange, SetRule};
+use crate::timing::{DeadlineChange, SetRule, Timing};
 use atomic_methods::{Call, ReplyKind};
 
 /// What a call did to its key's entry.
@@ -60,8 +61,9 @@ impl Touch {
 }
 
 impl SetRule {
-    /// Returns whether the rule sets this deadline for a key that has the old one, or none.
-    fn allows(self, old: Option<u64>, at: u64) -> bool
+    /// Returns whether the rule sets this deadline for a key that has the old one, or none. Both are in milliseconds since
+    /// the epoch.
+    pub fn allows(self, old: Option<u64>, at: u64) -> bool
         ensures { result ≡ allows self old at }
     {
         use SetRule::{Always, IfLater, IfNone, IfSome, IfSomeAndSooner, IfSooner};
@@ -92,6 +94,31 @@ impl DeadlineChange {
             DeadlineChange::Set { at, rule } => if rule.allows(old, at) { Some(at) } else { old },
             DeadlineChange::Extend { by } => Some(old?.saturating_add(by)),
         }
+    }
+}
+
+/// Returns what becomes of the deadline in a call: what its timing says, or what its method does without a clock.
+#[inline(always)]
+pub(crate) fn change_at(timing: Option<&Timing>, call: &Call) -> DeadlineChange
+    ensures { result ≡ change_at_is (option_copied timing.entry) (invocation_of call.now).method }
+{
+    match timing {
+        Some(timing) => timing.change,
+        None => change_of(call),
+    }
+}
+
+/// Returns whether the call may need room for a deadline.
+#[inline(always)]
+pub(crate) fn asks_room(timing: Option<&Timing>) -> bool
+    ensures { (method : Method) → asks_room_is (change_at_is (option_copied timing.entry) method) ≡ result }
+{
+    let Some(timing) = timing else {
+        return false;
+    };
+    match timing.change {
+        DeadlineChange::Keep | DeadlineChange::Clear => false,
+        DeadlineChange::Set { .. } | DeadlineChange::Extend { .. } => true,
     }
 }
 

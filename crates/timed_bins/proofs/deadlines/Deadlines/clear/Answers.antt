@@ -1,6 +1,6 @@
 use Rattle.std.proofs.Common.{sym, ◌∙◌}
 use Rattle.bins.proofs.MapEdits.{remove_absent}
-use Rattle.timed_bins.proofs.RowLemmas.{empty_at, none_listed, none_left, listed_still}
+use Rattle.timed_bins.proofs.RowLemmas.{empty_at, empty_listed, none_left, listed_still}
 use Rattle.timed_bins.proofs.deadlines.Deadlines.clear.Goals as goal
 
 -- there are no bins
@@ -9,12 +9,7 @@ returns-in_default g c = rw (← c.self.view_is, c.in_default.is) (sym (remove_a
 
 -- no row is left
 pub invariant_of-self-then-count-eq0 : goal.invariant_of-self-then-count-eq0
-invariant_of-self-then-count-eq0 g c = none_listed _
-
-pub returns-then-count-eq0 : goal.returns-then-count-eq0
-returns-then-count-eq0 g c =
-    let none = none_left _ (sym c.count.ensures.value ∙ c.if-count-eq0.true) in
-    rw (← c.self.view_is, c.in-Some.is) (sym none ∙ c.discard.ensures.others)
+invariant_of-self-then-count-eq0 g c = empty_listed _ _ (none_left _ (sym c.count.ensures.value ∙ c.if-count-eq0.true))
 
 -- the rows that are left are listed
 pub invariant_of-self-else-count-eq0 : goal.invariant_of-self-else-count-eq0

@@ -10,12 +10,9 @@ returns-in-Over g c =
     let key = c.new.ensures.key in
     rw (← c.self.view_is)
     (record {
-      expires = record {
-        key = c.in-Over.key;
-        takes =
-            takes_over _ _ c.self.invariant _ _ _ _ _ _ over (rw key at c.take.ensures.table) (rw key at times)
-            (c.take.ensures.latest ∙ c.latest_of-self-inside.ensures);
-      };
+      expires =
+          takes_over _ _ c.self.invariant _ _ _ _ _ _ over (rw key at c.take.ensures.table) (rw key at times)
+          (c.take.ensures.latest ∙ c.latest_of-self-inside.ensures);
     })
 
 -- none is over
