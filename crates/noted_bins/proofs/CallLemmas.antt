@@ -1,0 +1,129 @@
+-- What a call, an expiry or a replacement leaves of each key.
+use Rattle.std.proofs.Common.{◌≡◌, ◌≢◌, ℕ, Bool, true, false, List, Option, Some, None, refl, sym, ap, subst, ◌∙◌, inl, inr}
+use Rattle.std.specs.Prelude.{option_map, if◌then◌else◌}
+use Rattle.std.specs.FinMap as map
+use Rattle.bins.specs.Table.{Table}
+use Rattle.atomic_methods.specs.Invocations.{Invocation, Method, get}
+use Rattle.atomic_methods.specs.Methods.{Follows, rule_of}
+use Rattle.atomic_methods.specs.Plans.{reply_by}
+use Rattle.atomic_methods.specs.declared.reply.Reply.{Reply}
+use Rattle.timed_bins.specs.declared.timing.DeadlineChange.{DeadlineChange}
+use Rattle.timed_bins.specs.declared.timing.DeadlineChange.TheVariants.{Keep}
+use Rattle.timed_bins.specs.declared.timing.Timing.{Timing}
+use Rattle.timed_bins.specs.declared.timing.TimedReply.{TimedReply}
+use Rattle.timed_bins.specs.Deadlines.{TimedTable, CallsWith, MakesCall, RefusesCall, TakesIfOver, change_of, deadline_after}
+use Rattle.noted_bins.specs.Hands.{LeavesSame}
+use Rattle.noted_bins.specs.Notes.{NotedKeys, NotesChanges, NotesKey, is_noted}
+use Rattle.noted_bins.specs.Rows.{row_of}
+use Rattle.noted_bins.proofs.KeyLemmas.{same_or_not}
+use Rattle.noted_bins.proofs.TableLemmas.{beside, beside_gone, here}
+
+abbrev dated : Option ℕ → List ℕ → List ℕ × Option ℕ
+dated deadline value = (value, deadline)
+
+-- rows by values and deadlines
+same_row : (old new : TimedTable) (key : List ℕ) → map.get new.table key ≡ map.get old.table key → new.deadline key ≡ old.deadline key → row_of new key ≡ row_of old key
+same_row old new key values deadlines i = option_map (dated (deadlines i)) (values i)
+
+-- other keys than that of a call
+called_beside : (change : DeadlineChange) (old new : TimedTable) (invocation : Invocation) (reply : Reply) → CallsWith change old invocation reply new
+    → (key : List ℕ) → key ≢ invocation.key → row_of new key ≡ row_of old key
+called_beside change old new invocation reply calls key apart =
+    same_row old new key (ap (λ (t : Table). map.get t key) calls.answers.1.1 ∙ beside old.table invocation.key calls.answers.0 key apart) (calls.others key apart)
+
+removed_if : (table : Table) (key other : List ℕ) (b : Bool) → other ≢ key → map.get (if b then map.remove table key else table) other ≡ map.get table other
+removed_if table key other true apart = beside_gone table key other apart
+removed_if table key other false apart = refl
+
+taken_beside : (old new : TimedTable) (at : List ℕ) (now : ℕ) (was_over : Bool) → TakesIfOver old at now was_over new
+    → (key : List ℕ) → key ≢ at → row_of new key ≡ row_of old key
+taken_beside old new at now was_over takes key apart =
+    same_row old new key (ap (λ (t : Table). map.get t key) takes.table ∙ removed_if old.table at key was_over apart) (takes.others key apart)
+
+made_beside : (timing : Option Timing) (old new : TimedTable) (invocation : Invocation) (timed : TimedReply) (bytes : List ℕ) → MakesCall timing old invocation timed bytes new
+    → (key : List ℕ) → key ≢ invocation.key → row_of new key ≡ row_of old key
+made_beside None old new invocation timed bytes made key apart = called_beside _ old new invocation _ made key apart
+made_beside (Some timing) old new invocation timed bytes made key apart =
+    called_beside _ made.between new invocation _ made.calls key apart ∙ taken_beside old made.between invocation.key timing.now timed.was_over made.takes key apart
+
+-- a refused call changed no row
+refused_same : (timing : Option Timing) (old new : TimedTable) (invocation : Invocation) → RefusesCall timing old invocation new → (key : List ℕ) → row_of new key ≡ row_of old key
+refused_same None old new invocation refused key = ap (λ (t : TimedTable). row_of t key) refused.0
+refused_same (Some timing) old new invocation refused key =
+    same_row old new key (ap (λ (t : Table). map.get t key) refused.tells.table) (refused.tells.deadlines key)
+
+-- the key was noted, and others have the rows that they had
+noted_change : (old_notes new_notes : NotedKeys) (old new : TimedTable) (at : List ℕ) → NotesKey old_notes at new_notes
+    → ((key : List ℕ) → key ≢ at → row_of new key ≡ row_of old key) → NotesChanges (is_noted old_notes) old (is_noted new_notes) new
+noted_change old_notes new_notes old new at notes others key e = let known = notes key e in (known.0, others key known.1)
+
+-- nothing is noted, and all rows are as they were
+no_change : (notes : NotedKeys) (old new : TimedTable) → ((key : List ℕ) → row_of new key ≡ row_of old key) → NotesChanges (is_noted notes) old (is_noted notes) new
+no_change notes old new same key e = (e, same key)
+
+-- a row whose deadline stays if there is an entry
+row_kept : (value : Option (List ℕ)) (reached : Bool) (before after : Option ℕ) → after ≡ deadline_after Keep reached before value
+    → option_map (dated after) value ≡ option_map (dated before) value
+row_kept None reached before after is = refl
+row_kept (Some value) true before after is = ap (λ (d : Option ℕ). Some (dated d value)) is
+row_kept (Some value) false before after is = ap (λ (d : Option ℕ). Some (dated d value)) is
+
+-- a call that only reads leaves the key its value
+read_value : (change : DeadlineChange) (old new : TimedTable) (invocation : Invocation) (reply : Reply) → invocation.method ≡ get
+    → CallsWith change old invocation reply new → map.get new.table invocation.key ≡ map.get old.table invocation.key
+read_value change old new invocation reply reads calls =
+    let value : Option (List ℕ) = map.get old.table invocation.key in
+    let leaves = subst (λ (m : Method). Follows (rule_of m value) invocation.key value calls.answers.0 reply) reads calls.answers.1.0 in
+    ap (λ (t : Table). map.get t invocation.key) calls.answers.1.1 ∙ here old.table invocation.key calls.answers.0 ∙ leaves.0
+
+-- of one key, and of any other
+at_each : (old new : TimedTable) (at : List ℕ) → row_of new at ≡ row_of old at → ((key : List ℕ) → key ≢ at → row_of new key ≡ row_of old key)
+    → (key : List ℕ) → row_of new key ≡ row_of old key
+at_each old new at same others key = elim (same_or_not key at) [
+  | inl is ↦ ap (row_of new) is ∙ same ∙ ap (row_of old) (sym is)
+  | inr apart ↦ others key apart
+]
+
+not_over : (table : Table) (key : List ℕ) (b : Bool) → b ≡ false → (if b then map.remove table key else table) ≡ table
+not_over table key b is = rw is refl
+
+not_cleared : (deadline : Option ℕ) (b : Bool) → b ≡ false → (if b then None else deadline) ≡ deadline
+not_cleared deadline b is = rw is refl
+
+-- without a clock it leaves all rows; and at a time, if nothing else was done
+read_only : (timing : Option Timing) (old new : TimedTable) (invocation : Invocation) (timed : TimedReply) (bytes : List ℕ) → invocation.method ≡ get
+    → MakesCall timing old invocation timed bytes new → LeavesSame timing timed → (key : List ℕ) → row_of new key ≡ row_of old key
+read_only None old new invocation timed bytes reads made same =
+    let kept = subst (λ (m : Method). CallsWith (change_of m) old invocation (reply_by timed.kind bytes) new) reads made in
+    let value = read_value _ old new invocation _ reads made in
+    at_each old new invocation.key (row_kept _ _ _ _ kept.here ∙ ap (option_map (dated (old.deadline invocation.key))) value) (called_beside _ old new invocation _ made)
+read_only (Some timing) old new invocation timed bytes reads made same =
+    let between = made.between in
+    let value = read_value _ between new invocation _ reads made.calls in
+    let table : between.table ≡ old.table = made.takes.table ∙ not_over old.table invocation.key timed.was_over same.0 in
+    let before : between.deadline invocation.key ≡ old.deadline invocation.key = made.takes.here ∙ not_cleared _ timed.was_over same.0 in
+    let after : new.deadline invocation.key ≡ old.deadline invocation.key = sym made.after ∙ sym same.1 ∙ made.before ∙ before in
+    at_each old new invocation.key (same_row old new invocation.key (value ∙ ap (λ (t : Table). map.get t invocation.key) table) after)
+    (made_beside (Some timing) old new invocation timed bytes made)
+
+-- a key was taken away and noted
+pub expired_change : (old_notes new_notes : NotedKeys) (old new : TimedTable) (at : List ℕ) (now : ℕ) (was_over : Bool) → TakesIfOver old at now was_over new
+    → NotesKey old_notes at new_notes → NotesChanges (is_noted old_notes) old (is_noted new_notes) new
+expired_change old_notes new_notes old new at now was_over takes notes = noted_change old_notes new_notes old new at notes (taken_beside old new at now was_over takes)
+
+-- a call was made, and its key was noted
+pub made_change : (timing : Option Timing) (old_notes new_notes : NotedKeys) (old new : TimedTable) (invocation : Invocation) (timed : TimedReply) (bytes : List ℕ)
+    → MakesCall timing old invocation timed bytes new → NotesKey old_notes invocation.key new_notes → NotesChanges (is_noted old_notes) old (is_noted new_notes) new
+made_change timing old_notes new_notes old new invocation timed bytes made notes =
+    noted_change old_notes new_notes old new invocation.key notes (made_beside timing old new invocation timed bytes made)
+
+-- a call was refused, and nothing was noted
+pub refused_change : (timing : Option Timing) (notes : NotedKeys) (old new : TimedTable) (invocation : Invocation) → RefusesCall timing old invocation new
+    → NotesChanges (is_noted notes) old (is_noted notes) new
+refused_change timing notes old new invocation refused = no_change notes old new (refused_same timing old new invocation refused)
+
+-- a call only read, and nothing was noted
+pub read_change : (timing : Option Timing) (notes : NotedKeys) (old new : TimedTable) (invocation : Invocation) (timed : TimedReply) (bytes : List ℕ)
+    → MakesCall timing old invocation timed bytes new → invocation.method ≡ get → LeavesSame timing timed → NotesChanges (is_noted notes) old (is_noted notes) new
+read_change timing notes old new invocation timed bytes made reads same =
+    no_change notes old new (read_only timing old new invocation timed bytes reads made same)

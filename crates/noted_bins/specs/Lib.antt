@@ -1,0 +1,5 @@
+pub mod Rows
+pub mod Notes
+pub mod Marks
+pub mod Hands
+pub mod Taking

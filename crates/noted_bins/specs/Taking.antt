@@ -1,0 +1,17 @@
+-- Rows that were added to a list of changes.
+use Rattle.std.specs.Prelude.{◌≡◌, ◌⊎◌, ℕ, true, List, [], ◌++◌, None, slice_index_or}
+use Rattle.std.specs.List.{All}
+use Rattle.std.specs.FinMap as finite
+use Rattle.timed_bins.specs.Deadlines.{TimedTable}
+use Rattle.noted_bins.specs.Rows.{Row, has_row, row_of}
+
+-- the row at a position
+abbrev pub row_at : List Row → ℕ → Row
+row_at rows position = slice_index_or rows position ([], None)
+
+-- rows of all entries were added
+pub record HandsOutAll (table : TimedTable) (old new : List Row) : Type 0 where
+  pub rows : List Row
+  pub added : new ≡ old ++ rows
+  pub present : All (λ (row : Row). row.1 ≡ row_of table row.0) rows
+  pub known : (key : List ℕ) → (has_row rows key ≡ true) ⊎ (finite.get table.table key ≡ None)

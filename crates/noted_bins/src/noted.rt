@@ -1,0 +1,235 @@
+//! Bins with notes of which keys changed.
+ghost use Rattle.std.specs.Prelude.{◌≡◌, ◌++◌, false, List, IsTrue, IfOk, OnErr, option_copied};
+ghost use Rattle.atomic_methods.specs.Invocations.{get, invocation_of};
+ghost use Rattle.timed_bins.specs.Deadlines.{timed_table, MakesCall, RefusesCall, Expires};
+ghost use Rattle.noted_bins.specs.Hands.{LeavesSame};
+ghost use Rattle.noted_bins.specs.Notes.{NotesChanges, TakesChanges, is_noted};
+ghost use Rattle.noted_bins.specs.Rows.{Row};
+
+use crate::changes::Changes;
+use crate::noted_bins::NotedBins;
+use crate::notes::Notes;
+use crate::taken::Taken;
+use atomic_methods::{Call, HashedCall, Workspace};
+use bins::{Bins, Counts, EntryList, HashedKey, Opening};
+use bpf_model::{NoMemory, Value};
+use std::alloc::Global;
+use timed_bins::{Expiry, TimedBins, TimedReply, Timing};
+use verifier::Verified;
+
+/// Bins with deadlines, and notes of the keys that changed since their rows were handed out. At first all keys are noted, and
+/// each call tests that once. After the first save each key that changes is noted.
+#[derive(Drop)]
+pub struct Noted<T: TimedBins> {
+    bins: T,
+    notes: Notes,
+}
+
+impl<T: TimedBins + Drop> Noted<T> {
+    /// Makes one call, and notes its key unless it changed nothing.
+    #[inline(always)]
+    fn make(
+        &mut self,
+        call: &HashedCall<'_>,
+        timing: Option<&Timing>,
+        workspace: &mut Workspace,
+        bytes: &mut Value,
+    ) -> Result<TimedReply, NoMemory>
+        ensures ok { IfOk result (λ timed. MakesCall (option_copied timing.entry)
+            (timed_table (T.table self.old.bins) (T.deadline self.old.bins) (T.latest self.old.bins)) call.now timed bytes.new
+            (timed_table (T.table self.new.bins) (T.deadline self.new.bins) (T.latest self.new.bins))) }
+        ensures err { OnErr result (RefusesCall (option_copied timing.entry)
+            (timed_table (T.table self.old.bins) (T.deadline self.old.bins) (T.latest self.old.bins)) call.now
+            (timed_table (T.table self.new.bins) (T.deadline self.new.bins) (T.latest self.new.bins))) }
+        ensures notes { NotesChanges (is_noted self.old.notes)
+            (timed_table (T.table self.old.bins) (T.deadline self.old.bins) (T.latest self.old.bins)) (is_noted self.new.notes)
+            (timed_table (T.table self.new.bins) (T.deadline self.new.bins) (T.latest self.new.bins)) }
+    {
+        let timed = self.bins.call(call, timing, workspace, bytes)?;
+        if !is_get(call.call()) || changes_deadline(timing, &timed) {
+            self.notes.note(call.key(), &self.bins);
+        }
+        Ok(timed)
+    }
+
+    /// Takes at most one entry away whose time is over, and notes its key.
+    fn expire(&mut self, now: u64) -> Expiry
+        ensures expires { Expires (timed_table (T.table self.old.bins) (T.deadline self.old.bins) (T.latest self.old.bins)) now result
+            (timed_table (T.table self.new.bins) (T.deadline self.new.bins) (T.latest self.new.bins)) }
+        ensures notes { NotesChanges (is_noted self.old.notes)
+            (timed_table (T.table self.old.bins) (T.deadline self.old.bins) (T.latest self.old.bins)) (is_noted self.new.notes)
+            (timed_table (T.table self.new.bins) (T.deadline self.new.bins) (T.latest self.new.bins)) }
+    {
+        match self.bins.expire_one(now) {
+            Expiry::Took(key) => {
+                self.notes.note(&HashedKey::new(&key), &self.bins);
+                Expiry::Took(key)
+            }
+            Expiry::Waits(at) => Expiry::Waits(at),
+            Expiry::Nothing => Expiry::Nothing,
+        }
+    }
+}
+
+/// Returns whether the call only reads.
+#[inline(always)]
+fn is_get(call: &Call) -> bool
+    ensures { IsTrue result → (invocation_of call.now).method ≡ get }
+{
+    matches!(call, Call::Get { .. })
+}
+
+/// Returns whether a call that only reads its value changed its entry nonetheless: took it away, or set its deadline.
+#[inline(always)]
+fn changes_deadline(timing: Option<&Timing>, timed: &TimedReply) -> bool
+    ensures { result ≡ false → LeavesSame (option_copied timing.entry) timed.now }
+{
+    timing.is_some() && (timed.was_over || timed.before != timed.after)
+}
+
+/// Adds rows of noted keys to the changes, at most `most` of them.
+fn take_some<T: TimedBins>(
+    bins: &T,
+    notes: &mut Notes,
+    most: usize,
+    changes: &mut Changes,
+) -> Result<Taken, NoMemory>
+    requires { notes.old.all ≡ false }
+    ensures ok { IfOk result (λ taken. (rows : List Row) × ((changes.new ≡ changes.old ++ rows)
+        × TakesChanges (is_noted notes.old) (timed_table (T.table bins.now) (T.deadline bins.now) (T.latest bins.now))
+        taken rows (is_noted notes.new) (timed_table (T.table bins.now) (T.deadline bins.now) (T.latest bins.now)))) }
+    ensures err { OnErr result ((changes.new ≡ changes.old) × (notes.new ≡ notes.old)) }
+{
+    for handed in 0..most {
+        let Some(key) = notes.last() else {
+            return Ok(Taken::Rest);
+        };
+        if let Err(fault) = changes.add(bins, &key) {
+            return if handed == 0 {
+                Err(fault)
+            } else {
+                Ok(Taken::Some)
+            };
+        }
+        notes.drop_last();
+    }
+    if notes.is_empty() {
+        Ok(Taken::Rest)
+    } else {
+        Ok(Taken::Some)
+    }
+}
+
+impl<T: TimedBins + Drop> Bins for Noted<T> {
+    ghost table = { λ noted. T.table noted.bins };
+
+    fn open(alloc: Global, stripes: u64) -> Result<Noted<T>, NoMemory> {
+        Ok(Noted {
+            bins: T::open(alloc, stripes)?,
+            notes: Notes::of_all(alloc),
+        })
+    }
+
+    fn open_with(alloc: Global, stripes: u64, opening: &Opening) -> Result<Noted<T>, NoMemory> {
+        Ok(Noted {
+            bins: T::open_with(alloc, stripes, opening)?,
+            notes: Notes::of_all(alloc),
+        })
+    }
+
+    #[inline(always)]
+    fn find(&self, key: &HashedKey<'_>) -> Option<&[u8]> {
+        self.bins.find(key)
+    }
+
+    fn put(&mut self, key: &HashedKey<'_>, value: &Value) -> Result<(), NoMemory> {
+        self.notes.note(key, &self.bins);
+        self.bins.put(key, value)
+    }
+
+    fn add(&mut self, key: &HashedKey<'_>, value: &Value) -> Result<(), NoMemory> {
+        self.notes.note(key, &self.bins);
+        self.bins.add(key, value)
+    }
+
+    fn discard(&mut self, key: &HashedKey<'_>) {
+        self.notes.note(key, &self.bins);
+        self.bins.discard(key);
+    }
+
+    fn copy_into(&self, list: &mut EntryList) -> Result<(), NoMemory> {
+        self.bins.copy_into(list)
+    }
+
+    fn count(&self) -> u64 {
+        self.bins.count()
+    }
+
+    fn replace_each(&mut self, program: &Verified, arg: &Option<Value>) -> Counts {
+        self.notes.note_all();
+        self.bins.replace_each(program, arg)
+    }
+}
+
+impl<T: TimedBins + Drop> TimedBins for Noted<T> {
+    ghost deadline = { λ noted. T.deadline noted.bins };
+
+    ghost latest = { λ noted. T.latest noted.bins };
+
+    #[inline(always)]
+    fn call(
+        &mut self,
+        call: &HashedCall<'_>,
+        timing: Option<&Timing>,
+        workspace: &mut Workspace,
+        bytes: &mut Value,
+    ) -> Result<TimedReply, NoMemory> {
+        self.make(call, timing, workspace, bytes)
+    }
+
+    fn deadline_of(&self, key: &HashedKey<'_>) -> Option<u64> {
+        self.bins.deadline_of(key)
+    }
+
+    fn expire_one(&mut self, now: u64) -> Expiry {
+        self.expire(now)
+    }
+}
+
+impl<T: TimedBins + Drop> NotedBins for Noted<T> {
+    ghost noted = { λ noted. is_noted noted.notes };
+
+    #[inline(always)]
+    fn call_noted(
+        &mut self,
+        call: &HashedCall<'_>,
+        timing: Option<&Timing>,
+        workspace: &mut Workspace,
+        bytes: &mut Value,
+    ) -> Result<TimedReply, NoMemory> {
+        self.make(call, timing, workspace, bytes)
+    }
+
+    fn expire_noted(&mut self, now: u64) -> Expiry {
+        self.expire(now)
+    }
+
+    fn replace_noted(&mut self, program: &Verified, arg: &Option<Value>) -> Counts {
+        self.notes.note_all();
+        self.bins.replace_each(program, arg)
+    }
+
+    fn take_changes(
+        &mut self,
+        anew: bool,
+        most: usize,
+        changes: &mut Changes,
+    ) -> Result<Taken, NoMemory> {
+        if !anew && !self.notes.are_all() {
+            return take_some(&self.bins, &mut self.notes, most, changes);
+        }
+        changes.add_all(&self.bins)?;
+        self.notes.forget();
+        Ok(Taken::All)
+    }
+}
