@@ -1,5 +1,5 @@
 -- The last entries of a map: the copies made by a pass that has taken every stripe.
-use Rattle.std.proofs.Common.{◌≡◌, ℕ, suc, ◌+◌, true, List, [], ◌∷◌, ◌++◌, Option, Some, None, refl, sym, ap, ◌∙◌, subst, append-nil, arith}
+use Rattle.std.proofs.Common.{◌≡◌, ℕ, suc, ◌+◌, Bool, true, List, [], ◌∷◌, ◌++◌, Option, Some, None, refl, sym, ap, ◌∙◌, subst, append-nil, arith}
 use Rattle.std.proofs.lemmas.Grind.{flat_map-append}
 use Rattle.std.specs.FinMap as map
 use Rattle.std.specs.FinMap.{get-empty}
@@ -17,6 +17,7 @@ use Rattle.atomic_methods.specs.Hashes.{stripe_of, IsStripeCount}
 use Rattle.atomic_methods.specs.Whole.{all_entries, whole, stripe_at, AreStripes}
 use Rattle.bin_stripes.specs.declared.ghost_action.GhostAction.{GhostAction}
 use Rattle.bin_stripes.specs.Histories.{empty, does, Leaves, Sound}
+use Rattle.bin_stripes.specs.Saves.{keeps}
 use Rattle.bin_stripes.specs.Passes.{PassState, stripes_of}
 use Rattle.bin_stripes.specs.Closed.{Closes}
 use Rattle.bin_stripes.proofs.StripeTables.{leaves_within}
@@ -30,9 +31,9 @@ pub carries_next : (w u x : View GhostAction) (k : ℕ) → x ≡ u → Extends 
 carries_next w u x k is e c = subst (λ (z : View GhostAction). Carries z (least z.numbers)) (sym is) (least_has (least w.numbers) u.numbers (carries_same w u (least w.numbers) e.sets.numbers c))
 
 -- one more stripe is taken
-pub taken_next : {B : Type 0} (content : B → Table) (n k : ℕ) (v : View GhostAction) (me me' : Me (Option B) (View GhostAction)) (x : View GhostAction) (tables : List Table) (bins : B) → HasTaken (does n) empty v k tables me.0
-    → Takes (does n) empty content k me me' → x ≡ me'.0 → Leaves n k (seen_of me'.0 k) (content bins) → HasTaken (does n) empty v (k + 1) (tables ++ content bins ∷ []) x
-taken_next content n k v me me' x tables bins h t is found = subst (λ (z : View GhostAction). HasTaken (does n) empty v (k + 1) (tables ++ content bins ∷ []) z) (sym is)
+pub taken_next : {B : Type 0} (content : B → Table) (noted : B → List ℕ → Bool) (n k : ℕ) (v : View GhostAction) (me me' : Me (Option B) (View GhostAction)) (x : View GhostAction) (tables : List Table) (bins : B) → HasTaken (does n) empty v k tables me.0
+    → Takes (does n) empty content (keeps content noted) k me me' → x ≡ me'.0 → Leaves n k (seen_of me'.0 k) (content bins) → HasTaken (does n) empty v (k + 1) (tables ++ content bins ∷ []) x
+taken_next content noted n k v me me' x tables bins h t is found = subst (λ (z : View GhostAction). HasTaken (does n) empty v (k + 1) (tables ++ content bins ∷ []) z) (sym is)
     (taken_more (does n) empty v me.0 me'.0 k tables (content bins) h t.extends found)
 
 none_unless : (x : Option (List ℕ)) → ((value : List ℕ) → x ≡ Some value → ⊥) → x ≡ None

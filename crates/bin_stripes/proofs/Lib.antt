@@ -1,11 +1,13 @@
 pub mod StepLemmas
+pub mod SaveLemmas
 pub mod StripeTables
 pub mod Making
 pub mod TimedMaking
 pub mod TimedLemmas
+pub mod SavingLemmas
 pub mod OpenedLemmas
+pub mod OpeningLemmas
 pub mod TellingLemmas
 pub mod PassLemmas
 pub mod AllSeenLemmas
 pub mod ClosingLemmas
-pub mod StripeContent

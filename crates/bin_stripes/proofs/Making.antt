@@ -27,6 +27,8 @@ use Rattle.bin_stripes.specs.declared.ghost_action.GhostAction.{GhostAction}
 use Rattle.bin_stripes.specs.Actions.{Action, called, scanned, replaced, Does}
 use Rattle.bin_stripes.specs.Histories.{does, empty, own_events, Leaves}
 use Rattle.bin_stripes.specs.Invoked.{AreReplacements}
+use Rattle.bin_stripes.specs.Saves.{kept_from}
+use Rattle.bin_stripes.proofs.SaveLemmas.{HandNothingOut}
 use Rattle.bin_stripes.proofs.StripeTables.{IsWithin, leaves_within}
 
 module _ (n k : ℕ) where
@@ -118,3 +120,18 @@ module _ (n k : ℕ) where
           (leaves_more v old new actions l (replays_all program arg r.outcome old new v r.values r.comes_to (leaves_within n k old (seen_of v k) l))),
     ),
   )
+
+-- none of these actions hands anything out
+pub nothing_hands_out : (actions : List Action) → actions ≡ [] → HandNothingOut actions
+nothing_hands_out actions is v kept = ap (λ acts. kept_from kept (own_events v acts)) is
+
+pub scan_hands_out : (entries : List Entry) (actions : List Action) → actions ≡ scanned entries ∷ [] → HandNothingOut actions
+scan_hands_out entries actions is v kept = ap (λ acts. kept_from kept (own_events v acts)) is
+
+pub replacements_hand_out : (program : Checked) (arg : Option (List ℕ)) (entries : List Entry) (actions : List Action) (counts : Counts)
+    → AreReplacements program arg entries actions counts → HandNothingOut actions
+replacements_hand_out program arg entries actions counts r v kept = ap (λ acts. kept_from kept (own_events v acts)) r.actions_are ∙ none entries
+  where
+    none : (entries : List Entry) → kept_from kept (own_events v (map (λ entry. replaced entry.0 program arg (r.outcome entry.0)) entries)) ≡ kept
+    none [] = refl
+    none (entry ∷ rest) = none rest

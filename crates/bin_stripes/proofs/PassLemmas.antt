@@ -82,6 +82,10 @@ pub on_err_so : {X E P Q : Type 0} (r : Result X E) → (P → Q) → OnErr r P 
 on_err_so (Ok x) f p = tt
 on_err_so (Err e) f p = f p
 
+pub on_err_of : {X E P : Type 0} (r : Result X E) → P → OnErr r P
+on_err_of (Ok x) p = tt
+on_err_of (Err e) p = p
+
 pub if_ok_so : {X E : Type 0} (P Q : X → Type 0) (r : Result X E) → ((x : X) → P x → Q x) → IfOk r P → IfOk r Q
 if_ok_so P Q (Ok x) f p = f x p
 if_ok_so P Q (Err e) f p = tt

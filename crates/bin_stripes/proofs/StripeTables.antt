@@ -15,7 +15,7 @@ use Rattle.atomic_methods.specs.Hashes.{stripe_of}
 use Rattle.atomic_methods.specs.Methods.{with_value}
 use Rattle.atomic_methods.proofs.WholeLemmas.{some_of_none}
 use Rattle.bin_stripes.specs.declared.ghost_action.GhostAction.{GhostAction}
-use Rattle.bin_stripes.specs.Actions.{Action, called, scanned, replaced, Does}
+use Rattle.bin_stripes.specs.Actions.{Action, called, scanned, replaced, saved, Does}
 use Rattle.bin_stripes.specs.Histories.{does, empty, Leaves}
 use Rattle.bin_stripes.specs.Invoked.{AreOf}
 
@@ -49,6 +49,7 @@ module _ (n k : ℕ) where
   does_within t u (called invocation reply) d all = subst Within (sym d.1.1.1) (with_within t invocation.key d.1.0 d.0 all)
   does_within t u (scanned entries) d all = subst Within (sym d.1) all
   does_within t u (replaced key program arg outcome) d all = subst Within (sym d.1.1.1.1) (insert_within t key _ d.0 all)
+  does_within t u (saved whole rows) d all = subst Within (sym d.1.1) all
 
   replays_within : (t u : Table) (es : List (Event GhostAction)) → Rattle.stripe_rule.specs.History.Replays (does n k) t es u → Within t → Within u
   replays_within t u [] r all = subst Within (sym r) all

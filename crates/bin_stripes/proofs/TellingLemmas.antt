@@ -1,5 +1,5 @@
 -- A pass at rest is told something, and looks.
-use Rattle.std.proofs.Common.{◌≡◌, ℕ, List, [], ◌∷◌, ◌++◌, Option, refl, sym, ap, ◌∙◌, subst}
+use Rattle.std.proofs.Common.{◌≡◌, ℕ, Bool, List, [], ◌∷◌, ◌++◌, Option, refl, sym, ap, ◌∙◌, subst}
 use Rattle.known_seat.specs.Knowing.{Learns}
 use Rattle.atomic_table.specs.Table.{Me}
 use Rattle.stripe_rule.specs.declared.view.Part.{Part}
@@ -14,14 +14,15 @@ use Rattle.bins.specs.Table.{Table}
 use Rattle.bin_stripes.specs.declared.ghost_action.GhostAction.{GhostAction}
 use Rattle.bin_stripes.specs.declared.rule.Shape.{Shape}
 use Rattle.bin_stripes.specs.Histories.{empty, does, Sound}
+use Rattle.bin_stripes.specs.Saves.{keeps}
 use Rattle.bin_stripes.specs.Holding.{Rests}
 use Rattle.bin_stripes.proofs.StepLemmas.{settles_lost}
 
 -- a pass is told what another at rest has seen
-pub learns_of : {B : Type 0} (content : B → Table) (shape : Shape) (id : ℕ) (v : View GhostAction) (other : ℕ) (from : View GhostAction) → Carries v (least v.numbers) → Carries from (least from.numbers)
-    → Learns (Kept (does shape.stripes) empty content shape.stripes shape.passes) id v other from (λ u. IsTold from v u)
-learns_of content shape id v other from c c' s kept at there =
-    let t = told_by (does shape.stripes) empty content shape.stripes shape.passes id v other from (least v.numbers) (least from.numbers) c c' s kept at there in
+pub learns_of : {B : Type 0} (content : B → Table) (noted : B → List ℕ → Bool) (shape : Shape) (id : ℕ) (v : View GhostAction) (other : ℕ) (from : View GhostAction) → Carries v (least v.numbers) → Carries from (least from.numbers)
+    → Learns (Kept (does shape.stripes) empty content (keeps content noted) shape.stripes shape.passes) id v other from (λ u. IsTold from v u)
+learns_of content noted shape id v other from c c' s kept at there =
+    let t = told_by (does shape.stripes) empty content (keeps content noted) shape.stripes shape.passes id v other from (least v.numbers) (least from.numbers) c c' s kept at there in
     (t.0, t.1.0, t.1.1)
 
 -- being told something is not yet news of any stripe
@@ -76,5 +77,5 @@ pub told_rests : {B : Type 0} (from : View GhostAction) (me me' : Me (Option B) 
 told_rests from me me' r t out = rests_heard from 0 me me' r (heard_none from me.0 me'.0 t) out
 
 -- after it looked, it rests as before
-pub told_looks : {B : Type 0} (n : ℕ) (content : B → Table) (k : ℕ) (me me' : Me (Option B) (View GhostAction)) → Rests me → Looks (does n) empty k me me' → Rests me'
-told_looks n content k me me' r l = (settles_lost content n k me me' r l).rests
+pub told_looks : {B : Type 0} (n : ℕ) (content : B → Table) (noted : B → List ℕ → Bool) (k : ℕ) (me me' : Me (Option B) (View GhostAction)) → Rests me → Looks (does n) empty k me me' → Rests me'
+told_looks n content noted k me me' r l = (settles_lost content noted n k me me' r l).rests

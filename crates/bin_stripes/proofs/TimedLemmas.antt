@@ -1,5 +1,5 @@
 -- Calls at a time, from the seat to the pass, and calls that no refusal of memory meets.
-use Rattle.std.proofs.Common.{◌≡◌, ℕ, Bool, true, false, List, [], ◌∷◌, ◌++◌, Option, Some, None, refl, sym, ap, subst, inl, inr}
+use Rattle.std.proofs.Common.{◌≡◌, ℕ, Bool, true, false, List, [], ◌∷◌, ◌++◌, Option, Some, None, refl, sym, ap, ◌∙◌, subst, inl, inr, append-nil}
 use Rattle.atomic_table.specs.Table.{Me}
 use Rattle.atomic_table.specs.Seated.{TableId}
 use Rattle.stripe_rule.specs.declared.view.View.{View}
@@ -17,25 +17,41 @@ use Rattle.timed_bins.specs.Deadlines.{TimedTable, asks_room}
 use Rattle.bin_stripes.specs.declared.ghost_action.GhostAction.{GhostAction}
 use Rattle.bin_stripes.specs.Actions.{Action}
 use Rattle.bin_stripes.specs.Histories.{does, empty, own_events, Leaves}
-use Rattle.bin_stripes.specs.Holding.{Rests}
+use Rattle.bin_stripes.specs.Saves.{keeps}
+use Rattle.bin_stripes.specs.Holding.{Rests, Settles, SeatRefuses}
+use Rattle.bin_stripes.specs.Releasing.{Lets}
 use Rattle.bin_stripes.specs.Invoked.{Makes, stripe_for}
 use Rattle.bin_stripes.specs.Passes.{PassState, stripes_of}
-use Rattle.bin_stripes.specs.Timed.{CallsAt, RefusesAt, ExpiresOne}
+use Rattle.bin_stripes.specs.Timed.{CallsAt, RefusesAt, ExpiresOne, PassCalls, PassIsRefused, plain_of}
 use Rattle.bin_stripes.specs.Deeds.{CallsBy, RefusesBy, ExpiresBy, LetsAt, SettlesAt}
-use Rattle.bin_stripes.proofs.StepLemmas.{settles_after}
+use Rattle.bin_stripes.proofs.StepLemmas.{settles_after, settles_as, refuses_after}
 use Rattle.bin_stripes.proofs.PassLemmas.{state}
 
 -- what a release lets after a take
-pub settles_at : {B : Type 0} (content : B → Table) (did : TimedTable → TimedTable → List Action → Type 0) (stripes k : ℕ) (me held me' : Me (Option B) (View GhostAction))
-    → Rests me → Takes (does stripes) empty content k me held → LetsAt did stripes k held me' → SettlesAt did stripes k me me'
-settles_at content did stripes k me held me' r t l = record {
+abbrev pub settles_at : {B : Type 0} (content : B → Table) (noted : B → List ℕ → Bool) (did : TimedTable → TimedTable → List Action → Type 0) (stripes k : ℕ) (me held me' : Me (Option B) (View GhostAction))
+    → Rests me → Takes (does stripes) empty content (keeps content noted) k me held → LetsAt did stripes k held me' → SettlesAt did stripes k me me'
+settles_at content noted did stripes k me held me' r t l = record {
   before = l.before;
   after = l.after;
   actions = l.lets.actions;
   did_so = l.lets.may_be;
-  settles = settles_after content stripes k me held me' l.lets.actions r t l.lets.releases;
+  settles = settles_after content noted stripes k me held me' l.lets.actions r t l.lets.releases;
   found = subst (λ es. Leaves stripes k es l.before.table) (ap (λ p. p.seen) t.extends.sets.here) l.found;
 }
+
+module _ {B : Type 0} (content : B → Table) (noted : B → List ℕ → Bool) (stripes k : ℕ) where
+  -- a refused call without a time made nothing
+  lets_none : (held me' : Me (Option B) (View GhostAction)) (invocation : Invocation) → LetsAt (RefusesBy None invocation) stripes k held me' → Lets (λ made. made ≡ []) stripes k held me'
+  lets_none held me' invocation l = record { actions = l.lets.actions; may_be = l.lets.may_be.1; releases = l.lets.releases }
+
+  pub settles_refused : (me held me' : Me (Option B) (View GhostAction)) (invocation : Invocation) → Rests me → Takes (does stripes) empty content (keeps content noted) k me held
+      → LetsAt (RefusesBy None invocation) stripes k held me' → Settles stripes k me [] me'
+  settles_refused me held me' invocation r t l = settles_as content noted stripes k me held me' [] r t (lets_none held me' invocation l)
+
+  -- and would have added its key
+  pub seat_refused : (held me' : Me (Option B) (View GhostAction)) (invocation : Invocation) → LetsAt (RefusesBy None invocation) stripes k held me' → SeatRefuses stripes k me' invocation
+  seat_refused held me' invocation l = refuses_after content noted stripes k held me' invocation (lets_none held me' invocation l)
+      record { table = l.before.table; left = l.found; adds = l.lets.may_be.0 }
 
 -- the pass made these actions, after events that leave this table
 abbrev pub MakesFrom : PassState → ℕ → List Action → Table → PassState → Type 0
@@ -45,31 +61,48 @@ module _ {B : Type 0} (id : TableId) (views : List (View GhostAction)) (me : Me 
     (k : ℕ) (me' : Me (Option B) (View GhostAction)) (id' : TableId) (views' : List (View GhostAction)) (is' : views' ≡ me'.0 ∷ [])
     (old : PassState) (view_is : state id views ≡ old) where
   -- what the seat made, the pass made
-  makes_from : (did : TimedTable → TimedTable → List Action → Type 0) (s : SettlesAt did (stripes_of id) k me me') (actions : List Action) (j : ℕ) → s.actions ≡ actions → k ≡ j
+  pub makes_from : (did : TimedTable → TimedTable → List Action → Type 0) (s : SettlesAt did (stripes_of id) k me me') (actions : List Action) (j : ℕ) → s.actions ≡ actions → k ≡ j
       → MakesFrom old j actions s.before.table (state id' views')
   makes_from did s actions j same here = subst (λ (z : PassState × ℕ). MakesFrom z.0 z.1 actions s.before.table (state id' views')) (λ i. (view_is i, here i))
       (subst (λ (z : View GhostAction × View GhostAction × List Action). (makes : Adds z.0 k (own_events z.0 z.2) z.1) × Leaves (stripes_of id) k (seen_of z.0 k ++ makes.here.between) s.before.table)
       (λ i. (sym (ap view_of is) i, sym (ap view_of is') i, same i)) (s.settles.adds, s.found))
 
   -- a call at a time
-  pub calls_at : (timing : Timing) (invocation : Invocation) (timed : TimedReply) (bytes : List ℕ) → SettlesAt (CallsBy timing invocation timed bytes) (stripes_of id) k me me'
+  pub calls_at : (timing : Timing) (invocation : Invocation) (timed : TimedReply) (bytes : List ℕ) → SettlesAt (CallsBy (Some timing) invocation timed bytes) (stripes_of id) k me me'
       → k ≡ stripe_for old invocation → CallsAt old timing invocation timed bytes (state id' views')
   calls_at timing invocation timed bytes s here =
-      let m = makes_from (CallsBy timing invocation timed bytes) s _ (stripe_for old invocation) s.did_so.1 here in
+      let m = makes_from (CallsBy (Some timing) invocation timed bytes) s _ (stripe_for old invocation) s.did_so.1 here in
       record { before = s.before; after = s.after; calls = s.did_so.0; makes = m.0; found = m.1 }
 
   -- a refusal at a time
-  pub refuses_at : (timing : Timing) (invocation : Invocation) → SettlesAt (RefusesBy timing invocation) (stripes_of id) k me me'
+  pub refuses_at : (timing : Timing) (invocation : Invocation) → SettlesAt (RefusesBy (Some timing) invocation) (stripes_of id) k me me'
       → k ≡ stripe_for old invocation → RefusesAt old timing invocation (state id' views')
   refuses_at timing invocation s here =
-      let m = makes_from (RefusesBy timing invocation) s _ (stripe_for old invocation) s.did_so.1 here in
+      let m = makes_from (RefusesBy (Some timing) invocation) s _ (stripe_for old invocation) s.did_so.1 here in
       record { before = s.before; after = s.after; refuses = s.did_so.0; makes = m.0; found = m.1 }
 
+  -- a call, at a time or whatever the time is
+  pub pass_calls : (timing : Option Timing) (invocation : Invocation) (timed : TimedReply) (bytes : List ℕ) → SettlesAt (CallsBy timing invocation timed bytes) (stripes_of id) k me me'
+      → k ≡ stripe_for old invocation → PassCalls timing old invocation timed bytes (state id' views')
+  pass_calls None invocation timed bytes s here = (makes_from (CallsBy None invocation timed bytes) s _ (stripe_for old invocation) s.did_so here).0
+  pass_calls (Some timing) invocation timed bytes s here = calls_at timing invocation timed bytes s here
+
+  -- a refusal, at a time or whatever the time is
+  pub pass_is_refused : (timing : Option Timing) (invocation : Invocation) → SettlesAt (RefusesBy timing invocation) (stripes_of id) k me me'
+      → k ≡ stripe_for old invocation → PassIsRefused timing old invocation (state id' views')
+  pass_is_refused None invocation s here = let m = makes_from (RefusesBy None invocation) s [] (stripe_for old invocation) s.did_so.1 here in record {
+    nothing = m.0;
+    table = s.before.table;
+    left = subst (λ es. Leaves (stripes_of old.map) (stripe_for old invocation) es s.before.table) (sym (m.0.here.seen ∙ append-nil (seen_of old.view (stripe_for old invocation) ++ m.0.here.between))) m.1;
+    adds = s.did_so.0;
+  }
+  pass_is_refused (Some timing) invocation s here = refuses_at timing invocation s here
+
   -- a look for an entry whose time is over
-  pub expires_one : (now : ℕ) (expiry : Expiry) → SettlesAt (ExpiresBy now expiry) (stripes_of id) k me me' → ExpiresOne old k now expiry (state id' views')
+  pub expires_one : (now : ℕ) (expiry : Expiry) → SettlesAt (ExpiresBy now expiry) (stripes_of id) k me me' → ExpiresOne old k now (plain_of expiry) (state id' views')
   expires_one now expiry s =
       let m = makes_from (ExpiresBy now expiry) s _ k s.did_so.1 refl in
-      record { before = s.before; after = s.after; expires = s.did_so.0; makes = m.0; found = m.1 }
+      record { expiry = expiry; answer_is = refl; before = s.before; after = s.after; expires = s.did_so.0; makes = m.0; found = m.1 }
 
 -- a method that never adds its key
 abbrev pub adds_no_key : Method → Bool
@@ -108,6 +141,6 @@ would_not_add table invocation none adds = let (absent, (value, (reply, follows)
 pub never_refused : (old new : PassState) (timing : Timing) (invocation : Invocation) → adds_no_key invocation.method ≡ true → asks_room timing.change ≡ false
     → RefusesAt old timing invocation new → ⊥
 never_refused old new timing invocation none no_room r = elim r.refuses.memory [
-  | inl adds ↦ would_not_add r.after.table invocation none adds
+  | inl adds ↦ would_not_add r.before.table invocation none adds
   | inr room ↦ cc
 ]

@@ -1,5 +1,5 @@
 -- Actions at a time on the bins of a stripe, as events after those that were seen.
-use Rattle.std.proofs.Common.{◌≡◌, ℕ, Bool, true, false, IsTrue, if◌then◌else◌, List, [], ◌∷◌, ◌++◌, Some, None, refl, sym, ap, subst}
+use Rattle.std.proofs.Common.{◌≡◌, ℕ, Bool, true, false, IsTrue, if◌then◌else◌, List, [], ◌∷◌, ◌++◌, Option, Some, None, refl, sym, ap, ◌∙◌, subst}
 use Rattle.std.specs.FinMap as finmap
 use Rattle.stripe_rule.specs.declared.view.View.{View}
 use Rattle.stripe_rule.specs.History.{Replays}
@@ -14,12 +14,14 @@ use Rattle.timed_bins.specs.declared.timing.Timing.{Timing}
 use Rattle.timed_bins.specs.declared.timing.TimedReply.{TimedReply}
 use Rattle.timed_bins.specs.declared.timing.Expiry.{Expiry}
 use Rattle.timed_bins.specs.declared.timing.Expiry.TheVariants.{Took, Waits, Nothing}
-use Rattle.timed_bins.specs.Deadlines.{TimedTable, CallsTimed, RefusesTimed, Expires}
+use Rattle.timed_bins.specs.Deadlines.{TimedTable, MakesCall, RefusesCall, Expires}
 use Rattle.bin_stripes.specs.declared.ghost_action.GhostAction.{GhostAction}
 use Rattle.bin_stripes.specs.Actions.{Action, called, Does}
 use Rattle.bin_stripes.specs.Histories.{does, empty, own_events, Leaves}
-use Rattle.bin_stripes.specs.Timed.{taken, done_at, done_if_refused, done_to_expire}
+use Rattle.bin_stripes.specs.Timed.{taken, done_at, done_to_expire}
 use Rattle.bin_stripes.specs.Deeds.{CallsBy, RefusesBy, ExpiresBy}
+use Rattle.bin_stripes.specs.Saves.{kept_from}
+use Rattle.bin_stripes.proofs.SaveLemmas.{HandNothingOut}
 use Rattle.bin_stripes.proofs.StripeTables.{leaves_within}
 
 module _ (n k : ℕ) (v : View GhostAction) where
@@ -46,11 +48,13 @@ module _ (n k : ℕ) (v : View GhostAction) where
       → Leaves n k (seen_of v k ++ own_events v actions) u
   made t u actions l r = Replays-append (does n k) empty t u (seen_of v k) (own_events v actions) l r
 
-  -- a call was made at a time
-  pub call_at_made : (before after : TimedTable) (timing : Timing) (invocation : Invocation) (timed : TimedReply) (bytes : List ℕ)
-      → Leaves n k (seen_of v k) before.table → stripe_of n invocation.key ≡ k → CallsTimed before timing invocation timed bytes after
+  -- a call was made, at a time or whatever the time is
+  pub call_made_at : (timing : Option Timing) (before after : TimedTable) (invocation : Invocation) (timed : TimedReply) (bytes : List ℕ)
+      → Leaves n k (seen_of v k) before.table → stripe_of n invocation.key ≡ k → MakesCall timing before invocation timed bytes after
       → (actions : List Action) × (CallsBy timing invocation timed bytes before after actions × Leaves n k (seen_of v k ++ own_events v actions) after.table)
-  call_at_made before after timing invocation timed bytes l here calls = let actions = done_at invocation timed bytes calls in (
+  call_made_at None before after invocation timed bytes l here calls = let action = called invocation (reply_by timed.kind bytes) in
+      (action ∷ [], (refl, made before.table after.table (action ∷ []) l (after.table, ((here, calls.answers), refl))))
+  call_made_at (Some timing) before after invocation timed bytes l here calls = let actions = done_at invocation timed bytes calls in (
     actions,
     (
       (calls, refl),
@@ -60,18 +64,14 @@ module _ (n k : ℕ) (v : View GhostAction) where
     ),
   )
 
-  -- a call was refused at a time
-  pub refusal_made : (before after : TimedTable) (timing : Timing) (invocation : Invocation)
-      → Leaves n k (seen_of v k) before.table → stripe_of n invocation.key ≡ k → RefusesTimed before timing invocation after
+  -- a call was refused
+  pub refusal_made : (timing : Option Timing) (before after : TimedTable) (invocation : Invocation)
+      → Leaves n k (seen_of v k) before.table → stripe_of n invocation.key ≡ k → RefusesCall timing before invocation after
       → (actions : List Action) × (RefusesBy timing invocation before after actions × Leaves n k (seen_of v k ++ own_events v actions) after.table)
-  refusal_made before after timing invocation l here refuses = let actions = done_if_refused invocation refuses in (
-    actions,
-    (
-      (refuses, refl),
-      made before.table after.table actions l
-          (taken_alone refuses.was_over before.table after.table invocation.key refuses.takes.gone refuses.takes.had refuses.takes.table here),
-    ),
-  )
+  refusal_made None before after invocation l here refuses =
+      ([], ((refuses.1, refl), made before.table after.table [] l (ap (λ (t : TimedTable). t.table) refuses.0)))
+  refusal_made (Some timing) before after invocation l here refuses =
+      ([], ((refuses, refl), made before.table after.table [] l refuses.tells.table))
 
   -- at most one entry was taken away
   pub expiry_made : (before after : TimedTable) (now : ℕ) (expiry : Expiry) → Leaves n k (seen_of v k) before.table → Expires before now expiry after
@@ -80,6 +80,30 @@ module _ (n k : ℕ) (v : View GhostAction) where
       (actions, ((expires, refl), made before.table after.table actions l (replays expiry expires)))
     where
       replays : (expiry : Expiry) (expires : Expires before now expiry after) → Replays (does n k) before.table (own_events v (done_to_expire before after now expiry expires)) after.table
-      replays Took e = taken_alone true before.table after.table e.key e.takes.gone e.takes.had e.takes.table (leaves_within n k before.table (seen_of v k) l e.key e.takes.gone (e.takes.had refl))
+      replays (Took key) e = taken_alone true before.table after.table key e.gone e.had e.table (leaves_within n k before.table (seen_of v k) l key e.gone (e.had refl))
       replays (Waits at) e = e.tells.table
       replays Nothing e = e.tells.table
+
+-- none of these actions hands anything out
+pub taken_hand_out : (was_over : Bool) (key gone : List ℕ) (more : List Action) → HandNothingOut more → HandNothingOut (taken was_over key gone ++ more)
+taken_hand_out true key gone more none v kept = none v kept
+taken_hand_out false key gone more none v kept = none v kept
+
+pub calls_hand_out : (timing : Option Timing) (invocation : Invocation) (timed : TimedReply) (bytes : List ℕ) (before after : TimedTable) (actions : List Action)
+    → CallsBy timing invocation timed bytes before after actions → HandNothingOut actions
+calls_hand_out None invocation timed bytes before after actions is v kept = ap (λ acts. kept_from kept (own_events v acts)) is
+calls_hand_out (Some timing) invocation timed bytes before after actions is v kept = ap (λ acts. kept_from kept (own_events v acts)) is.1
+    ∙ taken_hand_out timed.was_over invocation.key is.0.takes.gone (called invocation (reply_by timed.kind bytes) ∷ []) (λ w t. refl) v kept
+
+pub refusals_hand_out : (timing : Option Timing) (invocation : Invocation) (before after : TimedTable) (actions : List Action)
+    → RefusesBy timing invocation before after actions → HandNothingOut actions
+refusals_hand_out None invocation before after actions is v kept = ap (λ acts. kept_from kept (own_events v acts)) is.1
+refusals_hand_out (Some timing) invocation before after actions is v kept = ap (λ acts. kept_from kept (own_events v acts)) is.1
+
+pub expiries_hand_out : (now : ℕ) (expiry : Expiry) (before after : TimedTable) (actions : List Action) → ExpiresBy now expiry before after actions → HandNothingOut actions
+expiries_hand_out now expiry before after actions is v kept = ap (λ acts. kept_from kept (own_events v acts)) is.1 ∙ none expiry is.0
+  where
+    none : (expiry : Expiry) (expires : Expires before now expiry after) → kept_from kept (own_events v (done_to_expire before after now expiry expires)) ≡ kept
+    none (Took key) e = refl
+    none (Waits at) e = refl
+    none Nothing e = refl

@@ -1,5 +1,5 @@
 -- A seat of the table at one stripe: at rest, holding the stripe, and after a call.
-use Rattle.std.specs.Prelude.{◌≡◌, ℕ, ◌≤◌, true, List, [], ◌∷◌, ◌++◌, length, Option, Some}
+use Rattle.std.specs.Prelude.{◌≡◌, ℕ, ◌≤◌, Bool, true, List, [], ◌∷◌, ◌++◌, length, Option, Some}
 use Rattle.std.specs.FinMap as finmap
 use Rattle.atomic_table.specs.Seated.{TableId}
 use Rattle.atomic_table.specs.Table.{Me}
@@ -16,6 +16,7 @@ use Rattle.atomic_methods.specs.Invocations.{Invocation}
 use Rattle.atomic_methods.specs.Methods.{WouldAdd}
 use Rattle.bin_stripes.specs.Actions.{Action, scanned}
 use Rattle.bin_stripes.specs.Histories.{empty, own_events, Leaves, Sound}
+use Rattle.bin_stripes.specs.Saves.{LeavesBins}
 use Rattle.bin_stripes.specs.Invoked.{AreOf, AreReplacements}
 
 -- the table has words and a slot for each stripe, and not too many stripes
@@ -60,15 +61,15 @@ module _ {B : Type 0} where
     pub found : Leaves stripes k (seen_of me.0 k ++ settles.adds.here.between) table
     pub are : AreReplacements program arg (finmap.entries table) actions counts
 
-  -- the seat holds the stripe k; its bins are out with the seat and contain the result of its events, all of which the
-  -- seat has seen
-  pub record SeatHolds (content : B → Table) (stripes k : ℕ) (me : Me (Option B) (View GhostAction)) : Type 0 where
+  -- the seat holds the stripe k; its bins are out with the seat and are those that its events leave, all of which the seat
+  -- has seen
+  pub record SeatHolds (content : B → Table) (noted : B → List ℕ → Bool) (stripes k : ℕ) (me : Me (Option B) (View GhostAction)) : Type 0 where
     pub held : held_at me.0 k ≡ true
     pub some : Carries me.0 (least me.0.numbers)
     pub bins : B
     pub others : List (ℕ × Option B)
     pub out : me.1 ≡ (k, Some bins) ∷ others
-    pub content_is : Leaves stripes k (seen_of me.0 k) (content bins)
+    pub left : LeavesBins content noted stripes k (seen_of me.0 k) bins
 
   -- the events that the seat has seen of the stripe k leave a table to which the invocation would add its key
   pub record SeatRefuses (stripes k : ℕ) (me : Me (Option B) (View GhostAction)) (invocation : Invocation) : Type 0 where

@@ -4,6 +4,7 @@ pub mod Histories
 pub mod Passes
 pub mod Invoked
 pub mod Timed
+pub mod Saves
 pub mod Releasing
 pub mod Faults
 pub mod Opened

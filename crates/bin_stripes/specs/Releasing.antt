@@ -1,5 +1,5 @@
 -- A release of a stripe that adds some events, about which a fact is known.
-use Rattle.std.specs.Prelude.{◌≡◌, ℕ, List, Option}
+use Rattle.std.specs.Prelude.{◌≡◌, ℕ, Bool, List, Option}
 use Rattle.atomic_table.specs.Table.{Me, Step}
 use Rattle.stripe_rule.specs.declared.view.View.{View}
 use Rattle.stripe_rule.specs.Words.{word_at}
@@ -8,6 +8,7 @@ use Rattle.bins.specs.Table.{Table}
 use Rattle.bin_stripes.specs.declared.ghost_action.GhostAction.{GhostAction}
 use Rattle.bin_stripes.specs.Actions.{Action}
 use Rattle.bin_stripes.specs.Histories.{empty, does, own_events}
+use Rattle.bin_stripes.specs.Saves.{keeps}
 
 module _ {S : Type 0} where
   -- a load of a stripe's word, in the terms of a table with this many slots
@@ -25,5 +26,5 @@ module _ {S : Type 0} where
   stripe_released may st me found me' = (k : ℕ) → st.word ≡ word_at k → Lets may st.slots k me me'
 
 -- the compare-exchange of the word from 0 to 1, in the terms of a table with this many slots
-abbrev pub stripe_took : {B : Type 0} → (B → Table) → Step (Option B) → Me (Option B) (View GhostAction) → ℕ → Me (Option B) (View GhostAction) → Type 0
-stripe_took content st me found me' = takes_or_looks (does st.slots) empty content st me found me'
+abbrev pub stripe_took : {B : Type 0} → (B → Table) → (B → List ℕ → Bool) → Step (Option B) → Me (Option B) (View GhostAction) → ℕ → Me (Option B) (View GhostAction) → Type 0
+stripe_took content noted st me found me' = takes_or_looks (does st.slots) empty content (keeps content noted) st me found me'

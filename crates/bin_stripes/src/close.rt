@@ -11,8 +11,9 @@ ghost use Rattle.bin_stripes.specs.Closed.{Closes};
 use crate::map::StripedMap;
 use crate::pass::Pass;
 use crate::steps::{PassSeat, Stripes, bins_out, take_stripe};
-use bins::{Bins, EntryList, sorted_copies};
+use bins::{EntryList, sorted_copies};
 use bpf_model::{Key, NoMemory, Value};
+use noted_bins::NotedBins;
 use std::alloc::Global;
 use std::sync::Wait;
 
@@ -38,7 +39,7 @@ impl StripedMap {
 }
 
 /// Takes each stripe, and copies the entries of each in turn. The stripes stay held.
-fn entries_out<B: Bins + Drop, R: Wait>(
+fn entries_out<B: NotedBins + Drop, R: Wait>(
     rt: &R,
     alloc: Global,
     table: &Stripes<B>,

@@ -1,63 +1,47 @@
 //! Work on the bins of a held stripe: a call, a scan or the replacement of its values. Each works on the bins in place,
 //! in the stripe's slot, and lets the stripe go.
-ghost use Rattle.std.specs.Prelude.{◌≡◌, ◌<◌, ◌^◌, List, [], ◌∷◌, length, IfOk, OnOk, OnErr};
+ghost use Rattle.std.specs.Prelude.{◌≡◌, ◌<◌, ◌^◌, List, [], ◌∷◌, length, option_copied, IfOk, OnOk, OnErr};
 ghost use Rattle.std.specs.FinMap as map;
 ghost use Rattle.atomic_methods.specs.Hashes.{stripe_of};
-ghost use Rattle.atomic_methods.specs.Plans.{reply_by};
 ghost use Rattle.bins.specs.Copies.{AddsCopies};
 ghost use Rattle.bins.specs.Table.{Table};
 ghost use Rattle.stripe_rule.specs.Gains.{seen_of};
 ghost use Rattle.timed_bins.specs.Deadlines.{timed_table};
-ghost use Rattle.bin_stripes.specs.Actions.{called, scanned};
+ghost use Rattle.bin_stripes.specs.Actions.{scanned};
 ghost use Rattle.bin_stripes.specs.Histories.{Leaves};
 ghost use Rattle.bin_stripes.specs.Invoked.{AreReplacements};
 ghost use Rattle.bin_stripes.specs.Releasing.{Lets};
-ghost use Rattle.bin_stripes.specs.Holding.{IsLaid, SeatHolds, SeatRefuses};
+ghost use Rattle.bin_stripes.specs.Holding.{IsLaid, SeatHolds};
 ghost use Rattle.bin_stripes.specs.Deeds.{CallsBy, RefusesBy, ExpiresBy, LetsAt};
 
 use crate::gate::{Gate, Place};
 use crate::steps::{PassSeat, Shows, Stripes, let_go};
-use atomic_methods::{HashedCall, ReplyKind, Workspace, replace_each};
-use bins::{Bins, Counts, EntryList};
+use atomic_methods::{HashedCall, Workspace};
+use bins::{Counts, EntryList};
 use bpf_model::{Key, NoMemory, Value};
+use noted_bins::NotedBins;
 use std::alloc::Global;
 use std::snapshot::Snapshot;
-use timed_bins::{Expiry, TimedBins, TimedReply, Timing};
+use timed_bins::{Expiry, TimedReply, Timing};
 use verifier::Verified;
 
 /// Nothing was done.
-struct Nothing;
+pub(crate) struct Nothing;
 
 impl Shows<()> for Nothing {
     ghost shows = { λ _ actions. actions ≡ [] };
 }
 
-/// A call, the kind of its reply, and the bytes of the replied value.
-#[derive(Drop)]
-struct Answered<'a> {
-    call: &'a HashedCall<'a>,
-    kind: ReplyKind,
-    bytes: &'a Value,
-}
-
-/// The call was made.
-struct Calling;
-
-impl<'a> Shows<Answered<'a>> for Calling {
-    ghost shows = { λ done actions.
-        actions ≡ called done.call.now (reply_by done.kind done.bytes.now) ∷ [] };
-}
-
-/// A call, and the time at which it is made.
+/// A call, and the time at which it is made, or none if it is made whatever the time is.
 #[derive(Clone, Copy)]
 pub(crate) struct CallAt<'a> {
     pub(crate) call: &'a HashedCall<'a>,
-    pub(crate) timing: &'a Timing,
+    pub(crate) timing: Option<&'a Timing>,
 }
 
-/// A call at a time, what it came to, the bytes of the replied value, and the bins before and after.
+/// A call, what it came to, the bytes of the replied value, and the bins before and after.
 #[derive(Drop)]
-struct AnsweredAt<'a, B> {
+struct Answered<'a, B> {
     at: CallAt<'a>,
     timed: TimedReply,
     bytes: &'a Value,
@@ -65,28 +49,29 @@ struct AnsweredAt<'a, B> {
     after: Snapshot<B>,
 }
 
-/// If its time was over, the key was taken away; then the call was made.
-struct CallingAt;
+/// The call was made; before that, if its time was over, the key was taken away.
+struct Calling;
 
-impl<'a, B: TimedBins> Shows<AnsweredAt<'a, B>> for CallingAt {
-    ghost shows = { λ done actions. CallsBy done.at.timing.now done.at.call.now done.timed done.bytes.now
+impl<'a, B: NotedBins> Shows<Answered<'a, B>> for Calling {
+    ghost shows = { λ done actions.
+        CallsBy (option_copied done.at.timing) done.at.call.now done.timed done.bytes.now
         (timed_table (B.table done.before.value) (B.deadline done.before.value) (B.latest done.before.value))
         (timed_table (B.table done.after.value) (B.deadline done.after.value) (B.latest done.after.value)) actions };
 }
 
-/// A call at a time that was refused, and the bins before and after.
+/// A call that was refused, and the bins before and after.
 #[derive(Drop)]
-struct RefusedAt<'a, B> {
+struct Refused<'a, B> {
     at: CallAt<'a>,
     before: Snapshot<B>,
     after: Snapshot<B>,
 }
 
-/// If its time was over, the key was taken away.
+/// The call was not made.
 struct Refusing;
 
-impl<'a, B: TimedBins> Shows<RefusedAt<'a, B>> for Refusing {
-    ghost shows = { λ done actions. RefusesBy done.at.timing.now done.at.call.now
+impl<'a, B: NotedBins> Shows<Refused<'a, B>> for Refusing {
+    ghost shows = { λ done actions. RefusesBy (option_copied done.at.timing) done.at.call.now
         (timed_table (B.table done.before.value) (B.deadline done.before.value) (B.latest done.before.value))
         (timed_table (B.table done.after.value) (B.deadline done.after.value) (B.latest done.after.value)) actions };
 }
@@ -103,7 +88,7 @@ struct Expired<B> {
 /// At most one entry was taken away.
 struct Expiring;
 
-impl<B: TimedBins> Shows<Expired<B>> for Expiring {
+impl<B: NotedBins> Shows<Expired<B>> for Expiring {
     ghost shows = { λ done actions. ExpiresBy done.now done.expiry
         (timed_table (B.table done.before.value) (B.deadline done.before.value) (B.latest done.before.value))
         (timed_table (B.table done.after.value) (B.deadline done.after.value) (B.latest done.after.value)) actions };
@@ -112,7 +97,7 @@ impl<B: TimedBins> Shows<Expired<B>> for Expiring {
 /// The entries were found.
 struct Scanning;
 
-impl<B: Bins> Shows<Snapshot<B>> for Scanning {
+impl<B: NotedBins> Shows<Snapshot<B>> for Scanning {
     ghost shows = { λ found actions. actions ≡ scanned (map.entries (B.table found.value)) ∷ [] };
 }
 
@@ -134,53 +119,16 @@ struct Replacement<'a, B> {
 /// The values were replaced.
 struct Replacing;
 
-impl<'a, B: Bins> Shows<Replacement<'a, B>> for Replacing {
+impl<'a, B: NotedBins> Shows<Replacement<'a, B>> for Replacing {
     ghost shows = { λ done actions.
         AreReplacements done.by.program.now done.by.arg.now (map.entries (B.table done.before.value)) actions done.counts };
 }
 
-/// Makes the call on the stripe of its key. A program runs in the workspace; the bytes of the replied value are left in
-/// `bytes`. Returns `NoMemory` as `TimedBins::call_into` does; then nothing was done.
-pub(crate) fn make_call<B: TimedBins + Drop>(
-    table: &Stripes<B>,
-    seat: &mut PassSeat<B>,
-    stripe: usize,
-    call: &HashedCall<'_>,
-    workspace: &mut Workspace,
-    bytes: &mut Value,
-) -> Result<ReplyKind, NoMemory>
-    requires table { IsLaid table.now.table_id table.now.key × (seat.old.table_id ≡ table.now.table_id) }
-    requires stripe { stripe < table.now.table_id.slots }
-    requires held { SeatHolds B.table table.now.table_id.slots stripe seat.old.me }
-    requires key { stripe_of table.now.table_id.slots call.now.key ≡ stripe }
-    ensures same { (seat.new.table_id ≡ seat.old.table_id) × (seat.new.id ≡ seat.old.id) }
-    ensures ok { IfOk result (λ kind.
-        Lets (λ actions. actions ≡ called call.now (reply_by kind bytes.new) ∷ [])
-        table.now.table_id.slots stripe seat.old.me seat.new.me) }
-    ensures err { OnErr result
-        (Lets (λ actions. actions ≡ []) table.now.table_id.slots stripe seat.old.me seat.new.me
-        × SeatRefuses table.now.table_id.slots stripe seat.old.me call.now) }
-{
-    let Some(bins) = seat.slot_mut(table, stripe) else {
-        unreachable!()
-    };
-    match bins.call_into(call, workspace, bytes) {
-        Ok(kind) => {
-            let done = Answered { call, kind, bytes };
-            let_go::<B, _, Calling>(table, seat, stripe, &done);
-            Ok(kind)
-        }
-        Err(fault) => {
-            let_go::<B, _, Nothing>(table, seat, stripe, &());
-            Err(fault)
-        }
-    }
-}
-
-/// Takes the call's key away if its time is over, and then makes the call on the stripe of its key. A program runs in the
-/// workspace; the bytes of the replied value are left in `bytes`. Returns `NoMemory` as `TimedBins::call_at` does; then at
-/// most the key was taken away.
-pub(crate) fn make_call_at<B: TimedBins + Drop>(
+/// Makes the call on the stripe of its key: the only one that does, so that all of a call is in one place. Before that it takes the
+/// key away if the call has a time and the key is over. A program runs in the workspace; the bytes of the replied value are left
+/// in `bytes`. Returns `NoMemory` as `NotedBins::call_noted` does; then nothing was done.
+#[inline(never)]
+pub(crate) fn make_call<B: NotedBins + Drop>(
     table: &Stripes<B>,
     seat: &mut PassSeat<B>,
     stripe: usize,
@@ -190,34 +138,36 @@ pub(crate) fn make_call_at<B: TimedBins + Drop>(
 ) -> Result<TimedReply, NoMemory>
     requires table { IsLaid table.now.table_id table.now.key × (seat.old.table_id ≡ table.now.table_id) }
     requires stripe { stripe < table.now.table_id.slots }
-    requires held { SeatHolds B.table table.now.table_id.slots stripe seat.old.me }
+    requires held { SeatHolds B.table B.noted table.now.table_id.slots stripe seat.old.me }
     requires key { stripe_of table.now.table_id.slots at.call.now.key ≡ stripe }
     ensures same { (seat.new.table_id ≡ seat.old.table_id) × (seat.new.id ≡ seat.old.id) }
-    ensures ok { IfOk result (λ timed. LetsAt (CallsBy at.entry.timing.now at.entry.call.now timed bytes.new)
+    ensures ok { IfOk result (λ timed.
+        LetsAt (CallsBy (option_copied at.entry.timing) at.entry.call.now timed bytes.new)
         table.now.table_id.slots stripe seat.old.me seat.new.me) }
-    ensures err { OnErr result (LetsAt (RefusesBy at.entry.timing.now at.entry.call.now)
+    ensures err { OnErr result
+        (LetsAt (RefusesBy (option_copied at.entry.timing) at.entry.call.now)
         table.now.table_id.slots stripe seat.old.me seat.new.me) }
 {
     let Some(bins) = seat.slot_mut(table, stripe) else {
         unreachable!()
     };
     let before = Snapshot::of(&*bins);
-    match bins.call_at(at.call, at.timing, workspace, bytes) {
+    match bins.call_noted(at.call, at.timing, workspace, bytes) {
         Ok(timed) => {
             let after = Snapshot::of(&*bins);
-            let done = AnsweredAt {
+            let done = Answered {
                 at,
                 timed,
                 bytes,
                 before,
                 after,
             };
-            let_go::<B, _, CallingAt>(table, seat, stripe, &done);
+            let_go::<B, _, Calling>(table, seat, stripe, &done);
             Ok(timed)
         }
         Err(fault) => {
             let after = Snapshot::of(&*bins);
-            let done = RefusedAt { at, before, after };
+            let done = Refused { at, before, after };
             let_go::<B, _, Refusing>(table, seat, stripe, &done);
             Err(fault)
         }
@@ -225,7 +175,7 @@ pub(crate) fn make_call_at<B: TimedBins + Drop>(
 }
 
 /// Takes at most one entry of the stripe away whose time is over. Takes no memory.
-pub(crate) fn make_expiry<B: TimedBins + Drop>(
+pub(crate) fn make_expiry<B: NotedBins + Drop>(
     table: &Stripes<B>,
     seat: &mut PassSeat<B>,
     stripe: usize,
@@ -233,7 +183,7 @@ pub(crate) fn make_expiry<B: TimedBins + Drop>(
 ) -> Expiry
     requires table { IsLaid table.now.table_id table.now.key × (seat.old.table_id ≡ table.now.table_id) }
     requires stripe { stripe < table.now.table_id.slots }
-    requires held { SeatHolds B.table table.now.table_id.slots stripe seat.old.me }
+    requires held { SeatHolds B.table B.noted table.now.table_id.slots stripe seat.old.me }
     ensures same { (seat.new.table_id ≡ seat.old.table_id) × (seat.new.id ≡ seat.old.id) }
     ensures made { LetsAt (ExpiresBy now result) table.now.table_id.slots stripe seat.old.me seat.new.me }
 {
@@ -241,7 +191,7 @@ pub(crate) fn make_expiry<B: TimedBins + Drop>(
         unreachable!()
     };
     let before = Snapshot::of(&*bins);
-    let expiry = bins.expire_one(now);
+    let expiry = bins.expire_noted(now);
     let after = Snapshot::of(&*bins);
     let done = Expired {
         now,
@@ -250,12 +200,12 @@ pub(crate) fn make_expiry<B: TimedBins + Drop>(
         after,
     };
     let_go::<B, _, Expiring>(table, seat, stripe, &done);
-    expiry
+    done.expiry
 }
 
 /// Adds copies of the stripe's entries to the list, in any order. Returns `NoMemory` if a request for memory is refused;
 /// then nothing was done, and the list is unchanged.
-pub(crate) fn make_copies<B: Bins + Drop>(
+pub(crate) fn make_copies<B: NotedBins + Drop>(
     table: &Stripes<B>,
     seat: &mut PassSeat<B>,
     stripe: usize,
@@ -263,7 +213,7 @@ pub(crate) fn make_copies<B: Bins + Drop>(
 ) -> Result<(), NoMemory>
     requires table { IsLaid table.now.table_id table.now.key × (seat.old.table_id ≡ table.now.table_id) }
     requires stripe { stripe < table.now.table_id.slots }
-    requires held { SeatHolds B.table table.now.table_id.slots stripe seat.old.me }
+    requires held { SeatHolds B.table B.noted table.now.table_id.slots stripe seat.old.me }
     ensures same { (seat.new.table_id ≡ seat.old.table_id) × (seat.new.id ≡ seat.old.id) }
     ensures ok { OnOk result ((there : Table) × (Leaves table.now.table_id.slots stripe (seen_of seat.old.me.0 stripe) there
         × Lets (λ actions. actions ≡ scanned (map.entries there) ∷ []) table.now.table_id.slots stripe seat.old.me seat.new.me
@@ -290,7 +240,7 @@ pub(crate) fn make_copies<B: Bins + Drop>(
 
 /// Returns copies of the stripe's entries, in key order. Sorts them before the stripe is let go, since that takes memory.
 /// Returns `NoMemory` if a request for memory is refused; then nothing was done.
-pub(crate) fn make_scan<B: Bins + Drop>(
+pub(crate) fn make_scan<B: NotedBins + Drop>(
     alloc: Global,
     table: &Stripes<B>,
     seat: &mut PassSeat<B>,
@@ -298,7 +248,7 @@ pub(crate) fn make_scan<B: Bins + Drop>(
 ) -> Result<Vec<(Key, Value)>, NoMemory>
     requires table { IsLaid table.now.table_id table.now.key × (seat.old.table_id ≡ table.now.table_id) }
     requires stripe { stripe < table.now.table_id.slots }
-    requires held { SeatHolds B.table table.now.table_id.slots stripe seat.old.me }
+    requires held { SeatHolds B.table B.noted table.now.table_id.slots stripe seat.old.me }
     ensures same { (seat.new.table_id ≡ seat.old.table_id) × (seat.new.id ≡ seat.old.id) }
     ensures ok { IfOk result (λ found.
         Lets (λ actions. actions ≡ scanned found.items ∷ []) table.now.table_id.slots stripe seat.old.me seat.new.me) }
@@ -325,14 +275,14 @@ pub(crate) fn make_scan<B: Bins + Drop>(
 }
 
 /// Returns the number of entries in the stripe. Takes no memory.
-pub(crate) fn make_count<B: Bins + Drop>(
+pub(crate) fn make_count<B: NotedBins + Drop>(
     table: &Stripes<B>,
     seat: &mut PassSeat<B>,
     stripe: usize,
 ) -> u64
     requires table { IsLaid table.now.table_id table.now.key × (seat.old.table_id ≡ table.now.table_id) }
     requires stripe { stripe < table.now.table_id.slots }
-    requires held { SeatHolds B.table table.now.table_id.slots stripe seat.old.me }
+    requires held { SeatHolds B.table B.noted table.now.table_id.slots stripe seat.old.me }
     ensures same { (seat.new.table_id ≡ seat.old.table_id) × (seat.new.id ≡ seat.old.id) }
     ensures made { (there : Table) × (Lets (λ actions. actions ≡ scanned (map.entries there) ∷ [])
         table.now.table_id.slots stripe seat.old.me seat.new.me × (result ≡ length (map.entries there))) }
@@ -348,7 +298,7 @@ pub(crate) fn make_count<B: Bins + Drop>(
 }
 
 /// Replaces the value of each of the stripe's keys once. Passes the gate before, with the stripe held. Takes no memory.
-pub(crate) fn make_replacements<B: Bins + Drop, G: Gate>(
+pub(crate) fn make_replacements<B: NotedBins + Drop, G: Gate>(
     table: &Stripes<B>,
     seat: &mut PassSeat<B>,
     stripe: usize,
@@ -358,7 +308,7 @@ pub(crate) fn make_replacements<B: Bins + Drop, G: Gate>(
 ) -> Counts
     requires table { IsLaid table.now.table_id table.now.key × (seat.old.table_id ≡ table.now.table_id) }
     requires stripe { stripe < table.now.table_id.slots }
-    requires held { SeatHolds B.table table.now.table_id.slots stripe seat.old.me }
+    requires held { SeatHolds B.table B.noted table.now.table_id.slots stripe seat.old.me }
     ensures same { (seat.new.table_id ≡ seat.old.table_id) × (seat.new.id ≡ seat.old.id) }
     ensures made { (there : Table) × (Leaves table.now.table_id.slots stripe (seen_of seat.old.me.0 stripe) there
         × Lets (λ actions. AreReplacements by.entry.program.now by.entry.arg.now (map.entries there) actions result)
@@ -370,7 +320,7 @@ pub(crate) fn make_replacements<B: Bins + Drop, G: Gate>(
     };
     gate.pass(Place::Held, worker);
     let before = Snapshot::of(&*bins);
-    let counts = replace_each(bins, by.program, by.arg);
+    let counts = bins.replace_noted(by.program, by.arg);
     let done = Replacement { by, counts, before };
     let_go::<B, _, Replacing>(table, seat, stripe, &done);
     counts

@@ -17,11 +17,15 @@
 //! goes by a Remove: in the hold of a call at a time, right before the call (`CallsAt`), or by `expire_one`. Calls without a time
 //! still find it until then.
 //!
+//! **Saves.** The bins note which keys changed (`noted_bins`). A save is an event that reads: it hands out rows of these keys. The rule
+//! knows that the rows handed out so far, put in order, are what the stripe has, but for the keys that are noted (`keeps` of
+//! `specs/Saves.antt`). So if none is noted after a save, they come to the stripe's whole table (`SavesStripe`).
+//!
 //! **The rule** that every step keeps (`stripe_rule`): the word is 1 exactly while one pass holds the stripe; the passes have seen
 //! beginnings of one legal list of the stripe's events; if the word is 0, the bins are at home with the table that the list leaves.
 //!
-//! **Who waits.** `call`, `call_into`, `call_at_into`, `expire_one`, `scan_stripe`, `copy_stripe`, `count_stripe`, `replace_stripe` and
-//! `close` wait until a stripe is free, and yield between tries. The `try_` calls, `tell` and `join` never wait. `tell` and `join`
+//! **Who waits.** `call`, `call_into`, `call_at_into`, `expire_one`, `scan_stripe`, `copy_stripe`, `count_stripe`, `replace_stripe`,
+//! `take_changes` and `close` wait until a stripe is free, and yield between tries. The `try_` calls, `tell` and `join` never wait. `tell` and `join`
 //! cannot fail, and take no memory.
 //!
 //! Rejected: a lock round the bins (its contract says nothing about other threads' actions), and a futex to wait on (a release would
@@ -29,6 +33,7 @@
 #![tactic(auto)]
 
 mod close;
+mod expiry;
 mod fault;
 mod gate;
 mod ghost_action;
@@ -37,13 +42,16 @@ mod map;
 mod open;
 mod pass;
 mod rule;
+mod saving;
 mod seats;
 mod steps;
 mod tell;
 
+pub use expiry::Expiry;
 pub use fault::{CallFault, OpenFault};
 pub use gate::{Gate, OpenGate, Place};
 pub use ghost_action::GhostAction;
 pub use map::StripedMap;
 pub use open::MAX_PASSES;
 pub use pass::Pass;
+pub use saving::TakeHow;

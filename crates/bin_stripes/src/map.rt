@@ -1,18 +1,18 @@
 //! The map that passes share.
-ghost use Rattle.std.specs.Prelude.{◌≡◌, ◌<◌, ◌^◌, [], length, IfOk, IfErr, OnOk, OnErr, IsErrOf};
+ghost use Rattle.std.specs.Prelude.{◌≡◌, ◌<◌, ◌^◌, [], length, option_copied, IfOk, IfErr, OnOk, OnErr, IsErrOf};
 ghost use Rattle.atomic_methods.specs.Hashes.{stripe_of, IsStripeCount};
 ghost use Rattle.atomic_methods.specs.Invocations.{invocation_of};
 ghost use Rattle.atomic_methods.specs.Plans.{reply_by};
 ghost use Rattle.bin_stripes.specs.Invoked.{Makes, Calls, RefusesCall, Scans, CopiesStripe, CountsStripe, AreOf, ReplacesInStripe, stripe_for};
-ghost use Rattle.bin_stripes.specs.Timed.{CallsAt, RefusesAt, ExpiresOne};
+ghost use Rattle.bin_stripes.specs.Timed.{CallsAt, RefusesAt, ExpiresOne, PassCalls, PassIsRefused};
 ghost use Rattle.bin_stripes.specs.Passes.{ServesSameMap, stripes_of};
 
+use crate::expiry::{Expiry, plain};
 use crate::fault::CallFault;
 use crate::gate::Gate;
 use crate::ghost_action::GhostAction;
 use crate::held::{
-    CallAt, Replacer, make_call, make_call_at, make_copies, make_count, make_expiry,
-    make_replacements, make_scan,
+    CallAt, Replacer, make_call, make_copies, make_count, make_expiry, make_replacements, make_scan,
 };
 use crate::pass::Pass;
 use crate::rule::{Shape, Striping};
@@ -22,16 +22,17 @@ use atomic_methods::{Call, HashedCall, Reply, ReplyKind};
 use atomic_table::Table;
 use bins::{Counts, EntryList, HashedBins};
 use bpf_model::{Key, NoMemory, Value};
+use noted_bins::Noted;
 use std::alloc::Global;
 use std::marker::Model;
 use std::sync::Wait;
 use stripe_rule::View;
-use timed_bins::{Expiry, Timed, TimedReply, Timing};
+use timed_bins::{Timed, TimedReply, Timing};
 use verifier::Verified;
 
-/// The store of a stripe's entries. The map's contracts and proofs know it only by the traits `Bins` and
-/// `TimedBins`.
-pub(crate) type StripeBins = Timed<HashedBins>;
+/// The store of a stripe's entries. The map's contracts and proofs know it only by the traits `Bins`, `TimedBins` and
+/// `NotedBins`.
+pub(crate) type StripeBins = Noted<Timed<HashedBins>>;
 
 /// A table in stripes by the hashes of the keys, shared by passes. Each stripe has a word, which is 1 while it is held,
 /// and a slot for its bins.
@@ -125,14 +126,7 @@ impl StripedMap {
         ensures ok { IfOk result (λ kind. Calls pass.old (invocation_of call.now) (reply_by kind bytes.new) pass.new) }
         ensures err { OnErr result (RefusesCall pass.old (invocation_of call.now) pass.new) }
     {
-        let call = HashedCall::new(call);
-        let stripe = self.stripe_for(&call);
-        let table = &self.table.shared;
-        let mut seat = pass.known.take();
-        take_stripe(rt, table, &mut seat, stripe);
-        let answer = make_call(table, &mut seat, stripe, &call, &mut pass.workspace, bytes);
-        pass.known.put(seat);
-        answer
+        Ok(self.make(rt, pass, call, None, bytes)?.kind)
     }
 
     /// Makes the call as `try_call` does, and leaves the bytes of the replied value in `bytes`, so that no value is moved.
@@ -161,8 +155,8 @@ impl StripedMap {
     /// Makes the call at a time, in milliseconds since the epoch: takes its key away first if its deadline is not after that
     /// time, or not after the latest that the stripe was told. Then makes the call as `call_into` does, and changes the key's
     /// deadline as `timing` says if the call gets to the key's entry. Returns `NoMemory` only if the call would have added its
-    /// key, or `timing` may set a deadline, and a request for memory is refused; the call was then not made, but its key may
-    /// have been taken away. Waits until the stripe of the key is free.
+    /// key, or `timing` may set a deadline, and a request for memory is refused; then nothing was done. Waits until the stripe
+    /// of the key is free.
     pub fn call_at_into<R: Wait>(
         &self,
         rt: &R,
@@ -176,6 +170,26 @@ impl StripedMap {
         ensures ok { IfOk result (λ timed. CallsAt pass.old timing.entry.now (invocation_of call.now) timed bytes.new pass.new) }
         ensures err { OnErr result (RefusesAt pass.old timing.entry.now (invocation_of call.now) pass.new) }
     {
+        self.make(rt, pass, call, Some(timing), bytes)
+    }
+
+    /// Makes the call, at a time or whatever the time is, and leaves the bytes of the replied value in `bytes`. Waits until the
+    /// stripe of the key is free.
+    fn make<R: Wait>(
+        &self,
+        rt: &R,
+        pass: &mut Pass,
+        call: &Call,
+        timing: Option<&Timing>,
+        bytes: &mut Value,
+    ) -> Result<TimedReply, NoMemory>
+        requires map { pass.old.map ≡ self.now }
+        ensures same { ServesSameMap pass.old pass.new }
+        ensures ok { IfOk result (λ timed. PassCalls (option_copied timing.entry) pass.old (invocation_of call.now)
+            timed bytes.new pass.new) }
+        ensures err { OnErr result (PassIsRefused (option_copied timing.entry) pass.old (invocation_of call.now)
+            pass.new) }
+    {
         let call = HashedCall::new(call);
         let stripe = self.stripe_for(&call);
         let table = &self.table.shared;
@@ -185,7 +199,7 @@ impl StripedMap {
         };
         let mut seat = pass.known.take();
         take_stripe(rt, table, &mut seat, stripe);
-        let answer = make_call_at(table, &mut seat, stripe, at, &mut pass.workspace, bytes);
+        let answer = make_call(table, &mut seat, stripe, at, &mut pass.workspace, bytes);
         pass.known.put(seat);
         answer
     }
@@ -205,7 +219,7 @@ impl StripedMap {
         take_stripe(rt, table, &mut seat, slot);
         let expiry = make_expiry(table, &mut seat, slot, now);
         pass.known.put(seat);
-        expiry
+        plain(&expiry)
     }
 
     /// Returns copies of the entries of one stripe, which is below `stripes()`, in key order. Returns `NoMemory` if a request

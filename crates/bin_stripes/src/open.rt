@@ -1,5 +1,5 @@
 //! A new map and its passes.
-ghost use Rattle.std.specs.Prelude.{◌≡◌, ℕ, ◌<◌, ◌≤◌, ◌↔◌, [], ◌∷◌, All, IfOk, IsErrOf, length, map, replicate};
+ghost use Rattle.std.specs.Prelude.{◌≡◌, ℕ, ◌/◌, ◌<◌, ◌≤◌, ◌↔◌, [], ◌∷◌, All, IfOk, IsErrOf, length, map, option_map, replicate};
 ghost use Rattle.atomic_methods.specs.Hashes.{IsStripeCount};
 ghost use Rattle.stripe_rule.specs.Words.{words_of};
 ghost use Rattle.stripe_rule.specs.Rule.{from_on, newcomer, opener};
@@ -13,9 +13,10 @@ use crate::rule::{Deal, Shape};
 use crate::steps::{PassSeat, STRIPE_WORDS, Stripes};
 use atomic_methods::{Workspace, is_stripe_count};
 use atomic_table::Table;
-use bins::{Bins, Seed};
+use bins::{Opening, Seed};
 use bpf_model::NoMemory;
 use known_seat::Known;
+use noted_bins::NotedBins;
 use std::alloc::Global;
 
 /// A map can be opened with at most this many passes.
@@ -52,13 +53,46 @@ impl StripedMap {
         ensures ok { IfOk result (λ opened. IsOpened stripes passes opened.0 opened.1.items) }
         ensures serve { IfOk result (λ opened. All (λ pass. pass.map ≡ opened.0) opened.1.items) }
     {
+        StripedMap::open_with(alloc, stripes, passes, seed, None)
+    }
+
+    /// As `open_seeded`, for a map whose entries take at most this many bytes, an equal part of them in each stripe; none: there is
+    /// no bound. If a new key would take more, it is refused as if memory were. Returns the errors of `open_seeded`.
+    #[tactic(auto, using(atomic_methods::proofs::StripeLemmas::some_stripe))]
+    pub fn open_with(
+        alloc: Global,
+        stripes: u64,
+        passes: u64,
+        seed: Seed,
+        budget: Option<u64>,
+    ) -> Result<(StripedMap, Vec<Pass>), OpenFault>
+        ensures bad_stripes { IsErrOf result OpenFault.BadStripes ↔ (IsStripeCount stripes → ⊥) }
+        ensures bad_passes { IsErrOf result OpenFault.BadPasses ↔ IsStripeCount stripes × (IsPassCount passes → ⊥) }
+        ensures ok { IfOk result (λ opened. IsOpened stripes passes opened.0 opened.1.items) }
+        ensures serve { IfOk result (λ opened. All (λ pass. pass.map ≡ opened.0) opened.1.items) }
+    {
         if !is_stripe_count(stripes) {
             return Err(OpenFault::BadStripes);
         }
         if passes == 0 || passes > MAX_PASSES {
             return Err(OpenFault::BadPasses);
         }
-        Ok(opened(alloc, stripes, passes, seed)?)
+        let opening = Opening {
+            seed,
+            budget: share_of(budget, stripes),
+        };
+        Ok(opened(alloc, stripes, passes, &opening)?)
+    }
+}
+
+/// Returns the budget of one stripe of this many: an equal part.
+fn share_of(budget: Option<u64>, stripes: u64) -> Option<u64>
+    requires some { 0 < stripes }
+    ensures share { result ≡ option_map (λ bytes. bytes / stripes) budget }
+{
+    match budget {
+        Some(bytes) => Some(bytes / stripes),
+        None => None,
     }
 }
 
@@ -68,14 +102,14 @@ fn opened(
     alloc: Global,
     stripes: u64,
     passes: u64,
-    seed: Seed,
+    opening: &Opening,
 ) -> Result<(StripedMap, Vec<Pass>), NoMemory>
     requires stripes { IsStripeCount stripes }
     requires passes { IsPassCount passes }
     ensures ok { IfOk result (λ opened. IsOpened stripes passes opened.0 opened.1.items) }
     ensures serve { IfOk result (λ opened. All (λ pass. pass.map ≡ opened.0) opened.1.items) }
 {
-    let (words, slots) = free_stripes::<StripeBins>(alloc, stripes, seed)?;
+    let (words, slots) = free_stripes::<StripeBins>(alloc, stripes, opening)?;
     let shape = Shape { stripes, passes };
     let Ok((table, seat)) = Table::new(alloc, &words, slots, &shape) else {
         return Err(NoMemory);
@@ -85,10 +119,10 @@ fn opened(
 }
 
 /// Makes the words and the bins of the stripes of a new map.
-fn free_stripes<B: Bins + Drop>(
+fn free_stripes<B: NotedBins + Drop>(
     alloc: Global,
     stripes: u64,
-    seed: Seed,
+    opening: &Opening,
 ) -> Result<(Vec<u64>, Vec<Option<B>>), NoMemory>
     requires bounded { stripes ≤ 64 }
     ensures words { IfOk result (λ made. made.0.items ≡ replicate (words_of stripes) 0) }
@@ -98,7 +132,7 @@ fn free_stripes<B: Bins + Drop>(
     let words = zero_words(alloc, stripes * STRIPE_WORDS as u64)?;
     let mut slots = Vec::new(alloc);
     for _ in 0..stripes {
-        slots.push(Some(B::open_seeded(alloc, stripes, seed)?))?;
+        slots.push(Some(B::open_with(alloc, stripes, opening)?))?;
     }
     Ok((words, slots))
 }
@@ -115,7 +149,7 @@ fn zero_words(alloc: Global, count: u64) -> Result<Vec<u64>, NoMemory>
 }
 
 /// Makes a pass for each number that the seat carries.
-fn dealt<B: Bins>(
+fn dealt<B: NotedBins>(
     alloc: Global,
     table: &Stripes<B>,
     mut rest: PassSeat<B>,
@@ -140,7 +174,7 @@ fn dealt<B: Bins>(
 }
 
 /// Makes the pass of a seat that carries one number and knows nothing.
-fn dealt_pass<B: Bins>(seat: PassSeat<B>) -> Pass
+fn dealt_pass<B: NotedBins>(seat: PassSeat<B>) -> Pass
     requires new { (passes : ℕ) × ((number : ℕ) × (seat.me ≡ (newcomer seat.table_id.slots passes (number ∷ []), []))) }
     ensures pass { result ≡ record { map = seat.table_id; view = seat.me.0 } }
 {

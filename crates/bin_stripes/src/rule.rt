@@ -4,8 +4,8 @@ ghost use Rattle.bin_stripes.specs.Actions.{Action};
 
 use crate::ghost_action::GhostAction;
 use atomic_table::{Join, Play, Split, TableRule};
-use bins::Bins;
 use known_seat::Lesson;
+use noted_bins::NotedBins;
 use std::marker::{Brand, PhantomData};
 use stripe_rule::View;
 
@@ -21,11 +21,13 @@ pub struct Striping<B> {
     bins: PhantomData<B>,
 }
 
-impl<B: Bins> TableRule<Option<B>, View<GhostAction>, Shape> for Striping<B> {
+impl<B: NotedBins> TableRule<Option<B>, View<GhostAction>, Shape> for Striping<B> {
     ghost use Rattle.stripe_rule.specs.Rule.{Kept, opener};
     ghost use Rattle.bin_stripes.specs.Histories.{empty, does};
+    ghost use Rattle.bin_stripes.specs.Saves.{keeps};
 
-    ghost holds = { λ shape. Kept (does shape.stripes) empty B.table shape.stripes shape.passes };
+    ghost holds = { λ shape.
+        Kept (does shape.stripes) empty B.table (keeps B.table B.noted) shape.stripes shape.passes };
 
     ghost first = { λ shape. opener shape.stripes shape.passes };
 }
@@ -44,10 +46,10 @@ pub struct Take<B> {
     bins: PhantomData<B>,
 }
 
-impl<B: Bins> Play<Option<B>, View<GhostAction>> for Take<B> {
+impl<B: NotedBins> Play<Option<B>, View<GhostAction>> for Take<B> {
     ghost use Rattle.bin_stripes.specs.Releasing.{stripe_took};
 
-    ghost then = { stripe_took B.table };
+    ghost then = { stripe_took B.table B.noted };
 }
 
 /// A fact about the actions that a release adds. The release picks it.

@@ -8,18 +8,18 @@ ghost use Rattle.bin_stripes.specs.Holding.{IsLaid, Rests, Settles, SeatRefuses,
 
 use crate::fault::CallFault;
 use crate::gate::OpenGate;
-use crate::held::{Replacer, make_call, make_replacements, make_scan};
+use crate::held::{CallAt, Replacer, make_call, make_replacements, make_scan};
 use crate::steps::{PassSeat, Stripes, try_take_stripe};
 use atomic_methods::{HashedCall, ReplyKind, Workspace};
-use bins::{Bins, Counts};
+use bins::Counts;
 use bpf_model::{Key, Value};
+use noted_bins::NotedBins;
 use std::alloc::Global;
-use timed_bins::TimedBins;
 use verifier::Verified;
 
 /// Makes the call on the stripe of its key if that is free. A program runs in the workspace. The bytes of the replied
 /// value are left in `bytes`.
-pub(crate) fn try_call<B: TimedBins + Drop>(
+pub(crate) fn try_call<B: NotedBins + Drop>(
     table: &Stripes<B>,
     seat: &mut PassSeat<B>,
     stripe: usize,
@@ -41,11 +41,12 @@ pub(crate) fn try_call<B: TimedBins + Drop>(
     if !try_take_stripe(table, seat, stripe) {
         return Err(CallFault::Busy);
     }
-    Ok(make_call(table, seat, stripe, call, workspace, bytes)?)
+    let at = CallAt { call, timing: None };
+    Ok(make_call(table, seat, stripe, at, workspace, bytes)?.kind)
 }
 
 /// Returns copies of the stripe's entries, in key order, if it is free.
-pub(crate) fn try_scan<B: Bins + Drop>(
+pub(crate) fn try_scan<B: NotedBins + Drop>(
     alloc: Global,
     table: &Stripes<B>,
     seat: &mut PassSeat<B>,
@@ -66,7 +67,7 @@ pub(crate) fn try_scan<B: Bins + Drop>(
 }
 
 /// Replaces the value of each of the stripe's keys once, if it is free.
-pub(crate) fn try_replace<B: Bins + Drop>(
+pub(crate) fn try_replace<B: NotedBins + Drop>(
     table: &Stripes<B>,
     seat: &mut PassSeat<B>,
     stripe: usize,

@@ -4,14 +4,15 @@ ghost use Rattle.std.specs.Prelude.{◌≡◌, ℕ, ◌<◌, true, false, Option
 ghost use Rattle.stripe_rule.specs.Gains.{held_at, seen_of, Carries, least};
 ghost use Rattle.stripe_rule.specs.Steps.{Takes, Looks};
 ghost use Rattle.bin_stripes.specs.Actions.{Action};
-ghost use Rattle.bin_stripes.specs.Histories.{empty, does, own_events, Leaves};
+ghost use Rattle.bin_stripes.specs.Histories.{empty, does, own_events};
 ghost use Rattle.bin_stripes.specs.Releasing.{Lets};
+ghost use Rattle.bin_stripes.specs.Saves.{keeps, LeavesBins};
 ghost use Rattle.bin_stripes.specs.Holding.{IsLaid, Rests, Settles, SeatHolds};
 
 use crate::ghost_action::GhostAction;
 use crate::rule::{Look, May, Release, Shape, Striping, Take};
 use atomic_table::{Seat, Shared};
-use bins::Bins;
+use noted_bins::NotedBins;
 use std::marker::Brand;
 use std::sync::Wait;
 use std::thread;
@@ -28,7 +29,7 @@ pub(crate) type Stripes<B> = Shared<Option<B>, View<GhostAction>, Shape, Stripin
 pub(crate) type PassSeat<B> = Seat<Option<B>, View<GhostAction>>;
 
 /// Looks at the stripe: the seat has then seen everything that it was told. Never waits.
-pub(crate) fn look<B: Bins + Drop>(table: &Stripes<B>, seat: &mut PassSeat<B>, stripe: usize)
+pub(crate) fn look<B: NotedBins + Drop>(table: &Stripes<B>, seat: &mut PassSeat<B>, stripe: usize)
     requires table { IsLaid table.now.table_id table.now.key × (seat.old.table_id ≡ table.now.table_id) }
     requires stripe { stripe < table.now.table_id.slots }
     requires pass { Carries seat.old.me.0 (least seat.old.me.0.numbers) }
@@ -39,7 +40,7 @@ pub(crate) fn look<B: Bins + Drop>(table: &Stripes<B>, seat: &mut PassSeat<B>, s
 }
 
 /// Tries once to take the stripe, and returns whether it was free. Never waits.
-pub(crate) fn try_take_stripe<B: Bins + Drop>(
+pub(crate) fn try_take_stripe<B: NotedBins + Drop>(
     table: &Stripes<B>,
     seat: &mut PassSeat<B>,
     stripe: usize,
@@ -49,14 +50,14 @@ pub(crate) fn try_take_stripe<B: Bins + Drop>(
     requires pass { Carries seat.old.me.0 (least seat.old.me.0.numbers) × (held_at seat.old.me.0 stripe ≡ false) }
     ensures same { (seat.new.table_id ≡ seat.old.table_id) × (seat.new.id ≡ seat.old.id) }
     ensures took { MatchBool result
-        (Takes (does table.now.table_id.slots) empty B.table stripe seat.old.me seat.new.me)
+        (Takes (does table.now.table_id.slots) empty B.table (keeps B.table B.noted) stripe seat.old.me seat.new.me)
         (Looks (does table.now.table_id.slots) empty stripe seat.old.me seat.new.me) }
 {
     table.compare_exchange::<Take<B>>(seat, stripe * STRIPE_WORDS, 0, 1) == 0
 }
 
 /// Takes the stripe. Waits until it is free.
-pub(crate) fn take_stripe<B: Bins + Drop, R: Wait>(
+pub(crate) fn take_stripe<B: NotedBins + Drop, R: Wait>(
     rt: &R,
     table: &Stripes<B>,
     seat: &mut PassSeat<B>,
@@ -66,7 +67,8 @@ pub(crate) fn take_stripe<B: Bins + Drop, R: Wait>(
     requires stripe { stripe < table.now.table_id.slots }
     requires pass { Carries seat.old.me.0 (least seat.old.me.0.numbers) × (held_at seat.old.me.0 stripe ≡ false) }
     ensures same { (seat.new.table_id ≡ seat.old.table_id) × (seat.new.id ≡ seat.old.id) }
-    ensures took { Takes (does table.now.table_id.slots) empty B.table stripe seat.old.me seat.new.me }
+    ensures took { Takes (does table.now.table_id.slots) empty B.table (keeps B.table B.noted) stripe seat.old.me
+        seat.new.me }
 {
     for _ in rt.forever() {
         if try_take_stripe(table, seat, stripe) {
@@ -78,13 +80,13 @@ pub(crate) fn take_stripe<B: Bins + Drop, R: Wait>(
 }
 
 /// Takes the bins of a stripe that the seat holds out of their slot.
-pub(crate) fn bins_out<B: Bins + Drop>(
+pub(crate) fn bins_out<B: NotedBins + Drop>(
     table: &Stripes<B>,
     seat: &mut PassSeat<B>,
     stripe: usize,
 ) -> B
     requires table { seat.old.table_id ≡ table.now.table_id }
-    requires held { SeatHolds B.table table.now.table_id.slots stripe seat.old.me }
+    requires held { SeatHolds B.table B.noted table.now.table_id.slots stripe seat.old.me }
     ensures same { (seat.new.table_id ≡ seat.old.table_id) × (seat.new.id ≡ seat.old.id)
         × (seat.new.me.0 ≡ seat.old.me.0) }
     ensures out { (others : List (ℕ × Option B))
@@ -102,7 +104,7 @@ pub(crate) trait Shows<T> {
 }
 
 /// Lets the stripe go after these actions; its bins are in its slot. Never waits.
-pub(crate) fn let_go<B: Bins + Drop, T, M: Shows<T>>(
+pub(crate) fn let_go<B: NotedBins + Drop, T, M: Shows<T>>(
     table: &Stripes<B>,
     seat: &mut PassSeat<B>,
     stripe: usize,
@@ -113,8 +115,8 @@ pub(crate) fn let_go<B: Bins + Drop, T, M: Shows<T>>(
     requires held { (held_at seat.old.me.0 stripe ≡ true) × Carries seat.old.me.0 (least seat.old.me.0.numbers) }
     requires made { (bins : B) × ((others : List (ℕ × Option B)) × ((seat.old.me.1 ≡ (stripe, Some bins) ∷ others)
         × ((actions : List Action) × (M.shows what.now actions
-        × Leaves table.now.table_id.slots stripe
-        (seen_of seat.old.me.0 stripe ++ own_events seat.old.me.0 actions) (B.table bins))))) }
+        × LeavesBins B.table B.noted table.now.table_id.slots stripe
+        (seen_of seat.old.me.0 stripe ++ own_events seat.old.me.0 actions) bins)))) }
     ensures same { (seat.new.table_id ≡ seat.old.table_id) × (seat.new.id ≡ seat.old.id) }
     ensures made { Lets (M.shows what.now) table.now.table_id.slots stripe seat.old.me seat.new.me }
 {
@@ -122,7 +124,7 @@ pub(crate) fn let_go<B: Bins + Drop, T, M: Shows<T>>(
 }
 
 /// Swaps the word to 0. `J` says something about the actions that this adds, and `what` picks it.
-fn release<B: Bins + Drop, T, J: May>(
+fn release<B: NotedBins + Drop, T, J: May>(
     table: &Stripes<B>,
     seat: &mut PassSeat<B>,
     stripe: usize,
@@ -133,8 +135,8 @@ fn release<B: Bins + Drop, T, J: May>(
     requires held { (held_at seat.old.me.0 stripe ≡ true) × Carries seat.old.me.0 (least seat.old.me.0.numbers) }
     requires made { (bins : B) × ((others : List (ℕ × Option B)) × ((seat.old.me.1 ≡ (stripe, Some bins) ∷ others)
         × ((actions : List Action) × (J.may actions
-        × Leaves table.now.table_id.slots stripe
-        (seen_of seat.old.me.0 stripe ++ own_events seat.old.me.0 actions) (B.table bins))))) }
+        × LeavesBins B.table B.noted table.now.table_id.slots stripe
+        (seen_of seat.old.me.0 stripe ++ own_events seat.old.me.0 actions) bins)))) }
     ensures same { (seat.new.table_id ≡ seat.old.table_id) × (seat.new.id ≡ seat.old.id) }
     ensures made { Lets J.may table.now.table_id.slots stripe seat.old.me seat.new.me }
 {

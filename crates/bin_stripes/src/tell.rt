@@ -12,8 +12,8 @@ use crate::map::StripedMap;
 use crate::pass::Pass;
 use crate::rule::{Inform, Unite};
 use crate::steps::{PassSeat, Stripes, look};
-use bins::Bins;
 use known_seat::{Known, learn};
+use noted_bins::NotedBins;
 use stripe_rule::View;
 
 impl StripedMap {
@@ -61,7 +61,7 @@ impl StripedMap {
 }
 
 /// Gives the seat all that both carried; the other is spent.
-fn unite<B: Bins + Drop>(table: &Stripes<B>, seat: &mut PassSeat<B>, other: PassSeat<B>)
+fn unite<B: NotedBins + Drop>(table: &Stripes<B>, seat: &mut PassSeat<B>, other: PassSeat<B>)
     requires table { (seat.old.table_id ≡ table.now.table_id) × (other.table_id ≡ table.now.table_id)
         × (0 < table.now.table_id.words) }
     requires rests { Rests seat.old.me × Rests other.me }
@@ -72,7 +72,7 @@ fn unite<B: Bins + Drop>(table: &Stripes<B>, seat: &mut PassSeat<B>, other: Pass
 }
 
 /// The seat hears everything that the one at rest has seen: it is told, and a look at each word shows it.
-fn hear<B: Bins + Drop>(
+fn hear<B: NotedBins + Drop>(
     table: &Stripes<B>,
     from: &Known<View<GhostAction>>,
     seat: &mut PassSeat<B>,

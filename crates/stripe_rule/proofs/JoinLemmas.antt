@@ -108,9 +108,9 @@ module _ {D : Type 0} where
   spent_fits : (k : ℕ) (log : List (Event D)) → FitsLog k log spent
   spent_fits k log = record { rest = log; begins = refl; others = (λ j d lt. refl); own = λ q c. refl; under = All-nil (IsUnder []); heard = (log, refl) }
 
-module _ {D T B : Type 0} (does : ℕ → T → D → T → Type 0) (empty : T) (content : B → T) (stripes passes : ℕ) where
+module _ {D T B : Type 0} (does : ℕ → T → D → T → Type 0) (empty : T) (content : B → T) (beside : ℕ → List (Event D) → B → Type 0) (stripes passes : ℕ) where
   abbrev Rule : State (Option B) (View D) → Type 0
-  Rule = Kept does empty content stripes passes
+  Rule = Kept does empty content beside stripes passes
 
   module _ (views : List (View D)) (id : ℕ) (v : View D) (other : ℕ) (w u : View D) (at : At views id v) (there : At views other w) where
     abbrev left : List (View D)
@@ -142,12 +142,13 @@ module _ {D T B : Type 0} (does : ℕ → T → D → T → Type 0) (empty : T) 
         alone j x q t c s = ⊎_elim (λ d. t.0 (apart j id x v q t.1.1 at c d)) (λ d. t.1.0 (apart j other x w q t.1.1 there c d)) s
 
     united_holding : other ≢ id → (k : ℕ) (log : List (Event D)) (word : ℕ) (home : Home B) → held_at v k ≡ false → held_at w k ≡ false → held_at u k ≡ false
-        → IsFree does empty content k log word home views ⊎ IsHeld does empty content k log word home views → IsFree does empty content k log word home left ⊎ IsHeld does empty content k log word home left
+        → IsFree does empty content beside k log word home views ⊎ IsHeld does empty content beside k log word home views → IsFree does empty content beside k log word home left ⊎ IsHeld does empty content beside k log word home left
     united_holding two k log word home idle idle' idle_u (inl f) = inl record {
       word_is = f.word_is;
       bins = f.bins;
       home_is = f.home_is;
       content_is = f.content_is;
+      beside_is = f.beside_is;
       nobody = every (λ x. held_at x k ≡ false) refl idle_u f.nobody;
     }
     united_holding two k log word home idle idle' idle_u (inr b) =

@@ -69,9 +69,9 @@ at_all P [] i h all = absurd (omega arith)
 at_all P (x ∷ xs) zero h all = (x, (refl, All-head P x xs all))
 at_all P (x ∷ xs) (suc i) h all = at_all P xs i (omega arith) (All-tail P x xs all)
 
-module _ {D T B : Type 0} (does : ℕ → T → D → T → Type 0) (empty : T) (content : B → T) (stripes passes : ℕ) where
+module _ {D T B : Type 0} (does : ℕ → T → D → T → Type 0) (empty : T) (content : B → T) (beside : ℕ → List (Event D) → B → Type 0) (stripes passes : ℕ) where
   abbrev Rule : State (Option B) (View D) → Type 0
-  Rule = Kept does empty content stripes passes
+  Rule = Kept does empty content beside stripes passes
 
   one : (a : View D) (j : ℕ) (u : View D) → At (a ∷ []) j u → (j ≡ 0) × (a ≡ u)
   one a zero u e = (refl, maybe.some-injective a u e)
@@ -80,9 +80,9 @@ module _ {D T B : Type 0} (does : ℕ → T → D → T → Type 0) (empty : T) 
   every_one : (F : View D → Type 0) (a : View D) → F a → (j : ℕ) (u : View D) → At (a ∷ []) j u → F u
   every_one F a f j u e = subst F (one a j u e).1 f
 
-  -- bins with nothing in them
+  -- bins with nothing in them, which no event has touched
   abbrev pub HasEmptyBins : Option B → Type 0
-  HasEmptyBins x = (b : B) × ((x ≡ Some b) × (content b ≡ empty))
+  HasEmptyBins x = (b : B) × ((x ≡ Some b) × ((content b ≡ empty) × ((k : ℕ) → beside k [] b)))
 
   pub opens : (words : List ℕ) (homes : List (Option B)) → length words ≡ words_of stripes → length homes ≡ stripes → ((i : ℕ) → i < words_of stripes → get_or words i 0 ≡ 0) → All HasEmptyBins homes
       → Rule (opening words homes (opener stripes passes))
@@ -104,7 +104,8 @@ module _ {D T B : Type 0} (does : ℕ → T → D → T → Type 0) (empty : T) 
             word_is = zeros (word_at k) (omega arith);
             bins = b.1.1.0;
             home_is = ap maybe.some b.1.1.1.0;
-            content_is = b.1.1.1.1;
+            content_is = b.1.1.1.1.0;
+            beside_is = b.1.1.1.1.1 k;
             nobody = every_one (λ u. held_at u k ≡ false) first (new_idle D stripes passes k (from_on 0 passes));
           };
         },
@@ -147,12 +148,13 @@ module _ {D T B : Type 0} (does : ℕ → T → D → T → Type 0) (empty : T) 
         (from sub_l sub_w i x q ex cx)
 
     fork_holding : (k : ℕ) (log : List (Event D)) (word : ℕ) (home : Home B) → held_at v k ≡ false → held_at l k ≡ false → held_at w k ≡ false
-        → IsFree does empty content k log word home s.views ⊎ IsHeld does empty content k log word home s.views → IsFree does empty content k log word home both ⊎ IsHeld does empty content k log word home both
+        → IsFree does empty content beside k log word home s.views ⊎ IsHeld does empty content beside k log word home s.views → IsFree does empty content beside k log word home both ⊎ IsHeld does empty content beside k log word home both
     fork_holding k log word home idle idle_l idle_w (inl f) = inl record {
       word_is = f.word_is;
       bins = f.bins;
       home_is = f.home_is;
       content_is = f.content_is;
+      beside_is = f.beside_is;
       nobody = every_both (λ u. held_at u k ≡ false) idle_l idle_w f.nobody;
     }
     fork_holding k log word home idle idle_l idle_w (inr b) = let other : b.who ≢ id = λ e. true≢false (sym b.held ∙ (ap (λ (z : View D). held_at z k) (same_view s.views id b.view v (subst (λ i. At s.views i b.view) e b.at) at) ∙ idle)) in inr record {

@@ -40,17 +40,17 @@ module _ {D : Type 0} where
     heard = (f.heard.0 ++ more, ap (λ (l : List (Event D)). l ++ more) f.heard.1 ∙ append_assoc (part_of u k).told f.heard.0 more);
   }
 
-module _ {D T B : Type 0} (does : ℕ → T → D → T → Type 0) (empty : T) (content : B → T) (stripes passes : ℕ) where
+module _ {D T B : Type 0} (does : ℕ → T → D → T → Type 0) (empty : T) (content : B → T) (beside : ℕ → List (Event D) → B → Type 0) (stripes passes : ℕ) where
   abbrev Rule : State (Option B) (View D) → Type 0
-  Rule = Kept does empty content stripes passes
+  Rule = Kept does empty content beside stripes passes
 
   -- the stripe after a release
   release_stripe : (s : State (Option B) (View D)) (id k : ℕ) (v w : View D) (b : B) (more : List (Event D)) (r : Rule s) → At s.views id v → (inside : k < stripes) → held_at v k ≡ true
-      → Replays (does k) empty (seen_of v k ++ more) (content b) → AreUnder v.numbers more → SetsPart v k (grown (part_of v k) more) w
-      → Stripe does empty content passes k 0 (maybe.some (Some b)) (set s.views id w)
-  release_stripe s id k v w b more r at inside held content_is under sets = let t = (r.stripe k inside).1.1 in ⊎_elim
-      (λ (free : IsFree does empty content k t.log (get_or s.words (word_at k) 0) (r.stripe k inside).0 s.views). absurd (true≢false (sym held ∙ free.nobody id v at)))
-      (λ (busy : IsHeld does empty content k t.log (get_or s.words (word_at k) 0) (r.stripe k inside).0 s.views).
+      → Replays (does k) empty (seen_of v k ++ more) (content b) → beside k (seen_of v k ++ more) b → AreUnder v.numbers more → SetsPart v k (grown (part_of v k) more) w
+      → Stripe does empty content beside passes k 0 (maybe.some (Some b)) (set s.views id w)
+  release_stripe s id k v w b more r at inside held content_is beside_is under sets = let t = (r.stripe k inside).1.1 in ⊎_elim
+      (λ (free : IsFree does empty content beside k t.log (get_or s.words (word_at k) 0) (r.stripe k inside).0 s.views). absurd (true≢false (sym held ∙ free.nobody id v at)))
+      (λ (busy : IsHeld does empty content beside k t.log (get_or s.words (word_at k) 0) (r.stripe k inside).0 s.views).
       let here : id ≡ busy.who = busy.alone id v at held in
       let whole : seen_of v k ≡ t.log = ap (λ (z : View D). seen_of z k) (same_view s.views busy.who v busy.view (subst (λ i. At s.views i v) here at) busy.at) ∙ busy.whole in
       let log : List (Event D) = t.log ++ more in
@@ -68,6 +68,7 @@ module _ {D T B : Type 0} (does : ℕ → T → D → T → Type 0) (empty : T) 
           bins = b;
           home_is = refl;
           content_is = replays;
+          beside_is = subst (λ l. beside k l b) same beside_is;
           nobody = λ j u e. ⊎_elim
               (λ (x : (j ≡ id) × (w ≡ u)). ap (λ (z : View D). held_at z k) (sym x.1) ∙ ap (λ (p : Part D). p.held) sets.here)
               (λ (x : (j ≢ id) × At s.views j u). not_true (held_at u k) (λ h. x.0 (busy.alone j u x.1 h ∙ sym here)))
@@ -78,23 +79,23 @@ module _ {D T B : Type 0} (does : ℕ → T → D → T → Type 0) (empty : T) 
 
   module _ (slots id k : ℕ) where
     releases_at : (v : View D) (others : List (ℕ × Option B)) (b : B) (more : List (Event D)) (q : ℕ) → k < stripes → Carries v q → held_at v k ≡ true
-        → Replays (does k) empty (seen_of v k ++ more) (content b) → AreUnder v.numbers more
+        → Replays (does k) empty (seen_of v k ++ more) (content b) → beside k (seen_of v k ++ more) b → AreUnder v.numbers more
         → Allows Rule slots id (v, (k, Some b) ∷ others) (word_at k) (λ _. 0) (released does empty more (step slots (word_at k) 0 0 maybe.none) (v, (k, Some b) ∷ others))
-    releases_at v others b more q inside c held content_is under s r _ at small = let home = r.stripe k inside in
+    releases_at v others b more q inside c held content_is beside_is under s r _ at small = let home = r.stripe k inside in
         let part = grown (part_of v k) more in let w = put_part v k part in let sets = sets_put v k part (let l = (r.counted id v at).wide q c in omega arith) in
         let homes = set s.homes k (maybe.some (Some b)) in
-        let kept : Rule record { words = set s.words (word_at k) 0; homes = homes; views = set s.views id w } = kept_set does empty content stripes passes s id v w k 0 part (maybe.some (Some b)) homes r at inside sets
-        (release_stripe s id k v w b more r at inside held content_is under sets) (set_at s.homes k home.0 (maybe.some (Some b)) home.1.0) (λ j other. set_else s.homes k j (maybe.some (Some b)) other) in (
+        let kept : Rule record { words = set s.words (word_at k) 0; homes = homes; views = set s.views id w } = kept_set does empty content beside stripes passes s id v w k 0 part (maybe.some (Some b)) homes r at inside sets
+        (release_stripe s id k v w b more r at inside held content_is beside_is under sets) (set_at s.homes k home.0 (maybe.some (Some b)) home.1.0) (λ j other. set_else s.homes k j (maybe.some (Some b)) other) in (
           w,
           gives,
           tt,
           kept,
           λ j e. let same : k ≡ j = omega arith in subst (λ i. Releases does empty more i (v, (k, Some b) ∷ others) (w, others)) same
-              record { sets = sets; sound = sound_of does empty content stripes passes record { words = set s.words (word_at k) 0; homes = homes; views = set s.views id w } id w q kept (set_at s.views id v w at) c; out = refl },
+              record { sets = sets; sound = sound_of does empty content beside stripes passes record { words = set s.words (word_at k) 0; homes = homes; views = set s.views id w } id w q kept (set_at s.views id v w at) c; out = refl },
         )
 
     pub releases : (me : Me (Option B) (View D)) (others : List (ℕ × Option B)) (b : B) (more : List (Event D)) (q : ℕ) → k < stripes → Carries me.0 q → held_at me.0 k ≡ true → me.1 ≡ (k, Some b) ∷ others
-        → Replays (does k) empty (seen_of me.0 k ++ more) (content b) → AreUnder me.0.numbers more
+        → Replays (does k) empty (seen_of me.0 k ++ more) (content b) → beside k (seen_of me.0 k ++ more) b → AreUnder me.0.numbers more
         → Allows Rule slots id me (word_at k) (λ _. 0) (released does empty more (step slots (word_at k) 0 0 maybe.none) me)
-    releases me others b more q inside c held is content_is under = subst (λ (x : List (ℕ × Option B)). Allows Rule slots id (me.0, x) (word_at k) (λ _. 0) (released does empty more (step slots (word_at k) 0 0 maybe.none) (me.0, x))) (sym is)
-        (releases_at me.0 others b more q inside c held content_is under)
+    releases me others b more q inside c held is content_is beside_is under = subst (λ (x : List (ℕ × Option B)). Allows Rule slots id (me.0, x) (word_at k) (λ _. 0) (released does empty more (step slots (word_at k) 0 0 maybe.none) (me.0, x))) (sym is)
+        (releases_at me.0 others b more q inside c held content_is beside_is under)

@@ -42,9 +42,9 @@ module _ {D : Type 0} where
     heard = (f.heard.0, f.heard.1 ∙ ap (λ (p : Part D). p.told ++ f.heard.0) (sym sets.here));
   }
 
-module _ {D T B : Type 0} (does : ℕ → T → D → T → Type 0) (empty : T) (content : B → T) where
+module _ {D T B : Type 0} (does : ℕ → T → D → T → Type 0) (empty : T) (content : B → T) (beside : ℕ → List (Event D) → B → Type 0) where
   abbrev pub Place : ℕ → List (Event D) → ℕ → Home B → List (View D) → Type 0
-  Place k log word home views = IsFree does empty content k log word home views ⊎ IsHeld does empty content k log word home views
+  Place k log word home views = IsFree does empty content beside k log word home views ⊎ IsHeld does empty content beside k log word home views
 
   -- one view changes, holds the stripe as before, and has seen everything if it holds it
   pub holding_set : (k : ℕ) (log : List (Event D)) (word : ℕ) (home : Home B) (views : List (View D)) (id : ℕ) (v w : View D) → At views id v → held_at w k ≡ held_at v k
@@ -54,6 +54,7 @@ module _ {D T B : Type 0} (does : ℕ → T → D → T → Type 0) (empty : T) 
     bins = f.bins;
     home_is = f.home_is;
     content_is = f.content_is;
+    beside_is = f.beside_is;
     nobody = every_set (λ u. held_at u k ≡ false) views id w (held ∙ f.nobody id v at) f.nobody;
   }
   holding_set k log word home views id v w at held seen (inr b) = inr (dite (ℕ_discrete b.who id)
@@ -85,8 +86,8 @@ module _ {D T B : Type 0} (does : ℕ → T → D → T → Type 0) (empty : T) 
           (at_set views id j w u e)
 
   -- the stripe at which one view changes and fits
-  pub stripe_set : (passes k word : ℕ) (home : Home B) (views : List (View D)) (id : ℕ) (v w : View D) (r : Stripe does empty content passes k word home views) → At views id v
-      → FitsLog k r.log w → held_at w k ≡ held_at v k → (seen_of v k ≡ r.log → seen_of w k ≡ r.log) → Stripe does empty content passes k word home (set views id w)
+  pub stripe_set : (passes k word : ℕ) (home : Home B) (views : List (View D)) (id : ℕ) (v w : View D) (r : Stripe does empty content beside passes k word home views) → At views id v
+      → FitsLog k r.log w → held_at w k ≡ held_at v k → (seen_of v k ≡ r.log → seen_of w k ≡ r.log) → Stripe does empty content beside passes k word home (set views id w)
   stripe_set passes k word home views id v w r at fits held seen = record {
     log = r.log;
     legal = r.legal;
@@ -96,29 +97,29 @@ module _ {D T B : Type 0} (does : ℕ → T → D → T → Type 0) (empty : T) 
   }
 
   -- a stripe about which the view learns nothing new
-  pub stripe_else : (passes k word : ℕ) (home : Home B) (views : List (View D)) (id : ℕ) (v w : View D) → Stripe does empty content passes k word home views → At views id v
-      → w.numbers ≡ v.numbers → part_of w k ≡ part_of v k → Stripe does empty content passes k word home (set views id w)
+  pub stripe_else : (passes k word : ℕ) (home : Home B) (views : List (View D)) (id : ℕ) (v w : View D) → Stripe does empty content beside passes k word home views → At views id v
+      → w.numbers ≡ v.numbers → part_of w k ≡ part_of v k → Stripe does empty content beside passes k word home (set views id w)
   stripe_else passes k word home views id v w r at numbers part = stripe_set passes k word home views id v w r at (fits_same k r.log v w numbers part (r.fits id v at))
       (ap (λ (p : Part D). p.held) part) (λ e. ap (λ (p : Part D). p.seen) part ∙ e)
 
   -- the rule is kept if one view changes only at the stripe k, and the stripe keeps its part of the rule
   pub kept_set : (stripes passes : ℕ) (s : State (Option B) (View D)) (id : ℕ) (v w : View D) (k word : ℕ) (part : Part D) (home : Home B) (homes : List (Home B))
-      → Kept does empty content stripes passes s → At s.views id v → k < stripes → SetsPart v k part w → Stripe does empty content passes k word home (set s.views id w)
+      → Kept does empty content beside stripes passes s → At s.views id v → k < stripes → SetsPart v k part w → Stripe does empty content beside passes k word home (set s.views id w)
       → get_elem? homes k ≡ maybe.some home → ((j : ℕ) → j ≢ k → get_elem? homes j ≡ get_elem? s.homes j)
-      → Kept does empty content stripes passes record { words = set s.words (word_at k) word; homes = homes; views = set s.views id w }
+      → Kept does empty content beside stripes passes record { words = set s.words (word_at k) word; homes = homes; views = set s.views id w }
   kept_set stripes passes s id v w k word part home homes r at inside sets stripe here else = record {
     words = length-set s.words (word_at k) word ∙ r.words;
     between = λ j i l low high. get_or-set_other s.words (word_at k) (word_at j + i) word 0 (λ e. omega (arith, e, low, high)) ∙ r.between j i l low high;
     apart = apart_set s.views id v w at sets.numbers r.apart;
     counted = every_set (IsCounted stripes passes) s.views id w (counted_same stripes passes v w sets.numbers sets.passes sets.wide (r.counted id v at)) r.counted;
     stripe = λ j l. dite (ℕ_discrete j k)
-        (λ is. subst (λ (m : ℕ). (h : Home B) × ((get_elem? homes m ≡ maybe.some h) × Stripe does empty content passes m (get_or (set s.words (word_at k) word) (word_at m) 0) h (set s.views id w))) (sym is)
-        (home, (here, subst (λ n. Stripe does empty content passes k n home (set s.views id w)) (sym (get_or-set_same s.words (word_at k) word 0 (let n = r.words in omega arith))) stripe)))
+        (λ is. subst (λ (m : ℕ). (h : Home B) × ((get_elem? homes m ≡ maybe.some h) × Stripe does empty content beside passes m (get_or (set s.words (word_at k) word) (word_at m) 0) h (set s.views id w))) (sym is)
+        (home, (here, subst (λ n. Stripe does empty content beside passes k n home (set s.views id w)) (sym (get_or-set_same s.words (word_at k) word 0 (let n = r.words in omega arith))) stripe)))
         (λ other. let old = r.stripe j l in (
           old.0,
           (
             else j other ∙ old.1.0,
-            subst (λ n. Stripe does empty content passes j n old.0 (set s.views id w)) (sym (get_or-set_other s.words (word_at k) (word_at j) word 0 (λ e. other (omega arith))))
+            subst (λ n. Stripe does empty content beside passes j n old.0 (set s.views id w)) (sym (get_or-set_other s.words (word_at k) (word_at j) word 0 (λ e. other (omega arith))))
                 (stripe_else passes j (get_or s.words (word_at j) 0) old.0 s.views id v w old.1.1 at sets.numbers (sets.elsewhere j other)),
           ),
         ));
@@ -141,7 +142,7 @@ module _ {D T B : Type 0} (does : ℕ → T → D → T → Type 0) (empty : T) 
       ((empty, refl), (All-nil (λ (e : Event D). e.by < v.passes), (All-nil (λ (e : Event D). has e.by v.numbers ≡ true), λ q c. refl)))
 
   -- by the rule a view that carries a number is sound
-  pub sound_of : (stripes passes : ℕ) (s : State (Option B) (View D)) (id : ℕ) (v : View D) (q : ℕ) → Kept does empty content stripes passes s → At s.views id v → Carries v q → IsSound does empty v
+  pub sound_of : (stripes passes : ℕ) (s : State (Option B) (View D)) (id : ℕ) (v : View D) (q : ℕ) → Kept does empty content beside stripes passes s → At s.views id v → Carries v q → IsSound does empty v
   sound_of stripes passes s id v q r at c = record { legal = λ k. (all k).0; below = λ k. (all k).1.0; under = λ k. (all k).1.1.0; own = λ k. (all k).1.1.1 }
     where
       all : (k : ℕ) → SoundAt v k

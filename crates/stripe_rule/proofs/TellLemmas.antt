@@ -52,9 +52,9 @@ module _ {D : Type 0} where
     heard = (g.rest, g.begins ∙ ap (λ (p : Part D). p.told ++ g.rest) (sym part));
   }
 
-module _ {D T B : Type 0} (does : ℕ → T → D → T → Type 0) (empty : T) (content : B → T) (stripes passes : ℕ) where
+module _ {D T B : Type 0} (does : ℕ → T → D → T → Type 0) (empty : T) (content : B → T) (beside : ℕ → List (Event D) → B → Type 0) (stripes passes : ℕ) where
   abbrev Rule : State (Option B) (View D) → Type 0
-  Rule = Kept does empty content stripes passes
+  Rule = Kept does empty content beside stripes passes
 
   -- a pass is told, without a step on a word
   pub told_by : (id : ℕ) (v : View D) (other : ℕ) (from : View D) (q r : ℕ) → Carries v q → Carries from r → (s : State (Option B) (View D)) → Rule s → At s.views id v → At s.views other from
@@ -73,7 +73,7 @@ module _ {D T B : Type 0} (does : ℕ → T → D → T → Type 0) (empty : T) 
               old.0,
               (
                 old.1.0,
-                stripe_set does empty content passes k (get_or s.words (word_at k) 0) old.0 s.views id v u t at (told_fits k t.log v from u (t.fits id v at) (t.fits other from there) refl (told.parts k))
+                stripe_set does empty content beside passes k (get_or s.words (word_at k) 0) old.0 s.views id v u t at (told_fits k t.log v from u (t.fits id v at) (t.fits other from there) refl (told.parts k))
                     (ap (λ (p : Part D). p.held) (told.parts k)) (λ whole. ap (λ (p : Part D). p.seen) (told.parts k) ∙ whole),
               ),
             );

@@ -54,14 +54,17 @@ module _ {D : Type 0} where
     pub heard : StartsWith log (told_of v k)
 
 -- `does k table action new`: doing the action on the table of the stripe k leaves the new one, and its answer is the recorded
--- one. `content bins`: the table that the bins hold
-module _ {D T B : Type 0} (does : ℕ → T → D → T → Type 0) (empty : T) (content : B → T) where
+-- one. `content bins`: the table that the bins hold. `beside k log bins`: what else holds of the bins at home, beside the
+-- list of events of the stripe k
+module _ {D T B : Type 0} (does : ℕ → T → D → T → Type 0) (empty : T) (content : B → T)
+    (beside : ℕ → List (Event D) → B → Type 0) where
   -- the stripe is free: the word is 0, the bins are at home with the table that the list leaves, and no view holds it
   pub record IsFree (k : ℕ) (log : List (Event D)) (word : ℕ) (home : Home B) (views : List (View D)) : Type 0 where
     pub word_is : word ≡ 0
     pub bins : B
     pub home_is : home ≡ maybe.some (Some bins)
     pub content_is : Replays (does k) empty log (content bins)
+    pub beside_is : beside k log bins
     pub nobody : (id : ℕ) (v : View D) → At views id v → held_at v k ≡ false
 
   -- the stripe is held: the word is 1, the bins are out, and the one view that holds it has seen the whole list

@@ -84,12 +84,14 @@ module _ {D T : Type 0} (does : ℕ → T → D → T → Type 0) (empty : T) wh
   abbrev pub released : {S : Type 0} → List (Event D) → Step S → Me S (View D) → ℕ → Me S (View D) → Type 0
   released more st me found me' = (k : ℕ) → st.word ≡ word_at k → Releases more k me me'
 
-  module _ {B : Type 0} (content : B → T) where
+  -- `content` and `beside` as in the rule
+  module _ {B : Type 0} (content : B → T) (beside : ℕ → List (Event D) → B → Type 0) where
     -- the slot of the stripe k is out with the pass, which has seen everything that was done there
     pub record IsOut (k : ℕ) (me me' : Me (Option B) (View D)) : Type 0 where
       pub bins : B
       pub out : me'.1 ≡ (k, Some bins) ∷ me.1
       pub content_is : Replays (does k) empty (seen_of me'.0 k) (content bins)
+      pub beside_is : beside k (seen_of me'.0 k) bins
 
     -- a take that wins: the stripe is held
     pub record Takes (k : ℕ) (me me' : Me (Option B) (View D)) : Type 0 where

@@ -29,12 +29,12 @@ pub bins_out-bins-requires-clause-table : goal.bins_out-bins-requires-clause-tab
 bins_out-bins-requires-clause-table g c = c.take_stripe.ensures.same.0 ∙ (c.loop-stripe.invariant.0 ∙ c.requires.table.1)
 
 pub bins_out-bins-requires-clause-held : goal.bins_out-bins-requires-clause-held
-bins_out-bins-requires-clause-held g c = holds_after g.B.Bins.table c.args.table.now.table_id.slots c.loop-stripe.stripe c.loop-stripe.seat.me c.take_stripe.new.seat.me c.loop-stripe.invariant.1 c.take_stripe.ensures.took
+bins_out-bins-requires-clause-held g c = holds_after g.B.Bins.table g.B.NotedBins.noted c.args.table.now.table_id.slots c.loop-stripe.stripe c.loop-stripe.seat.me c.take_stripe.new.seat.me c.loop-stripe.invariant.1 c.take_stripe.ensures.took
 
 pub loop-stripe-preserved : goal.loop-stripe-preserved
 loop-stripe-preserved g c = let inv = c.loop-stripe.invariant in let out = c.bins_out-bins.ensures in let n = c.args.table.now.table_id.slots in let k = c.loop-stripe.stripe in
     let w = c.loop-stripe.seat.me in let u = c.take_stripe.new.seat.me in let x = c.bins_out-bins.new.seat.me.0 in let bins = c.bins_out-bins.result in let took = c.take_stripe.ensures.took in
-    let found = found_is g.B.Bins.table n k u bins out.out.0 (holds_after g.B.Bins.table n k w u inv.1 took) out.out.1.0 in (
+    let found = found_is g.B.Bins.table g.B.NotedBins.noted n k u bins out.out.0 (holds_after g.B.Bins.table g.B.NotedBins.noted n k w u inv.1 took) out.out.1.0 in (
       out.same.0 ∙ (c.take_stripe.ensures.same.0 ∙ inv.0),
       carries_next w.0 u.0 x k out.same.2 took.extends inv.1,
       subst (λ (z : View GhostAction). Sound n z) (sym out.same.2) took.sound,
@@ -42,7 +42,7 @@ loop-stripe-preserved g c = let inv = c.loop-stripe.invariant in let out = c.bin
         inv.3.0 ++ g.B.Bins.table bins ∷ [],
         (
           λ weight. (let adds = c.in_ok-copy_into.ensures.ok in ap (λ (es : List Entry). sum_by weight es) adds.added ∙ weigh_more c.loop-stripe.found (all_entries inv.3.0) adds.copies (map.entries (g.B.Bins.table bins)) inv.3.1.0 adds.are weight ∙ ap (λ (es : List Entry). sum_by weight es) (sym (all_entries-push inv.3.0 (g.B.Bins.table bins)))),
-          taken_next g.B.Bins.table n k c.args.seat.now.me.0 w u x inv.3.0 bins inv.3.1.1 took out.same.2 found,
+          taken_next g.B.Bins.table g.B.NotedBins.noted n k c.args.seat.now.me.0 w u x inv.3.0 bins inv.3.1.1 took out.same.2 found,
         ),
       ),
     )

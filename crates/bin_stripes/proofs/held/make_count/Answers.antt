@@ -3,9 +3,11 @@ use Rattle.std.specs.FinMap as map
 use Rattle.atomic_table.specs.Table.{rest}
 use Rattle.stripe_rule.specs.Gains.{seen_of}
 use Rattle.bin_stripes.specs.Actions.{Action, scanned}
-use Rattle.bin_stripes.specs.Histories.{own_events, Leaves}
-use Rattle.bin_stripes.proofs.StepLemmas.{found_is, lets_from, lets_as}
-use Rattle.bin_stripes.proofs.Making.{scan_made}
+use Rattle.bin_stripes.specs.Histories.{own_events}
+use Rattle.bin_stripes.specs.Saves.{LeavesBins}
+use Rattle.bin_stripes.proofs.StepLemmas.{found_bins, lets_from, lets_as}
+use Rattle.bin_stripes.proofs.SaveLemmas.{left_same}
+use Rattle.bin_stripes.proofs.Making.{scan_made, scan_hands_out}
 use Rattle.bin_stripes.proofs.held.make_count.Goals as goal
 
 pub slot_mut-requires : goal.slot_mut-requires
@@ -14,14 +16,14 @@ slot_mut-requires g c = let held = c.requires.held in
 
 pub let_go-requires-clause-made : goal.let_go-requires-clause-made
 let_go-requires-clause-made g c = let v = c.args.seat.now.me.0 in let n = c.args.table.now.table_id.slots in let k = c.args.stripe in let there = g.B.Bins.table c.in-Some.bins in
-    let found = found_is g.B.Bins.table c.args.table.now.table_id.slots c.args.stripe c.args.seat.now.me c.in-Some.bins (rest c.args.seat.now.me.1) c.requires.held (c.slot_mut.ensures.value ∙ ap (λ s. (c.args.stripe, s) ∷ rest c.args.seat.now.me.1) c.in-Some.is) in (
+    let found = found_bins g.B.Bins.table g.B.NotedBins.noted c.args.table.now.table_id.slots c.args.stripe c.args.seat.now.me c.in-Some.bins (rest c.args.seat.now.me.1) c.requires.held (c.slot_mut.ensures.value ∙ ap (λ s. (c.args.stripe, s) ∷ rest c.args.seat.now.me.1) c.in-Some.is) in (
       c.in-Some.bins,
       (
         rest c.args.seat.now.me.1,
         (
           refl,
-          subst (λ (b : g.row.B.Denot). (actions : List Action) × ((actions ≡ scanned (map.entries (g.B.Bins.table b)) ∷ []) × Leaves n k (seen_of v k ++ own_events v actions) there)) (sym c.of-found.ensures)
-              (scan_made n k v v there (map.entries there) refl found refl),
+          subst (λ (b : g.row.B.Denot). (actions : List Action) × ((actions ≡ scanned (map.entries (g.B.Bins.table b)) ∷ []) × LeavesBins g.B.Bins.table g.B.NotedBins.noted n k (seen_of v k ++ own_events v actions) c.in-Some.bins)) (sym c.of-found.ensures)
+              (left_same g.B.Bins.table g.B.NotedBins.noted n k v c.in-Some.bins c.in-Some.bins (λ actions. actions ≡ scanned (map.entries there) ∷ []) found refl (scan_hands_out (map.entries there)) (scan_made n k v v there (map.entries there) refl found.table refl)),
         ),
       ),
     )

@@ -4,9 +4,11 @@ use Rattle.atomic_table.specs.Table.{rest}
 use Rattle.bins.specs.Table.{Entry}
 use Rattle.stripe_rule.specs.Gains.{seen_of}
 use Rattle.bin_stripes.specs.Actions.{Action, scanned}
-use Rattle.bin_stripes.specs.Histories.{own_events, Leaves}
-use Rattle.bin_stripes.proofs.StepLemmas.{found_is, lets_from, lets_as}
-use Rattle.bin_stripes.proofs.Making.{scan_made, nothing_made}
+use Rattle.bin_stripes.specs.Histories.{own_events}
+use Rattle.bin_stripes.specs.Saves.{LeavesBins}
+use Rattle.bin_stripes.proofs.StepLemmas.{found_is, found_bins, lets_from, lets_as}
+use Rattle.bin_stripes.proofs.SaveLemmas.{left_same}
+use Rattle.bin_stripes.proofs.Making.{scan_made, scan_hands_out, nothing_made, nothing_hands_out}
 use Rattle.bin_stripes.proofs.held.make_scan.Goals as goal
 
 pub slot_mut-requires : goal.slot_mut-requires
@@ -15,22 +17,22 @@ slot_mut-requires g c = let held = c.requires.held in
 
 pub let_go-requires-clause-made : goal.let_go-requires-clause-made
 let_go-requires-clause-made g c = let v = c.args.seat.now.me.0 in let n = c.args.table.now.table_id.slots in let k = c.args.stripe in let there = g.B.Bins.table c.in-Some.bins in
-    let found = found_is g.B.Bins.table c.args.table.now.table_id.slots c.args.stripe c.args.seat.now.me c.in-Some.bins (rest c.args.seat.now.me.1) c.requires.held (c.slot_mut.ensures.value ∙ ap (λ s. (c.args.stripe, s) ∷ rest c.args.seat.now.me.1) c.in-Some.is) in (
+    let found = found_bins g.B.Bins.table g.B.NotedBins.noted c.args.table.now.table_id.slots c.args.stripe c.args.seat.now.me c.in-Some.bins (rest c.args.seat.now.me.1) c.requires.held (c.slot_mut.ensures.value ∙ ap (λ s. (c.args.stripe, s) ∷ rest c.args.seat.now.me.1) c.in-Some.is) in (
       c.in-Some.bins,
       (
         rest c.args.seat.now.me.1,
         (
           refl,
-          subst (λ (b : g.row.B.Denot). (actions : List Action) × ((actions ≡ scanned (map.entries (g.B.Bins.table b)) ∷ []) × Leaves n k (seen_of v k ++ own_events v actions) there)) (sym c.of-there.ensures)
-              (scan_made n k v v there (map.entries there) refl found refl),
+          subst (λ (b : g.row.B.Denot). (actions : List Action) × ((actions ≡ scanned (map.entries (g.B.Bins.table b)) ∷ []) × LeavesBins g.B.Bins.table g.B.NotedBins.noted n k (seen_of v k ++ own_events v actions) c.in-Some.bins)) (sym c.of-there.ensures)
+              (left_same g.B.Bins.table g.B.NotedBins.noted n k v c.in-Some.bins c.in-Some.bins (λ actions. actions ≡ scanned (map.entries there) ∷ []) found refl (scan_hands_out (map.entries there)) (scan_made n k v v there (map.entries there) refl found.table refl)),
         ),
       ),
     )
 
 pub let_go-requires-in-Err-clause-made : goal.let_go-requires-in-Err-clause-made
 let_go-requires-in-Err-clause-made g c = let v = c.args.seat.now.me.0 in let there = g.B.Bins.table c.in-Some.bins in
-    let found = found_is g.B.Bins.table c.args.table.now.table_id.slots c.args.stripe c.args.seat.now.me c.in-Some.bins (rest c.args.seat.now.me.1) c.requires.held (c.slot_mut.ensures.value ∙ ap (λ s. (c.args.stripe, s) ∷ rest c.args.seat.now.me.1) c.in-Some.is) in
-    (c.in-Some.bins, (rest c.args.seat.now.me.1, (refl, nothing_made c.args.table.now.table_id.slots c.args.stripe v v there there refl refl found)))
+    let found = found_bins g.B.Bins.table g.B.NotedBins.noted c.args.table.now.table_id.slots c.args.stripe c.args.seat.now.me c.in-Some.bins (rest c.args.seat.now.me.1) c.requires.held (c.slot_mut.ensures.value ∙ ap (λ s. (c.args.stripe, s) ∷ rest c.args.seat.now.me.1) c.in-Some.is) in
+    (c.in-Some.bins, (rest c.args.seat.now.me.1, (refl, left_same g.B.Bins.table g.B.NotedBins.noted c.args.table.now.table_id.slots c.args.stripe v c.in-Some.bins c.in-Some.bins (λ actions. actions ≡ []) found refl nothing_hands_out (nothing_made c.args.table.now.table_id.slots c.args.stripe v v there there refl refl found.table))))
 
 -- the scan found exactly the entries that it returns
 pub returns-in-Ok-clause-ok : goal.returns-in-Ok-clause-ok
@@ -43,7 +45,7 @@ pub returns-in-Ok-clause-entries : goal.returns-in-Ok-clause-entries
 returns-in-Ok-clause-entries g c = (
   g.B.Bins.table c.in-Some.bins,
   (
-    found_is g.B.Bins.table c.args.table.now.table_id.slots c.args.stripe c.args.seat.now.me c.in-Some.bins (rest c.args.seat.now.me.1) c.requires.held (c.slot_mut.ensures.value ∙ ap (λ s. (c.args.stripe, s) ∷ rest c.args.seat.now.me.1) c.in-Some.is),
+    found_is g.B.Bins.table g.B.NotedBins.noted c.args.table.now.table_id.slots c.args.stripe c.args.seat.now.me c.in-Some.bins (rest c.args.seat.now.me.1) c.requires.held (c.slot_mut.ensures.value ∙ ap (λ s. (c.args.stripe, s) ∷ rest c.args.seat.now.me.1) c.in-Some.is),
     c.in-Ok.ensures.ok,
   ),
 )

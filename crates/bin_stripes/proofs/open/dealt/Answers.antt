@@ -4,6 +4,7 @@ use Rattle.stripe_rule.specs.Rule.{Kept, newcomer, from_on}
 use Rattle.stripe_rule.specs.Steps.{with_numbers, head_of, tail_of}
 use Rattle.stripe_rule.proofs.OpenLemmas.{deals_as}
 use Rattle.bin_stripes.specs.Histories.{empty, does}
+use Rattle.bin_stripes.specs.Saves.{keeps}
 use Rattle.bin_stripes.specs.Opened.{pass_of}
 use Rattle.bin_stripes.proofs.OpenedLemmas.{dealt_more, pass_is}
 use Rattle.bin_stripes.proofs.open.dealt.Goals as goal
@@ -18,9 +19,9 @@ split_seat-next-requires g c = let table = c.args.table.now in let i = c.loop-nu
     let is : v ≡ newcomer table.table_id.slots p (from_on i (suc (p - i - 1))) = ap (λ m. m.0) inv.1 ∙ ap (λ k. newcomer table.table_id.slots p (from_on i k)) n in (
       inv.0,
       subst (λ n. 0 < n) (sym c.requires.table.0.words) (let some = c.requires.some in omega arith),
-      subst (λ (q : ℕ × ℕ). Splits (Kept (does q.0) empty g.B.Bins.table q.0 q.1) c.loop-number.rest.id v (with_numbers v (head_of v.numbers)) (with_numbers v (tail_of v.numbers)))
+      subst (λ (q : ℕ × ℕ). Splits (Kept (does q.0) empty g.B.Bins.table (keeps g.B.Bins.table g.B.NotedBins.noted) q.0 q.1) c.loop-number.rest.id v (with_numbers v (head_of v.numbers)) (with_numbers v (tail_of v.numbers)))
           (λ j. (sym c.requires.table.0.stripes j, sym c.requires.passes.0 j))
-          (deals_as (does table.table_id.slots) empty g.B.Bins.table table.table_id.slots p c.loop-number.rest.id i (p - i - 1) v is),
+          (deals_as (does table.table_id.slots) empty g.B.Bins.table (keeps g.B.Bins.table g.B.NotedBins.noted) table.table_id.slots p c.loop-number.rest.id i (p - i - 1) v is),
     )
 
 pub dealt_pass-requires : goal.dealt_pass-requires

@@ -12,5 +12,5 @@ loop-preserved g c = let inv = c.loop.invariant in let P = IsEmptyBins g.B.Bins.
   inv.0,
   ap length c.in_ok-push.ensures.items ∙ (length-append c.loop.slots.items (_ ∷ []) ∙ ap (λ n. n + 1) inv.1),
   subst (λ xs. All P xs) (sym c.in_ok-push.ensures.items)
-      (All-append P c.loop.slots.items (Some c.in_ok-open_seeded.field-0 ∷ []) inv.2 (All-cons P (Some c.in_ok-open_seeded.field-0) [] (c.in_ok-open_seeded.field-0, (refl, c.in_ok-open_seeded.ensures.ok)) (All-nil P))),
+      (All-append P c.loop.slots.items (Some c.in_ok-open_with.field-0 ∷ []) inv.2 (All-cons P (Some c.in_ok-open_with.field-0) [] (c.in_ok-open_with.field-0, (refl, c.in_ok-open_with.ensures.ok)) (All-nil P))),
 )

@@ -7,7 +7,7 @@ pub load-requires : goal.load-requires
 load-requires g c = let seat = c.args.seat.now in let table = c.args.table.now in (
   c.requires.table.1,
   subst (λ n. word_at c.args.stripe < n) (sym c.requires.table.0.words) (let inside = c.requires.stripe in omega arith),
-  looks_at g.B.Bins.table table.table_id table.key c.requires.table.0 seat.id c.args.stripe seat.me c.requires.stripe c.requires.pass,
+  looks_at g.B.Bins.table g.B.NotedBins.noted table.table_id table.key c.requires.table.0 seat.id c.args.stripe seat.me c.requires.stripe c.requires.pass,
 )
 
 pub returns-clause-looked : goal.returns-clause-looked

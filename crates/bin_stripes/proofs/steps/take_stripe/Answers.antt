@@ -18,9 +18,9 @@ try_take_stripe-requires-clause-pass g c = let v = c.args.seat.now.me.0 in let w
 
 pub returns-then-try_take_stripe-clause-took : goal.returns-then-try_take_stripe-clause-took
 returns-then-try_take_stripe-clause-took g c = let inv = c.loop.invariant in
-    takes_since g.B.Bins.table c.args.table.now.table_id.slots c.args.stripe c.args.seat.now.me.0 c.loop.seat.me c.try_take_stripe.new.seat.me c.args.seat.now.me.1 inv.2 inv.3 (search rules)
+    takes_since g.B.Bins.table g.B.NotedBins.noted c.args.table.now.table_id.slots c.args.stripe c.args.seat.now.me.0 c.loop.seat.me c.try_take_stripe.new.seat.me c.args.seat.now.me.1 inv.2 inv.3 (search rules)
 
 pub loop-preserved : goal.loop-preserved
 loop-preserved g c = let inv = c.loop.invariant in let same = c.try_take_stripe.ensures.same in
-    let l = looks_since g.B.Bins.table c.args.table.now.table_id.slots c.args.stripe c.args.seat.now.me.0 c.loop.seat.me c.try_take_stripe.new.seat.me c.args.seat.now.me.1 inv.2 inv.3 (search rules) in
+    let l = looks_since g.B.Bins.table g.B.NotedBins.noted c.args.table.now.table_id.slots c.args.stripe c.args.seat.now.me.0 c.loop.seat.me c.try_take_stripe.new.seat.me c.args.seat.now.me.1 inv.2 inv.3 (search rules) in
     (same.0 ∙ inv.0, same.1 ∙ inv.1, l.0, l.1)

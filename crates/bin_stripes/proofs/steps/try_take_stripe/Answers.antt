@@ -7,7 +7,7 @@ pub compare_exchange-requires : goal.compare_exchange-requires
 compare_exchange-requires g c = let seat = c.args.seat.now in let table = c.args.table.now in (
   c.requires.table.1,
   subst (λ n. word_at c.args.stripe < n) (sym c.requires.table.0.words) (let inside = c.requires.stripe in omega arith),
-  takes_stripe g.B.Bins.table table.table_id table.key c.requires.table.0 seat.id c.args.stripe seat.me c.requires.stripe c.requires.pass.0 c.requires.pass.1,
+  takes_stripe g.B.Bins.table g.B.NotedBins.noted table.table_id table.key c.requires.table.0 seat.id c.args.stripe seat.me c.requires.stripe c.requires.pass.0 c.requires.pass.1,
 )
 
 pub returns-clause-took : goal.returns-clause-took

@@ -12,7 +12,7 @@ learn-requires g c = let seat = c.args.seat.now in let from = c.args.from.now in
   (
     view_of from.views,
     c.requires.from.one,
-    learns_of g.B.Bins.table c.args.table.now.key seat.id seat.me.0 from.id (view_of from.views) c.requires.rests.0.some c.requires.from.some,
+    learns_of g.B.Bins.table g.B.NotedBins.noted c.args.table.now.key seat.id seat.me.0 from.id (view_of from.views) c.requires.rests.0.some c.requires.from.some,
   ),
 )
 
@@ -32,7 +32,7 @@ look-requires-clause-pass g c = c.loop-stripe.invariant.3.some
 pub loop-stripe-preserved : goal.loop-stripe-preserved
 loop-stripe-preserved g c = let inv = c.loop-stripe.invariant in let l = c.look.ensures in let from = view_of c.args.from.now.views in let u = c.learn.new.seat.me.0 in let w = c.loop-stripe.seat.me in let x = c.look.new.seat.me in
     let h = heard_more from u w.0 x.0 c.loop-stripe.stripe inv.2 l.looked.extends l.looked.heard in
-    (l.same.0 ∙ inv.0, l.same.1 ∙ inv.1, h, told_looks c.args.table.now.table_id.slots g.B.Bins.table c.loop-stripe.stripe w x inv.3 l.looked, subst (λ n. Sound n x.0) (sym c.requires.table.1) l.looked.sound)
+    (l.same.0 ∙ inv.0, l.same.1 ∙ inv.1, h, told_looks c.args.table.now.table_id.slots g.B.Bins.table g.B.NotedBins.noted c.loop-stripe.stripe w x inv.3 l.looked, subst (λ n. Sound n x.0) (sym c.requires.table.1) l.looked.sound)
 
 pub returns-clause-heard : goal.returns-clause-heard
 returns-clause-heard g c = let from = view_of c.args.from.now.views in let v = c.args.seat.now.me.0 in let u = c.learn.new.seat.me.0 in let w = c.loop-stripe.seat.me.0 in

@@ -1,6 +1,7 @@
 use Rattle.stripe_rule.specs.Gains.{least}
 use Rattle.stripe_rule.proofs.JoinLemmas.{unites}
 use Rattle.bin_stripes.specs.Histories.{empty, does}
+use Rattle.bin_stripes.specs.Saves.{keeps}
 use Rattle.bin_stripes.proofs.tell.unite.Goals as goal
 
 pub join_seat-requires : goal.join_seat-requires
@@ -10,5 +11,5 @@ join_seat-requires g c = let shape = c.args.table.now.key in let v = c.args.seat
       c.requires.table.1,
       s.none_out,
       c.requires.table.2,
-      unites (does shape.stripes) empty g.B.Bins.table shape.stripes shape.passes c.args.seat.now.id v c.args.other.id w (least v.numbers) (least w.numbers) r.some s.some r.idle s.idle,
+      unites (does shape.stripes) empty g.B.Bins.table (keeps g.B.Bins.table g.B.NotedBins.noted) shape.stripes shape.passes c.args.seat.now.id v c.args.other.id w (least v.numbers) (least w.numbers) r.some s.some r.idle s.idle,
     )

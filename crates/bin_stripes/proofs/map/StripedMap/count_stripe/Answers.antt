@@ -5,12 +5,11 @@ use Rattle.bin_stripes.specs.Holding.{Settles}
 use Rattle.bin_stripes.specs.Passes.{stripes_of}
 use Rattle.bin_stripes.proofs.StepLemmas.{holds_after, settles_as}
 use Rattle.bin_stripes.proofs.PassLemmas.{rests_of, makes_after}
-use Rattle.bin_stripes.proofs.StripeContent.{content}
 use Rattle.bin_stripes.proofs.map.StripedMap.count_stripe.Goals as goal
 
 pub make_count-count-requires-clause-held : goal.make_count-count-requires-clause-held
 make_count-count-requires-clause-held g c = let known = c.pass.inside.known in let me = c.take-seat.result.me in
-    holds_after _ c.self.inside.table.shared.table_id.slots c.args.stripe me c.take_stripe.new.seat.me
+    holds_after _ _ c.self.inside.table.shared.table_id.slots c.args.stripe me c.take_stripe.new.seat.me
     (rests_of known.table_id known.views me c.pass.invariant c.take-seat.ensures.2 c.take-seat.ensures.3).some c.take_stripe.ensures.took
 
 pub returns-clause-counts : goal.returns-clause-counts
@@ -21,7 +20,7 @@ returns-clause-counts g c = let id = c.pass.inside.known.table_id in let sid = c
     record {
       entries = map.entries m.0;
       scans = makes_after id known.views me c.pass.invariant c.take-seat.ensures.2 k actions me'
-          (subst (λ z. Settles (stripes_of z) k me actions me') (sym e) (settles_as content sid.slots k me held me' actions rests c.take_stripe.ensures.took m.1.0))
+          (subst (λ z. Settles (stripes_of z) k me actions me') (sym e) (settles_as _ _ sid.slots k me held me' actions rests c.take_stripe.ensures.took m.1.0))
           c.put.new.self.table_id c.put.new.self.views (c.put.ensures.0 ∙ (c.make_count-count.ensures.same.0 ∙ (c.take_stripe.ensures.same.0 ∙ c.take-seat.ensures.0))) c.put.ensures.2
           c.args.pass.now c.pass.view_is;
       count_is = m.1.1;

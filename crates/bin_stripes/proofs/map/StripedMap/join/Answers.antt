@@ -1,4 +1,4 @@
-use Rattle.std.proofs.Common.{◌≡◌, ℕ, ◌<◌, List, length, refl, sym, ap, ◌∙◌, subst, arith}
+use Rattle.std.proofs.Common.{◌≡◌, ℕ, ◌<◌, true, List, length, refl, sym, ap, ◌∙◌, subst, arith}
 use Rattle.atomic_table.specs.Seated.{TableId}
 use Rattle.stripe_rule.specs.declared.view.View.{View}
 use Rattle.stripe_rule.specs.Gains.{Hears, IsJoined, held_at}
@@ -12,7 +12,6 @@ use Rattle.bin_stripes.specs.Passes.{IsPass, stripes_of}
 use Rattle.bin_stripes.proofs.StepLemmas.{settles_lost}
 use Rattle.bin_stripes.proofs.AllSeenLemmas.{sees_just_theirs}
 use Rattle.bin_stripes.proofs.PassLemmas.{rests_of, joined_rests, wide_united}
-use Rattle.bin_stripes.proofs.StripeContent.{content}
 use Rattle.bin_stripes.proofs.map.StripedMap.join.Goals as goal
 
 pub unite-requires-clause-table : goal.unite-requires-clause-table
@@ -52,7 +51,7 @@ invariant_of-result c = let shared = c.self.inside.table.shared in let first = c
     let wide : length v.0.parts ≡ length w.0.parts = mine ∙ (ap stripes_of same ∙ (sym c.other.invariant.wide ∙ ap (λ (x : View GhostAction). length x.parts) (ap view_of c.take.ensures.2))) in
     let now = c.unite.new.seat.me in let end = c.look.new.seat.me in let rests = joined_rests v w now r s wide c.unite.ensures.both in
     let e : first.table_id ≡ shared.table_id = ap (λ p. p.map) c.one.view_is ∙ (c.requires.one ∙ sym c.self.view_is) in
-    let l = settles_lost content shared.table_id.slots 0 now end rests c.look.ensures.looked in
+    let l = settles_lost (λ _. empty) (λ _ _. true) shared.table_id.slots 0 now end rests c.look.ensures.looked in
     let id : c.of.result.table_id ≡ first.table_id = c.of.ensures.0 ∙ (c.look.ensures.same.0 ∙ (c.unite.ensures.same.0 ∙ (c.hear.ensures.same.0 ∙ c.take-seat.ensures.0))) in
     subst (λ (z : TableId × List (View GhostAction)). IsPass z.0 z.1) (λ i. (sym id i, sym c.of.ensures.2 i)) (record {
       one = refl;

@@ -3,12 +3,11 @@ use Rattle.bin_stripes.specs.Holding.{SeatReplaces}
 use Rattle.bin_stripes.specs.Passes.{stripes_of}
 use Rattle.bin_stripes.proofs.StepLemmas.{holds_after, replaces_after}
 use Rattle.bin_stripes.proofs.PassLemmas.{rests_of, replaced_after}
-use Rattle.bin_stripes.proofs.StripeContent.{content}
 use Rattle.bin_stripes.proofs.map.StripedMap.replace_stripe.Goals as goal
 
 pub make_replacements-counts-requires-clause-held : goal.make_replacements-counts-requires-clause-held
 make_replacements-counts-requires-clause-held g c = let known = c.pass.inside.known in let me = c.take-seat.result.me in
-    holds_after _ c.self.inside.table.shared.table_id.slots c.args.stripe me c.take_stripe.new.seat.me
+    holds_after _ _ c.self.inside.table.shared.table_id.slots c.args.stripe me c.take_stripe.new.seat.me
     (rests_of known.table_id known.views me c.pass.invariant c.take-seat.ensures.2 c.take-seat.ensures.3).some c.take_stripe.ensures.took
 
 pub returns-clause-each : goal.returns-clause-each
@@ -18,6 +17,6 @@ returns-clause-each g c = let id = c.pass.inside.known.table_id in let sid = c.s
     let rests = rests_of id known.views me c.pass.invariant c.take-seat.ensures.2 c.take-seat.ensures.3 in
     replaced_after id known.views me c.pass.invariant c.take-seat.ensures.2 me' k program arg counts
     (subst (λ z. SeatReplaces (stripes_of z) k me program arg counts me') (sym e)
-    (replaces_after content sid.slots k me held me' program arg counts rests c.take_stripe.ensures.took m.0 m.1.0 m.1.1))
+    (replaces_after _ _ sid.slots k me held me' program arg counts rests c.take_stripe.ensures.took m.0 m.1.0 m.1.1))
     c.put.new.self.table_id c.put.new.self.views (c.put.ensures.0 ∙ (c.make_replacements-counts.ensures.same.0 ∙ (c.take_stripe.ensures.same.0 ∙ c.take-seat.ensures.0))) c.put.ensures.2
     c.args.pass.now c.pass.view_is

@@ -9,7 +9,7 @@ use Rattle.bin_stripes.proofs.map.StripedMap.scan_stripe.Goals as goal
 
 pub make_scan-answer-requires-clause-held : goal.make_scan-answer-requires-clause-held
 make_scan-answer-requires-clause-held g c = let known = c.pass.inside.known in let me = c.take-seat.result.me in
-    holds_after _ c.self.inside.table.shared.table_id.slots c.args.stripe me c.take_stripe.new.seat.me
+    holds_after _ _ c.self.inside.table.shared.table_id.slots c.args.stripe me c.take_stripe.new.seat.me
     (rests_of known.table_id known.views me c.pass.invariant c.take-seat.ensures.2 c.take-seat.ensures.3).some c.take_stripe.ensures.took
 
 pub returns-clause-entries : goal.returns-clause-entries
