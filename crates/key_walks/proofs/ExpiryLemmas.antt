@@ -1,7 +1,7 @@
 -- Entries whose time is over are taken away, one after the other.
 use Rattle.std.proofs.Common.{Result, Ok, Err, IfOk, OnErr, ◌≡◌, ◌≢◌, ℕ, zero, suc, Bool, true, false, List, [], ◌∷◌, ◌++◌, refl, sym, ap, ◌∙◌, subst, replicate}
-use Rattle.timed_bins.specs.declared.timing.Expiry.{Expiry}
-use Rattle.timed_bins.specs.declared.timing.Expiry.TheVariants.{Took}
+use Rattle.bin_stripes.specs.declared.expiry.Expiry.{Expiry}
+use Rattle.bin_stripes.specs.declared.expiry.Expiry.TheVariants.{Took}
 use Rattle.stripe_rule.specs.declared.view.View.{View}
 use Rattle.stripe_rule.specs.Gains.{Keeps}
 use Rattle.bin_stripes.specs.declared.ghost_action.GhostAction.{GhostAction}

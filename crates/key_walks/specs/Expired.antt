@@ -1,7 +1,7 @@
 -- Entries whose time is over are taken away before a stripe is scanned.
 use Rattle.std.specs.Prelude.{◌≢◌, ℕ, List, [], ◌∷◌, ◌++◌, replicate}
-use Rattle.timed_bins.specs.declared.timing.Expiry.{Expiry}
-use Rattle.timed_bins.specs.declared.timing.Expiry.TheVariants.{Took}
+use Rattle.bin_stripes.specs.declared.expiry.Expiry.{Expiry}
+use Rattle.bin_stripes.specs.declared.expiry.Expiry.TheVariants.{Took}
 use Rattle.bin_stripes.specs.Timed.{ExpiresOne}
 use Rattle.bin_stripes.specs.Passes.{PassState, ServesSameMap}
 use Rattle.key_walks.specs.Turns.{Chain, FindsKeys, MayScan, StopsIn}

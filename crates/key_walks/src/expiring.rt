@@ -4,11 +4,10 @@ ghost use Rattle.bin_stripes.specs.Passes.{ServesSameMap, stripes_of};
 ghost use Rattle.key_walks.specs.Expired.{Expires, FindsLive, MayScanLive};
 
 use crate::finding::stripe_keys;
-use bin_stripes::{Pass, StripedMap};
+use bin_stripes::{Expiry, Pass, StripedMap};
 use bpf_model::{Key, NoMemory};
 use std::alloc::Global;
 use std::sync::Wait;
-use timed_bins::Expiry;
 
 /// Takes entries of one stripe away until none is left whose time is over at `now`. Each goes in a hold of its own, so other calls
 /// can come between. Takes no memory. Waits until the stripe is free.

@@ -45,3 +45,8 @@ IsText text method reply with_now program = ∥ Says text method reply with_now 
 -- a text with this digest says so
 abbrev pub IsScript : List ℕ → Method → ReplyKind → Bool → Checked → Type 0
 IsScript digest method reply with_now program = ∥ ((text : List ℕ) × (digest ≡ sha1 text) × Says text method reply with_now program) ∥₁
+
+-- the text is a script's
+abbrev pub IsLoadedText : List ℕ → Type 0
+IsLoadedText text =
+    (method : Method) × (reply : ReplyKind) × (with_now : Bool) × (program : Checked) × IsText text method reply with_now program

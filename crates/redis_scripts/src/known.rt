@@ -1,7 +1,7 @@
 //! The scripts that are known by their digests.
-ghost use Rattle.std.specs.Prelude.{◌≡◌, IfSome};
+ghost use Rattle.std.specs.Prelude.{◌≡◌, All, IfOk, IfSome};
 ghost use Rattle.sha1.specs.Sha1.{sha1};
-ghost use Rattle.redis_scripts.specs.Scripts.{IsText, IsScript};
+ghost use Rattle.redis_scripts.specs.Scripts.{IsLoadedText, IsText, IsScript};
 
 use crate::head::{Method, ReplyKind};
 use bpf_model::NoMemory;
@@ -30,11 +30,12 @@ struct Noted<'a> {
     ghost says: { IsText text.items script.method script.reply script.with_now script.program.now },
 }
 
-/// The scripts that were loaded, and how many there may be. A digest alone isn't trusted: a text is compared with the one that was
-/// loaded.
+/// The scripts that were loaded, in this order, the place of each by its digest, and how many there may be. A digest alone isn't
+/// trusted: a text is compared with the one that was loaded.
 #[derive(Drop)]
 pub(crate) struct Known<'a> {
-    scripts: BTreeMap<Digest, Noted<'a>>,
+    scripts: Vec<Noted<'a>>,
+    places: BTreeMap<Digest, usize>,
     most: usize,
 }
 
@@ -42,9 +43,16 @@ impl<'a> Known<'a> {
     /// Has no scripts, and takes at most `most`.
     pub(crate) fn new(alloc: Global, most: usize) -> Known<'a> {
         Known {
-            scripts: BTreeMap::new(alloc),
+            scripts: Vec::new(alloc),
+            places: BTreeMap::new(alloc),
             most,
         }
+    }
+
+    /// Returns what was noted for this digest.
+    fn noted(&self, digest: Digest) -> Option<&Noted<'a>> {
+        let place = *self.places.get(&digest)?;
+        self.scripts.get(place)
     }
 
     /// Returns the script with this digest.
@@ -52,7 +60,7 @@ impl<'a> Known<'a> {
         ensures named { IfSome result (λ script. script.digest.bytes ≡ digest.bytes) }
         ensures script { IfSome result (λ script. IsScript digest.bytes script.method script.reply script.with_now script.program.now) }
     {
-        let noted = self.scripts.get(&digest)?;
+        let noted = self.noted(digest)?;
         let script = noted.script;
         if script.digest == digest {
             Some(script)
@@ -66,7 +74,7 @@ impl<'a> Known<'a> {
         ensures named { IfSome result (λ script. script.digest.bytes ≡ digest.bytes) }
         ensures says { IfSome result (λ script. IsText text.now script.method script.reply script.with_now script.program.now) }
     {
-        let noted = self.scripts.get(&digest)?;
+        let noted = self.noted(digest)?;
         let script = noted.script;
         if script.digest == digest && noted.text.as_slice() == text {
             Some(script)
@@ -85,14 +93,31 @@ impl<'a> Known<'a> {
     ) -> Result<(), NoMemory>
         requires { IsText text.now script.method script.reply script.with_now script.program.now }
     {
-        if self.scripts.contains_key(&script.digest) {
+        if self.places.contains_key(&script.digest) {
             return Ok(());
         }
-        if self.scripts.len() >= self.most {
+        let place = self.scripts.len();
+        if place >= self.most {
             return Err(NoMemory);
         }
         let text = Vec::from_slice(alloc, text)?;
-        self.scripts.insert(script.digest, Noted { script, text })?;
+        self.scripts.reserve(1)?;
+        self.places.insert(script.digest, place)?;
+        self.scripts.push_reserved(Noted { script, text });
         Ok(())
+    }
+
+    /// Returns copies of the texts of the scripts after the first `count`, in the order in which they were noted. `NoMemory` if a
+    /// request for memory is refused.
+    pub(crate) fn after(&self, alloc: Global, count: usize) -> Result<Vec<Vec<u8>>, NoMemory>
+        ensures texts { IfOk result (λ texts. All (λ text. IsLoadedText text.items) texts.items) }
+    {
+        let mut texts = Vec::new(alloc);
+        for place in count..self.scripts.len() {
+            let noted = &self.scripts[place];
+            let text = Vec::from_slice(alloc, noted.text.as_slice())?;
+            texts.push(text)?;
+        }
+        Ok(texts)
     }
 }

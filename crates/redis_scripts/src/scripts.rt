@@ -1,12 +1,12 @@
 //! The scripts that all threads share.
-ghost use Rattle.std.specs.Prelude.{◌≡◌, ◌⊎◌, IfSome, IfNone, IfOk, IfErr};
+ghost use Rattle.std.specs.Prelude.{◌≡◌, ◌⊎◌, All, IfSome, IfNone, IfOk, IfErr};
 ghost use Rattle.sha1.specs.Sha1.{sha1};
 ghost use Rattle.program_registry.specs.Tokens.{IsOf, program_of};
 ghost use Rattle.admission.specs.Admissions.{IsAdmitted, IsNotAdmitted, greatest};
 ghost use Rattle.admission.specs.declared.fault.AdmissionFault.{AdmissionFault as TheRefusal};
 ghost use Rattle.redis_scripts.specs.Lua.{ActsOnLock};
 ghost use Rattle.redis_scripts.specs.declared.lua.LockAct.{LockAct as TheAct};
-ghost use Rattle.redis_scripts.specs.Scripts.{IsText, IsScript};
+ghost use Rattle.redis_scripts.specs.Scripts.{IsLoadedText, IsText, IsScript};
 ghost use Rattle.redis_scripts.specs.Faults.{IsFaultOf};
 
 use crate::digest::digest_of;
@@ -15,7 +15,7 @@ use crate::known::{Known, Script};
 use crate::lua::{LockAct, LuaTexts};
 use crate::reading::read;
 use admission::{AdmissionFault, ProgramLimits, admit};
-use bpf_model::Sizes;
+use bpf_model::{NoMemory, Sizes};
 use program_registry::{Digest, ProgramToken, Registry, SentProgram};
 use std::alloc::Global;
 use std::sync::{Mutex, Wait};
@@ -144,5 +144,18 @@ impl<'a> Scripts<'a> {
         let script = self.made(rt, alloc, digest, text)?;
         self.known.lock(rt).note(alloc, script, text)?;
         Ok(script)
+    }
+
+    /// Returns the texts of the scripts that were loaded after the first `count`, in this order: each is a text that `load` returned a
+    /// script of. `NoMemory` if a request for memory is refused. Waits while another thread loads or looks up a script.
+    pub fn after<R: Wait>(
+        &self,
+        rt: &R,
+        alloc: Global,
+        count: usize,
+    ) -> Result<Vec<Vec<u8>>, NoMemory>
+        ensures texts { IfOk result (λ texts. All (λ text. IsLoadedText text.items) texts.items) }
+    {
+        self.known.lock(rt).after(alloc, count)
     }
 }

@@ -2,8 +2,8 @@
 use Rattle.std.proofs.Common.{◌≡◌, ℕ, suc, ◌+◌, ◌<◌, ◌⊎◌, ◌↔◌, min, Bool, true, false, ◌||◌, List, [], ◌∷◌, ◌++◌, Option, Some, None, inl, inr, refl, sym, ap, ◌∙◌, subst, arith, replicate, length, length-append, IsTrue}
 use Rattle.std.specs.List.{Contains}
 use Rattle.std.proofs.lemmas.List.Elements.{Contains-push, Contains-push_cases, Contains-append_left}
-use Rattle.timed_bins.specs.declared.timing.Expiry.{Expiry}
-use Rattle.timed_bins.specs.declared.timing.Expiry.TheVariants.{Took}
+use Rattle.bin_stripes.specs.declared.expiry.Expiry.{Expiry}
+use Rattle.bin_stripes.specs.declared.expiry.Expiry.TheVariants.{Took}
 use Rattle.bin_stripes.specs.Timed.{ExpiresOne}
 use Rattle.bin_stripes.specs.Passes.{PassState, ServesSameMap, stripes_of}
 use Rattle.key_walks.specs.Turns.{Chain, InTurn}

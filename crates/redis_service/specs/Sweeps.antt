@@ -1,7 +1,7 @@
 -- Sweeps: entries whose time is over are taken away, even if no command asks for them.
 use Rattle.std.specs.Prelude.{◌≡◌, ℕ, ◌<◌, min, List, [], ◌∷◌, length, Option, Some, None}
-use Rattle.timed_bins.specs.declared.timing.Expiry.{Expiry}
-use Rattle.timed_bins.specs.declared.timing.Expiry.TheVariants.{Took, Waits, Nothing}
+use Rattle.bin_stripes.specs.declared.expiry.Expiry.{Expiry}
+use Rattle.bin_stripes.specs.declared.expiry.Expiry.TheVariants.{Took, Waits, Nothing}
 use Rattle.bin_stripes.specs.Passes.{PassState, stripes_of}
 use Rattle.key_walks.specs.Turns.{InTurn}
 use Rattle.key_walks.specs.Expired.{Looks}

@@ -1,14 +1,13 @@
 //! Entries whose time is over are taken away, even if no command asks for them.
 ghost use Rattle.std.specs.Prelude.{◌≡◌, ◌<◌, ◌↔◌, List, Option, Some, None, Contains, IsTrue};
-ghost use Rattle.timed_bins.specs.declared.timing.Expiry.{Expiry as Answer};
-ghost use Rattle.timed_bins.specs.declared.timing.Expiry.TheVariants.{Took};
+ghost use Rattle.bin_stripes.specs.declared.expiry.Expiry.{Expiry as Answer};
+ghost use Rattle.bin_stripes.specs.declared.expiry.Expiry.TheVariants.{Took};
 ghost use Rattle.bin_stripes.specs.Passes.{ServesSameMap, stripes_of};
 ghost use Rattle.redis_service.specs.Sweeps.{SweepsAll, SweepsStripe, sooner, next_after, next_of};
 
-use bin_stripes::{Pass, StripedMap};
+use bin_stripes::{Expiry, Pass, StripedMap};
 use std::marker::Model;
 use std::sync::Wait;
-use timed_bins::Expiry;
 
 /// At most this many entries of a stripe are taken away in one sweep.
 const MOST: u64 = 20;

@@ -1,6 +1,6 @@
 use Rattle.std.proofs.Common.{◌≡◌, refl, ◌∙◌, subst}
-use Rattle.timed_bins.specs.declared.timing.Expiry.{Expiry}
-use Rattle.timed_bins.specs.declared.timing.Expiry.TheVariants.{Took}
+use Rattle.bin_stripes.specs.declared.expiry.Expiry.{Expiry}
+use Rattle.bin_stripes.specs.declared.expiry.Expiry.TheVariants.{Took}
 use Rattle.bin_stripes.specs.Timed.{ExpiresOne}
 use Rattle.key_walks.proofs.ChainLemmas.{same_map, same_on}
 use Rattle.key_walks.proofs.ExpiryLemmas.{none_yet, one_more, none_left, not_both}
