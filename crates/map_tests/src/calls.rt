@@ -1,7 +1,7 @@
 //! Rows of calls and their replies.
 use crate::programs::{NINE, NOTHING, ONE, THREE, TWO, sizes, summing, verified};
-use atomic_methods::{Call, OpenFault, Reply, Striped, is_stripe_count, stripe_of};
-use bins::{Counts, hash_of};
+use atomic_methods::{Call, OpenFault, Reply, Striped};
+use bins::Counts;
 use bpf_model::{InputPart, Key, NoMemory, TooLong, Value};
 use std::alloc::Global;
 use std::test::Fail;
@@ -177,7 +177,6 @@ impl Lender {
 mod memory;
 mod methods;
 mod places;
-mod rows;
 mod shared;
 mod stripes;
 mod timed;

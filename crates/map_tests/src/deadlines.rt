@@ -1,129 +1,149 @@
 //! Deadlines beside both bodies of bins: calls with and without a clock, sweeps, and an agenda that grows too long.
 use crate::expectations::expect;
-use atomic_methods::{Call, HashedCall, ReplyKind, Workspace};
+use atomic_methods::{Call, HashedCall, Workspace};
 use bins::{Bins, HashedBins, HashedKey, ListBins};
 use bpf_model::{Key, NoMemory, Value};
 use std::alloc::Global;
 use std::test::Fail;
-use timed_bins::{DeadlineChange, Expiry, SetRule, Timed, TimedBins, TimedReply, Timing};
+use timed_bins::{DeadlineChange, Expiry, SetRule, Timed, TimedBins, Timing};
 
-/// The key keeps its deadline.
-const KEEP: DeadlineChange = DeadlineChange::Keep;
-
-/// The key is over at this time.
-fn until(at: u64) -> DeadlineChange {
-    DeadlineChange::Set {
-        at,
-        rule: SetRule::Always,
-    }
+/// What is done to bins with one key.
+#[derive(Clone, Copy)]
+enum Deed {
+    /// A Put at this time, with a deadline.
+    PutUntil(u64, u64),
+    /// A Get without a clock.
+    Get,
+    /// A Put without a clock.
+    Put,
+    /// The value is replaced below all calls.
+    Replace,
+    /// The entry is discarded, and comes back.
+    Renew,
 }
 
-/// Makes a call at a time.
-fn call_at<B: Bins + Drop>(
+/// What a sweep comes to.
+#[derive(Clone, Copy)]
+enum Swept {
+    Nothing,
+    Waits(u64),
+    Took,
+}
+
+/// A deed, and then a sweep: its time, and what comes of it.
+type Row = (Deed, u64, Swept);
+
+/// A value that is only read or replaced keeps its deadline. One that is put without a clock loses it, and so does an entry that
+/// is discarded.
+const ROWS: [Row; 6] = [
+    (Deed::PutUntil(10, 100), 99, Swept::Waits(100)),
+    (Deed::Get, 99, Swept::Waits(100)),
+    (Deed::Replace, 99, Swept::Waits(100)),
+    (Deed::Put, 100, Swept::Nothing),
+    (Deed::PutUntil(110, 200), 200, Swept::Took),
+    (Deed::Renew, 300, Swept::Nothing),
+];
+
+/// Puts a key at a time, with a deadline.
+fn put_until<B: Bins + Drop>(
     bins: &mut Timed<B>,
+    key: &Key,
     now: u64,
-    change: DeadlineChange,
-    call: &Call,
-) -> Result<TimedReply, NoMemory> {
+    at: u64,
+) -> Result<(), NoMemory> {
+    let value = &Value::new();
+    let change = DeadlineChange::Set {
+        at,
+        rule: SetRule::Always,
+    };
     let timing = Timing { now, change };
     let (mut workspace, mut bytes) = (Workspace::new(), Value::new());
-    bins.call_at(&HashedCall::new(call), &timing, &mut workspace, &mut bytes)
+    let call = &Call::Put { key, value };
+    bins.call_at(&HashedCall::new(call), &timing, &mut workspace, &mut bytes)?;
+    Ok(())
 }
 
 /// Makes a call without a clock.
-fn call<B: Bins + Drop>(bins: &mut Timed<B>, call: &Call) -> Result<ReplyKind, NoMemory> {
+fn call<B: Bins + Drop>(bins: &mut Timed<B>, call: &Call) -> Result<(), NoMemory> {
     let (mut workspace, mut bytes) = (Workspace::new(), Value::new());
-    bins.call_into(&HashedCall::new(call), &mut workspace, &mut bytes)
-}
-
-/// A deadline is set, seen, and over. Then the key has neither value nor deadline.
-fn is_over_in_time<B: Bins + Drop>(alloc: Global) -> Result<(), Fail> {
-    let mut bins: Timed<B> = Timed::open(alloc, 1)?;
-    let (key, value) = (Key::from_slice(b"a")?, Value::from_slice(b"x")?);
-    let put = Call::Put {
-        key: &key,
-        value: &value,
-    };
-    let get = Call::Get { key: &key };
-    let made = call_at(&mut bins, 10, until(100), &put)?;
-    expect(made.before.is_none() && made.after == Some(100), "set")?;
-    let seen = call_at(&mut bins, 99, KEEP, &get)?;
-    expect(
-        seen.kind == ReplyKind::Some && seen.before == Some(100),
-        "seen",
-    )?;
-    let over = call_at(&mut bins, 100, KEEP, &get)?;
-    expect(over.was_over && over.kind == ReplyKind::None, "over")?;
-    expect(over.before.is_none() && over.after.is_none(), "gone")?;
-    expect(bins.count() == 0, "counted")?;
+    bins.call_into(&HashedCall::new(call), &mut workspace, &mut bytes)?;
     Ok(())
 }
 
-/// A call without a clock clears the deadline if it sets a value, and keeps it if it reads one. A key that is discarded
-/// loses it.
-fn is_kept_or_cleared<B: Bins + Drop>(alloc: Global) -> Result<(), Fail> {
-    let mut bins: Timed<B> = Timed::open(alloc, 1)?;
-    let (key, value) = (Key::from_slice(b"a")?, Value::from_slice(b"x")?);
-    let put = Call::Put {
-        key: &key,
-        value: &value,
-    };
-    call_at(&mut bins, 10, until(100), &put)?;
-    call(&mut bins, &Call::Get { key: &key })?;
-    bins.put(&HashedKey::new(&key), &value)?;
-    expect(bins.expire_one(20) == Expiry::Waits(100), "kept")?;
-    call(&mut bins, &put)?;
-    expect(bins.expire_one(100) == Expiry::Nothing, "cleared")?;
-    call_at(&mut bins, 110, until(200), &put)?;
-    bins.discard(&HashedKey::new(&key));
-    bins.put(&HashedKey::new(&key), &value)?;
-    expect(bins.expire_one(200) == Expiry::Nothing, "discarded")?;
-    expect(bins.count() == 1, "counted")?;
-    Ok(())
+/// Does the deed with the key.
+fn act<B: Bins + Drop>(bins: &mut Timed<B>, key: &Key, deed: Deed) -> Result<(), NoMemory> {
+    let value = &Value::new();
+    match deed {
+        Deed::PutUntil(now, at) => put_until(bins, key, now, at),
+        Deed::Get => call(bins, &Call::Get { key }),
+        Deed::Put => call(bins, &Call::Put { key, value }),
+        Deed::Replace => bins.put(&HashedKey::new(key), value),
+        Deed::Renew => {
+            bins.discard(&HashedKey::new(key));
+            bins.put(&HashedKey::new(key), value)
+        }
+    }
 }
 
-/// The deadline of one key is moved so often that the agenda is made anew. Each other key goes in its time.
-fn go_in_their_time<B: Bins + Drop>(alloc: Global) -> Result<(), Fail> {
+/// Sweeps at a time. Tells whether that comes to what is wanted.
+fn sweeps<B: Bins + Drop>(bins: &mut Timed<B>, now: u64, wanted: Swept) -> bool {
+    match (bins.expire_one(now), wanted) {
+        (Expiry::Nothing, Swept::Nothing) | (Expiry::Took(_), Swept::Took) => true,
+        (Expiry::Waits(at), Swept::Waits(wanted)) => at == wanted,
+        _ => false,
+    }
+}
+
+/// Plays the rows one after the other.
+fn play_rows<B: Bins + Drop>(alloc: Global) -> Result<bool, Fail> {
     let mut bins: Timed<B> = Timed::open(alloc, 1)?;
-    let value = Value::new();
+    let key = &Key::from_slice(b"a")?;
+    let mut right = true;
+    for (deed, now, wanted) in ROWS {
+        act(&mut bins, key, deed)?;
+        right &= sweeps(&mut bins, now, wanted);
+    }
+    Ok(right && bins.count() == 1)
+}
+
+/// Puts forty keys of one byte, each with itself as its deadline.
+fn put_forty<B: Bins + Drop>(bins: &mut Timed<B>) -> Result<(), Fail> {
     for at in 1..=40u8 {
-        let key = Key::from_slice(&[at])?;
-        let put = Call::Put {
-            key: &key,
-            value: &value,
-        };
-        call_at(&mut bins, 0, until(u64::from(at)), &put)?;
+        put_until(bins, &Key::from_slice(&[at])?, 0, u64::from(at))?;
     }
-    let key = Key::from_slice(b"")?;
-    let put = Call::Put {
-        key: &key,
-        value: &value,
-    };
-    for at in 1000..1300 {
-        call_at(&mut bins, 0, until(at), &put)?;
-    }
-    for at in 1..=40 {
-        expect(bins.expire_one(at) == Expiry::Took, "took")?;
-    }
-    expect(bins.expire_one(1298) == Expiry::Waits(1299), "waits")?;
-    expect(bins.expire_one(1299) == Expiry::Took, "last")?;
-    expect(bins.expire_one(0) == Expiry::Nothing, "nothing")?;
     Ok(())
 }
 
-/// Tries each with one body.
-fn try_each<B: Bins + Drop>(alloc: Global) -> Result<(), Fail> {
-    is_over_in_time::<B>(alloc)?;
-    is_kept_or_cleared::<B>(alloc)?;
-    go_in_their_time::<B>(alloc)
+/// Moves the deadline of one key so often that the agenda is made anew.
+fn move_often<B: Bins + Drop>(bins: &mut Timed<B>) -> Result<(), Fail> {
+    let key = Key::from_slice(b"")?;
+    for at in 1000..1300 {
+        put_until(bins, &key, 0, at)?;
+    }
+    Ok(())
+}
+
+/// Tells whether each of the forty keys goes in its time, and then the other one.
+fn go_in_their_time<B: Bins + Drop>(alloc: Global) -> Result<bool, Fail> {
+    let mut bins: Timed<B> = Timed::open(alloc, 1)?;
+    put_forty(&mut bins)?;
+    move_often(&mut bins)?;
+    let mut right = true;
+    for at in 1..=40 {
+        right &= sweeps(&mut bins, at, Swept::Took);
+    }
+    Ok(right && sweeps(&mut bins, 1298, Swept::Waits(1299)) && sweeps(&mut bins, 1299, Swept::Took))
+}
+
+/// Tries both with one body.
+fn try_both<B: Bins + Drop>(alloc: Global) -> Result<(), Fail> {
+    expect(play_rows::<B>(alloc)?, "rows")?;
+    expect(go_in_their_time::<B>(alloc)?, "forty keys")?;
+    Ok(())
 }
 
 #[test]
-fn deadlines_beside_a_list(rt: HostRuntime) -> Result<(), Fail> {
-    try_each::<ListBins>(rt.alloc())
-}
-
-#[test]
-fn deadlines_beside_hashed_bins(rt: HostRuntime) -> Result<(), Fail> {
-    try_each::<HashedBins>(rt.alloc())
+fn deadlines_beside_both_bodies(rt: HostRuntime) -> Result<(), Fail> {
+    try_both::<ListBins>(rt.alloc())?;
+    try_both::<HashedBins>(rt.alloc())
 }

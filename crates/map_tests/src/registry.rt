@@ -25,34 +25,13 @@ fn key_size(registry: &Registry, number: u64) -> Option<u16> {
     }
 }
 
-/// Registers a program. Tells whether it gets this number, and its token leads to it.
-fn is_registered<R: Wait>(rt: &R, alloc: Global, registry: &Registry, number: u16) -> Option<bool> {
-    let program = program_of(alloc, number)?;
-    let token = registry.register(rt, program).ok()?;
-    registry.agrees(&token, &token);
-    let key = registry.get_by(&token).sizes().key;
-    Some(token.number() == u64::from(number) && key == number)
-}
-
-#[test]
-fn numbers_count_from_0(rt: HostRuntime) -> Result<(), Fail> {
-    let registry = Registry::new(rt.alloc())?;
-    for number in 0..2 {
-        let registered = is_registered(&rt, rt.alloc(), &registry, number);
-        assert!(rt; registered == Some(true), "{number}");
-    }
-    for (number, wanted) in [(0, Some(0)), (1, Some(1)), (2, None), (u64::MAX, None)] {
-        assert!(rt; key_size(&registry, number) == wanted, "at {number}");
-    }
-    Ok(())
-}
-
 /// Registers ten programs, and reads each by its token and by its number.
 fn reads_its_own<R: Wait>(rt: &R, alloc: Global, registry: &Registry, first: u16) -> Option<bool> {
     let mut right = true;
     for low in 0..10 {
         let key = first | low;
         let token = registry.register(rt, program_of(alloc, key)?).ok()?;
+        registry.agrees(&token, &token);
         right &= registry.get_by(&token).sizes().key == key;
         right &= key_size(registry, token.number()) == Some(key);
     }

@@ -116,30 +116,6 @@ fn pages_have_each_key_once(rt: HostRuntime) -> Result<(), Fail> {
     Ok(())
 }
 
-#[test]
-fn a_page_for_all_keys_is_the_last(rt: HostRuntime) -> Result<(), Fail> {
-    let (map, mut pass) = opened(rt.alloc())?;
-    fill(&rt, &map, &mut pass)?;
-    let whole = scan_some(&rt, rt.alloc(), &map, &mut pass, all_from(0))?;
-    assert!(rt; whole.keys.len() == 40 && whole.is_last());
-    let after = scan_some(&rt, rt.alloc(), &map, &mut pass, all_from(u64::MAX))?;
-    assert!(rt; after.keys.is_empty() && after.is_last());
-    Ok(())
-}
-
-#[test]
-fn keys_are_counted_listed_and_removed(rt: HostRuntime) -> Result<(), Fail> {
-    let (map, mut pass) = opened(rt.alloc())?;
-    assert!(rt; random_key(&rt, rt.alloc(), &map, &mut pass, 7, NOW)?.is_none());
-    fill(&rt, &map, &mut pass)?;
-    assert!(rt; count_all(&rt, &map, &mut pass) == 40);
-    assert!(rt; all_keys(&rt, rt.alloc(), &map, &mut pass, NOW)?.len() == 40);
-    assert!(rt; random_key(&rt, rt.alloc(), &map, &mut pass, 7, NOW)?.is_some());
-    remove_all(&rt, rt.alloc(), &map, &mut pass)?;
-    assert!(rt; count_all(&rt, &map, &mut pass) == 0);
-    Ok(())
-}
-
 /// Puts a key that is over at 500.
 fn put_until<R: Wait>(rt: &R, map: &StripedMap, pass: &mut Pass) -> Result<(), NoMemory>
     requires { pass.old.map ≡ map.now }

@@ -60,14 +60,6 @@ fn is_value(reply: &Reply, bytes: &[u8]) -> bool {
     }
 }
 
-/// Returns the number of the error if a map is refused, or 0.
-fn refusal(alloc: Global, stripes: u64, passes: u64) -> u8 {
-    match StripedMap::open(alloc, stripes, passes) {
-        Ok(_) => 0,
-        Err(fault) => fault.number(),
-    }
-}
-
 /// Opens a map, whose passes all serve it.
 pub(crate) fn opened(
     alloc: Global,

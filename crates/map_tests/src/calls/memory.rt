@@ -13,19 +13,18 @@ fn mark(alloc: Global) -> Result<(), Fail> {
     Ok(())
 }
 
-/// Opens a table with eight entries in one stripe, as many as a doubling list has room for; `a` has its first value.
-fn full<T: Tried + Drop>(alloc: Global, programs: &Programs, before: Wanted) -> Result<T, Fail> {
-    let mut table = T::opened(alloc)?;
-    match before {
-        Wanted::Bytes(bytes) => play(&mut table, programs, b"a", Method::Put(bytes))?,
-        _ => play(&mut table, programs, b"A", Method::Put(b"other"))?,
+/// Puts eight entries into the stripe of `a` and `A`, as many as a doubling list has room for; `a` has its first value.
+fn fill<T: Tried>(table: &mut T, programs: &Programs, before: Wanted) -> Result<(), Fail> {
+    let (name, bytes) = match before {
+        Wanted::Bytes(bytes) => (b"a", bytes),
+        _ => (b"A", b"other".as_slice()),
     };
+    play(table, programs, name, Method::Put(bytes))?;
     for number in 0..7u8 {
-        // In the stripe of `a` and `A`, if there are four.
         let name = [4 * number + 1];
-        play(&mut table, programs, &name, Method::Put(b"other"))?;
+        play(table, programs, &name, Method::Put(b"other"))?;
     }
-    Ok(table)
+    Ok(())
 }
 
 /// Makes the call between two marks.
@@ -56,7 +55,8 @@ fn is_row_kept<T: Tried + Drop>(
     programs: &Programs,
     row: &Row,
 ) -> Result<bool, Fail> {
-    let mut table: T = full(alloc, programs, row.0)?;
+    let mut table = T::opened(alloc)?;
+    fill(&mut table, programs, row.0)?;
     let lender = Lender::new(b"a", row.1)?;
     let given = made_between_marks(alloc, &mut table, &lender.call(programs))?;
     let found = play(&mut table, programs, b"a", Method::Get)?;

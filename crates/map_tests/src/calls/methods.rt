@@ -153,29 +153,30 @@ pub(super) fn play<T: Tried>(
     Ok(table.made(&lender.call(programs))?)
 }
 
-/// Opens a table in which the neighbour has an entry, and the key its first one.
-fn filled<T: Tried + Drop>(
-    alloc: Global,
+/// Puts an entry at the neighbour, and the key's first one.
+fn fill<T: Tried>(
+    table: &mut T,
     programs: &Programs,
     names: Names,
     before: Wanted,
-) -> Result<T, Fail> {
-    let mut table = T::opened(alloc)?;
-    play(&mut table, programs, names.neighbour, Put(b"other"))?;
+) -> Result<(), Fail> {
+    play(table, programs, names.neighbour, Put(b"other"))?;
     if let Bytes(bytes) = before {
-        play(&mut table, programs, names.key, Put(bytes))?;
+        play(table, programs, names.key, Put(bytes))?;
     }
-    Ok(table)
+    Ok(())
 }
 
-/// Tells whether the row's call gets the expected reply, and leaves the expected values at its key and the neighbour.
+/// Plays the row on an empty table. Tells whether its call gets the expected reply, and leaves the expected values at its key and
+/// the neighbour.
 fn is_kept<T: Tried>(
     table: &mut T,
     programs: &Programs,
     names: Names,
     row: &Row,
 ) -> Result<bool, Fail> {
-    let (_, method, reply, after) = *row;
+    let (before, method, reply, after) = *row;
+    fill(table, programs, names, before)?;
     let given = is_wanted(&play(table, programs, names.key, method)?, reply);
     let found = is_wanted(&play(table, programs, names.key, Get)?, after);
     let beside = play(table, programs, names.neighbour, Get)?;
@@ -191,7 +192,7 @@ fn try_rows<T: Tried + Drop>(
 ) -> Result<(), Fail> {
     let programs = Programs::new(alloc)?;
     for (number, row) in rows.iter().enumerate() {
-        let mut table: T = filled(alloc, &programs, names, row.0)?;
+        let mut table = T::opened(alloc)?;
         assert!(rt; is_kept(&mut table, &programs, names, row)?, "row {number}");
     }
     Ok(())
@@ -214,113 +215,4 @@ fn methods_without_programs(rt: HostRuntime) -> Result<(), Fail> {
 fn methods_with_programs(rt: HostRuntime) -> Result<(), Fail> {
     try_everywhere(&rt, rt.alloc(), BEGINNING, &COMPUTING)?;
     try_everywhere(&rt, rt.alloc(), ONE_HASH, &COMPUTING)
-}
-
-/// The data that a `Compute` borrows.
-#[derive(Drop)]
-struct Computing {
-    key: Key,
-    program: Verified,
-    arg: Option<Value>,
-}
-
-impl Computing {
-    /// Makes the data for a call of the program on the key `a` with this argument.
-    fn new(program: Verified, arg: Option<&[u8]>) -> Result<Computing, TooLong> {
-        let arg = match arg {
-            Some(bytes) => Some(value(bytes)?),
-            None => None,
-        };
-        let key = key(b"a")?;
-        Ok(Computing { key, program, arg })
-    }
-
-    /// Returns the call.
-    fn call(&self) -> Call<'_> {
-        let arg = self.arg.as_ref();
-        Call::Compute {
-            key: &self.key,
-            program: &self.program,
-            arg,
-        }
-    }
-}
-
-/// Opens a table in which the key has this value, or none.
-fn table_with(alloc: Global, key: &Key, old: Option<&[u8]>) -> Result<Striped, Fail> {
-    let mut table = Striped::open(alloc, 1)?;
-    if let Some(bytes) = old {
-        let value = &value(bytes)?;
-        table.apply(&Call::Put { key, value })?;
-    }
-    Ok(table)
-}
-
-/// Tells whether the call refuses the key's value as unfit, and leaves it.
-fn is_unfit(alloc: Global, computing: &Computing, old: &'static [u8]) -> Result<bool, Fail> {
-    let key = &computing.key;
-    let mut table = table_with(alloc, key, Some(old))?;
-    let unfit = is_wanted(&table.apply(&computing.call())?, NO_OLD);
-    let found = table.apply(&Call::Get { key })?;
-    Ok(unfit && is_wanted(&found, Bytes(old)))
-}
-
-#[test]
-fn a_longest_value_is_unfit_where_one_byte_is_missing(rt: HostRuntime) -> Result<(), Fail> {
-    let program = verified(rt.alloc(), NOTHING, sizes(64, 255, 256, 256))?;
-    let computing = Computing::new(program, None)?;
-    assert!(rt; is_unfit(rt.alloc(), &computing, &[7; 256])?);
-    Ok(())
-}
-
-/// Answers two numbers of 8 bytes: the length of the old value and that of the argument, -1 if there is none.
-const LENGTHS_TOLD: &str = "stxd [r4+0], r7\nstxd [r4+8], r8\nmov64 r0, 16\nexit\n";
-
-/// Eight bytes each: the length -1, 0 and 1.
-const ABSENT: [u8; 8] = [255; 8];
-
-const EMPTY_LENGTH: [u8; 8] = [0; 8];
-
-/// The old value, the argument, and the two lengths that a program should see.
-type LengthRow = (
-    Option<&'static [u8]>,
-    Option<&'static [u8]>,
-    [u8; 8],
-    [u8; 8],
-);
-
-const LENGTHS: [LengthRow; 6] = [
-    (None, None, ABSENT, ABSENT),
-    (None, Some(b""), ABSENT, EMPTY_LENGTH),
-    (Some(b""), None, EMPTY_LENGTH, ABSENT),
-    (Some(b""), Some(b""), EMPTY_LENGTH, EMPTY_LENGTH),
-    (Some(b"x"), None, ONE, ABSENT),
-    (None, Some(b"x"), ABSENT, ONE),
-];
-
-/// Tells whether the reply is a value of these two numbers.
-fn is_pair(reply: &Reply, first: &[u8; 8], second: &[u8; 8]) -> bool {
-    let Reply::Value(Some(value)) = reply else {
-        return false;
-    };
-    let bytes = value.as_slice();
-    bytes.starts_with(first) && bytes.ends_with(second) && bytes.len() == 16
-}
-
-/// Tells whether the program sees the row's lengths.
-fn are_told(alloc: Global, row: &LengthRow) -> Result<bool, Fail> {
-    let (old, arg, first, second) = row;
-    let program = verified(alloc, LENGTHS_TOLD, sizes(64, 8, 8, 16))?;
-    let computing = Computing::new(program, *arg)?;
-    let mut table = table_with(alloc, &computing.key, *old)?;
-    let told = table.apply(&computing.call())?;
-    Ok(is_pair(&told, first, second))
-}
-
-#[test]
-fn an_absent_argument_is_no_empty_one(rt: HostRuntime) -> Result<(), Fail> {
-    for (number, row) in LENGTHS.iter().enumerate() {
-        assert!(rt; are_told(rt.alloc(), row)?, "row {number}");
-    }
-    Ok(())
 }

@@ -30,77 +30,50 @@ fn count_in<R: Wait>(rt: &R, map: &StripedMap, pass: &mut Pass, stripe: u64) -> 
     Some(map.count_stripe(rt, pass, stripe))
 }
 
-/// Tells whether each stripe has this many entries.
-fn has_each<R: Wait>(rt: &R, map: &StripedMap, pass: &mut Pass, wanted: u64) -> bool
-    requires { pass.old.map ≡ map.now }
-    ensures { pass.new.map ≡ map.now }
-{
-    for stripe in 0..map.stripes() {
-        if count_in(rt, map, pass, stripe) != Some(wanted) {
-            return false;
-        }
-    }
-    true
-}
-
-/// Tells whether keys are spread evenly: this many in each stripe.
-fn are_dealt<R: Wait>(
-    rt: &R,
-    alloc: Global,
-    keys: &[Key],
-    stripes: u64,
-    wanted: u64,
-) -> Option<bool> {
-    let (map, mut pass) = map_and_pass(alloc, stripes)?;
-    put_all(rt, &map, &mut pass, keys)?;
-    Some(map.stripes() == stripes && has_each(rt, &map, &mut pass, wanted))
-}
-
-#[test]
-fn keys_lie_in_all_stripes(rt: HostRuntime) -> Result<(), Fail> {
-    let mut keys = Vec::new(rt.alloc());
-    for number in 0..64u8 {
-        keys.push(key(&[number])?)?;
-    }
-    for (stripes, wanted) in [(1, 64), (4, 16), (64, 1)] {
-        let dealt = are_dealt(&rt, rt.alloc(), &keys, stripes, wanted);
-        assert!(rt; dealt == Some(true), "of {stripes}");
-    }
-    Ok(())
-}
-
-/// Tells whether the map has this stripe for each of the keys.
-fn is_stripe_of_all(map: &StripedMap, keys: &[Key], stripe: u64) -> bool {
-    let mut same = true;
-    for key in keys {
-        same &= map.stripe_of(key) == stripe;
-    }
-    same
-}
-
-/// Tells whether the keys, 32 of them, are all in this stripe.
-fn are_together<R: Wait>(
+/// Counts the entries in one stripe of a map that has an entry for each key.
+fn count_among<R: Wait>(
     rt: &R,
     alloc: Global,
     keys: &[Key],
     stripes: u64,
     stripe: u64,
-) -> Option<bool> {
+) -> Option<u64> {
     let (map, mut pass) = map_and_pass(alloc, stripes)?;
     put_all(rt, &map, &mut pass, keys)?;
-    let found = count_in(rt, &map, &mut pass, stripe);
-    Some(found == Some(32) && is_stripe_of_all(&map, keys, stripe))
+    count_in(rt, &map, &mut pass, stripe)
 }
 
-#[test]
-fn keys_of_one_hash_lie_in_one_stripe(rt: HostRuntime) -> Result<(), Fail> {
-    let mut keys = Vec::new(rt.alloc());
-    for number in 0..32u8 {
-        keys.push(key_of_pairs(number)?)?;
+/// Makes 64 keys of one byte, and as many of one hash.
+fn keys_of_both_kinds(alloc: Global) -> Result<(Vec<Key>, Vec<Key>), Fail> {
+    let mut spread = Vec::new(alloc);
+    let mut together = Vec::new(alloc);
+    for number in 0..64u8 {
+        spread.push(key(&[number])?)?;
+        together.push(key_of_pairs(number)?)?;
     }
-    for (stripes, stripe) in [(1, 0), (4, 1), (64, 1)] {
-        let together = are_together(&rt, rt.alloc(), &keys, stripes, stripe);
-        assert!(rt; together == Some(true), "of {stripes}");
+    Ok((spread, together))
+}
+
+/// Keys of one byte are spread evenly over the stripes, and those of one hash are in one.
+#[test]
+fn keys_lie_in_their_stripes(rt: HostRuntime) -> Result<(), Fail> {
+    let (spread, together) = keys_of_both_kinds(rt.alloc())?;
+    for (stripes, stripe, of_spread, of_together) in [
+        (1, 0, 64, 64),
+        (4, 1, 16, 64),
+        (64, 1, 1, 64),
+        (64, 2, 1, 0),
+    ] {
+        let among_spread = count_among(&rt, rt.alloc(), &spread, stripes, stripe);
+        let among_together = count_among(&rt, rt.alloc(), &together, stripes, stripe);
+        assert!(rt;
+            among_spread == Some(of_spread),
+            "stripe {stripe} of {stripes}"
+        );
+        assert!(rt;
+            among_together == Some(of_together),
+            "stripe {stripe} of {stripes}, one hash"
+        );
     }
     Ok(())
 }

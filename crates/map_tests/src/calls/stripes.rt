@@ -1,18 +1,5 @@
-//! Hashes, stripes, passes over a whole table, and refused memory.
+//! Numbers of stripes, passes over a whole table, and refused memory.
 use super::*;
-
-/// Tells whether the key has this hash, and is in this stripe of four.
-fn is_hashed(bytes: &[u8], hash: u32, stripe: u64) -> Result<bool, TooLong> {
-    let key = key(bytes)?;
-    Ok(hash_of(&key) == hash && is_stripe_count(4) && stripe_of(&key, 4) == stripe)
-}
-
-#[test]
-fn hashes_are_those_of_the_rows(rt: HostRuntime) -> Result<(), Fail> {
-    assert!(rt; is_hashed(b"", 1, 1)?);
-    assert!(rt; is_hashed(b"ab", 4066, 2)?);
-    Ok(())
-}
 
 /// Tells whether a table of this many stripes opens without an entry.
 fn is_opened_empty(alloc: Global, stripes: u64) -> Result<bool, Fail> {
@@ -54,26 +41,6 @@ fn three_entries(alloc: Global, stripes: u64) -> Result<Striped, Fail> {
     enter(&mut table, b"b", &TWO)?;
     enter(&mut table, b"a", &ONE)?;
     Ok(table)
-}
-
-/// Tells whether a scan of the three entries gives them in key order.
-fn are_in_order(alloc: Global, stripes: u64) -> Result<bool, Fail> {
-    let table = three_entries(alloc, stripes)?;
-    let entries = table.scan(alloc)?;
-    let wanted = [(b"a", ONE.as_slice()), (b"b", &TWO), (b"c", &NINE)];
-    let mut right = entries.len() == 3;
-    for ((key, value), (name, bytes)) in entries.iter().zip(&wanted) {
-        right &= key.as_slice() == name.as_slice() && value.as_slice() == *bytes;
-    }
-    Ok(right)
-}
-
-#[test]
-fn a_scan_gives_the_entries_in_key_order(rt: HostRuntime) -> Result<(), Fail> {
-    for stripes in [1, 4, 64] {
-        assert!(rt; are_in_order(rt.alloc(), stripes)?, "of {stripes}");
-    }
-    Ok(())
 }
 
 /// Tells whether the key has this value.

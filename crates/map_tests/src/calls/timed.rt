@@ -3,9 +3,9 @@ ghost use Rattle.std.specs.Prelude.{◌≡◌, IfSome};
 
 use super::shared::map_and_pass;
 use super::*;
-use bin_stripes::{Pass, StripedMap};
+use bin_stripes::{Expiry, Pass, StripedMap};
 use std::sync::Wait;
-use timed_bins::{DeadlineChange, Expiry, SetRule, Timing};
+use timed_bins::{DeadlineChange, SetRule, Timing};
 
 /// A time, a method on the key `a`, what becomes of its deadline, the reply, and the deadline after it.
 type Row = (u64, Method, DeadlineChange, Wanted, Option<u64>);
@@ -17,6 +17,18 @@ const KEEP: DeadlineChange = DeadlineChange::Keep;
 const UNTIL: DeadlineChange = DeadlineChange::Set {
     at: 100,
     rule: SetRule::Always,
+};
+
+/// A call before that time, which sets the deadline.
+const SOON: Timing = Timing {
+    now: 10,
+    change: UNTIL,
+};
+
+/// A call before that time, which keeps the deadline.
+const SEEN: Timing = Timing {
+    now: 10,
+    change: KEEP,
 };
 
 /// A deadline is set, holds until it is over, stays over if the clock goes back, and is moved and cleared. A key that is added
@@ -48,6 +60,22 @@ const ROWS: [Row; 9] = [
     ),
 ];
 
+/// Makes a call at a time. Returns its reply, and the deadline after it.
+fn made<R: Wait>(
+    rt: &R,
+    map: &StripedMap,
+    pass: &mut Pass,
+    call: &Call,
+    timing: &Timing,
+) -> Result<(Reply, Option<u64>), NoMemory>
+    requires { pass.old.map ≡ map.now }
+    ensures { pass.new.map ≡ map.now }
+{
+    let mut bytes = Value::new();
+    let timed = map.call_at_into(rt, pass, call, timing, &mut bytes)?;
+    Ok((timed.kind.with(bytes), timed.after))
+}
+
 /// Makes the row's call. Tells whether its reply and the deadline after it are the expected ones.
 fn is_row_kept<R: Wait>(
     rt: &R,
@@ -61,10 +89,9 @@ fn is_row_kept<R: Wait>(
 {
     let (now, method, change, wanted, deadline) = *row;
     let lender = Lender::new(b"a", method)?;
-    let timing = Timing { now, change };
-    let mut bytes = Value::new();
-    let timed = map.call_at_into(rt, pass, &lender.call(programs), &timing, &mut bytes)?;
-    Ok(timed.after == deadline && is_wanted(&timed.kind.with(bytes), wanted))
+    let timing = &Timing { now, change };
+    let (reply, after) = made(rt, map, pass, &lender.call(programs), timing)?;
+    Ok(after == deadline && is_wanted(&reply, wanted))
 }
 
 #[test]
@@ -78,7 +105,7 @@ fn deadlines_of_a_key(rt: HostRuntime) -> Result<(), Fail> {
     Ok(())
 }
 
-/// Looks for an entry of the key's stripe whose time is over. Tells whether this came of it, and left this many entries.
+/// Looks in the only stripe for an entry whose time is over. Tells whether this came of it, and left this many entries.
 fn is_found<R: Wait>(
     rt: &R,
     map: &StripedMap,
@@ -89,11 +116,9 @@ fn is_found<R: Wait>(
     requires { pass.old.map ≡ map.now }
     ensures { pass.new.map ≡ map.now }
 {
-    let (expiry, count) = wanted;
     let stripe = map.stripe_of(&key(b"a")?);
     let found = map.expire_one(rt, pass, stripe, now);
-    let left = map.count_stripe(rt, pass, stripe);
-    Ok(found == expiry && left == count)
+    Ok((found, map.count_stripe(rt, pass, stripe)) == wanted)
 }
 
 #[test]
@@ -122,47 +147,25 @@ fn opened(alloc: Global) -> Option<(StripedMap, Pass)>
     }
 }
 
-/// Makes the call at a time before the deadline. Returns its reply, and the deadline after it.
-fn made<R: Wait>(
-    rt: &R,
-    map: &StripedMap,
-    pass: &mut Pass,
-    call: &Call,
-    change: DeadlineChange,
-) -> Result<(Reply, Option<u64>), NoMemory>
-    requires { pass.old.map ≡ map.now }
-    ensures { pass.new.map ≡ map.now }
-{
-    let mut bytes = Value::new();
-    let timing = Timing { now: 10, change };
-    let timed = map.call_at_into(rt, pass, call, &timing, &mut bytes)?;
-    Ok((timed.kind.with(bytes), timed.after))
-}
-
-/// Gives a present key a deadline by a call that finds its value, and again if it was refused. Tells whether that left the entry
-/// without one, and the call was then made.
+/// Gives an entry a deadline by a call that finds its value, and once more. Tells whether the entry was left without one if the
+/// first call was refused, and has one then.
 fn is_refused_well<R: Wait>(
     rt: &R,
     map: &StripedMap,
     pass: &mut Pass,
     entry: (&Key, &Value),
-) -> Result<bool, Fail>
+) -> Result<bool, NoMemory>
     requires { pass.old.map ≡ map.now }
     ensures { pass.new.map ≡ map.now }
 {
-    let (key, value) = entry;
-    let get = Call::Get { key };
-    let found = || Reply::Value(Some(value.copied()));
-    let given = match made(rt, map, pass, &get, UNTIL) {
-        Ok(given) => given,
-        Err(NoMemory) => {
-            if made(rt, map, pass, &get, KEEP)? != (found(), None) {
-                return Ok(false);
-            }
-            made(rt, map, pass, &get, UNTIL)?
-        }
-    };
-    Ok(given == (found(), Some(100)))
+    let get = &Call::Get { key: entry.0 };
+    let found = || Reply::Value(Some(entry.1.copied()));
+    if made(rt, map, pass, get, &SOON).is_err()
+        && made(rt, map, pass, get, &SEEN)? != (found(), None)
+    {
+        return Ok(false);
+    }
+    Ok(made(rt, map, pass, get, &SOON)? == (found(), Some(100)))
 }
 
 /// Also if one allocation fails: the entry then has no deadline, and the same call again gives it one.
@@ -171,9 +174,9 @@ fn a_refused_deadline_leaves_the_entry(rt: HostRuntime) -> Result<(), Fail> {
     let (map, mut pass) = opened(rt.alloc()).ok_or("no map")?;
     let key = &key(b"a")?;
     let value = &value(b"x")?;
-    let put = Call::Put { key, value };
-    if made(&rt, &map, &mut pass, &put, KEEP).is_err() {
-        made(&rt, &map, &mut pass, &put, KEEP)?;
+    let put = &Call::Put { key, value };
+    if made(&rt, &map, &mut pass, put, &SEEN).is_err() {
+        made(&rt, &map, &mut pass, put, &SEEN)?;
     }
     assert!(&rt; is_refused_well(&rt, &map, &mut pass, (key, value))?);
     Ok(())

@@ -32,17 +32,43 @@ fn is_taken<B: Bins>(bins: &mut B, name: &[u8], byte: u8, length: usize) -> Resu
     Ok(found && removed && bins.find(&key).is_none())
 }
 
+/// A key, and the byte and the length of its value.
+type Row<'a> = (&'a [u8], u8, usize);
+
+/// Puts the value of each row.
+fn put_each<B: Bins>(bins: &mut B, rows: &[Row<'_>]) -> Result<(), Fail> {
+    for (name, byte, length) in rows {
+        put_value(bins, name, *byte, *length)?;
+    }
+    Ok(())
+}
+
+/// Removes the key of each row. Tells whether each had its value.
+fn are_taken<B: Bins>(bins: &mut B, rows: &[Row<'_>]) -> Result<bool, Fail> {
+    let mut right = true;
+    for (name, byte, length) in rows {
+        right &= is_taken(bins, name, *byte, *length)?;
+    }
+    Ok(right)
+}
+
 /// Puts a value of the one length and then one of the other on a key between two other entries, and removes all three.
 /// Tells whether each entry had its last value.
 fn is_replaced<B: Bins>(bins: &mut B, key: &[u8], lengths: (usize, usize)) -> Result<bool, Fail> {
-    put_value(bins, b"first", 1, lengths.1)?;
-    put_value(bins, key, 2, lengths.0)?;
-    put_value(bins, b"last", 3, lengths.0)?;
-    put_value(bins, key, 4, lengths.1)?;
-    let replaced = is_taken(bins, key, 4, lengths.1)?;
-    let first = is_taken(bins, b"first", 1, lengths.1)?;
-    let last = is_taken(bins, b"last", 3, lengths.0)?;
-    Ok(replaced && first && last)
+    let (old, new) = lengths;
+    put_each(
+        bins,
+        &[
+            (b"first", 1, new),
+            (key, 2, old),
+            (b"last", 3, old),
+            (key, 4, new),
+        ],
+    )?;
+    are_taken(
+        bins,
+        &[(key, 4, new), (b"first", 1, new), (b"last", 3, old)],
+    )
 }
 
 /// Replaces a value of this length by one of each.

@@ -102,15 +102,21 @@ fn empty_list(alloc: Global) -> Result<Vec<Option<Value>>, Fail> {
     Ok(list)
 }
 
-/// Makes `calls` calls. Tells whether bins and list agreed on each, and have the same entries in the end.
-fn agree<B: Bins + Drop>(alloc: Global, calls: u32) -> Result<bool, Fail> {
-    let mut bins = B::open(alloc, 1)?;
-    let mut list = empty_list(alloc)?;
+/// Makes this many calls. Tells whether bins and list agreed on each.
+fn agree_on<B: Bins>(bins: &mut B, list: &mut [Option<Value>], calls: u32) -> Result<bool, Fail> {
     let mut made_up = MadeUp { state: 1 };
     let mut same = true;
     for _ in 0..calls {
-        same &= step(&mut bins, &mut list, &mut made_up)?;
+        same &= step(bins, list, &mut made_up)?;
     }
+    Ok(same)
+}
+
+/// Makes this many calls. Tells whether bins and list agreed on each, and have the same entries in the end.
+fn agree<B: Bins + Drop>(alloc: Global, calls: u32) -> Result<bool, Fail> {
+    let mut bins = B::open(alloc, 1)?;
+    let mut list = empty_list(alloc)?;
+    let same = agree_on(&mut bins, &mut list, calls)?;
     Ok(same && bins.entries(alloc)?.as_slice() == listed(alloc, &list)?.as_slice())
 }
 

@@ -108,7 +108,8 @@ fn hold_beside<R: Threads + Wait + Sync>(
 fn stripes_apart(rt: HostRuntime) -> Result<(), Fail> {
     let program = summing(rt.alloc())?;
     let (map, mut passes) = opened(rt.alloc(), 2, 2)?;
-    let (other, holder) = next_two(&map, &mut passes)?;
+    let other = next_pass(&map, &mut passes)?;
+    let holder = next_pass(&map, &mut passes)?;
     // The key 61 is in stripe 0, and 62 in stripe 1.
     let gate = Shut::new();
     let (answered, busy) = hold_beside(&rt, &map, holder, other, &program, &gate);
@@ -175,142 +176,48 @@ fn merge_one<R: Wait>(rt: &R, map: &StripedMap, pass: &mut Pass, merging: &Mergi
     }
 }
 
-/// Merges 1 this often, each second time by tries, and returns the pass.
-fn merges<R: Wait>(rt: &R, map: &StripedMap, mut pass: Pass, merging: &Merging, times: u64) -> Pass
-    requires { pass.map ≡ map.now }
-    ensures { result.map ≡ map.now }
+/// Merges 1 this often, each second time by tries.
+fn merges<R: Wait>(rt: &R, map: &StripedMap, pass: &mut Pass, merging: &Merging, times: u64)
+    requires { pass.old.map ≡ map.now }
+    ensures { pass.new.map ≡ map.now }
 {
     for turn in 0..times {
-        merge_one(rt, map, &mut pass, merging, turn % 2 == 1);
+        merge_one(rt, map, pass, merging, turn % 2 == 1);
     }
-    pass
 }
 
-/// Merges by two threads, and joins their passes.
-fn merged_by_two<R: Threads + Wait + Sync>(
+/// Merges 1 this often by each of the passes, which have a thread each.
+fn merge_by_each<R: Threads + Wait + Sync>(
     rt: &R,
     map: &StripedMap,
-    one: Pass,
-    other: Pass,
+    mut passes: Vec<Pass>,
     merging: &Merging,
     times: u64,
-) -> Pass
-    requires one { one.map ≡ map.now }
-    requires other { other.map ≡ map.now }
-    ensures { result.map ≡ map.now }
+)
+    requires { All (λ pass. pass.map ≡ map.now) passes.items }
 {
-    let (one, other) = thread::join(
-        rt,
-        move || -> Pass
-            requires { one.map ≡ map.now }
-            ensures { result.map ≡ map.entry.now }
-        { merges(rt, map, one, merging, times) },
-        move || -> Pass
-            requires { other.map ≡ map.now }
-            ensures { result.map ≡ map.entry.now }
-        { merges(rt, map, other, merging, times) },
-    );
-    map.join(one, other)
+    let call = move |_: usize, pass: &mut Pass|
+        requires { pass.old.map ≡ map.now }
+        ensures { pass.new.map ≡ map.entry.now }
+    { merges(rt, map, pass, merging, times) };
+    thread::for_each_mut(rt, &mut passes, 8, &call);
 }
 
-/// Tells whether this many calls were made, and the key has their sum.
-fn is_sum<R: Wait>(
-    rt: &R,
-    map: &StripedMap,
-    mut pass: Pass,
-    merging: &Merging,
-    wanted: u64,
-) -> Result<bool, Fail>
-    requires { pass.map ≡ map.now }
-{
-    let found = got(rt, map, &mut pass, b"a")?;
+/// Merges 500 times by this many threads. Tells whether all calls were made, and the key has their sum.
+fn is_sum<R: AllocGlobal + Threads + Wait + Sync>(rt: &R, threads: u64) -> Result<bool, Fail> {
+    let merging = Merging::new(summing(rt.alloc())?);
+    let (map, mut passes) = opened(rt.alloc(), 16, threads.saturating_add(1))?;
+    let mut last = next_pass(&map, &mut passes)?;
+    merge_by_each(rt, &map, passes, &merging, 500);
     let made = merging.made.load(Ordering::SeqCst);
-    Ok(made == wanted && is_value(&found, &wanted.to_le_bytes()))
+    let found = got(rt, &map, &mut last, b"a")?;
+    Ok(made == threads.wrapping_mul(500) && is_value(&found, &made.to_le_bytes()))
 }
 
 #[test]
-fn two_threads_merge_on_one_key(rt: HostRuntime) -> Result<(), Fail> {
-    let merging = Merging::new(summing(rt.alloc())?);
-    let (map, mut passes) = opened(rt.alloc(), 16, 2)?;
-    let (second, first) = next_two(&map, &mut passes)?;
-    let both = merged_by_two(&rt, &map, first, second, &merging, 500);
-    assert!(rt; is_sum(&rt, &map, both, &merging, 1000)?);
-    Ok(())
-}
-
-/// Merges by four threads, and joins their passes.
-fn merged_by_four<R: Threads + Wait + Sync>(
-    rt: &R,
-    map: &StripedMap,
-    first: (Pass, Pass),
-    second: (Pass, Pass),
-    merging: &Merging,
-) -> Pass
-    requires first { (first.0.map ≡ map.now) × (first.1.map ≡ map.now) }
-    requires second { (second.0.map ≡ map.now) × (second.1.map ≡ map.now) }
-    ensures { result.map ≡ map.now }
-{
-    let (one, other) = thread::join(
-        rt,
-        move || -> Pass
-            requires { (first.0.map ≡ map.now) × (first.1.map ≡ map.now) }
-            ensures { result.map ≡ map.entry.now }
-        { merged_by_two(rt, map, first.0, first.1, merging, 250) },
-        move || -> Pass
-            requires { (second.0.map ≡ map.now) × (second.1.map ≡ map.now) }
-            ensures { result.map ≡ map.entry.now }
-        { merged_by_two(rt, map, second.0, second.1, merging, 250) },
-    );
-    map.join(one, other)
-}
-
-/// Takes the next two of the map's passes.
-fn next_two(map: &StripedMap, passes: &mut Vec<Pass>) -> Result<(Pass, Pass), Fail>
-    requires { All (λ pass. pass.map ≡ map.now) passes.old.items }
-    ensures two { IfOk result (λ two. (two.0.map ≡ map.now) × (two.1.map ≡ map.now)) }
-    ensures all { All (λ pass. pass.map ≡ map.now) passes.new.items }
-{
-    let one = next_pass(map, passes)?;
-    let other = next_pass(map, passes)?;
-    Ok((one, other))
-}
-
-/// A pass for each of eight threads, in two halves of two pairs.
-type Fours = ((Pass, Pass), (Pass, Pass));
-
-/// Merges by eight threads, and joins their passes.
-fn merged_by_eight<R: Threads + Wait + Sync>(
-    rt: &R,
-    map: &StripedMap,
-    first: Fours,
-    second: Fours,
-    merging: &Merging,
-) -> Pass
-    requires first { (first.0.0.map ≡ map.now) × (first.0.1.map ≡ map.now) × (first.1.0.map ≡ map.now) × (first.1.1.map ≡ map.now) }
-    requires second { (second.0.0.map ≡ map.now) × (second.0.1.map ≡ map.now) × (second.1.0.map ≡ map.now) × (second.1.1.map ≡ map.now) }
-    ensures { result.map ≡ map.now }
-{
-    let (one, other) = thread::join(
-        rt,
-        move || -> Pass
-            requires { (first.0.0.map ≡ map.now) × (first.0.1.map ≡ map.now) × (first.1.0.map ≡ map.now) × (first.1.1.map ≡ map.now) }
-            ensures { result.map ≡ map.entry.now }
-        { merged_by_four(rt, map, first.0, first.1, merging) },
-        move || -> Pass
-            requires { (second.0.0.map ≡ map.now) × (second.0.1.map ≡ map.now) × (second.1.0.map ≡ map.now) × (second.1.1.map ≡ map.now) }
-            ensures { result.map ≡ map.entry.now }
-        { merged_by_four(rt, map, second.0, second.1, merging) },
-    );
-    map.join(one, other)
-}
-
-#[test]
-fn eight_threads_merge_on_one_key(rt: HostRuntime) -> Result<(), Fail> {
-    let merging = Merging::new(summing(rt.alloc())?);
-    let (map, mut passes) = opened(rt.alloc(), 16, 8)?;
-    let first = (next_two(&map, &mut passes)?, next_two(&map, &mut passes)?);
-    let second = (next_two(&map, &mut passes)?, next_two(&map, &mut passes)?);
-    let all = merged_by_eight(&rt, &map, first, second, &merging);
-    assert!(rt; is_sum(&rt, &map, all, &merging, 2000)?);
+fn threads_merge_on_one_key(rt: HostRuntime) -> Result<(), Fail> {
+    for threads in [2, 8] {
+        assert!(rt; is_sum(&rt, threads)?, "{threads} threads");
+    }
     Ok(())
 }

@@ -3,25 +3,6 @@ ghost use Rattle.std.specs.Prelude.{◌≡◌, All, IfOk};
 
 use super::*;
 
-#[test]
-fn open_refuses_by_the_first_test_that_fails(rt: HostRuntime) -> Result<(), Fail> {
-    let rows = [
-        (3, 1, 50),
-        (0, 1, 50),
-        (128, 1, 50),
-        (3, 65, 50),
-        (4, 65, 51),
-        (4, 0, 51),
-        (1, 1, 0),
-        (64, 64, 0),
-    ];
-    for (stripes, passes, wanted) in rows {
-        let found = refusal(rt.alloc(), stripes, passes);
-        assert!(rt; found == wanted, "{stripes}, {passes}: {found}");
-    }
-    Ok(())
-}
-
 /// Puts by the one pass, which is told to the other. Tells whether that one finds the value.
 fn sees_what_was_put<R: Wait>(
     rt: &R,

@@ -1,6 +1,4 @@
 //! Three entries, walked over by teams of several sizes.
-ghost use Rattle.std.specs.Prelude.{◌≡◌, All};
-
 use super::*;
 use std::process::Abort;
 
@@ -17,25 +15,6 @@ const ROWS: [(&str, Task, Wanted); 8] = [
     ("mapping_count", Task::Count, COUNTED),
     ("replace_all", Task::Replace, REPLACED),
 ];
-
-/// What a search finds after a replacement.
-const FOUND_REPLACED: Wanted = Wanted(&[(b"a", &THREE)], (3, 1, 1));
-
-#[test]
-fn no_pass_is_no_team(rt: HostRuntime) {
-    let fault = match Team::new(Vec::new(rt.alloc())) {
-        Ok(_) => 0,
-        Err(fault) => fault.number(),
-    };
-    assert!(rt; fault == 53);
-}
-
-#[test]
-fn passes_come_back(rt: HostRuntime) -> Result<(), Fail> {
-    let (_, _, team) = made(rt.alloc(), 4, 3).ok_or("no map")?;
-    assert!(rt; team.into_passes().len() == 3);
-    Ok(())
-}
 
 /// Makes the walk by a new team over a new map of three entries. Tells whether it gave this reply.
 fn is_made<R: AllocGlobal + Threads + Wait + Sync>(
@@ -72,35 +51,6 @@ fn each_walk_is_as_wanted_by_each_team(rt: HostRuntime) -> Result<(), Fail> {
     let program = summing(rt.alloc())?;
     for sizes in TEAMS {
         play(&rt, &program, sizes);
-    }
-    Ok(())
-}
-
-/// Counts the entries, replaces their values, and searches, by one team. Tells whether each walk gave the expected
-/// reply.
-fn count_replace_search<R: AllocGlobal + Threads + Wait + Sync>(
-    rt: &R,
-    map: &StripedMap,
-    team: Team,
-    program: &Verified,
-) -> bool
-    requires { All (λ pass. pass.map ≡ map.now) team.passes.items }
-{
-    let (team, count) = walk(rt, map, team, program, Task::Count, &OpenGate);
-    let (team, replacement) = walk(rt, map, team, program, Task::Replace, &OpenGate);
-    let (_, found) = walk(rt, map, team, program, Task::Search(0), &OpenGate);
-    replied(&count, COUNTED) && replied(&replacement, REPLACED) && replied(&found, FOUND_REPLACED)
-}
-
-#[test]
-fn values_are_counted_and_replaced(rt: HostRuntime) -> Result<(), Fail> {
-    let program = summing(rt.alloc())?;
-    for (stripes, workers) in TEAMS {
-        let (map, _, team) = filled(&rt, rt.alloc(), stripes, workers).ok_or("no map")?;
-        assert!(rt;
-            count_replace_search(&rt, &map, team, &program),
-            "{stripes} stripes, {workers} workers"
-        );
     }
     Ok(())
 }
