@@ -1,0 +1,3 @@
+pub mod Keepers
+pub mod Saves
+pub mod Restores
