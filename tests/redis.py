@@ -28,7 +28,7 @@ import wire  # noqa: E402
 from redis_wire import Client  # noqa: E402
 from wire import Wrong, same  # noqa: E402
 
-NOT_COMPARED = ("INFO", "SAVE, BGSAVE, LASTSAVE, SHUTDOWN and DEBUG", "HELLO 2 and 3", "COMMAND", "CONFIG GET", "CLIENT ID, LIST, INFO and SETINFO", "EVAL and SCRIPT LOAD",
+NOT_COMPARED = ("INFO", "HELLO 2 and 3", "COMMAND", "CONFIG GET", "CLIENT ID, LIST, INFO and SETINFO", "EVAL and SCRIPT LOAD",
                 "SET with IFEQ", "DELIFEQ", "the millisecond of a deadline", "a wrong time in a GETEX of no key", "words beyond mapd's limits", "escapes in quotes",
                 "cursors that are no decimals", "commands that mapd hasn't")
 # One stream in so many ends in bytes that are no command, and one walk comes after so many.

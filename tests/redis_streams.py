@@ -137,8 +137,7 @@ def connection(dice: random.Random) -> Words:
         ["CLIENT", "ID", "x"], ["AUTH", "x"], ["AUTH"], ["AUTH", "a", "b"], ["AUTH", "default", "b"], ["HELLO", 2, "FOO"],
         ["HELLO", 2, "SETNAME"], ["HELLO", 4], ["HELLO", 1], ["HELLO", "x"], ["RESET"], ["SCRIPT"], ["SCRIPT", "FOO"], ["SCRIPT", "LOAD"],
         ["CONFIG"], ["CONFIG", "GET"], ["COMMAND", "FOO"], ["CONFIG", "FOO"], ["DBSIZE", "x"], ["FLUSHALL", "x"],
-        ["FLUSHDB", "SYNC", "x"], ["KEYS"], ["RANDOMKEY", "x"], ["SAVE", "x"], ["LASTSAVE", "x"], ["BGSAVE", "x"],
-        ["BGSAVE", "SCHEDULE", "x"], ["SHUTDOWN", "x"], ["SHUTDOWN", "SAVE", "NOSAVE"], ["DEBUG"], ["INFO", "x"])))
+        ["FLUSHDB", "SYNC", "x"], ["KEYS"], ["RANDOMKEY", "x"])))
 
 
 def with_wrong_count(dice: random.Random, name: str, least: int, most: int) -> Words:

@@ -21,8 +21,7 @@ use bin_stripes::Gate;
 use bpf_model::{NoMemory, Value};
 use client_protocol::{Feeder, Request};
 use devices::{Failed, Owed, write_all};
-use redis_service::{Moment, NO_MEMORY_LINE, RedisDesk, RedisTalk, TalkEnd};
-use server_state::WorkerCounts;
+use redis_service::{NO_MEMORY_LINE, RedisDesk, RedisTalk, TalkEnd};
 use sessions::{Conversation, ConversationEnd, SessionEnd, refuse};
 use std::sync::Wait;
 use std::thread::Threads;
@@ -31,7 +30,7 @@ use std::thread::Threads;
 pub const PIECE_BYTES: usize = 16384;
 
 /// What the turns of a worker's clients share: the worker's number, its passes, the room for a piece, its requests and commands, and
-/// their values, where the worker counts, and the time of the turn, in milliseconds since the epoch.
+/// their values, and the time of the turn, in milliseconds since the epoch.
 #[derive(Drop)]
 pub struct Room<'a, 'r> {
     pub number: u32,
@@ -39,7 +38,6 @@ pub struct Room<'a, 'r> {
     pub conversation: Conversation,
     pub desk: RedisDesk<'a, 'r>,
     pub piece: [u8; PIECE_BYTES],
-    pub counts: &'a WorkerCounts,
     pub now: u64,
 }
 
@@ -127,9 +125,7 @@ pub fn answer_frames<'a, 'r, H: Threads + Wait + Sync, G: Gate + Sync>(
         (Talk.Frames feeder.new) result (read ++ take count room.old.piece) said owed.old.rest owed.new.rest }
 {
     let number = room.number;
-    let counts = room.counts;
     let answer = |serving: &mut Serving<'_>, hello, request: &Request, value: &mut Value| {
-        counts.count_request();
         serving.answer(worker, number, hello, request, value)
     };
     room.serving.lend(tokens);
@@ -165,10 +161,10 @@ pub fn answer_commands<'a, 'r, H: Wait>(
         → SaysMore (known room.old.serving) (known room.new.serving) exchanges tokens tokens
         (Talk.Commands talk.new) result (read ++ take count room.old.piece) said owed.old.rest owed.new.rest }
 {
-    let moment = Moment { rt, time: room.now };
+    let now = room.now;
     let piece = &room.piece[..count];
     let taken = room
         .serving
-        .answer_commands(&moment, &mut room.desk, talk, piece, owed);
+        .answer_commands(rt, now, &mut room.desk, talk, piece, owed);
     leaving_talk(owed, taken)
 }

@@ -23,7 +23,6 @@ use devices::{Channel, Sent};
 use program_registry::Registry;
 use redis_scripts::Scripts;
 use redis_service::{NO_ROOM_LINE, RedisDesk};
-use server_state::ServerState;
 use sessions::Conversation;
 use slab::Slab;
 use std::alloc::Global;
@@ -269,7 +268,6 @@ impl<'a, 'r, C: Channel + Drop> Attendant<'a, 'r, C> {
 fn begun<'a, 'r, H, C: Channel + Drop, G>(
     worker: &Worker<'a, H, G>,
     scripts: &'a Scripts<'r>,
-    state: &'a ServerState,
     crew: Crew,
 ) -> Attendant<'a, 'r, C>
     requires { IsCrewOf worker.now.map.now crew }
@@ -298,9 +296,8 @@ fn begun<'a, 'r, H, C: Channel + Drop, G>(
             number,
             serving,
             conversation: Conversation::new(worker.alloc),
-            desk: RedisDesk::new(worker.alloc, worker.map, scripts, state.at(number)),
+            desk: RedisDesk::new(worker.alloc, worker.map, scripts),
             piece: [0; PIECE_BYTES],
-            counts: state.counts_of(number),
             now: 0,
         },
         seats: Slab::new(worker.alloc),
@@ -314,11 +311,10 @@ fn begun<'a, 'r, H, C: Channel + Drop, G>(
 /// What moved it is the turns of the clients and the worker's own sweeps, in one chain. Each client's turns are one conversation, as
 /// `session` has it, or one talk of the crate redis_service: its requests are those that it sent, in order, each answered once, and what
 /// is written to it are their answers. Each client that came is told to `clients` when it leaves (`there`). Scripts that clients of
-/// commands load are kept in `scripts`, and what the server knows of itself in `state`. Waits as `clients` does, and for stripes that others hold.
+/// commands load are kept in `scripts`. Waits as `clients` does, and for stripes that others hold.
 pub fn attend<'a, 'r, H: Threads + Wait + Sync, C: Channel + Drop, P: Clients<C>, G: Gate + Sync>(
     worker: &Worker<'a, H, G>,
     scripts: &'a Scripts<'r>,
-    state: &'a ServerState,
     clients: &mut P,
     crew: Crew,
 ) -> Crew
@@ -330,7 +326,7 @@ pub fn attend<'a, 'r, H: Threads + Wait + Sync, C: Channel + Drop, P: Clients<C>
     ensures same { CarriesSame crew result }
 {
     let number = crew.worker;
-    let mut attendant: Attendant<'a, 'r, C> = begun(worker, scripts, state, crew);
+    let mut attendant: Attendant<'a, 'r, C> = begun(worker, scripts, crew);
     attendant.attend_all(worker, clients);
     attendant.drop_all(clients);
     let Attendant { room, .. } = attendant;

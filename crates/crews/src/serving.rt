@@ -24,7 +24,7 @@ use bulk_walks::{Walk, mapping_count, replace_all, walk_map};
 use client_protocol::{Request, RequestView, ShortResponse, Version};
 use devices::Sink;
 use program_registry::{ProgramToken, Registry, SentProgram};
-use redis_service::{Moment, RedisDesk, RedisTalk, TalkEnd};
+use redis_service::{RedisDesk, RedisTalk, TalkEnd};
 use sessions::{
     Answer, Service, answer_to, argument_of, call_of, may_be_sent, named_program, no_memory,
     program_sent, unknown_program,
@@ -173,11 +173,12 @@ impl<'a> Serving<'a> {
         mem::swap(&mut self.tokens, &mut tokens.items);
     }
 
-    /// Answers the commands that this piece completes by calls of the pass at this moment, and keeps the rest of it. Team and tokens stay
+    /// Answers the commands that this piece completes by calls of the pass at this time, and keeps the rest of it. Team and tokens stay
     /// as they are.
     pub fn answer_commands<H: Wait, W: Sink>(
         &mut self,
-        moment: &Moment<'_, H>,
+        rt: &H,
+        now: u64,
         desk: &mut RedisDesk<'a, '_>,
         talk: &mut RedisTalk,
         piece: &[u8],
@@ -193,17 +194,17 @@ impl<'a> Serving<'a> {
         ensures numbers { self.new.pass.view.numbers ≡ self.old.pass.view.numbers }
         ensures ok { OnOk result ((talk.new.is_over ≡ false) × ((written : List ℕ)
             × TakesBytes (W.state sink.old) (W.state sink.new) written
-            × AnswersPiece moment.now.time talk.old self.old.pass piece.now written talk.new self.new.pass)) }
+            × AnswersPiece now talk.old self.old.pass piece.now written talk.new self.new.pass)) }
         ensures over { result ≡ Err TalkEnd.Over → (talk.new.is_over ≡ true) × ((written : List ℕ)
             × TakesBytes (W.state sink.old) (W.state sink.new) written
-            × AnswersPiece moment.now.time talk.old self.old.pass piece.now written talk.new self.new.pass) }
+            × AnswersPiece now talk.old self.old.pass piece.now written talk.new self.new.pass) }
         ensures memory { result ≡ Err TalkEnd.NoMemory
             → (talk.new ≡ talk.old) × (self.new ≡ self.old) × (W.state sink.new ≡ W.state sink.old) }
         ensures write { result ≡ Err TalkEnd.WriteFailed → ((written : List ℕ)
             × TakesThenFails (W.state sink.old) (W.state sink.new) written
-            × BreaksPiece moment.now.time talk.old self.old.pass piece.now written talk.new self.new.pass) }
+            × BreaksPiece now talk.old self.old.pass piece.now written talk.new self.new.pass) }
     {
-        desk.take(moment, &mut self.pass, talk, piece, sink)
+        desk.take(rt, now, &mut self.pass, talk, piece, sink)
     }
 
     /// Takes entries out of the map whose time is over. Returns whether more of them may be left. Team and tokens stay as they are.

@@ -124,11 +124,6 @@ impl<'a, 'b, H: Wait + Clock, E: Sink> Arrivals<'a, 'b, H, E> {
         self.here.fetch_sub(1, Ordering::SeqCst);
     }
 
-    /// Writes the text to standard error.
-    pub(crate) fn tell(&self, text: &[u8]) {
-        self.errors.lock(self.rt).tell(text);
-    }
-
     /// An accept failed for good, which ends the worker.
     pub(crate) fn tell_failure(&self, worker: u32, error: &io::Error) {
         self.failed.store(true, Ordering::SeqCst);

@@ -22,8 +22,8 @@ mod text;
 
 pub use asking::command_of;
 pub use command::{
-    Command, Condition, ConnectionCommand, ExpireRule, KeyAct, KeysAct, LastSave, Lifetime,
-    NAME_BYTES, ProgramCommand, ServerCommand, TimeForm, TimeUnit, WalkCommand,
+    Command, Condition, ConnectionCommand, ExpireRule, KeyAct, KeysAct, Lifetime, NAME_BYTES,
+    ProgramCommand, TimeForm, TimeUnit, WalkCommand,
 };
 pub use fault::CommandFault;
 pub use glob::matches;

@@ -1,7 +1,7 @@
 //! The names of commands, and how many arguments each command takes.
 ghost use Rattle.std.specs.Prelude.{◌≡◌};
 ghost use Rattle.std.specs.Str.{str_eq_ignore_ascii_case};
-ghost use Rattle.redis_commands.specs.Names.{arity_of, key_arity, walk_arity, connection_arity, server_arity, parent_arity, sub_arity, is_allowed, name_text, sub_word, parent_text, parent_capitals, key_name_text, keys_name_text, walk_name_text, connection_name_text, server_name_text, program_name_text, parent_of, subs_of, sub_named, first_sub, first_named, named, names_of_length};
+ghost use Rattle.redis_commands.specs.Names.{arity_of, key_arity, walk_arity, connection_arity, parent_arity, sub_arity, is_allowed, name_text, sub_word, parent_text, parent_capitals, key_name_text, keys_name_text, walk_name_text, connection_name_text, program_name_text, parent_of, subs_of, sub_named, first_sub, first_named, named, names_of_length};
 
 /// Whether the word is this name, in any case.
 pub(crate) fn is(name: &str, word: &[u8]) -> bool
@@ -38,7 +38,6 @@ pub enum Name {
     Keys(KeysName),
     Walk(WalkName),
     Connection(ConnectionName),
-    Server(ServerName),
     Program(ProgramName),
     /// A command whose first argument names what it does.
     Parent(Parent),
@@ -108,18 +107,8 @@ pub enum ConnectionName {
     Select,
     Hello,
     Auth,
-    Reset,
-}
-
-/// The commands of the server.
-#[derive(Clone, Copy, Debug, PartialEq, Eq)]
-pub enum ServerName {
     Info,
-    Save,
-    BgSave,
-    LastSave,
-    Shutdown,
-    Debug,
+    Reset,
 }
 
 /// The commands that run programs.
@@ -268,6 +257,7 @@ impl ConnectionName {
             ConnectionName::Select => "select",
             ConnectionName::Hello => "hello",
             ConnectionName::Auth => "auth",
+            ConnectionName::Info => "info",
             ConnectionName::Reset => "reset",
         }
     }
@@ -280,32 +270,9 @@ impl ConnectionName {
             ConnectionName::Echo | ConnectionName::Select => Arity::Exactly(1),
             ConnectionName::Auth => Arity::AtLeast(1),
             ConnectionName::Reset => Arity::Exactly(0),
-            ConnectionName::Quit | ConnectionName::Hello => Arity::AtLeast(0),
-        }
-    }
-}
-
-impl ServerName {
-    fn text(self) -> &'static str
-        ensures { result.now ≡ server_name_text self }
-    {
-        match self {
-            ServerName::Info => "info",
-            ServerName::Save => "save",
-            ServerName::BgSave => "bgsave",
-            ServerName::LastSave => "lastsave",
-            ServerName::Shutdown => "shutdown",
-            ServerName::Debug => "debug",
-        }
-    }
-
-    fn arity(self) -> Arity
-        ensures { result ≡ server_arity self }
-    {
-        match self {
-            ServerName::Save | ServerName::LastSave => Arity::Exactly(0),
-            ServerName::Info | ServerName::BgSave | ServerName::Shutdown => Arity::AtLeast(0),
-            ServerName::Debug => Arity::AtLeast(1),
+            ConnectionName::Quit | ConnectionName::Hello | ConnectionName::Info => Arity::AtLeast(
+                0,
+            ),
         }
     }
 }
@@ -444,7 +411,6 @@ impl Name {
             Name::Keys(name) => name.text(),
             Name::Walk(name) => name.text(),
             Name::Connection(name) => name.text(),
-            Name::Server(name) => name.text(),
             Name::Program(name) => name.text(),
             Name::Parent(name) => name.text(),
         }
@@ -460,7 +426,6 @@ impl Name {
             Name::Keys(_) => Arity::AtLeast(1),
             Name::Walk(name) => name.arity(),
             Name::Connection(name) => name.arity(),
-            Name::Server(name) => name.arity(),
             Name::Program(_) => Arity::AtLeast(2),
             Name::Parent(name) => name.arity(),
         }
@@ -509,7 +474,7 @@ static THREE: [Name; 4] = [
 ];
 
 /// The names of four letters.
-static FOUR: [Name; 15] = [
+static FOUR: [Name; 14] = [
     Name::Key(KeyName::Incr),
     Name::Key(KeyName::Decr),
     Name::Key(KeyName::Type),
@@ -522,24 +487,22 @@ static FOUR: [Name; 15] = [
     Name::Connection(ConnectionName::Echo),
     Name::Connection(ConnectionName::Quit),
     Name::Connection(ConnectionName::Auth),
-    Name::Server(ServerName::Info),
-    Name::Server(ServerName::Save),
+    Name::Connection(ConnectionName::Info),
     Name::Program(ProgramName::Eval),
 ];
 
 /// The names of five letters.
-static FIVE: [Name; 7] = [
+static FIVE: [Name; 6] = [
     Name::Key(KeyName::SetNx),
     Name::Key(KeyName::SetEx),
     Name::Key(KeyName::GetEx),
     Name::Keys(KeysName::Touch),
     Name::Connection(ConnectionName::Hello),
     Name::Connection(ConnectionName::Reset),
-    Name::Server(ServerName::Debug),
 ];
 
 /// The names of six letters.
-static SIX: [Name; 17] = [
+static SIX: [Name; 16] = [
     Name::Key(KeyName::IncrBy),
     Name::Key(KeyName::DecrBy),
     Name::Key(KeyName::GetSet),
@@ -553,7 +516,6 @@ static SIX: [Name; 17] = [
     Name::Keys(KeysName::Exists),
     Name::Walk(WalkName::DbSize),
     Name::Connection(ConnectionName::Select),
-    Name::Server(ServerName::BgSave),
     Name::Parent(Parent::Client),
     Name::Parent(Parent::Config),
     Name::Parent(Parent::Script),
@@ -570,13 +532,11 @@ static SEVEN: [Name; 6] = [
 ];
 
 /// The names of eight letters.
-static EIGHT: [Name; 6] = [
+static EIGHT: [Name; 4] = [
     Name::Key(KeyName::GetRange),
     Name::Key(KeyName::SetRange),
     Name::Key(KeyName::ExpireAt),
     Name::Walk(WalkName::FlushAll),
-    Name::Server(ServerName::LastSave),
-    Name::Server(ServerName::Shutdown),
 ];
 
 /// The names of nine letters.

@@ -9,8 +9,6 @@ pub mod Planned
 pub mod States
 pub mod Answers
 pub mod Server
-pub mod Info
-pub mod Saving
 pub mod Connections
 pub mod Walks
 pub mod Walked

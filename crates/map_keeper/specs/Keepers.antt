@@ -1,7 +1,0 @@
--- What contracts see of a keeper.
-use Rattle.bin_stripes.specs.Passes.{PassState}
-use Rattle.map_keeper.specs.declared.keeper.Keeper.{Keeper}
-
--- the pass by which it restores and saves
-abbrev pub pass_of : Keeper → PassState
-pass_of keeper = keeper.taker.pass

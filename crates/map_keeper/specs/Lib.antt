@@ -1,3 +1,0 @@
-pub mod Keepers
-pub mod Saves
-pub mod Restores
