@@ -49,30 +49,42 @@ pub fn plan_of<'c>(call: &Call<'c>, old: Option<&[u8]>) -> Plan<'c>
     use Change::{Enter, Keep, Remove};
     use Plan::{Give, Run, Apply};
     use PlannedReply::{Done, Old};
-    match (*call, old) {
-        (Call::Get { .. }, _) => Apply(Keep, Old),
-        (Call::Put { value, .. }, _) => Apply(Enter(value), Old),
-        (Call::PutIfAbsent { .. } | Call::ComputeIfAbsent { .. }, Some(_)) => Apply(Keep, Old),
-        (Call::PutIfAbsent { value, .. }, None) => Apply(Enter(value), Old),
-        (Call::Remove { .. }, _) => Apply(Remove, Old),
-        (Call::RemoveIf { expected, .. }, Some(old)) if old == expected.as_slice() => {
-            Apply(Remove, Done(true))
-        }
-        (Call::Replace { value, .. }, Some(_)) => Apply(Enter(value), Old),
-        (Call::Replace { .. } | Call::ComputeIfPresent { .. }, None) => Apply(Keep, Old),
-        (
-            Call::ReplaceIf {
-                expected,
-                value,
-                ..
-            },
-            Some(old),
-        ) if old == expected.as_slice() => { Apply(Enter(value), Done(true)) }
-        (Call::RemoveIf { .. } | Call::ReplaceIf { .. }, _) => Apply(Keep, Done(false)),
-        (Call::Compute { program, arg, .. }, _) => Run(program, arg),
-        (Call::ComputeIfAbsent { program, arg, .. }, None) => Run(program, arg),
-        (Call::ComputeIfPresent { program, arg, .. }, Some(_)) => Run(program, arg),
-        (Call::Merge { value, program, .. }, Some(_)) => Run(program, Some(value)),
-        (Call::Merge { value, .. }, None) => Give(value),
+    match call {
+        Call::Get { .. } => Apply(Keep, Old),
+        Call::Put { value, .. } => Apply(Enter(value), Old),
+        Call::PutIfAbsent { value, .. } => match old {
+            Some(_) => Apply(Keep, Old),
+            None => Apply(Enter(value), Old),
+        },
+        Call::Remove { .. } => Apply(Remove, Old),
+        Call::RemoveIf { expected, .. } => match old {
+            Some(old) if old == expected.as_slice() => Apply(Remove, Done(true)),
+            _ => Apply(Keep, Done(false)),
+        },
+        Call::Replace { value, .. } => match old {
+            Some(_) => Apply(Enter(value), Old),
+            None => Apply(Keep, Old),
+        },
+        Call::ReplaceIf {
+            expected,
+            value,
+            ..
+        } => match old {
+            Some(old) if old == expected.as_slice() => Apply(Enter(value), Done(true)),
+            _ => Apply(Keep, Done(false)),
+        },
+        Call::Compute { program, arg, .. } => Run(program, *arg),
+        Call::ComputeIfAbsent { program, arg, .. } => match old {
+            Some(_) => Apply(Keep, Old),
+            None => Run(program, *arg),
+        },
+        Call::ComputeIfPresent { program, arg, .. } => match old {
+            Some(_) => Run(program, *arg),
+            None => Apply(Keep, Old),
+        },
+        Call::Merge { value, program, .. } => match old {
+            Some(_) => Run(program, Some(value)),
+            None => Give(value),
+        },
     }
 }

@@ -127,7 +127,7 @@ impl<'a, B: NotedBins> Shows<Replacement<'a, B>> for Replacing {
 /// Makes the call on the stripe of its key: the only one that does, so that all of a call is in one place. Before that it takes the
 /// key away if the call has a time and the key is over. A program runs in the workspace; the bytes of the replied value are left
 /// in `bytes`. Returns `NoMemory` as `NotedBins::call_noted` does; then nothing was done.
-#[inline(never)]
+#[inline(always)]
 pub(crate) fn make_call<B: NotedBins + Drop>(
     table: &Stripes<B>,
     seat: &mut PassSeat<B>,

@@ -114,6 +114,7 @@ impl StripedMap {
 
     /// Makes the call as `call` does, and leaves the bytes of the replied value in `bytes`, so that no value is moved. The
     /// old contents of `bytes` are lost. Returns `NoMemory` as `call` does. Waits until the stripe of the key is free.
+    #[inline(always)]
     pub fn call_into<R: Wait>(
         &self,
         rt: &R,
@@ -157,6 +158,7 @@ impl StripedMap {
     /// deadline as `timing` says if the call gets to the key's entry. Returns `NoMemory` only if the call would have added its
     /// key, or `timing` may set a deadline, and a request for memory is refused; then nothing was done. Waits until the stripe
     /// of the key is free.
+    #[inline(always)]
     pub fn call_at_into<R: Wait>(
         &self,
         rt: &R,
@@ -175,6 +177,7 @@ impl StripedMap {
 
     /// Makes the call, at a time or whatever the time is, and leaves the bytes of the replied value in `bytes`. Waits until the
     /// stripe of the key is free.
+    #[inline(always)]
     fn make<R: Wait>(
         &self,
         rt: &R,

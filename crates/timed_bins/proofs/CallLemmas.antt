@@ -1,5 +1,5 @@
 -- A call, at a time or without a clock: what was done first, and then the call.
-use Rattle.std.proofs.Common.{◌≡◌, ℕ, Bool, true, false, IsTrue, max, List, [], Option, Some, None, refl, sym, ap, subst, ◌∙◌, ◌⊎◌, inl, inr}
+use Rattle.std.proofs.Common.{◌≡◌, ℕ, true, false, IsTrue, max, List, [], Option, Some, None, refl, sym, subst, ◌∙◌, ◌⊎◌, inl, inr}
 use Rattle.atomic_methods.specs.Invocations.{Method, get, put, put_if_absent, remove, remove_if, replace, replace_if, compute, compute_if_absent, compute_if_present, merge, Invocation}
 use Rattle.atomic_methods.specs.Methods.{WouldAdd}
 use Rattle.atomic_methods.specs.Plans.{reply_by}

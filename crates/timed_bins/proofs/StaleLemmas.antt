@@ -1,5 +1,5 @@
 -- A call at a time on a key whose time is over.
-use Rattle.std.proofs.Common.{◌≡◌, ◌≢◌, ℕ, Bool, true, false, max, List, Option, Some, None, refl, sym, ap, subst, ◌∙◌, ◌⊎◌, inl, inr}
+use Rattle.std.proofs.Common.{◌≡◌, ◌≢◌, ℕ, true, max, List, Option, Some, None, refl, sym, ap, ◌∙◌, ◌⊎◌, inr}
 use Rattle.std.specs.Prelude.{option_map}
 use Rattle.std.specs.FinMap as map
 use Rattle.bins.specs.Table.{Table}
@@ -17,7 +17,7 @@ use Rattle.timed_bins.specs.Deadlines.{CallsWith, MakesCall, TimedTable, changed
 use Rattle.timed_bins.specs.Steps.{LooksFirst, change_at}
 use Rattle.timed_bins.specs.Touched.{deadline_by, touch_of}
 use Rattle.timed_bins.proofs.RowLemmas.{beside_gone, gone}
-use Rattle.timed_bins.proofs.StateLemmas.{has_entry, of_taken, of_called, calls_with, sets_twice}
+use Rattle.timed_bins.proofs.StateLemmas.{has_entry, of_taken, of_called, calls_with}
 
 -- a deadline that is there is the first
 pub first_stays : (held other : Option ℕ) → held ≢ None → first_of held other ≡ held

@@ -5,17 +5,15 @@ use Rattle.std.specs.FinMap as map
 use Rattle.bins.specs.Table.{Table, by_bytes}
 use Rattle.bins.proofs.MapEdits.{antisymmetric}
 use Rattle.atomic_methods.specs.declared.reply.ReplyKind.{ReplyKind}
-use Rattle.atomic_methods.specs.Invocations.{Method, get, put, put_if_absent, remove, remove_if, replace, replace_if, compute, compute_if_absent, compute_if_present, merge, Invocation}
+use Rattle.atomic_methods.specs.Invocations.{Invocation}
 use Rattle.atomic_methods.specs.Methods.{Answers, with_value}
 use Rattle.atomic_methods.specs.Plans.{reply_by}
 use Rattle.timed_bins.specs.declared.timing.DeadlineChange.{DeadlineChange}
-use Rattle.timed_bins.specs.declared.touch.Touch.{Touch}
-use Rattle.timed_bins.specs.declared.touch.Touch.TheVariants.{Gone, Reached, Missed}
 use Rattle.timed_bins.specs.Agendas.{AreOfEntries, SetsDeadline, deadline_of, number_of}
-use Rattle.timed_bins.specs.Deadlines.{CallsWith, TakesIfOver, WaitsUntil, FindsNone, change_of, changed, deadline_after, is_over, reaches, timed_table}
+use Rattle.timed_bins.specs.Deadlines.{CallsWith, TakesIfOver, WaitsUntil, FindsNone, changed, deadline_after, is_over, reaches, timed_table}
 use Rattle.timed_bins.specs.Looks.{WaitsFor}
 use Rattle.timed_bins.specs.Touched.{deadline_by, touch_of}
-use Rattle.timed_bins.proofs.RowLemmas.{absent_before, empty_at, beside_entered, beside_gone, gone, no_row, none_in_empty, sets_nothing}
+use Rattle.timed_bins.proofs.RowLemmas.{absent_before, empty_at, beside_entered, beside_gone, gone, no_row}
 use Rattle.timed_bins.proofs.ListedLemmas.{unlike}
 use Rattle.timed_bins.proofs.TouchLemmas.{touched}
 
@@ -133,31 +131,6 @@ finds_none table times times' latest now latest' same told none = record {
   tells = record { table = refl; deadlines = λ key. ap (λ (t : Table). deadline_of t key) same; latest = told };
   none = none;
 }
-
--- without deadlines there is nothing to change
-cleared : (method : Method) → changed (change_of method) None ≡ None
-cleared get = refl
-cleared (put value) = refl
-cleared (put_if_absent value) = refl
-cleared remove = refl
-cleared (remove_if expected) = refl
-cleared (replace value) = refl
-cleared (replace_if expected value) = refl
-cleared (compute program arg) = refl
-cleared (compute_if_absent program arg) = refl
-cleared (compute_if_present program arg) = refl
-cleared (merge value program) = refl
-
-still_none : (touch : Touch) (wanted : Option ℕ) → wanted ≡ None → deadline_by touch wanted None ≡ None
-still_none Gone wanted is = refl
-still_none Reached wanted is = is
-still_none Missed wanted is = refl
-
-pub untouched : (times : Table) (key : List ℕ) (method : Method) (kind : ReplyKind) → times ≡ map.empty
-    → SetsDeadline times times key (deadline_by (touch_of method kind) (changed (change_of method) (deadline_of times key)) (deadline_of times key))
-untouched times key method kind is =
-    let none : deadline_of times key ≡ None = ap (λ (t : Table). deadline_of t key) is ∙ sym (none_in_empty key) in
-    sets_nothing times key _ (rw none (sym (still_none (touch_of method kind) (changed (change_of method) None) (cleared method))))
 
 -- two changes of one deadline, one after the other
 pub sets_twice : (one two three : Table) (key : List ℕ) (held after : Option ℕ) → SetsDeadline one two key held → SetsDeadline two three key after → SetsDeadline one three key after

@@ -1,13 +1,17 @@
 -- What a call needs before it is made and leaves when it was refused, and why it may be.
 use Rattle.std.specs.Prelude.{◌≡◌, ℕ, ◌⊎◌, IsTrue, Bool, false, max, List, Option, Some, None}
+use Rattle.atomic_methods.specs.declared.reply.ReplyKind.{ReplyKind}
 use Rattle.atomic_methods.specs.Invocations.{Invocation, Method}
 use Rattle.atomic_methods.specs.Methods.{WouldAdd}
 use Rattle.bins.specs.Table.{Table}
+use Rattle.timed_bins.specs.declared.calls.Made.{Made}
 use Rattle.timed_bins.specs.declared.calls.Room.{Room}
+use Rattle.timed_bins.specs.declared.calls.Room.TheVariants.{NotNeeded, There, Added}
 use Rattle.timed_bins.specs.declared.timing.DeadlineChange.{DeadlineChange}
 use Rattle.timed_bins.specs.declared.timing.Timing.{Timing}
 use Rattle.timed_bins.specs.Agendas.{HasRoom, Schedule, SetsDeadline, deadline_of}
 use Rattle.timed_bins.specs.Deadlines.{TimedTable, TellsTime, asks_room, change_of, changed, is_over}
+use Rattle.timed_bins.specs.Touched.{deadline_by, touch_of}
 
 -- what becomes of the key's deadline in a call: what its timing says, or what its method does without a clock
 abbrev pub change_at : Option Timing → Method → DeadlineChange
@@ -20,35 +24,34 @@ LooksFirst old None key new over = (new ≡ old) × (over ≡ false)
 LooksFirst old (Some timing) key new over =
     TellsTime old timing.now new × (over ≡ is_over (old.deadline key) (max old.latest timing.now))
 
--- the key's deadline before a call, the one that the call wants, and the one that its row has until the call was made; there
--- are none if no room was made
-abbrev pub before_in : Option Room → Option ℕ
-before_in None = None
-before_in (Some room) = room.before
+-- the key's deadline before the call, by the one that its row has now that there is room
+abbrev pub before_in : Room → Option ℕ → Option ℕ
+before_in NotNeeded held = None
+before_in There held = held
+before_in Added held = None
 
-abbrev pub wanted_in : Option Room → Option ℕ
-wanted_in None = None
-wanted_in (Some room) = room.wanted
+-- if no room is needed, the key has no deadline, and the change sets none
+abbrev pub NeedsNone : DeadlineChange → List ℕ → Room → Table → Type 0
+NeedsNone change key room times = room ≡ NotNeeded → (deadline_of times key ≡ None) × (asks_room change ≡ false)
 
-abbrev pub held_in : Option Room → Option ℕ
-held_in None = None
-held_in (Some room) = room.held
-
--- there is room for the deadline that the call wants, if it isn't the one that the row has
-abbrev pub IsReady : Schedule → List ℕ → Option Room → Type 0
-IsReady schedule key room = (at : ℕ) → wanted_in room ≡ Some at → (held_in room ≡ wanted_in room) ⊎ HasRoom schedule key at
-
--- until the call was made a key's row has the deadline that it had before, if it had one
-abbrev pub KeepsHeld : Option Room → Type 0
-KeepsHeld room = (at : ℕ) → before_in room ≡ Some at → held_in room ≡ before_in room
+-- there is room for the deadline that the change makes of the one before, if it isn't the one that the row has
+abbrev pub IsReady : DeadlineChange → List ℕ → Room → Schedule → Type 0
+IsReady change key room schedule =
+    let held = deadline_of schedule.times key in
+    (at : ℕ) → changed change (before_in room held) ≡ Some at → (held ≡ Some at) ⊎ HasRoom schedule key at
 
 -- room was made for this change of the key's deadline
-pub record MakesRoom (change : DeadlineChange) (key : List ℕ) (old : Table) (room : Option Room) (new : Schedule) : Type 0 where
-  pub before : before_in room ≡ deadline_of old key
-  pub wanted : wanted_in room ≡ changed change (before_in room)
-  pub sets : SetsDeadline old new.times key (held_in room)
-  pub ready : IsReady new key room
-  pub kept : KeepsHeld room
+pub record MakesRoom (change : DeadlineChange) (key : List ℕ) (old : Table) (room : Room) (new : Schedule) : Type 0 where
+  pub before : before_in room (deadline_of new.times key) ≡ deadline_of old key
+  pub sets : SetsDeadline old new.times key (deadline_of new.times key)
+  pub ready : IsReady change key room new
+  pub none : NeedsNone change key room new.times
+
+-- the call on a key with this deadline was made and had a reply of this kind, and its deadline is settled
+pub record Settles (change : DeadlineChange) (method : Method) (old : Option ℕ) (reply : ReplyKind) (made : Made) : Type 0 where
+  pub kind : made.kind ≡ reply
+  pub before : made.before ≡ old
+  pub after : made.after ≡ deadline_by (touch_of method reply) (changed change old) old
 
 -- each key has the deadline that it had
 abbrev pub KeepsDeadlines : Table → Table → Type 0

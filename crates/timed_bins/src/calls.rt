@@ -1,11 +1,11 @@
 //! Calls on bins whose keys may have deadlines beside them.
-ghost use Rattle.std.specs.Prelude.{◌≡◌, ◌≢◌, ◌⊎◌, ℕ, Some, None, IsSome, IsTrue, IfOk, OnErr, option_copied};
+ghost use Rattle.std.specs.Prelude.{◌≡◌, ◌⊎◌, ℕ, None, IsTrue, IfOk, OnErr, option_copied};
 ghost use Rattle.atomic_methods.specs.Invocations.{invocation_of};
 ghost use Rattle.atomic_methods.specs.Plans.{reply_by};
-ghost use Rattle.timed_bins.specs.Agendas.{AreOfEntries, HasRoom, SetsDeadline, deadline_of, first_of};
+ghost use Rattle.timed_bins.specs.declared.calls.Room.TheVariants.{NotNeeded};
+ghost use Rattle.timed_bins.specs.Agendas.{AreOfEntries, SetsDeadline, deadline_of};
 ghost use Rattle.timed_bins.specs.Deadlines.{CallsWith, asks_room as may_ask, timed_table};
-ghost use Rattle.timed_bins.specs.Steps.{IsReady, KeepsDeadlines, KeepsHeld, MakesRoom, MayRefuse, before_in, change_at as change_is, held_in, wanted_in};
-ghost use Rattle.timed_bins.specs.Touched.{deadline_by, touch_of as touch_is};
+ghost use Rattle.timed_bins.specs.Steps.{IsReady, KeepsDeadlines, MakesRoom, MayRefuse, NeedsNone, Settles, before_in, change_at as change_is};
 
 use crate::deadlines::Deadlines;
 use crate::timing::{TimedReply, Timing};
@@ -37,46 +37,25 @@ impl Made {
     }
 }
 
-/// Room for the deadline of a call's key: its deadline before the call, the one that the call wants, and the one that the
-/// key's row has until the call was made.
-#[derive(Clone, Copy)]
-pub(crate) struct Room {
-    pub(crate) before: Option<u64>,
-    pub(crate) wanted: Option<u64>,
-    pub(crate) held: Option<u64>,
-}
-
-/// Makes room for the wanted deadline of a key with this one, if it is another. Returns the one that the key's row then
-/// has. Returns `NoMemory` if a request for memory is refused; no deadline has changed then.
-fn reserve<B: Bins + Drop>(
-    deadlines: &mut Deadlines<B>,
-    key: &HashedKey<'_>,
-    before: Option<u64>,
-    wanted: Option<u64>,
-) -> Result<Option<u64>, NoMemory>
-    requires before { before ≡ deadline_of deadlines.old.times key.now }
-    ensures sets { IfOk result (SetsDeadline deadlines.old.times deadlines.new.times key.now) }
-    ensures held { IfOk result (λ held. held ≡ first_of before wanted) }
-    ensures ready { IfOk result (λ held. (at : ℕ) → wanted ≡ Some at → (held ≡ wanted) ⊎ HasRoom deadlines.new key.now at) }
-    ensures err { OnErr result (deadlines.new.times ≡ deadlines.old.times) }
-    ensures asks { OnErr result (IsSome wanted × (wanted ≢ before)) }
-{
-    if wanted != before
-        && let Some(at) = wanted
-    {
-        deadlines.reserve(key, at)?;
-    }
-    Ok(before.or(wanted))
+/// How there is room for the deadline of a call's key until the call was made.
+#[derive(Clone, Copy, PartialEq, Eq)]
+pub(crate) enum Room {
+    /// None is needed: no key has a deadline, and the call sets none.
+    NotNeeded,
+    /// The key has the deadline that it had, or none.
+    There,
+    /// The key had none. Its row has the one that the call wants.
+    Added,
 }
 
 /// Makes room for the deadline that a call wants. Returns `NoMemory` if a request for memory is refused; no deadline has
-/// changed then. It is separate so that calls without deadlines clear no room for a row.
+/// changed then.
 #[inline(never)]
 fn make_room<B: Bins + Drop>(
     deadlines: &mut Deadlines<B>,
     call: &HashedCall<'_>,
     timing: Option<&Timing>,
-) -> Result<Option<Room>, NoMemory>
+) -> Result<Room, NoMemory>
     ensures ok { IfOk result (λ room. MakesRoom (change_is (option_copied timing.entry) call.now.method) call.now.key
         deadlines.old.times room deadlines.new) }
     ensures err { OnErr result (deadlines.new.times ≡ deadlines.old.times) }
@@ -84,12 +63,17 @@ fn make_room<B: Bins + Drop>(
 {
     let before = deadlines.get(call.key());
     let wanted = change_at(timing, call.call()).of(before);
-    let held = reserve(deadlines, call.key(), before, wanted)?;
-    Ok(Some(Room {
-        before,
-        wanted,
-        held,
-    }))
+    match (before, wanted) {
+        (None, Some(at)) => {
+            deadlines.reserve(call.key(), at)?;
+            Ok(Room::Added)
+        }
+        (Some(held), Some(at)) if at != held => {
+            deadlines.reserve(call.key(), at)?;
+            Ok(Room::There)
+        }
+        _ => Ok(Room::There),
+    }
 }
 
 /// Makes room for the deadline that a call wants, as `make_room` does. None is needed if no key has a deadline and the call
@@ -99,72 +83,93 @@ fn prepare<B: Bins + Drop>(
     deadlines: &mut Deadlines<B>,
     call: &HashedCall<'_>,
     timing: Option<&Timing>,
-) -> Result<Option<Room>, NoMemory>
+) -> Result<Room, NoMemory>
     ensures ok { IfOk result (λ room. MakesRoom (change_is (option_copied timing.entry) call.now.method) call.now.key
         deadlines.old.times room deadlines.new) }
     ensures err { OnErr result (deadlines.new.times ≡ deadlines.old.times) }
     ensures asks { OnErr result (IsTrue (may_ask (change_is (option_copied timing.entry) call.now.method))) }
 {
     if deadlines.is_empty() && !asks_room(timing) {
-        return Ok(None);
+        return Ok(Room::NotNeeded);
     }
     make_room(deadlines, call, timing)
 }
 
-/// Settles the deadline of a call's key after the call was made, and returns it. Takes no memory.
+/// Settles the deadline of a call's key, for which there is room, after the call was made. Takes no memory.
 #[inline(never)]
 fn settle_room<B: Bins + Drop>(
     deadlines: &mut Deadlines<B>,
     call: &HashedCall<'_>,
+    timing: Option<&Timing>,
     room: Room,
     kind: ReplyKind,
-) -> Option<u64>
-    requires held { held_in (Some room) ≡ deadline_of deadlines.old.times call.now.key }
-    requires ready { IsReady deadlines.old call.now.key (Some room) }
-    requires kept { KeepsHeld (Some room) }
-    ensures value { result ≡ deadline_by (touch_is call.now.method kind) room.wanted room.before }
-    ensures sets { SetsDeadline deadlines.old.times deadlines.new.times call.now.key result }
+) -> Made
+    requires ready { IsReady (change_is (option_copied timing) call.now.method) call.now.key room deadlines.old }
+    ensures settles { Settles (change_is (option_copied timing.entry) call.now.method) call.now.method
+        (before_in room (deadline_of deadlines.old.times call.now.key)) kind result }
+    ensures sets { SetsDeadline deadlines.old.times deadlines.new.times call.now.key result.after }
 {
-    let after = touch_of(call.call(), kind).deadline(room.wanted, room.before);
-    deadlines.settle(call.key(), room.held, after);
-    after
+    let held = deadlines.get(call.key());
+    let before = before_of(room, held);
+    let wanted = change_at(timing, call.call()).of(before);
+    let after = touch_of(call.call(), kind).deadline(wanted, before);
+    deadlines.settle(call.key(), held, after);
+    Made {
+        kind,
+        before,
+        after,
+    }
 }
 
-/// Settles the deadline of a call's key after the call was made, and returns it. Takes no memory.
+/// Returns the key's deadline before the call, by the one that its row has now.
+fn before_of(room: Room, held: Option<u64>) -> Option<u64>
+    ensures { result ≡ before_in room held }
+{
+    match room {
+        Room::NotNeeded | Room::Added => None,
+        Room::There => held,
+    }
+}
+
+/// Settles the deadline of a call's key after the call was made. Takes no memory.
 #[inline(always)]
 fn settle<B: Bins + Drop>(
     deadlines: &mut Deadlines<B>,
     call: &HashedCall<'_>,
-    room: Option<Room>,
+    timing: Option<&Timing>,
+    room: Room,
     kind: ReplyKind,
-) -> Option<u64>
-    requires held { held_in room ≡ deadline_of deadlines.old.times call.now.key }
-    requires ready { IsReady deadlines.old call.now.key room }
-    requires kept { KeepsHeld room }
-    ensures value { result ≡ deadline_by (touch_is call.now.method kind) (wanted_in room) (before_in room) }
-    ensures sets { SetsDeadline deadlines.old.times deadlines.new.times call.now.key result }
+) -> Made
+    requires ready { IsReady (change_is (option_copied timing) call.now.method) call.now.key room deadlines.old }
+    requires none { NeedsNone (change_is (option_copied timing) call.now.method) call.now.key room deadlines.old.times }
+    ensures settles { Settles (change_is (option_copied timing.entry) call.now.method) call.now.method
+        (before_in room (deadline_of deadlines.old.times call.now.key)) kind result }
+    ensures sets { SetsDeadline deadlines.old.times deadlines.new.times call.now.key result.after }
 {
     match room {
-        Some(room) => settle_room(deadlines, call, room, kind),
-        None => None,
+        Room::NotNeeded => Made {
+            kind,
+            before: None,
+            after: None,
+        },
+        room => settle_room(deadlines, call, timing, room, kind),
     }
 }
 
 /// Gives the key of a refused call the deadline back that it had. Takes no memory.
 #[inline(never)]
-fn give_back<B: Bins + Drop>(deadlines: &mut Deadlines<B>, key: &HashedKey<'_>, room: Option<Room>)
-    requires held { held_in room ≡ deadline_of deadlines.old.times key.now }
-    requires kept { KeepsHeld room }
-    ensures { SetsDeadline deadlines.old.times deadlines.new.times key.now (before_in room) }
+fn give_back<B: Bins + Drop>(deadlines: &mut Deadlines<B>, key: &HashedKey<'_>, room: Room)
+    requires none { room ≡ NotNeeded → deadline_of deadlines.old.times key.now ≡ None }
+    ensures { SetsDeadline deadlines.old.times deadlines.new.times key.now
+        (before_in room (deadline_of deadlines.old.times key.now)) }
 {
-    if let Some(room) = room {
-        deadlines.settle(key, room.held, room.before);
-    }
+    let held = deadlines.get(key);
+    deadlines.settle(key, held, before_of(room, held));
 }
 
 /// Makes a call, at a time or without a clock, and changes its key's deadline if the call gets to the entry. Returns
 /// `NoMemory` if the call would add its key, or may set a deadline, and the room for that is refused; then nothing changes.
-/// No other place of this crate calls `apply_into`, so that the compiler puts it in line here.
+/// No other place of this crate calls `apply_into`, which is long, so that a program has it once.
 #[inline(always)]
 pub(crate) fn call_with<B: Bins + Drop>(
     bins: &mut B,
@@ -187,22 +192,10 @@ pub(crate) fn call_with<B: Bins + Drop>(
 {
     let room = prepare(deadlines, call, timing)?;
     match apply_into(bins, call, workspace, bytes) {
-        Ok(kind) => Ok(Made {
-            kind,
-            before: before_of(room),
-            after: settle(deadlines, call, room, kind),
-        }),
+        Ok(kind) => Ok(settle(deadlines, call, timing, room, kind)),
         Err(fault) => {
             give_back(deadlines, call.key(), room);
             Err(fault)
         }
     }
-}
-
-/// Returns the deadline of a call's key before the call.
-#[inline(always)]
-fn before_of(room: Option<Room>) -> Option<u64>
-    ensures { result ≡ before_in room }
-{
-    room?.before
 }
