@@ -15,8 +15,6 @@ mod lua;
 mod pieces;
 mod reading;
 mod scripts;
-#[cfg(test)]
-mod tests;
 
 pub use digest::{NAME_LEN, digest_in, digest_of, hex_of};
 pub use fault::{MESSAGE_BYTES, ScriptFault};

@@ -6,14 +6,15 @@ use Rattle.std.proofs.lemmas.List.Sums.{sum_by-append, sum_by-cons}
 use Rattle.resp.specs.declared.limits.TheConstants.{COMMAND_WORDS, COMMAND_BYTES, WORD_BYTES, LINE_BYTES}
 use Rattle.resp.specs.declared.fault.RespFault.{RespFault}
 use Rattle.resp.specs.declared.fault.RespFault.TheVariants.{BadCount, NoDollar, BadLength, TooBigCommand, NoNewline, TooBigLine, UnbalancedQuotes, TooManyWords}
-use Rattle.resp.specs.Streams.{NeverBegins, HasNo}
-use Rattle.resp.specs.Grammar.{newline, number_line, word_bytes, words_bytes, bytes_of, is_newline, IsWord, IsSomeArray, IsCountLine, IsNumberLine, IsNewline, IsLineFront, IsLine, HasWords, IsWhole, IsBegun, IsFaultyWord, HasFaultyWord, IsFaultyLine, IsFaulty}
+use Rattle.resp.specs.Streams.{NeverBegins}
+use Rattle.resp.specs.Grammar.{newline, number_line, word_bytes, words_bytes, bytes_of, ends_line, IsWord, IsSomeArray, IsCountLine, IsNumberLine, IsNewline, IsOpenLine, IsLine, IsWhole, IsBegun, IsFaultyWord, HasFaultyWord, IsFaultyLine, IsFaulty}
+use Rattle.resp.specs.LineWords.{HasWords}
 use Rattle.resp.specs.Readings.{Reading, IsReading, with_more}
 use Rattle.resp.specs.Readings.Reading.{command, nothing, part, faulty}
-use Rattle.resp.proofs.StreamLemmas.{heads, tails, front_is, one_cut, front_goes_on}
+use Rattle.resp.proofs.StreamLemmas.{heads, tails, front_is, one_cut}
 use Rattle.resp.proofs.NumberLemmas.{one_number}
 use Rattle.resp.proofs.ArrayLemmas.{no_sign}
-use Rattle.resp.proofs.WholeLemmas.{more_words, one_count, array_parts, star, front_no_star, line_no_star, line_parts, one_split, commands, command_ignored, ignored, array_whole, whole_kind, has_newline, begun_whole}
+use Rattle.resp.proofs.WholeLemmas.{more_words, one_count, array_parts, star, front_no_star, line_no_star, line_parts, one_split, commands, command_ignored, ignored, array_whole, whole_kind, begun_whole}
 
 -- ---- the four kinds of faults
 
@@ -24,7 +25,7 @@ abbrev WordAt : List ℕ → RespFault → Type 0
 WordAt bytes fault = HasFaultyWord fault bytes
 
 abbrev BigAt : List ℕ → RespFault → Type 0
-BigAt bytes fault = (fault ≡ TooBigLine) × ((line : List ℕ) × (rest : List ℕ) × IsLineFront line × (LINE_BYTES < length line) × (bytes ≡ line ++ rest))
+BigAt bytes fault = (fault ≡ TooBigLine) × ((line : List ℕ) × (rest : List ℕ) × IsOpenLine line × (LINE_BYTES < length line) × (bytes ≡ line ++ rest))
 
 abbrev LineAt : List ℕ → RespFault → Type 0
 LineAt bytes fault = (line : List ℕ) × (rest : List ℕ) × IsLine line (line ++ 10 ∷ []) × (bytes ≡ line ++ 10 ∷ rest) × IsFaultyLine fault line
@@ -171,7 +172,7 @@ word_starred : (bytes : List ℕ) (fault : RespFault) → WordAt bytes fault →
 word_starred bytes fault (room, head, rest, (count, ws, less, within, all, fill, is), e, bad) = (number_line count ++ (words_bytes ws ++ rest), e ∙ open_parts count ws head rest is)
 
 starred_big : (bytes : List ℕ) (fault : RespFault) → Starred bytes → BigAt bytes fault → ⊥
-starred_big bytes fault (z, at) (same, (line, rest, front, long, e)) = front_no_star line rest z front (omega (arith, long)) (sym e ∙ at)
+starred_big bytes fault (z, at) (same, (line, rest, front, long, e)) = front_no_star line rest z front.1 (omega (arith, long)) (sym e ∙ at)
 
 starred_line : (bytes : List ℕ) (fault : RespFault) → Starred bytes → LineAt bytes fault → ⊥
 starred_line bytes fault (z, at) (line, rest, (front, short, is), e, bad) = line_no_star line rest z front (sym e ∙ at)
@@ -181,11 +182,17 @@ bad_word bytes f g (same, (rest, at, never)) (room, head, more, (count, ws, less
     let inner = tails 42 42 rest (number_line count ++ (words_bytes ws ++ more)) (sym at ∙ e ∙ open_parts count ws head more is) in
     never [] (number_line count) (words_bytes ws ++ more) (inl (count, within, refl)) (append-nil rest ∙ inner)
 
+-- the longer of two fronts begins with the shorter and its next byte
+longer : (a x b y : List ℕ) (c : ℕ) → length b < length a → a ++ x ≡ b ++ c ∷ y → (more : List ℕ) × (a ≡ b ++ c ∷ more)
+longer [] x b y c less e = absurd (omega (arith, less))
+longer (d ∷ a) x [] y c less e = (a, ap (λ (n : ℕ). n ∷ a) (heads d c (a ++ x) y e))
+longer (d ∷ a) x (b ∷ bs) y c less e =
+    let (more, is) = longer a x bs y c (omega (arith, less)) (tails d b (a ++ x) (bs ++ c ∷ y) e) in
+    (more, ap (λ (n : ℕ). n ∷ a) (heads d b (a ++ x) (bs ++ c ∷ y) e) ∙ ap (λ (t : List ℕ). b ∷ t) is)
+
 big_line : (bytes line x : List ℕ) (fault : RespFault) → BigAt bytes fault → IsLine line (line ++ 10 ∷ []) → bytes ≡ line ++ 10 ∷ x → ⊥
 big_line bytes line x fault (same, (long, rest, front, more, e)) (other, short, is) f =
-    let (after, parts) = front_goes_on is_newline long rest line (10 ∷ x) front.0 refl (sym e ∙ f) in
-    let len = ap length parts in
-    omega (arith, len, more, short, length-append long after)
+    let (after, parts) = longer long rest line x 10 (omega (arith, more, short)) (sym e ∙ f) in front.0 line after other.0 parts
 
 one_line_fault : (f g : RespFault) (line : List ℕ) → IsFaultyLine f line → IsFaultyLine g line → f ≡ g
 one_line_fault BadCount g line is js = absurd is
@@ -213,7 +220,7 @@ one_line_fault TooManyWords TooBigLine line is js = absurd js
 
 same_line : (bytes : List ℕ) (f g : RespFault) → LineAt bytes f → LineAt bytes g → f ≡ g
 same_line bytes f g (line, rest, (front, short, is), e, bad) (other, more, (too, few, js), h, worse) =
-    let (same, left) = one_cut is_newline line (10 ∷ rest) other (10 ∷ more) front.0 refl too.0 refl (sym e ∙ h) in
+    let (same, left) = one_cut ends_line line (10 ∷ rest) other (10 ∷ more) front.0 refl too.0 refl (sym e ∙ h) in
     one_line_fault f g line bad (subst (IsFaultyLine g) (sym same) worse)
 
 -- ---- one fault, and no whole
@@ -273,7 +280,7 @@ kind_line bytes a line x words fault (inr (inl bad)) (front, short, is) has few 
     let (z, at) = word_starred bytes fault bad in line_no_star line x z front (sym (line_parts line a x is) ∙ sym e ∙ at)
 kind_line bytes a line x words fault (inr (inr (inl bad))) (front, short, is) has few e = big_line bytes line x fault bad (front, short, refl) (e ∙ line_parts line a x is)
 kind_line bytes a line x words fault (inr (inr (inr (other, rest, (too, long, js), h, bad)))) (front, short, is) has few e =
-    let (same, left) = one_cut is_newline other (10 ∷ rest) line (10 ∷ x) too.0 refl front.0 refl (sym h ∙ e ∙ line_parts line a x is) in
+    let (same, left) = one_cut ends_line other (10 ∷ rest) line (10 ∷ x) too.0 refl front.0 refl (sym h ∙ e ∙ line_parts line a x is) in
     line_faulty fault line words (subst (IsFaultyLine fault) same bad) has few
 
 pub no_whole : (bytes a x : List ℕ) (fault : RespFault) → IsFaulty fault bytes → IsWhole a → bytes ≡ a ++ x → ⊥
@@ -331,7 +338,7 @@ begun_faulty bytes fault (inr (front, short)) bad = by_kind (kind bytes fault ba
     by_kind (inr (inl is)) = let (z, at) = word_starred bytes fault is in front.1 z at
     by_kind (inr (inr (inl (same, (line, rest, other, long, e))))) =
         let len = ap length e in omega (arith, len, long, short, length-append line rest)
-    by_kind (inr (inr (inr (line, rest, is, e, worse)))) = has_newline line rest (subst (HasNo is_newline) e front.0)
+    by_kind (inr (inr (inr (line, rest, (other, few, same), e, worse)))) = front.0 line rest other.0 e
 
 -- ---- the laws
 

@@ -2,6 +2,7 @@ pub mod StreamLemmas
 pub mod NumberLemmas
 pub mod WordLemmas
 pub mod ArrayLemmas
+pub mod QuoteLemmas
 pub mod LineLemmas
 pub mod WholeLemmas
 pub mod FaultLemmas

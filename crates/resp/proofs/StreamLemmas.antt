@@ -1,5 +1,5 @@
 -- Fronts of bytes up to a byte of a kind.
-use Rattle.std.proofs.Common.{arith, ◌≡◌, ◌≢◌, ℕ, ◌≤◌, Option, None, Some, IfNone, IfSome, Bool, true, false, List, [], ◌∷◌, ◌++◌, length, drop, refl, ◌==◌, sym, ap, ◌∙◌}
+use Rattle.std.proofs.Common.{arith, ◌≡◌, ◌≢◌, ℕ, ◌≤◌, Option, None, Some, Result, Ok, Err, IfOk, IfNone, IfSome, Bool, true, false, List, [], ◌∷◌, ◌++◌, length, drop, refl, ◌==◌, sym, ap, ◌∙◌}
 use Rattle.std.proofs.lemmas.Bool.Decides.{nat_tests}
 use Rattle.std.proofs.lemmas.List.Elements.{All-head, All-tail}
 use Rattle.resp.specs.Streams.{IsFrontOf, NeverBegins, StopsAt, HasNo}
@@ -90,3 +90,11 @@ both_to_come bytes none = (newline, (omega arith, ap (λ (t : List ℕ). t ++ ne
 pub if_some : {A : Type 0} (r : Option A) (P Q : A → Type 0) → ((x : A) → P x → Q x) → IfSome r P → IfSome r Q
 if_some None P Q f h = tt
 if_some (Some x) P Q f h = f x h
+
+pub if_no : {A : Type 0} (r : Option A) (P Q : Type 0) → (P → Q) → IfNone r P → IfNone r Q
+if_no None P Q f h = f h
+if_no (Some x) P Q f h = tt
+
+pub if_ok_no : {A E : Type 0} (r : Result (Option A) E) (P Q : Type 0) → (P → Q) → IfOk r (λ read. IfNone read P) → IfOk r (λ read. IfNone read Q)
+if_ok_no (Ok read) P Q f h = if_no read P Q f h
+if_ok_no (Err e) P Q f h = tt

@@ -1,15 +1,14 @@
 -- What begins bytes begins them in one way.
-use Rattle.std.proofs.Common.{arith, ◌≡◌, ◌⊎◌, inl, inr, ℕ, ◌<◌, ◌≤◌, ◌^◌, false, List, [], ◌∷◌, ◌++◌, length, refl, sym, ap, subst, ◌∙◌, append_assoc, append-nil, All}
+use Rattle.std.proofs.Common.{arith, ◌≡◌, ◌≢◌, ◌⊎◌, inl, inr, ℕ, ◌<◌, ◌≤◌, ◌^◌, List, [], ◌∷◌, ◌++◌, length, refl, sym, ap, subst, ◌∙◌, append_assoc, append-nil, All}
 use Rattle.std.proofs.lemmas.List.{length-append}
 use Rattle.std.proofs.lemmas.List.Elements.{All-head, All-tail}
 use Rattle.resp.specs.declared.limits.TheConstants.{COMMAND_WORDS}
-use Rattle.resp.specs.Streams.{HasNo}
-use Rattle.resp.specs.Grammar.{newline, number_line, word_bytes, words_bytes, array_bytes, is_newline, IsWord, IsArray, IsEmptyArray, IsSomeArray, IsLineFront, IsLine, HasWords, AreBlanks, Spells, IsIgnored, IsWhole, IsBegun}
-use Rattle.resp.specs.Reading.{is_no_blank}
-use Rattle.resp.proofs.StreamLemmas.{heads, tails, front_is, one_cut, true_or_false}
+use Rattle.resp.specs.Grammar.{newline, number_line, word_bytes, words_bytes, array_bytes, ends_line, IsWord, IsArray, IsEmptyArray, IsSomeArray, IsLineFront, IsLine, Spells, IsIgnored, IsWhole, IsBegun}
+use Rattle.resp.specs.LineWords.{is_no_blank, BeginsWord, HasWords, AreBlanks}
+use Rattle.resp.proofs.StreamLemmas.{heads, tails, front_is, one_cut}
 use Rattle.resp.proofs.NumberLemmas.{one_number}
 use Rattle.resp.proofs.ArrayLemmas.{no_sign}
-use Rattle.resp.proofs.LineLemmas.{no_others, blanks_after, text_stops, text_no_blanks, one_text}
+use Rattle.resp.proofs.LineLemmas.{no_others, blanks_after, word_no_blanks, one_begun}
 
 -- ---- words
 
@@ -81,9 +80,9 @@ star a (inr (inr (n, from, within, is))) = (45 ∷ number_line n, is)
 
 -- ---- lines
 
-pub front_no_star : (line x z : List ℕ) → IsLineFront line → 1 ≤ length line → line ++ x ≡ 42 ∷ z → ⊥
+pub front_no_star : (line x z : List ℕ) → ((rest : List ℕ) → line ≢ 42 ∷ rest) → 1 ≤ length line → line ++ x ≡ 42 ∷ z → ⊥
 front_no_star [] x z front some e = absurd (omega (arith, some))
-front_no_star (b ∷ line) x z front some e = front.1 line (ap (λ (c : ℕ). c ∷ line) (heads b 42 (line ++ x) z e))
+front_no_star (b ∷ line) x z front some e = front line (ap (λ (c : ℕ). c ∷ line) (heads b 42 (line ++ x) z e))
 
 pub line_no_star : (line x z : List ℕ) → IsLineFront line → line ++ 10 ∷ x ≡ 42 ∷ z → ⊥
 line_no_star [] x z front e = let bad = heads 10 42 x z e in absurd (omega (arith, bad))
@@ -99,18 +98,18 @@ array_line a line b x y is (front, short, js) e =
 
 pub lines : (l m a b x y : List ℕ) → IsLine l a → IsLine m b → a ++ x ≡ b ++ y → (l ≡ m) × (x ≡ y)
 lines l m a b x y (front, short, is) (other, too, js) e =
-    let (same, left) = one_cut is_newline l (10 ∷ x) m (10 ∷ y) front.0 refl other.0 refl (sym (line_parts l a x is) ∙ e ∙ line_parts m b y js) in
+    let (same, left) = one_cut ends_line l (10 ∷ x) m (10 ∷ y) front.0 refl other.0 refl (sym (line_parts l a x is) ∙ e ∙ line_parts m b y js) in
     (same, tails 10 10 x y left)
 
 pub one_split : (line : List ℕ) (v w : List (List ℕ)) → HasWords line v → HasWords line w → v ≡ w
 one_split line [] [] has too = refl
-one_split line [] (w ∷ ws) has (blanks, text, rest, are, is, stops, e, later) =
-    absurd (text_no_blanks text w rest is (blanks_after blanks (text ++ rest) (subst AreBlanks e has)))
-one_split line (v ∷ vs) [] (blanks, text, rest, are, is, stops, e, later) too =
-    absurd (text_no_blanks text v rest is (blanks_after blanks (text ++ rest) (subst AreBlanks e too)))
-one_split line (v ∷ vs) (w ∷ ws) (blanks, text, rest, are, is, stops, e, later) (gap, other, end, all, js, ends, f, last) =
-    let (same, left) = one_cut is_no_blank blanks (text ++ rest) gap (other ++ end) (no_others blanks are) (text_stops text v rest is) (no_others gap all) (text_stops other w end js) (sym e ∙ f) in
-    let (word, more) = one_text text v rest other w end is stops js ends left in
+one_split line [] (w ∷ ws) has (blanks, bytes, rest, are, start, begins, e, later) =
+    absurd (word_no_blanks bytes w rest start begins (blanks_after blanks bytes (subst AreBlanks e has)))
+one_split line (v ∷ vs) [] (blanks, bytes, rest, are, start, begins, e, later) too =
+    absurd (word_no_blanks bytes v rest start begins (blanks_after blanks bytes (subst AreBlanks e too)))
+one_split line (v ∷ vs) (w ∷ ws) (blanks, bytes, rest, are, start, begins, e, later) (gap, others, end, all, stops, is, f, last) =
+    let (same, left) = one_cut is_no_blank blanks bytes gap others (no_others blanks are) start (no_others gap all) stops (sym e ∙ f) in
+    let (word, more) = one_begun bytes v rest w end begins (subst (λ (t : List ℕ). BeginsWord t w end) (sym left) is) in
     ap (λ (u : List ℕ). u ∷ vs) word ∙ ap (λ (t : List (List ℕ)). w ∷ t) (one_split rest vs ws later (subst (λ (t : List ℕ). HasWords t ws) (sym more) last))
 
 -- ---- all that may begin a stream
@@ -155,17 +154,13 @@ whole_kind a (inl (words, inr (line, are, is, has))) = inr (line, is, (words, ha
 whole_kind a (inr (inl is)) = inl (inr is)
 whole_kind a (inr (inr (line, is, has))) = inr (line, is, ([], has, omega arith))
 
-pub has_newline : (line x : List ℕ) → HasNo is_newline (line ++ 10 ∷ x) → ⊥
-has_newline [] x none = true_or_false (is_newline 10) refl (All-head (λ b. is_newline b ≡ false) 10 x none)
-has_newline (b ∷ line) x none = has_newline line x (All-tail (λ c. is_newline c ≡ false) b (line ++ 10 ∷ x) none)
-
 pub begun_whole : (bytes a x : List ℕ) → IsBegun bytes → IsWhole a → bytes ≡ a ++ x → ⊥
 begun_whole bytes a x (inl (more, (some, is))) whole e =
     let same : a ++ (x ++ more) ≡ (bytes ++ more) ++ [] = sym (append_assoc a x more) ∙ ap (λ (t : List ℕ). t ++ more) (sym e) ∙ sym (append-nil (bytes ++ more)) in
     let none = ap length (wholes a (bytes ++ more) (x ++ more) [] whole (array_whole (bytes ++ more) is) same) in
     omega (arith, none, some, length-append x more)
-begun_whole bytes a x (inr (front, short)) whole e = by_kind (whole_kind a whole)
+begun_whole bytes a x (inr (waits, short)) whole e = by_kind (whole_kind a whole)
   where
     by_kind : IsSomeArray a ⊎ ((line : List ℕ) × IsLine line a × ((words : List (List ℕ)) × HasWords line words × (length words ≤ COMMAND_WORDS))) → ⊥
-    by_kind (inl is) = let (z, at) = star a is in front.1 (z ++ x) (e ∙ ap (λ (t : List ℕ). t ++ x) at)
-    by_kind (inr (line, (other, few, is), has)) = has_newline line x (subst (HasNo is_newline) (e ∙ line_parts line a x is) front.0)
+    by_kind (inl is) = let (z, at) = star a is in waits.1 (z ++ x) (e ∙ ap (λ (t : List ℕ). t ++ x) at)
+    by_kind (inr (line, (other, few, is), has)) = waits.0 line x other.0 (e ∙ line_parts line a x is)

@@ -1,10 +1,11 @@
 -- How a command is spelled, and which bytes begin none.
-use Rattle.std.specs.Prelude.{◌≡◌, ◌≢◌, ℕ, ◌+◌, ◌≤◌, ◌<◌, ◌^◌, ◌⊎◌, ◌||◌, Bool, true, nat_eq, List, [], ◌∷◌, ◌++◌, length, sum_by, flat_map, map, All, decimal}
+use Rattle.std.specs.Prelude.{◌≡◌, ◌≢◌, ℕ, ◌+◌, ◌≤◌, ◌<◌, ◌^◌, ◌⊎◌, ◌||◌, Bool, nat_eq, List, [], ◌∷◌, ◌++◌, length, sum_by, flat_map, map, All, decimal}
 use Rattle.std.specs.Borrow.{Bor}
 use Rattle.resp.specs.declared.limits.TheConstants.{COMMAND_WORDS, COMMAND_BYTES, WORD_BYTES, LINE_BYTES}
 use Rattle.resp.specs.declared.fault.RespFault.{RespFault}
 use Rattle.resp.specs.declared.fault.RespFault.TheVariants.{BadCount, NoDollar, BadLength, TooBigCommand, NoNewline, TooBigLine, UnbalancedQuotes, TooManyWords}
-use Rattle.resp.specs.Streams.{IsFrontOf, NeverBegins, StopsAt, HasNo}
+use Rattle.resp.specs.Streams.{IsFrontOf, NeverBegins, HasNo}
+use Rattle.resp.specs.LineWords.{HasWords}
 
 -- the words that slices lend
 abbrev pub texts : List (Bor (List ℕ)) → List (List ℕ)
@@ -52,49 +53,18 @@ IsEmptyArray bytes =
 
 -- ---- lines
 
-abbrev pub is_newline : ℕ → Bool
-is_newline b = nat_eq b 10
-
--- a space, a tab or a `\r`
-abbrev pub is_blank : ℕ → Bool
-is_blank b = nat_eq b 32 || (nat_eq b 9 || nat_eq b 13)
-
--- `"` or `'`
-abbrev pub is_quote : ℕ → Bool
-is_quote b = nat_eq b 34 || nat_eq b 39
-
--- what ends a word between these quotes, and one without quotes
-abbrev pub ends_quoted : ℕ → ℕ → Bool
-ends_quoted quote b = nat_eq b quote || nat_eq b 92
-
-abbrev pub ends_plain : ℕ → Bool
-ends_plain b = is_blank b || is_quote b
-
--- a word as it stands, with some byte and no blank and no quote
-abbrev pub IsPlain : List ℕ → List ℕ → Type 0
-IsPlain text word = (text ≡ word) × (1 ≤ length word) × HasNo ends_plain word
-
--- a word between two quotes alike, without this quote and without a backslash
-abbrev pub IsQuoted : List ℕ → List ℕ → Type 0
-IsQuoted text word =
-    (quote : ℕ) × (is_quote quote ≡ true) × (text ≡ quote ∷ (word ++ quote ∷ [])) × HasNo (ends_quoted quote) word
-
-abbrev pub IsText : List ℕ → List ℕ → Type 0
-IsText text word = IsPlain text word ⊎ IsQuoted text word
-
-abbrev pub AreBlanks : List ℕ → Type 0
-AreBlanks bytes = All (λ b. is_blank b ≡ true) bytes
-
--- the line is blanks, then the text of the first word, then a blank or the end, and so on
-abbrev pub HasWords : List ℕ → List (List ℕ) → Type 0
-HasWords line [] = AreBlanks line
-HasWords line (word ∷ words) =
-    (blanks text rest : List ℕ) × AreBlanks blanks × IsText text word × StopsAt is_blank rest
-    × (line ≡ blanks ++ (text ++ rest)) × HasWords rest words
+-- a newline; or a zero byte, after which no newline is found, as by C's `strchr`
+abbrev pub ends_line : ℕ → Bool
+ends_line b = nat_eq b 10 || nat_eq b 0
 
 -- a line's bytes before its newline: they don't begin as an array
 abbrev pub IsLineFront : List ℕ → Type 0
-IsLineFront line = HasNo is_newline line × ((rest : List ℕ) → line ≢ 42 ∷ rest)
+IsLineFront line = HasNo ends_line line × ((rest : List ℕ) → line ≢ 42 ∷ rest)
+
+-- a line whose newline has not come, or is not found after a zero byte
+abbrev pub IsOpenLine : List ℕ → Type 0
+IsOpenLine bytes =
+    ((line rest : List ℕ) → HasNo ends_line line → bytes ≢ line ++ 10 ∷ rest) × ((rest : List ℕ) → bytes ≢ 42 ∷ rest)
 
 -- a line, within the limit
 abbrev pub IsLine : List ℕ → List ℕ → Type 0
@@ -118,9 +88,9 @@ IsSomeArray bytes = ((words : List (List ℕ)) × IsArray words bytes) ⊎ IsEmp
 abbrev pub IsWhole : List ℕ → Type 0
 IsWhole bytes = ((words : List (List ℕ)) × Spells words bytes) ⊎ IsIgnored bytes
 
--- a proper front of an array; or a line that may go on, as its newline and the limit have not come
+-- a proper front of an array; or an open line within the limit
 abbrev pub IsBegun : List ℕ → Type 0
-IsBegun bytes = IsFrontOf IsSomeArray bytes ⊎ (IsLineFront bytes × (length bytes ≤ LINE_BYTES))
+IsBegun bytes = IsFrontOf IsSomeArray bytes ⊎ (IsOpenLine bytes × (length bytes ≤ LINE_BYTES))
 
 -- ---- faults
 
@@ -176,7 +146,7 @@ IsFaulty BadLength bytes = HasFaultyWord BadLength bytes
 IsFaulty TooBigCommand bytes = HasFaultyWord TooBigCommand bytes
 IsFaulty NoNewline bytes = HasFaultyWord NoNewline bytes
 IsFaulty TooBigLine bytes =
-    (line rest : List ℕ) × IsLineFront line × (LINE_BYTES < length line) × (bytes ≡ line ++ rest)
+    (line rest : List ℕ) × IsOpenLine line × (LINE_BYTES < length line) × (bytes ≡ line ++ rest)
 IsFaulty UnbalancedQuotes bytes =
     (line rest : List ℕ) × IsLine line (line ++ 10 ∷ []) × (bytes ≡ line ++ 10 ∷ rest) × IsFaultyLine UnbalancedQuotes line
 IsFaulty TooManyWords bytes =

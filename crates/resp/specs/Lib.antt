@@ -1,4 +1,5 @@
 pub mod Streams
+pub mod LineWords
 pub mod Grammar
 pub mod Readings
 pub mod Reading

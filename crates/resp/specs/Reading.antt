@@ -1,5 +1,5 @@
 -- The results of reading.
-use Rattle.std.specs.Prelude.{◌≡◌, ◌≢◌, ◌+◌, ◌≤◌, ◌<◌, ◌^◌, ℕ, Bool, not, List, ◌∷◌, ◌++◌, length, All, decimal}
+use Rattle.std.specs.Prelude.{◌≡◌, ◌≢◌, ◌+◌, ◌≤◌, ◌<◌, ◌^◌, ℕ, Bool, not, List, ◌++◌, length, All, decimal}
 use Rattle.std.specs.Char.{is_ascii_digit}
 use Rattle.resp.specs.declared.command.Next.{Next}
 use Rattle.resp.specs.declared.command.Next.TheVariants.{Command, Nothing, More}
@@ -8,7 +8,8 @@ use Rattle.resp.specs.declared.fault.NextFault.{NextFault}
 use Rattle.resp.specs.declared.fault.NextFault.TheVariants.{Faulty, NoMemory}
 use Rattle.resp.specs.Streams.{StopsAt, HasNo, IsFrontOf}
 use Rattle.resp.specs.declared.limits.TheConstants.{COMMAND_BYTES, WORD_BYTES}
-use Rattle.resp.specs.Grammar.{number_line, word_bytes, words_bytes, bytes_of, is_blank, ends_plain, ends_quoted, IsWord, IsText, Spells, IsIgnored, IsBegun, IsFaulty, IsFaultyWord}
+use Rattle.resp.specs.Grammar.{number_line, word_bytes, words_bytes, bytes_of, IsWord, Spells, IsIgnored, IsBegun, IsFaulty, IsFaultyWord}
+use Rattle.resp.specs.LineWords.{is_blank, IsInQuotes, BeginsWord}
 
 -- what the bytes begin with, and the words of a command
 abbrev pub Reads : List ℕ → List (List ℕ) → Next → Type 0
@@ -64,20 +65,10 @@ FailsWords count fault bytes =
 abbrev pub CutsBefore : (ℕ → Bool) → List ℕ → List ℕ → List ℕ → Type 0
 CutsBefore is bytes front back = (bytes ≡ front ++ back) × HasNo is front × StopsAt is back
 
-abbrev pub is_no_blank : ℕ → Bool
-is_no_blank b = not (is_blank b)
-
--- the bytes begin with the text of this word, which may end there
-abbrev pub BeginsWord : List ℕ → List ℕ → List ℕ → Type 0
-BeginsWord bytes word rest = (text : List ℕ) × IsText text word × StopsAt is_blank rest × (bytes ≡ text ++ rest)
-
--- the bytes are this word, this quote and the rest
-abbrev pub BeginsQuoted : ℕ → List ℕ → List ℕ → List ℕ → Type 0
-BeginsQuoted quote bytes word rest = HasNo (ends_quoted quote) word × StopsAt is_blank rest × (bytes ≡ word ++ quote ∷ rest)
-
--- the bytes are this word and the rest
-abbrev pub BeginsPlain : List ℕ → List ℕ → List ℕ → Type 0
-BeginsPlain bytes word rest = HasNo ends_plain word × StopsAt is_blank rest × (bytes ≡ word ++ rest)
+-- after plain bytes and a quote come the other bytes of the word, its other quote and the rest
+abbrev pub EndsQuoted : List ℕ → ℕ → List ℕ → List ℕ → List ℕ → Type 0
+EndsQuoted plain quote inside word rest =
+    (quoted : List ℕ) × IsInQuotes quote inside quoted rest × StopsAt is_blank rest × (word ≡ plain ++ quoted)
 
 -- the bytes begin with no word
 abbrev pub NoWord : List ℕ → Type 0

@@ -31,10 +31,10 @@ fn after_positive(bytes: &[u8]) -> Result<Option<&[u8]>, NoNumber>
 }
 
 /// Adds this many words that begin the bytes, and returns the bytes after them, or none if they are not whole yet.
-fn words_at<'b>(
+fn words_at<'b: 'w, 'w>(
     count: u64,
     bytes: &'b [u8],
-    words: &mut Vec<&'b [u8]>,
+    words: &mut Vec<&'w [u8]>,
 ) -> Result<Option<&'b [u8]>, NextFault>
     requires { words.old.items ≡ [] }
     ensures len { IfOk result (λ next. IfSome next (λ _. length words.new.items ≡ count)) }
@@ -73,7 +73,10 @@ fn empty_array_at<'b>(digits: &'b [u8]) -> Result<Next<'b>, NextFault>
 }
 
 /// Reads the array after its `*`.
-fn full_array_at<'b>(head: &'b [u8], words: &mut Vec<&'b [u8]>) -> Result<Next<'b>, NextFault>
+fn full_array_at<'b: 'w, 'w>(
+    head: &'b [u8],
+    words: &mut Vec<&'w [u8]>,
+) -> Result<Next<'b>, NextFault>
     requires none { words.old.items ≡ [] }
     requires sign { (digits : List ℕ) → head.now ≢ 45 ∷ digits }
     ensures read { IfOk result (λ next. Reads (42 ∷ head.now) (texts words.new.items) next) }
@@ -95,7 +98,10 @@ fn full_array_at<'b>(head: &'b [u8], words: &mut Vec<&'b [u8]>) -> Result<Next<'
 }
 
 /// Reads the array after its `*`.
-pub fn array_at<'b>(head: &'b [u8], words: &mut Vec<&'b [u8]>) -> Result<Next<'b>, NextFault>
+pub fn array_at<'b: 'w, 'w>(
+    head: &'b [u8],
+    words: &mut Vec<&'w [u8]>,
+) -> Result<Next<'b>, NextFault>
     requires { words.old.items ≡ [] }
     ensures read { IfOk result (λ next. Reads (42 ∷ head.now) (texts words.new.items) next) }
     ensures err { IfErr result (λ fault. Refuses (42 ∷ head.now) fault) }

@@ -7,6 +7,7 @@ use crate::array::array_at;
 use crate::fault::NextFault;
 use crate::front::after;
 use crate::line::line_at;
+use bumpalo::Bump;
 
 /// What a stream begins with.
 #[derive(Clone, Copy, Debug, PartialEq, Eq)]
@@ -19,16 +20,20 @@ pub enum Next<'b> {
     More,
 }
 
-/// Reads the command that the bytes begin with, and makes the list its words. The words that were in the list are lost.
-/// Returns `Faulty` if no command can begin the bytes, whatever follows them, and `NoMemory` if a request for memory is
+/// Reads the command that the bytes begin with, and makes the list its words. The words that were in the list are lost. A word with quotes
+/// is put into the arena. Returns `Faulty` if no command can begin the bytes, whatever follows them, and `NoMemory` if a request for memory is
 /// refused; then the list may have any words.
-pub fn next_command<'b>(bytes: &'b [u8], words: &mut Vec<&'b [u8]>) -> Result<Next<'b>, NextFault>
+pub fn next_command<'b: 'w, 'w>(
+    bytes: &'b [u8],
+    arena: &'w Bump,
+    words: &mut Vec<&'w [u8]>,
+) -> Result<Next<'b>, NextFault>
     ensures read { IfOk result (λ next. Reads bytes.now (texts words.new.items) next) }
     ensures err { IfErr result (λ fault. Refuses bytes.now fault) }
 {
     words.clear();
     match after(bytes, b'*') {
         Some(head) => array_at(head, words),
-        None => line_at(bytes, words),
+        None => line_at(bytes, arena, words),
     }
 }

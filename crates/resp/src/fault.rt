@@ -21,7 +21,7 @@ pub enum RespFault {
     NoNewline,
     /// A line is above the limit.
     TooBigLine,
-    /// The quotes in a line aren't balanced, or there is a backslash between them.
+    /// The quotes in a line aren't balanced, or there is more of a word after them.
     UnbalancedQuotes,
     /// A line has more words than the limit.
     TooManyWords,

@@ -3,7 +3,7 @@
 //! The promise to the layers above: `next_command` gives the reading that the bytes have (`read`, `err`). No bytes have two
 //! (`laws::one_reading`), and a command or a fault stays as it is, whatever follows (`laws::readings_stay`). A reply's bytes
 //! are its spelling. `specs/Grammar.antt` says how commands are spelled, `specs/Replies.antt` how replies are. Only the
-//! list of words takes memory. Nothing waits.
+//! list of words takes memory, and words with quotes. Nothing waits.
 #![tactic(auto)]
 
 mod array;
@@ -14,10 +14,9 @@ pub mod laws;
 mod limits;
 mod line;
 mod number;
+mod quotes;
 mod reply;
 mod short;
-#[cfg(test)]
-mod tests;
 mod word;
 
 pub use command::{Next, next_command};

@@ -1,17 +1,20 @@
 //! Commands in a line.
-ghost use Rattle.std.specs.Prelude.{◌≡◌, ◌≢◌, ◌++◌, ◌∷◌, ◌↔◌, ◌≤◌, [], ℕ, List, length, IsTrue, IfOk, IfErr, IfSome, IfNone, OnOk};
+ghost use Rattle.std.specs.Prelude.{◌≡◌, ◌≢◌, ◌++◌, ◌∷◌, ◌↔◌, ◌≤◌, [], ℕ, List, true, length, IsTrue, IfOk, IfErr, IfSome, IfNone, OnOk};
 ghost use Rattle.resp.specs.Streams.{StopsAt};
-ghost use Rattle.resp.specs.Grammar.{texts, is_blank as is_a_blank, HasWords, IsFaultyLine};
-ghost use Rattle.resp.specs.Reading.{Reads, Refuses, IfFaulty, BeginsWord, BeginsQuoted, BeginsPlain, NoWord, is_no_blank};
+ghost use Rattle.resp.specs.Grammar.{texts, IsFaultyLine, IsOpenLine};
+ghost use Rattle.resp.specs.LineWords.{is_blank as is_a_blank, is_no_blank, is_quote as is_a_quote, BeginsWord, HasWords};
+ghost use Rattle.resp.specs.Reading.{Reads, Refuses, IfFaulty, EndsQuoted, NoWord};
 
 use crate::command::Next;
 use crate::fault::{NextFault, RespFault};
-use crate::front::{
-    after, after_blanks, before_newline, first_of, is_blank, is_quote, plain_word, quoted_word,
-};
+use crate::front::{after, after_blanks, before_end, first_of, is_blank, plain_word, quote_at};
 use crate::limits::{COMMAND_WORDS, LINE_BYTES};
+use crate::quotes::quoted_at;
+use bumpalo::Bump;
+use bumpalo::collections::into_bump_slice;
+use std::alloc::AllocError;
 
-/// Tests whether a word may end before these bytes.
+/// Tests whether a word in quotes may end before these bytes.
 fn is_end(bytes: &[u8]) -> bool
     ensures { IsTrue result ↔ StopsAt is_a_blank bytes.now }
 {
@@ -21,46 +24,50 @@ fn is_end(bytes: &[u8]) -> bool
     }
 }
 
-/// Returns the word before the other quote, and the bytes after that, if a word may end there.
-fn word_in_quotes(bytes: &[u8], quote: u8) -> Option<(&[u8], &[u8])>
-    ensures some { IfSome result (λ r. BeginsQuoted quote bytes.now r.0.now r.1.now) }
-    ensures none { IfNone result ((word rest : List ℕ) → BeginsQuoted quote bytes.now word rest → ⊥) }
+/// Returns the word that begins with these plain bytes and then is in quotes, and the bytes after it, if it may end there.
+fn word_in_quotes<'b, 'w>(
+    plain: &[u8],
+    quote: u8,
+    inside: &'b [u8],
+    arena: &'w Bump,
+) -> Result<Option<(&'w [u8], &'b [u8])>, AllocError>
+    requires { is_a_quote quote ≡ true }
+    ensures some { IfOk result (λ read. IfSome read (λ r. EndsQuoted plain.now quote inside.now r.0.now r.1.now)) }
+    ensures none { IfOk result (λ read. IfNone read ((word rest : List ℕ) → EndsQuoted plain.now quote inside.now word rest → ⊥)) }
 {
-    let (word, tail) = quoted_word(bytes, quote);
-    let rest = after(tail, quote)?;
+    let mut word = Vec::from_slice(arena, plain)?;
+    let Some(rest) = quoted_at(inside, quote, &mut word)? else {
+        return Ok(None);
+    };
     if !is_end(rest) {
-        return None;
+        return Ok(None);
     }
-    Some((word, rest))
+    Ok(Some((into_bump_slice(word), rest)))
 }
 
-/// Returns the bytes before a blank or a quote, and those after, if a word may end there.
-fn word_without_quotes(bytes: &[u8]) -> Option<(&[u8], &[u8])>
-    ensures some { IfSome result (λ r. BeginsPlain bytes.now r.0.now r.1.now) }
-    ensures none { IfNone result ((word rest : List ℕ) → BeginsPlain bytes.now word rest → ⊥) }
+/// Returns the word that the bytes begin with, and the bytes after it. A word with quotes is in the arena.
+fn word_of<'b: 'w, 'w>(
+    bytes: &'b [u8],
+    arena: &'w Bump,
+) -> Result<Option<(&'w [u8], &'b [u8])>, AllocError>
+    requires some { 1 ≤ length bytes.now }
+    requires start { StopsAt is_no_blank bytes.now }
+    ensures some { IfOk result (λ read. IfSome read (λ r. BeginsWord bytes.now r.0.now r.1.now)) }
+    ensures none { IfOk result (λ read. IfNone read (NoWord bytes.now)) }
 {
-    let (word, rest) = plain_word(bytes);
-    if !is_end(rest) {
-        return None;
+    let (plain, tail) = plain_word(bytes);
+    match quote_at(tail) {
+        Some((quote, inside)) => word_in_quotes(plain, quote, inside, arena),
+        None => Ok(Some((plain, tail))),
     }
-    Some((word, rest))
-}
-
-/// Returns the word that the bytes begin with, and the bytes after its text.
-fn word_of(bytes: &[u8]) -> Option<(&[u8], &[u8])>
-    requires { StopsAt is_no_blank bytes.now }
-    ensures some { IfSome result (λ r. BeginsWord bytes.now r.0.now r.1.now) }
-    ensures none { IfNone result (NoWord bytes.now) }
-{
-    let (first, tail) = first_of(bytes)?;
-    if is_quote(first) {
-        return word_in_quotes(tail, first);
-    }
-    word_without_quotes(bytes)
 }
 
 /// Adds the words of the line.
-fn split_line<'b>(line: &'b [u8], words: &mut Vec<&'b [u8]>) -> Result<(), NextFault>
+fn split_line<'b: 'w, 'w>(
+    line: &'b [u8],
+    arena: &'w Bump,
+    words: &mut Vec<&'w [u8]>,
+) -> Result<(), NextFault>
     requires { words.old.items ≡ [] }
     ensures ok { OnOk result (HasWords line.now (texts words.new.items)) }
     ensures err { IfErr result (λ fault. IfFaulty fault (λ f. IsFaultyLine f line.now)) }
@@ -68,7 +75,7 @@ fn split_line<'b>(line: &'b [u8], words: &mut Vec<&'b [u8]>) -> Result<(), NextF
     let (_, first) = after_blanks(line);
     let mut rest = first;
     while !rest.is_empty() {
-        let Some((word, tail)) = word_of(rest) else {
+        let Some((word, tail)) = word_of(rest, arena)? else {
             return Err(NextFault::Faulty(RespFault::UnbalancedQuotes));
         };
         words.reserve(1)?;
@@ -79,21 +86,37 @@ fn split_line<'b>(line: &'b [u8], words: &mut Vec<&'b [u8]>) -> Result<(), NextF
     Ok(())
 }
 
+/// Reads a line whose newline is not there.
+fn open_line_at<'b>(bytes: &'b [u8]) -> Result<Next<'b>, NextFault>
+    requires { IsOpenLine bytes.now }
+    ensures read { (words : List (List ℕ)) → IfOk result (λ next. Reads bytes.now words next) }
+    ensures err { IfErr result (λ fault. Refuses bytes.now fault) }
+{
+    if bytes.len() > LINE_BYTES {
+        return Err(NextFault::Faulty(RespFault::TooBigLine));
+    }
+    Ok(Next::More)
+}
+
 /// Reads the command of the line that begins the bytes.
-pub fn line_at<'b>(bytes: &'b [u8], words: &mut Vec<&'b [u8]>) -> Result<Next<'b>, NextFault>
+pub fn line_at<'b: 'w, 'w>(
+    bytes: &'b [u8],
+    arena: &'w Bump,
+    words: &mut Vec<&'w [u8]>,
+) -> Result<Next<'b>, NextFault>
     requires none { words.old.items ≡ [] }
     requires line { (rest : List ℕ) → bytes.now ≢ 42 ∷ rest }
     ensures read { IfOk result (λ next. Reads bytes.now (texts words.new.items) next) }
     ensures err { IfErr result (λ fault. Refuses bytes.now fault) }
 {
-    let (line, tail) = before_newline(bytes);
+    let (line, tail) = before_end(bytes);
+    let Some(rest) = after(tail, b'\n') else {
+        return open_line_at(bytes);
+    };
     if line.len() > LINE_BYTES {
         return Err(NextFault::Faulty(RespFault::TooBigLine));
     }
-    let Some(rest) = after(tail, b'\n') else {
-        return Ok(Next::More);
-    };
-    if let Err(fault) = split_line(line, words) {
+    if let Err(fault) = split_line(line, arena, words) {
         return Err(fault);
     }
     if words.is_empty() {

@@ -2,7 +2,7 @@
 use Rattle.std.proofs.Common.{length}
 use Rattle.resp.specs.Streams.{StopsAt}
 use Rattle.resp.specs.Grammar.{texts}
-use Rattle.resp.specs.Reading.{is_no_blank}
+use Rattle.resp.specs.LineWords.{is_no_blank}
 use Rattle.resp.proofs.LineLemmas.{GoesOn}
 use Rattle.resp.proofs.line.split_line.Given as goal
 

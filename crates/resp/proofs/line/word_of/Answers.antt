@@ -1,18 +1,12 @@
--- words with quotes and without
-use Rattle.std.proofs.Common.{sym, ◌∙◌}
-use Rattle.resp.specs.Reading.{BeginsWord, BeginsQuoted, BeginsPlain}
-use Rattle.resp.proofs.StreamLemmas.{if_some}
-use Rattle.resp.proofs.LineLemmas.{begins_quoted, begins_plain}
+-- a word whose quotes have no end
+use Rattle.std.proofs.Common.{ℕ, List}
+use Rattle.resp.specs.Reading.{EndsQuoted, NoWord}
+use Rattle.resp.proofs.StreamLemmas.{if_ok_no}
+use Rattle.resp.proofs.LineLemmas.{no_quoted}
 use Rattle.resp.proofs.line.word_of.Goals as goal
 
-pub returns-then-is_quote-clause-some : goal.returns-then-is_quote-clause-some
-returns-then-is_quote-clause-some c =
-    let bytes = c.args.bytes.now in
-    if_some c.word_in_quotes.result (λ r. BeginsQuoted c.in_ok-first.first c.in_ok-first.tail.now r.0.now r.1.now) (λ r. BeginsWord bytes r.0.now r.1.now)
-    (λ r h. begins_quoted bytes c.in_ok-first.tail.now r.0.now r.1.now c.in_ok-first.first c.in_ok-first.ensures.some (sym c.is_quote.ensures ∙ c.if-is_quote.true) h) c.word_in_quotes.ensures.some
-
-pub returns-clause-some : goal.returns-clause-some
-returns-clause-some c =
-    let bytes = c.args.bytes.now in
-    if_some c.word_without_quotes.result (λ r. BeginsPlain bytes r.0.now r.1.now) (λ r. BeginsWord bytes r.0.now r.1.now)
-    (λ r h. begins_plain bytes c.in_ok-first.tail.now r.0.now r.1.now c.in_ok-first.first c.requires c.in_ok-first.ensures.some h) c.word_without_quotes.ensures.some
+pub returns-in-Some-clause-none : goal.returns-in-Some-clause-none
+returns-in-Some-clause-none c =
+    let cut = c.plain_word in
+    if_ok_no c.word_in_quotes.result ((word rest : List ℕ) → EndsQuoted cut.result.0.now c.in-Some.quote c.in-Some.inside.now word rest → ⊥) (NoWord c.args.bytes.now)
+    (no_quoted c.args.bytes.now cut.result.0.now cut.result.1.now c.in-Some.inside.now c.in-Some.quote cut.ensures c.in-Some.ensures.is c.in-Some.ensures.some) c.word_in_quotes.ensures.none

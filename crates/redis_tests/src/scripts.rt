@@ -1,8 +1,8 @@
 //! Scripts that are loaded, refused and found.
-use crate::{
+use program_registry::Registry;
+use redis_scripts::{
     LockAct, Method, ReplyKind, Script, ScriptFault, Scripts, digest_in, digest_of, hex_of,
 };
-use program_registry::Registry;
 use std::alloc::Global;
 use std::sync::Wait;
 use std::test::Fail;
