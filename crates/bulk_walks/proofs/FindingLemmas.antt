@@ -1,9 +1,7 @@
 -- A worker's loop that collects.
 use Rattle.std.proofs.Common.{◌≡◌, ◌≢◌, ℕ, ◌+◌, ◌^◌, ◌%◌, ◌<◌, ◌≤◌, List, [], ◌∷◌, ◌++◌, inl, inr, refl, sym, ap, ◌∙◌, subst, arith, length, sum_by}
 use Rattle.std.proofs.lemmas.Bool.{cases_eq}
-use Rattle.std.specs.List.Sorted.{IsPermutation}
 use Rattle.std.proofs.lemmas.List.Sums.{sum_by-append}
-use Rattle.std.proofs.lemmas.List.Sorted.{sum_by-IsPermutation}
 use Rattle.stripe_rule.specs.declared.view.View.{View}
 use Rattle.stripe_rule.specs.Gains.{Adds}
 use Rattle.bins.specs.Table.{Entry}
@@ -79,7 +77,3 @@ module _ (all workers worker : ℕ) (v : View GhostAction) where
 pub finds_at : (all n workers worker : ℕ) (v : View GhostAction) (p q : PassState) (es fs : List Entry) → WorkerFinds all n workers worker v p.view es → q ≡ p → fs ≡ es → WorkerFinds all n workers worker v q.view fs
 finds_at all n workers worker v p q es fs f same list =
     subst (λ (p : PassState). WorkerFinds all n workers worker v p.view fs) (sym same) (subst (λ (es : List Entry). WorkerFinds all n workers worker v p.view es) (sym list) f)
-
--- a list that was moved has the same sums
-pub finds_moved : (all n workers worker : ℕ) (v w : View GhostAction) (es fs : List Entry) → WorkerFinds all n workers worker v w es → IsPermutation es fs → WorkerFinds all n workers worker v w fs
-finds_moved all n workers worker v w es fs f moved = record { scans = f.scans; walked = f.walked; stripes = f.stripes; bounded = f.bounded; sum = λ h. sum_by-IsPermutation h es fs moved ∙ f.sum h }

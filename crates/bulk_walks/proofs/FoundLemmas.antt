@@ -1,7 +1,5 @@
 -- From each worker's finds to the team's.
 use Rattle.std.proofs.Common.{◌≡◌, ℕ, ◌^◌, ◌%◌, ◌<◌, List, [], length, map, sum_by, get_or, Result, Ok, Err, IfOk, IsOk, All, refl, sym, ap, ◌∙◌, subst, arith}
-use Rattle.std.specs.List.Sorted.{IsSortedBy}
-use Rattle.std.proofs.lemmas.List.{get_or-map, length-map}
 use Rattle.std.proofs.lemmas.Bool.{false≢true}
 use Rattle.std.proofs.Math.Nat.{mod-lt}
 use Rattle.stripe_rule.specs.declared.view.View.{View}
@@ -11,8 +9,7 @@ use Rattle.bin_stripes.specs.Invoked.{AreOf}
 use Rattle.bin_stripes.specs.Passes.{PassState}
 use Rattle.bpf_model.specs.declared.memory.NoMemory.{NoMemory}
 use Rattle.bulk_walks.specs.Walks.{IsTurn, Walked, Each, IsScan}
-use Rattle.bins.specs.Copies.{comes_before}
-use Rattle.bulk_walks.specs.Turns.{turn_sum, FindsInOrder, EachFinds, FindsAll, found_of}
+use Rattle.bulk_walks.specs.Turns.{turn_sum, WorkerFinds, EachFinds, FindsAll, found_of}
 use Rattle.bulk_walks.proofs.Sums.{turn_sum-same, sums_of_turns, sum_by_mapped}
 use Rattle.bulk_walks.proofs.TeamLemmas.{Turn, together, all_walked, head_of}
 
@@ -22,21 +19,9 @@ record Own (n workers j : ℕ) (r : Result (List Entry) NoMemory) (scans : ℕ �
   bounded : (k : ℕ) → IsTurn n workers j k → length (scans k) < 2 ^ 57
   sum : (h : Entry → ℕ) → sum_by h (found_of r) ≡ turn_sum workers j (λ k. sum_by h (scans k)) n
 
-own_of : (n workers j : ℕ) (v w : View GhostAction) (r : Result (List Entry) NoMemory) → IsOk r → IfOk r (λ found. FindsInOrder n workers j v w found) → (scans : ℕ → List Entry) × (Walked n workers j (Each IsScan scans) v w × Own n workers j r scans)
-own_of n workers j v w (Ok found) ok f = (f.finds.scans, (f.finds.walked, record { stripes = f.finds.stripes; bounded = f.finds.bounded; sum = f.finds.sum }))
+own_of : (n workers j : ℕ) (v w : View GhostAction) (r : Result (List Entry) NoMemory) → IsOk r → IfOk r (λ found. WorkerFinds n n workers j v w found) → (scans : ℕ → List Entry) × (Walked n workers j (Each IsScan scans) v w × Own n workers j r scans)
+own_of n workers j v w (Ok found) ok f = (f.scans, (f.walked, record { stripes = f.stripes; bounded = f.bounded; sum = f.sum }))
 own_of n workers j v w (Err e) ok f = absurd (false≢true ok)
-
-sorted_of : (n workers j : ℕ) (v w : View GhostAction) (r : Result (List Entry) NoMemory) → IsOk r → IfOk r (λ found. FindsInOrder n workers j v w found) → IsSortedBy comes_before (found_of r)
-sorted_of n workers j v w (Ok found) ok f = f.order
-sorted_of n workers j v w (Err e) ok f = absurd (false≢true ok)
-
-all_sorted : (n : ℕ) (before after : List PassState) (rs : List (Result (List Entry) NoMemory)) → PassState → EachFinds n before rs after → All (λ r. IsOk r) rs → All (λ entries. IsSortedBy comes_before entries) (map found_of rs)
-all_sorted n before after rs p did ok = λ i d low.
-    let len = length-map rs found_of in
-    let inside : i < length rs = omega (arith, len, low) in
-    let x = head_of rs (omega (arith, inside)) in
-    subst (λ (es : List Entry). IsSortedBy comes_before es) (sym (get_or-map found_of rs i x d inside))
-    (sorted_of n (length before) i (get_or before i p).view (get_or after i p).view (get_or rs i x) (ok i x inside) (did.done i p x (omega (arith, did.answers, inside))))
 
 pub all_of : (n : ℕ) (before after : List PassState) (rs : List (Result (List Entry) NoMemory)) (d : PassState) (x : Result (List Entry) NoMemory) → 0 < length before → EachFinds n before rs after → All (λ r. IsOk r) rs → (lists : List (List Entry)) → lists ≡ map found_of rs → FindsAll n before after lists
 all_of n before after rs d x some did ok lists are =
@@ -55,7 +40,6 @@ all_of n before after rs d x some did ok lists are =
       bounded = λ k low.
           let had = all.1 (k % W) (mod-lt k some) in
           subst (λ (es : List Entry). length es < 2 ^ 57) (had.1.1 k refl) (had.1.0.1.bounded k (low, refl));
-      order = subst (λ (ls : List (List Entry)). All (λ entries. IsSortedBy comes_before entries) ls) (sym are) (all_sorted n before after rs d did ok);
       sum = λ h. ap (λ (ls : List (List Entry)). sum_by (λ entries. sum_by h entries) ls) are ∙ sum_by_mapped (λ (entries : List Entry). sum_by h entries) found_of rs ∙ sums_of_turns (λ r. sum_by h (found_of r)) rs (λ k. sum_by h (scans k)) n x (omega (arith, did.answers)) (λ j low.
           let had = all.1 j (omega (arith, did.answers)) in
           let same = turn_sum-same W j (λ k. sum_by h (had.0 k)) (λ k. sum_by h (scans k)) n (λ k t. ap (λ (es : List Entry). sum_by h es) (had.1.1 k t.1)) in

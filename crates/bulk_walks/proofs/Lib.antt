@@ -6,6 +6,11 @@ pub mod Order
 pub mod FoundLemmas
 pub mod RunLemmas
 pub mod MergeLemmas
+pub mod FirstLemmas
+pub mod StandLemmas
+pub mod MeaningLemmas
+pub mod OrderLemmas
+pub mod SearchLemmas
 pub mod PairLemmas
 pub mod ReplaceLemmas
 pub mod CountLemmas

@@ -17,8 +17,8 @@ use Rattle.bins.specs.Merged.{entry_at}
 use Rattle.bins.specs.Fronts.{AreBytes}
 use Rattle.bins.proofs.FrontLemmas.{by_front}
 use Rattle.bins.specs.Table.{Entry, by_bytes}
-use Rattle.atomic_methods.specs.declared.walk_reply.WalkReply.{WalkReply}
-use Rattle.bulk_walks.specs.Turns.{items_in}
+use Rattle.bulk_walks.specs.declared.answers.Answers.{Answers}
+use Rattle.bulk_walks.specs.Kept.{kept_of, kept_in, lists_of_all}
 use Rattle.bulk_walks.specs.Merges.{Remains, HasAll, comes_first, lead_of, lefts_of, left_of, lists_of, whole_of, TakesFirst}
 use Rattle.bins.proofs.SameEntries.{one_if, at_key, first, second, above, at_entry, at_itself, none_above, at_most_key, tied_by_one, same_entries}
 use Rattle.bulk_walks.proofs.Sums.{sum_of_ones}
@@ -70,7 +70,7 @@ comes_first-itself [] = refl
 comes_first-itself (x ∷ xs) = ap is_lt (tied_itself nat_list_cmp_total x.0)
 
 -- a key below the first one, and so below all that follow
-below_first : (key : List ℕ) (e x : Entry) → by_bytes key e.0 ≡ Less → is_lt (by_bytes x.0 e.0) ≡ false → by_bytes key x.0 ≡ Less
+pub below_first : (key : List ℕ) (e x : Entry) → by_bytes key e.0 ≡ Less → is_lt (by_bytes x.0 e.0) ≡ false → by_bytes key x.0 ≡ Less
 below_first key e x p h = elim (by_bytes x.0 e.0) as (λ r. by_bytes x.0 e.0 ≡ r → by_bytes key x.0 ≡ Less) [
   | Less ↦ λ q. absurd (false≢true (sym h ∙ ap is_lt q))
   | Equal ↦ λ q. nat_list_cmp_total.antisymm key x.0 ∙ ap ordering_reverse (nat_list_cmp_total.congr x.0 e.0 key q) ∙ sym (nat_list_cmp_total.antisymm key e.0) ∙ p
@@ -252,48 +252,6 @@ module _ (rests : List Remains) (which : ℕ) (inside : which < length rests) (o
       (subst (λ (ls : List (List Entry)). TakesFirst (lefts_of rests) (entry_of old.list position) ls) (sym (map-set left_of rests which new))
       (taken (lefts_of rests) which few least (entry_of old.list position) (left_of new) here))
 
-pub empty_of : (es : List Entry) → length es ≡ 0 → es ≡ []
-empty_of [] none = refl
-empty_of (e ∷ es) none = absurd (omega (arith, none))
-
--- lists that have no entry weigh nothing
-weightless : (h : Entry → ℕ) (lists : List (List Entry)) → sum_by (λ es. length es) lists ≡ 0 → weigh h lists ≡ 0
-weightless h [] none = refl
-weightless h ([] ∷ lists) none = weightless h lists (omega (arith, none, sum_by-cons (λ (es : List Entry). length es) [] lists)) ∙ refl
-weightless h ((e ∷ es) ∷ lists) none = absurd (let c = sum_by-cons (λ (xs : List Entry). length xs) (e ∷ es) lists in omega (arith, none, c))
-
--- if one list has as many entries as all lists, it weighs as much
-pub one_has_all : (h : Entry → ℕ) (lists : List (List Entry)) (position : ℕ) → position < length lists → length (get_or lists position []) ≡ sum_by (λ es. length es) lists
-    → weigh h lists ≡ sum_by h (get_or lists position [])
-one_has_all h [] position low all = absurd (omega (arith, low))
-one_has_all h (es ∷ lists) zero low all =
-    let c = sum_by-cons (λ (xs : List Entry). length xs) es lists in
-    let rest = weightless h lists (omega (arith, all, c)) in
-    let w = sum_by-cons (λ (xs : List Entry). sum_by h xs) es lists in
-    omega (arith, rest, w)
-one_has_all h (es ∷ lists) (suc position) low all =
-    let c = sum_by-cons (λ (xs : List Entry). length xs) es lists in
-    let most = get_or-le-sum_by (λ (xs : List Entry). length xs) lists position [] (omega (arith, low)) in
-    let rest = one_has_all h lists position (omega (arith, low)) (omega (arith, all, c, most)) in
-    let empty : sum_by h es ≡ 0 = ap (λ (xs : List Entry). sum_by h xs) (empty_of es (omega (arith, all, c, most))) in
-    let w = sum_by-cons (λ (xs : List Entry). sum_by h xs) es lists in
-    omega (arith, rest, empty, w)
-
--- so it is the list in key order that has the entries of all
-pub one_is_all : (lists : List (List Entry)) (position : ℕ) → position < length lists → length (get_or lists position []) ≡ sum_by (λ es. length es) lists
-    → T (is_sorted by_bytes (get_or lists position [])) → (all : List Entry) → T (is_sorted by_bytes all) → HasAll all lists → get_or lists position [] ≡ all
-one_is_all lists position low count order all sorted has = sym (same_entries all (get_or lists position []) sorted order (λ h. has h ∙ one_has_all h lists position low count))
-
--- the replies' `given` counts are how many items they have
-pub given_all : (replies : List WalkReply) → All (λ r. r.counts.given ≡ length r.items) replies → sum_by (λ (r : WalkReply). r.counts.given) replies ≡ sum_by (λ es. length es) (items_in replies)
-given_all [] counted = refl
-given_all (r ∷ replies) counted =
-    let rest = given_all replies (All-tail (λ (x : WalkReply). x.counts.given ≡ length x.items) r replies counted) in
-    let here = All-head (λ (x : WalkReply). x.counts.given ≡ length x.items) r replies counted in
-    let a = sum_by-cons (λ (x : WalkReply). x.counts.given) r replies in
-    let b = sum_by-cons (λ (es : List Entry). length es) r.items (items_in replies) in
-    omega (arith, rest, here, a, b)
-
 -- this many of the whole list are all of it
 pub take_whole : (lists : List (List Entry)) (all : List Entry) (count : ℕ) → HasAll all lists → count ≡ sum_by (λ es. length es) lists → take count all ≡ all
 take_whole lists all count has is =
@@ -308,19 +266,29 @@ take_whole lists all count has is =
         let c = sum_of_ones es in
         omega (arith, rest, a, b, c)
 
--- if nothing was taken, the lists remain
-pub lefts_whole : (lists : List (List Entry)) → lefts_of (map whole_of lists) ≡ lists
+-- if nothing was taken, all items remain, in their order
+pub lefts_whole : (all : List Answers) → lefts_of (map whole_of all) ≡ kept_in all
 lefts_whole [] = refl
-lefts_whole (es ∷ lists) = ap (λ (ls : List (List Entry)). es ∷ ls) (lefts_whole lists)
+lefts_whole (a ∷ all) = ap (λ (ls : List (List Entry)). kept_of a ∷ ls) (lefts_whole all)
 
-pub lists_whole : (lists : List (List Entry)) → lists_of (map whole_of lists) ≡ lists
+pub lists_whole : (all : List Answers) → lists_of (map whole_of all) ≡ lists_of_all all
 lists_whole [] = refl
-lists_whole (es ∷ lists) = ap (λ (ls : List (List Entry)). es ∷ ls) (lists_whole lists)
+lists_whole (a ∷ all) = ap (λ (ls : List (List Entry)). a.items ∷ ls) (lists_whole all)
 
--- a fact about each reply's items
-pub sorted_items : (replies : List WalkReply) → All (λ r. T (is_sorted by_bytes r.items)) replies → All (λ es. T (is_sorted by_bytes es)) (items_in replies)
-sorted_items replies sorted = λ k d low.
-    let len = length-map replies (λ (r : WalkReply). r.items) in
-    let inside : k < length replies = omega (arith, len, low) in
-    let x = head_of replies (omega (arith, inside)) in
-    subst (λ (es : List Entry). T (is_sorted by_bytes es)) (sym (get_or-map (λ (r : WalkReply). r.items) replies k x d inside)) (sorted k x inside)
+-- a fact about each worker's items
+pub sorted_items : (all : List Answers) → All (λ a. T (is_sorted by_bytes (kept_of a))) all → All (λ es. T (is_sorted by_bytes es)) (kept_in all)
+sorted_items all sorted = λ k d low.
+    let len = length-map all kept_of in
+    let inside : k < length all = omega (arith, len, low) in
+    let x = head_of all (omega (arith, inside)) in
+    subst (λ (es : List Entry). T (is_sorted by_bytes es)) (sym (get_or-map kept_of all k x d inside)) (sorted k x inside)
+
+-- as many positions are in order as items
+pub ordered_all : (all : List Answers) → sum_by (λ (a : Answers). length a.order.items) all ≡ sum_by (λ es. length es) (kept_in all)
+ordered_all [] = refl
+ordered_all (a ∷ all) =
+    let rest = ordered_all all in
+    let here = length-map a.order.items (entry_of a.items) in
+    let one = sum_by-cons (λ (x : Answers). length x.order.items) a all in
+    let other = sum_by-cons (λ (es : List Entry). length es) (kept_of a) (kept_in all) in
+    omega (arith, rest, here, one, other)

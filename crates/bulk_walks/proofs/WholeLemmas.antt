@@ -1,10 +1,8 @@
 -- From the replies to each worker's finds to the reply of the walk.
 use Rattle.std.proofs.Common.{◌≡◌, ℕ, zero, suc, ◌^◌, ◌<◌, ◌≤◌, List, [], ◌∷◌, cond, false, All, get_or, length, sum_by, Option, Result, Ok, Err, IfOk, refl, sym, ap, ◌∙◌, subst, arith, add-one, T}
-use Rattle.std.specs.Ordering.{is_lt}
-use Rattle.std.specs.List.Sorted.{IsSortedBy}
 use Rattle.std.specs.FinMap.{is_sorted}
 use Rattle.std.proofs.lemmas.List.{length-map}
-use Rattle.std.proofs.lemmas.List.Sums.{get_or-le-sum_by, sum_by-le-sum_by}
+use Rattle.std.proofs.lemmas.List.Sums.{sum_by-le-sum_by}
 use Rattle.bpf_model.specs.declared.memory.NoMemory.{NoMemory}
 use Rattle.bpf_model.specs.declared.input.Answer.TheVariants.{Nothing, Bytes}
 use Rattle.verifier.specs.Checked.{Checked}
@@ -16,17 +14,15 @@ use Rattle.atomic_methods.specs.declared.walk_reply.WalkKind.TheVariants.{ForEac
 use Rattle.atomic_methods.specs.declared.walk_reply.WalkReply.{WalkReply}
 use Rattle.atomic_methods.specs.Replies.{present, IsReply}
 use Rattle.bulk_walks.specs.Walks.{IsWalk, Walks}
-use Rattle.bins.specs.Copies.{comes_before}
-use Rattle.bulk_walks.specs.Turns.{FindsAll, AreReplies}
+use Rattle.bulk_walks.specs.Turns.{FindsAll, AreReplies, items_in}
+use Rattle.bulk_walks.specs.declared.answers.Answers.{Answers}
+use Rattle.bulk_walks.specs.Kept.{StandForAll}
 use Rattle.bulk_walks.specs.Merges.{IsMerge}
 use Rattle.bins.proofs.SameEntries.{rises, at_key}
 use Rattle.bulk_walks.proofs.Order.{once_in_all}
 use Rattle.bulk_walks.proofs.Sums.{sum_by_mapped, sum_of_ones, sum_below-le}
 use Rattle.bulk_walks.proofs.RunLemmas.{may_all}
 use Rattle.bulk_walks.proofs.PairLemmas.{Pair, entries_in, outcomes_in, in_order, sum_by-in_order, ordered_in_order, near_by, come_in_order, outcomes_of, answer_weight, unfit_weight, sum_by-present, sorted-present, all_pairs}
-
-near_of : (es : List Entry) → IsSortedBy comes_before es → (k : ℕ) (d : Entry) → suc k < length es → is_lt (by_bytes (get_or es (suc k) d).0 (get_or es k d).0) ≡ false
-near_of es sorted k d low = subst (λ m. comes_before (get_or es m d) (get_or es k d) ≡ false) (add-one k) (sorted k d (omega arith) (omega (arith, low)))
 
 length-AreReplies : (checked : Checked) (arg : Option (List ℕ)) (lists : List (List Entry)) (replies : List WalkReply) → AreReplies checked arg lists replies → length replies ≡ length lists
 length-AreReplies checked arg [] [] are = refl
@@ -46,6 +42,12 @@ one_at_most (e, Ok (Bytes answer)) = omega arith
 one_at_most (e, Ok Nothing) = omega arith
 one_at_most (e, Err part) = omega arith
 
+-- an answer has the key of its entry
+given_at_most : (key : List ℕ) (o : Pair) → answer_weight (at_key key) o ≤ at_key key o.0
+given_at_most key (e, Ok (Bytes answer)) = omega arith
+given_at_most key (e, Ok Nothing) = omega arith
+given_at_most key (e, Err part) = omega arith
+
 unfit_at_most : (o : Pair) → unfit_weight o ≤ 1
 unfit_at_most (e, Ok answer) = omega arith
 unfit_at_most (e, Err part) = omega arith
@@ -55,14 +57,15 @@ module _ (n : ℕ) (before after : List PassState) (lists : List (List Entry)) (
   once : (key : List ℕ) → sum_by (λ es. sum_by (at_key key) es) lists ≤ 1
   once key = once_in_all n found.scans (λ h. sum_by (λ es. sum_by h es) lists) found.stripes found.sum key
 
-  list_sorted : (i : ℕ) (d : List Entry) → i < length lists → T (is_sorted by_bytes (get_or lists i d))
-  list_sorted i d low = rises (get_or lists i d) (near_of (get_or lists i d) (found.order i d low)) (λ key. let part = get_or-le-sum_by (λ es. sum_by (at_key key) es) lists i d low in let all = once key in omega (arith, part, all))
-
-  pub items_sorted : All (λ reply. T (is_sorted by_bytes reply.items)) replies
-  items_sorted = λ i e low.
-      let r = reply_at checked arg lists replies are i [] e low in
-      let len = length-AreReplies checked arg lists replies are in
-      subst (λ (es : List Entry). T (is_sorted by_bytes es)) (sym r.items) (sorted-present (get_or lists i []) r.outcomes (list_sorted i [] (omega (arith, low, len))))
+  -- and so at most once in the items of all replies
+  pub once_given : (key : List ℕ) → sum_by (λ es. sum_by (at_key key) es) (items_in replies) ≤ 1
+  once_given key =
+      let all = all_pairs checked arg lists replies are in
+      let a = all.answers (at_key key) in
+      let b = sum_by-le-sum_by (answer_weight (at_key key)) (λ (p : Pair). at_key key p.0) all.pairs (given_at_most key) in
+      let c = all.entries (at_key key) in
+      let o = once key in
+      omega (arith, a, b, c, o)
 
   pub all_counted : All (λ reply. reply.counts.given ≡ length reply.items) replies
   all_counted = λ i e low. (reply_at checked arg lists replies are i [] e low).given
@@ -127,6 +130,7 @@ module _ (n : ℕ) (before after : List PassState) (lists : List (List Entry)) (
       }
 
   -- or memory was refused to the merge
-  pub walks_of : (kind : WalkKind) (result : Result WalkReply NoMemory) → IfOk result (λ reply. IsMerge kind replies reply) → Walks kind n checked arg before after result
-  walks_of kind (Ok reply) merge = is_walk kind reply merge
-  walks_of kind (Err e) merge = may_all n found.scans before after found.walked
+  pub walks_of : (kind : WalkKind) (all : List Answers) → StandForAll kind replies all → (result : Result WalkReply NoMemory) → IfOk result (λ reply. (rs : List WalkReply) → StandForAll kind rs all → IsMerge kind rs reply)
+      → Walks kind n checked arg before after result
+  walks_of kind all stand (Ok reply) merge = is_walk kind reply (merge replies stand)
+  walks_of kind all stand (Err e) merge = may_all n found.scans before after found.walked

@@ -3,6 +3,7 @@ use Rattle.std.specs.Prelude.{◌≡◌, ◌<◌, ◌-◌, ◌^◌, ℕ, Bool, t
 use Rattle.std.specs.FinMap as finmap
 use Rattle.std.specs.Ordering.{is_lt}
 use Rattle.bins.specs.declared.counts.Counts.{Counts}
+use Rattle.bins.specs.Entries.{entries_at}
 use Rattle.bins.specs.Fronts.{front}
 use Rattle.bins.specs.Merged.{entry_at}
 use Rattle.bins.specs.declared.merged_entries.EntryPosition.{EntryPosition}
@@ -10,20 +11,22 @@ use Rattle.bins.specs.Table.{Entry, by_bytes}
 use Rattle.atomic_methods.specs.declared.walk_reply.WalkKind.{WalkKind}
 use Rattle.atomic_methods.specs.declared.walk_reply.WalkReply.{WalkReply}
 use Rattle.atomic_methods.specs.Replies.{chosen}
+use Rattle.bulk_walks.specs.declared.answers.Answers.{Answers}
 use Rattle.bulk_walks.specs.Turns.{items_in}
 
--- a list, with this many entries taken from the front
+-- a list and an order of its positions, with this many taken from the front
 pub record Remains : Type 0 where
   pub list : List Entry
+  pub order : List ℕ
   pub taken : ℕ
 
 -- nothing was taken
-abbrev pub whole_of : List Entry → Remains
-whole_of list = record { list = list; taken = 0 }
+abbrev pub whole_of : Answers → Remains
+whole_of answers = record { list = answers.items; order = answers.order.items; taken = 0 }
 
 -- the remaining entries
 abbrev pub left_of : Remains → List Entry
-left_of remains = drop remains.taken remains.list
+left_of remains = entries_at remains.list (drop remains.taken remains.order)
 
 -- of each
 abbrev pub lefts_of : List Remains → List (List Entry)
@@ -61,11 +64,11 @@ pub record TakesFirst (old : List (List Entry)) (entry : Entry) (new : List (Lis
 abbrev pub TakesLeast : List (List Entry) → List (List Entry) → Option EntryPosition → List (List Entry) → Type 0
 TakesLeast lists old taken new = MatchOption taken (All (λ list. list ≡ []) old) (λ position. TakesFirst old (entry_at lists position) new)
 
--- each count is the sum of the replies' counts
-pub record CountsAdd (replies : List WalkReply) (total : Counts) : Type 0 where
-  pub scanned : total.scanned ≡ sum_by (λ reply. reply.counts.scanned) replies
-  pub given : total.given ≡ sum_by (λ reply. reply.counts.given) replies
-  pub unfit : total.unfit ≡ sum_by (λ reply. reply.counts.unfit) replies
+-- each count is the sum of the workers' counts
+pub record CountsAdd (all : List Answers) (total : Counts) : Type 0 where
+  pub scanned : total.scanned ≡ sum_by (λ answers. answers.scanned) all
+  pub given : total.given ≡ sum_by (λ answers. length answers.order.items) all
+  pub unfit : total.unfit ≡ sum_by (λ answers. answers.unfit) all
 
 -- the reply of a walk of this kind, made of all items of the replies, in key order, and of their counts
 pub record IsMerge (kind : WalkKind) (replies : List WalkReply) (merged : WalkReply) : Type 0 where

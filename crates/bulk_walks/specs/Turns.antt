@@ -1,11 +1,9 @@
 -- The answer of each worker of a walk.
-use Rattle.std.specs.Prelude.{◌≡◌, ◌<◌, ◌≤◌, ◌^◌, ◌+◌, ◌%◌, ◌==◌, if◌then◌else◌, ℕ, ⊤, All, List, [], ◌∷◌, Option, Result, Ok, Err, IfOk, length, map, sum_by, slice_index_or}
-use Rattle.std.specs.List.Sorted.{IsSortedBy}
+use Rattle.std.specs.Prelude.{◌≡◌, ◌<◌, ◌≤◌, ◌^◌, ◌+◌, ◌%◌, ◌==◌, if◌then◌else◌, ℕ, ⊤, List, [], ◌∷◌, Option, Result, Ok, Err, IfOk, length, map, sum_by, slice_index_or}
 use Rattle.stripe_rule.specs.declared.view.View.{View}
 use Rattle.verifier.specs.Checked.{Checked}
 use Rattle.bpf_model.specs.declared.memory.NoMemory.{NoMemory}
 use Rattle.bins.specs.declared.counts.Counts.{Counts}
-use Rattle.bins.specs.Copies.{comes_before}
 use Rattle.bins.specs.Table.{Entry}
 use Rattle.bin_stripes.specs.declared.ghost_action.GhostAction.{GhostAction}
 use Rattle.bin_stripes.specs.Invoked.{AreOf}
@@ -41,11 +39,6 @@ pub record WorkerFinds (all n workers worker : ℕ) (v w : View GhostAction) (fo
   pub bounded : (k : ℕ) → IsTurn n workers worker k → length (scans k) < 2 ^ 57
   pub sum : (weight : Entry → ℕ) → sum_by weight found ≡ turn_sum workers worker (λ k. sum_by weight (scans k)) n
 
--- a worker's finds on all of its stripes, sorted
-pub record FindsInOrder (n workers worker : ℕ) (v w : View GhostAction) (found : List Entry) : Type 0 where
-  pub finds : WorkerFinds n n workers worker v w found
-  pub order : IsSortedBy comes_before found
-
 -- the entries of a worker's answer
 abbrev pub found_of : Result (List Entry) NoMemory → List Entry
 found_of (Ok found) = found
@@ -55,16 +48,15 @@ found_of (Err e) = []
 pub record EachFinds (n : ℕ) (before : List PassState) (rs : List (Result (List Entry) NoMemory)) (after : List PassState) : Type 0 where
   pub answers : length rs ≡ length before
   pub left : length after ≡ length before
-  pub done : (i : ℕ) (d : PassState) (e : Result (List Entry) NoMemory) → i < length before → IfOk (slice_index_or rs i e) (λ found. FindsInOrder n (length before) i (slice_index_or before i d).view (slice_index_or after i d).view found)
+  pub done : (i : ℕ) (d : PassState) (e : Result (List Entry) NoMemory) → i < length before → IfOk (slice_index_or rs i e) (λ found. WorkerFinds n n (length before) i (slice_index_or before i d).view (slice_index_or after i d).view found)
   pub part : (i : ℕ) (d : PassState) → i < length before → Walked n (length before) i MayScan (slice_index_or before i d).view (slice_index_or after i d).view
 
--- all stripes were scanned; these lists are sorted, and have each entry as often as the scans
+-- all stripes were scanned; these lists have each entry as often as the scans
 pub record FindsAll (n : ℕ) (before after : List PassState) (lists : List (List Entry)) : Type 0 where
   pub scans : ℕ → List Entry
   pub walked : AllWalked n (Each IsScan scans) before after
   pub stripes : (k : ℕ) → k < n → AreOf n k (scans k)
   pub bounded : (k : ℕ) → k < n → length (scans k) < 2 ^ 57
-  pub order : All (λ entries. IsSortedBy comes_before entries) lists
   pub sum : (weight : Entry → ℕ) → sum_by (λ entries. sum_by weight entries) lists ≡ sum_below n (λ k. sum_by weight (scans k))
 
 -- the items of each reply

@@ -1,34 +1,45 @@
 //! The program's answers on the entries that a walk found.
 ghost use Rattle.std.specs.Prelude.{◌≡◌, ℕ, ◌<◌, IfOk, IfSome, Some, length, map, slice_index_or};
-ghost use Rattle.atomic_methods.specs.declared.walk_reply.WalkKind.TheVariants.{ForEach};
-ghost use Rattle.atomic_methods.specs.Replies.{IsReply};
-ghost use Rattle.bulk_walks.specs.Turns.{found_in, AreReplies};
+ghost use Rattle.bulk_walks.specs.Turns.{found_in};
+ghost use Rattle.bulk_walks.specs.Kept.{IsAnswered, AreAnswered};
 ghost use Rattle.bulk_walks.specs.declared.answering.Part.{Part as WorkersPart};
 
-use atomic_methods::{WalkKind, WorkerReply, walk_entries};
-use bins::SortedEntries;
-use bpf_model::{NoMemory, Value};
+use crate::answers::Answers;
+use crate::running::{all_answers, first_answer};
+use crate::walk::Walk;
+use atomic_methods::WalkKind;
+use bins::EntryList;
+use bpf_model::NoMemory;
 use std::alloc::Global;
 use std::thread;
 use std::thread::Threads;
-use verifier::Verified;
 use workers::for_each_apart;
 
-/// One worker's entries and its reply. It has none before the program has run, or if it was refused memory.
+/// One worker's entries and its answers. It has none before the program has run, or if it was refused memory.
 #[derive(Drop)]
 pub(crate) struct Part {
-    pub(crate) found: SortedEntries,
-    pub(crate) reply: Option<WorkerReply>,
+    pub(crate) found: EntryList,
+    pub(crate) answers: Option<Answers>,
+}
+
+/// Runs the program on these entries, and keeps what this kind of walk gives.
+fn answers_on(alloc: Global, walk: &Walk<'_>, entries: &EntryList) -> Result<Answers, NoMemory>
+    ensures { IfOk result (λ answers. IsAnswered walk.now.kind walk.now.program.now walk.now.arg.now entries.now answers) }
+{
+    match walk.kind {
+        WalkKind::Search => first_answer(alloc, entries, walk.program, walk.arg),
+        WalkKind::ForEach => all_answers(alloc, entries, walk.program, walk.arg),
+    }
 }
 
 /// Runs the program on the entries of one part.
-fn answer_part(alloc: Global, program: &Verified, arg: &Option<Value>, part: &mut Part)
-    ensures { IfSome part.new.reply (λ reply. IsReply ForEach program.now arg.now part.old.found reply) }
+fn answer_part(alloc: Global, walk: &Walk<'_>, part: &mut Part)
+    ensures { IfSome part.new.answers (λ answers. IsAnswered walk.now.kind walk.now.program.now walk.now.arg.now part.old.found answers) }
 {
-    if let Ok(reply) = walk_entries(alloc, WalkKind::ForEach, &part.found, program, arg) {
-        part.reply = Some(reply);
+    if let Ok(answers) = answers_on(alloc, walk, &part.found) {
+        part.answers = Some(answers);
     } else {
-        part.reply = None;
+        part.answers = None;
     }
 }
 
@@ -36,14 +47,13 @@ fn answer_part(alloc: Global, program: &Verified, arg: &Option<Value>, part: &mu
 fn answer_each<R: Threads + Sync>(
     rt: &R,
     alloc: Global,
-    program: &Verified,
-    arg: &Option<Value>,
+    walk: &Walk<'_>,
     parts: &mut [Part],
     apart: bool,
 )
-    ensures each { (i : ℕ) (d : WorkersPart) → i < length parts.old → IfSome (slice_index_or parts.new i d).reply (λ reply. IsReply ForEach program.now arg.now (slice_index_or parts.old i d).found reply) }
+    ensures each { (i : ℕ) (d : WorkersPart) → i < length parts.old → IfSome (slice_index_or parts.new i d).answers (λ answers. IsAnswered walk.now.kind walk.now.program.now walk.now.arg.now (slice_index_or parts.old i d).found answers) }
 {
-    let call = |_, part: &mut Part| answer_part(alloc, program, arg, part);
+    let call = |_, part: &mut Part| answer_part(alloc, walk, part);
     if apart {
         for_each_apart(rt, parts, &call);
     } else {
@@ -51,36 +61,35 @@ fn answer_each<R: Threads + Sync>(
     }
 }
 
-/// Collects the replies of all parts. Returns `NoMemory` if one has none.
-fn replies_of(alloc: Global, parts: Vec<Part>) -> Result<Vec<WorkerReply>, NoMemory>
-    ensures { IfOk result (λ replies. map Some replies.items ≡ map (λ part. part.reply) parts.items) }
+/// Collects the answers of all parts. Returns `NoMemory` if one has none.
+fn answers_of(alloc: Global, parts: Vec<Part>) -> Result<Vec<Answers>, NoMemory>
+    ensures { IfOk result (λ all. map Some all.items ≡ map (λ part. part.answers) parts.items) }
 {
-    let mut replies = Vec::with_capacity(alloc, parts.len())?;
+    let mut all = Vec::with_capacity(alloc, parts.len())?;
     for part in parts {
-        let Part { reply, .. } = part;
-        let Some(reply) = reply else {
+        let Part { answers, .. } = part;
+        let Some(answers) = answers else {
             return Err(NoMemory);
         };
-        replies.push(reply)?;
+        all.push(answers)?;
     }
-    Ok(replies)
+    Ok(all)
 }
 
 /// Runs the program on the entries of all parts, each in a thread of its own or one after the other, and returns the
-/// reply of each. Returns `NoMemory` if a request for memory is refused.
+/// answers of each. Returns `NoMemory` if a request for memory is refused.
 pub(crate) fn answer_all<R: Threads + Sync>(
     rt: &R,
     alloc: Global,
-    program: &Verified,
-    arg: &Option<Value>,
+    walk: &Walk<'_>,
     mut parts: Vec<Part>,
     apart: bool,
-) -> Result<Vec<WorkerReply>, NoMemory>
-    ensures { IfOk result (λ replies. AreReplies program.now arg.now (found_in parts.items) replies.items) }
+) -> Result<Vec<Answers>, NoMemory>
+    ensures { IfOk result (λ all. AreAnswered walk.now.kind walk.now.program.now walk.now.arg.now (found_in parts.items) all.items) }
 {
-    answer_each(rt, alloc, program, arg, &mut parts, apart);
-    let replies = replies_of(alloc, parts)?;
-    Ok(replies)
+    answer_each(rt, alloc, walk, &mut parts, apart);
+    let all = answers_of(alloc, parts)?;
+    Ok(all)
 }
 
 /// Returns how many entries the parts hold, capped at the greatest number.

@@ -2,12 +2,12 @@
 ghost use Rattle.std.specs.Prelude.{◌≡◌, ◌<◌, All, IfOk, OnOk, IsOk, MatchResult, length, map, vec_len};
 ghost use Rattle.bin_stripes.specs.Passes.{stripes_of};
 ghost use Rattle.bulk_walks.specs.Walks.{Walked, AllWalked, MayScan};
-ghost use Rattle.bulk_walks.specs.Turns.{WorkerFinds, FindsInOrder, FindsAll, found_in, found_of};
+ghost use Rattle.bulk_walks.specs.Turns.{WorkerFinds, FindsAll, found_in, found_of};
 
 use crate::answering::Part;
 use crate::turns::Turns;
 use bin_stripes::{Gate, Pass, StripedMap};
-use bins::{EntryList, SortedEntries};
+use bins::EntryList;
 use bpf_model::NoMemory;
 use std::alloc::Global;
 use std::sync::Wait;
@@ -39,43 +39,24 @@ fn scan_turns<R: Wait, G: Gate>(
     Ok(found)
 }
 
-/// Returns the entries of the worker's stripes, in key order.
-fn sorted_turns<R: Wait, G: Gate>(
-    rt: &R,
-    alloc: Global,
-    worker: &Turns<'_>,
-    gate: &G,
-    pass: &mut Pass,
-) -> Result<SortedEntries, NoMemory>
-    requires map { pass.old.map ≡ worker.now.map.now }
-    requires worker { worker.now.number < worker.now.workers }
-    ensures map { pass.new.map ≡ pass.old.map }
-    ensures done { IfOk result (λ found. FindsInOrder (stripes_of worker.now.map.now) worker.now.workers worker.now.number pass.old.view pass.new.view found) }
-    ensures part { Walked (stripes_of worker.now.map.now) worker.now.workers worker.now.number MayScan pass.old.view pass.new.view }
-{
-    let found = scan_turns(rt, alloc, worker, gate, pass)?;
-    let sorted = SortedEntries::new(alloc, found)?;
-    Ok(sorted)
-}
-
-/// Makes a part for each worker's entries, without a reply.
-fn parts_of(
-    alloc: Global,
-    answers: Vec<Result<SortedEntries, NoMemory>>,
-) -> Result<Vec<Part>, NoMemory>
+/// Makes a part for each worker's entries, without answers.
+fn parts_of(alloc: Global, answers: Vec<Result<EntryList, NoMemory>>) -> Result<Vec<Part>, NoMemory>
     ensures items { IfOk result (λ parts. found_in parts.items ≡ map found_of answers.items) }
     ensures ok { OnOk result (All (λ r. IsOk r) answers.items) }
 {
     let mut parts = Vec::with_capacity(alloc, answers.len())?;
     for answer in answers {
         let found = answer?;
-        parts.push(Part { found, reply: None })?;
+        parts.push(Part {
+            found,
+            answers: None,
+        })?;
     }
     Ok(parts)
 }
 
 /// Finds the entries of all stripes. The worker whose turn it is scans each stripe once. Returns for each worker its part,
-/// with its entries in key order.
+/// with its entries as they were copied.
 pub(crate) fn find<R: Threads + Wait + Sync, G: Gate + Sync>(
     rt: &R,
     alloc: Global,
@@ -90,16 +71,16 @@ pub(crate) fn find<R: Threads + Wait + Sync, G: Gate + Sync>(
     ensures found { MatchResult result.1 (λ parts. FindsAll (stripes_of map.now) passes.items result.0.items (found_in parts.items)) (λ _. AllWalked (stripes_of map.now) MayScan passes.items result.0.items) }
 {
     let workers = passes.len() as u64;
-    let call = move |worker: usize, pass: &mut Pass| -> Result<SortedEntries, NoMemory>
+    let call = move |worker: usize, pass: &mut Pass| -> Result<EntryList, NoMemory>
         requires { (pass.old.map ≡ map.now) × (worker < workers) }
-        ensures { (pass.new.map ≡ map.entry.now) × IfOk result (λ found. FindsInOrder (stripes_of map.entry.now) workers worker pass.old.view pass.new.view found) × Walked (stripes_of map.entry.now) workers worker MayScan pass.old.view pass.new.view }
+        ensures { (pass.new.map ≡ map.entry.now) × IfOk result (λ found. WorkerFinds (stripes_of map.entry.now) (stripes_of map.entry.now) workers worker pass.old.view pass.new.view found) × Walked (stripes_of map.entry.now) workers worker MayScan pass.old.view pass.new.view }
     {
         let worker = Turns {
             map,
             number: worker as u64,
             workers,
         };
-        sorted_turns(rt, alloc, &worker, gate, pass)
+        scan_turns(rt, alloc, &worker, gate, pass)
     };
     let (passes, answers) = work(rt, alloc, passes, &call);
     let Ok(answers) = answers else {

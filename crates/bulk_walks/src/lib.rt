@@ -8,12 +8,15 @@
 
 mod alike;
 mod answering;
+mod answers;
 mod count;
 mod finding;
 mod merging;
 mod replace;
+mod running;
 mod team;
 mod turns;
+mod walk;
 mod walks;
 
 pub use alike::is_same_reply;
@@ -21,4 +24,5 @@ pub use atomic_methods::{WalkKind, WalkReply};
 pub use count::mapping_count;
 pub use replace::replace_all;
 pub use team::{EmptyTeam, Team};
-pub use walks::{Walk, for_each, search, walk_map};
+pub use walk::Walk;
+pub use walks::{for_each, search, walk_map};

@@ -1,134 +1,136 @@
-//! One reply from those of the workers.
-ghost use Rattle.std.specs.Prelude.{◌≡◌, ℕ, ◌+◌, ◌<◌, ◌≤◌, ◌^◌, ◌∷◌, ◌↔◌, [], All, IfOk, IfSome, IsTrue, List, MatchOption, T, drop, length, map, slice_index_or, sum_by, take, false};
+//! One reply from the answers of the workers.
+ghost use Rattle.std.specs.Prelude.{◌≡◌, ℕ, ◌<◌, ◌≤◌, ◌^◌, ◌∷◌, ◌↔◌, [], All, IfOk, IsTrue, List, MatchOption, T, drop, length, map, slice_index_or, sum_by, take, false};
 ghost use Rattle.std.specs.FinMap as finmap;
-ghost use Rattle.bins.specs.Entries.{entry_of};
+ghost use Rattle.bins.specs.Entries.{entries_at, entry_of};
 ghost use Rattle.bins.specs.Fronts.{AreBytes};
 ghost use Rattle.bins.specs.Merged.{entry_at};
 ghost use Rattle.bins.specs.Table.{Entry, by_bytes};
+ghost use Rattle.atomic_methods.specs.declared.walk_reply.WalkReply.{WalkReply as Reply};
+ghost use Rattle.atomic_methods.specs.declared.walk_reply.WalkKind.TheVariants.{Search};
+ghost use Rattle.atomic_methods.specs.Replies.{chosen};
 ghost use Rattle.bulk_walks.specs.Turns.{items_in};
+ghost use Rattle.bulk_walks.specs.Kept.{StandForAll, IsFirst, kept_in, kept_of, lists_of_all};
 ghost use Rattle.bulk_walks.specs.Merges.{comes_first, lead_of, left_of, lefts_of, lists_of, whole_of, HasAll, TakesLeast, IsMerge, CountsAdd};
 
+use crate::answers::Answers;
 use crate::replace::{ZERO, add};
-use atomic_methods::{WalkKind, WalkReply, WorkerReply};
+use atomic_methods::{WalkKind, WalkReply};
 use bins::{Counts, EntryList, EntryPosition, MergedEntries};
 use bpf_model::NoMemory;
 use std::alloc::Global;
 use std::marker::Model;
 
-/// Merges replies of the kind `ForEach`, each with its items in key order, into one reply of this kind. Returns `NoMemory` if
-/// a request for memory is refused. If one reply has all items, or for `ForEach`, items are not copied.
+/// Merges the answers of all workers into the reply of this kind of walk. Returns `NoMemory` if a request for memory is
+/// refused; `Search` makes none. No item is copied.
 pub(crate) fn merged(
     alloc: Global,
     kind: WalkKind,
-    replies: Vec<WorkerReply>,
+    all: Vec<Answers>,
 ) -> Result<WalkReply, NoMemory>
-    requires order { All (λ reply. T (finmap.is_sorted by_bytes reply.items)) replies.items }
-    requires counted { All (λ reply. reply.counts.given ≡ length reply.items) replies.items }
-    requires scanned { sum_by (λ reply. reply.counts.scanned) replies.items < 2 ^ 64 }
-    requires given { sum_by (λ reply. reply.counts.given) replies.items < 2 ^ 64 }
-    requires unfit { sum_by (λ reply. reply.counts.unfit) replies.items < 2 ^ 64 }
-    ensures { IfOk result (λ reply. IsMerge kind replies.items reply) }
+    requires order { All (λ answers. T (finmap.is_sorted by_bytes (kept_of answers))) all.items }
+    requires scanned { sum_by (λ answers. answers.scanned) all.items < 2 ^ 64 }
+    requires given { sum_by (λ answers. length answers.order.items) all.items < 2 ^ 64 }
+    requires unfit { sum_by (λ answers. answers.unfit) all.items < 2 ^ 64 }
+    ensures { IfOk result (λ reply. (replies : List Reply) → StandForAll kind replies all.items → IsMerge kind replies reply) }
 {
-    let total = total_of(&replies);
-    let items = match kind {
-        WalkKind::Search => first_item(alloc, replies)?,
-        WalkKind::ForEach => all_items(alloc, replies, total.given as usize)?,
-    };
+    let total = total_of(&all);
+    let items = items_of(alloc, kind, all, total.given as usize)?;
     let given = items.len() as u64;
     let counts = Counts { given, ..total };
     Ok(WalkReply { items, counts })
 }
 
-/// Adds up the counts of all replies.
-fn total_of(replies: &[WorkerReply]) -> Counts
-    requires scanned { sum_by (λ reply. reply.counts.scanned) replies.now < 2 ^ 64 }
-    requires given { sum_by (λ reply. reply.counts.given) replies.now < 2 ^ 64 }
-    requires unfit { sum_by (λ reply. reply.counts.unfit) replies.now < 2 ^ 64 }
-    ensures { CountsAdd replies.now result }
+/// Returns the items of this kind of walk. For `ForEach` there are `count` of them.
+fn items_of(
+    alloc: Global,
+    kind: WalkKind,
+    all: Vec<Answers>,
+    count: usize,
+) -> Result<MergedEntries, NoMemory>
+    requires order { All (λ answers. T (finmap.is_sorted by_bytes (kept_of answers))) all.items }
+    requires counted { count ≡ sum_by (λ items. length items) (kept_in all.items) }
+    ensures { IfOk result (λ items. (replies : List Reply) → StandForAll kind replies all.items → (whole : List Entry) → T (finmap.is_sorted by_bytes whole) → HasAll whole (items_in replies) → items ≡ chosen kind whole) }
+{
+    match kind {
+        WalkKind::Search => Ok(MergedEntries::of_one(first_of(alloc, all))),
+        WalkKind::ForEach => all_items(alloc, all, count),
+    }
+}
+
+/// Adds up the counts of all workers.
+fn total_of(all: &[Answers]) -> Counts
+    requires scanned { sum_by (λ answers. answers.scanned) all.now < 2 ^ 64 }
+    requires given { sum_by (λ answers. length answers.order.items) all.now < 2 ^ 64 }
+    requires unfit { sum_by (λ answers. answers.unfit) all.now < 2 ^ 64 }
+    ensures { CountsAdd all.now result }
 {
     let mut total = ZERO;
-    for reply in replies {
-        add(&mut total, reply.counts());
+    for answers in all {
+        add(&mut total, answers.counts());
     }
     total
 }
 
-/// Returns the first item of all replies in key order: a copy, since the others are dropped.
-fn first_item(alloc: Global, replies: Vec<WorkerReply>) -> Result<MergedEntries, NoMemory>
-    requires order { All (λ reply. T (finmap.is_sorted by_bytes reply.items)) replies.items }
-    ensures { IfOk result (λ items. (all : List Entry) → T (finmap.is_sorted by_bytes all) → HasAll all (items_in replies.items) → items ≡ take 1 all) }
+/// Returns the item with the least key of all that the workers of a search kept. Takes no memory.
+fn first_of(alloc: Global, all: Vec<Answers>) -> EntryList
+    ensures { (replies : List Reply) → StandForAll Search replies all.items → IsFirst (λ weight. sum_by (λ items. sum_by weight items) (items_in replies)) result }
 {
-    let first = first_items(alloc, replies, 1)?;
-    let copy = first.copied(alloc)?;
-    Ok(MergedEntries::of_one(copy))
-}
-
-/// Returns all items of all replies, `count` of them, in key order: those of one reply if it has all of them.
-fn all_items(
-    alloc: Global,
-    mut replies: Vec<WorkerReply>,
-    count: usize,
-) -> Result<MergedEntries, NoMemory>
-    requires order { All (λ reply. T (finmap.is_sorted by_bytes reply.items)) replies.items }
-    requires counted { count ≡ sum_by (λ items. length items) (items_in replies.items) }
-    ensures { IfOk result (λ items. (all : List Entry) → T (finmap.is_sorted by_bytes all) → HasAll all (items_in replies.items) → items ≡ all) }
-{
-    if let Some(position) = position_with(&replies, count) {
-        let reply = replies.swap_remove(position);
-        return Ok(MergedEntries::of_one(reply.into_items()));
-    }
-    let items = first_items(alloc, replies, count)?;
-    Ok(items)
-}
-
-/// Returns the position of a reply that has this many items.
-fn position_with(replies: &[WorkerReply], count: usize) -> Option<usize>
-    ensures range { IfSome result (λ position. position < length replies.now) }
-    ensures count { IfSome result (λ position. length (slice_index_or (items_in replies.now) position []) ≡ count) }
-{
-    for position in 0..replies.len() {
-        if replies[position].items().len() == count {
-            return Some(position);
+    let mut first = EntryList::new(alloc);
+    for answers in all {
+        let Answers { items, .. } = answers;
+        if begins_before(&items, &first) {
+            first = items;
         }
     }
-    None
+    first
 }
 
-/// Returns the first `most` items of all replies, in key order. They stay in place.
-fn first_items(
-    alloc: Global,
-    replies: Vec<WorkerReply>,
-    most: usize,
-) -> Result<MergedEntries, NoMemory>
-    requires order { All (λ reply. T (finmap.is_sorted by_bytes reply.items)) replies.items }
-    ensures { IfOk result (λ items. (all : List Entry) → T (finmap.is_sorted by_bytes all) → HasAll all (items_in replies.items) → items ≡ take most all) }
+/// Tests whether the one list's first key comes before the other's. An empty list comes last.
+fn begins_before(one: &EntryList, other: &EntryList) -> bool
+    ensures { result ≡ comes_first one.now other.now }
 {
-    let positions = first_positions(alloc, &replies, most)?;
-    let lists = lists_in(alloc, replies)?;
+    if one.is_empty() {
+        return false;
+    }
+    if other.is_empty() {
+        return true;
+    }
+    one.key(0).cmp(other.key(0)).is_lt()
+}
+
+/// Returns all items of all workers, `count` of them, in key order. They stay in place.
+fn all_items(alloc: Global, all: Vec<Answers>, count: usize) -> Result<MergedEntries, NoMemory>
+    requires order { All (λ answers. T (finmap.is_sorted by_bytes (kept_of answers))) all.items }
+    requires counted { count ≡ sum_by (λ items. length items) (kept_in all.items) }
+    ensures { IfOk result (λ items. (whole : List Entry) → T (finmap.is_sorted by_bytes whole) → HasAll whole (kept_in all.items) → items ≡ whole) }
+{
+    let positions = first_positions(alloc, &all, count)?;
+    let lists = lists_in(alloc, all)?;
     Ok(MergedEntries::of_several(lists, positions))
 }
 
-/// Takes the items out of each reply.
-fn lists_in(alloc: Global, replies: Vec<WorkerReply>) -> Result<Vec<EntryList>, NoMemory>
-    ensures { IfOk result (λ lists. lists.items ≡ items_in replies.items) }
+/// Takes the items of each worker.
+fn lists_in(alloc: Global, all: Vec<Answers>) -> Result<Vec<EntryList>, NoMemory>
+    ensures { IfOk result (λ lists. lists.items ≡ lists_of_all all.items) }
 {
-    let mut lists = Vec::with_capacity(alloc, replies.len())?;
-    for reply in replies {
-        lists.push(reply.into_items())?;
+    let mut lists = Vec::with_capacity(alloc, all.len())?;
+    for answers in all {
+        let Answers { items, .. } = answers;
+        lists.push(items)?;
     }
     Ok(lists)
 }
 
-/// Returns the positions of the first `most` items of all replies, in key order.
+/// Returns the positions of the first `most` items of all workers, in key order.
 fn first_positions(
     alloc: Global,
-    replies: &[WorkerReply],
+    all: &[Answers],
     most: usize,
 ) -> Result<Vec<EntryPosition>, NoMemory>
-    requires order { All (λ reply. T (finmap.is_sorted by_bytes reply.items)) replies.now }
-    ensures { IfOk result (λ positions. (all : List Entry) → T (finmap.is_sorted by_bytes all) → HasAll all (items_in replies.now) → map (entry_at (items_in replies.now)) positions.items ≡ take most all) }
+    requires order { All (λ answers. T (finmap.is_sorted by_bytes (kept_of answers))) all.now }
+    ensures { IfOk result (λ positions. (whole : List Entry) → T (finmap.is_sorted by_bytes whole) → HasAll whole (kept_in all.now) → map (entry_at (lists_of_all all.now)) positions.items ≡ take most whole) }
 {
-    let mut rests = rests_of(alloc, replies)?;
+    let mut rests = rests_of(alloc, all)?;
     let mut positions = Vec::with_capacity(alloc, most)?;
     for given in 0..most {
         let Some(position) = take_least(&mut rests) else {
@@ -139,38 +141,40 @@ fn first_positions(
     Ok(positions)
 }
 
-/// Borrowed items, and how many were taken from their front. The lead is the first bytes of the first remaining key, kept as a
-/// number. If nothing is left the lead is the greatest number.
+/// Borrowed items in an order, and how many were taken from its front. The lead is the first bytes of the first remaining key,
+/// kept as a number. If nothing is left the lead is the greatest number.
 #[derive(Drop)]
 struct Rest<'a> {
     items: &'a EntryList,
+    order: &'a [usize],
     next: usize,
     lead: u64,
 }
 
 impl<'a> Model for Rest<'a> {
     ghost use Rattle.std.specs.Prelude.{◌≡◌, drop};
-    ghost use Rattle.bins.specs.Entries.{entry_of};
+    ghost use Rattle.bins.specs.Entries.{entries_at, entry_of};
     ghost use Rattle.bins.specs.Fronts.{AreBytes};
     ghost use Rattle.bulk_walks.specs.Merges.{Remains, lead_of};
 
     ghost Value = { Remains };
 
-    ghost view = { λ rest. record { list = rest.items.now; taken = rest.next } };
+    ghost view = { λ rest. record { list = rest.items.now; order = rest.order.now; taken = rest.next } };
 
-    ghost invariant = { λ rest. (rest.lead ≡ lead_of (drop rest.next rest.items.now))
-        × AreBytes (entry_of (drop rest.next rest.items.now) 0).0 };
+    ghost invariant = { λ rest. (rest.lead ≡ lead_of (entries_at rest.items.now (drop rest.next rest.order.now)))
+        × AreBytes (entry_of (entries_at rest.items.now (drop rest.next rest.order.now)) 0).0 };
 }
 
 impl<'a> Rest<'a> {
-    /// Starts with all of these items.
-    fn new(items: &'a EntryList) -> Rest<'a>
-        ensures { result ≡ record { list = items.now; taken = 0 } }
+    /// Starts with all items of a worker.
+    fn new(answers: &'a Answers) -> Rest<'a>
+        ensures { result ≡ whole_of answers.now }
     {
         Rest {
-            items,
+            items: &answers.items,
+            order: &answers.order,
             next: 0,
-            lead: lead_at(items, 0),
+            lead: lead_at(&answers.items, &answers.order, 0),
         }
     }
 
@@ -179,15 +183,16 @@ impl<'a> Rest<'a> {
     fn is_over(&self) -> bool
         ensures exact { IsTrue result ↔ (length (left_of self.now) ≡ 0) }
     {
-        self.next >= self.items.len()
+        self.next >= self.order.len()
     }
 
-    /// Returns the first key; no bytes if nothing is left.
+    /// Returns the first key.
     #[inline(always)]
     fn key(&self) -> &'a [u8]
+        requires { ¬ (length (left_of self.now) ≡ 0) }
         ensures value { result.now ≡ (entry_of (left_of self.now) 0).0 }
     {
-        self.items.key(self.next)
+        self.items.key(self.order[self.next])
     }
 
     /// Returns the first bytes of the first key, as a number; the greatest one if nothing is left.
@@ -205,23 +210,23 @@ impl<'a> Rest<'a> {
         ensures first { MatchOption result (left_of self.old ≡ []) (λ position. left_of self.old ≡ entry_of self.old.list position ∷ left_of self.new) }
         ensures list { self.new.list ≡ self.old.list }
     {
-        if self.next >= self.items.len() {
+        if self.next >= self.order.len() {
             return None;
         }
-        let position = self.next;
+        let position = self.order[self.next];
         self.next += 1;
-        self.lead = lead_at(self.items, self.next);
+        self.lead = lead_at(self.items, self.order, self.next);
         Some(position)
     }
 }
 
-/// The items of each reply.
-fn rests_of<'a>(alloc: Global, replies: &'a [WorkerReply]) -> Result<Vec<Rest<'a>>, NoMemory>
-    ensures { IfOk result (λ rests. rests.items ≡ map whole_of (items_in replies.now)) }
+/// The items of each worker.
+fn rests_of<'a>(alloc: Global, all: &'a [Answers]) -> Result<Vec<Rest<'a>>, NoMemory>
+    ensures { IfOk result (λ rests. rests.items ≡ map whole_of all.now) }
 {
-    let mut rests = Vec::with_capacity(alloc, replies.len())?;
-    for reply in replies {
-        rests.push(Rest::new(reply.items()))?;
+    let mut rests = Vec::with_capacity(alloc, all.len())?;
+    for answers in all {
+        rests.push(Rest::new(answers))?;
     }
     Ok(rests)
 }
@@ -240,14 +245,14 @@ fn take_least(rests: &mut Vec<Rest<'_>>) -> Option<EntryPosition>
     Some(EntryPosition { list, position })
 }
 
-/// Returns the lead of the items from a position on.
+/// Returns the lead of the items in this order, from a place in it on.
 #[inline(always)]
-fn lead_at(items: &EntryList, position: usize) -> u64
-    ensures value { result ≡ lead_of (drop position items.now) }
-    ensures bytes { AreBytes (entry_of (drop position items.now) 0).0 }
+fn lead_at(items: &EntryList, order: &[usize], next: usize) -> u64
+    ensures value { result ≡ lead_of (entries_at items.now (drop next order.now)) }
+    ensures bytes { AreBytes (entry_of (entries_at items.now (drop next order.now)) 0).0 }
 {
-    if position < items.len() {
-        return items.front(position);
+    if next < order.len() {
+        return items.front(order[next]);
     }
     u64::MAX
 }

@@ -8,6 +8,7 @@ use crate::answering::{answer_all, held_in};
 use crate::finding::find;
 use crate::merging::merged;
 use crate::team::Team;
+use crate::walk::Walk;
 use atomic_methods::{WalkKind, WalkReply};
 use bin_stripes::{Gate, StripedMap};
 use bpf_model::{NoMemory, Value};
@@ -15,20 +16,6 @@ use std::alloc::Global;
 use std::sync::Wait;
 use std::thread::Threads;
 use verifier::Verified;
-
-/// The program that a walk runs on each entry, and which answers it gives. The program runs in the workers if there are
-/// at least `threshold` entries, else in the calling thread.
-#[derive(Clone, Copy)]
-pub struct Walk<'a> {
-    /// Which answers the walk gives.
-    pub kind: WalkKind,
-    /// The program to run.
-    pub program: &'a Verified,
-    /// Its argument.
-    pub arg: &'a Option<Value>,
-    /// The workers run the program if there are at least this many entries.
-    pub threshold: u64,
-}
 
 /// Scans each stripe once, runs the program on each entry, and returns the answers of this kind of walk. Returns `NoMemory` if
 /// a request for memory is refused. Waits until each stripe is free.
@@ -53,10 +40,10 @@ pub fn walk_map<R: Threads + Wait + Sync, G: Gate + Sync>(
         return (team, Err(NoMemory));
     };
     let apart = held_in(&parts) >= walk.threshold;
-    let Ok(replies) = answer_all(rt, alloc, walk.program, walk.arg, parts, apart) else {
+    let Ok(answers) = answer_all(rt, alloc, walk, parts, apart) else {
         return (team, Err(NoMemory));
     };
-    (team, merged(alloc, walk.kind, replies))
+    (team, merged(alloc, walk.kind, answers))
 }
 
 /// The walk of kind `Search`: the least key with a present answer, and that answer; or no item.

@@ -52,14 +52,14 @@ fn made(alloc: Global, stripes: u64, workers: u64) -> Option<(StripedMap, Pass, 
     Some((map, pass, team))
 }
 
-/// Puts the entries `a` of 1 and `b` of 2, and `c` of nine bytes, which is too long for the program. Returns `None` if
-/// memory was refused.
+/// Puts the entries `b` of 2 and `a` of 1, and `c` of nine bytes, which is too long for the program. In one stripe a walk finds
+/// the least key after a greater one. Returns `None` if memory was refused.
 fn put_all<R: Wait>(rt: &R, map: &StripedMap, pass: &mut Pass) -> Option<()>
     requires { pass.old.map ≡ map.now }
     ensures { pass.new.map ≡ map.now }
 {
-    put(rt, map, pass, b"a", &ONE)?;
     put(rt, map, pass, b"b", &TWO)?;
+    put(rt, map, pass, b"a", &ONE)?;
     put(rt, map, pass, b"c", &NINE)
 }
 

@@ -4,7 +4,7 @@ use Rattle.bins.specs.Table.{Entry}
 use Rattle.bin_stripes.specs.Passes.{PassState, stripes_of}
 use Rattle.bpf_model.specs.declared.memory.NoMemory.{NoMemory}
 use Rattle.bulk_walks.specs.Walks.{Walked, MayScan}
-use Rattle.bulk_walks.specs.Turns.{FindsInOrder, EachFinds}
+use Rattle.bulk_walks.specs.Turns.{WorkerFinds, EachFinds}
 use Rattle.bulk_walks.proofs.TeamLemmas.{head_of}
 use Rattle.bulk_walks.proofs.FoundLemmas.{all_of}
 use Rattle.bulk_walks.proofs.finding.find.Goals as goal
@@ -12,7 +12,7 @@ use Rattle.bulk_walks.proofs.finding.find.Goals.{In-Ok}
 
 -- the work of worker i
 abbrev Does : TableId → ℕ → ℕ → PassState → Result (List Entry) NoMemory → PassState → Type 0
-Does map workers i x r y = (y.map ≡ map) × IfOk r (λ found. FindsInOrder (stripes_of map) workers i x.view y.view found) × Walked (stripes_of map) workers i MayScan x.view y.view
+Does map workers i x r y = (y.map ≡ map) × IfOk r (λ found. WorkerFinds (stripes_of map) (stripes_of map) workers i x.view y.view found) × Walked (stripes_of map) workers i MayScan x.view y.view
 
 each_of : (g : _) (c : In-Ok g) (i : ℕ) (d : PassState) (e : Result (List Entry) NoMemory) → i < length c.args.passes.items
     → Does c.args.map.now (length c.args.passes.items) i (slice_index_or c.args.passes.items i d) (slice_index_or c.in-Ok.answers.items i e) (slice_index_or c.work-passes.result.0.items i d)

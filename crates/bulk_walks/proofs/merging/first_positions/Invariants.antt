@@ -3,7 +3,7 @@ use Rattle.std.specs.FinMap.{is_sorted}
 use Rattle.bins.specs.Merged.{entry_at}
 use Rattle.bins.specs.Table.{Entry, by_bytes}
 use Rattle.bulk_walks.specs.Merges.{HasAll, lefts_of, lists_of}
-use Rattle.bulk_walks.specs.Turns.{items_in}
+use Rattle.bulk_walks.specs.Kept.{kept_in, lists_of_all}
 use Rattle.bulk_walks.proofs.MergeLemmas.{Left}
 use Rattle.bulk_walks.proofs.merging.first_positions.Given as goal
 
@@ -11,8 +11,8 @@ use Rattle.bulk_walks.proofs.merging.first_positions.Given as goal
 -- remaining items
 abbrev pub invariant-loop-given : goal.invariant-loop-given
 invariant-loop-given l = record {
-  lists : lists_of l.rests.items ≡ items_in l.replies;
+  lists : lists_of l.rests.items ≡ lists_of_all l.all;
   sorted : All (λ es. T (is_sorted by_bytes es)) (lefts_of l.rests.items);
-  left : (all : List Entry) → T (is_sorted by_bytes all) → HasAll all (items_in l.replies) → Left (map (entry_at (items_in l.replies)) l.positions.items) (lefts_of l.rests.items) all;
+  left : (whole : List Entry) → T (is_sorted by_bytes whole) → HasAll whole (kept_in l.all) → Left (map (entry_at (lists_of_all l.all)) l.positions.items) (lefts_of l.rests.items) whole;
   many : length l.positions.items ≡ l.given;
 }

@@ -1,9 +1,18 @@
-use Rattle.std.proofs.Common.{List, sum_by, ap, ◌∙◌}
-use Rattle.atomic_methods.specs.declared.walk_reply.WalkReply.{WalkReply}
-use Rattle.bulk_walks.proofs.MergeLemmas.{given_all}
+use Rattle.std.proofs.Common.{List, length, sum_by, ap, ◌∙◌}
+use Rattle.bulk_walks.specs.declared.answers.Answers.{Answers}
+use Rattle.bulk_walks.proofs.MergeLemmas.{ordered_all}
+use Rattle.bulk_walks.proofs.StandLemmas.{scanned_same, unfit_same}
 use Rattle.bulk_walks.proofs.merging.merged.Goals as goal
 
--- the replies counted as many items as they have
-pub all_items-requires-clause-counted : goal.all_items-requires-clause-counted
-all_items-requires-clause-counted c =
-    c.total_of-total.ensures.given ∙ ap (λ (rs : List WalkReply). sum_by (λ r. r.counts.given) rs) c.deref.ensures.value ∙ given_all c.args.replies.items c.requires.counted
+-- as many items are in order as were counted
+pub items_of-requires-clause-counted : goal.items_of-requires-clause-counted
+items_of-requires-clause-counted c =
+    c.total_of-total.ensures.given ∙ ap (λ (xs : List Answers). sum_by (λ a. length a.order.items) xs) c.deref.ensures.value ∙ ordered_all c.args.all.items
+
+pub returns : goal.returns
+returns c replies stand = record {
+  items = c.in_ok-items.ensures replies stand;
+  scanned = c.total_of-total.ensures.scanned ∙ ap (λ (xs : List Answers). sum_by (λ a. a.scanned) xs) c.deref.ensures.value ∙ scanned_same c.args.kind replies c.args.all.items stand;
+  given = c.len-given.ensures.value;
+  unfit = c.total_of-total.ensures.unfit ∙ ap (λ (xs : List Answers). sum_by (λ a. a.unfit) xs) c.deref.ensures.value ∙ unfit_same c.args.kind replies c.args.all.items stand;
+}

@@ -1,7 +1,6 @@
 use Rattle.std.proofs.Common.{◌≡◌, map, take}
 use Rattle.bulk_walks.specs.Merges.{whole_of}
-use Rattle.bulk_walks.specs.Turns.{items_in}
 use Rattle.bulk_walks.proofs.merging.rests_of.Given as goal
 
-abbrev pub invariant-loop-reply : goal.invariant-loop-reply
-invariant-loop-reply l = l.rests.items ≡ map whole_of (items_in (take l.reply-index l.replies))
+abbrev pub invariant-loop-answers : goal.invariant-loop-answers
+invariant-loop-answers l = l.rests.items ≡ map whole_of (take l.answers-index l.all)

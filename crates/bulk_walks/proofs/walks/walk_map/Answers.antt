@@ -1,20 +1,27 @@
+use Rattle.std.proofs.Common.{arith}
 use Rattle.bulk_walks.proofs.RunLemmas.{may_all}
 use Rattle.bulk_walks.proofs.TeamLemmas.{at_most_64}
-use Rattle.bulk_walks.proofs.WholeLemmas.{items_sorted, all_counted, scanned_fit, given_fit, unfit_fit, walks_of}
+use Rattle.bulk_walks.proofs.StandLemmas.{kept_sorted, scanned_same, given_le, unfit_same}
+use Rattle.bulk_walks.proofs.WholeLemmas.{once_given, all_counted, scanned_fit, given_fit, unfit_fit, walks_of}
 use Rattle.bulk_walks.proofs.walks.walk_map.Goals as goal
 
 pub merged-requires : goal.merged-requires
 merged-requires g c =
     let f = rw c.in-Ok.is at c.find-passes.ensures.found in
     let n = at_most_64 _ c.stripes-stripes.ensures.count in
-    let replies = c.in-Ok-answer_all.replies.items in
-    let are = c.in-Ok-answer_all.ensures in
+    let kind = c.args.walk.now.kind in
+    let checked = c.args.walk.now.program.now in
+    let arg = c.args.walk.now.arg.now in
+    let all = c.in-Ok-answer_all.answers.items in
+    let answered = c.in-Ok-answer_all.ensures in
+    let replies = answered.replies in
+    let are = answered.are_replies in
+    let stand = answered.stand in
     record {
-      order = items_sorted _ _ _ _ c.args.walk.now.program.now c.args.walk.now.arg.now replies f are;
-      counted = all_counted _ _ _ _ c.args.walk.now.program.now c.args.walk.now.arg.now replies f are;
-      scanned = scanned_fit _ _ _ _ c.args.walk.now.program.now c.args.walk.now.arg.now replies f are n;
-      given = given_fit _ _ _ _ c.args.walk.now.program.now c.args.walk.now.arg.now replies f are n;
-      unfit = unfit_fit _ _ _ _ c.args.walk.now.program.now c.args.walk.now.arg.now replies f are n;
+      order = kept_sorted kind replies all stand (once_given _ _ _ _ checked arg replies f are);
+      scanned = let a = scanned_same kind replies all stand in let b = scanned_fit _ _ _ _ checked arg replies f are n in omega (arith, a, b);
+      given = let a = given_le kind replies all (all_counted _ _ _ _ checked arg replies f are) stand in let b = given_fit _ _ _ _ checked arg replies f are n in omega (arith, a, b);
+      unfit = let a = unfit_same kind replies all stand in let b = unfit_fit _ _ _ _ checked arg replies f are n in omega (arith, a, b);
     }
 
 -- memory was refused to the program's runs
@@ -25,4 +32,6 @@ returns-in_default-answer_all-clause-walked g c =
 
 pub returns-clause-walked : goal.returns-clause-walked
 returns-clause-walked g c =
-    walks_of _ _ _ _ c.args.walk.now.program.now c.args.walk.now.arg.now c.in-Ok-answer_all.replies.items (rw c.in-Ok.is at c.find-passes.ensures.found) c.in-Ok-answer_all.ensures c.args.walk.now.kind c.merged.result c.merged.ensures
+    let answered = c.in-Ok-answer_all.ensures in
+    walks_of _ _ _ _ c.args.walk.now.program.now c.args.walk.now.arg.now answered.replies (rw c.in-Ok.is at c.find-passes.ensures.found) answered.are_replies
+    c.args.walk.now.kind c.in-Ok-answer_all.answers.items answered.stand c.merged.result c.merged.ensures

@@ -1,0 +1,206 @@
+//! The program's runs on one worker's entries.
+ghost use Rattle.std.specs.Prelude.{◌≡◌, ◌<◌, ◌≤◌, ◌∷◌, [], All, List, ℕ, Some, IfOk, length, option_copied};
+ghost use Rattle.bpf_model.specs.Fits.{HasInputBytes, input_of};
+ghost use Rattle.atomic_methods.specs.declared.walk_reply.WalkKind.TheVariants.{Search, ForEach};
+ghost use Rattle.bulk_walks.specs.Kept.{IsAnswered, IsOffered, RunsOnAll, FindsFirst, item_at};
+ghost use Rattle.bulk_walks.specs.Merges.{comes_first};
+
+use crate::answers::{Answers, order_of};
+use bins::EntryList;
+use bpf_machine::{Machine, run_into};
+use bpf_model::limits::{KEY_BYTES, VALUE_BYTES};
+use bpf_model::{InputPart, Key, NoMemory, Value, fits_parts, value_bytes};
+use std::alloc::Global;
+use verifier::Verified;
+
+/// The buffers in which a program runs on one entry after the other: no value is made for an entry, or moved. Old contents
+/// make no difference.
+#[derive(Drop)]
+struct Workbench {
+    machine: Machine,
+    key: Key,
+    answer: Value,
+}
+
+impl Workbench {
+    /// Makes a workbench. Takes no memory.
+    fn new() -> Workbench {
+        Workbench {
+            machine: Machine::new(),
+            key: Key::from_slice(&[]).unwrap(),
+            answer: Value::new(),
+        }
+    }
+}
+
+/// States that a list of bytes has bytes, for the proof.
+fn are_bytes(bytes: &[u8])
+    ensures { All (λ b. b < 256) bytes.now }
+{}
+
+/// States the same of an input's parts.
+fn has_bytes(key: &[u8], value: &[u8], arg: Option<&[u8]>)
+    ensures { HasInputBytes (input_of key.now (Some value.now) (option_copied arg.entry)) }
+{
+    are_bytes(key);
+    are_bytes(value);
+    let Some(arg) = arg else {
+        return;
+    };
+    are_bytes(arg);
+}
+
+/// Runs the program on a key, its value and the argument, if its answer is wanted. Returns whether it answers bytes, which
+/// are then on the bench. If the input doesn't fit, returns the first window that is too small, wanted or not.
+fn answer(
+    program: &Verified,
+    key: &[u8],
+    value: &[u8],
+    arg: &Option<Value>,
+    wanted: bool,
+    bench: &mut Workbench,
+) -> Result<bool, InputPart>
+    requires key { length key.now ≤ KEY_BYTES }
+    ensures offered { IsOffered program.now (input_of key.now (Some value.now) arg.now) wanted result bench.new.answer }
+{
+    // the program is safe: it has an answer, wanted or not
+    let _program = program.program();
+    let sizes = program.sizes();
+    let arg = value_bytes(arg.as_ref());
+    let Workbench {
+        machine,
+        key: own_key,
+        answer,
+    } = bench;
+    own_key.set_from(key);
+    has_bytes(key, value, arg);
+    if let Err(part) = fits_parts(&sizes, own_key, Some(value), arg) {
+        return Err(part);
+    }
+    if !wanted {
+        return Ok(false);
+    }
+    Ok(run_into(program, own_key, Some(value), arg, machine, answer))
+}
+
+/// Runs the program on each entry in turn. Returns its answers with their keys, and how many entries don't fit.
+fn run_on_all(
+    alloc: Global,
+    entries: &EntryList,
+    program: &Verified,
+    arg: &Option<Value>,
+) -> Result<(EntryList, u64), NoMemory>
+    ensures { IfOk result (λ found. RunsOnAll program.now arg.now entries.now found.0 found.1) }
+{
+    let mut items = EntryList::new(alloc);
+    let count = entries.len();
+    items.reserve(count)?;
+    let mut bench = Workbench::new();
+    let mut unfit = 0;
+    for position in 0..count {
+        let (key, value) = entries.get(position);
+        match answer(program, key, value, arg, true, &mut bench) {
+            Ok(true) => items.push(key, bench.answer.as_slice())?,
+            Ok(false) => {}
+            Err(_) => unfit += 1,
+        }
+    }
+    Ok((items, unfit))
+}
+
+/// Runs the program on each entry in turn, and returns its answers with their keys, and the order of these. Only answers
+/// are sorted. Returns `NoMemory` if a request for memory is refused.
+pub(crate) fn all_answers(
+    alloc: Global,
+    entries: &EntryList,
+    program: &Verified,
+    arg: &Option<Value>,
+) -> Result<Answers, NoMemory>
+    ensures { IfOk result (λ answers. IsAnswered ForEach program.now arg.now entries.now answers) }
+{
+    let scanned = entries.len() as u64;
+    let (items, unfit) = run_on_all(alloc, entries, program, arg)?;
+    let order = order_of(alloc, &items)?;
+    Ok(Answers {
+        items,
+        order,
+        scanned,
+        unfit,
+    })
+}
+
+/// The position of the entry with the least key so far at which the program answers bytes, with this answer; or none.
+#[derive(Drop)]
+struct First {
+    position: Option<usize>,
+    answer: Value,
+}
+
+impl First {
+    /// Tests whether an answer at this key would be the first.
+    #[inline(always)]
+    fn is_after(&self, entries: &EntryList, key: &[u8]) -> bool
+        ensures { (answer : List ℕ) → result ≡ comes_first ((key.now, answer) ∷ []) (item_at entries.now self.now.position self.now.answer) }
+    {
+        match self.position {
+            None => true,
+            Some(position) => key.cmp(entries.key(position)).is_lt(),
+        }
+    }
+}
+
+/// Finds the least key at which the program answers bytes, and that answer. On an entry whose key is not less than the best
+/// one so far it doesn't run. Returns how many entries don't fit, too.
+fn find_first(entries: &EntryList, program: &Verified, arg: &Option<Value>) -> (First, u64)
+    ensures { FindsFirst program.now arg.now entries.now (item_at entries.now result.0.position result.0.answer) result.1 }
+{
+    let mut bench = Workbench::new();
+    let mut first = First {
+        position: None,
+        answer: Value::new(),
+    };
+    let mut unfit = 0;
+    for position in 0..entries.len() {
+        let (key, value) = entries.get(position);
+        let wanted = first.is_after(entries, key);
+        match answer(program, key, value, arg, wanted, &mut bench) {
+            Ok(true) => {
+                first.position = Some(position);
+                first.answer.set_from(bench.answer.as_slice());
+            }
+            Ok(false) => {}
+            Err(_) => unfit += 1,
+        }
+    }
+    (first, unfit)
+}
+
+/// Returns only the answer at the least key, and asks for memory for no other. Returns `NoMemory` if that is refused.
+pub(crate) fn first_answer(
+    alloc: Global,
+    entries: &EntryList,
+    program: &Verified,
+    arg: &Option<Value>,
+) -> Result<Answers, NoMemory>
+    ensures { IfOk result (λ answers. IsAnswered Search program.now arg.now entries.now answers) }
+{
+    let (first, unfit) = find_first(entries, program, arg);
+    let items = item_of(alloc, entries, &first)?;
+    Ok(Answers {
+        items,
+        order: Vec::new(alloc),
+        scanned: entries.len() as u64,
+        unfit,
+    })
+}
+
+/// Returns a list of the item, or an empty one.
+fn item_of(alloc: Global, entries: &EntryList, first: &First) -> Result<EntryList, NoMemory>
+    ensures { IfOk result (λ items. items ≡ item_at entries.now first.now.position first.now.answer) }
+{
+    let mut items = EntryList::new(alloc);
+    if let Some(position) = first.position {
+        items.push(entries.key(position), first.answer.as_slice())?;
+    }
+    Ok(items)
+}
