@@ -2,10 +2,9 @@
 use Rattle.std.proofs.Common.{◌≡◌, ◌≢◌, ◌==◌, if◌then◌else◌, ℕ, List, [], ◌∷◌, ◌++◌, Bool, true, false, refl, sym, ap, subst, ◌∙◌, append-nil, append_assoc, eq-eqb, ne_eqb}
 use Rattle.bin_stripes.specs.Passes.{PassState}
 use Rattle.client_protocol.specs.Frames.{Held}
-use Rattle.program_registry.specs.declared.registry.ProgramToken.{ProgramToken}
 use Rattle.redis_service.specs.Talks.{TalkState}
 use Rattle.sessions.specs.Conversations.{Exchange, Converses}
-use Rattle.crews.specs.Stations.{Station}
+use Rattle.crews.specs.Stations.{KeptTokens, Station}
 use Rattle.crews.specs.Steps.{CrewServes}
 use Rattle.crews.specs.Talks.{AnswersEach}
 use Rattle.crews.specs.Lives.{Known, known, Moves, KeepsTokens, KeepsNumbers, Turn, exchanges_of}
@@ -20,8 +19,8 @@ moves_on a b c [] ys one more = subst (λ (k : Known). Moves k ys c) one more
 moves_on a b c (serves client x ∷ xs) ys (begins, one) more = (begins, moves_on (known x.new) b c xs ys one more)
 moves_on a b c (sweeps time pass ∷ xs) ys (swept, one) more = (swept, moves_on (known_of pass a.team) b c xs ys one more)
 
-pub tokens_go_on : (a b c : List ProgramToken) (xs ys : List (Exchange Station)) → KeepsTokens a xs b → KeepsTokens b ys c → KeepsTokens a (xs ++ ys) c
-tokens_go_on a b c [] ys one more = subst (λ (k : List ProgramToken). KeepsTokens k ys c) one more
+pub tokens_go_on : (a b c : KeptTokens) (xs ys : List (Exchange Station)) → KeepsTokens a xs b → KeepsTokens b ys c → KeepsTokens a (xs ++ ys) c
+tokens_go_on a b c [] ys one more = subst (λ (k : KeptTokens). KeepsTokens k ys c) one more
 tokens_go_on a b c (x ∷ xs) ys (begins, one) more = (begins, tokens_go_on x.new.tokens b c xs ys one more)
 
 pub converses_on : (a b c : Held) (xs ys : List (Exchange Station)) → Converses CrewServes a xs b → Converses CrewServes b ys c → Converses CrewServes a (xs ++ ys) c

@@ -1,6 +1,7 @@
--- The numbers that a crew's passes carry stay as they are.
-use Rattle.std.proofs.Common.{◌≡◌, ◌⊎◌, ℕ, zero, suc, ◌<◌, List, [], ◌∷◌, length, slice_index_or, Option, inl, inr, refl, sym, ap, subst, ◌∙◌, arith}
+-- The numbers that a crew's passes carry stay as they are, and the registry of the session's tokens does.
+use Rattle.std.proofs.Common.{◌≡◌, ◌⊎◌, None, Some, MatchOption, ℕ, zero, suc, ◌<◌, List, [], ◌∷◌, length, slice_index_or, Option, inl, inr, refl, sym, ap, subst, ◌∙◌, arith}
 use Rattle.stripe_rule.specs.declared.view.View.{View}
+use Rattle.verifier.specs.Checked.{Checked}
 use Rattle.atomic_methods.specs.Invocations.{Invocation}
 use Rattle.atomic_methods.specs.declared.reply.Reply.{Reply}
 use Rattle.bin_stripes.specs.Invoked.{Calls, RefusesCall}
@@ -18,8 +19,8 @@ use Rattle.sessions.specs.Answering.{hello_behind, AnswersInOrder}
 use Rattle.sessions.specs.Conversations.{AnswersPiece, BreaksPiece}
 use Rattle.sessions.specs.Sessions.{Ended}
 use Rattle.crews.specs.Crews.{team_numbers}
-use Rattle.crews.specs.Stations.{Station}
-use Rattle.crews.specs.Steps.{IsToldBy, Pairwise, HearsEach, TeamWalks, CrewMeets, CrewServes}
+use Rattle.crews.specs.Stations.{KeptTokens, Station}
+use Rattle.crews.specs.Steps.{IsToldBy, Pairwise, HearsEach, TeamWalks, Finds, keeping, number_in, CrewMeets, CrewServes}
 use Rattle.crews.proofs.ChainLemmas.{order, session_leads}
 
 no_numbers : List ℕ
@@ -29,12 +30,13 @@ pub record SameNumbers (old new : Station) : Type 0 where
   pub map : new.pass.map ≡ old.pass.map
   pub pass : new.pass.view.numbers ≡ old.pass.view.numbers
   pub team : team_numbers new.team ≡ team_numbers old.team
+  pub registry : new.tokens.registry ≡ old.tokens.registry
 
 stays : (s : Station) → SameNumbers s s
-stays s = record { map = refl; pass = refl; team = refl }
+stays s = record { map = refl; pass = refl; team = refl; registry = refl }
 
 goes_on : (a b c : Station) → SameNumbers a b → SameNumbers b c → SameNumbers a c
-goes_on a b c one more = record { map = more.map ∙ one.map; pass = more.pass ∙ one.pass; team = more.team ∙ one.team }
+goes_on a b c one more = record { map = more.map ∙ one.map; pass = more.pass ∙ one.pass; team = more.team ∙ one.team; registry = more.registry ∙ one.registry }
 
 told_numbers : (from : PassState) (olds news : List PassState) → Pairwise (IsToldBy from) olds news → team_numbers news ≡ team_numbers olds
 told_numbers from [] [] told = refl
@@ -75,6 +77,7 @@ team_walks old new Walks keeps walks = record {
   map = heard_map old.pass new.team new.pass walks.hears;
   pass = heard_numbers old.pass new.team new.pass walks.hears;
   team = keeps walks.told new.team walks.walks ∙ told_numbers old.pass old.team walks.told walks.tells;
+  registry = ap (λ (t : KeptTokens). t.registry) walks.tokens;
 }
 
 once : (old new : Station) (response : Response) (responses : List Response) → AnswersOnce old response responses new → SameNumbers old new
@@ -88,11 +91,11 @@ called_numbers old new responses invocation (inr (refuses, is)) = refuses.nothin
 
 meets : (hello : Option Version) (old : Station) (asks : Asked) (responses : List Response) (new : Station) → CrewMeets hello old asks responses new → SameNumbers old new
 meets hello old (greeting version) responses new m = once old new _ responses m
-meets hello old (registration sizes bytes) responses new (inl (token, admits, is, same)) = subst (λ (s : Station). SameNumbers old s) (sym same) (record { map = refl; pass = refl; team = refl })
+meets hello old (registration sizes bytes) responses new (inl (token, admits, is, same)) = subst (λ (s : Station). SameNumbers old s) (sym same) (record { map = refl; pass = refl; team = refl; registry = refl })
 meets hello old (registration sizes bytes) responses new (inr (inl (token, admits, held, m))) = once old new _ responses m
 meets hello old (registration sizes bytes) responses new (inr (inr (inl (response, refuses, m)))) = once old new response responses m
 meets hello old (registration sizes bytes) responses new (inr (inr (inr m))) = once old new _ responses m
-meets hello old (call invocation) responses new m = record { map = m.same.map; pass = called_numbers old new responses invocation m.made; team = ap team_numbers m.team }
+meets hello old (call invocation) responses new m = record { map = m.same.map; pass = called_numbers old new responses invocation m.made; team = ap team_numbers m.team; registry = ap (λ (t : KeptTokens). t.registry) m.tokens }
 meets hello old (walk kind program arg) responses new (inl (reply, walks, is)) = team_walks old new _ (λ before after walked. walked_numbers _ _ before after walked.walked) walks
 meets hello old (walk kind program arg) responses new (inr (walks, is)) = team_walks old new _ (λ before after walked. walked_numbers _ _ before after walked) walks
 meets hello old (replacement program arg) responses new (inl (reply, walks, is)) = team_walks old new _ (λ before after walked. walked_numbers _ _ before after walked.walked) walks
@@ -101,8 +104,19 @@ meets hello old count responses new (inl (reply, walks, is)) = team_walks old ne
 meets hello old count responses new (inr (walks, is)) = team_walks old new _ (λ before after walked. walked_numbers _ _ before after walked) walks
 meets hello old unknown responses new m = once old new _ responses m
 
+-- nor does the registry change when a program is found
+named_registry : (number : Option ℕ) (old kept : KeptTokens) (found : Option Checked) → MatchOption number (kept ≡ old) (λ n. Finds old n found kept) → kept.registry ≡ old.registry
+named_registry None old kept found same = ap (λ (t : KeptTokens). t.registry) same
+named_registry (Some number) old kept found finds = elim finds.grown [
+  | inl same ↦ ap (λ (t : KeptTokens). t.registry) same
+  | inr (token, has, is) ↦ ap (λ (t : KeptTokens). t.registry) is
+]
+
 step : (hello : Option Version) (old : Station) (request : Request) (responses : List Response) (new : Station) → CrewServes hello old request responses new → SameNumbers old new
-step hello old request responses new serves = meets hello old (asked (λ _. serves.found) request) responses new serves.meets
+step hello old request responses new (inl answers) =
+    let same = meets hello (keeping old answers.kept) (asked (λ _. answers.found) request) responses new answers.meets in
+    record { map = same.map; pass = same.pass; team = same.team; registry = same.registry ∙ named_registry (number_in request) old.tokens answers.kept answers.found answers.finds }
+step hello old request responses new (inr (names, refused)) = once old new _ responses refused
 
 -- a session's passes carry the numbers that they carried
 pub ended_same : (old : Station) (end : SessionEnd) (read : List ℕ) (last : ℕ) (written : List ℕ) (new : Station) → Ended CrewServes old end read last written new → SameNumbers old new

@@ -6,7 +6,6 @@ use Rattle.client_protocol.specs.declared.fault.ProtocolFault.{ProtocolFault}
 use Rattle.client_protocol.specs.Faults.{protocol_fault_number}
 use Rattle.client_protocol.specs.Frames.{Held, held_fault}
 use Rattle.client_protocol.specs.Frames.Held.{open_at, failed}
-use Rattle.program_registry.specs.declared.registry.ProgramToken.{ProgramToken}
 use Rattle.devices.specs.Channels.{OwedState}
 use Rattle.devices.specs.Devices.{SinkState, TakesBytes, TakesFront, TakesPart, TakesThenFails}
 use Rattle.redis_service.specs.Lines.{no_memory_line}
@@ -25,7 +24,7 @@ use Rattle.crews.specs.declared.clients.Parting.{Parting}
 use Rattle.crews.specs.declared.clients.Parting.TheVariants.{Ended}
 use Rattle.crews.specs.declared.talk.Talk.{Talk}
 use Rattle.crews.specs.declared.talk.Talk.TheVariants.{Frames, Commands}
-use Rattle.crews.specs.Stations.{Station}
+use Rattle.crews.specs.Stations.{KeptTokens, Station}
 use Rattle.crews.specs.Steps.{CrewServes}
 use Rattle.crews.specs.Talks.{protocol_of, IsOpen, AnswersCommands, Talked, Breaks}
 use Rattle.crews.specs.Partings.{AllSaid, LacksPiece, SaidInPart, SaysSo, no_memory_told}
@@ -227,18 +226,18 @@ piece_says (Err WriteFailed) old new held next piece leaving a b c some ok refus
     broken old new (Frames held) (Frames next) piece written leaving a.rest c.rest exchanges read said (numbers_of old new (broken_same held next old new piece written broke)) broke refl is (same ∙ takes.0) all
 
 -- the passes had the client's tokens meanwhile
-pub says_around : (s0 s1 s2 s3 : Station) (t0 t1 t2 : List ProgramToken) (next : Talk) (leaving : Option Parting) (exchanges : List (Exchange Station)) (read said owed more : List ℕ)
+pub says_around : (s0 s1 s2 s3 : Station) (t0 t1 t2 : KeptTokens) (next : Talk) (leaving : Option Parting) (exchanges : List (Exchange Station)) (read said owed more : List ℕ)
     → s1 ≡ record { pass = s0.pass; team = s0.team; tokens = t0 } → s3 ≡ record { pass = s2.pass; team = s2.team; tokens = t1 } → t2 ≡ s2.tokens
     → SaysMore (known s1) (known s2) exchanges s1.tokens s2.tokens next leaving read said owed more → SaysMore (known s0) (known s3) exchanges t0 t2 next leaving read said owed more
 says_around s0 s1 s2 s3 t0 t1 t2 next leaving exchanges read said owed more lent back left m =
     subst (λ (s : Station). SaysMore (known s0) (known s) exchanges t0 t2 next leaving read said owed more) (sym back)
-    (subst (λ (t : List ProgramToken). SaysMore (known s0) (known s2) exchanges t0 t next leaving read said owed more) (sym left)
+    (subst (λ (t : KeptTokens). SaysMore (known s0) (known s2) exchanges t0 t next leaving read said owed more) (sym left)
     (subst (λ (s : Station). SaysMore (known s) (known s2) exchanges s.tokens s2.tokens next leaving read said owed more) lent m))
 
 -- ---- commands
 
 -- what the talk made of a piece
-pub commands_say : {U : Type 0} (taken : Result U TalkEnd) (tokens : List ProgramToken) (team : List PassState) (old new : PassState) (time : ℕ) (talk next : TalkState) (piece : List ℕ) (leaving : Option Parting) (a b c : OwedState) → 1 ≤ length piece
+pub commands_say : {U : Type 0} (taken : Result U TalkEnd) (tokens : KeptTokens) (team : List PassState) (old new : PassState) (time : ℕ) (talk next : TalkState) (piece : List ℕ) (leaving : Option Parting) (a b c : OwedState) → 1 ≤ length piece
     → talk.is_over ≡ false → ServesSameMap old new → new.view.numbers ≡ old.view.numbers
     → OnOk taken ((next.is_over ≡ false) × ((written : List ℕ) × TakesBytes (sink_of a) (sink_of b) written × redis.AnswersPiece time talk old piece written next new))
     → (taken ≡ Err talk_end.Over → (next.is_over ≡ true) × ((written : List ℕ) × TakesBytes (sink_of a) (sink_of b) written × redis.AnswersPiece time talk old piece written next new))

@@ -5,7 +5,6 @@ use Rattle.std.proofs.KnownBytes.{Appends-nil, Appends-kept, Appends-trans, Cons
 use Rattle.std.specs.Io.KnownBytes.{Appends, Consumes, Keeps}
 use Rattle.bin_stripes.specs.Passes.{PassState, ServesSameMap}
 use Rattle.slab.specs.Slab.{Slab, get, Updates}
-use Rattle.program_registry.specs.declared.registry.ProgramToken.{ProgramToken}
 use Rattle.devices.specs.Channels.{ChannelState, OwedState, Sends}
 use Rattle.devices.specs.declared.channel.Sent.{Sent}
 use Rattle.devices.specs.declared.channel.Sent.TheVariants.{Took, NotNow, Failed}
@@ -17,7 +16,8 @@ use Rattle.crews.specs.declared.clients.Protocol.TheVariants as protocols
 use Rattle.crews.specs.declared.talk.Talk.{Talk}
 use Rattle.crews.specs.declared.turn.Client.{Client}
 use Rattle.crews.specs.Crews.{team_numbers}
-use Rattle.crews.specs.Stations.{Station}
+use Rattle.program_registry.specs.declared.registry.Registry.{Registry}
+use Rattle.crews.specs.Stations.{KeptTokens, no_tokens, Station}
 use Rattle.crews.specs.Talks.{protocol_of, begins_so, IsOpen}
 use Rattle.crews.specs.Partings.{SaysSo, not_kept_told}
 use Rattle.redis_service.specs.Sweeps.{Sweeps}
@@ -136,7 +136,7 @@ module _ {C : Type 0} (state : C → ChannelState) (gave : PassState → C → P
   )
 
   -- a client has a turn
-  pub lives_on : (old : Known) (turns : List Turn) (mid new : Known) (n k : ℕ) (came : Arrival C) (now : C) (tokens : List ProgramToken) (talk : Talk) (owed : OwedState) (leaving : Option Parting)
+  pub lives_on : (old : Known) (turns : List Turn) (mid new : Known) (n k : ℕ) (came : Arrival C) (now : C) (tokens : KeptTokens) (talk : Talk) (owed : OwedState) (leaving : Option Parting)
       → Life state gave old turns mid n → k < n → HasCome gave old turns mid k came → (t : TurnsTo state mid new came now (exchanges_of k turns) tokens talk owed leaving)
       → Life state gave old (turns ++ turns_of k t.more) new n
   lives_on old turns mid new n k came now tokens talk owed leaving life low come t = record {
@@ -175,14 +175,21 @@ module _ {C : Type 0} (state : C → ChannelState) (gave : PassState → C → P
 
   -- ---- a client more came, and has had no turn
 
-  pub new_stands : (number : ℕ) (came : Arrival C) (now : C) → state now ≡ state came.channel
-      → Stands state came now [] [] (begins_so number came.protocol) (record { rest = []; failures = 0 }) None
-  new_stands number came now same = record {
+  nothing_read : (came : Arrival C) (now : C) → state now ≡ state came.channel → Consumes (state came.channel).left (state now).left []
+  nothing_read came now same = subst (λ (s : ChannelState). Consumes (state came.channel).left s.left []) (sym same) (Consumes-nil (state came.channel).left)
+
+  nothing_written : (came : Arrival C) (now : C) → state now ≡ state came.channel → Appends (state came.channel).held (state now).held []
+  nothing_written came now same = subst (λ (s : ChannelState). Appends (state came.channel).held s.held []) (sym same) (Appends-nil (state came.channel).held)
+
+  pub new_stands : (registry : Registry) (number : ℕ) (came : Arrival C) (now : C) → state now ≡ state came.channel
+      → Stands state came now [] (no_tokens registry) (begins_so number came.protocol) (record { rest = []; failures = 0 }) None
+  new_stands registry number came now same = record {
     speaks = begins_in number came.protocol;
     read = [];
     written = [];
-    consumed = subst (λ (s : ChannelState). Consumes (state came.channel).left s.left []) (sym same) (Consumes-nil (state came.channel).left);
-    appended = subst (λ (s : ChannelState). Appends (state came.channel).held s.held []) (sym same) (Appends-nil (state came.channel).held);
+    consumed = nothing_read came now same;
+    appended = nothing_written came now same;
+    registry = registry;
     keeps = refl;
     says = begins_saying number came.protocol;
     unfailed = λ is. refl;
@@ -203,14 +210,14 @@ module _ {C : Type 0} (state : C → ChannelState) (gave : PassState → C → P
   }
 
   -- so it stands among the turns so far, of which none is its own
-  first_stands : (turns : List Turn) (n number : ℕ) (came : Arrival C) (now : C) → exchanges_of n turns ≡ [] → state now ≡ state came.channel
-      → Stands state came now (exchanges_of n turns) [] (begins_so number came.protocol) (record { rest = []; failures = 0 }) None
-  first_stands turns n number came now none same =
-      subst (λ (es : List (Exchange Station)). Stands state came now es [] (begins_so number came.protocol) (record { rest = []; failures = 0 }) None) (sym none) (new_stands number came now same)
+  first_stands : (registry : Registry) (turns : List Turn) (n number : ℕ) (came : Arrival C) (now : C) → exchanges_of n turns ≡ [] → state now ≡ state came.channel
+      → Stands state came now (exchanges_of n turns) (no_tokens registry) (begins_so number came.protocol) (record { rest = []; failures = 0 }) None
+  first_stands registry turns n number came now none same =
+      subst (λ (es : List (Exchange Station)). Stands state came now es (no_tokens registry) (begins_so number came.protocol) (record { rest = []; failures = 0 }) None) (sym none) (new_stands registry number came now same)
 
-  pub one_more_lives : (old : Known) (turns : List Turn) (new : Known) (n number : ℕ) (came : Arrival C) (now : C) → Life state gave old turns new n → gave new.pass came.channel came.protocol → state now ≡ state came.channel
+  pub one_more_lives : (registry : Registry) (old : Known) (turns : List Turn) (new : Known) (n number : ℕ) (came : Arrival C) (now : C) → Life state gave old turns new n → gave new.pass came.channel came.protocol → state now ≡ state came.channel
       → Life state gave old turns new (n + 1)
-  one_more_lives old turns new n number came now life given same = record {
+  one_more_lives registry old turns new n number came now life given same = record {
     moves = life.moves;
     each = λ i below. elim (cases_eq n i) [
       | inl here ↦ subst (λ (j : ℕ). IsOfClient state gave old turns new j) here own
@@ -223,12 +230,12 @@ module _ {C : Type 0} (state : C → ChannelState) (gave : PassState → C → P
     own = (
       came,
       now,
-      [],
+      no_tokens registry,
       begins_so number came.protocol,
       record { rest = []; failures = 0 },
       None,
       comes_now old turns new n came life.moves given (life.no_other n (omega arith)),
-      first_stands turns n number came now (life.no_other n (omega arith)) same,
+      first_stands registry turns n number came now (life.no_other n (omega arith)) same,
     )
 
   pub more_seated : (old : Known) (turns : List Turn) (new : Known) (n : ℕ) (seats : Slab (Client C)) → Seated state gave old turns new n seats → Seated state gave old turns new (n + 1) seats
@@ -316,13 +323,13 @@ module _ {C : Type 0} (state : C → ChannelState) (gave : PassState → C → P
     moves = (swept, known_same new (record { pass = new.pass; team = mid.team }) refl team)
 
   -- a client comes, and takes a seat
-  pub one_comes : (old : Known) (turns : List Turn) (new : Known) (n number : ℕ) (seats room after : Slab (Client C)) (seat : ℕ) (came : Arrival C) (now : C) (talk : Talk) (client : Client C) → gave new.pass came.channel came.protocol
+  pub one_comes : (registry : Registry) (old : Known) (turns : List Turn) (new : Known) (n number : ℕ) (seats room after : Slab (Client C)) (seat : ℕ) (came : Arrival C) (now : C) (talk : Talk) (client : Client C) → gave new.pass came.channel came.protocol
       → state now ≡ state came.channel → talk ≡ begins_so number came.protocol
-      → client ≡ record { number = n; channel = now; talk = talk; tokens = []; owed = record { rest = []; failures = 0 }; leaving = None }
+      → client ≡ record { number = n; channel = now; talk = talk; tokens = no_tokens registry; owed = record { rest = []; failures = 0 }; leaving = None }
       → room ≡ record seats { capacity = room.capacity } → Updates room after seat (Some client)
       → IsAttended state gave old turns new n seats → IsAttended state gave old turns new (n + 1) after
-  one_comes old turns new n number seats room after seat came now talk client given same begins is grown updates (life, seated) = (
-    one_more_lives old turns new n number came now life given same,
+  one_comes registry old turns new n number seats room after seat came now talk client given same begins is grown updates (life, seated) = (
+    one_more_lives registry old turns new n number came now life given same,
     takes_seat old turns new (n + 1) seats after seat client (more_seated old turns new n seats seated) none stands (record {
       changed = updates.changed;
       others = λ other differ. updates.others other differ ∙ ap (λ (s : Slab (Client C)). get s other) grown;
@@ -333,14 +340,12 @@ module _ {C : Type 0} (state : C → ChannelState) (gave : PassState → C → P
 
     stands : IsClient state gave old turns new (n + 1) client
     stands = subst (λ (c : Client C). IsClient state gave old turns new (n + 1) c) (sym is)
-        (omega arith, (came, comes_now old turns new n came life.moves given (life.no_other n (omega arith)), subst (λ (t : Talk). Stands state came now (exchanges_of n turns) [] t (record { rest = []; failures = 0 }) None) (sym begins) (first_stands turns n number came now (life.no_other n (omega arith)) same)))
+        (omega arith, (came, comes_now old turns new n came life.moves given (life.no_other n (omega arith)), subst (λ (t : Talk). Stands state came now (exchanges_of n turns) (no_tokens registry) t (record { rest = []; failures = 0 }) None) (sym begins) (first_stands registry turns n number came now (life.no_other n (omega arith)) same)))
 
   -- nothing was told to it
   told_none : (pass : PassState) (came : Arrival C) (now next : C) → gave pass came.channel came.protocol → state now ≡ state came.channel → Keeps (state now).left (state next).left → Keeps (state now).held (state next).held
       → HasParted state gave pass next NotKept
-  unfolding new_stands
   told_none pass came now next given same unread untold =
-      let stands = new_stands 0 came now same in
       let here : Known = record { pass = pass; team = [] } in
       record {
         old = here;
@@ -352,17 +357,15 @@ module _ {C : Type 0} (state : C → ChannelState) (gave : PassState → C → P
         come = comes_now here [] here 0 came refl given refl;
         read = [];
         written = [];
-        consumed = Consumes-kept (state came.channel).left (state now).left (state next).left [] stands.consumed unread;
-        appended = Appends-kept (state came.channel).held (state now).held (state next).held [] stands.appended untold;
+        consumed = Consumes-kept (state came.channel).left (state now).left (state next).left [] (nothing_read came now same) unread;
+        appended = Appends-kept (state came.channel).held (state now).held (state next).held [] (nothing_written came now same) untold;
         parts = (refl, refl, (not_kept_told came.protocol, refl));
       }
 
   -- a client that came can't be kept
   pub turned_away : (pass : PassState) (came : Arrival C) (now next : C) (sent : Sent) (bytes : List ℕ) → gave pass came.channel came.protocol → state now ≡ state came.channel → bytes ≡ not_kept_told came.protocol
       → Sends (state now) (state next) sent bytes → HasParted state gave pass next NotKept
-  unfolding new_stands
   turned_away pass came now next (Took n) bytes given same line (some, within, kept, taken) =
-      let stands = new_stands 0 came now same in
       let here : Known = record { pass = pass; team = [] } in
       record {
         old = here;
@@ -374,8 +377,8 @@ module _ {C : Type 0} (state : C → ChannelState) (gave : PassState → C → P
         come = comes_now here [] here 0 came refl given refl;
         read = [];
         written = take n bytes;
-        consumed = Consumes-kept (state came.channel).left (state now).left (state next).left [] stands.consumed kept;
-        appended = Appends-trans (state came.channel).held (state now).held (state next).held [] (take n bytes) stands.appended taken;
+        consumed = Consumes-kept (state came.channel).left (state now).left (state next).left [] (nothing_read came now same) kept;
+        appended = Appends-trans (state came.channel).held (state now).held (state next).held [] (take n bytes) (nothing_written came now same) taken;
         parts = (refl, refl, (drop n bytes, sym line ∙ sym (take-append-drop n bytes)));
       }
   turned_away pass came now next NotNow bytes given same line kept = told_none pass came now next given same kept.0 kept.1

@@ -1,14 +1,15 @@
 -- Crews before and after they served.
-use Rattle.std.proofs.Common.{ℕ, List, [], Option, Some, None, IsSome, refl, ◌∙◌}
+use Rattle.std.proofs.Common.{ℕ, List, Option, Some, None, IsSome, refl, ◌∙◌}
 use Rattle.std.specs.Io.KnownBytes.{Appends, Consumes}
 use Rattle.atomic_table.specs.Seated.{TableId}
-use Rattle.program_registry.specs.declared.registry.ProgramToken.{ProgramToken}
+use Rattle.program_registry.specs.declared.registry.Registry.{Registry}
 use Rattle.devices.specs.Devices.{SourceState, SinkState}
 use Rattle.sessions.specs.Sessions.{Ended}
 use Rattle.sessions.specs.declared.session.SessionEnd.{SessionEnd}
 use Rattle.crews.specs.declared.crew.Crew.{Crew}
 use Rattle.crews.specs.Crews.{IsServed, CarriesSame, station}
 use Rattle.crews.specs.Served.{IsAnswered}
+use Rattle.crews.specs.Stations.{KeptTokens, no_tokens}
 use Rattle.crews.specs.Steps.{CrewServes}
 
 pub served_some : (id : TableId) (old new : Option Crew) → IsServed id old new → IsSome new
@@ -25,12 +26,12 @@ carries_on a b c one more = record { worker = more.worker ∙ one.worker; pass =
 module _ {R W : Type 0} (source : R → SourceState) (sink : W → SinkState) (gave : Crew → R → W → Type 0) where
   -- the session of a pair that was given to the crew
   pub is_answered : (old : Crew) (came : R) (came_writer : W) (end : SessionEnd) (reader : R) (writer : W) (new : Crew) → CarriesSame old new → gave old came came_writer
-      → ((read : List ℕ) × ((written : List ℕ) × ((tokens : List ProgramToken)
+      → (registry : Registry) → ((read : List ℕ) × ((written : List ℕ) × ((tokens : KeptTokens)
       × (Consumes (source came).left (source reader).left read
       × (Appends (sink came_writer).held (sink writer).held written
-      × Ended CrewServes (station old []) end read (source reader).last written (station new tokens))))))
+      × Ended CrewServes (station old (no_tokens registry)) end read (source reader).last written (station new tokens))))))
       → IsAnswered source sink gave old end reader writer new
-  is_answered old came came_writer end reader writer new same given (read, (written, (tokens, (consumed, (appended, ended))))) = record {
+  is_answered old came came_writer end reader writer new same given registry (read, (written, (tokens, (consumed, (appended, ended))))) = record {
     worker = same.worker;
     came = came;
     came_writer = came_writer;
@@ -39,6 +40,7 @@ module _ {R W : Type 0} (source : R → SourceState) (sink : W → SinkState) (g
     written = written;
     consumed = consumed;
     appended = appended;
+    registry = registry;
     tokens = tokens;
     ended = ended;
   }

@@ -19,7 +19,7 @@ use Rattle.client_protocol.specs.declared.response.Response.TheVariants as tell
 use Rattle.sessions.specs.Asking.{Asked, asked, greeting, registration, call, walk, replacement, count, unknown, response_to, AnswersOnce}
 use Rattle.crews.specs.Shared.{AnsweredCall, made_call, call_asked, call_of_step, SessionOf, calls_of, events_at, SeesBothSessions}
 use Rattle.crews.specs.Stations.{Station}
-use Rattle.crews.specs.Steps.{HearsEach, TeamWalks, CrewMeets, CrewServes}
+use Rattle.crews.specs.Steps.{HearsEach, TeamWalks, keeping, CrewMeets, CrewServes}
 use Rattle.crews.proofs.ChainLemmas.{session_leads}
 
 events_append : (pass : PassState) (k : ℕ) (xs ys : List AnsweredCall) → events_at pass k (xs ++ ys) ≡ events_at pass k xs ++ events_at pass k ys
@@ -144,7 +144,10 @@ asked_leads hello old responses new count (inr (walks, is)) = team_walks old new
 asked_leads hello old responses new unknown m = once old new _ responses m
 
 serves_leads : (hello : Option Version) (old : Station) (request : Request) (responses : List Response) (new : Station) (one : CrewServes hello old request responses new) → Leads old (call_of_step hello old request responses new one) new
-serves_leads hello old request responses new one = asked_leads hello old responses new (asked (λ _. one.found) request) one.meets
+serves_leads hello old request responses new (inl answers) =
+    let leads = asked_leads hello (keeping old answers.kept) responses new (asked (λ _. answers.found) request) answers.meets in
+    record { map = leads.map; numbers = leads.numbers; mine = leads.mine }
+serves_leads hello old request responses new (inr (names, refused)) = once old new _ responses refused
 
 -- what a session's pass has made behind it
 session_made : (old : Station) (pass : PassState) (s : SessionOf old pass) → Leads old (calls_of old pass s) s.new

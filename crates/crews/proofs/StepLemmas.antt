@@ -6,9 +6,8 @@ use Rattle.atomic_methods.specs.declared.walk_reply.WalkReply.{WalkReply}
 use Rattle.bin_stripes.specs.Passes.{PassState, stripes_of}
 use Rattle.client_protocol.specs.declared.response.Response.{Response}
 use Rattle.client_protocol.specs.declared.response.Response.TheVariants as tell
-use Rattle.program_registry.specs.declared.registry.ProgramToken.{ProgramToken}
 use Rattle.sessions.specs.Answering.{walk_responses}
-use Rattle.crews.specs.Stations.{Station}
+use Rattle.crews.specs.Stations.{KeptTokens, Station}
 use Rattle.crews.specs.Steps.{IsToldBy, Pairwise, HearsEach, CrewAnswersWalk}
 
 -- what a walk's result is answered by
@@ -26,7 +25,7 @@ team_answers old new Replies Stops told (Err e) responses tells walks hears toke
 
 -- the same of the parts that a crew's state has: its pass was told to the team, which walked, and heard of it
 pub walked_by_team : (Replies : ℕ → List PassState → List PassState → WalkReply → Type 0) (Stops : ℕ → List PassState → List PassState → Type 0)
-    (old : Station) (pass : PassState) (team : List PassState) (tokens : List ProgramToken) (id : TableId)
+    (old : Station) (pass : PassState) (team : List PassState) (tokens : KeptTokens) (id : TableId)
     (given told after left : List PassState) (new : PassState) (result : Result WalkReply NoMemory) (responses : List Response)
     → old ≡ record { pass = pass; team = team; tokens = tokens } → pass.map ≡ id → given ≡ team → left ≡ after
     → Pairwise (IsToldBy pass) given told → MatchResult result (λ reply. Replies (stripes_of id) told after reply) (λ _. Stops (stripes_of id) told after)

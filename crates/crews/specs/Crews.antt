@@ -2,9 +2,8 @@
 use Rattle.std.specs.Prelude.{◌≡◌, ℕ, All, List, map, Option, Some}
 use Rattle.atomic_table.specs.Seated.{TableId}
 use Rattle.bin_stripes.specs.Passes.{PassState}
-use Rattle.program_registry.specs.declared.registry.ProgramToken.{ProgramToken}
 use Rattle.crews.specs.declared.crew.Crew.{Crew}
-use Rattle.crews.specs.Stations.{Station}
+use Rattle.crews.specs.Stations.{KeptTokens, Station}
 use Rattle.crews.specs.Steps.{Pairwise}
 
 -- its passes are of this map
@@ -13,7 +12,7 @@ pub record IsCrewOf (id : TableId) (crew : Crew) : Type 0 where
   pub team : All (λ member. member.map ≡ id) crew.team.passes.items
 
 -- what its passes know, with these tokens
-abbrev pub station : Crew → List ProgramToken → Station
+abbrev pub station : Crew → KeptTokens → Station
 station crew tokens = record { pass = crew.pass; team = crew.team.passes.items; tokens = tokens }
 
 -- the numbers that a state's passes carry, in order

@@ -2,7 +2,7 @@
 use Rattle.std.specs.Prelude.{◌≡◌, ◌==◌, ℕ, ◌<◌, ◌≤◌, List, [], ◌∷◌, ◌++◌, Option, None, if◌then◌else◌}
 use Rattle.std.specs.Io.KnownBytes.{Appends, Consumes}
 use Rattle.bin_stripes.specs.Passes.{PassState}
-use Rattle.program_registry.specs.declared.registry.ProgramToken.{ProgramToken}
+use Rattle.program_registry.specs.declared.registry.Registry.{Registry}
 use Rattle.devices.specs.Channels.{ChannelState, OwedState}
 use Rattle.redis_service.specs.Sweeps.{Sweeps}
 use Rattle.sessions.specs.Conversations.{Exchange}
@@ -10,8 +10,8 @@ use Rattle.crews.specs.declared.clients.Parting.{Parting}
 use Rattle.crews.specs.declared.clients.Protocol.{Protocol}
 use Rattle.crews.specs.declared.crew.Crew.{Crew}
 use Rattle.crews.specs.declared.talk.Talk.{Talk}
-use Rattle.crews.specs.Crews.{station, team_numbers}
-use Rattle.crews.specs.Stations.{Station}
+use Rattle.crews.specs.Crews.{team_numbers}
+use Rattle.crews.specs.Stations.{KeptTokens, no_tokens, Station}
 use Rattle.crews.specs.Partings.{PartsSo, SaysSo}
 use Rattle.crews.specs.Talks.{protocol_of}
 
@@ -22,6 +22,9 @@ pub record Known : Type 0 where
 
 abbrev pub known : Station → Known
 known station = record { pass = station.pass; team = station.team }
+
+abbrev pub known_of : Crew → Known
+known_of crew = record { pass = crew.pass; team = crew.team.passes.items }
 
 -- a turn of the worker
 pub data Turn : Type 0 where
@@ -38,7 +41,7 @@ Moves old (serves client exchange ∷ turns) new = (known exchange.old ≡ old) 
 Moves old (sweeps time pass ∷ turns) new = Sweeps time old.pass pass × Moves (record { pass = pass; team = old.team }) turns new
 
 -- each exchange begins with the tokens that the one before it left
-abbrev pub KeepsTokens : List ProgramToken → List (Exchange Station) → List ProgramToken → Type 0
+abbrev pub KeepsTokens : KeptTokens → List (Exchange Station) → KeptTokens → Type 0
 KeepsTokens old [] new = new ≡ old
 KeepsTokens old (exchange ∷ exchanges) new = (exchange.old.tokens ≡ old) × KeepsTokens exchange.new.tokens exchanges new
 
@@ -63,13 +66,14 @@ pub record Arrival (C : Type 0) : Type 0 where
 module _ {C : Type 0} (state : C → ChannelState) where
   -- a client that came so speaks the protocol of its port: what was read of it is answered in these exchanges, each with the tokens of
   -- the one before it, and what was written to it, with what is owed, are the answers
-  pub record Stands (came : Arrival C) (now : C) (exchanges : List (Exchange Station)) (tokens : List ProgramToken) (talk : Talk) (owed : OwedState) (leaving : Option Parting) : Type 0 where
+  pub record Stands (came : Arrival C) (now : C) (exchanges : List (Exchange Station)) (tokens : KeptTokens) (talk : Talk) (owed : OwedState) (leaving : Option Parting) : Type 0 where
     pub speaks : protocol_of talk ≡ came.protocol
     pub read : List ℕ
     pub written : List ℕ
     pub consumed : Consumes (state came.channel).left (state now).left read
     pub appended : Appends (state came.channel).held (state now).held written
-    pub keeps : KeepsTokens [] exchanges tokens
+    pub registry : Registry
+    pub keeps : KeepsTokens (no_tokens registry) exchanges tokens
     pub says : SaysSo leaving talk exchanges read (written ++ owed.rest)
     pub unfailed : leaving ≡ None → owed.failures ≡ 0
 
@@ -107,7 +111,7 @@ module _ {C : Type 0} (state : C → ChannelState) (gave : PassState → C → P
   -- a client came and has had its turns among these
   abbrev pub IsOfClient : Known → List Turn → Known → ℕ → Type 0
   IsOfClient old turns new client =
-      (came : Arrival C) × (now : C) × (tokens : List ProgramToken) × (talk : Talk) × (owed : OwedState) × (leaving : Option Parting)
+      (came : Arrival C) × (now : C) × (tokens : KeptTokens) × (talk : Talk) × (owed : OwedState) × (leaving : Option Parting)
       × HasCome gave old turns new client came × Stands state came now (exchanges_of client turns) tokens talk owed leaving
 
   -- turns with this number of clients, and sweeps, lead from what the passes knew to what they know
@@ -119,4 +123,4 @@ module _ {C : Type 0} (state : C → ChannelState) (gave : PassState → C → P
 
   -- turns with its clients and sweeps, and nothing else, moved the crew
   abbrev pub HasLived : Crew → Crew → Type 0
-  HasLived old new = (turns : List Turn) × (clients : ℕ) × Life (known (station old [])) turns (known (station new [])) clients
+  HasLived old new = (turns : List Turn) × (clients : ℕ) × Life (known_of old) turns (known_of new) clients

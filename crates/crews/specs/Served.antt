@@ -1,12 +1,13 @@
 -- How a crew served clients one after the other: what each session was, and that nothing else moved the crew.
-use Rattle.std.specs.Prelude.{◌≡◌, ℕ, zero, suc, List, [], Option, Some}
+use Rattle.std.specs.Prelude.{◌≡◌, ℕ, zero, suc, List, Option, Some}
 use Rattle.std.specs.Io.KnownBytes.{Appends, Consumes}
-use Rattle.program_registry.specs.declared.registry.ProgramToken.{ProgramToken}
+use Rattle.program_registry.specs.declared.registry.Registry.{Registry}
 use Rattle.devices.specs.Devices.{SourceState, SinkState}
 use Rattle.sessions.specs.Sessions.{Ended}
 use Rattle.sessions.specs.declared.session.SessionEnd.{SessionEnd}
 use Rattle.crews.specs.declared.crew.Crew.{Crew}
 use Rattle.crews.specs.Crews.{station}
+use Rattle.crews.specs.Stations.{KeptTokens, no_tokens}
 use Rattle.crews.specs.Steps.{CrewServes, Pairwise}
 
 -- over what readers and writers tell, and which pairs of them were given to which crew, as it was then
@@ -22,8 +23,9 @@ module _ {R W : Type 0} (source : R → SourceState) (sink : W → SinkState) (g
     pub written : List ℕ
     pub consumed : Consumes (source came).left (source reader).left read
     pub appended : Appends (sink came_writer).held (sink writer).held written
-    pub tokens : List ProgramToken
-    pub ended : Ended CrewServes (station old []) end read (source reader).last written (station new tokens)
+    pub registry : Registry
+    pub tokens : KeptTokens
+    pub ended : Ended CrewServes (station old (no_tokens registry)) end read (source reader).last written (station new tokens)
 
   -- a session with a client of its own moved the crew
   pub record ServesClient (old new : Crew) : Type 0 where

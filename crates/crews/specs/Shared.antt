@@ -20,7 +20,7 @@ use Rattle.sessions.specs.Sessions.{Ended}
 use Rattle.sessions.specs.declared.session.SessionEnd.{SessionEnd}
 use Rattle.crews.specs.Collected.{in_session}
 use Rattle.crews.specs.Stations.{Station}
-use Rattle.crews.specs.Steps.{CrewMeets, CrewServes}
+use Rattle.crews.specs.Steps.{keeping, CrewMeets, CrewServes}
 
 -- a call, and the reply with which it was answered
 pub record AnsweredCall : Type 0 where
@@ -45,7 +45,9 @@ call_asked hello old new responses unknown meets = []
 
 -- the call that a request was answered by, if it was a call and was made
 abbrev pub call_of_step : (hello : Option Version) (old : Station) (request : Request) (responses : List Response) (new : Station) → CrewServes hello old request responses new → List AnsweredCall
-call_of_step hello old request responses new serves = call_asked hello old new responses (asked (λ _. serves.found) request) serves.meets
+call_of_step hello old request responses new (inl answers) =
+    call_asked hello (keeping old answers.kept) new responses (asked (λ _. answers.found) request) answers.meets
+call_of_step hello old request responses new (inr refused) = []
 
 -- a session that led from a state to what this pass knows
 pub record SessionOf (old : Station) (pass : PassState) : Type 0 where

@@ -1,6 +1,6 @@
 -- How a crew answers a request, and what its passes then know. The methods are those of Java SE 17's ConcurrentMap; numbers and
 -- refusals are this map's profile.
-use Rattle.std.specs.Prelude.{◌≡◌, ◌⊎◌, ◌<◌, ℕ, List, [], ◌∷◌, ◌++◌, length, Option, Some, IfSome, All, slice_index_or}
+use Rattle.std.specs.Prelude.{◌≡◌, ◌⊎◌, ◌<◌, ℕ, List, [], ◌∷◌, ◌++◌, length, Option, None, Some, IfSome, IsSome, MatchOption, All, slice_index_or}
 use Rattle.bpf_model.specs.declared.input.Sizes.{Sizes}
 use Rattle.bpf_model.specs.Meaning.{IsSafe}
 use Rattle.stripe_rule.specs.Gains.{Hears}
@@ -20,29 +20,50 @@ use Rattle.program_registry.specs.declared.registry.ProgramToken.{ProgramToken}
 use Rattle.program_registry.specs.Tokens.{program_of, token_number}
 use Rattle.sessions.specs.Answering.{walk_responses}
 use Rattle.sessions.specs.Asking.{Asked, asked, named, greeting, registration, call, walk, replacement, count, unknown, with_program, response_to, Admits, RefusesProgram, AnswersOnce, TellsNoMemory}
-use Rattle.crews.specs.Stations.{Station}
+use Rattle.crews.specs.Stations.{KeptTokens, Station}
 
 -- the one token has the other's number only if it stands for the same program
 abbrev pub IsLike : ProgramToken → ProgramToken → Type 0
 IsLike token other = token_number token ≡ token_number other → program_of token ≡ program_of other
 
+-- a number that the one and the other tokens have means the same program in both
+abbrev pub MeanTheSame : List ProgramToken → List ProgramToken → Type 0
+MeanTheSame tokens others = All (λ token. All (λ other. IsLike other token) others) tokens
+
 -- tokens of one number stand for one program
 abbrev pub Agree : List ProgramToken → Type 0
-Agree tokens = All (λ token. All (λ other. IsLike other token) tokens) tokens
+Agree tokens = MeanTheSame tokens tokens
 
--- a token of this one's number is among the tokens, and stands for the same program
-pub record IsHeld (tokens : List ProgramToken) (token : ProgramToken) : Type 0 where
+-- a token of this number, which stands for this program, is among the tokens
+pub record IsHeld (tokens : List ProgramToken) (number : ℕ) (program : Checked) : Type 0 where
   pub held : ProgramToken
   pub place : ℕ
   pub inside : place < length tokens
   pub there : held ≡ slice_index_or tokens place held
-  pub number : token_number held ≡ token_number token
-  pub program : program_of held ≡ program_of token
+  pub number_is : token_number held ≡ number
+  pub program_is : program_of held ≡ program
 
--- what is found under the number: the program of each token that has it; or, if none has it, a safe program or nothing
-pub record Finds (tokens : List ProgramToken) (number : ℕ) (found : Option Checked) : Type 0 where
-  pub own : All (λ token. token_number token ≡ number → found ≡ Some (program_of token)) tokens
+-- these tokens and one more
+abbrev pub with_token : KeptTokens → ProgramToken → KeptTokens
+with_token kept token = record { registry = kept.registry; items = kept.items ++ token ∷ [] }
+
+-- what is found under the number, and the tokens that are kept then. A program is found only with a token of that number, which stands
+-- for it and is kept. Each kept token of that number stands for what is found. If nothing is found, there is no such token
+pub record Finds (old : KeptTokens) (number : ℕ) (found : Option Checked) (kept : KeptTokens) : Type 0 where
+  pub own : All (λ token. token_number token ≡ number → found ≡ Some (program_of token)) kept.items
+  pub held : IfSome found (λ program. IsHeld kept.items number program)
   pub safe : IfSome found (λ program. IsSafe program.program program.sizes)
+  -- at most one token is new
+  pub grown : (kept ≡ old) ⊎ ((token : ProgramToken) × (token_number token ≡ number) × (kept ≡ with_token old token))
+
+-- nothing is found, and the response tells so; or memory for the token that is to be kept is refused, and nothing changes
+abbrev pub IsNotFound : KeptTokens → ℕ → Response → KeptTokens → Type 0
+IsNotFound old number response kept =
+    ((response ≡ tell.Refused 66 0) × Finds old number None kept) ⊎ ((response ≡ tell.Refused 9 0) × (kept ≡ old))
+
+-- the state with these tokens
+abbrev pub keeping : Station → KeptTokens → Station
+keeping station kept = record { pass = station.pass; team = station.team; tokens = kept }
 
 -- the number of the program that a request names, if it names one
 abbrev pub number_in : Request → Option ℕ
@@ -96,8 +117,8 @@ pub record CrewAnswersCall (old : Station) (invocation : Invocation) (responses 
 abbrev pub CrewAnswersRegister : Option Version → Station → Sizes → List ℕ → List Response → Station → Type 0
 CrewAnswersRegister hello old sizes bytes responses new =
     ((token : ProgramToken) × Admits hello sizes bytes (program_of token) × (responses ≡ tell.Registered (token_number token) ∷ [])
-    × (new ≡ record { pass = old.pass; team = old.team; tokens = old.tokens ++ token ∷ [] }))
-    ⊎ (((token : ProgramToken) × Admits hello sizes bytes (program_of token) × IsHeld old.tokens token
+    × (new ≡ keeping old (with_token old.tokens token)))
+    ⊎ (((token : ProgramToken) × Admits hello sizes bytes (program_of token) × IsHeld old.tokens.items (token_number token) (program_of token)
     × AnswersOnce old (tell.Registered (token_number token)) responses new)
     ⊎ (((response : Response) × RefusesProgram hello sizes bytes response × AnswersOnce old response responses new)
     ⊎ TellsNoMemory old responses new))
@@ -122,14 +143,26 @@ CrewMeets hello old count responses new =
 CrewMeets hello old unknown responses new = AnswersOnce old (tell.Refused 66 0) responses new
 
 -- what is asked for with the program that is found under the number is answered by these responses
-pub record AsksWithProgram (hello : Option Version) (old : Station) (number : ℕ) (asks : Checked → Asked) (responses : List Response) (new : Station) : Type 0 where
+pub record AnswersWithProgram (hello : Option Version) (old : Station) (number : ℕ) (asks : Checked → Asked) (responses : List Response) (new : Station) : Type 0 where
   pub found : Option Checked
-  pub finds : Finds old.tokens number found
-  pub meets : CrewMeets hello old (with_program found asks) responses new
+  pub kept : KeptTokens
+  pub finds : Finds old.tokens number found kept
+  pub meets : CrewMeets hello (keeping old kept) (with_program found asks) responses new
+
+-- so it is; or memory for the token that is to be kept is refused
+abbrev pub AsksWithProgram : Option Version → Station → ℕ → (Checked → Asked) → List Response → Station → Type 0
+AsksWithProgram hello old number asks responses new =
+    AnswersWithProgram hello old number asks responses new ⊎ TellsNoMemory old responses new
 
 -- a request after this Hello is answered by these responses, and the crew's passes and tokens are then so; what it asks for is
 -- by the program that is found under the number that it names
-pub record CrewServes (hello : Option Version) (old : Station) (request : Request) (responses : List Response) (new : Station) : Type 0 where
+pub record CrewAnswers (hello : Option Version) (old : Station) (request : Request) (responses : List Response) (new : Station) : Type 0 where
   pub found : Option Checked
-  pub finds : IfSome (number_in request) (λ number. Finds old.tokens number found)
-  pub meets : CrewMeets hello old (asked (λ _. found) request) responses new
+  pub kept : KeptTokens
+  pub finds : MatchOption (number_in request) (kept ≡ old.tokens) (λ number. Finds old.tokens number found kept)
+  pub meets : CrewMeets hello (keeping old kept) (asked (λ _. found) request) responses new
+
+-- so it is; or it names a program, and memory for the token that is to be kept is refused
+abbrev pub CrewServes : Option Version → Station → Request → List Response → Station → Type 0
+CrewServes hello old request responses new =
+    CrewAnswers hello old request responses new ⊎ (IsSome (number_in request) × TellsNoMemory old responses new)

@@ -1,7 +1,6 @@
 -- What one turn adds to what a client was told. No public contract cites this.
 use Rattle.std.specs.Prelude.{◌≡◌, ◌⊎◌, ℕ, List, [], ◌∷◌, ◌++◌, Option, Some}
 use Rattle.client_protocol.specs.Faults.{protocol_fault_number}
-use Rattle.program_registry.specs.declared.registry.ProgramToken.{ProgramToken}
 use Rattle.devices.specs.Channels.{ChannelState, OwedState}
 use Rattle.redis_service.specs.Lines.{no_memory_line}
 use Rattle.redis_service.specs.declared.desk.TalkEnd.{TalkEnd}
@@ -16,7 +15,7 @@ use Rattle.sessions.specs.declared.session.conversation.ConversationEnd.TheVaria
 use Rattle.crews.specs.declared.clients.Parting.{Parting}
 use Rattle.crews.specs.declared.clients.Parting.TheVariants.{Ended, Over}
 use Rattle.crews.specs.declared.talk.Talk.{Talk}
-use Rattle.crews.specs.Stations.{Station}
+use Rattle.crews.specs.Stations.{KeptTokens, Station}
 use Rattle.crews.specs.Partings.{SaysSo}
 use Rattle.crews.specs.Lives.{Arrival, Known, known, KeepsTokens, KeepsNumbers, Stands}
 
@@ -44,7 +43,7 @@ Leads old [] new = new ≡ old
 Leads old (exchange ∷ exchanges) new = (known exchange.old ≡ old) × Leads (known exchange.new) exchanges new
 
 -- further exchanges moved the passes, and the client was told more
-pub record SaysMore (old new : Known) (exchanges : List (Exchange Station)) (tokens after : List ProgramToken) (talk : Talk) (leaving : Option Parting) (read said owed more_owed : List ℕ) : Type 0 where
+pub record SaysMore (old new : Known) (exchanges : List (Exchange Station)) (tokens after : KeptTokens) (talk : Talk) (leaving : Option Parting) (read said owed more_owed : List ℕ) : Type 0 where
   pub more : List (Exchange Station)
   pub moves : Leads old more new
   pub numbers : KeepsNumbers old new
@@ -55,7 +54,7 @@ pub record SaysMore (old new : Known) (exchanges : List (Exchange Station)) (tok
 
 module _ {C : Type 0} (state : C → ChannelState) where
   -- further exchanges moved the passes, and the client stands so after them
-  pub record TurnsTo (old new : Known) (came : Arrival C) (now : C) (exchanges : List (Exchange Station)) (tokens : List ProgramToken) (talk : Talk) (owed : OwedState) (leaving : Option Parting) : Type 0 where
+  pub record TurnsTo (old new : Known) (came : Arrival C) (now : C) (exchanges : List (Exchange Station)) (tokens : KeptTokens) (talk : Talk) (owed : OwedState) (leaving : Option Parting) : Type 0 where
     pub more : List (Exchange Station)
     pub moves : Leads old more new
     pub numbers : KeepsNumbers old new

@@ -2,12 +2,11 @@
 ghost use Rattle.std.specs.Prelude.{◌≡◌, ◌≢◌, ◌≤◌, ℕ, List, ◌++◌, length, take, None, Some, Err, MatchResult, false};
 ghost use Rattle.bin_stripes.specs.Passes.{ServesSameMap};
 ghost use Rattle.client_protocol.specs.Faults.{protocol_fault_number};
-ghost use Rattle.program_registry.specs.declared.registry.ProgramToken.{ProgramToken};
 ghost use Rattle.redis_service.specs.Lines.{no_memory_line};
 ghost use Rattle.redis_service.specs.Sweeps.{Sweeps};
 ghost use Rattle.sessions.specs.Conversations.{Exchange as TheExchange};
 ghost use Rattle.sessions.specs.Sessions.{refusal};
-ghost use Rattle.crews.specs.Stations.{Station};
+ghost use Rattle.crews.specs.Stations.{KeptTokens, Station};
 ghost use Rattle.crews.specs.Partings.{SaysSo};
 ghost use Rattle.crews.specs.Lives.{known};
 ghost use Rattle.crews.specs.Turns.{TellsLast, LeavesAt, LeavesTalk, SaysMore};
@@ -21,7 +20,8 @@ use bin_stripes::Gate;
 use bpf_model::{NoMemory, Value};
 use client_protocol::{Feeder, Request};
 use devices::{Failed, Owed, write_all};
-use redis_service::{NO_MEMORY_LINE, RedisDesk, RedisTalk, TalkEnd};
+use redis_service::{Moment, NO_MEMORY_LINE, RedisDesk, RedisTalk, TalkEnd};
+use server_state::WorkerCounts;
 use sessions::{Conversation, ConversationEnd, SessionEnd, refuse};
 use std::sync::Wait;
 use std::thread::Threads;
@@ -30,7 +30,7 @@ use std::thread::Threads;
 pub const PIECE_BYTES: usize = 16384;
 
 /// What the turns of a worker's clients share: the worker's number, its passes, the room for a piece, its requests and commands, and
-/// their values, and the time of the turn, in milliseconds since the epoch.
+/// their values, where the worker counts, and the time of the turn, in milliseconds since the epoch.
 #[derive(Drop)]
 pub struct Room<'a, 'r> {
     pub number: u32,
@@ -38,6 +38,7 @@ pub struct Room<'a, 'r> {
     pub conversation: Conversation,
     pub desk: RedisDesk<'a, 'r>,
     pub piece: [u8; PIECE_BYTES],
+    pub counts: &'a WorkerCounts,
     pub now: u64,
 }
 
@@ -125,7 +126,9 @@ pub fn answer_frames<'a, 'r, H: Threads + Wait + Sync, G: Gate + Sync>(
         (Talk.Frames feeder.new) result (read ++ take count room.old.piece) said owed.old.rest owed.new.rest }
 {
     let number = room.number;
+    let counts = room.counts;
     let answer = |serving: &mut Serving<'_>, hello, request: &Request, value: &mut Value| {
+        counts.count_request();
         serving.answer(worker, number, hello, request, value)
     };
     room.serving.lend(tokens);
@@ -157,14 +160,14 @@ pub fn answer_commands<'a, 'r, H: Wait>(
     requires is_open { talk.old.is_over ≡ false }
     ensures desk { room.new.desk ≡ room.old.desk }
     ensures unfailed { result ≡ None → owed.new.failures ≡ 0 }
-    ensures says { (exchanges : List (TheExchange Station)) (tokens : List ProgramToken) (read said : List ℕ) → SaysSo None (Talk.Commands talk.old) exchanges read said
+    ensures says { (exchanges : List (TheExchange Station)) (tokens : KeptTokens) (read said : List ℕ) → SaysSo None (Talk.Commands talk.old) exchanges read said
         → SaysMore (known room.old.serving) (known room.new.serving) exchanges tokens tokens
         (Talk.Commands talk.new) result (read ++ take count room.old.piece) said owed.old.rest owed.new.rest }
 {
-    let now = room.now;
+    let moment = Moment { rt, time: room.now };
     let piece = &room.piece[..count];
     let taken = room
         .serving
-        .answer_commands(rt, now, &mut room.desk, talk, piece, owed);
+        .answer_commands(&moment, &mut room.desk, talk, piece, owed);
     leaving_talk(owed, taken)
 }

@@ -3,8 +3,8 @@ ghost use Rattle.std.specs.Prelude.{◌≡◌, ◌+◌, ◌++◌, ℕ, List, [],
 ghost use Rattle.slab.specs.Slab.{get, slab_len, HasRoomFor};
 ghost use Rattle.devices.specs.Channels.{Sends};
 ghost use Rattle.crews.specs.Arrivals.{CountGoes};
-ghost use Rattle.crews.specs.Crews.{IsCrewOf, CarriesSame, station};
-ghost use Rattle.crews.specs.Lives.{Arrival, Known, known, Turn, HasLived};
+ghost use Rattle.crews.specs.Crews.{IsCrewOf, CarriesSame};
+ghost use Rattle.crews.specs.Lives.{Arrival, Known, known, known_of, Turn, HasLived};
 ghost use Rattle.crews.specs.Partings.{not_kept_told};
 ghost use Rattle.crews.specs.Seats.{HasNone, IsAttended, IsClient};
 
@@ -23,6 +23,7 @@ use devices::{Channel, Sent};
 use program_registry::Registry;
 use redis_scripts::Scripts;
 use redis_service::{NO_ROOM_LINE, RedisDesk};
+use server_state::ServerState;
 use sessions::Conversation;
 use slab::Slab;
 use std::alloc::Global;
@@ -268,11 +269,12 @@ impl<'a, 'r, C: Channel + Drop> Attendant<'a, 'r, C> {
 fn begun<'a, 'r, H, C: Channel + Drop, G>(
     worker: &Worker<'a, H, G>,
     scripts: &'a Scripts<'r>,
+    state: &'a ServerState,
     crew: Crew,
 ) -> Attendant<'a, 'r, C>
     requires { IsCrewOf worker.now.map.now crew }
     ensures number { result.room.number ≡ crew.worker }
-    ensures knows { known result.room.serving ≡ known (station crew []) }
+    ensures knows { known result.room.serving ≡ known_of crew }
     ensures desk { result.room.desk ≡ worker.now.map.now }
     ensures came { result.came ≡ 0 }
     ensures empty { result.seats.slots ≡ [] }
@@ -296,8 +298,9 @@ fn begun<'a, 'r, H, C: Channel + Drop, G>(
             number,
             serving,
             conversation: Conversation::new(worker.alloc),
-            desk: RedisDesk::new(worker.alloc, worker.map, scripts),
+            desk: RedisDesk::new(worker.alloc, worker.map, scripts, state.at(number)),
             piece: [0; PIECE_BYTES],
+            counts: state.counts_of(number),
             now: 0,
         },
         seats: Slab::new(worker.alloc),
@@ -311,10 +314,11 @@ fn begun<'a, 'r, H, C: Channel + Drop, G>(
 /// What moved it is the turns of the clients and the worker's own sweeps, in one chain. Each client's turns are one conversation, as
 /// `session` has it, or one talk of the crate redis_service: its requests are those that it sent, in order, each answered once, and what
 /// is written to it are their answers. Each client that came is told to `clients` when it leaves (`there`). Scripts that clients of
-/// commands load are kept in `scripts`. Waits as `clients` does, and for stripes that others hold.
+/// commands load are kept in `scripts`, and what the server knows of itself in `state`. Waits as `clients` does, and for stripes that others hold.
 pub fn attend<'a, 'r, H: Threads + Wait + Sync, C: Channel + Drop, P: Clients<C>, G: Gate + Sync>(
     worker: &Worker<'a, H, G>,
     scripts: &'a Scripts<'r>,
+    state: &'a ServerState,
     clients: &mut P,
     crew: Crew,
 ) -> Crew
@@ -326,7 +330,7 @@ pub fn attend<'a, 'r, H: Threads + Wait + Sync, C: Channel + Drop, P: Clients<C>
     ensures same { CarriesSame crew result }
 {
     let number = crew.worker;
-    let mut attendant: Attendant<'a, 'r, C> = begun(worker, scripts, crew);
+    let mut attendant: Attendant<'a, 'r, C> = begun(worker, scripts, state, crew);
     attendant.attend_all(worker, clients);
     attendant.drop_all(clients);
     let Attendant { room, .. } = attendant;

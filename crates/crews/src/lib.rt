@@ -25,10 +25,11 @@ mod worker;
 
 pub use accept::Accept;
 pub use attending::attend;
-pub use client::session;
+pub use client::{session, session_with_tokens};
 pub use clients::{Clients, Event, NextSweep, Parting, Protocol, Standing};
 pub use crew::Crew;
 pub use posts::{Post, attend_each};
 pub use server::serve;
 pub use shared::join_sessions;
+pub use tokens::Tokens;
 pub use worker::Worker;

@@ -15,6 +15,7 @@ use bin_stripes::Gate;
 use bpf_model::NoMemory;
 use devices::Channel;
 use redis_scripts::Scripts;
+use server_state::ServerState;
 use std::sync::Wait;
 use std::thread::Threads;
 use workers::work;
@@ -27,7 +28,7 @@ pub struct Post<P> {
 }
 
 /// Runs one worker a post, each in a thread of its own if one can be made, and each attending its clients, any number at once, until
-/// they are over, by scripts that all share. Gives the posts back in their order: each crew is of this map with the numbers that it
+/// they are over, by scripts and a state of the server that all share. Gives the posts back in their order: each crew is of this map with the numbers that it
 /// carried, nothing but turns of its own clients and its sweeps moved it (`lived`), and each client that came was told to its `Clients`
 /// when it left (`there`). `NoMemory` if a request for the lists of workers was refused: nobody is attended then, and the posts are given
 /// up. Waits for clients.
@@ -41,6 +42,7 @@ pub fn attend_each<
 >(
     worker: &Worker<'a, H, G>,
     scripts: &'a Scripts<'r>,
+    state: &'a ServerState,
     posts: Vec<Post<P>>,
 ) -> Result<Vec<Post<P>>, NoMemory>
     requires crews { All (λ post. IsCrewOf worker.now.map.now post.crew) posts.items }
@@ -61,7 +63,7 @@ pub fn attend_each<
     {
         if let Some(post) = seat.take() {
             let Post { crew, mut clients } = post;
-            let crew = attend(worker, scripts, &mut clients, crew);
+            let crew = attend(worker, scripts, state, &mut clients, crew);
             *seat = Some(Post { crew, clients });
         }
     };

@@ -1,9 +1,9 @@
 //! What answers the requests of a session: the crew's passes, and the programs that the session registered.
-ghost use Rattle.std.specs.Prelude.{◌≡◌, ℕ, List, [], ◌∷◌, true, false, All, IfOk, IfErr, OnOk, Err, MatchResult, Option, option_copied};
+ghost use Rattle.std.specs.Prelude.{◌≡◌, ◌≢◌, ℕ, List, [], ◌∷◌, true, false, All, IfOk, IfErr, OnOk, Err, MatchResult, MatchOption, Option, Some, option_copied};
 ghost use Rattle.std.specs.Bool.{OnTrue};
 ghost use Rattle.bpf_model.specs.Meaning.{IsSafe};
 ghost use Rattle.bin_stripes.specs.Passes.{ServesSameMap};
-ghost use Rattle.program_registry.specs.Tokens.{IsOf, program_of};
+ghost use Rattle.program_registry.specs.Tokens.{IsOf, program_of, token_number};
 ghost use Rattle.devices.specs.Devices.{CanWrite, TakesBytes, TakesThenFails};
 ghost use Rattle.redis_service.specs.Sweeps.{Sweeps};
 ghost use Rattle.redis_service.specs.Talks.{AnswersPiece, BreaksPiece};
@@ -12,7 +12,8 @@ ghost use Rattle.client_protocol.specs.Responses.{response_of};
 ghost use Rattle.sessions.specs.Answering.{responses_of, walk_responses};
 ghost use Rattle.sessions.specs.Asking.{asked, walk, replacement, count, Admits, IsCall};
 ghost use Rattle.client_protocol.specs.declared.response.Response.TheVariants as tell;
-ghost use Rattle.crews.specs.Steps.{IsLike, Agree, IsHeld, CrewMeets, Finds, CrewServes, AsksWithProgram, CrewAnswersRegister, IsRefusal};
+ghost use Rattle.crews.specs.Stations.{tokens_of};
+ghost use Rattle.crews.specs.Steps.{IsLike, Agree, IsHeld, CrewMeets, Finds, IsNotFound, CrewServes, AsksWithProgram, CrewAnswersRegister, IsRefusal};
 
 use crate::team::{heard, told};
 use crate::tokens::Tokens;
@@ -24,7 +25,7 @@ use bulk_walks::{Walk, mapping_count, replace_all, walk_map};
 use client_protocol::{Request, RequestView, ShortResponse, Version};
 use devices::Sink;
 use program_registry::{ProgramToken, Registry, SentProgram};
-use redis_service::{RedisDesk, RedisTalk, TalkEnd};
+use redis_service::{Moment, RedisDesk, RedisTalk, TalkEnd};
 use sessions::{
     Answer, Service, answer_to, argument_of, call_of, may_be_sent, named_program, no_memory,
     program_sent, unknown_program,
@@ -53,7 +54,7 @@ impl<'a> Model for Serving<'a> {
 
     ghost Value = { Station };
 
-    ghost view = { λ s. record { pass = s.pass; team = s.team.items; tokens = s.tokens.items } };
+    ghost view = { λ s. record { pass = s.pass; team = s.team.items; tokens = record { registry = s.registry.now; items = s.tokens.items } } };
 
     ghost invariant = { λ s. (s.pass.map ≡ s.map.now) × All (λ p. p.map ≡ s.map.now) s.team.items
         × (0 < vec_len s.team) × All (λ t. IsOf s.registry.now t) s.tokens.items × Agree s.tokens.items };
@@ -65,25 +66,50 @@ impl<'a> Service for Serving<'a> {
     ghost answers = { CrewServes };
 }
 
-/// The program of this number: that of the session's own token, or else of another session's.
-fn program_of<'a>(
+/// The program of this number, if one of the tokens has it.
+fn own_program<'a>(
     registry: &'a Registry,
     tokens: &[ProgramToken],
     number: u64,
 ) -> Option<&'a Verified>
     requires mine { All (λ t. IsOf registry.now t) tokens.now }
     requires agree { Agree tokens.now }
-    ensures { Finds tokens.now number (option_copied result) }
+    ensures { MatchOption result (All (λ t. token_number t ≢ number) tokens.now)
+        (λ program. Finds (tokens_of registry.now tokens.now) number (Some program.now) (tokens_of registry.now tokens.now)) }
 {
     for token in tokens {
         if token.number() == number {
             return Some(known_safe(registry.get_by(token)));
         }
     }
-    let Some(program) = registry.get(number) else {
-        return None;
+    None
+}
+
+/// The program of this number: that of a token that is there; or else the one that the registry has, whose token is kept from then on.
+/// Else the response that refuses it: it is unknown, or there is no room for its token.
+fn program_of<'a>(
+    registry: &'a Registry,
+    tokens: &mut Vec<ProgramToken>,
+    number: u64,
+) -> Result<&'a Verified, ShortResponse>
+    requires mine { All (λ t. IsOf registry.now t) tokens.old.items }
+    requires agree { Agree tokens.old.items }
+    ensures mine { All (λ t. IsOf registry.now t) tokens.new.items }
+    ensures agree { Agree tokens.new.items }
+    ensures ok { IfOk result (λ program. Finds (tokens_of registry.now tokens.old.items) number (Some program.now) (tokens_of registry.now tokens.new.items)) }
+    ensures err { IfErr result (λ response. IsNotFound (tokens_of registry.now tokens.old.items) number (response_of response) (tokens_of registry.now tokens.new.items)) }
+{
+    if let Some(program) = own_program(registry, tokens, number) {
+        return Ok(program);
+    }
+    let Some((token, program)) = registry.find(number) else {
+        return Err(unknown_program());
     };
-    Some(known_safe(program))
+    let Ok(()) = tokens.reserve(1) else {
+        return Err(no_memory());
+    };
+    tokens.push_reserved(token);
+    Ok(known_safe(program))
 }
 
 /// The same program. For the proof alone: it is safe, as its type says.
@@ -96,7 +122,7 @@ fn known_safe<'a>(program: &'a Verified) -> &'a Verified
 }
 
 /// Looks through the tokens for those with the number of one more. For the proof alone: they stand for its program.
-fn show_agrees(registry: &Registry, tokens: &[ProgramToken], token: &ProgramToken)
+pub fn show_agrees(registry: &Registry, tokens: &[ProgramToken], token: &ProgramToken)
     requires mine { All (λ t. IsOf registry.now t) tokens.now × IsOf registry.now token.now }
     ensures { All (λ t. IsLike t token.now) tokens.now }
 {
@@ -110,7 +136,7 @@ fn show_agrees(registry: &Registry, tokens: &[ProgramToken], token: &ProgramToke
 /// Tests whether one of the tokens has the number of one more, and so stands for the same program.
 fn is_held(registry: &Registry, tokens: &[ProgramToken], token: &ProgramToken) -> bool
     requires mine { All (λ t. IsOf registry.now t) tokens.now × IsOf registry.now token.now }
-    ensures { OnTrue result (IsHeld tokens.now token.now) }
+    ensures { OnTrue result (IsHeld tokens.now (token_number token.now) (program_of token.now)) }
 {
     for other in tokens {
         if other.number() == token.number() {
@@ -173,12 +199,11 @@ impl<'a> Serving<'a> {
         mem::swap(&mut self.tokens, &mut tokens.items);
     }
 
-    /// Answers the commands that this piece completes by calls of the pass at this time, and keeps the rest of it. Team and tokens stay
+    /// Answers the commands that this piece completes by calls of the pass at this moment, and keeps the rest of it. Team and tokens stay
     /// as they are.
     pub fn answer_commands<H: Wait, W: Sink>(
         &mut self,
-        rt: &H,
-        now: u64,
+        moment: &Moment<'_, H>,
         desk: &mut RedisDesk<'a, '_>,
         talk: &mut RedisTalk,
         piece: &[u8],
@@ -194,17 +219,17 @@ impl<'a> Serving<'a> {
         ensures numbers { self.new.pass.view.numbers ≡ self.old.pass.view.numbers }
         ensures ok { OnOk result ((talk.new.is_over ≡ false) × ((written : List ℕ)
             × TakesBytes (W.state sink.old) (W.state sink.new) written
-            × AnswersPiece now talk.old self.old.pass piece.now written talk.new self.new.pass)) }
+            × AnswersPiece moment.now.time talk.old self.old.pass piece.now written talk.new self.new.pass)) }
         ensures over { result ≡ Err TalkEnd.Over → (talk.new.is_over ≡ true) × ((written : List ℕ)
             × TakesBytes (W.state sink.old) (W.state sink.new) written
-            × AnswersPiece now talk.old self.old.pass piece.now written talk.new self.new.pass) }
+            × AnswersPiece moment.now.time talk.old self.old.pass piece.now written talk.new self.new.pass) }
         ensures memory { result ≡ Err TalkEnd.NoMemory
             → (talk.new ≡ talk.old) × (self.new ≡ self.old) × (W.state sink.new ≡ W.state sink.old) }
         ensures write { result ≡ Err TalkEnd.WriteFailed → ((written : List ℕ)
             × TakesThenFails (W.state sink.old) (W.state sink.new) written
-            × BreaksPiece now talk.old self.old.pass piece.now written talk.new self.new.pass) }
+            × BreaksPiece moment.now.time talk.old self.old.pass piece.now written talk.new self.new.pass) }
     {
-        desk.take(rt, now, &mut self.pass, talk, piece, sink)
+        desk.take(moment, &mut self.pass, talk, piece, sink)
     }
 
     /// Takes entries out of the map whose time is over. Returns whether more of them may be left. Team and tokens stay as they are.
@@ -277,8 +302,10 @@ impl<'a> Serving<'a> {
         let Some(number) = named_program(request) else {
             return self.call(rt, request, None, value);
         };
-        let program = program_of(self.registry, &self.tokens, number);
-        self.call(rt, request, program, value)
+        match program_of(self.registry, &mut self.tokens, number) {
+            Ok(program) => self.call(rt, request, Some(program), value),
+            Err(response) => Answer::One(response),
+        }
     }
 
     /// A walk of the team, by the program of this number. Not inlined, so that a call clears no room for an argument.
@@ -293,8 +320,9 @@ impl<'a> Serving<'a> {
     ) -> Answer
         ensures { (hello : Option TheVersion) (bytes : List ℕ) → AsksWithProgram hello self.old number (λ program. walk kind program (option_copied arg.entry)) (responses_of result bytes) self.new }
     {
-        let Some(program) = program_of(self.registry, &self.tokens, number) else {
-            return Answer::One(unknown_program());
+        let program = match program_of(self.registry, &mut self.tokens, number) {
+            Ok(program) => program,
+            Err(response) => return Answer::One(response),
         };
         let arg = argument_of(arg);
         let team = mem::replace(&mut self.team, Vec::new(worker.alloc));
@@ -320,8 +348,9 @@ impl<'a> Serving<'a> {
     ) -> Answer
         ensures { (hello : Option TheVersion) (bytes : List ℕ) → AsksWithProgram hello self.old number (λ program. replacement program (option_copied arg.entry)) (responses_of result bytes) self.new }
     {
-        let Some(program) = program_of(self.registry, &self.tokens, number) else {
-            return Answer::One(unknown_program());
+        let program = match program_of(self.registry, &mut self.tokens, number) {
+            Ok(program) => program,
+            Err(response) => return Answer::One(response),
         };
         let arg = argument_of(arg);
         let team = mem::replace(&mut self.team, Vec::new(worker.alloc));

@@ -1,11 +1,15 @@
-//! The tokens of the programs that one client registered, between its turns.
-ghost use Rattle.std.specs.Prelude.{◌≡◌, []};
+//! The tokens that one client's session keeps: of the programs that it registered or named.
+ghost use Rattle.std.specs.Prelude.{◌≡◌, All};
+ghost use Rattle.crews.specs.Stations.{no_tokens};
+ghost use Rattle.program_registry.specs.Tokens.{IsOf};
+ghost use Rattle.crews.specs.Steps.{MeanTheSame};
 
+use crate::serving::show_agrees;
 use program_registry::{ProgramToken, Registry};
 use std::alloc::Global;
 use std::marker::Model;
 
-/// The tokens of the programs that one client registered.
+/// The tokens of the programs that one client registered or named, all of one registry. Each has a number of its own.
 #[derive(Drop)]
 pub struct Tokens<'a> {
     pub(crate) registry: &'a Registry,
@@ -13,26 +17,45 @@ pub struct Tokens<'a> {
 }
 
 impl<'a> Model for Tokens<'a> {
-    ghost use Rattle.std.specs.Prelude.{List, All};
+    ghost use Rattle.std.specs.Prelude.{All};
     ghost use Rattle.program_registry.specs.Tokens.{IsOf};
-    ghost use Rattle.program_registry.specs.declared.registry.ProgramToken.{ProgramToken};
+    ghost use Rattle.crews.specs.Stations.{KeptTokens};
     ghost use Rattle.crews.specs.Steps.{Agree};
 
-    ghost Value = { List ProgramToken };
+    ghost Value = { KeptTokens };
 
-    ghost view = { λ t. t.items.items };
+    ghost view = { λ t. record { registry = t.registry.now; items = t.items.items } };
 
     ghost invariant = { λ t. All (λ token. IsOf t.registry.now token) t.items.items × Agree t.items.items };
+}
+
+/// Looks through these tokens and those, of one registry. For the proof alone: they mean the same programs.
+fn show_same(registry: &Registry, tokens: &[ProgramToken], others: &[ProgramToken])
+    requires tokens { All (λ t. IsOf registry.now t) tokens.now }
+    requires others { All (λ t. IsOf registry.now t) others.now }
+    ensures { MeanTheSame tokens.now others.now }
+{
+    for token in tokens {
+        show_agrees(registry, others, token);
+    }
 }
 
 impl<'a> Tokens<'a> {
     /// No program is registered yet. Takes no memory.
     pub fn new(alloc: Global, registry: &'a Registry) -> Tokens<'a>
-        ensures { result ≡ [] }
+        ensures { result ≡ no_tokens registry.now }
     {
         Tokens {
             registry,
             items: Vec::new(alloc),
         }
+    }
+
+    /// Two sessions' numbers mean the same programs, if their tokens are of one registry. Takes no memory. Never waits.
+    pub fn mean_the_same(&self, other: &Tokens<'_>)
+        requires registry { other.now.registry ≡ self.now.registry }
+        ensures same { MeanTheSame self.now.items other.now.items }
+    {
+        show_same(self.registry, &self.items, &other.items);
     }
 }

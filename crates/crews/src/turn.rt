@@ -2,7 +2,7 @@
 ghost use Rattle.std.specs.Prelude.{◌≡◌, ◌≤◌, ℕ, List, [], ◌++◌, length, take, Option, None, Some};
 ghost use Rattle.sessions.specs.Conversations.{Exchange as TheExchange};
 ghost use Rattle.crews.specs.declared.talk.Talk.{Talk as TheTalk};
-ghost use Rattle.crews.specs.Stations.{Station};
+ghost use Rattle.crews.specs.Stations.{no_tokens, Station};
 ghost use Rattle.crews.specs.Talks.{protocol_of, IsOpen};
 ghost use Rattle.crews.specs.Partings.{SaysSo, PartsSo};
 ghost use Rattle.crews.specs.Arrivals.{CountGoes};
@@ -83,7 +83,7 @@ impl<'a, C: Channel> Client<'a, C> {
           number = number;
           channel = channel;
           talk = talk;
-          tokens = [];
+          tokens = no_tokens registry.now;
           owed = record { rest = []; failures = 0 };
           leaving = None;
         } }

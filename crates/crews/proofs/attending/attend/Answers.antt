@@ -1,8 +1,8 @@
 use Rattle.std.proofs.Common.{◌≡◌, ◌∙◌, [], refl, sym, ap, subst, All, count_by, is_some, arith}
 use Rattle.atomic_table.specs.Seated.{TableId}
 use Rattle.bin_stripes.specs.declared.pass.Pass.{Pass}
-use Rattle.crews.specs.Crews.{station, team_numbers}
-use Rattle.crews.specs.Lives.{Known, known, Life}
+use Rattle.crews.specs.Crews.{team_numbers}
+use Rattle.crews.specs.Lives.{Known, known, known_of, Life}
 use Rattle.crews.specs.Stations.{Station}
 use Rattle.slab.specs.Slab.{slab_len}
 use Rattle.crews.proofs.CountLemmas.{counts_by, counts_on}
@@ -12,7 +12,7 @@ use Rattle.crews.proofs.attending.attend.Goals as goal
 
 pub attend_all-requires-clause-attended : goal.attend_all-requires-clause-attended
 attend_all-requires-clause-attended g c κs within =
-    let start = known (station c.args.crew []) in
+    let start = known_of c.args.crew in
     let first = c.begun-attendant.result in
     let is = c.begun-attendant.ensures in
     (start, [], begins g.C.Channel.state g.P.Clients.gave start (known first.room.serving) first.came is.knows is.came first.seats is.empty)
@@ -27,7 +27,7 @@ attend_all-requires-clause-desk g c κs within =
 
 pub drop_all-requires : goal.drop_all-requires
 drop_all-requires g c =
-    let start = known (station c.args.crew []) in
+    let start = known_of c.args.crew in
     let first = c.begun-attendant.result in
     let is = c.begun-attendant.ensures in
     let (more, now) = c.attend_all.ensures.attended start [] (begins g.C.Channel.state g.P.Clients.gave start (known first.room.serving) first.came is.knows is.came first.seats is.empty) in
@@ -35,7 +35,7 @@ drop_all-requires g c =
 
 pub returns-clause-life : goal.returns-clause-life
 returns-clause-life g c =
-    let start = known (station c.args.crew []) in
+    let start = known_of c.args.crew in
     let first = c.begun-attendant.result in
     let is = c.begun-attendant.ensures in
     let (more, now) = c.attend_all.ensures.attended start [] (begins g.C.Channel.state g.P.Clients.gave start (known first.room.serving) first.came is.knows is.came first.seats is.empty) in
@@ -49,7 +49,7 @@ returns-clause-life g c =
 
 pub returns-clause-crew : goal.returns-clause-crew
 returns-clause-crew g c =
-    let start = known (station c.args.crew []) in
+    let start = known_of c.args.crew in
     let first = c.begun-attendant.result in
     let is = c.begun-attendant.ensures in
     let (more, now) = c.attend_all.ensures.attended start [] (begins g.C.Channel.state g.P.Clients.gave start (known first.room.serving) first.came is.knows is.came first.seats is.empty) in
@@ -64,7 +64,7 @@ returns-clause-crew g c =
 
 pub returns-clause-same : goal.returns-clause-same
 returns-clause-same g c =
-    let start = known (station c.args.crew []) in
+    let start = known_of c.args.crew in
     let first = c.begun-attendant.result in
     let is = c.begun-attendant.ensures in
     let (more, now) = c.attend_all.ensures.attended start [] (begins g.C.Channel.state g.P.Clients.gave start (known first.room.serving) first.came is.knows is.came first.seats is.empty) in

@@ -1,10 +1,9 @@
-use Rattle.std.proofs.Common.{[], refl, ap}
-use Rattle.crews.specs.Crews.{station}
-use Rattle.crews.specs.Lives.{known}
+use Rattle.std.proofs.Common.{refl, ap}
+use Rattle.crews.specs.Lives.{known_of}
 use Rattle.crews.proofs.LifeLemmas.{known_same}
 use Rattle.crews.proofs.attending.begun.Goals as goal
 
 pub returns-clause-knows : goal.returns-clause-knows
 returns-clause-knows g c =
     let crew = c.args.crew in
-    known_same (record { pass = crew.pass; team = c.into_passes.result.items }) (known (station crew [])) refl (ap (λ ps. ps.items) c.into_passes.ensures)
+    known_same (record { pass = crew.pass; team = c.into_passes.result.items }) (known_of crew) refl (ap (λ ps. ps.items) c.into_passes.ensures)

@@ -9,7 +9,7 @@ pub ended-requires : goal.ended-requires
 ended-requires g c = (
   c.loop.crew,
   is_answered g.R.Source.state g.W.Sink.state g.A.Accept.gave c.loop.crew c.in-Some-next.reader c.in-Some-next.writer c.session-back.result.1 c.session-back.new.reader c.session-back.new.writer c.session-back.result.0
-      c.session-back.ensures.same c.in-Some-next.ensures.gave c.session-back.ensures.ended,
+      c.session-back.ensures.same c.in-Some-next.ensures.gave c.args.worker.now.registry.now c.session-back.ensures.ended,
 )
 
 pub loop-preserved : goal.loop-preserved
@@ -29,7 +29,7 @@ loop-preserved g c =
             reader = c.session-back.new.reader;
             writer = c.session-back.new.writer;
             session = is_answered g.R.Source.state g.W.Sink.state g.A.Accept.gave c.loop.crew c.in-Some-next.reader c.in-Some-next.writer c.session-back.result.1 c.session-back.new.reader c.session-back.new.writer back
-                c.session-back.ensures.same c.in-Some-next.ensures.gave c.session-back.ensures.ended;
+                c.session-back.ensures.same c.in-Some-next.ensures.gave c.args.worker.now.registry.now c.session-back.ensures.ended;
           },
         ),
       );

@@ -8,6 +8,6 @@ returns-then-number c =
       place = c.loop-other.other-index;
       inside = omega arith;
       there = c.other-item.is;
-      number = omega (arith, c.if-number.true, c.number.ensures, c.number-in-loop-other.ensures);
-      program = c.agrees.ensures.same_program;
+      number_is = omega (arith, c.if-number.true, c.number.ensures, c.number-in-loop-other.ensures);
+      program_is = c.agrees.ensures.same_program;
     }

@@ -1,7 +1,19 @@
-use Rattle.std.proofs.Common.{sym, ap, ◌∙◌, option_copied}
+use Rattle.std.proofs.Common.{sym, ap, refl, ◌∙◌, [], ◌∷◌, option_copied}
 use Rattle.client_protocol.specs.Requests.{viewed}
-use Rattle.crews.proofs.TokenLemmas.{serves_search, serves_for_each, serves_replacement, serves_count}
+use Rattle.client_protocol.specs.Responses.{response_of}
+use Rattle.client_protocol.specs.declared.response.Response.TheVariants as tell
+use Rattle.crews.proofs.TokenLemmas.{serves_hello, serves_register, serves_search, serves_for_each, serves_replacement, serves_count}
 use Rattle.crews.proofs.serving.Serving.answer.Goals as goal
+
+pub returns-in-Hello : goal.returns-in-Hello
+returns-in-Hello g c =
+    serves_hello c.args.hello c.args.self.now c.args.request.now c.in-Hello.version (tell.Hello c.in-Hello.version ∷ []) c.args.self.now
+    (sym (ap viewed c.in-Hello.is) ∙ c.view.ensures) (refl, refl)
+
+pub returns-in-Register : goal.returns-in-Register
+returns-in-Register g c =
+    serves_register c.args.hello c.args.self.now c.args.request.now c.in-Register.sizes c.in-Register.program.now (response_of c.register.result ∷ []) c.register.new.self
+    (sym (ap viewed c.in-Register.is) ∙ c.view.ensures) c.register.ensures
 
 pub returns-in-Search : goal.returns-in-Search
 returns-in-Search g c =
